@@ -1,0 +1,69 @@
+// An engine, and what it renders.
+ghost use Rattle.std.specs.Prelude.{◌≡◌, Ok, IsTrue, string_bytes};
+ghost use Rattle.tera_errors.specs.Answer.{Gives, GivesOneOf};
+ghost use Rattle.tera_syntax.specs.Delimiters.{delimiters_of, accepted};
+ghost use Rattle.tera_meaning.specs.Registry.{new_registry};
+ghost use Rattle.tera.specs.Rendering.{OneOff, AppendsOneOf};
+
+use std::alloc::Global;
+use tera_syntax::Delimiters;
+use tera_values::{Context, TeraResult};
+
+/// An engine: what templates are read by, and what every rendering reads. Definitions see it as a registry.
+#[derive(Drop)]
+pub struct Tera {
+    pub(crate) alloc: Global,
+    pub(crate) delimiters: Delimiters,
+    pub(crate) global_context: Context,
+    ghost accepted: { IsTrue (accepted (delimiters_of delimiters)) },
+}
+
+impl Tera {
+    ghost use Rattle.tera.specs.Registry.{registry_of};
+
+    /// An engine without templates, with Tera's own delimiters and an empty global context.
+    pub fn new(alloc: Global) -> TeraResult<Tera>
+        ensures { Gives registry_of result (Ok new_registry) }
+    {
+        Ok(Tera {
+            alloc,
+            delimiters: Delimiters::standard(alloc)?,
+            global_context: Context::new(alloc),
+        })
+    }
+
+    /// Renders a text that is no template of the engine. Faults name the file `__tera_one_off`.
+    pub fn render_str(&self, input: &str, context: &Context, autoescape: bool) -> TeraResult<String>
+        ensures { GivesOneOf string_bytes result (OneOff (registry_of self.now) input.now context.now autoescape) }
+    {
+        self.read_and_render(input, context, autoescape)
+    }
+
+    /// Appends what `render_str` answers. After a refusal the vector is as before.
+    pub fn render_str_to(
+        &self,
+        input: &str,
+        context: &Context,
+        autoescape: bool,
+        out: &mut Vec<u8>,
+    ) -> TeraResult<()>
+        ensures { AppendsOneOf result out.old.items out.new.items (OneOff (registry_of self.now) input.now context.now autoescape) }
+    {
+        let text = self.render_str(input, context, autoescape)?;
+        out.extend_from_slice(text.as_bytes())?;
+        Ok(())
+    }
+
+    /// Renders a text by an engine to which nothing else was said.
+    pub fn one_off(
+        alloc: Global,
+        input: &str,
+        context: &Context,
+        autoescape: bool,
+    ) -> TeraResult<String>
+        ensures { GivesOneOf string_bytes result (OneOff new_registry input.now context.now autoescape) }
+    {
+        let engine = Tera::new(alloc)?;
+        engine.render_str(input, context, autoescape)
+    }
+}

@@ -1,0 +1,14 @@
+//! The compiler: from a template's tree to a flat list of instructions.
+#![tactic(auto)]
+
+pub mod chunk;
+pub mod compiler;
+pub mod content;
+pub mod instruction;
+pub mod steps;
+
+pub use chunk::Chunk;
+pub use compiler::Compiler;
+pub use content::Content;
+pub use instruction::Instruction;
+pub use steps::Steps;

@@ -1,0 +1,84 @@
+-- Runs of code that give a meaning, in at most eight instructions a visit.
+use Rattle.std.proofs.Common.{◌≡◌, ℕ, ◌+◌, ◌*◌, ◌≤◌, Some, refl, sym, subst, arith}
+use Rattle.std.specs.Prelude.{slice_get}
+use Rattle.tera_errors.specs.Fault.{Fault}
+use Rattle.tera_meaning.specs.Here.{Here}
+use Rattle.tera_meaning.specs.Run.{Run, Answer, Failed, Gave, Meaning, more, onward}
+use Rattle.tera_code.specs.declared.instruction.Instruction.{Instruction}
+use Rattle.tera_machine.specs.declared.machine.Flow.TheVariants.{On}
+use Rattle.tera_machine.specs.Config.{Config}
+use Rattle.tera_machine.specs.Act.{Goes, Faults, act}
+use Rattle.tera_machine.specs.Exec.{Code, Broken, Ends}
+use Rattle.tera_machine.specs.Progress.{Leads}
+use Rattle.tera_machine.proofs.Ends.{after-none, step_ends}
+use Rattle.tera_machine.proofs.Runs.{further, on_leads}
+
+-- a place in the code, and what the machine works on there
+pub record Spot : Type 0 where
+  pub ip : ℕ
+  pub config : Config
+
+module _ (here : Here) (code : Code) where
+  abbrev pub Reaches : Spot → ℕ → Spot → Type 0
+  Reaches a k b = Leads here code a.ip a.config k b.ip b.config
+
+  abbrev pub Breaks : Spot → ℕ → Fault → Type 0
+  Breaks a k f = Ends here code a.ip a.config (Broken f k)
+
+  -- with so many instructions to spend besides eight a visit, of which so many are left
+  abbrev pub Comes : {A : Type 0} → Spot → ℕ → ℕ → (A → Run → Spot) → Answer A → Type 0
+  Comes from s t goal (Failed f v) = (k : ℕ) × (k + t ≤ s + 8 * v) × Breaks from k f
+  Comes from s t goal (Gave a r v) = (k : ℕ) × (k + t ≤ s + 8 * v) × Reaches from k (goal a r)
+
+  pub record Runs {A : Type 0} (from : Spot) (s t : ℕ) (goal : A → Run → Spot) (x : Answer A) : Type 0 where
+    pub by : Comes from s t goal x
+
+  reaches_then : (a b c : Spot) (j k : ℕ) → Reaches a j b → Reaches b k c → Reaches a (j + k) c
+  reaches_then a b c j k g h =
+      further here code a.ip a.config j k (j + k) b.ip c.ip b.config c.config g refl h
+
+  breaks_then : (a b : Spot) (j k : ℕ) (f : Fault) → Reaches a j b → Breaks b k f → Breaks a (j + k) f
+  breaks_then a b j k f g h = g.by (Broken f k) tt h
+
+  reaches_none : (a : Spot) → Reaches a 0 a
+  reaches_none a = record { by = λ o over x. subst (Ends here code a.ip a.config) (sym (after-none o)) x }
+
+  -- nothing is to do
+  pub done : {A : Type 0} {s t : ℕ} {goal : A → Run → Spot} {a : A} {r : Run} → t ≤ s → Runs (goal a r) s t goal (Gave a r 0)
+  done {s = s} {t = t} {goal = goal} {a = a} {r = r} l = record { by = (0, omega (arith, l), reaches_none (goal a r)) }
+
+  spend_comes : {A : Type 0} (from : Spot) (s t : ℕ) (goal : A → Run → Spot) (x : Answer A) → Comes from (s + 8) t goal x → Comes from s t goal (more 1 x)
+  spend_comes from s t goal (Failed f v) h = (h.0, omega (arith, h.1), h.2)
+  spend_comes from s t goal (Gave a r v) h = (h.0, omega (arith, h.1), h.2)
+
+  -- a visit gives eight instructions
+  pub spend : {A : Type 0} {from : Spot} {s t : ℕ} {goal : A → Run → Spot} {x : Answer A} → Runs from (s + 8) t goal x → Runs from s t goal (more 1 x)
+  spend {from = from} {s = s} {t = t} {goal = goal} {x = x} h = record { by = spend_comes from s t goal x h.by }
+
+  step_comes : {A : Type 0} (a b : Spot) (s t : ℕ) (goal : A → Run → Spot) (x : Answer A) → Reaches a 1 b → Comes b s t goal x → Comes a (s + 1) t goal x
+  step_comes a b s t goal (Failed f v) g h = (1 + h.0, omega (arith, h.1), breaks_then a b 1 h.0 f g h.2)
+  step_comes a b s t goal (Gave x r v) g h = (1 + h.0, omega (arith, h.1), reaches_then a b (goal x r) 1 h.0 g h.2)
+
+  -- one instruction, and the rest
+  pub first : {A : Type 0} {ip : ℕ} {c : Config} (c2 : Config) (s : ℕ) {t : ℕ} {goal : A → Run → Spot} {x : Answer A} (i : Instruction) → slice_get code ip ≡ Some i → act here i c ≡ Goes c2 On → Runs (record { ip = ip + 1; config = c2 }) s t goal x → Runs (record { ip = ip; config = c }) (s + 1) t goal x
+  first {ip = ip} {c = c} c2 s {t = t} {goal = goal} {x = x} i e a h =
+      record { by = step_comes (record { ip = ip; config = c }) (record { ip = ip + 1; config = c2 }) s t goal x (on_leads here code ip c c2 i e a) h.by }
+
+  -- one instruction, which faults
+  pub fail : {A : Type 0} {ip : ℕ} {c : Config} {s t : ℕ} {goal : A → Run → Spot} (f : Fault) (i : Instruction) → t ≤ s → slice_get code ip ≡ Some i → act here i c ≡ Faults f → Runs (record { ip = ip; config = c }) (s + 1) t goal (Failed f 0)
+  fail {ip = ip} {c = c} f i l e a =
+      record { by = (1, omega (arith, l), step_ends here code ip c i (Faults f) 0 (Broken f 0) e a refl) }
+
+  rest_comes : {A : Type 0} (a b : Spot) (k s t u v : ℕ) (goal : A → Run → Spot) (y : Answer A) → k + t ≤ 0 + 8 * v → Reaches a k b → Comes b (s + t) u goal y → Comes a s u goal (more v y)
+  rest_comes a b k s t u v goal (Failed f w) l g h = (k + h.0, omega (arith, h.1, l), breaks_then a b k h.0 f g h.2)
+  rest_comes a b k s t u v goal (Gave x r w) l g h = (k + h.0, omega (arith, h.1, l), reaches_then a b (goal x r) k h.0 g h.2)
+
+  onward_comes : {A B : Type 0} (from : Spot) (s t u : ℕ) (goal : A → Run → Spot) (goal' : B → Run → Spot) (x : Answer A) (go : A → Meaning B) → u ≤ s + t → Comes from 0 t goal x → ((a : A) (r : Run) → Runs (goal a r) (s + t) u goal' (go a r)) → Comes from s u goal' (onward x go)
+  onward_comes from s t u goal goal' (Failed f v) go l h k = (h.0, omega (arith, l, h.1), h.2)
+  onward_comes from s t u goal goal' (Gave a r v) go l h k =
+      rest_comes from (goal a r) h.0 s t u v goal' (go a r) h.1 h.2 (k a r).by
+
+  -- one part and then another; what is left of the first is spent in the second
+  pub onward_runs : {A B : Type 0} {from : Spot} {s t u : ℕ} {goal : A → Run → Spot} {goal' : B → Run → Spot} {x : Answer A} {go : A → Meaning B} → u ≤ s + t → Runs from 0 t goal x → ((a : A) (r : Run) → Runs (goal a r) (s + t) u goal' (go a r)) → Runs from s u goal' (onward x go)
+  onward_runs {from = from} {s = s} {t = t} {u = u} {goal = goal} {goal' = goal'} {x = x} {go = go} l h k =
+      record { by = onward_comes from s t u goal goal' x go l h.by k }

@@ -1,0 +1,6 @@
+pub mod Ends
+pub mod Runs
+pub mod Places
+pub mod Counted
+pub mod Chunks
+pub mod Conclusions

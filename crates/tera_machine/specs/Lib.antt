@@ -1,0 +1,6 @@
+pub mod Coding
+pub mod Config
+pub mod Act
+pub mod Exec
+pub mod Progress
+pub mod Subject

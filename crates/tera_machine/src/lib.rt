@@ -1,0 +1,15 @@
+//! The stack machine that runs a compiled body.
+#![tactic(auto)]
+
+pub mod act;
+pub mod configuration;
+pub mod machine;
+pub mod operand;
+pub mod stack;
+pub mod written;
+
+pub use configuration::Configuration;
+pub use machine::VirtualMachine;
+pub use operand::Operand;
+pub use stack::Stack;
+pub use written::Written;

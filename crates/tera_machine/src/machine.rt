@@ -1,0 +1,95 @@
+// A run of a body.
+ghost use Rattle.std.specs.Prelude.{◌≡◌, ℕ, ◌+◌, ◌-◌, ◌*◌, ◌≤◌, IsTrue};
+ghost use Rattle.tera_meaning.specs.Run.{visits_of};
+ghost use Rattle.tera_meaning.specs.Whole.{here_at};
+ghost use Rattle.tera_code.specs.Code.{nodes_code};
+ghost use Rattle.tera_machine.specs.Config.{config_of};
+ghost use Rattle.tera_machine.specs.Exec.{EndsWithin, Ran};
+ghost use Rattle.tera_machine.specs.Subject.{Subject, meant, here_of, Means};
+
+use crate::configuration::Configuration;
+use std::alloc::Global;
+use std::marker::Brand;
+use std::sync::ledger::Ledger;
+use tera_code::{Chunk, Steps};
+use tera_values::TeraResult;
+
+/// Where the machine goes on: jumps and other bodies are further cases.
+#[derive(Clone, Copy)]
+pub enum Flow {
+    /// At the next instruction.
+    On,
+}
+
+/// How high the count of instructions may rise.
+pub trait Limit {
+    ghost most: { ℕ };
+}
+
+impl Limit for Brand {
+    ghost most = { 0 };
+}
+
+/// Runs compiled bodies. It holds what no run changes.
+#[derive(Clone, Copy)]
+pub struct VirtualMachine {
+    pub(crate) alloc: Global,
+    pub(crate) autoescape: bool,
+}
+
+impl VirtualMachine {
+    /// A machine that escapes what it writes.
+    pub fn new(alloc: Global) -> VirtualMachine
+        ensures { IsTrue result.autoescape }
+    {
+        VirtualMachine::new_with_autoescape(alloc, true)
+    }
+
+    /// A machine that escapes what it writes where the flag says so.
+    pub fn new_with_autoescape(alloc: Global, autoescape: bool) -> VirtualMachine
+        ensures { result.autoescape ≡ autoescape }
+    {
+        VirtualMachine { alloc, autoescape }
+    }
+
+    /// Runs the code of a body to its end, within eight instructions a visit of the body's meaning.
+    pub fn run<L: Ledger>(
+        &self,
+        chunk: &Chunk,
+        configuration: &mut Configuration<'_>,
+        steps: &mut Steps<L>,
+    ) -> TeraResult<()>
+        ghost about: { Subject }
+        requires here { here_of self.now chunk.now.file ≡ here_at about.world about.place }
+        requires code { chunk.now.code ≡ nodes_code about.tree }
+        ensures few { steps.new ≤ steps.old + 8 * visits_of (meant about (config_of configuration.old).run) }
+        ensures means { Means (meant about (config_of configuration.old).run) (config_of configuration.old).operands result (config_of configuration.new) }
+    {
+        self.run_counted::<Brand, L>(chunk, configuration, steps)
+    }
+
+    // The same, in the machine's own terms.
+    fn run_counted<M: Limit, L: Ledger>(
+        &self,
+        chunk: &Chunk,
+        configuration: &mut Configuration<'_>,
+        steps: &mut Steps<L>,
+    ) -> TeraResult<()>
+        requires { EndsWithin (here_of self.now chunk.now.file) chunk.now.code 0 (config_of configuration.old) (M.most - steps.old) }
+        ensures counted { steps.old ≤ steps.new }
+        ensures bounded { steps.old ≤ M.most → steps.new ≤ M.most }
+        ensures ends { Ran (here_of self.now chunk.now.file) chunk.now.code (config_of configuration.old) result (config_of configuration.new) (steps.new - steps.old) }
+    {
+        let mut at = 0;
+        while let Some(instruction) = chunk.get(at, steps) {
+            let flow = match self.act(chunk.file(), configuration, instruction) {
+                Ok(flow) => flow,
+                Err(error) => return Err(error),
+            };
+            match flow {
+                Flow::On => at += 1,
+            }
+        }
+        Ok(())
+    }
+}

@@ -1,0 +1,75 @@
+// What a rendering wrote.
+ghost use Rattle.std.specs.Prelude.{◌≡◌, ◌++◌, [], OnOk, IfErr, string_bytes};
+ghost use Rattle.tera_errors.specs.Answer.{Lacks};
+ghost use Rattle.tera_values.specs.Printed.{printed};
+ghost use Rattle.tera_values.specs.Escape.{escape_html};
+
+use std::alloc::Global;
+use std::marker::Model;
+use tera_values::{TeraResult, Value, escape_html};
+
+/// Text that grows at its end. A contract sees its bytes. After a refusal a part of the new text may be there.
+#[derive(Drop)]
+pub struct Written {
+    text: String,
+}
+
+impl Model for Written {
+    ghost use Rattle.std.specs.Prelude.{string_bytes};
+    ghost use Rattle.tera_errors.specs.Site.{Text};
+
+    ghost Value = { Text };
+
+    ghost view = { λ w. string_bytes w.text };
+}
+
+impl Written {
+    /// Nothing is written yet; takes no memory.
+    pub fn new(alloc: Global) -> Written
+        ensures { result ≡ [] }
+    {
+        Written {
+            text: String::new(alloc),
+        }
+    }
+
+    /// The text, which is moved and not copied.
+    pub fn into_string(self) -> String
+        ensures { string_bytes result ≡ self }
+    {
+        let Written { text } = self;
+        text
+    }
+
+    /// This text at the end.
+    pub fn append(&mut self, text: &str) -> TeraResult<()>
+        ensures ok { OnOk result (self.new ≡ self.old ++ text.now) }
+        ensures lacks { IfErr result Lacks }
+    {
+        self.text.push_str(text)?;
+        Ok(())
+    }
+
+    /// What the value prints, at the end.
+    pub fn append_printed(&mut self, value: &Value) -> TeraResult<()>
+        ensures ok { OnOk result (self.new ≡ self.old ++ printed value.now) }
+        ensures lacks { IfErr result Lacks }
+    {
+        value.print_to(&mut self.text)
+    }
+
+    /// The escape of what the value prints, at the end. A text is not copied on the way.
+    pub fn append_escaped(&mut self, value: &Value, alloc: Global) -> TeraResult<()>
+        ensures ok { OnOk result (self.new ≡ self.old ++ escape_html (printed value.now)) }
+        ensures lacks { IfErr result Lacks }
+    {
+        match value.as_str() {
+            Some(text) => escape_html(text, &mut self.text),
+            None => {
+                let mut text = String::new(alloc);
+                value.print_to(&mut text)?;
+                escape_html(text.as_str(), &mut self.text)
+            }
+        }
+    }
+}

@@ -1,0 +1,7 @@
+// Laws on the definitions, each the contract of a function that does nothing.
+ghost use Rattle.tera_meaning.specs.Whole.{MeaningUnrolls};
+
+/// The whole meaning of bodies that stand elsewhere is one level of itself: no count of levels shows in it.
+pub fn meaning_unrolls()
+    ensures { MeaningUnrolls }
+{}

@@ -1,0 +1,4 @@
+//! What templates mean: definitions, and laws on them. Nothing here runs.
+#![tactic(auto)]
+
+pub mod laws;

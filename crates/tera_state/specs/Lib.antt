@@ -1,0 +1,4 @@
+pub mod Scope
+pub mod Lent
+pub mod Scopes
+pub mod View

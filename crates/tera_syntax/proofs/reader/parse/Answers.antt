@@ -1,0 +1,23 @@
+use Rattle.std.proofs.Common.{arith, refl}
+use Rattle.tera_syntax.specs.Delimiters.{delimiters_of}
+use Rattle.tera_syntax.specs.Reads.{Reads, ReadsPlainText}
+use Rattle.tera_syntax.specs.View.{nodes_of}
+use Rattle.tera_syntax.proofs.Reading.{sound, shallow}
+use Rattle.tera_syntax.proofs.Plain.{says_one, refused_by, spells_none, plain}
+use Rattle.tera_syntax.proofs.reader.parse.Goals as goal
+
+pub returns-in-Ok-clause-reads : goal.returns-in-Ok-clause-reads
+returns-in-Ok-clause-reads c =
+    let d = sound _ (nodes_of c.in-Ok.nodes.items) c.in-Ok.ensures in
+    let h = shallow d in
+    (d, omega (arith, h))
+
+pub returns-in-Err-Syntax-clause-reads : goal.returns-in-Err-Syntax-clause-reads
+returns-in-Err-Syntax-clause-reads c =
+    says_one c.syntax.result _ (Reads c.args.name.now (delimiters_of c.args.delimiters.now) c.args.source.now) c.syntax.ensures
+    ((c.clipped-span.result, refl, c.clipped-span.ensures), spells_none c.args.name.now (delimiters_of c.args.delimiters.now) c.args.source.now (refused_by _ c.in-Err-Syntax.why c.in-Err-Syntax.span _ c.in-Err-Syntax.field-0-is c.in-Err-Syntax.ensures))
+
+pub returns-in-Err-Syntax-clause-plain : goal.returns-in-Err-Syntax-clause-plain
+returns-in-Err-Syntax-clause-plain c =
+    says_one c.syntax.result _ (ReadsPlainText (delimiters_of c.args.delimiters.now) c.args.source.now) c.syntax.ensures
+    (plain (delimiters_of c.args.delimiters.now) c.args.source.now (refused_by _ c.in-Err-Syntax.why c.in-Err-Syntax.span _ c.in-Err-Syntax.field-0-is c.in-Err-Syntax.ensures))

@@ -1,0 +1,13 @@
+-- Words in a text.
+use Rattle.std.specs.Prelude.{ℕ, suc, [], ◌∷◌, Bool, ◌==◌, if◌then◌else◌}
+use Rattle.std.specs.List.{starts_with}
+use Rattle.tera_errors.specs.Site.{Text}
+
+-- the text begins with the word
+abbrev pub begins : Text → Text → Bool
+begins word text = starts_with (λ a b. a == b) text word
+
+-- the first place from which on the text passes the test, or its end
+unfoldable pub place : (Text → Bool) → Text → ℕ
+place test [] = 0
+place test (b ∷ bs) = if test (b ∷ bs) then 0 else suc (place test bs)

@@ -1,0 +1,16 @@
+pub mod Delimiters
+pub mod Tree
+pub mod View
+pub mod Bytes
+pub mod Answers
+pub mod Token
+pub mod Inside
+pub mod Cut
+pub mod Input
+pub mod Grammar
+pub mod Depth
+pub mod Spells
+pub mod Reads
+pub mod Takes
+pub mod Reader
+pub mod Found

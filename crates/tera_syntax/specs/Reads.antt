@@ -1,0 +1,32 @@
+-- What reading a text may answer.
+use Rattle.std.specs.Prelude.{◌≡◌, ◌≤◌, ℕ, Result, Ok, Err, length, drop, IsTrue}
+use Rattle.tera_errors.specs.Site.{Text, Name}
+use Rattle.tera_errors.specs.Fault.{Fault, syntax_error}
+use Rattle.tera_errors.specs.declared.span.Span.{Span}
+use Rattle.tera_syntax.specs.Cut.{opens}
+use Rattle.tera_syntax.specs.Delimiters.{Delims}
+use Rattle.tera_syntax.specs.Depth.{IsWellFormed}
+use Rattle.tera_syntax.specs.Spells.{Spells}
+use Rattle.tera_syntax.specs.Tree.{Tree}
+
+-- a stretch of a text of this size
+abbrev pub Within : ℕ → Span → Type 0
+Within size span = (span.start ≤ span.end) × (span.end ≤ size)
+
+-- the text spells no well-formed tree
+abbrev pub SpellsNone : Name → Delims → Text → Type 0
+SpellsNone name d text = (tree : Tree) → IsWellFormed tree → Spells name d text tree → ⊥
+
+-- the fault is a syntax error at a stretch of the text
+abbrev pub IsSyntaxError : Name → Text → Fault → Type 0
+IsSyntaxError name text fault = (span : Span) × (fault ≡ syntax_error (record { file = name; span = span })) × Within (length text) span
+
+-- The well-formed tree that the text spells; where it spells none, a syntax error.
+abbrev pub Reads : Name → Delims → Text → Result Tree Fault → Type 0
+Reads name d text (Ok tree) = Spells name d text tree × IsWellFormed tree
+Reads name d text (Err fault) = IsSyntaxError name text fault × SpellsNone name d text
+
+-- A text in which no start delimiter begins is read.
+abbrev pub ReadsPlainText : Delims → Text → Result Tree Fault → Type 0
+ReadsPlainText d text (Ok tree) = Unit {0}
+ReadsPlainText d text (Err fault) = (place : ℕ) × IsTrue (opens d (drop place text))

@@ -1,0 +1,127 @@
+// A place among the tokens of a tag.
+ghost use Rattle.std.specs.Prelude.{◌≡◌, length, drop};
+ghost use Rattle.tera_syntax.specs.Answers.{IsSyntax};
+ghost use Rattle.tera_syntax.specs.Input as spec;
+ghost use Rattle.tera_syntax.specs.Takes.{input};
+ghost use Rattle.tera_syntax.specs.Token.{tokens_of};
+
+use crate::refusal::Refusal;
+use crate::token::{Kind, Token};
+use tera_errors::Span;
+
+/// The tokens ahead, and where the one before them ends.
+#[derive(Drop)]
+pub(crate) struct Tokens<'a> {
+    pub ahead: &'a [Token<'a>],
+    pub last: usize,
+}
+
+impl<'a> Tokens<'a> {
+    pub fn begin(tokens: &'a [Token<'a>]) -> Tokens<'a>
+        ensures { input result ≡ spec.begin (tokens_of tokens.now) }
+    {
+        Tokens {
+            ahead: tokens,
+            last: 0,
+        }
+    }
+
+    #[tactic(auto, unfolding(crate::specs::Input::kind))]
+    pub fn kind(&self) -> Kind
+        ensures { result ≡ spec.kind (input self.now) }
+    {
+        match self.ahead.first() {
+            Some(token) => token.kind,
+            None => Kind::End,
+        }
+    }
+
+    #[tactic(auto, unfolding(crate::specs::Input::text))]
+    pub fn text(&self) -> &'a str
+        ensures { result.now ≡ spec.text (input self.now) }
+    {
+        match self.ahead.first() {
+            Some(token) => token.text,
+            None => "",
+        }
+    }
+
+    #[tactic(auto, unfolding(crate::specs::Input::start))]
+    pub fn start(&self) -> usize
+        ensures { result ≡ spec.start (input self.now) }
+    {
+        match self.ahead.first() {
+            Some(token) => token.span.start,
+            None => 0,
+        }
+    }
+
+    #[tactic(auto, unfolding(crate::specs::Input::next))]
+    pub fn take(&mut self)
+        ensures { input self.new ≡ spec.next (input self.old) }
+    {
+        if let Some(token) = self.ahead.first() {
+            self.last = token.span.end;
+        }
+        self.ahead = behind_first(self.ahead);
+    }
+
+    /// From a place to the end of what was taken.
+    pub fn span(&self, start: usize) -> Span
+        ensures { result ≡ spec.span start (input self.now) }
+    {
+        Span {
+            start,
+            end: self.last,
+        }
+    }
+
+    /// The refusal of the next token.
+    pub fn refuse(&self, why: &'static str) -> Refusal
+        ensures { IsSyntax result }
+    {
+        match self.ahead.first() {
+            Some(token) => Refusal::Syntax(why, token.span),
+            None => Refusal::Syntax(
+                why,
+                Span {
+                    start: self.last,
+                    end: self.last,
+                },
+            ),
+        }
+    }
+}
+
+pub(crate) fn is_reserved(name: &str) -> bool
+    ensures { result ≡ spec.is_reserved name.now }
+{
+    matches!(
+        name,
+        "true"
+            | "True"
+            | "false"
+            | "False"
+            | "none"
+            | "None"
+            | "and"
+            | "or"
+            | "not"
+            | "in"
+            | "is"
+            | "if"
+            | "elif"
+            | "else"
+            | "for"
+    )
+}
+
+/// All but the first.
+fn behind_first<T>(items: &[T]) -> &[T]
+    ensures { result.now ≡ drop 1 items.now }
+{
+    match items.split_first() {
+        Some((_, rest)) => rest,
+        None => items,
+    }
+}

@@ -1,0 +1,145 @@
+// From a template's text to its tree.
+ghost use Rattle.std.specs.Prelude.{◌≡◌, ◌≤◌, ◌<◌, ◌+◌, ◌^◌, Some, length, IsTrue, OnOk};
+ghost use Rattle.tera_errors.specs.Answer.{GivesOneOf};
+ghost use Rattle.tera_syntax.specs.Answers.{Answers};
+ghost use Rattle.tera_syntax.specs.Cut.{pieces};
+ghost use Rattle.tera_syntax.specs.Delimiters.{accepted, delimiters_of};
+ghost use Rattle.tera_syntax.specs.Reader as spec;
+ghost use Rattle.tera_syntax.specs.Reader.{Puts};
+ghost use Rattle.tera_syntax.specs.Reads.{Reads, ReadsPlainText, Within};
+ghost use Rattle.tera_syntax.specs.Found.{piece_of};
+ghost use Rattle.tera_syntax.specs.Takes.{Takes, input};
+ghost use Rattle.tera_syntax.specs.Token.{tokens_of};
+ghost use Rattle.tera_syntax.specs.View.{expr_of, nodes_of, tree_of};
+
+use crate::cut::{Piece, next_piece};
+use crate::delimiters::Delimiters;
+use crate::input::{Tokens, is_reserved};
+use crate::refusal::Refusal;
+use crate::token::{Kind, Token};
+use crate::tree::{Expression, Node, ParserOutput};
+use std::alloc::Global;
+use tera_errors::{Error, Span, TeraResult};
+
+#[tactic(auto, unfolding(crate::specs::Reader::same))]
+fn same(a: Kind, b: Kind) -> bool
+    ensures { result ≡ spec.same a b }
+{
+    a == b
+}
+
+/// Takes an expression.
+#[tactic(auto, unfolding(crate::specs::Reader::expr))]
+fn expr(alloc: Global, tokens: &mut Tokens<'_>) -> Result<Expression, Refusal>
+    ensures { Takes expr_of (spec.expr (input tokens.old)) result tokens.new }
+{
+    let text = tokens.text();
+    if same(Kind::Name, tokens.kind()) && !is_reserved(text) {
+        let start = tokens.start();
+        let name = String::from_str(alloc, text)?;
+        tokens.take();
+        Ok(Expression::Name {
+            name,
+            span: tokens.span(start),
+        })
+    } else {
+        Err(tokens.refuse("no expression begins here"))
+    }
+}
+
+/// An expression that is all of a tag.
+#[tactic(auto, unfolding(crate::specs::Reader::whole))]
+fn whole(alloc: Global, tokens: &[Token<'_>]) -> Result<Expression, Refusal>
+    ensures { Answers expr_of (spec.whole (tokens_of tokens.now)) result }
+{
+    let mut tokens = Tokens::begin(tokens);
+    let value = expr(alloc, &mut tokens)?;
+    if same(Kind::End, tokens.kind()) {
+        Ok(value)
+    } else {
+        Err(tokens.refuse("the tag goes on where its end is due"))
+    }
+}
+
+/// Puts the node of a piece, if it is any, behind those that were read.
+fn put(alloc: Global, found: &mut Vec<Node>, piece: Piece<'_>) -> Result<(), Refusal>
+    ensures { Puts (spec.piece_nodes (piece_of piece.entry)) (nodes_of found.old.items) result (nodes_of found.new.items) }
+{
+    match piece {
+        Piece::Words(text, span) => {
+            if text.is_empty() {
+                return Ok(());
+            }
+            let text = String::from_str(alloc, text)?;
+            found.push(Node::Content { text, span })?;
+            Ok(())
+        }
+        Piece::Comment => Ok(()),
+        Piece::Variable(tokens) => {
+            let value = whole(alloc, tokens.as_slice())?;
+            found.push(Node::Print { value })?;
+            Ok(())
+        }
+        Piece::Block(tokens) => {
+            let tokens = Tokens::begin(tokens.as_slice());
+            Err(tokens.refuse("no statement begins here"))
+        }
+    }
+}
+
+/// The nodes of a text.
+fn nodes(alloc: Global, delimiters: &Delimiters, source: &str) -> Result<Vec<Node>, Refusal>
+    requires { IsTrue (accepted (delimiters_of delimiters.now)) }
+    ensures { Answers (λ found. nodes_of found.items) (spec.nodes (pieces (delimiters_of delimiters.now) source.now)) result }
+{
+    let mut found = Vec::new(alloc);
+    let mut rest = source;
+    let mut at = 0;
+    let mut trims = false;
+    while !rest.is_empty() {
+        let piece = match next_piece(alloc, delimiters, rest, at, trims) {
+            Ok(piece) => piece,
+            Err(refusal) => return Err(refusal),
+        };
+        rest = piece.rest;
+        at = piece.next;
+        trims = piece.trims;
+        if let Err(refusal) = put(alloc, &mut found, piece.piece) {
+            return Err(refusal);
+        }
+    }
+    Ok(found)
+}
+
+/// The stretch that lies in a text of this size.
+fn clipped(span: Span, size: usize) -> Span
+    ensures { Within size result }
+{
+    let end = if span.end < size { span.end } else { size };
+    let start = if span.start < end { span.start } else { end };
+    Span { start, end }
+}
+
+/// Reads the text of a template.
+///
+/// A text that spells no tree is a `SyntaxError` with the template's name and the stretch of the text where reading
+/// stopped; its message says what was due there.
+pub fn parse(
+    alloc: Global,
+    name: &str,
+    source: &str,
+    delimiters: &Delimiters,
+) -> TeraResult<ParserOutput>
+    requires { IsTrue (accepted (delimiters_of delimiters.now)) }
+    ensures reads { GivesOneOf tree_of result (Reads name.now (delimiters_of delimiters.now) source.now) }
+    ensures plain { GivesOneOf tree_of result (ReadsPlainText (delimiters_of delimiters.now) source.now) }
+{
+    match nodes(alloc, delimiters, source) {
+        Ok(nodes) => Ok(ParserOutput { nodes }),
+        Err(Refusal::Syntax(why, span)) => {
+            let span = clipped(span, source.len());
+            Err(Error::syntax(alloc, why, name, span))
+        }
+        Err(Refusal::OutOfMemory) => Err(Error::out_of_memory()),
+    }
+}

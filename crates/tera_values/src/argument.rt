@@ -1,0 +1,158 @@
+// What an argument is read as.
+ghost use Rattle.std.specs.Prelude.{◌^◌, pos, false, string_bytes, Result, Ok};
+ghost use Rattle.tera_errors.specs.Fault.{Fault};
+ghost use Rattle.tera_errors.specs.Answer.{Gives};
+ghost use Rattle.tera_values_data.specs.Val.{Val, bool, int, text, array, map, vals, entries};
+ghost use Rattle.tera_values.specs.Arguments.{as_bool, as_int, as_natural, as_text, as_marked_text, as_array, as_map};
+
+use crate::string_input::StringInput;
+use std::alloc::Global;
+use tera_errors::{Error, TeraResult};
+use tera_values_data::{Map, Shape, Value};
+
+/// A type that a value can be read as.
+pub trait ArgFromValue: Drop {
+    // What a contract sees of what was read.
+    ghost stands_for: { Self → Val };
+
+    // What reading a value gives: what the argument stands for, or the fault.
+    ghost reading: { Val → Result Val Fault };
+
+    /// The value as an argument; `InvalidArgument` where it is of a wrong type.
+    fn from_value(alloc: Global, value: &Value) -> TeraResult<Self>
+        ensures { Gives stands_for result (reading value.now) };
+}
+
+impl ArgFromValue for Value {
+    ghost stands_for = { λ v. v };
+
+    ghost reading = { λ v. Ok v };
+
+    fn from_value(_alloc: Global, value: &Value) -> TeraResult<Value> {
+        value.try_clone()
+    }
+}
+
+impl ArgFromValue for bool {
+    ghost stands_for = { λ flag. bool flag };
+
+    ghost reading = { as_bool };
+
+    fn from_value(_alloc: Global, value: &Value) -> TeraResult<bool> {
+        match value.shape() {
+            Shape::Bool(flag) => Ok(flag),
+            _ => Err(Error::invalid_argument()),
+        }
+    }
+}
+
+impl ArgFromValue for i128 {
+    ghost stands_for = { λ number. int number };
+
+    ghost reading = { as_int };
+
+    fn from_value(_alloc: Global, value: &Value) -> TeraResult<i128> {
+        match value.shape() {
+            Shape::Int(number) => Ok(number),
+            _ => Err(Error::invalid_argument()),
+        }
+    }
+}
+
+impl ArgFromValue for u32 {
+    ghost stands_for = { λ number. int (pos number) };
+
+    ghost reading = { as_natural (2 ^ 32) };
+
+    fn from_value(_alloc: Global, value: &Value) -> TeraResult<u32> {
+        match value.shape() {
+            Shape::Int(number) => {
+                if number < 0 || number > u32::MAX as i128 {
+                    return Err(Error::invalid_argument());
+                }
+                Ok(number as u32)
+            }
+            _ => Err(Error::invalid_argument()),
+        }
+    }
+}
+
+impl ArgFromValue for usize {
+    ghost stands_for = { λ number. int (pos number) };
+
+    ghost reading = { as_natural (2 ^ 64) };
+
+    fn from_value(_alloc: Global, value: &Value) -> TeraResult<usize> {
+        match value.shape() {
+            Shape::Int(number) => {
+                if number < 0 || number > usize::MAX as i128 {
+                    return Err(Error::invalid_argument());
+                }
+                Ok(number as usize)
+            }
+            _ => Err(Error::invalid_argument()),
+        }
+    }
+}
+
+impl ArgFromValue for String {
+    ghost stands_for = { λ content. text (string_bytes content) false };
+
+    ghost reading = { as_text };
+
+    fn from_value(alloc: Global, value: &Value) -> TeraResult<String> {
+        match value.shape() {
+            Shape::Text(content, _) => Ok(String::from_str(alloc, content)?),
+            _ => Err(Error::invalid_argument()),
+        }
+    }
+}
+
+impl ArgFromValue for StringInput {
+    ghost stands_for = { λ input. input };
+
+    ghost reading = { as_marked_text };
+
+    fn from_value(_alloc: Global, value: &Value) -> TeraResult<StringInput> {
+        match value.shape() {
+            Shape::Text(_, _) => Ok(StringInput::new(value.try_clone()?)),
+            _ => Err(Error::invalid_argument()),
+        }
+    }
+}
+
+impl ArgFromValue for Vec<Value> {
+    ghost stands_for = { λ items. array (vals items.items) };
+
+    ghost reading = { as_array };
+
+    fn from_value(alloc: Global, value: &Value) -> TeraResult<Vec<Value>> {
+        match value.shape() {
+            Shape::Array(items) => copied(alloc, items),
+            _ => Err(Error::invalid_argument()),
+        }
+    }
+}
+
+impl ArgFromValue for Map {
+    ghost stands_for = { λ all. map (entries all) };
+
+    ghost reading = { as_map };
+
+    fn from_value(_alloc: Global, value: &Value) -> TeraResult<Map> {
+        match value.shape() {
+            Shape::Map(all) => all.try_clone(),
+            _ => Err(Error::invalid_argument()),
+        }
+    }
+}
+
+fn copied(alloc: Global, items: &[Value]) -> TeraResult<Vec<Value>>
+    ensures { Gives (λ v. v.items) result (Ok items.now) }
+{
+    let mut copies = Vec::new(alloc);
+    for item in items {
+        copies.push(item.try_clone()?)?;
+    }
+    Ok(copies)
+}

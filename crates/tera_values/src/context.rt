@@ -1,0 +1,67 @@
+// What a rendering is given: values by name.
+ghost use Rattle.std.specs.Prelude.{◌≡◌, [], IfErr, OnOk, OnErr, option_copied};
+ghost use Rattle.tera_errors.specs.Answer.{Lacks};
+ghost use Rattle.tera_values.specs.Named.{at_name, put};
+
+use indexmap::IndexMap;
+use std::alloc::Global;
+use std::marker::Model;
+use tera_errors::TeraResult;
+use tera_values_data::Value;
+
+/// Values by name. Each is kept so that a copy of it, or of any part of it, is a count.
+#[derive(Drop)]
+pub struct Context {
+    alloc: Global,
+    names: IndexMap<String, Value>,
+}
+
+impl Model for Context {
+    ghost use Rattle.tera_values_data.specs.Val.{Val};
+    ghost use Rattle.tera_values_data.specs.Code.{val_code};
+    ghost use Rattle.tera_values.specs.Named.{Named, named_code};
+    ghost use Rattle.tera_values.specs.Names.{by_name};
+
+    ghost Value = { Named Val };
+
+    ghost coded = { named_code val_code };
+
+    ghost view = { λ c. by_name c.names.entries };
+}
+
+impl Context {
+    /// A context without names. Takes no memory.
+    pub fn new(alloc: Global) -> Context
+        ensures { result ≡ [] }
+    {
+        Context {
+            alloc,
+            names: IndexMap::new(alloc),
+        }
+    }
+
+    /// The allocator that was given at first.
+    pub fn alloc(&self) -> Global {
+        self.alloc
+    }
+
+    /// Puts the value at the name, in place of one that stood there.
+    pub fn insert(&mut self, name: &str, value: Value) -> TeraResult<()>
+        ensures ok { OnOk result (self.new ≡ put name.now value self.old) }
+        ensures err { OnErr result (self.new ≡ self.old) }
+        ensures lacks { IfErr result Lacks }
+    {
+        let value = value.shared(self.alloc)?;
+        let key = String::from_str(self.alloc, name)?;
+        let old = self.names.insert(key, value)?;
+        drop(old);
+        Ok(())
+    }
+
+    /// The value at the name.
+    pub fn get(&self, name: &str) -> Option<&Value>
+        ensures { option_copied result ≡ at_name name.now self.now }
+    {
+        self.names.get(name)
+    }
+}

@@ -1,0 +1,16 @@
+//! Values, keys, maps, errors, arguments and numbers: what the layers above speak of.
+#![tactic(auto)]
+
+pub mod argument;
+pub mod context;
+pub mod kwargs;
+pub mod name;
+pub mod string_input;
+
+pub use argument::ArgFromValue;
+pub use context::Context;
+pub use kwargs::Kwargs;
+pub use name::Name;
+pub use string_input::StringInput;
+pub use tera_errors::{Error, ErrorKind, ReportError, Span, TeraResult};
+pub use tera_values_data::{Key, Map, Shape, Value, ValueKind, escape_html};

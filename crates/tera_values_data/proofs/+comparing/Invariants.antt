@@ -1,0 +1,36 @@
+use Rattle.std.proofs.Common.{length, ◌-◌, ◌≡◌, ◌≤◌, drop}
+use Rattle.std.specs.Cmp.Lexicographic.{slice_cmp}
+use Rattle.tera_values_data.specs.Val.{vals, entries, val_size, vals_size, entries_size}
+use Rattle.tera_values_data.specs.View.{entry_views}
+use Rattle.tera_values_data.specs.Index.{picked}
+use Rattle.tera_values_data.specs.Order.{order, pair_order}
+use Rattle.tera_values_data.proofs.+comparing.Given as goal
+
+abbrev pub decreases-value::Value::compare : goal.decreases-value::Value::compare
+decreases-value::Value::compare a = val_size a.self.now
+
+abbrev pub decreases-order::compare_items : goal.decreases-order::compare_items
+decreases-order::compare_items a = vals_size (vals a.a.now)
+
+abbrev pub decreases-order::compare_entries : goal.decreases-order::compare_entries
+decreases-order::compare_entries a = entries_size (entries (entry_views a.a.now))
+
+abbrev pub invariant-order::compare_entries-loop-place : goal.invariant-order::compare_entries-loop-place
+invariant-order::compare_entries-loop-place l = record {
+  in_a : l.place ≤ length l.a_keys;
+  in_b : l.place ≤ length l.b_keys;
+  rest : slice_cmp pair_order (picked l.a_keys (entry_views l.a)) (picked l.b_keys (entry_views l.b)) ≡ slice_cmp pair_order (drop l.place (picked l.a_keys (entry_views l.a))) (drop l.place (picked l.b_keys (entry_views l.b)));
+}
+
+abbrev pub decreases-order::compare_entries-loop-place : goal.decreases-order::compare_entries-loop-place
+decreases-order::compare_entries-loop-place l = length l.a_keys - l.place
+
+abbrev pub invariant-order::compare_items-loop-place : goal.invariant-order::compare_items-loop-place
+invariant-order::compare_items-loop-place l = record {
+  in_a : l.place ≤ length l.a;
+  in_b : l.place ≤ length l.b;
+  rest : slice_cmp order l.a l.b ≡ slice_cmp order (drop l.place l.a) (drop l.place l.b);
+}
+
+abbrev pub decreases-order::compare_items-loop-place : goal.decreases-order::compare_items-loop-place
+decreases-order::compare_items-loop-place l = length l.a - l.place

@@ -1,0 +1,31 @@
+use Rattle.std.proofs.Common.{◌≡◌, List, [], ◌∷◌, ◌++◌, ◌<◌, length, take, get_or, ap, sym, ◌∙◌, rules, arith}
+use Rattle.std.proofs.lemmas.List.{take_more, get_or-map}
+use Rattle.tera_values_data.specs.Val.{Val, KeyVal}
+use Rattle.tera_values_data.specs.View.{entry_view, entry_views, key_view}
+use Rattle.tera_values_data.specs.declared.value.Entry.{Entry}
+use Rattle.tera_values_data.proofs.Sizes.{item_below}
+use Rattle.tera_values_data.proofs.Compared.{entry_below}
+use Rattle.tera_values_data.proofs.Entries.{push_views, views_length}
+use Rattle.tera_values_data.proofs.+copying.Goals as goal
+
+pub copy::copy_items-try_clone-requires : goal.copy::copy_items-try_clone-requires
+copy::copy_items-try_clone-requires t c = (let below = item_below c.args.items.now c.loop-item.item-index c.item-item.result (search rules) c.item-item.is in omega (arith, below, c.decreases), tt)
+
+pub copy::copy_entries-try_clone-requires-in-loop-item :
+    goal.copy::copy_entries-try_clone-requires-in-loop-item
+copy::copy_entries-try_clone-requires-in-loop-item t c = (let below = entry_below c.args.all.now c.loop-item.item-index c.item-item.result (search rules) c.item-item.is in omega (arith, below, c.decreases), tt)
+
+pub copy::copy_entries-loop-item-preserved : goal.copy::copy_entries-loop-item-preserved
+copy::copy_entries-loop-item-preserved t c =
+    let all = c.args.all.now in
+    let i = c.loop-item.item-index in
+    let x = c.item-item.result in
+    let h : i < length all = search rules in
+    let h2 : i < length (entry_views all) = omega (arith, h, views_length all) in
+    let e : Entry = record { key = c.in_ok-key.key; value = c.in_ok-value.value } in
+    let key : key_view x.key ≡ key_view c.in_ok-key.key = cc (c.in_ok-key.ensures) in
+    let value : x.value ≡ c.in_ok-value.value = cc (c.in_ok-value.ensures) in
+    let pair : entry_view x ≡ entry_view e = λ j. (key j, value j) in
+    let at : get_or (entry_views all) i (entry_view x) ≡ entry_view x = get_or-map entry_view all i x (entry_view x) h ∙ ap entry_view (sym c.item-item.is) in
+    let more : c.push.new.self.items ≡ c.loop-item.copies.items ++ e ∷ [] = c.in_ok-push.ensures.items in
+    ap entry_views more ∙ push_views c.loop-item.copies.items e ∙ ap (λ (l : List (KeyVal × Val)). l ++ entry_view e ∷ []) c.loop-item.invariant ∙ ap (λ (p : KeyVal × Val). take i (entry_views all) ++ p ∷ []) (sym pair ∙ sym at) ∙ sym (take_more (entry_views all) i (entry_view x) h2)

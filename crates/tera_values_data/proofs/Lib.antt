@@ -1,0 +1,16 @@
+pub mod Runs
+pub mod Keys
+pub mod Places
+pub mod Entries
+pub mod Pairs
+pub mod Sorted
+pub mod Steps
+pub mod Compared
+pub mod Sizes
+pub mod Counts
+pub mod Same
+pub mod Walks
+pub mod Listed
+pub mod Strides
+pub mod Told
+pub mod Parts

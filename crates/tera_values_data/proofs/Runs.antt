@@ -1,0 +1,51 @@
+-- Runs of bytes that stand for themselves, and the bytes between them.
+use Rattle.std.proofs.Common.{◌≡◌, ℕ, ◌+◌, ◌-◌, ◌<◌, ◌≤◌, List, [], ◌∷◌, ◌++◌, length, take, drop, get_or, sym, ap, ◌∙◌, arith, append_assoc, IsUtf8, length-append}
+use Rattle.std.proofs.lemmas.Str.{IsCharBoundary-from_take}
+use Rattle.std.proofs.Math.Seq.{take-append_seam}
+use Rattle.std.specs.String.Boundary.{IsSplitPoint}
+use Rattle.std.proofs.lemmas.List.{append-nil, take_more, drop_more, get_or-drop, length-drop}
+use Rattle.tera_values_data.specs.Growth.{Keeps, by_byte}
+
+pub keeps_all : (t : List ℕ) → Keeps t t
+keeps_all t = record { more = []; is = sym (append-nil t) }
+
+pub keeps_on : (a b c : List ℕ) → Keeps a b → Keeps b c → Keeps a c
+keeps_on a b c h g = record { more = h.more ++ g.more; is = g.is ∙ ap (λ (t : List ℕ). t ++ g.more) h.is ∙ append_assoc a h.more g.more }
+
+-- the byte at place p
+pub by_byte_more : (f : ℕ → List ℕ) (t : List ℕ) (p : ℕ) → p < length t → by_byte f (drop p t) ≡ f (get_or t p 0) ++ by_byte f (drop (p + 1) t)
+by_byte_more f t p h = ap (by_byte f) (drop_more t p 0 h)
+
+-- a byte that stands for itself lengthens the run from s to p
+pub run_more : (f : ℕ → List ℕ) (t : List ℕ) (s p : ℕ) → s ≤ p → p < length t → f (get_or t p 0) ≡ get_or t p 0 ∷ [] → take (p - s) (drop s t) ++ by_byte f (drop p t) ≡ take (p + 1 - s) (drop s t) ++ by_byte f (drop (p + 1) t)
+run_more f t s p o h e =
+    let b : ℕ = get_or t p 0 in
+    let n : p + 1 - s ≡ (p - s) + 1 = omega arith in
+    let m : s + (p - s) ≡ p = omega arith in
+    let g : p - s < length (drop s t) = omega (arith, length-drop s t) in
+    let at : get_or (drop s t) (p - s) 0 ≡ b = get_or-drop s t (p - s) 0 ∙ ap (λ (i : ℕ). get_or t i 0) m in
+    let longer : take (p + 1 - s) (drop s t) ≡ take (p - s) (drop s t) ++ b ∷ [] = ap (λ (i : ℕ). take i (drop s t)) n ∙ take_more (drop s t) (p - s) 0 g ∙ ap (λ (x : ℕ). take (p - s) (drop s t) ++ x ∷ []) at in
+    let rest : by_byte f (drop p t) ≡ b ∷ by_byte f (drop (p + 1) t) = by_byte_more f t p h ∙ ap (λ (l : List ℕ). l ++ by_byte f (drop (p + 1) t)) e in
+    ap (λ (l : List ℕ). take (p - s) (drop s t) ++ l) rest ∙ sym (ap (λ (l : List ℕ). l ++ by_byte f (drop (p + 1) t)) longer ∙ append_assoc (take (p - s) (drop s t)) (b ∷ []) (by_byte f (drop (p + 1) t)))
+
+-- a run and the form after it are written, and the next run is empty
+pub run_done : (f : ℕ → List ℕ) (t : List ℕ) (s p : ℕ) (out later end form : List ℕ) → p < length t → f (get_or t p 0) ≡ form → later ≡ out ++ take (p - s) (drop s t) → end ≡ later ++ form → out ++ (take (p - s) (drop s t) ++ by_byte f (drop p t)) ≡ end ++ (take (p + 1 - (p + 1)) (drop (p + 1) t) ++ by_byte f (drop (p + 1) t))
+run_done f t s p out later end form h e l g =
+    let n : p + 1 - (p + 1) ≡ 0 = omega arith in
+    let rest : by_byte f (drop p t) ≡ form ++ by_byte f (drop (p + 1) t) = by_byte_more f t p h ∙ ap (λ (x : List ℕ). x ++ by_byte f (drop (p + 1) t)) e in
+    let run : List ℕ = take (p - s) (drop s t) in
+    let after : List ℕ = by_byte f (drop (p + 1) t) in
+    ap (λ (x : List ℕ). out ++ (run ++ x)) rest
+    ∙ sym (append_assoc out run (form ++ after))
+    ∙ ap (λ (x : List ℕ). x ++ (form ++ after)) (sym l)
+    ∙ sym (append_assoc later form after)
+    ∙ ap (λ (x : List ℕ). x ++ after) (sym g)
+    ∙ ap (λ (i : ℕ). end ++ (take i (drop (p + 1) t) ++ after)) (sym n)
+
+-- what was there may be cut out again
+pub split_point : (old new : List ℕ) → IsUtf8 old → IsUtf8 new → Keeps old new → IsSplitPoint new (length old)
+split_point old new u v h =
+    let same : take (length old) new ≡ old = ap (take (length old)) h.is ∙ take-append_seam old h.more in
+    let within : length old ≤ length new = omega (arith, length-append old h.more, ap length h.is) in
+    let at = IsCharBoundary-from_take new (length old) v within (rw same u) in
+    (within, λ _ more. at.1 more)

@@ -1,0 +1,15 @@
+-- The escape of markup.
+use Rattle.std.specs.Prelude.{ℕ, List, [], ◌∷◌, cond, nat_eq, codes}
+use Rattle.tera_values_data.specs.Growth.{by_byte}
+
+-- what stands for one byte
+abbrev pub escape_byte : ℕ → List ℕ
+escape_byte b =
+    cond (nat_eq b 38) (codes "&amp;")
+    (cond (nat_eq b 60) (codes "&lt;")
+    (cond (nat_eq b 62) (codes "&gt;")
+    (cond (nat_eq b 34) (codes "&quot;")
+    (cond (nat_eq b 39) (codes "&#x27;") (b ∷ [])))))
+
+abbrev pub escape_html : List ℕ → List ℕ
+escape_html = by_byte escape_byte

@@ -1,0 +1,17 @@
+pub mod Val
+pub mod Code
+pub mod View
+pub mod Falls
+pub mod Keys
+pub mod Index
+pub mod Access
+pub mod Growth
+pub mod Printed
+pub mod Escape
+pub mod Order
+pub mod Laws
+pub mod Shape
+pub mod Finite
+pub mod Items
+pub mod Paths
+pub mod Slices

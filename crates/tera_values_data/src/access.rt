@@ -1,0 +1,141 @@
+// What is asked of a value as a whole.
+ghost use Rattle.std.specs.Prelude.{◌≡◌, ℕ, List, length, option_copied};
+ghost use Rattle.std.specs.Str.{chars};
+ghost use Rattle.tera_errors.specs.Answer.{Gives};
+ghost use Rattle.tera_values_data.specs.View.{key_view};
+ghost use Rattle.tera_values_data.specs.Access.{is_undefined, is_safe, kind_of, kind_name, int_of, text_of, truthy, count, key_of, attr};
+
+use crate::key::Key;
+use crate::shape::Shape;
+use crate::value::{Value, ValueKind};
+use std::alloc::Global;
+use tera_errors::{Error, TeraResult};
+
+pub(crate) fn char_count(text: &str) -> usize
+    ensures { result ≡ length (chars text.now) }
+{
+    text.chars().count()
+}
+
+impl Value {
+    pub fn kind(&self) -> ValueKind
+        ensures { result ≡ kind_of self.now }
+    {
+        match self.shape() {
+            Shape::Undefined => ValueKind::Undefined,
+            Shape::None => ValueKind::None,
+            Shape::Bool(_) => ValueKind::Bool,
+            Shape::Int(_) => ValueKind::Int,
+            Shape::Text(_, _) => ValueKind::String,
+            Shape::Bytes(_) => ValueKind::Bytes,
+            Shape::Array(_) => ValueKind::Array,
+            Shape::Map(_) => ValueKind::Map,
+        }
+    }
+
+    /// The kind as a word in small letters.
+    pub fn name(&self) -> &'static str
+        ensures { result.now ≡ kind_name self.now }
+    {
+        match self.shape() {
+            Shape::Undefined => "undefined",
+            Shape::None => "none",
+            Shape::Bool(_) => "bool",
+            Shape::Int(_) => "int",
+            Shape::Text(_, _) => "string",
+            Shape::Bytes(_) => "bytes",
+            Shape::Array(_) => "array",
+            Shape::Map(_) => "map",
+        }
+    }
+
+    pub fn is_undefined(&self) -> bool
+        ensures { result ≡ is_undefined self.now }
+    {
+        matches!(&self.shape(), Shape::Undefined)
+    }
+
+    /// Whether the printed form needs no escape: a marked text, an integer, a boolean, none.
+    pub fn is_safe(&self) -> bool
+        ensures { result ≡ is_safe self.now }
+    {
+        match self.shape() {
+            Shape::None => true,
+            Shape::Bool(_) => true,
+            Shape::Int(_) => true,
+            Shape::Text(_, safe) => safe,
+            _ => false,
+        }
+    }
+
+    /// The integer; none for other kinds.
+    pub fn as_i128(&self) -> Option<i128>
+        ensures { result ≡ int_of self.now }
+    {
+        match self.shape() {
+            Shape::Int(number) => Some(number),
+            _ => None,
+        }
+    }
+
+    /// The text, without its mark; none for other kinds.
+    pub fn as_str(&self) -> Option<&str>
+        ensures { option_copied result ≡ text_of self.now }
+    {
+        match self.shape() {
+            Shape::Text(content, _) => Some(content),
+            _ => None,
+        }
+    }
+
+    /// Whether the value counts as true in a condition.
+    pub fn is_truthy(&self) -> bool
+        ensures { result ≡ truthy self.now }
+    {
+        match self.shape() {
+            Shape::Undefined => false,
+            Shape::None => false,
+            Shape::Bool(b) => b,
+            Shape::Int(n) => n != 0,
+            Shape::Text(t, _) => !t.is_empty(),
+            Shape::Bytes(b) => !b.is_empty(),
+            Shape::Array(items) => !items.is_empty(),
+            Shape::Map(all) => all.len() != 0,
+        }
+    }
+
+    /// The number of characters, bytes, items or entries.
+    pub fn len(&self) -> Option<usize>
+        ensures { result ≡ count self.now }
+    {
+        match self.shape() {
+            Shape::Text(t, _) => Some(char_count(t)),
+            Shape::Bytes(b) => Some(b.len()),
+            Shape::Array(items) => Some(items.len()),
+            Shape::Map(all) => Some(all.len()),
+            _ => None,
+        }
+    }
+
+    /// The value as a key.
+    pub fn as_key(&self, alloc: Global) -> TeraResult<Key>
+        ensures { Gives key_view result (key_of self.now) }
+    {
+        match self.shape() {
+            Shape::Bool(b) => Ok(Key::Bool(b)),
+            Shape::Int(n) => Ok(Key::Int(n)),
+            Shape::Text(t, _) => Ok(Key::Text(String::from_str(alloc, t)?)),
+            _ => Err(Error::message(alloc, "not a key")),
+        }
+    }
+
+    /// The value of a map at a text key.
+    pub fn get_attr(&self, name: &str) -> Option<&Value>
+        ensures { option_copied result ≡ attr name.now self.now }
+    {
+        match self.shape() {
+            Shape::Map(all) => all.get_text(name),
+            _ => None,
+        }
+    }
+}

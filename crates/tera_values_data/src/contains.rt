@@ -1,0 +1,59 @@
+// Whether a value holds another one.
+ghost use Rattle.std.specs.Prelude.{◌≡◌};
+ghost use Rattle.tera_errors.specs.Answer.{Gives};
+ghost use Rattle.tera_values_data.specs.Val.{vals};
+ghost use Rattle.tera_values_data.specs.Access.{key_of};
+ghost use Rattle.tera_values_data.specs.Slices.{is_part, has_item, has_key, contains};
+
+use crate::key::Wanted;
+use crate::shape::Shape;
+use crate::value::{Map, Value};
+use memchr::memmem;
+use std::alloc::Global;
+use tera_errors::{Error, TeraResult};
+
+fn has_item(items: &[Value], wanted: &Value) -> bool
+    ensures { result ≡ has_item wanted.now (vals items.now) }
+{
+    for item in items {
+        if *item == *wanted {
+            return true;
+        }
+    }
+    false
+}
+
+fn has_part(content: &str, part: &str) -> bool
+    ensures { result ≡ is_part part.now content.now }
+{
+    memmem::find(content.as_bytes(), part.as_bytes()).is_some()
+}
+
+fn has_key(all: &Map, wanted: &Value) -> bool
+    ensures { result ≡ has_key (key_of wanted.now) all.now }
+{
+    match wanted.shape() {
+        Shape::Bool(flag) => all.value_at(&Wanted::Bool(flag)).is_some(),
+        Shape::Int(number) => all.value_at(&Wanted::Int(number)).is_some(),
+        Shape::Text(name, _) => all.value_at(&Wanted::Text(name)).is_some(),
+        _ => false,
+    }
+}
+
+impl Value {
+    /// Whether an item of the array is equal to the value, the text has it as a part, or the map has
+    /// it as a key. A `Message` for other kinds, and where no text is looked for in a text.
+    pub fn contains(&self, alloc: Global, wanted: &Value) -> TeraResult<bool>
+        ensures { Gives (λ found. found) result (contains self.now wanted.now) }
+    {
+        match self.shape() {
+            Shape::Array(items) => Ok(has_item(items, wanted)),
+            Shape::Text(content, _) => match wanted.shape() {
+                Shape::Text(part, _) => Ok(has_part(content, part)),
+                _ => Err(Error::message(alloc, "a text has only texts as parts")),
+            },
+            Shape::Map(all) => Ok(has_key(all, wanted)),
+            _ => Err(Error::message(alloc, "only arrays, texts and maps hold values")),
+        }
+    }
+}

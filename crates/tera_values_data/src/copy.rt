@@ -1,0 +1,146 @@
+// The same value once more, and the form in which that is a count.
+ghost use Rattle.std.specs.Prelude.{◌≡◌, Ok, OnOk, IfErr};
+ghost use Rattle.tera_errors.specs.Answer.{Gives, Lacks};
+ghost use Rattle.tera_values_data.specs.View.{entry_views};
+
+use crate::value::{Entry, Map, Node, Value};
+use std::alloc::Global;
+use std::mem::replace;
+use std::rc::Rc;
+use tera_errors::TeraResult;
+
+impl Value {
+    /// The same value, marks too; what is shared is shared with the copy.
+    #[cycle(copying)]
+    pub fn try_clone(&self) -> TeraResult<Value>
+        ensures { Gives (λ v. v) result (Ok self.now) }
+    {
+        match &self.node {
+            Node::Undefined => Ok(Value {
+                node: Node::Undefined,
+            }),
+            Node::None => Ok(Value { node: Node::None }),
+            Node::Bool(flag) => Ok(Value {
+                node: Node::Bool(*flag),
+            }),
+            Node::Int(number) => Ok(Value {
+                node: Node::Int(*number),
+            }),
+            Node::Text(content, safe) => Ok(Value {
+                node: Node::Text(content.clone()?, *safe),
+            }),
+            Node::Bytes(content) => Ok(Value {
+                node: Node::Bytes(content.clone()?),
+            }),
+            Node::Array(items) => Ok(Value {
+                node: Node::Array(copy_items(*items.allocator(), items.as_slice())?),
+            }),
+            Node::Shared(items) => Ok(Value {
+                node: Node::Shared(items.clone()?),
+            }),
+            Node::Map(all) => {
+                let by_key = all.by_key.clone()?;
+                let copies = copy_entries(*all.all.allocator(), all.all.as_slice())?;
+                Ok(Value {
+                    node: Node::Map(Map {
+                        all: copies,
+                        by_key,
+                    }),
+                })
+            }
+            Node::SharedMap(all) => Ok(Value {
+                node: Node::SharedMap(all.clone()?),
+            }),
+        }
+    }
+}
+
+#[cycle(copying)]
+fn copy_items(alloc: Global, items: &[Value]) -> TeraResult<Vec<Value>>
+    ensures { Gives (λ v. v.items) result (Ok items.now) }
+{
+    let mut copies = Vec::new(alloc);
+    for item in items {
+        copies.push(item.try_clone()?)?;
+    }
+    Ok(copies)
+}
+
+#[cycle(copying)]
+fn copy_entries(alloc: Global, all: &[Entry]) -> TeraResult<Vec<Entry>>
+    ensures { Gives (λ v. entry_views v.items) result (Ok (entry_views all.now)) }
+{
+    let mut copies = Vec::new(alloc);
+    for item in all {
+        let key = item.key.try_clone()?;
+        let value = item.value.try_clone()?;
+        copies.push(Entry { key, value })?;
+    }
+    Ok(copies)
+}
+
+impl Map {
+    /// The same entries, keys and values copied one by one.
+    pub fn try_clone(&self) -> TeraResult<Map>
+        ensures { Gives (λ m. m) result (Ok self.now) }
+    {
+        let by_key = self.by_key.clone()?;
+        let all = copy_entries(*self.all.allocator(), self.all.as_slice())?;
+        Ok(Map { all, by_key })
+    }
+}
+
+impl Value {
+    /// The same value, kept so that a copy of it or of any part of it is a count.
+    #[cycle(sharing)]
+    pub fn shared(self, alloc: Global) -> TeraResult<Value>
+        ensures { Gives (λ v. v) result (Ok self) }
+    {
+        match self.node {
+            Node::Array(items) => {
+                let mut items = items;
+                share_items(alloc, items.as_mut_slice())?;
+                Ok(Value {
+                    node: Node::Shared(Rc::new(alloc, items)?),
+                })
+            }
+            Node::Map(all) => {
+                let Map { all, by_key } = all;
+                let mut all = all;
+                share_entries(alloc, all.as_mut_slice())?;
+                Ok(Value {
+                    node: Node::SharedMap(Rc::new(alloc, Map { all, by_key })?),
+                })
+            }
+            node => Ok(Value { node }),
+        }
+    }
+}
+
+#[cycle(sharing)]
+fn share_items(alloc: Global, items: &mut [Value]) -> TeraResult<()>
+    ensures ok { OnOk result (items.new ≡ items.old) }
+    ensures lacks { IfErr result Lacks }
+{
+    for item in items.iter_mut() {
+        let whole = replace(item, Value::undefined());
+        let kept = whole.shared(alloc)?;
+        let hole = replace(item, kept);
+        drop(hole);
+    }
+    Ok(())
+}
+
+#[cycle(sharing)]
+fn share_entries(alloc: Global, all: &mut [Entry]) -> TeraResult<()>
+    ensures ok { OnOk result (entry_views all.new ≡ entry_views all.old) }
+    ensures lacks { IfErr result Lacks }
+{
+    for entry in all.iter_mut() {
+        let whole = replace(&mut entry.value, Value::undefined());
+        let kept = whole.shared(alloc)?;
+        let hole = replace(&mut entry.value, kept);
+        drop(hole);
+    }
+    Ok(())
+}

@@ -1,0 +1,127 @@
+// Items, characters, bytes and values at an index.
+ghost use Rattle.std.specs.Prelude.{◌≡◌, ℕ, Ok, length, option_copied, slice_get};
+ghost use Rattle.std.specs.Str.{chars};
+ghost use Rattle.tera_errors.specs.Answer.{Gives};
+ghost use Rattle.tera_values_data.specs.View.{wanted_view};
+ghost use Rattle.tera_values_data.specs.Access.{find, key_of};
+ghost use Rattle.tera_values_data.specs.Items.{place_of, char_text, item_at, byte_at, char_from, found_at, or_undefined, get_item};
+
+use crate::access::char_count;
+use crate::key::Wanted;
+use crate::shape::Shape;
+use crate::value::{Map, Value};
+use std::alloc::Global;
+use tera_errors::{Error, TeraResult};
+
+/// Where the integer points in a list of so many items; a negative one counts from the end.
+fn place(index: i128, length: usize) -> Option<usize>
+    ensures { result ≡ place_of index length }
+{
+    let distance = index.unsigned_abs();
+    let length = length as u128;
+    if index < 0 {
+        if distance <= length {
+            Some((length - distance) as usize)
+        } else {
+            None
+        }
+    } else if distance < length {
+        Some(distance as usize)
+    } else {
+        None
+    }
+}
+
+fn char_at(text: &str, place: usize) -> Option<char>
+    ensures { result ≡ slice_get (chars text.now) place }
+{
+    text.chars().nth(place)
+}
+
+fn char_value(alloc: Global, character: char) -> TeraResult<Value>
+    ensures { Gives (λ v. v) result (Ok (char_text character)) }
+{
+    let mut out = String::new(alloc);
+    out.push(character)?;
+    Value::string(alloc, out.as_str())
+}
+
+fn item_in(items: &[Value], index: i128) -> TeraResult<Value>
+    ensures { Gives (λ v. v) result (Ok (item_at (place_of index (length items.now)) items.now)) }
+{
+    match place(index, items.len()) {
+        Some(at) => match items.get(at) {
+            Some(item) => item.try_clone(),
+            None => Ok(Value::undefined()),
+        },
+        None => Ok(Value::undefined()),
+    }
+}
+
+fn byte_in(bytes: &[u8], index: i128) -> Value
+    ensures { result ≡ byte_at (place_of index (length bytes.now)) bytes.now }
+{
+    match place(index, bytes.len()) {
+        Some(at) => match bytes.get(at) {
+            Some(byte) => Value::from_int(*byte as i128),
+            None => Value::undefined(),
+        },
+        None => Value::undefined(),
+    }
+}
+
+fn char_in(alloc: Global, text: &str, index: i128) -> TeraResult<Value>
+    ensures { Gives (λ v. v) result (Ok (char_from (place_of index (length (chars text.now))) (chars text.now))) }
+{
+    match place(index, char_count(text)) {
+        Some(at) => match char_at(text, at) {
+            Some(character) => char_value(alloc, character),
+            None => Ok(Value::undefined()),
+        },
+        None => Ok(Value::undefined()),
+    }
+}
+
+fn value_in(all: &Map, wanted: &Wanted<'_>) -> TeraResult<Value>
+    ensures { Gives (λ v. v) result (Ok (or_undefined (find (wanted_view wanted.now) all.now))) }
+{
+    match all.value_at(wanted) {
+        Some(value) => value.try_clone(),
+        None => Ok(Value::undefined()),
+    }
+}
+
+fn entry_in(alloc: Global, all: &Map, index: &Value) -> TeraResult<Value>
+    ensures { Gives (λ v. v) result (found_at (key_of index.now) all.now) }
+{
+    match index.shape() {
+        Shape::Bool(flag) => value_in(all, &Wanted::Bool(flag)),
+        Shape::Int(number) => value_in(all, &Wanted::Int(number)),
+        Shape::Text(name, _) => value_in(all, &Wanted::Text(name)),
+        _ => Err(Error::message(alloc, "the index is no key")),
+    }
+}
+
+impl Value {
+    /// The item, character, byte or value at an index.
+    pub fn get_item(&self, alloc: Global, index: &Value) -> TeraResult<Value>
+        ensures { Gives (λ v. v) result (get_item self.now index.now) }
+    {
+        match self.shape() {
+            Shape::Map(all) => entry_in(alloc, all, index),
+            Shape::Array(items) => match index.shape() {
+                Shape::Int(n) => item_in(items, n),
+                _ => Err(Error::message(alloc, "the index is no integer")),
+            },
+            Shape::Text(text, _) => match index.shape() {
+                Shape::Int(n) => char_in(alloc, text, n),
+                _ => Err(Error::message(alloc, "the index is no integer")),
+            },
+            Shape::Bytes(bytes) => match index.shape() {
+                Shape::Int(n) => Ok(byte_in(bytes, n)),
+                _ => Err(Error::message(alloc, "the index is no integer")),
+            },
+            _ => Err(Error::message(alloc, "the value has no items")),
+        }
+    }
+}

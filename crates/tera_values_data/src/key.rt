@@ -1,0 +1,68 @@
+// Keys of maps.
+ghost use Rattle.std.specs.Prelude.{◌≡◌, Ok};
+ghost use Rattle.tera_errors.specs.Answer.{Gives};
+ghost use Rattle.tera_values_data.specs.Keys.{key_cmp};
+ghost use Rattle.tera_values_data.specs.View.{key_view, wanted_view};
+
+use std::cmp::Ordering;
+use tera_errors::TeraResult;
+
+/// A key of a map.
+#[derive(Drop)]
+pub enum Key {
+    Bool(bool),
+    Int(i128),
+    Text(String),
+}
+
+/// A key that is looked for.
+#[derive(Drop)]
+pub(crate) enum Wanted<'a> {
+    Bool(bool),
+    Int(i128),
+    Text(&'a str),
+}
+
+impl Key {
+    pub(crate) fn wanted(&self) -> Wanted<'_>
+        ensures { wanted_view result ≡ key_view self.now }
+    {
+        match self {
+            Key::Bool(flag) => Wanted::Bool(*flag),
+            Key::Int(number) => Wanted::Int(*number),
+            Key::Text(name) => Wanted::Text(name.as_str()),
+        }
+    }
+
+    /// The same key.
+    pub fn try_clone(&self) -> TeraResult<Key>
+        ensures { Gives key_view result (Ok (key_view self.now)) }
+    {
+        match self {
+            Key::Bool(flag) => Ok(Key::Bool(*flag)),
+            Key::Int(number) => Ok(Key::Int(*number)),
+            Key::Text(name) => Ok(Key::Text(name.clone()?)),
+        }
+    }
+}
+
+/// How the key stands to the wanted one in the order of keys.
+pub(crate) fn compare_key(key: &Key, wanted: &Wanted<'_>) -> Ordering
+    ensures { result ≡ key_cmp (key_view key.now) (wanted_view wanted.now) }
+{
+    match key {
+        Key::Bool(a) => match wanted {
+            Wanted::Bool(b) => a.cmp(b),
+            _ => Ordering::Less,
+        },
+        Key::Int(a) => match wanted {
+            Wanted::Bool(_) => Ordering::Greater,
+            Wanted::Int(b) => a.cmp(b),
+            Wanted::Text(_) => Ordering::Less,
+        },
+        Key::Text(a) => match wanted {
+            Wanted::Text(b) => a.as_str().cmp(*b),
+            _ => Ordering::Greater,
+        },
+    }
+}

@@ -1,0 +1,22 @@
+//! Values as they are kept: kinds, keys, maps, order, access and print.
+#![tactic(auto)]
+
+pub mod access;
+pub mod contains;
+pub mod copy;
+pub mod escape;
+pub mod item;
+pub mod key;
+pub mod map;
+pub mod order;
+pub mod path;
+pub mod print;
+pub mod shape;
+pub mod slice;
+pub mod value;
+
+pub use escape::escape_html;
+pub use key::Key;
+pub use shape::Shape;
+pub use tera_errors::{Error, ErrorKind, ReportError, Span, TeraResult};
+pub use value::{Map, Value, ValueKind};

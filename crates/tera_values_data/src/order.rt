@@ -1,0 +1,217 @@
+// The order of values, their equality, and which of them an order makes sense of.
+ghost use Rattle.std.specs.Prelude.{◌≡◌};
+ghost use Rattle.std.specs.Cmp.Lexicographic.{slice_cmp};
+ghost use Rattle.tera_values_data.specs.Val.{vals};
+ghost use Rattle.tera_values_data.specs.View.{entry_views};
+ghost use Rattle.tera_values_data.specs.Index.{IsIndex, picked};
+ghost use Rattle.tera_values_data.specs.Order.{rank, order, pair_order, comparable, comparable_items};
+ghost use Rattle.tera_values_data.specs.Finite.{IsSameMap};
+
+use crate::key::compare_key;
+use crate::shape::Shape;
+use crate::value::{Entry, Map, Value};
+use std::cmp::Ordering;
+
+impl Value {
+    fn rank(&self) -> u8
+        ensures { result ≡ rank self.now }
+    {
+        match self.shape() {
+            Shape::Undefined => 0,
+            Shape::None => 1,
+            Shape::Bool(_) => 2,
+            Shape::Int(_) => 3,
+            Shape::Text(_, _) => 4,
+            Shape::Bytes(_) => 5,
+            Shape::Array(_) => 6,
+            Shape::Map(_) => 7,
+        }
+    }
+}
+
+impl Value {
+    /// How the value stands to the other in the order of values.
+    #[cycle(comparing)]
+    fn compare(&self, other: &Value) -> Ordering
+        ensures { result ≡ order self.now other.now }
+    {
+        match self.shape() {
+            Shape::Bool(a) => match other.shape() {
+                Shape::Bool(b) => a.cmp(&b),
+                _ => self.rank().cmp(&other.rank()),
+            },
+            Shape::Int(a) => match other.shape() {
+                Shape::Int(b) => a.cmp(&b),
+                _ => self.rank().cmp(&other.rank()),
+            },
+            Shape::Text(a, _) => match other.shape() {
+                Shape::Text(b, _) => a.cmp(b),
+                _ => self.rank().cmp(&other.rank()),
+            },
+            Shape::Bytes(a) => match other.shape() {
+                Shape::Bytes(b) => a.cmp(b),
+                _ => self.rank().cmp(&other.rank()),
+            },
+            Shape::Array(a) => match other.shape() {
+                Shape::Array(b) => compare_items(a, b),
+                _ => self.rank().cmp(&other.rank()),
+            },
+            Shape::Map(a) => match other.shape() {
+                Shape::Map(b) => compare_entries(
+                    a.all.as_slice(),
+                    a.by_key.as_slice(),
+                    b.all.as_slice(),
+                    b.by_key.as_slice(),
+                ),
+                _ => self.rank().cmp(&other.rank()),
+            },
+            _ => self.rank().cmp(&other.rank()),
+        }
+    }
+}
+
+#[cycle(comparing)]
+fn compare_items(a: &[Value], b: &[Value]) -> Ordering
+    ensures { result ≡ slice_cmp order a.now b.now }
+{
+    let mut place = 0;
+    while place < a.len() && place < b.len() {
+        let answer = a[place].compare(&b[place]);
+        if answer.is_ne() {
+            return answer;
+        }
+        place += 1;
+    }
+    a.len().cmp(&b.len())
+}
+
+/// The entries of two maps, each in the order of its keys.
+#[cycle(comparing)]
+fn compare_entries(a: &[Entry], a_keys: &[usize], b: &[Entry], b_keys: &[usize]) -> Ordering
+    requires first { IsIndex a_keys.now (entry_views a.now) }
+    requires second { IsIndex b_keys.now (entry_views b.now) }
+    ensures { result ≡ slice_cmp pair_order (picked a_keys.now (entry_views a.now)) (picked b_keys.now (entry_views b.now)) }
+{
+    let mut place = 0;
+    while place < a_keys.len() && place < b_keys.len() {
+        let x = &a[a_keys[place]];
+        let y = &b[b_keys[place]];
+        let keys = compare_key(&x.key, &y.key.wanted());
+        if keys.is_ne() {
+            return keys;
+        }
+        let values = x.value.compare(&y.value);
+        if values.is_ne() {
+            return values;
+        }
+        place += 1;
+    }
+    a_keys.len().cmp(&b_keys.len())
+}
+
+impl Value {
+    /// Whether the two are of one kind that has an order; of arrays, up to and with the first unequal items.
+    #[cycle(comparable)]
+    pub fn comparable(&self, other: &Value) -> bool
+        ensures { result ≡ comparable self.now other.now }
+    {
+        match self.shape() {
+            Shape::Bool(_) => matches!(&other.shape(), Shape::Bool(_)),
+            Shape::Int(_) => matches!(&other.shape(), Shape::Int(_)),
+            Shape::Text(_, _) => matches!(&other.shape(), Shape::Text(_, _)),
+            Shape::Bytes(_) => matches!(&other.shape(), Shape::Bytes(_)),
+            Shape::Array(a) => match other.shape() {
+                Shape::Array(b) => comparable_items(a, b),
+                _ => false,
+            },
+            _ => false,
+        }
+    }
+}
+
+#[cycle(comparable)]
+fn comparable_items(a: &[Value], b: &[Value]) -> bool
+    ensures { result ≡ comparable_items (vals a.now) (vals b.now) }
+{
+    let mut place = 0;
+    while place < a.len() && place < b.len() {
+        if !a[place].comparable(&b[place]) {
+            return false;
+        }
+        if a[place].compare(&b[place]).is_ne() {
+            return true;
+        }
+        place += 1;
+    }
+    true
+}
+
+impl Map {
+    /// Whether the two maps find equal values at every key.
+    pub fn same_as(&self, other: &Map) -> bool
+        ensures { IsSameMap result self.now other.now }
+    {
+        compare_entries(
+            self.all.as_slice(),
+            self.by_key.as_slice(),
+            other.all.as_slice(),
+            other.by_key.as_slice(),
+        )
+        .is_eq()
+    }
+}
+
+impl PartialEq for Value {
+    ghost use Rattle.std.specs.Cmp.{partial_equiv_from_equiv};
+    ghost use Rattle.std.proofs.lemmas.Cmp.{eq_by_cmp_equiv};
+    ghost use Rattle.tera_values_data.specs.Order.{same};
+    ghost use Rattle.tera_values_data.specs.Laws.{order_total};
+
+    ghost eq = { same };
+
+    ghost laws = { partial_equiv_from_equiv (eq_by_cmp_equiv order_total) };
+
+    fn eq(&self, other: &Value) -> bool {
+        self.compare(other).is_eq()
+    }
+}
+
+impl Eq for Value {
+    ghost use Rattle.std.proofs.lemmas.Cmp.{eq_by_cmp_equiv};
+    ghost use Rattle.tera_values_data.specs.Laws.{order_total};
+
+    ghost laws = { eq_by_cmp_equiv order_total };
+}
+
+impl Ord for Value {
+    ghost use Rattle.std.proofs.Common.{refl};
+    ghost use Rattle.tera_values_data.specs.Order.{order};
+    ghost use Rattle.tera_values_data.specs.Laws.{order_total};
+
+    ghost cmp = { order };
+
+    ghost total = { order_total };
+
+    ghost matches_partial_cmp = { λ x y. refl };
+
+    ghost matches_eq = { λ x y. refl };
+
+    fn cmp(&self, other: &Value) -> Ordering {
+        self.compare(other)
+    }
+}
+
+impl PartialOrd for Value {
+    ghost use Rattle.std.specs.Ordering.{as_partial_cmp};
+    ghost use Rattle.std.specs.Cmp.{partial_order_from_total};
+    ghost use Rattle.tera_values_data.specs.Order.{order};
+    ghost use Rattle.tera_values_data.specs.Laws.{order_total};
+
+    ghost partial_cmp = { as_partial_cmp order };
+
+    ghost laws = { partial_order_from_total order_total };
+
+    fn partial_cmp(&self, other: &Value) -> Option<Ordering> {
+        Some(self.compare(other))
+    }
+}

@@ -1,0 +1,39 @@
+// What a value is, whatever form it is kept in.
+ghost use Rattle.std.specs.Prelude.{◌≡◌};
+ghost use Rattle.tera_values_data.specs.Shape.{shape_view};
+
+use crate::value::{Map, Node, Value};
+
+/// What a value is, with its content lent. Takes no memory.
+#[derive(Drop)]
+pub enum Shape<'a> {
+    Undefined,
+    None,
+    Bool(bool),
+    Int(i128),
+    /// A text, and whether it is marked safe.
+    Text(&'a str, bool),
+    Bytes(&'a [u8]),
+    Array(&'a [Value]),
+    Map(&'a Map),
+}
+
+impl Value {
+    /// The kind and the content.
+    pub fn shape(&self) -> Shape<'_>
+        ensures { shape_view result ≡ self.now }
+    {
+        match &self.node {
+            Node::Undefined => Shape::Undefined,
+            Node::None => Shape::None,
+            Node::Bool(flag) => Shape::Bool(*flag),
+            Node::Int(number) => Shape::Int(*number),
+            Node::Text(content, safe) => Shape::Text(content.as_str(), *safe),
+            Node::Bytes(content) => Shape::Bytes(content.as_ref().as_slice()),
+            Node::Array(items) => Shape::Array(items.as_slice()),
+            Node::Shared(items) => Shape::Array(items.as_ref().as_slice()),
+            Node::Map(all) => Shape::Map(all),
+            Node::SharedMap(all) => Shape::Map(all.as_ref()),
+        }
+    }
+}

@@ -1,0 +1,238 @@
+// Slices of arrays and texts, and their items the last one first.
+ghost use Rattle.std.specs.Prelude.{◌≡◌, ◌≢◌, pos, string_bytes, ◌<◌, ◌≤◌, ◌^◌, ℕ, List, Ok, length, reverse, EachIndex, slice_index, slice_index_or};
+ghost use Rattle.std.specs.Str.{chars, encode_utf8_all};
+ghost use Rattle.tera_errors.specs.Answer.{Gives};
+ghost use Rattle.tera_values_data.specs.Val.{text};
+ghost use Rattle.tera_values_data.specs.Slices.{before, through, bound, upward, downward, places, picked_items, picked_chars, slice, reversed};
+
+use crate::shape::Shape;
+use crate::value::Value;
+use std::alloc::Global;
+use tera_errors::{Error, TeraResult};
+
+/// How many of so many items stand before the place that the number names.
+fn before(number: i128, length: usize) -> usize
+    ensures value { result ≡ before length number }
+    ensures within { result ≤ length }
+{
+    let distance = number.unsigned_abs();
+    let length = length as u128;
+    if number < 0 {
+        length.saturating_sub(distance) as usize
+    } else {
+        distance.min(length) as usize
+    }
+}
+
+/// How many of so many items stand before the place that the number names, and at it.
+fn through(number: i128, length: usize) -> usize
+    ensures value { result ≡ through length number }
+    ensures within { result ≤ length }
+{
+    let distance = number.unsigned_abs();
+    let length = length as u128;
+    if number < 0 {
+        (length + 1).saturating_sub(distance) as usize
+    } else {
+        (distance + 1).min(length) as usize
+    }
+}
+
+fn before_bound(number: Option<i128>, default: usize, length: usize) -> usize
+    requires { default ≤ length }
+    ensures value { result ≡ bound (before length) default number }
+    ensures within { result ≤ length }
+{
+    match number {
+        Some(number) => before(number, length),
+        None => default,
+    }
+}
+
+fn through_bound(number: Option<i128>, default: usize, length: usize) -> usize
+    requires { default ≤ length }
+    ensures value { result ≡ bound (through length) default number }
+    ensures within { result ≤ length }
+{
+    match number {
+        Some(number) => through(number, length),
+        None => default,
+    }
+}
+
+fn upward(alloc: Global, start: usize, end: usize, step: u128) -> TeraResult<Vec<usize>>
+    requires moves { 0 < step }
+    requires fits { step ≤ 2 ^ 127 }
+    ensures { Gives (λ v. v.items) result (Ok (upward end start end step)) }
+{
+    let mut places = Vec::new(alloc);
+    let mut at = start as u128;
+    while at < end as u128 {
+        places.push(at as usize)?;
+        at += step;
+    }
+    Ok(places)
+}
+
+fn downward(alloc: Global, start: usize, end: usize, step: u128) -> TeraResult<Vec<usize>>
+    requires { 0 < step }
+    ensures { Gives (λ v. v.items) result (Ok (downward start start end step)) }
+{
+    let mut places = Vec::new(alloc);
+    let mut at = start as u128;
+    while at > end as u128 {
+        places.push((at - 1) as usize)?;
+        at = at.saturating_sub(step);
+    }
+    Ok(places)
+}
+
+/// The places of a slice of so many items, by a step that is not 0.
+fn places(
+    alloc: Global,
+    start: Option<i128>,
+    end: Option<i128>,
+    step: i128,
+    length: usize,
+) -> TeraResult<Vec<usize>>
+    requires { step ≢ pos 0 }
+    ensures { Gives (λ v. v.items) result (Ok (places start end step length)) }
+{
+    let stride = step.unsigned_abs();
+    if step > 0 {
+        let first = before_bound(start, 0, length);
+        let last = before_bound(end, length, length);
+        upward(alloc, first, last, stride)
+    } else {
+        let first = through_bound(start, length, length);
+        let last = through_bound(end, 0, length);
+        downward(alloc, first, last, stride)
+    }
+}
+
+fn pick_items(alloc: Global, items: &[Value], places: &[usize]) -> TeraResult<Vec<Value>>
+    requires { EachIndex places.now (λ k. slice_index places.now k < length items.now) }
+    ensures { Gives (λ v. v.items) result (Ok (picked_items places.now items.now)) }
+{
+    let mut picked = Vec::new(alloc);
+    for place in places {
+        let item = items[*place].try_clone()?;
+        picked.push(item)?;
+    }
+    Ok(picked)
+}
+
+fn pick_chars(alloc: Global, letters: &[char], places: &[usize]) -> TeraResult<String>
+    requires { EachIndex places.now (λ k. slice_index places.now k < length letters.now) }
+    ensures { Gives string_bytes result (Ok (encode_utf8_all (picked_chars places.now letters.now))) }
+{
+    let mut picked = String::new(alloc);
+    for place in places {
+        picked.push(letters[*place])?;
+    }
+    Ok(picked)
+}
+
+fn letters(alloc: Global, content: &str) -> TeraResult<Vec<char>>
+    ensures { Gives (λ v. v.items) result (Ok (chars content.now)) }
+{
+    let letters = content.chars().collect(alloc)?;
+    Ok(letters)
+}
+
+fn turned_items(alloc: Global, items: &[Value]) -> TeraResult<Vec<Value>>
+    ensures { Gives (λ v. v.items) result (Ok (reverse items.now)) }
+{
+    let mut turned = Vec::new(alloc);
+    let mut left = items.len();
+    while left > 0 {
+        left -= 1;
+        let item = items[left].try_clone()?;
+        turned.push(item)?;
+    }
+    Ok(turned)
+}
+
+fn turned_text(alloc: Global, content: &str) -> TeraResult<String>
+    ensures { Gives string_bytes result (Ok (encode_utf8_all (reverse (chars content.now)))) }
+{
+    let letters = letters(alloc, content)?;
+    let mut turned = String::new(alloc);
+    let mut left = letters.len();
+    while left > 0 {
+        left -= 1;
+        turned.push(letters[left])?;
+    }
+    Ok(turned)
+}
+
+fn slice_items(
+    alloc: Global,
+    items: &[Value],
+    start: Option<i128>,
+    end: Option<i128>,
+    step: i128,
+) -> TeraResult<Vec<Value>>
+    requires { step ≢ pos 0 }
+    ensures { Gives (λ v. v.items) result (Ok (picked_items (places start end step (length items.now)) items.now)) }
+{
+    let places = places(alloc, start, end, step, items.len())?;
+    pick_items(alloc, items, places.as_slice())
+}
+
+fn slice_text(
+    alloc: Global,
+    content: &str,
+    start: Option<i128>,
+    end: Option<i128>,
+    step: i128,
+) -> TeraResult<String>
+    requires { step ≢ pos 0 }
+    ensures { Gives string_bytes result (Ok (encode_utf8_all (picked_chars (places start end step (length (chars content.now))) (chars content.now)))) }
+{
+    let letters = letters(alloc, content)?;
+    let places = places(alloc, start, end, step, letters.len())?;
+    pick_chars(alloc, letters.as_slice(), places.as_slice())
+}
+
+impl Value {
+    /// The items of an array, or the characters of a text, from the start to before the end, each
+    /// step further, which is 1 where none is given. Negative bounds count from the end, and a
+    /// negative step goes back. A `Message` where the step is 0, or for other kinds.
+    pub fn slice(
+        &self,
+        alloc: Global,
+        start: Option<i128>,
+        end: Option<i128>,
+        step: Option<i128>,
+    ) -> TeraResult<Value>
+        ensures { Gives (λ v. v) result (slice start end step self.now) }
+    {
+        let step = step.unwrap_or(1);
+        if step == 0 {
+            return Err(Error::message(alloc, "a slice has no step of 0"));
+        }
+        match self.shape() {
+            Shape::Array(items) => Ok(Value::array(slice_items(alloc, items, start, end, step)?)),
+            Shape::Text(content, _) => {
+                let part = slice_text(alloc, content, start, end, step)?;
+                Value::string(alloc, part.as_str())
+            }
+            _ => Err(Error::message(alloc, "only arrays and texts have slices")),
+        }
+    }
+
+    /// The items of an array, or the characters of a text, the last one first. A `Message` for other kinds.
+    pub fn reverse(&self, alloc: Global) -> TeraResult<Value>
+        ensures { Gives (λ v. v) result (reversed self.now) }
+    {
+        match self.shape() {
+            Shape::Array(items) => Ok(Value::array(turned_items(alloc, items)?)),
+            Shape::Text(content, _) => {
+                let turned = turned_text(alloc, content)?;
+                Value::string(alloc, turned.as_str())
+            }
+            _ => Err(Error::message(alloc, "only arrays and texts are turned round")),
+        }
+    }
+}

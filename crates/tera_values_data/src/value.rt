@@ -1,0 +1,195 @@
+// What a value is, and how it is kept.
+ghost use Rattle.std.specs.Prelude.{◌≡◌, false, true, Ok};
+ghost use Rattle.tera_errors.specs.Answer.{Gives};
+ghost use Rattle.tera_values_data.specs.Val.{Val, bool, bytes, array, map, undefined, none, int, text, vals, entries};
+ghost use Rattle.tera_values_data.specs.Access.{marked};
+
+use crate::key::Key;
+use std::alloc::Global;
+use std::marker::Model;
+use std::rc::{Rc, RcStr};
+use tera_errors::TeraResult;
+
+/// The kinds of values.
+#[derive(Clone, Copy, Debug, PartialEq, Eq)]
+pub enum ValueKind {
+    Undefined,
+    None,
+    Bool,
+    Int,
+    String,
+    Bytes,
+    Array,
+    Map,
+}
+
+/// A value of a template. A copy of a text, of bytes and of what is in shared form is a count.
+#[cycle(value)]
+#[derive(Drop)]
+pub struct Value {
+    pub(crate) node: Node,
+}
+
+/// How a value is kept. What `Shared` and `SharedMap` hold is shared all the way down.
+#[cycle(value)]
+#[derive(Drop)]
+pub(crate) enum Node {
+    Undefined,
+    None,
+    Bool(bool),
+    Int(i128),
+    Text(RcStr, bool),
+    Bytes(Rc<Vec<u8>>),
+    Array(Vec<Value>),
+    Shared(Rc<Vec<Value>>),
+    Map(Map),
+    SharedMap(Rc<Map>),
+}
+
+#[cycle(value)]
+#[derive(Drop)]
+pub(crate) struct Entry {
+    pub(crate) key: Key,
+    pub(crate) value: Value,
+}
+
+/// Values at keys, in order of insertion. The places of the entries stand beside them, sorted by key.
+#[cycle(value)]
+#[derive(Drop)]
+pub struct Map {
+    pub(crate) all: Vec<Entry>,
+    pub(crate) by_key: Vec<usize>,
+}
+
+impl Model for Value {
+    ghost use Rattle.tera_values_data.specs.Val.{Val, val_size};
+    ghost use Rattle.tera_values_data.specs.Code.{val_code};
+
+    ghost Value = { Val };
+
+    ghost coded = { val_code };
+
+    ghost use Rattle.tera_values_data.specs.View.{node_view};
+
+    ghost view = { λ v. node_view v.node };
+
+    ghost size = { val_size };
+
+    ghost use Rattle.tera_values_data.specs.Falls.{falls};
+
+    ghost size_decreases = { λ v h. falls v.node };
+}
+
+impl Model for Map {
+    ghost use Rattle.std.specs.Prelude.{List};
+    ghost use Rattle.tera_values_data.specs.Val.{Val, KeyVal, entries, entries_size};
+    ghost use Rattle.tera_values_data.specs.Code.{entries_code};
+
+    ghost Value = { List (KeyVal × Val) };
+
+    ghost coded = { entries_code };
+
+    ghost use Rattle.tera_values_data.specs.View.{entry_views};
+
+    ghost view = { λ m. entry_views m.all.items };
+
+    ghost use Rattle.tera_values_data.specs.Index.{IsIndex};
+
+    ghost invariant = { λ m. IsIndex m.by_key.items (entry_views m.all.items) };
+
+    ghost size = { λ es. entries_size (entries es) };
+
+    ghost use Rattle.tera_values_data.specs.Falls.{entries_fall};
+
+    ghost size_decreases = { λ m h. entries_fall m.all.items };
+}
+
+impl Value {
+    /// What a name stands for that is bound nowhere.
+    pub fn undefined() -> Value
+        ensures { result ≡ undefined }
+    {
+        Value {
+            node: Node::Undefined,
+        }
+    }
+
+    pub fn none() -> Value
+        ensures { result ≡ none }
+    {
+        Value { node: Node::None }
+    }
+
+    pub fn from_bool(flag: bool) -> Value
+        ensures { result ≡ bool flag }
+    {
+        Value {
+            node: Node::Bool(flag),
+        }
+    }
+
+    pub fn from_int(number: i128) -> Value
+        ensures { result ≡ int number }
+    {
+        Value {
+            node: Node::Int(number),
+        }
+    }
+
+    /// A text without the safe mark.
+    pub fn string(alloc: Global, content: &str) -> TeraResult<Value>
+        ensures { Gives (λ v. v) result (Ok (text content.now false)) }
+    {
+        Ok(Value {
+            node: Node::Text(RcStr::from_str(alloc, content)?, false),
+        })
+    }
+
+    /// A text that is taken as markup already: it goes out as it is.
+    pub fn safe_string(alloc: Global, content: &str) -> TeraResult<Value>
+        ensures { Gives (λ v. v) result (Ok (text content.now true)) }
+    {
+        Ok(Value {
+            node: Node::Text(RcStr::from_str(alloc, content)?, true),
+        })
+    }
+
+    pub fn bytes(alloc: Global, content: &[u8]) -> TeraResult<Value>
+        ensures { Gives (λ v. v) result (Ok (bytes content.now)) }
+    {
+        let content = Vec::from_slice(alloc, content)?;
+        Ok(Value {
+            node: Node::Bytes(Rc::new(alloc, content)?),
+        })
+    }
+
+    /// The items themselves, in their order.
+    pub fn array(items: Vec<Value>) -> Value
+        ensures { result ≡ array (vals items.items) }
+    {
+        Value {
+            node: Node::Array(items),
+        }
+    }
+
+    /// The entries themselves, in their order.
+    pub fn map(all: Map) -> Value
+        ensures { result ≡ map (entries all) }
+    {
+        Value {
+            node: Node::Map(all),
+        }
+    }
+
+    /// The same text with the safe mark; any other value as it is.
+    pub fn mark_safe(self) -> Value
+        ensures { result ≡ marked self }
+    {
+        match self.node {
+            Node::Text(content, _) => Value {
+                node: Node::Text(content, true),
+            },
+            node => Value { node },
+        }
+    }
+}

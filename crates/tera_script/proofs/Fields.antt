@@ -1,0 +1,13 @@
+-- The fields of a command line.
+use Rattle.std.proofs.Common.{◌≡◌, ◌≢◌, ℕ, List, [], ◌∷◌, None, refl}
+use Rattle.tera_script.specs.Script.{only_field}
+use Rattle.tera_script.specs.Words.{is_space, words_of}
+use Rattle.tera_script.proofs.Splits.{slice_split-some}
+
+only_field-more : (field : List ℕ) (more : List (List ℕ)) → more ≢ [] → only_field (field ∷ more) ≡ None
+only_field-more field [] h = absurd (h refl)
+only_field-more field (next ∷ more) h = refl
+
+-- a field behind which another stands is not alone
+pub only_field-words : (field rest : List ℕ) → only_field (field ∷ words_of rest) ≡ None
+only_field-words field rest = only_field-more field (words_of rest) (slice_split-some is_space rest)

@@ -1,0 +1,7 @@
+pub mod Splits
+pub mod Fields
+pub mod Bodies
+pub mod Scripts
+pub mod Passages
+pub mod Sessions
+pub mod Programs

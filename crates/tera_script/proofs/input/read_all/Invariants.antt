@@ -1,0 +1,5 @@
+use Rattle.tera_script.specs.Passage.{PassesAll}
+use Rattle.tera_script.proofs.input.read_all.Given as goal
+
+abbrev pub invariant-loop : goal.invariant-loop
+invariant-loop g l = PassesAll (g.R.Input.passed l.initial.reader) (g.R.Input.passed l.reader) l.bytes.items

@@ -1,0 +1,5 @@
+use Rattle.std.proofs.Common.{◌≡◌}
+use Rattle.tera_script.proofs.standard.WriterOutputOutput.write.Given as goal
+
+abbrev pub invariant-loop : goal.invariant-loop
+invariant-loop g l = record { bytes : l.self.trace.bytes ≡ l.initial.self.trace.bytes; failures : l.self.trace.failures ≡ l.initial.self.trace.failures }

@@ -1,0 +1,11 @@
+pub mod Lines
+pub mod Words
+pub mod Act
+pub mod Passage
+pub mod Reply
+pub mod Script
+pub mod Session
+pub mod Run
+pub mod Body
+pub mod Found
+pub mod Seen

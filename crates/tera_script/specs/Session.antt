@@ -1,0 +1,55 @@
+-- What commands may be answered, and what they leave.
+use Rattle.std.specs.Prelude.{◌≡◌, ℕ, List, [], ◌∷◌, Ok, None, false}
+use Rattle.std.specs.List.{flat_map}
+use Rattle.tera_errors.specs.Answer.{SaysOneOf}
+use Rattle.tera_values.specs.Named.{Named, put}
+use Rattle.tera_values.specs.Val.{Val, text}
+use Rattle.tera_meaning.specs.Registry.{Registry}
+use Rattle.tera.specs.Rendering.{OneOff}
+use Rattle.tera_script.specs.Act.{Act, put_text, render_text}
+use Rattle.tera_script.specs.Reply.{Replied, done, says, refuses, line_of}
+use Rattle.tera_script.specs.Script.{script_of}
+
+-- what a run keeps between its commands
+pub record Session : Type 0 where
+  pub registry : Registry
+  pub context : Named Val
+
+-- A run begins with an empty context.
+abbrev pub fresh : Registry → Session
+fresh registry = record { registry = registry; context = [] }
+
+-- Want of memory may always be the answer.
+abbrev pub MayAnswer : Session → Act → Replied → Type 0
+MayAnswer session (put_text name body) done = Unit {0}
+MayAnswer session (put_text name body) (says answer) = ⊥
+MayAnswer session (put_text name body) (refuses refusal) = refusal ≡ None
+MayAnswer session (render_text autoescape body) done = ⊥
+MayAnswer session (render_text autoescape body) (says answer) = OneOff session.registry body session.context autoescape (Ok answer)
+MayAnswer session (render_text autoescape body) (refuses refusal) = SaysOneOf refusal (OneOff session.registry body session.context autoescape)
+
+-- A command that is refused changes nothing.
+abbrev pub after : Session → Act → Replied → Session
+after session (put_text name body) done = record session { context = put name (text body false) session.context }
+after session (put_text name body) (says answer) = session
+after session (put_text name body) (refuses refusal) = session
+after session (render_text autoescape body) reply = session
+
+-- one reply a command, each in the session that the commands before it left
+abbrev pub Replies : Session → List Act → List Replied → Type 0
+Replies session [] [] = Unit {0}
+Replies session [] (reply ∷ replies) = ⊥
+Replies session (act ∷ acts) [] = ⊥
+Replies session (act ∷ acts) (reply ∷ replies) = MayAnswer session act reply × Replies (after session act reply) acts replies
+
+-- the session that the commands leave
+abbrev pub after_all : Session → List Act → List Replied → Session
+after_all session [] replies = session
+after_all session (act ∷ acts) [] = session
+after_all session (act ∷ acts) (reply ∷ replies) = after_all (after session act reply) acts replies
+
+-- The commands that these bytes spell may be answered so, beside this registry, and the answers are written in order.
+pub record Program (registry : Registry) (input output : List ℕ) : Type 0 where
+  pub replies : List Replied
+  pub allowed : Replies (fresh registry) (script_of input).acts replies
+  pub written : output ≡ flat_map line_of replies

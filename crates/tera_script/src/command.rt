@@ -1,0 +1,10 @@
+// The commands of a script.
+
+/// What a script asks of the engine. The texts are borrowed from where they stand in the script.
+#[derive(Clone, Copy, Debug, PartialEq, Eq)]
+pub enum Command<'a> {
+    /// Puts a text into the context, under this name.
+    Text { name: &'a str, body: &'a str },
+    /// Renders a text beside the registry, with the context.
+    Str { autoescape: bool, body: &'a str },
+}

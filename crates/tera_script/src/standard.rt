@@ -1,0 +1,110 @@
+// Readers and writers of the standard library as inputs and outputs.
+ghost use Rattle.std.specs.Prelude.{◌≡◌};
+ghost use Rattle.tera_script.specs.Passage.{unused};
+
+use crate::stream::{Failure, Input, Output};
+use crate::trace::Trace;
+use std::io::{ErrorKind, Read, Write};
+
+/// A reader as an input. A read that was interrupted is tried again.
+#[derive(Drop)]
+pub struct ReaderInput<R> {
+    reader: R,
+    ended: bool,
+    trace: Trace,
+}
+
+impl<R: Read> ReaderInput<R> {
+    /// Takes the reader where it stands.
+    pub fn new(reader: R) -> ReaderInput<R>
+        ensures { ⟦<ReaderInput<R> as Input>⟧.passed result ≡ unused }
+    {
+        ReaderInput {
+            reader,
+            ended: false,
+            trace: Trace::new(),
+        }
+    }
+}
+
+impl<R: Read> Input for ReaderInput<R> {
+    ghost use Rattle.std.specs.Prelude.{IsTrue};
+    ghost use Rattle.tera_script.specs.Passage.{Passage};
+
+    ghost passed = { λ s. record { bytes = s.trace.bytes; failures = s.trace.failures } };
+
+    ghost ended = { λ s. IsTrue s.ended };
+
+    fn read(&mut self, buffer: &mut [u8]) -> Result<usize, Failure> {
+        for _ in 0..u64::MAX {
+            match self.reader.read(buffer) {
+                Ok(taken) => {
+                    self.trace = Trace::with(&self.trace, &buffer[..taken], 0);
+                    self.ended = taken == 0 && !buffer.is_empty();
+                    return Ok(taken);
+                }
+                Err(error) => {
+                    if error.kind() != ErrorKind::Interrupted {
+                        break;
+                    }
+                }
+            }
+        }
+        self.trace = Trace::with(&self.trace, &[], 1);
+        Err(Failure)
+    }
+}
+
+/// A writer as an output. A write that was interrupted is tried again.
+#[derive(Drop)]
+pub struct WriterOutput<W> {
+    writer: W,
+    trace: Trace,
+}
+
+impl<W: Write> WriterOutput<W> {
+    /// Takes the writer where it stands.
+    pub fn new(writer: W) -> WriterOutput<W>
+        ensures { ⟦<WriterOutput<W> as Output>⟧.passed result ≡ unused }
+    {
+        WriterOutput {
+            writer,
+            trace: Trace::new(),
+        }
+    }
+}
+
+impl<W: Write> Output for WriterOutput<W> {
+    ghost use Rattle.tera_script.specs.Passage.{Passage};
+
+    ghost passed = { λ s. record { bytes = s.trace.bytes; failures = s.trace.failures } };
+
+    fn write(&mut self, piece: &[u8]) -> Result<usize, Failure> {
+        for _ in 0..u64::MAX {
+            match self.writer.write(piece) {
+                Ok(taken) => {
+                    if taken == 0 && !piece.is_empty() {
+                        break;
+                    }
+                    self.trace = Trace::with(&self.trace, &piece[..taken], 0);
+                    return Ok(taken);
+                }
+                Err(error) => {
+                    if error.kind() != ErrorKind::Interrupted {
+                        break;
+                    }
+                }
+            }
+        }
+        self.trace = Trace::with(&self.trace, &[], 1);
+        Err(Failure)
+    }
+
+    fn flush(&mut self) -> Result<(), Failure> {
+        if self.writer.flush().is_ok() {
+            return Ok(());
+        }
+        self.trace = Trace::with(&self.trace, &[], 1);
+        Err(Failure)
+    }
+}

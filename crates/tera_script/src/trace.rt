@@ -1,0 +1,33 @@
+// What went through a stream, for contracts alone.
+ghost use Rattle.std.specs.Prelude.{◌≡◌, ◌+◌, ◌++◌, ℕ, List, []};
+ghost use Rattle.std.specs.Borrow.{ftrue};
+
+use std::marker::Model;
+
+/// The bytes that went through a stream so far, and how often it failed. It takes no memory, and its functions do
+/// nothing when they run. Only their contracts say what it holds.
+#[derive(Drop)]
+pub struct Trace {
+    pub ghost bytes: { List ℕ },
+    pub ghost failures: { ℕ },
+}
+
+impl Model for Trace {
+    ghost also_owns = { λ _. ftrue };
+}
+
+impl Trace {
+    /// Nothing went through yet.
+    pub fn new() -> Trace
+        ensures { (result.bytes ≡ []) × (result.failures ≡ 0) }
+    {
+        Trace {}
+    }
+
+    /// A piece more, and so many failures more.
+    pub fn with(_before: &Trace, _piece: &[u8], _failures: usize) -> Trace
+        ensures { (result.bytes ≡ _before.now.bytes ++ _piece.now) × (result.failures ≡ _before.now.failures + _failures) }
+    {
+        Trace {}
+    }
+}

@@ -1,0 +1,52 @@
+//! Memory that is taken up but for some bytes.
+use std::alloc::Global;
+
+/// How many bytes are free at most while a call is tried.
+const ROOM: usize = 8192;
+
+/// The least that the C library hands out: with steps of it each request is once the first that is refused.
+pub const STEP: usize = 32;
+
+/// Steps enough for all the room.
+pub const TRIES: usize = ROOM / STEP;
+
+/// Takes pieces of a size until there are no more.
+fn take_pieces(alloc: Global, taken: &mut Vec<Vec<u8>>, size: usize) {
+    for _ in 0..20_000 {
+        match Vec::with_capacity(alloc, size) {
+            Ok(piece) => {
+                let _ = taken.push(piece);
+            }
+            Err(_) => break,
+        }
+    }
+}
+
+/// Takes all the memory that there is.
+fn take_all(alloc: Global, taken: &mut Vec<Vec<u8>>) {
+    let mut size: usize = 1 << 34;
+    for _ in 0..34 {
+        take_pieces(alloc, taken, size);
+        size = size / 2;
+    }
+    // The C library keeps small pieces that were given back, by their size, and hands them out for that size alone.
+    for place in 0..64 {
+        take_pieces(alloc, taken, 1032 - 16 * place);
+    }
+}
+
+/// What the call answers where so many bytes are left; none where there is not even room for this test itself.
+pub fn with_budget<T, F: FnOnce() -> T>(alloc: Global, budget: usize, call: F) -> Option<T>
+    requires { F.IsAlwaysCallable call }
+{
+    let mut taken: Vec<Vec<u8>> = Vec::with_capacity(alloc, 200_000).ok()?;
+    let room = Vec::<u8>::with_capacity(alloc, ROOM).ok()?;
+    take_all(alloc, &mut taken);
+    drop(room);
+    // Between this plug and the end of the room lies all that is left.
+    let plug = Vec::<u8>::with_capacity(alloc, ROOM.saturating_sub(budget)).ok()?;
+    let answer = call();
+    drop(plug);
+    drop(taken);
+    Some(answer)
+}

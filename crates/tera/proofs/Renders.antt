@@ -4,7 +4,7 @@ use Rattle.tera_errors.specs.Site.{Text}
 use Rattle.tera_errors.specs.Answer.{Refusal, Gives, GivesOneOf, SaysOneOf}
 use Rattle.tera_values.specs.Val.{Val}
 use Rattle.tera_values.specs.Named.{Named}
-use Rattle.tera_syntax.specs.Tree.{Tree}
+use Rattle.tera_tree.specs.Tree.{Tree}
 use Rattle.tera_syntax.specs.Reads.{Reads}
 use Rattle.tera_meaning.specs.Registry.{Registry}
 use Rattle.tera.specs.Rendering.{OneOff}

@@ -5,7 +5,7 @@ use Rattle.tera_errors.specs.Fault.{Fault}
 use Rattle.tera_errors.specs.Answer.{Refusal, SaysOneOf}
 use Rattle.tera_values.specs.Val.{Val}
 use Rattle.tera_values.specs.Named.{Named}
-use Rattle.tera_syntax.specs.Tree.{Tree}
+use Rattle.tera_tree.specs.Tree.{Tree}
 use Rattle.tera_syntax.specs.Reads.{Reads}
 use Rattle.tera_meaning.specs.Registry.{Registry}
 use Rattle.tera_meaning.specs.Rendering.{one_off_name, render_str}

@@ -1,12 +1,13 @@
 // An engine, and what it renders.
 ghost use Rattle.std.specs.Prelude.{◌≡◌, Ok, IsTrue, string_bytes};
 ghost use Rattle.tera_errors.specs.Answer.{Gives, GivesOneOf};
-ghost use Rattle.tera_syntax.specs.Delimiters.{delimiters_of, accepted};
+ghost use Rattle.tera_tree.specs.Delimiters.{delimiters_of, accepted};
 ghost use Rattle.tera_meaning.specs.Registry.{new_registry};
 ghost use Rattle.tera.specs.Rendering.{OneOff, AppendsOneOf};
+ghost use Rattle.tera.specs.Configuring.{Configures, with_delimiters};
 
 use std::alloc::Global;
-use tera_syntax::Delimiters;
+use tera_tree::Delimiters;
 use tera_values::{Context, TeraResult};
 
 /// An engine: what templates are read by, and what every rendering reads. Definitions see it as a registry.
@@ -30,6 +31,16 @@ impl Tera {
             delimiters: Delimiters::standard(alloc)?,
             global_context: Context::new(alloc),
         })
+    }
+
+    /// Tags are told from text by these delimiters from now on. Refused with a message once a template is there, and
+    /// where one is empty or two start delimiters are equal; then those of before stay.
+    pub fn set_delimiters(&mut self, delimiters: Delimiters) -> TeraResult<()>
+        ensures { Configures result (with_delimiters (delimiters_of delimiters) (registry_of self.old)) (registry_of self.old) (registry_of self.new) }
+    {
+        delimiters.validate(self.alloc)?;
+        self.delimiters = delimiters;
+        Ok(())
     }
 
     /// Renders a text that is no template of the engine. Faults name the file `__tera_one_off`.

@@ -2,7 +2,7 @@
 ghost use Rattle.std.specs.Prelude.{◌≡◌, string_bytes};
 ghost use Rattle.tera_errors.specs.Answer.{Gives, GivesOneOf, Lacks};
 ghost use Rattle.std.specs.Prelude.{IfOk, IfErr};
-ghost use Rattle.tera_syntax.specs.View.{nodes_of};
+ghost use Rattle.tera_tree.specs.View.{nodes_of};
 ghost use Rattle.tera_code.specs.Code.{listing_of};
 ghost use Rattle.tera.specs.Rendering.{OneOff};
 ghost use Rattle.tera_meaning.specs.Rendering.{text_of, one_off_meaning, one_off_name};
@@ -15,7 +15,8 @@ use std::sync::ledger::{Blank, Ledger};
 use tera_code::{Chunk, Compiler, Steps};
 use tera_machine::{Configuration, VirtualMachine};
 use tera_state::Scopes;
-use tera_syntax::{Node, parse};
+use tera_syntax::parse;
+use tera_tree::Node;
 use tera_values::{Context, TeraResult};
 
 /// The name that faults give to a text that is no template of the engine.
@@ -34,7 +35,12 @@ impl Tera {
     {
         match parse(self.alloc, ONE_OFF, input, &self.delimiters) {
             Ok(output) => {
-                self.render_nodes::<Brand>(output.nodes, context, autoescape, Blank::new(1))
+                self.render_nodes::<Brand>(
+                    output.nodes.as_slice(),
+                    context,
+                    autoescape,
+                    Blank::new(1),
+                )
             }
             Err(error) => Err(error),
         }
@@ -43,15 +49,15 @@ impl Tera {
     // The text of these nodes. The subject is theirs: it tells the machine what they mean.
     fn render_nodes<L: Ledger>(
         &self,
-        nodes: Vec<Node>,
+        nodes: &[Node],
         context: &Context,
         autoescape: bool,
         blank: Blank,
     ) -> TeraResult<String>
         ghost about: { Subject }
         requires ledger { (blank.name ≡ L.name) × (blank.parts ≡ L.parts) × (L.parts ≡ 1) }
-        requires subject { about ≡ one_off_subject (registry_of self.now) (nodes_of nodes.items) autoescape }
-        ensures { Gives string_bytes result (text_of (one_off_meaning (registry_of self.now) (record { nodes = nodes_of nodes.items }) context.now autoescape)) }
+        requires subject { about ≡ one_off_subject (registry_of self.now) (nodes_of nodes.now) autoescape }
+        ensures { Gives string_bytes result (text_of (one_off_meaning (registry_of self.now) (record { nodes = nodes_of nodes.now }) context.now autoescape)) }
     {
         let chunk = compiled(self.alloc, nodes)?;
         let machine = VirtualMachine::new_with_autoescape(self.alloc, autoescape);
@@ -65,8 +71,8 @@ impl Tera {
     }
 }
 
-fn compiled(alloc: Global, nodes: Vec<Node>) -> TeraResult<Chunk>
-    ensures ok { IfOk result (λ c. c ≡ listing_of one_off_name (nodes_of nodes.items)) }
+fn compiled(alloc: Global, nodes: &[Node]) -> TeraResult<Chunk>
+    ensures ok { IfOk result (λ c. c ≡ listing_of one_off_name (nodes_of nodes.now)) }
     ensures lacks { IfErr result Lacks }
 {
     let mut compiler = Compiler::new(alloc, ONE_OFF)?;

@@ -1,1 +1,2 @@
 pub mod Lengthened
+pub mod Written

@@ -1,5 +1,5 @@
 // The instructions of one body.
-ghost use Rattle.std.specs.Prelude.{◌≡◌, ◌+◌, ◌<◌, ◌^◌, slice_get, IfSome, MatchOption, Some, None};
+ghost use Rattle.std.specs.Prelude.{◌≡◌, ◌+◌, ◌<◌, ◌^◌, length, slice_get, IfSome, MatchOption, Some, None};
 
 use crate::instruction::Instruction;
 use crate::steps::Steps;
@@ -16,8 +16,12 @@ pub struct Chunk {
 
 impl Model for Chunk {
     ghost use Rattle.tera_code.specs.Listing.{Listing};
+    ghost use Rattle.std.specs.Coded.{codes};
+    ghost use Rattle.tera_values.specs.Code.{val_code};
 
     ghost Value = { Listing };
+
+    ghost coded = { Prim.hlevel (codes, val_code) };
 
     ghost view = { λ c. record { file = c.file; code = c.code.items } };
 }
@@ -41,7 +45,7 @@ impl Chunk {
     /// The instruction at this place, from 0, which is counted where there is one. No other call hands one out.
     pub fn get<L: Ledger>(&self, at: usize, steps: &mut Steps<L>) -> Option<&Instruction>
         ensures found { MatchOption result (slice_get self.now.code at ≡ None) (λ i. slice_get self.now.code at ≡ Some i.now) }
-        ensures place { IfSome result (λ _. at + 1 < 2 ^ 64) }
+        ensures small { IfSome result (λ _. length self.now.code < 2 ^ 64) }
         ensures count { MatchOption result (steps.new ≡ steps.old) (λ _. steps.new ≡ steps.old + 1) }
     {
         match self.code.get(at) {

@@ -1,16 +1,14 @@
 // From trees to instructions.
-ghost use Rattle.std.specs.Prelude.{◌≡◌, [], ◌∷◌, OnOk, IfOk, IfErr};
-ghost use Rattle.tera_errors.specs.Answer.{Lacks};
-ghost use Rattle.tera_syntax.specs.View.{expr_of, node_of, nodes_of};
-ghost use Rattle.tera_code.specs.Code.{expr_code, node_code, nodes_code, lengthened};
+ghost use Rattle.std.specs.Prelude.{◌≡◌, [], ◌∷◌, Ok, OnOk, IfErr, length, string_bytes};
+ghost use Rattle.tera_errors.specs.Answer.{Gives, Lacks};
+ghost use Rattle.tera_code.specs.declared.instruction.Instruction.TheVariants as instruction;
+ghost use Rattle.tera_code.specs.Code.{lengthened};
 
 use crate::chunk::Chunk;
-use crate::content::Content;
 use crate::instruction::Instruction;
 use std::alloc::Global;
 use std::marker::Model;
-use tera_syntax::{Expression, Node};
-use tera_values::{Name, TeraResult};
+use tera_values::{Name, Span, TeraResult, Value};
 
 /// Writes the instructions of one body. A contract sees those that are written so far.
 #[derive(Drop)]
@@ -22,8 +20,12 @@ pub struct Compiler {
 
 impl Model for Compiler {
     ghost use Rattle.tera_code.specs.Listing.{Listing};
+    ghost use Rattle.std.specs.Coded.{codes};
+    ghost use Rattle.tera_values.specs.Code.{val_code};
 
     ghost Value = { Listing };
+
+    ghost coded = { Prim.hlevel (codes, val_code) };
 
     ghost view = { λ c. record { file = c.file; code = c.code.items } };
 }
@@ -33,61 +35,13 @@ impl Compiler {
 
     /// A compiler of a body in the text of the template of this name.
     pub fn new(alloc: Global, file: &str) -> TeraResult<Compiler>
-        ensures ok { IfOk result (λ c. c ≡ record { file = file.now; code = [] }) }
-        ensures lacks { IfErr result Lacks }
+        ensures { Gives (λ c. c) result (Ok (record { file = file.now; code = [] })) }
     {
         Ok(Compiler {
             alloc,
             file: Name::new(alloc, file)?,
             code: Vec::new(alloc),
         })
-    }
-
-    /// The instructions of the nodes, one after another, behind those that are there. After a refusal some may be missing.
-    pub fn compile(&mut self, nodes: Vec<Node>) -> TeraResult<()>
-        ensures ok { OnOk result (self.new ≡ lengthened self.old (nodes_code (nodes_of nodes.items))) }
-        ensures lacks { IfErr result Lacks }
-    {
-        for node in nodes {
-            self.compile_node(node)?;
-        }
-        Ok(())
-    }
-
-    /// The instructions of the node, behind those that are there. After a refusal some may be missing.
-    pub fn compile_node(&mut self, node: Node) -> TeraResult<()>
-        ensures ok { OnOk result (self.new ≡ lengthened self.old (node_code (node_of node))) }
-        ensures lacks { IfErr result Lacks }
-    {
-        match node {
-            Node::Content { text, span: _ } => {
-                self.emit(Instruction::WriteText(Content::new(text)))
-            }
-            Node::Print { value } => {
-                self.compile_expression(value)?;
-                self.emit(Instruction::WriteTop)
-            }
-        }
-    }
-
-    fn compile_expression(&mut self, expression: Expression) -> TeraResult<()>
-        ensures ok { OnOk result (self.new ≡ lengthened self.old (expr_code (expr_of expression))) }
-        ensures lacks { IfErr result Lacks }
-    {
-        match expression {
-            Expression::Name { name, span } => {
-                let name = Name::new(self.alloc, name.as_str())?;
-                self.emit(Instruction::LoadName(name, span))
-            }
-        }
-    }
-
-    fn emit(&mut self, instruction: Instruction) -> TeraResult<()>
-        ensures ok { OnOk result (self.new ≡ lengthened self.old (instruction ∷ [])) }
-        ensures lacks { IfErr result Lacks }
-    {
-        self.code.push(instruction)?;
-        Ok(())
     }
 
     /// The body, with all that is written.
@@ -100,5 +54,61 @@ impl Compiler {
             code,
         } = self;
         Chunk::new(file, code)
+    }
+
+    // A compiler of a part of the same body.
+    pub(crate) fn part(&self) -> TeraResult<Compiler>
+        ensures { Gives (λ c. c) result (Ok (record { file = self.now.file; code = [] })) }
+    {
+        Ok(Compiler {
+            alloc: self.alloc,
+            file: self.file.share()?,
+            code: Vec::new(self.alloc),
+        })
+    }
+
+    pub(crate) fn alloc(&self) -> Global {
+        self.alloc
+    }
+
+    pub(crate) fn len(&self) -> usize
+        ensures { result ≡ length self.now.code }
+    {
+        self.code.len()
+    }
+
+    pub(crate) fn emit(&mut self, instruction: Instruction) -> TeraResult<()>
+        ensures ok { OnOk result (self.new ≡ lengthened self.old (instruction ∷ [])) }
+        ensures lacks { IfErr result Lacks }
+    {
+        self.code.push(instruction)?;
+        Ok(())
+    }
+
+    pub(crate) fn append(&mut self, part: Compiler) -> TeraResult<()>
+        ensures ok { OnOk result (self.new ≡ lengthened self.old part.code) }
+        ensures lacks { IfErr result Lacks }
+    {
+        let Compiler {
+            alloc: _,
+            file: _,
+            mut code,
+        } = part;
+        self.code.append(&mut code)?;
+        Ok(())
+    }
+
+    pub(crate) fn constant(&mut self, value: Value, span: Span) -> TeraResult<()>
+        ensures ok { OnOk result (self.new ≡ lengthened self.old (instruction.LoadConst value span ∷ [])) }
+        ensures lacks { IfErr result Lacks }
+    {
+        let value = value.shared(self.alloc)?;
+        self.emit(Instruction::LoadConst(value, span))
+    }
+
+    pub(crate) fn name(&self, text: &String) -> TeraResult<Name>
+        ensures { Gives (λ n. n) result (Ok (string_bytes text.now)) }
+    {
+        Name::new(self.alloc, text.as_str())
     }
 }

@@ -1,14 +1,52 @@
 // What the machine can be told.
-use crate::content::Content;
-use tera_values::{Name, Span};
+use crate::content::{Content, Keys, Spreads};
+use tera_tree::BinaryOperator;
+use tera_values::{Name, Span, Value};
 
-/// One instruction. It holds texts, names and spans, and no part of a tree.
+/// One instruction. It holds constants, names, numbers and spans, and no part of a tree. A jump says how many
+/// instructions it passes; a span is where a fault of the instruction, or of the value that it makes, is reported.
 #[derive(Drop)]
 pub enum Instruction {
     /// Puts the text out as it stands.
     WriteText(Content),
-    /// Puts the value that the name stands for on top of the operands; faults in it are reported at the span.
-    LoadName(Name, Span),
     /// Takes the topmost operand and puts it out.
     WriteTop,
+    /// Puts the constant on top of the operands.
+    LoadConst(Value, Span),
+    /// Puts the value that the name stands for on top of the operands.
+    LoadName(Name, Span),
+    /// The attribute of the topmost operand in its place.
+    LoadAttribute {
+        name: Name,
+        optional: bool,
+        span: Span,
+    },
+    /// The item of the second operand at the topmost one in their place.
+    LoadItem {
+        optional: bool,
+        span: Span,
+    },
+    /// The slice of the fourth operand by the three above it, start, end and step, in their place.
+    Slice {
+        optional: bool,
+        span: Span,
+    },
+    /// The truth value that the topmost operand has not, in its place.
+    Not,
+    /// The negative of the topmost operand in its place.
+    Negate,
+    /// What the operator makes of the two topmost operands, in their place.
+    Binary(BinaryOperator, Span),
+    /// An array of so many operands, in their place.
+    MakeArray(Spreads, Span),
+    /// A map of so many operands, in their place.
+    MakeMap(Keys, Span),
+    /// Passes instructions.
+    Jump(usize),
+    /// Takes the topmost operand, and passes instructions where it is falsy.
+    PopJumpIfFalse(usize),
+    /// Passes instructions where the topmost operand is falsy, and else takes it.
+    JumpIfFalseOrPop(usize),
+    /// Passes instructions where the topmost operand is truthy, and else takes it.
+    JumpIfTrueOrPop(usize),
 }

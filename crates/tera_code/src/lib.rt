@@ -4,11 +4,14 @@
 pub mod chunk;
 pub mod compiler;
 pub mod content;
+mod expressions;
 pub mod instruction;
+mod nodes;
+mod parts;
 pub mod steps;
 
 pub use chunk::Chunk;
 pub use compiler::Compiler;
-pub use content::Content;
+pub use content::{Content, Keys, Spreads};
 pub use instruction::Instruction;
 pub use steps::Steps;

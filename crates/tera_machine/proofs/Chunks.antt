@@ -1,60 +1,259 @@
 -- The code of a tree gives what the tree means.
-use Rattle.std.proofs.Common.{◌≡◌, ℕ, ◌+◌, List, [], ◌∷◌, ◌++◌, length, Option, Some, None, refl, subst, arith, length-append}
+use Rattle.std.proofs.Common.{◌≡◌, ℕ, ◌+◌, ◌≤◌, Bool, false, List, [], ◌∷◌, ◌++◌, length, Option, Some, Result, Ok, Err, refl, ap, ◌∙◌, subst, arith, length-append}
 use Rattle.std.specs.Prelude.{slice_get}
-use Rattle.tera_errors.specs.Site.{Text}
-use Rattle.tera_syntax.specs.Tree.{Expr, Name, Node, Content, Print, Nodes, NoNodes, MoreNodes}
-use Rattle.tera_meaning.specs.Here.{Here, fault_at}
-use Rattle.tera_meaning.specs.Run.{Run, Operand, Signal, On, Answer, Oracle, Meaning, known, writes, onward, go_on}
-use Rattle.tera_meaning.specs.Meaning.{output, expr_meaning, node_meaning, nodes_meaning}
-use Rattle.tera_code.specs.declared.instruction.Instruction.TheVariants.{WriteText, LoadName, WriteTop}
-use Rattle.tera_code.specs.Code.{expr_code, node_code, nodes_code}
-use Rattle.tera_machine.specs.Act.{act, put_out}
+use Rattle.std.specs.List.{zip}
+use Rattle.tera_errors.specs.declared.span.Span.{Span}
+use Rattle.tera_errors.specs.Site as site
+use Rattle.tera_errors.specs.Fault.{Fault}
+use Rattle.tera_tree.specs.Tree.{Key, Expr, Nothing, Boolean, Integer, Text, Name, Attribute, Index, Slice, Not, Negate, Binary, And, Or, Ternary, Array, Map, Optional, Absent, Present, Items, NoItems, MoreItems, Entries, NoEntries, MoreEntries, Node, Content, Print, If, Nodes, NoNodes, MoreNodes}
+use Rattle.tera_values.specs.Val as val
+use Rattle.tera_values.specs.Access.{truthy}
+use Rattle.tera_operators.specs.Operand.{Evaluated, Outcome}
+use Rattle.tera_operators.specs.Accesses.{attribute_of, item_of, slice_of}
+use Rattle.tera_operators.specs.Operators.{not_of, negative_of, binary_of}
+use Rattle.tera_operators.specs.Literals.{array_of, map_of}
+use Rattle.tera_meaning.specs.Here.{Here}
+use Rattle.tera_meaning.specs.Run.{Run, Signal, On, Answer, Oracle, Meaning, answered, writes, onward, go_on, gives}
+use Rattle.tera_meaning.specs.Meaning.{output, expr_meaning, bound_meaning, items_meaning, entries_meaning, node_meaning, nodes_meaning}
+use Rattle.tera_code.specs.declared.instruction.Instruction.{Instruction}
+use Rattle.tera_code.specs.declared.instruction.Instruction.TheVariants as instruction
+use Rattle.tera_code.specs.Code.{expr_code, bound_code, items_code, entries_code, node_code, nodes_code, choice_tail, spreads_of, keys_in}
+use Rattle.tera_machine.specs.Config.{Config}
+use Rattle.tera_machine.specs.Act.{act, outcome, put_out, made_of}
 use Rattle.tera_machine.specs.Exec.{Code}
-use Rattle.tera_machine.proofs.Places.{StandsAt, stands_front, stands_back}
-use Rattle.tera_machine.proofs.Counted.{Spot, Runs, done, spend, first, fail, onward_runs}
+use Rattle.tera_machine.specs.Progress.{Leads}
+use Rattle.tera_machine.proofs.Literals.{push_all, firsts, seconds, zip-firsts, length-seconds, topmost-push_all}
+use Rattle.tera_machine.proofs.Places.{StandsAt, stands_front, stands_back, stands_within, parts}
+use Rattle.tera_machine.proofs.Runs.{skip_leads}
+use Rattle.tera_machine.proofs.Counted.{Spot, Runs, Holds, holds_onward, holds_any, done, spend, first, fail, adjust, onward_runs, onward_lent, onward_where, choice_runs, choice_not_runs, jump_after}
 
-abbrev pub spot : ℕ → List Operand → Run → Spot
+abbrev pub spot : ℕ → List Evaluated → Run → Spot
 spot ip operands r = record { ip = ip; config = record { operands = operands; run = r } }
 
--- with the result on top, and where a list of nodes goes on
-abbrev pub Top : ℕ → List Operand → Operand → Run → Spot
+-- with the result on top, with a row of results on top, and where a list of nodes goes on
+abbrev pub Top : ℕ → List Evaluated → Evaluated → Run → Spot
 Top ip operands a r = spot ip (a ∷ operands) r
 
-abbrev pub Arrive : ℕ → List Operand → Signal → Run → Spot
+abbrev pub Tops : {A : Type 0} → ℕ → List Evaluated → List (A × Evaluated) → Run → Spot
+Tops ip operands all r = spot ip (push_all (seconds all) operands) r
+
+abbrev pub Arrive : ℕ → List Evaluated → Signal → Run → Spot
 Arrive ip operands On r = spot ip operands r
 
 module _ (here : Here) (call : Oracle) (code : Code) where
-  top_at : {from : Spot} {s t ip : ℕ} {operands : List Operand} {x : Answer Operand} (ip' : ℕ) → ip ≡ ip' → Runs here code from s t (Top ip operands) x → Runs here code from s t (Top ip' operands) x
+  top_at : {from : Spot} {s t ip : ℕ} {operands : List Evaluated} {x : Answer Evaluated} (ip' : ℕ) → ip ≡ ip' → Runs here code from s t (Top ip operands) x → Runs here code from s t (Top ip' operands) x
   top_at {from} {s} {t} {operands = operands} {x = x} ip' e h = subst (λ p. Runs here code from s t (Top p operands) x) e h
 
-  arrive_at : {from : Spot} {s t ip : ℕ} {operands : List Operand} {x : Answer Signal} (ip' : ℕ) → ip ≡ ip' → Runs here code from s t (Arrive ip operands) x → Runs here code from s t (Arrive ip' operands) x
+  tops_at : {A : Type 0} {from : Spot} {s t ip : ℕ} {operands : List Evaluated} {x : Answer (List (A × Evaluated))} (ip' : ℕ) → ip ≡ ip' → Runs here code from s t (Tops ip operands) x → Runs here code from s t (Tops ip' operands) x
+  tops_at {from = from} {s} {t} {operands = operands} {x = x} ip' e h = subst (λ p. Runs here code from s t (Tops p operands) x) e h
+
+  arrive_at : {from : Spot} {s t ip : ℕ} {operands : List Evaluated} {x : Answer Signal} (ip' : ℕ) → ip ≡ ip' → Runs here code from s t (Arrive ip operands) x → Runs here code from s t (Arrive ip' operands) x
   arrive_at {from} {s} {t} {operands = operands} {x = x} ip' e h = subst (λ p. Runs here code from s t (Arrive p operands) x) e h
 
-  pub expr_runs : (e : Expr) (ip : ℕ) (operands : List Operand) (r : Run) → StandsAt code ip (expr_code e) → Runs here code (spot ip operands r) 0 1 (Top (ip + length (expr_code e)) operands) (expr_meaning here call e r)
-  expr_runs (Name name span) ip operands r has =
-      spend here code (first here code _ 7 (LoadName name span) has.0 refl (done here code (omega arith)))
+  -- one instruction, whose outcome comes on top of what is left
+  outcome_runs : (ip : ℕ) (stack rest : List Evaluated) (r : Run) (s : ℕ) {t : ℕ} (o : Outcome) (i : Instruction) → t ≤ s → slice_get code ip ≡ Some i → act here i (record { operands = stack; run = r }) ≡ outcome o rest (record { operands = stack; run = r }) → Runs here code (spot ip stack r) (s + 1) t (Top (ip + 1) rest) (answered o r)
+  outcome_runs ip stack rest r s (Ok a) i l e h = first here code _ s i e h (done here code l)
+  outcome_runs ip stack rest r s (Err f) i l e h = fail here code {s = s} f i l e h
 
-  -- what is known to be put out, or the fault of undefined
-  put_out_runs : (ip : ℕ) (operands : List Operand) (a : Operand) (r : Run) (o : Option Text) → slice_get code ip ≡ Some WriteTop → act here WriteTop (record { operands = a ∷ operands; run = r }) ≡ put_out here a.span o (record { operands = operands; run = r }) → Runs here code (spot ip (a ∷ operands) r) 9 0 (Arrive (ip + 1) operands) (onward (known o (fault_at here a.span) r) writes)
-  put_out_runs ip operands a r None i e = fail here code {s = 8} (fault_at here a.span) WriteTop (omega arith) i e
-  put_out_runs ip operands a r (Some text) i e = first here code _ 8 WriteTop i e (done here code (omega arith))
+  -- one instruction, which puts a text out
+  put_out_runs : (ip : ℕ) (operands : List Evaluated) (a : Evaluated) (r : Run) (o : Result site.Text Fault) → slice_get code ip ≡ Some instruction.WriteTop → act here instruction.WriteTop (record { operands = a ∷ operands; run = r }) ≡ put_out o (record { operands = operands; run = r }) → Runs here code (spot ip (a ∷ operands) r) 9 0 (Arrive (ip + 1) operands) (onward (answered o r) writes)
+  put_out_runs ip operands a r (Ok text) i e = first here code _ 8 instruction.WriteTop i e (done here code (omega arith))
+  put_out_runs ip operands a r (Err f) i e = fail here code {s = 8} f instruction.WriteTop (omega arith) i e
 
   -- what follows, unless a turn of a loop ends
-  go_on_runs : {ip : ℕ} {operands : List Operand} {goal : Signal → Run → Spot} (next : Meaning Signal) (s : ℕ) (signal : Signal) (r : Run) → Runs here code (spot ip operands r) s 0 goal (next r) → Runs here code (Arrive ip operands signal r) s 0 goal (go_on signal next r)
+  go_on_runs : {ip : ℕ} {operands : List Evaluated} {goal : Signal → Run → Spot} (next : Meaning Signal) (s : ℕ) (signal : Signal) (r : Run) → Runs here code (spot ip operands r) s 0 goal (next r) → Runs here code (Arrive ip operands signal r) s 0 goal (go_on signal next r)
   go_on_runs next s On r h = h
 
+  holds_items : (items : Items) (r : Run) → Holds (λ all. firsts all ≡ spreads_of items) (items_meaning here call items r)
+  holds_items NoItems r = refl
+  holds_items (MoreItems is_spread value rest) r =
+      holds_onward _ _ (expr_meaning here call value r) _ (holds_any (expr_meaning here call value r)) (λ a r1 _. holds_onward _ _ (items_meaning here call rest r1) _ (holds_items rest r1) (λ all r2 h. ap (λ bs. is_spread ∷ bs) h))
+
+  holds_entries : (entries : Entries) (r : Run) → Holds (λ all. firsts all ≡ keys_in entries) (entries_meaning here call entries r)
+  holds_entries NoEntries r = refl
+  holds_entries (MoreEntries key value rest) r =
+      holds_onward _ _ (expr_meaning here call value r) _ (holds_any (expr_meaning here call value r)) (λ a r1 _. holds_onward _ _ (entries_meaning here call rest r1) _ (holds_entries rest r1) (λ all r2 h. ap (λ ks. key ∷ ks) h))
+
+  -- the operands of a literal are there, and what is made of them is meant
+  made_array : (items : Items) (all : List (Bool × Evaluated)) (operands : List Evaluated) (r : Run) (span : Span) → firsts all ≡ spreads_of items → act here (instruction.MakeArray (spreads_of items) span) (record { operands = push_all (seconds all) operands; run = r }) ≡ outcome (array_of here.file all span) operands (record { operands = push_all (seconds all) operands; run = r })
+  made_array items all operands r span e =
+      let c : Config = record { operands = push_all (seconds all) operands; run = r } in
+      ap (λ o. made_of (λ vs. array_of here.file (zip (spreads_of items) vs) span) o c) (topmost-push_all (length (spreads_of items)) (seconds all) operands (length-seconds (spreads_of items) all e))
+      ∙ ap (λ ps. outcome (array_of here.file ps span) operands c) (zip-firsts (spreads_of items) all e)
+
+  made_map : (entries : Entries) (all : List (Option Key × Evaluated)) (operands : List Evaluated) (r : Run) (span : Span) → firsts all ≡ keys_in entries → act here (instruction.MakeMap (keys_in entries) span) (record { operands = push_all (seconds all) operands; run = r }) ≡ outcome (map_of here.file all span) operands (record { operands = push_all (seconds all) operands; run = r })
+  made_map entries all operands r span e =
+      let c : Config = record { operands = push_all (seconds all) operands; run = r } in
+      ap (λ o. made_of (λ vs. map_of here.file (zip (keys_in entries) vs) span) o c) (topmost-push_all (length (keys_in entries)) (seconds all) operands (length-seconds (keys_in entries) all e))
+      ∙ ap (λ ps. outcome (map_of here.file ps span) operands c) (zip-firsts (keys_in entries) all e)
+
+  -- the jump behind the first body of a choice
+  top_passes : (p q n : ℕ) (operands : List Evaluated) → slice_get code p ≡ Some (instruction.Jump n) → p + 1 + n ≤ length code → p + 1 + n ≡ q → (a : Evaluated) (r : Run) → Leads here code p (record { operands = a ∷ operands; run = r }) 1 q (record { operands = a ∷ operands; run = r })
+  top_passes p q n operands i l e a r =
+      subst (λ m. Leads here code p (record { operands = a ∷ operands; run = r }) 1 m (record { operands = a ∷ operands; run = r })) e (skip_leads here code p n _ _ (instruction.Jump n) i refl l)
+
+  arrive_passes : (p q n : ℕ) (operands : List Evaluated) → slice_get code p ≡ Some (instruction.Jump n) → p + 1 + n ≤ length code → p + 1 + n ≡ q → (signal : Signal) (r : Run) → Leads here code (Arrive p operands signal r).ip (Arrive p operands signal r).config 1 (Arrive q operands signal r).ip (Arrive q operands signal r).config
+  arrive_passes p q n operands i l e On r =
+      subst (λ m. Leads here code p (record { operands = operands; run = r }) 1 m (record { operands = operands; run = r })) e (skip_leads here code p n _ _ (instruction.Jump n) i refl l)
+
   mutual
-    pub node_runs : (n : Node) (ip : ℕ) (operands : List Operand) (r : Run) → StandsAt code ip (node_code n) → Runs here code (spot ip operands r) 0 0 (Arrive (ip + length (node_code n)) operands) (node_meaning here call n r)
-    node_runs (Content text span) ip operands r has =
-        spend here code (first here code _ 7 (WriteText text) has.0 refl (done here code (omega arith)))
+    pub expr_runs : (e : Expr) (ip : ℕ) (operands : List Evaluated) (r : Run) → StandsAt code ip (expr_code e) → Runs here code (spot ip operands r) 0 1 (Top (ip + length (expr_code e)) operands) (expr_meaning here call e r)
+    expr_runs (Nothing span) ip operands r has =
+        spend here code (first here code _ 7 (instruction.LoadConst val.none span) has.0 refl (done here code (omega arith)))
+    expr_runs (Boolean b span) ip operands r has =
+        spend here code (first here code _ 7 (instruction.LoadConst (val.bool b) span) has.0 refl (done here code (omega arith)))
+    expr_runs (Integer z span) ip operands r has =
+        spend here code (first here code _ 7 (instruction.LoadConst (val.int z) span) has.0 refl (done here code (omega arith)))
+    expr_runs (Text t span) ip operands r has =
+        spend here code (first here code _ 7 (instruction.LoadConst (val.text t false) span) has.0 refl (done here code (omega arith)))
+    expr_runs (Name name span) ip operands r has =
+        spend here code (first here code _ 7 (instruction.LoadName name span) has.0 refl (done here code (omega arith)))
+    expr_runs (Attribute target name optional span) ip operands r has =
+        let i = instruction.LoadAttribute name optional span in
+        let ct = expr_code target in
+        let p = ip + length ct in
+        let len : p + 1 ≡ ip + length (ct ++ i ∷ []) = omega (arith, length-append ct (i ∷ [])) in
+        let at = (stands_back code ip ct (i ∷ []) has).0 in
+        top_at _ len (spend here code (onward_runs here code (omega arith) (expr_runs target ip operands r (stands_front code ip ct _ has)) (λ a r1. outcome_runs p (a ∷ operands) operands r1 8 (attribute_of here.file optional a name span) i (omega arith) at refl)))
+    expr_runs (Index target index optional span) ip operands r has =
+        let i = instruction.LoadItem optional span in
+        let ct = expr_code target in
+        let ci = expr_code index in
+        let p = ip + length ct in
+        let q = p + length ci in
+        let len : q + 1 ≡ ip + length (ct ++ (ci ++ i ∷ [])) = omega (arith, length-append ct (ci ++ i ∷ []), length-append ci (i ∷ [])) in
+        let h = stands_back code ip ct (ci ++ i ∷ []) has in
+        let at = (stands_back code p ci (i ∷ []) h).0 in
+        top_at _ len (spend here code (onward_runs here code (omega arith) (expr_runs target ip operands r (stands_front code ip ct _ has)) (λ a r1. onward_runs here code (omega arith) (expr_runs index p (a ∷ operands) r1 (stands_front code p ci _ h)) (λ b r2. outcome_runs q (b ∷ a ∷ operands) operands r2 9 (item_of here.file optional a b span) i (omega arith) at refl))))
+    expr_runs (Slice target start end step optional span) ip operands r has =
+        let i = instruction.Slice optional span in
+        let ct = expr_code target in
+        let cs = bound_code start in
+        let ce = bound_code end in
+        let cp = bound_code step in
+        let p = ip + length ct in
+        let q = p + length cs in
+        let u = q + length ce in
+        let w = u + length cp in
+        let len : w + 1 ≡ ip + length (ct ++ (cs ++ (ce ++ (cp ++ i ∷ [])))) = omega (arith, length-append ct (cs ++ (ce ++ (cp ++ i ∷ []))), length-append cs (ce ++ (cp ++ i ∷ [])), length-append ce (cp ++ i ∷ []), length-append cp (i ∷ [])) in
+        let h1 = stands_back code ip ct (cs ++ (ce ++ (cp ++ i ∷ []))) has in
+        let h2 = stands_back code p cs (ce ++ (cp ++ i ∷ [])) h1 in
+        let h3 = stands_back code q ce (cp ++ i ∷ []) h2 in
+        let at = (stands_back code u cp (i ∷ []) h3).0 in
+        top_at _ len (spend here code (onward_runs here code (omega arith) (expr_runs target ip operands r (stands_front code ip ct _ has)) (λ a r1. onward_lent here code 1 8 (omega arith) (bound_runs start p (a ∷ operands) r1 (stands_front code p cs _ h1)) (λ s r2. onward_lent here code 1 7 (omega arith) (bound_runs end q (s ∷ a ∷ operands) r2 (stands_front code q ce _ h2)) (λ e r3. onward_lent here code 1 6 (omega arith) (bound_runs step u (e ∷ s ∷ a ∷ operands) r3 (stands_front code u cp _ h3)) (λ t r4. outcome_runs w (t ∷ e ∷ s ∷ a ∷ operands) operands r4 5 (slice_of here.file optional a s e t span) i (omega arith) at refl))))))
+    expr_runs (Not operand span) ip operands r has =
+        let i = instruction.Not in
+        let ct = expr_code operand in
+        let p = ip + length ct in
+        let len : p + 1 ≡ ip + length (ct ++ i ∷ []) = omega (arith, length-append ct (i ∷ [])) in
+        let at = (stands_back code ip ct (i ∷ []) has).0 in
+        top_at _ len (spend here code (onward_runs here code (omega arith) (expr_runs operand ip operands r (stands_front code ip ct _ has)) (λ a r1. outcome_runs p (a ∷ operands) operands r1 8 (Ok (not_of a)) i (omega arith) at refl)))
+    expr_runs (Negate operand span) ip operands r has =
+        let i = instruction.Negate in
+        let ct = expr_code operand in
+        let p = ip + length ct in
+        let len : p + 1 ≡ ip + length (ct ++ i ∷ []) = omega (arith, length-append ct (i ∷ [])) in
+        let at = (stands_back code ip ct (i ∷ []) has).0 in
+        top_at _ len (spend here code (onward_runs here code (omega arith) (expr_runs operand ip operands r (stands_front code ip ct _ has)) (λ a r1. outcome_runs p (a ∷ operands) operands r1 8 (negative_of here.file a) i (omega arith) at refl)))
+    expr_runs (Binary operator left right span) ip operands r has =
+        let i = instruction.Binary operator span in
+        let cl = expr_code left in
+        let cr = expr_code right in
+        let p = ip + length cl in
+        let q = p + length cr in
+        let len : q + 1 ≡ ip + length (cl ++ (cr ++ i ∷ [])) = omega (arith, length-append cl (cr ++ i ∷ []), length-append cr (i ∷ [])) in
+        let h = stands_back code ip cl (cr ++ i ∷ []) has in
+        let at = (stands_back code p cr (i ∷ []) h).0 in
+        top_at _ len (spend here code (onward_runs here code (omega arith) (expr_runs left ip operands r (stands_front code ip cl _ has)) (λ a r1. onward_runs here code (omega arith) (expr_runs right p (a ∷ operands) r1 (stands_front code p cr _ h)) (λ b r2. outcome_runs q (b ∷ a ∷ operands) operands r2 9 (binary_of here.file operator a b span) i (omega arith) at refl))))
+    expr_runs (And left right span) ip operands r has =
+        let cl = expr_code left in
+        let cr = expr_code right in
+        let i = instruction.JumpIfFalseOrPop (length cr) in
+        let p = ip + length cl in
+        let len : p + 1 + length cr ≡ ip + length (cl ++ (i ∷ cr)) = omega (arith, length-append cl (i ∷ cr)) in
+        let h = stands_back code ip cl (i ∷ cr) has in
+        let l : p + 1 + length cr ≤ length code = let m : p + length (i ∷ cr) ≤ length code = stands_within code p i cr h in omega (arith, m) in
+        top_at _ len (spend here code (onward_runs here code (omega arith) (expr_runs left ip operands r (stands_front code ip cl _ has)) (λ a r1. choice_runs here code _ _ 8 (length cr) (truthy a.value) (expr_meaning here call right) (gives a) r1 i h.0 refl l (adjust here code 8 1 (omega arith) (expr_runs right (p + 1) operands r1 h.1)) (done here code (omega arith)))))
+    expr_runs (Or left right span) ip operands r has =
+        let cl = expr_code left in
+        let cr = expr_code right in
+        let i = instruction.JumpIfTrueOrPop (length cr) in
+        let p = ip + length cl in
+        let len : p + 1 + length cr ≡ ip + length (cl ++ (i ∷ cr)) = omega (arith, length-append cl (i ∷ cr)) in
+        let h = stands_back code ip cl (i ∷ cr) has in
+        let l : p + 1 + length cr ≤ length code = let m : p + length (i ∷ cr) ≤ length code = stands_within code p i cr h in omega (arith, m) in
+        top_at _ len (spend here code (onward_runs here code (omega arith) (expr_runs left ip operands r (stands_front code ip cl _ has)) (λ a r1. choice_not_runs here code _ _ 8 (length cr) (truthy a.value) (gives a) (expr_meaning here call right) r1 i h.0 refl l (adjust here code 8 1 (omega arith) (expr_runs right (p + 1) operands r1 h.1)) (done here code (omega arith)))))
+    expr_runs (Ternary value condition other span) ip operands r has =
+        let cc = expr_code condition in
+        let cv = expr_code value in
+        let co = expr_code other in
+        let p = ip + length cc in
+        let h = parts code p cv co (stands_back code ip cc (choice_tail cv co) has) in
+        let end = ip + length (cc ++ choice_tail cv co) in
+        let len : p + 1 + (length cv + 1) + length co ≡ end = omega (arith, length-append cc (choice_tail cv co), length-append cv (instruction.Jump (length co) ∷ co)) in
+        let pass : p + 1 + length cv + 1 + length co ≡ end = omega (arith, len) in
+        spend here code (onward_runs here code (omega arith) (expr_runs condition ip operands r (stands_front code ip cc _ has)) (λ c r1. choice_runs here code _ _ 8 (length cv + 1) (truthy c.value) (expr_meaning here call value) (expr_meaning here call other) r1 (instruction.PopJumpIfFalse (length cv + 1)) h.branch refl h.within (adjust here code 8 1 (omega arith) (jump_after here code (top_passes (p + 1 + length cv) end (length co) operands h.jump h.ends pass) (expr_runs value (p + 1) operands r1 h.first))) (adjust here code 8 1 (omega arith) (top_at _ len (expr_runs other (p + 1 + (length cv + 1)) operands r1 h.second)))))
+    expr_runs (Array items span) ip operands r has =
+        let i = instruction.MakeArray (spreads_of items) span in
+        let ci = items_code items in
+        let p = ip + length ci in
+        let len : p + 1 ≡ ip + length (ci ++ i ∷ []) = omega (arith, length-append ci (i ∷ [])) in
+        let at = (stands_back code ip ci (i ∷ []) has).0 in
+        top_at _ len (spend here code (onward_where here code (λ all. firsts all ≡ spreads_of items) (omega arith) (holds_items items r) (items_runs items ip operands r (stands_front code ip ci _ has)) (λ all r1 e. outcome_runs p (push_all (seconds all) operands) operands r1 7 (array_of here.file all span) i (omega arith) at (made_array items all operands r1 span e))))
+    expr_runs (Map entries span) ip operands r has =
+        let i = instruction.MakeMap (keys_in entries) span in
+        let ci = entries_code entries in
+        let p = ip + length ci in
+        let len : p + 1 ≡ ip + length (ci ++ i ∷ []) = omega (arith, length-append ci (i ∷ [])) in
+        let at = (stands_back code ip ci (i ∷ []) has).0 in
+        top_at _ len (spend here code (onward_where here code (λ all. firsts all ≡ keys_in entries) (omega arith) (holds_entries entries r) (entries_runs entries ip operands r (stands_front code ip ci _ has)) (λ all r1 e. outcome_runs p (push_all (seconds all) operands) operands r1 7 (map_of here.file all span) i (omega arith) at (made_map entries all operands r1 span e))))
+
+    -- a bound that isn't written has an instruction and no visit
+    bound_runs : (b : Optional) (ip : ℕ) (operands : List Evaluated) (r : Run) → StandsAt code ip (bound_code b) → Runs here code (spot ip operands r) 1 0 (Top (ip + length (bound_code b)) operands) (bound_meaning here call b r)
+    bound_runs Absent ip operands r has =
+        first here code _ 0 (instruction.LoadConst val.none (record { start = 0; end = 0 })) has.0 refl (done here code (omega arith))
+    bound_runs (Present e) ip operands r has = adjust here code 1 0 (omega arith) (expr_runs e ip operands r has)
+
+    items_runs : (items : Items) (ip : ℕ) (operands : List Evaluated) (r : Run) → StandsAt code ip (items_code items) → Runs here code (spot ip operands r) 0 0 (Tops (ip + length (items_code items)) operands) (items_meaning here call items r)
+    items_runs NoItems ip operands r has =
+        let len : ip ≡ ip + 0 = omega arith in tops_at _ len (done here code (omega arith))
+    items_runs (MoreItems is_spread value rest) ip operands r has =
+        let cv = expr_code value in
+        let cr = items_code rest in
+        let len : ip + length cv + length cr ≡ ip + length (cv ++ cr) = omega (arith, length-append cv cr) in
+        tops_at _ len (onward_runs here code (omega arith) (expr_runs value ip operands r (stands_front code ip cv cr has)) (λ a r1. onward_runs here code (omega arith) (items_runs rest (ip + length cv) (a ∷ operands) r1 (stands_back code ip cv cr has)) (λ all r2. done here code (omega arith))))
+
+    entries_runs : (entries : Entries) (ip : ℕ) (operands : List Evaluated) (r : Run) → StandsAt code ip (entries_code entries) → Runs here code (spot ip operands r) 0 0 (Tops (ip + length (entries_code entries)) operands) (entries_meaning here call entries r)
+    entries_runs NoEntries ip operands r has =
+        let len : ip ≡ ip + 0 = omega arith in tops_at _ len (done here code (omega arith))
+    entries_runs (MoreEntries key value rest) ip operands r has =
+        let cv = expr_code value in
+        let cr = entries_code rest in
+        let len : ip + length cv + length cr ≡ ip + length (cv ++ cr) = omega (arith, length-append cv cr) in
+        tops_at _ len (onward_runs here code (omega arith) (expr_runs value ip operands r (stands_front code ip cv cr has)) (λ a r1. onward_runs here code (omega arith) (entries_runs rest (ip + length cv) (a ∷ operands) r1 (stands_back code ip cv cr has)) (λ all r2. done here code (omega arith))))
+
+  mutual
+    pub node_runs : (n : Node) (ip : ℕ) (operands : List Evaluated) (r : Run) → StandsAt code ip (node_code n) → Runs here code (spot ip operands r) 0 0 (Arrive (ip + length (node_code n)) operands) (node_meaning here call n r)
+    node_runs (Content t span) ip operands r has =
+        spend here code (first here code _ 7 (instruction.WriteText t) has.0 refl (done here code (omega arith)))
     node_runs (Print value) ip operands r has =
         let ce = expr_code value in
         let pe = ip + length ce in
-        let len : pe + 1 ≡ ip + length (ce ++ WriteTop ∷ []) = omega (arith, length-append ce (WriteTop ∷ [])) in
-        let i = (stands_back code ip ce (WriteTop ∷ []) has).0 in
-        arrive_at _ len (spend here code (onward_runs here code (omega arith) (expr_runs value ip operands r (stands_front code ip ce _ has)) (λ a r1. put_out_runs pe operands a r1 (output here a.value) i refl)))
+        let len : pe + 1 ≡ ip + length (ce ++ instruction.WriteTop ∷ []) = omega (arith, length-append ce (instruction.WriteTop ∷ [])) in
+        let i = (stands_back code ip ce (instruction.WriteTop ∷ []) has).0 in
+        arrive_at _ len (spend here code (onward_runs here code (omega arith) (expr_runs value ip operands r (stands_front code ip ce _ has)) (λ a r1. put_out_runs pe operands a r1 (output here a) i refl)))
+    node_runs (If condition body other) ip operands r has =
+        let cc = expr_code condition in
+        let cv = nodes_code body in
+        let co = nodes_code other in
+        let p = ip + length cc in
+        let h = parts code p cv co (stands_back code ip cc (choice_tail cv co) has) in
+        let end = ip + length (cc ++ choice_tail cv co) in
+        let len : p + 1 + (length cv + 1) + length co ≡ end = omega (arith, length-append cc (choice_tail cv co), length-append cv (instruction.Jump (length co) ∷ co)) in
+        let pass : p + 1 + length cv + 1 + length co ≡ end = omega (arith, len) in
+        spend here code (onward_runs here code (omega arith) (expr_runs condition ip operands r (stands_front code ip cc _ has)) (λ c r1. choice_runs here code _ _ 8 (length cv + 1) (truthy c.value) (nodes_meaning here call body) (nodes_meaning here call other) r1 (instruction.PopJumpIfFalse (length cv + 1)) h.branch refl h.within (adjust here code 8 0 (omega arith) (jump_after here code (arrive_passes (p + 1 + length cv) end (length co) operands h.jump h.ends pass) (nodes_runs body (p + 1) operands r1 h.first))) (adjust here code 8 0 (omega arith) (arrive_at _ len (nodes_runs other (p + 1 + (length cv + 1)) operands r1 h.second)))))
 
-    pub nodes_runs : (ns : Nodes) (ip : ℕ) (operands : List Operand) (r : Run) → StandsAt code ip (nodes_code ns) → Runs here code (spot ip operands r) 0 0 (Arrive (ip + length (nodes_code ns)) operands) (nodes_meaning here call ns r)
+    pub nodes_runs : (ns : Nodes) (ip : ℕ) (operands : List Evaluated) (r : Run) → StandsAt code ip (nodes_code ns) → Runs here code (spot ip operands r) 0 0 (Arrive (ip + length (nodes_code ns)) operands) (nodes_meaning here call ns r)
     nodes_runs NoNodes ip operands r has =
         let len : ip ≡ ip + 0 = omega arith in arrive_at _ len (done here code (omega arith))
     nodes_runs (MoreNodes n rest) ip operands r has =

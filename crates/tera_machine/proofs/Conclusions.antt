@@ -2,7 +2,7 @@
 use Rattle.std.proofs.Common.{◌≡◌, ℕ, ◌+◌, ◌-◌, ◌*◌, ◌≤◌, length, Some, None, Result, Ok, Err, sym, subst, arith}
 use Rattle.tera_errors.specs.Fault.{Fault}
 use Rattle.tera_errors.specs.Answer.{Refusal}
-use Rattle.tera_syntax.specs.Tree.{Nodes}
+use Rattle.tera_tree.specs.Tree.{Nodes}
 use Rattle.tera_meaning.specs.Here.{Here}
 use Rattle.tera_meaning.specs.Run.{Signal, On, Answer, Failed, Gave, Oracle, more, visits_of}
 use Rattle.tera_meaning.specs.Meaning.{nodes_meaning}

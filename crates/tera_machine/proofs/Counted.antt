@@ -1,22 +1,39 @@
 -- Runs of code that give a meaning, in at most eight instructions a visit.
-use Rattle.std.proofs.Common.{◌≡◌, ℕ, ◌+◌, ◌*◌, ◌≤◌, Some, refl, sym, subst, arith}
+use Rattle.std.proofs.Common.{◌≡◌, ℕ, ◌+◌, ◌*◌, ◌≤◌, Bool, true, false, not, length, Some, refl, sym, subst, arith}
 use Rattle.std.specs.Prelude.{slice_get}
 use Rattle.tera_errors.specs.Fault.{Fault}
 use Rattle.tera_meaning.specs.Here.{Here}
-use Rattle.tera_meaning.specs.Run.{Run, Answer, Failed, Gave, Meaning, more, onward}
+use Rattle.tera_meaning.specs.Run.{Run, Answer, Failed, Gave, Meaning, more, onward, if_else}
 use Rattle.tera_code.specs.declared.instruction.Instruction.{Instruction}
-use Rattle.tera_machine.specs.declared.machine.Flow.TheVariants.{On}
+use Rattle.tera_machine.specs.declared.machine.Flow.TheVariants.{On, Skip}
 use Rattle.tera_machine.specs.Config.{Config}
-use Rattle.tera_machine.specs.Act.{Goes, Faults, act}
+use Rattle.tera_machine.specs.Act.{Goes, Faults, act, branched}
 use Rattle.tera_machine.specs.Exec.{Code, Broken, Ends}
 use Rattle.tera_machine.specs.Progress.{Leads}
 use Rattle.tera_machine.proofs.Ends.{after-none, step_ends}
-use Rattle.tera_machine.proofs.Runs.{further, on_leads}
+use Rattle.tera_machine.proofs.Runs.{further, on_leads, skip_leads}
 
 -- a place in the code, and what the machine works on there
 pub record Spot : Type 0 where
   pub ip : ℕ
   pub config : Config
+
+-- a fact of what an answer gives
+abbrev pub Holds : {A : Type 0} → (A → Type 0) → Answer A → Type 0
+Holds P (Failed f v) = Unit {0}
+Holds P (Gave a r v) = P a
+
+holds_more : {A : Type 0} (P : A → Type 0) (n : ℕ) (x : Answer A) → Holds P x → Holds P (more n x)
+holds_more P n (Failed f v) h = tt
+holds_more P n (Gave a r v) h = h
+
+pub holds_onward : {A B : Type 0} (P : A → Type 0) (Q : B → Type 0) (x : Answer A) (go : A → Meaning B) → Holds P x → ((a : A) (r : Run) → P a → Holds Q (go a r)) → Holds Q (onward x go)
+holds_onward P Q (Failed f v) go h k = tt
+holds_onward P Q (Gave a r v) go h k = holds_more Q v (go a r) (k a r h)
+
+pub holds_any : {A : Type 0} (x : Answer A) → Holds (λ _. Unit {0}) x
+holds_any (Failed f v) = tt
+holds_any (Gave a r v) = tt
 
 module _ (here : Here) (code : Code) where
   abbrev pub Reaches : Spot → ℕ → Spot → Type 0
@@ -64,6 +81,20 @@ module _ (here : Here) (code : Code) where
   first {ip = ip} {c = c} c2 s {t = t} {goal = goal} {x = x} i e a h =
       record { by = step_comes (record { ip = ip; config = c }) (record { ip = ip + 1; config = c2 }) s t goal x (on_leads here code ip c c2 i e a) h.by }
 
+  -- one instruction, which jumps
+  pub jump : {A : Type 0} {ip : ℕ} {c : Config} (c2 : Config) (s n : ℕ) {t : ℕ} {goal : A → Run → Spot} {x : Answer A} (i : Instruction) → slice_get code ip ≡ Some i → act here i c ≡ Goes c2 (Skip n) → ip + 1 + n ≤ length code → Runs (record { ip = ip + 1 + n; config = c2 }) s t goal x → Runs (record { ip = ip; config = c }) (s + 1) t goal x
+  jump {ip = ip} {c = c} c2 s n {t = t} {goal = goal} {x = x} i e a l h =
+      record { by = step_comes (record { ip = ip; config = c }) (record { ip = ip + 1 + n; config = c2 }) s t goal x (skip_leads here code ip n c c2 i e a l) h.by }
+
+  adjust_comes : {A : Type 0} (from : Spot) (s t s' t' : ℕ) (goal : A → Run → Spot) (x : Answer A) → s + t' ≤ s' + t → Comes from s t goal x → Comes from s' t' goal x
+  adjust_comes from s t s' t' goal (Failed f v) l k = (k.0, omega (arith, l, k.1), k.2)
+  adjust_comes from s t s' t' goal (Gave a r v) l k = (k.0, omega (arith, l, k.1), k.2)
+
+  -- more to spend, and less left over
+  pub adjust : {A : Type 0} {from : Spot} {s t : ℕ} (s' t' : ℕ) {goal : A → Run → Spot} {x : Answer A} → s + t' ≤ s' + t → Runs from s t goal x → Runs from s' t' goal x
+  adjust {from = from} {s = s} {t = t} s' t' {goal = goal} {x = x} l h =
+      record { by = adjust_comes from s t s' t' goal x l h.by }
+
   -- one instruction, which faults
   pub fail : {A : Type 0} {ip : ℕ} {c : Config} {s t : ℕ} {goal : A → Run → Spot} (f : Fault) (i : Instruction) → t ≤ s → slice_get code ip ≡ Some i → act here i c ≡ Faults f → Runs (record { ip = ip; config = c }) (s + 1) t goal (Failed f 0)
   fail {ip = ip} {c = c} f i l e a =
@@ -82,3 +113,50 @@ module _ (here : Here) (code : Code) where
   pub onward_runs : {A B : Type 0} {from : Spot} {s t u : ℕ} {goal : A → Run → Spot} {goal' : B → Run → Spot} {x : Answer A} {go : A → Meaning B} → u ≤ s + t → Runs from 0 t goal x → ((a : A) (r : Run) → Runs (goal a r) (s + t) u goal' (go a r)) → Runs from s u goal' (onward x go)
   onward_runs {from = from} {s = s} {t = t} {u = u} {goal = goal} {goal' = goal'} {x = x} {go = go} l h k =
       record { by = onward_comes from s t u goal goal' x go l h.by k }
+
+  lent_comes : (k p s t u v h w : ℕ) → k + t ≤ p + 8 * v → h + u ≤ s + t + 8 * w → k + h + u ≤ s + p + 8 * (v + w)
+  lent_comes k p s t u v h w a b = omega (arith, a, b)
+
+  rest_lent : {A : Type 0} (a b : Spot) (k p s t u v : ℕ) (goal : A → Run → Spot) (y : Answer A) → k + t ≤ p + 8 * v → Reaches a k b → Comes b (s + t) u goal y → Comes a (s + p) u goal (more v y)
+  rest_lent a b k p s t u v goal (Failed f w) l g h = (k + h.0, lent_comes k p s t u v h.0 w l h.1, breaks_then a b k h.0 f g h.2)
+  rest_lent a b k p s t u v goal (Gave x r w) l g h = (k + h.0, lent_comes k p s t u v h.0 w l h.1, reaches_then a b (goal x r) k h.0 g h.2)
+
+  lent_onward : {A B : Type 0} (from : Spot) (p s t u : ℕ) (goal : A → Run → Spot) (goal' : B → Run → Spot) (x : Answer A) (go : A → Meaning B) → u ≤ s + t → Comes from p t goal x → ((a : A) (r : Run) → Runs (goal a r) (s + t) u goal' (go a r)) → Comes from (s + p) u goal' (onward x go)
+  lent_onward from p s t u goal goal' (Failed f v) go l h k = (h.0, omega (arith, l, h.1), h.2)
+  lent_onward from p s t u goal goal' (Gave a r v) go l h k =
+      rest_lent from (goal a r) h.0 p s t u v goal' (go a r) h.1 h.2 (k a r).by
+
+  -- the same, where the first part may spend p of what there is
+  pub onward_lent : {A B : Type 0} {from : Spot} (p s : ℕ) {t u : ℕ} {goal : A → Run → Spot} {goal' : B → Run → Spot} {x : Answer A} {go : A → Meaning B} → u ≤ s + t → Runs from p t goal x → ((a : A) (r : Run) → Runs (goal a r) (s + t) u goal' (go a r)) → Runs from (s + p) u goal' (onward x go)
+  onward_lent {from = from} p s {t = t} {u = u} {goal = goal} {goal' = goal'} {x = x} {go = go} l h k =
+      record { by = lent_onward from p s t u goal goal' x go l h.by k }
+
+  where_comes : {A B : Type 0} (P : A → Type 0) (from : Spot) (s t u : ℕ) (goal : A → Run → Spot) (goal' : B → Run → Spot) (x : Answer A) (go : A → Meaning B) → u ≤ s + t → Holds P x → Comes from 0 t goal x → ((a : A) (r : Run) → P a → Runs (goal a r) (s + t) u goal' (go a r)) → Comes from s u goal' (onward x go)
+  where_comes P from s t u goal goal' (Failed f v) go l p h k = (h.0, omega (arith, l, h.1), h.2)
+  where_comes P from s t u goal goal' (Gave a r v) go l p h k =
+      rest_comes from (goal a r) h.0 s t u v goal' (go a r) h.1 h.2 (k a r p).by
+
+  -- the same, with a fact of what the first part gives
+  pub onward_where : {A B : Type 0} (P : A → Type 0) {from : Spot} {s t u : ℕ} {goal : A → Run → Spot} {goal' : B → Run → Spot} {x : Answer A} {go : A → Meaning B} → u ≤ s + t → Holds P x → Runs from 0 t goal x → ((a : A) (r : Run) → P a → Runs (goal a r) (s + t) u goal' (go a r)) → Runs from s u goal' (onward x go)
+  onward_where P {from = from} {s = s} {t = t} {u = u} {goal = goal} {goal' = goal'} {x = x} {go = go} l p h k =
+      record { by = where_comes P from s t u goal goal' x go l p h.by k }
+
+  -- one instruction, which chooses what comes next
+  pub choice_runs : {B : Type 0} {ip : ℕ} {c : Config} (go stay : Config) (s skip : ℕ) {t : ℕ} {goal : B → Run → Spot} (b : Bool) (m n : Meaning B) (r : Run) (i : Instruction) → slice_get code ip ≡ Some i → act here i c ≡ branched b go skip stay → ip + 1 + skip ≤ length code → Runs (record { ip = ip + 1; config = go }) s t goal (m r) → Runs (record { ip = ip + 1 + skip; config = stay }) s t goal (n r) → Runs (record { ip = ip; config = c }) (s + 1) t goal (if_else b m n r)
+  choice_runs go stay s skip true m n r i e a l f g = first go s i e a f
+  choice_runs go stay s skip false m n r i e a l f g = jump stay s skip i e a l g
+
+  -- the same, where it chooses by the opposite
+  pub choice_not_runs : {B : Type 0} {ip : ℕ} {c : Config} (go stay : Config) (s skip : ℕ) {t : ℕ} {goal : B → Run → Spot} (b : Bool) (m n : Meaning B) (r : Run) (i : Instruction) → slice_get code ip ≡ Some i → act here i c ≡ branched (not b) go skip stay → ip + 1 + skip ≤ length code → Runs (record { ip = ip + 1; config = go }) s t goal (n r) → Runs (record { ip = ip + 1 + skip; config = stay }) s t goal (m r) → Runs (record { ip = ip; config = c }) (s + 1) t goal (if_else b m n r)
+  choice_not_runs go stay s skip true m n r i e a l f g = jump stay s skip i e a l g
+  choice_not_runs go stay s skip false m n r i e a l f g = first go s i e a f
+
+  after_comes : {A : Type 0} (from : Spot) (s t : ℕ) (goal goal' : A → Run → Spot) (x : Answer A) → ((a : A) (r : Run) → Reaches (goal a r) 1 (goal' a r)) → Comes from s t goal x → Comes from (s + 1) t goal' x
+  after_comes from s t goal goal' (Failed f v) g h = (h.0, omega (arith, h.1), h.2)
+  after_comes from s t goal goal' (Gave a r v) g h =
+      (h.0 + 1, omega (arith, h.1), reaches_then from (goal a r) (goal' a r) h.0 1 h.2 (g a r))
+
+  -- one instruction more at the end
+  pub jump_after : {A : Type 0} {from : Spot} {s t : ℕ} {goal goal' : A → Run → Spot} {x : Answer A} → ((a : A) (r : Run) → Reaches (goal a r) 1 (goal' a r)) → Runs from s t goal x → Runs from (s + 1) t goal' x
+  jump_after {from = from} {s = s} {t = t} {goal = goal} {goal' = goal'} {x = x} g h =
+      record { by = after_comes from s t goal goal' x g h.by }

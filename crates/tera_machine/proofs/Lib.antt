@@ -1,5 +1,7 @@
 pub mod Ends
 pub mod Runs
+pub mod Stacks
+pub mod Literals
 pub mod Places
 pub mod Counted
 pub mod Chunks

@@ -1,8 +1,11 @@
 -- Instructions that stand in a code.
-use Rattle.std.proofs.Common.{◌≡◌, ℕ, ◌+◌, ◌<◌, [], ◌∷◌, ◌++◌, length, Some, None, ap, ◌∙◌, subst, arith, append_assoc, length-append}
+use Rattle.std.proofs.Common.{◌≡◌, ℕ, ◌+◌, ◌<◌, ◌≤◌, [], ◌∷◌, ◌++◌, length, Some, None, ap, ◌∙◌, subst, arith, append_assoc, length-append}
 use Rattle.std.specs.Prelude.{slice_get}
 use Rattle.std.proofs.Math.Seq.{get_or-append_seam}
-use Rattle.std.proofs.lemmas.Option.{slice_get-get_or, slice_get_past}
+use Rattle.std.proofs.lemmas.Option.{slice_get-get_or, slice_get_past, slice_get_within}
+use Rattle.tera_code.specs.declared.instruction.Instruction.{Instruction}
+use Rattle.tera_code.specs.declared.instruction.Instruction.TheVariants.{PopJumpIfFalse, Jump}
+use Rattle.tera_code.specs.Code.{choice_tail}
 use Rattle.tera_machine.specs.Exec.{Code}
 
 -- the instructions stand in the code from this place on
@@ -19,6 +22,34 @@ stands_back code ip [] b h = let e : ip ≡ ip + 0 = omega arith in subst (λ n.
 stands_back code ip (i ∷ a) b h =
     let e : ip + 1 + length a ≡ ip + length (i ∷ a) = omega arith in
     subst (λ n. StandsAt code n b) e (stands_back code (ip + 1) a b h.1)
+
+-- what stands in a code ends within it
+pub stands_within : (code : Code) (ip : ℕ) (i : Instruction) (is : Code) → StandsAt code ip (i ∷ is) → ip + length (i ∷ is) ≤ length code
+stands_within code ip i [] h = let l = slice_get_within code ip i h.0 in let g : ip < length code = l in omega arith
+stands_within code ip i (j ∷ is) h = let l : ip + 1 + length (j ∷ is) ≤ length code = stands_within code (ip + 1) j is h.1 in omega arith
+
+-- the parts of a choice, where they stand
+pub record Parts (code : Code) (pc : ℕ) (body other : Code) : Type 0 where
+  pub branch : slice_get code pc ≡ Some (PopJumpIfFalse (length body + 1))
+  pub first : StandsAt code (pc + 1) body
+  pub jump : slice_get code (pc + 1 + length body) ≡ Some (Jump (length other))
+  pub second : StandsAt code (pc + 1 + (length body + 1)) other
+  pub within : pc + 1 + (length body + 1) ≤ length code
+  pub ends : pc + 1 + length body + 1 + length other ≤ length code
+
+pub parts : (code : Code) (pc : ℕ) (body other : Code) → StandsAt code pc (choice_tail body other) → Parts code pc body other
+parts code pc body other h =
+    let back = stands_back code (pc + 1) body (Jump (length other) ∷ other) h.1 in
+    let end : pc + 1 + length body + length (Jump (length other) ∷ other) ≤ length code = stands_within code (pc + 1 + length body) (Jump (length other)) other back in
+    let same : pc + 1 + length body + 1 ≡ pc + 1 + (length body + 1) = omega arith in
+    record {
+      branch = h.0;
+      first = stands_front code (pc + 1) body (Jump (length other) ∷ other) h.1;
+      jump = back.0;
+      second = subst (λ n. StandsAt code n other) same back.1;
+      within = omega (arith, end);
+      ends = omega (arith, end);
+    }
 
 -- what stands behind a beginning
 stands_behind : (is before : Code) → StandsAt (before ++ is) (length before) is

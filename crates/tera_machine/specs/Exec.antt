@@ -1,10 +1,10 @@
 -- What a list of instructions does, one after another.
-use Rattle.std.specs.Prelude.{◌≡◌, ℕ, zero, suc, ◌+◌, ◌≤◌, List, Option, Some, None, Result, Ok, Err, slice_get}
+use Rattle.std.specs.Prelude.{◌≡◌, ℕ, zero, suc, ◌+◌, ◌≤◌, nat_le, cond, List, length, Option, Some, None, Result, Ok, Err, slice_get}
 use Rattle.tera_errors.specs.Fault.{Fault}
 use Rattle.tera_errors.specs.Answer.{Refusal}
 use Rattle.tera_meaning.specs.Here.{Here}
 use Rattle.tera_code.specs.declared.instruction.Instruction.{Instruction}
-use Rattle.tera_machine.specs.declared.machine.Flow.TheVariants.{On}
+use Rattle.tera_machine.specs.declared.machine.Flow.TheVariants.{On, Skip}
 use Rattle.tera_machine.specs.Config.{Config}
 use Rattle.tera_machine.specs.Act.{Did, Goes, Faults, Sticks, act}
 
@@ -25,19 +25,21 @@ after k (Broken f n) = Broken f (k + n)
 after k Unfinished = Unfinished
 after k Stuck = Stuck
 
-abbrev pub follow : (ℕ → Config → End) → ℕ → Did → End
-follow go ip (Goes c On) = go (ip + 1) c
-follow go ip (Faults f) = Broken f 0
-follow go ip Sticks = Stuck
+-- a jump past the end of the code sticks
+abbrev pub follow : ℕ → (ℕ → Config → End) → ℕ → Did → End
+follow len go ip (Goes c On) = go (ip + 1) c
+follow len go ip (Goes c (Skip n)) = cond (nat_le (ip + 1 + n) len) (go (ip + 1 + n) c) Stuck
+follow len go ip (Faults f) = Broken f 0
+follow len go ip Sticks = Stuck
 
-abbrev pub fetched : Here → Option Instruction → (ℕ → Config → End) → ℕ → Config → End
-fetched here None go ip c = Finished c 0
-fetched here (Some i) go ip c = after 1 (follow go ip (act here i c))
+abbrev pub fetched : Here → ℕ → Option Instruction → (ℕ → Config → End) → ℕ → Config → End
+fetched here len None go ip c = Finished c 0
+fetched here len (Some i) go ip c = after 1 (follow len go ip (act here i c))
 
 -- from this place on, with fewer than so many instructions
 unfoldable pub exec : ℕ → Here → Code → ℕ → Config → End
 exec zero here code ip c = Unfinished
-exec (suc n) here code ip c = fetched here (slice_get code ip) (exec n here code) ip c
+exec (suc n) here code ip c = fetched here (length code) (slice_get code ip) (exec n here code) ip c
 
 abbrev pub Within : ℕ → End → Type 0
 Within m (Finished c k) = k ≤ m

@@ -1,4 +1,3 @@
-pub mod Coding
 pub mod Config
 pub mod Act
 pub mod Exec

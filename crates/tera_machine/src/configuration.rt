@@ -1,8 +1,8 @@
 // What the machine works on.
-use crate::operand::Operand;
 use crate::stack::Stack;
 use crate::written::Written;
 use std::alloc::Global;
+use tera_operators::Operand;
 use tera_state::Scopes;
 
 /// Everything that an instruction may read or change.

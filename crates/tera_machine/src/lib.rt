@@ -4,12 +4,10 @@
 pub mod act;
 pub mod configuration;
 pub mod machine;
-pub mod operand;
 pub mod stack;
 pub mod written;
 
 pub use configuration::Configuration;
 pub use machine::VirtualMachine;
-pub use operand::Operand;
 pub use stack::Stack;
 pub use written::Written;

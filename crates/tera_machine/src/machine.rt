@@ -14,11 +14,13 @@ use std::sync::ledger::Ledger;
 use tera_code::{Chunk, Steps};
 use tera_values::TeraResult;
 
-/// Where the machine goes on: jumps and other bodies are further cases.
+/// Where the machine goes on: other bodies are further cases.
 #[derive(Clone, Copy)]
 pub enum Flow {
     /// At the next instruction.
     On,
+    /// So many instructions behind the next one.
+    Skip(usize),
 }
 
 /// How high the count of instructions may rise.
@@ -88,6 +90,7 @@ impl VirtualMachine {
             };
             match flow {
                 Flow::On => at += 1,
+                Flow::Skip(count) => at = at + 1 + count,
             }
         }
         Ok(())

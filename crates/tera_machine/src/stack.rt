@@ -1,5 +1,5 @@
 // A stack.
-ghost use Rattle.std.specs.Prelude.{◌≡◌, List, [], ◌∷◌, reverse, MatchOption, OnOk, IfErr};
+ghost use Rattle.std.specs.Prelude.{◌≡◌, ◌≤◌, [], ◌∷◌, List, length, reverse, take, drop, MatchOption, IfOk, OnOk, IfErr};
 ghost use Rattle.tera_errors.specs.Answer.{Lacks};
 
 use std::alloc::Global;
@@ -28,6 +28,12 @@ impl<T: Drop> Stack<T> {
         }
     }
 
+    pub fn len(&self) -> usize
+        ensures { result ≡ length self.now }
+    {
+        self.items.len()
+    }
+
     /// One more value on top.
     pub fn push(&mut self, value: T) -> TeraResult<()>
         ensures ok { OnOk result (self.new ≡ value ∷ self.old) }
@@ -42,5 +48,17 @@ impl<T: Drop> Stack<T> {
         ensures { MatchOption result ((self.old ≡ []) × (self.new ≡ [])) (λ value. self.old ≡ value ∷ self.new) }
     {
         self.items.pop()
+    }
+
+    /// Takes so many off, in the order in which they were put there.
+    pub fn pop_many(&mut self, count: usize) -> TeraResult<Vec<T>>
+        requires { count ≤ length self.old }
+        ensures taken { IfOk result (λ all. all.items ≡ reverse (take count self.old)) }
+        ensures rest { OnOk result (self.new ≡ drop count self.old) }
+        ensures lacks { IfErr result Lacks }
+    {
+        let kept = self.items.len() - count;
+        let taken = self.items.split_off(kept)?;
+        Ok(taken)
     }
 }

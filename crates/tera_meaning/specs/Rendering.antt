@@ -4,7 +4,7 @@ use Rattle.tera_errors.specs.Site.{Text, Name}
 use Rattle.tera_errors.specs.Fault.{Fault}
 use Rattle.tera_values.specs.Val.{Val}
 use Rattle.tera_values.specs.Named.{Named}
-use Rattle.tera_syntax.specs.Tree.{Tree}
+use Rattle.tera_tree.specs.Tree.{Tree}
 use Rattle.tera_state.specs.Scope.{Variables, fresh}
 use Rattle.tera_meaning.specs.Run.{Signal, Answer, Failed, Gave}
 use Rattle.tera_meaning.specs.Registry.{Registry}

@@ -1,9 +1,10 @@
 -- What a tree gives, and what it does on the way.
-use Rattle.std.specs.Prelude.{ℕ, ◌+◌, List, [], ◌++◌, Option, Some, None}
+use Rattle.std.specs.Prelude.{ℕ, ◌+◌, Bool, true, false, List, [], ◌++◌, Result, Ok, Err}
 use Rattle.tera_errors.specs.declared.span.Span.{Span}
 use Rattle.tera_errors.specs.Site.{Text, Name}
 use Rattle.tera_errors.specs.Fault.{Fault}
 use Rattle.tera_values.specs.Val.{Val}
+use Rattle.tera_operators.specs.Operand.{Evaluated}
 use Rattle.tera_state.specs.Scope.{Variables}
 
 -- what was done so far: the variables, the text that was written, and the blocks that ended, each with its text
@@ -15,11 +16,6 @@ pub record Run : Type 0 where
 -- nothing was done yet
 abbrev pub begun : Variables → Run
 begun vars = record { vars = vars; text = []; blocks = [] }
-
--- a value, and the span at which a fault in it is reported
-pub record Operand : Type 0 where
-  pub value : Val
-  pub span : Span
 
 -- how a list of nodes ends: a loop's ways out are further cases
 pub data Signal : Type 0 where
@@ -56,13 +52,17 @@ gives a r = Gave a r 0
 abbrev pub fails : {A : Type 0} → Fault → Meaning A
 fails fault r = Failed fault 0
 
--- what is there, or a fault
-abbrev pub known : {A : Type 0} → Option A → Fault → Meaning A
-known None fault = fails fault
-known (Some a) fault = gives a
+-- what was answered, or its fault
+abbrev pub answered : {A : Type 0} → Result A Fault → Meaning A
+answered (Ok a) = gives a
+answered (Err fault) = fails fault
 
-abbrev pub value_at : Val → Span → Meaning Operand
+abbrev pub value_at : Val → Span → Meaning Evaluated
 value_at v span = gives (record { value = v; span = span })
+
+abbrev pub if_else : {A : Type 0} → Bool → Meaning A → Meaning A → Meaning A
+if_else true m n = m
+if_else false m n = n
 
 -- what is read of the variables
 abbrev pub reads : {A : Type 0} → (Variables → A) → Meaning A

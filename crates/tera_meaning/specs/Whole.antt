@@ -2,7 +2,7 @@
 use Rattle.std.specs.Prelude.{◌≡◌, ℕ, zero, suc, Bool}
 use Rattle.tera_errors.specs.Site.{Name}
 use Rattle.tera_errors.specs.Fault.{Fault, message}
-use Rattle.tera_syntax.specs.Tree.{Nodes}
+use Rattle.tera_tree.specs.Tree.{Nodes}
 use Rattle.tera_state.specs.Scope.{Variables}
 use Rattle.tera_meaning.specs.Here.{Here}
 use Rattle.tera_meaning.specs.Run.{Signal, Answer, Failed, Request, Oracle, visit, begun}

@@ -4,7 +4,10 @@
 use std::io::BufWriter;
 use std::process::ExitCode;
 use tera::Tera;
-use tera_script::{Outcome, ReaderInput, WriterOutput, complaint, run};
+pub use tera_script::{
+    Command, Failure, Input, Outcome, Output, ReaderInput, Reply, WriterOutput, complaint, run,
+    run_commands,
+};
 
 fn main(rt: HostRuntime) -> ExitCode {
     let outcome = match (
@@ -14,7 +17,10 @@ fn main(rt: HostRuntime) -> ExitCode {
         (Ok(mut engine), Ok(stdout)) => {
             let mut reader = ReaderInput::new(rt.stdin());
             let mut writer = WriterOutput::new(stdout);
-            run(rt.alloc(), &mut reader, &mut writer, &mut engine)
+            let outcome = run(rt.alloc(), &mut reader, &mut writer, &mut engine);
+            // What a failed write left in the buffer is not tried again.
+            let _ = writer.into_inner().into_parts();
+            outcome
         }
         _ => Outcome::NoMemory,
     };

@@ -38,14 +38,15 @@ program_of registry bytes script replies r = record {
   written = sym (flat_map-map line_of reply_seen replies);
 }
 
-pub finishes : (registry : Registry) (reader_old reader_new : Passage) (ended : Type 0) (writer_old writer_new : Passage) (unreadable : Option ℕ) (bytes : List ℕ) (script : Script) (replies : List Reply) → PassesAll reader_old reader_new bytes × ended → Replied registry bytes script replies → PassesAll writer_old writer_new (output_of replies) → script.unreadable ≡ unreadable → Finishes registry reader_old reader_new ended writer_old writer_new unreadable
-finishes registry reader_old reader_new ended writer_old writer_new unreadable bytes script replies read r written stops = record {
+pub finishes : (registry : Registry) (reader_old reader_new : Passage) (ended : Type 0) (writer_old writer_new : Passage) (settled : Type 0) (unreadable : Option ℕ) (bytes : List ℕ) (script : Script) (replies : List Reply) → PassesAll reader_old reader_new bytes × ended → Replied registry bytes script replies → PassesAll writer_old writer_new (output_of replies) → settled → script.unreadable ≡ unreadable → Finishes registry reader_old reader_new ended writer_old writer_new settled unreadable
+finishes registry reader_old reader_new ended writer_old writer_new settled unreadable bytes script replies read r written handed_on stops = record {
   input = bytes;
   output = output_of replies;
   read = read.0;
   at_end = read.1;
   program = program_of registry bytes script replies r;
   written = written;
+  handed_on = handed_on;
   stops = sym (ap (λ s. s.unreadable) r.read) ∙ stops;
 }
 

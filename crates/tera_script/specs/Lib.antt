@@ -9,3 +9,4 @@ pub mod Run
 pub mod Body
 pub mod Found
 pub mod Seen
+pub mod Standard

@@ -14,15 +14,16 @@ status_of (Unreadable line) = 2
 status_of Device = 3
 status_of NoMemory = 4
 
--- The input was read to its end, and the replies to its commands were written. Neither stream failed. The first
--- unreadable line is this one, if there is one.
-pub record Finishes (registry : Registry) (reader_old reader_new : Passage) (ended : Type 0) (writer_old writer_new : Passage) (unreadable : Option ℕ) : Type 0 where
+-- The input was read to its end, and the replies to its commands were written and handed on. Neither stream failed.
+-- The first unreadable line is this one, if there is one.
+pub record Finishes (registry : Registry) (reader_old reader_new : Passage) (ended : Type 0) (writer_old writer_new : Passage) (settled : Type 0) (unreadable : Option ℕ) : Type 0 where
   pub input : List ℕ
   pub output : List ℕ
   pub read : PassesAll reader_old reader_new input
   pub at_end : ended
   pub program : Program registry input output
   pub written : PassesAll writer_old writer_new output
+  pub handed_on : settled
   pub stops : (script_of input).unreadable ≡ unreadable
 
 -- the same, but the writer failed behind a beginning of the replies
@@ -41,11 +42,11 @@ pub data Fails (registry : Registry) (reader_old reader_new : Passage) (ended : 
   at_write : (broken : BreaksOff registry reader_old reader_new ended writer_old writer_new) → Fails registry reader_old reader_new ended writer_old writer_new
 
 -- A run of the program, by what it comes to.
-abbrev pub Ran : Registry → Passage → Passage → Type 0 → Passage → Passage → Outcome → Type 0
-Ran registry reader_old reader_new ended writer_old writer_new Done = Finishes registry reader_old reader_new ended writer_old writer_new None
-Ran registry reader_old reader_new ended writer_old writer_new (Unreadable line) = Finishes registry reader_old reader_new ended writer_old writer_new (Some line)
-Ran registry reader_old reader_new ended writer_old writer_new Device = Fails registry reader_old reader_new ended writer_old writer_new
-Ran registry reader_old reader_new ended writer_old writer_new NoMemory = writer_new ≡ writer_old
+abbrev pub Ran : Registry → Passage → Passage → Type 0 → Passage → Passage → Type 0 → Outcome → Type 0
+Ran registry reader_old reader_new ended writer_old writer_new settled Done = Finishes registry reader_old reader_new ended writer_old writer_new settled None
+Ran registry reader_old reader_new ended writer_old writer_new settled (Unreadable line) = Finishes registry reader_old reader_new ended writer_old writer_new settled (Some line)
+Ran registry reader_old reader_new ended writer_old writer_new settled Device = Fails registry reader_old reader_new ended writer_old writer_new
+Ran registry reader_old reader_new ended writer_old writer_new settled NoMemory = writer_new ≡ writer_old
 
 abbrev pub complaint_line : ℕ → Text
 complaint_line line = codes "unreadable command at line " ++ decimal line ++ codes "\n"

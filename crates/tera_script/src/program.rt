@@ -1,5 +1,5 @@
 // A whole run, from the bytes of a script to the bytes of its replies.
-ghost use Rattle.std.specs.Prelude.{◌≡◌};
+ghost use Rattle.std.specs.Prelude.{◌≡◌, OnOk};
 ghost use Rattle.std.specs.List.{flat_map};
 ghost use Rattle.tera.specs.Registry.{registry_of};
 ghost use Rattle.tera_script.specs.Passage.{Puts};
@@ -23,7 +23,7 @@ pub fn run<R: Input, W: Output>(
     writer: &mut W,
     engine: &mut Tera,
 ) -> Outcome
-    ensures ran { Ran (registry_of engine.old) (R.passed reader.old) (R.passed reader.new) (R.ended reader.new) (W.passed writer.old) (W.passed writer.new) result }
+    ensures ran { Ran (registry_of engine.old) (R.passed reader.old) (R.passed reader.new) (R.ended reader.new) (W.passed writer.old) (W.passed writer.new) (W.settled writer.new) result }
     ensures engine { registry_of engine.new ≡ registry_of engine.old }
 {
     let bytes = match read_all(alloc, reader) {
@@ -50,7 +50,8 @@ pub fn run<R: Input, W: Output>(
 
 /// Writes the replies in order, and has them handed on.
 fn write_replies<W: Output>(writer: &mut W, replies: &[Reply]) -> Result<(), Failure>
-    ensures { Puts (W.passed writer.old) (W.passed writer.new) (flat_map (λ reply. line_of (reply_seen reply)) replies.now) result }
+    ensures passed { Puts (W.passed writer.old) (W.passed writer.new) (flat_map (λ reply. line_of (reply_seen reply)) replies.now) result }
+    ensures settled { OnOk result (W.settled writer.new) }
 {
     for reply in replies {
         if let Err(failure) = write_reply(writer, reply) {

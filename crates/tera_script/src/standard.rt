@@ -1,6 +1,7 @@
 // Readers and writers of the standard library as inputs and outputs.
 ghost use Rattle.std.specs.Prelude.{◌≡◌};
 ghost use Rattle.tera_script.specs.Passage.{unused};
+ghost use Rattle.tera_script.specs.Standard.{reader_inside, writer_inside};
 
 use crate::stream::{Failure, Input, Output};
 use crate::trace::Trace;
@@ -17,7 +18,8 @@ pub struct ReaderInput<R> {
 impl<R: Read> ReaderInput<R> {
     /// Takes the reader where it stands.
     pub fn new(reader: R) -> ReaderInput<R>
-        ensures { ⟦<ReaderInput<R> as Input>⟧.passed result ≡ unused }
+        ensures passed { ⟦<ReaderInput<R> as Input>⟧.passed result ≡ unused }
+        ensures reader { reader_inside result ≡ reader }
     {
         ReaderInput {
             reader,
@@ -59,27 +61,46 @@ impl<R: Read> Input for ReaderInput<R> {
 #[derive(Drop)]
 pub struct WriterOutput<W> {
     writer: W,
+    is_flushed: bool,
     trace: Trace,
 }
 
 impl<W: Write> WriterOutput<W> {
     /// Takes the writer where it stands.
     pub fn new(writer: W) -> WriterOutput<W>
-        ensures { ⟦<WriterOutput<W> as Output>⟧.passed result ≡ unused }
+        ensures passed { ⟦<WriterOutput<W> as Output>⟧.passed result ≡ unused }
+        ensures writer { writer_inside result ≡ writer }
     {
         WriterOutput {
             writer,
+            is_flushed: false,
             trace: Trace::new(),
         }
+    }
+
+    /// The writer, as it stands now.
+    pub fn into_inner(self) -> W
+        ensures { result ≡ writer_inside self }
+    {
+        let WriterOutput {
+            writer,
+            is_flushed: _,
+            trace: _,
+        } = self;
+        writer
     }
 }
 
 impl<W: Write> Output for WriterOutput<W> {
+    ghost use Rattle.std.specs.Prelude.{IsTrue};
     ghost use Rattle.tera_script.specs.Passage.{Passage};
 
     ghost passed = { λ s. record { bytes = s.trace.bytes; failures = s.trace.failures } };
 
+    ghost settled = { λ s. IsTrue s.is_flushed };
+
     fn write(&mut self, piece: &[u8]) -> Result<usize, Failure> {
+        self.is_flushed = false;
         for _ in 0..u64::MAX {
             match self.writer.write(piece) {
                 Ok(taken) => {
@@ -102,6 +123,7 @@ impl<W: Write> Output for WriterOutput<W> {
 
     fn flush(&mut self) -> Result<(), Failure> {
         if self.writer.flush().is_ok() {
+            self.is_flushed = true;
             return Ok(());
         }
         self.trace = Trace::with(&self.trace, &[], 1);

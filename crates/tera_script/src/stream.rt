@@ -1,5 +1,5 @@
 // What a run reads from, and what it writes to.
-ghost use Rattle.std.specs.Prelude.{◌≡◌, ◌<◌, ◌↔◌, IfOk, length};
+ghost use Rattle.std.specs.Prelude.{◌≡◌, ◌<◌, ◌↔◌, IfOk, OnOk, length};
 ghost use Rattle.tera_script.specs.Passage.{Passes, Flushes};
 
 /// A read or a write failed.
@@ -30,6 +30,9 @@ pub trait Output {
     /// The bytes that it has taken so far, and how often it has failed.
     ghost passed: { Self → Passage };
 
+    /// Whether it holds nothing back of what it took.
+    ghost settled: { Self → Type 0 };
+
     /// Takes bytes from the front of the piece, and answers how many. To take none of a piece that is not empty is a
     /// failure.
     fn write(&mut self, piece: &[u8]) -> Result<usize, Failure>
@@ -38,5 +41,6 @@ pub trait Output {
 
     /// Hands on what it holds back.
     fn flush(&mut self) -> Result<(), Failure>
-        ensures { Flushes (passed self.old) (passed self.new) result };
+        ensures passed { Flushes (passed self.old) (passed self.new) result }
+        ensures settled { OnOk result (settled self.new) };
 }

@@ -6,7 +6,7 @@ use Rattle.tera_errors.specs.Site.{Text}
 use Rattle.tera_syntax.specs.Bytes.{begins, place}
 use Rattle.tera_syntax.specs.Inside.{hyphen}
 use Rattle.tera_syntax.specs.Cut.{Comment, Broken, Found, comment, piece, cut}
-use Rattle.tera_syntax.specs.Delimiters.{Delims}
+use Rattle.tera_tree.specs.Delimiters.{Delims}
 
 lt_no : (a b : ℕ) → b ≤ a → nat_lt a b ≡ false
 lt_no a b h = grind (arith, nat_tests)

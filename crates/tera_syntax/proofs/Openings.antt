@@ -7,8 +7,8 @@ use lib.Utf8.{encode}
 use Rattle.tera_errors.specs.Site.{Text}
 use Rattle.tera_syntax.specs.Bytes.{begins, place}
 use Rattle.tera_syntax.specs.Inside.{hyphen}
-use Rattle.tera_syntax.specs.Delimiters.{Delims, delimiters_of, accepted, is_filled}
-use Rattle.tera_syntax.specs.declared.delimiters.Delimiters.{Delimiters}
+use Rattle.tera_tree.specs.Delimiters.{Delims, delimiters_of, accepted, is_filled}
+use Rattle.tera_tree.specs.declared.delimiters.Delimiters.{Delimiters}
 use Rattle.tera_syntax.specs.declared.cut.Tag.{Tag}
 use Rattle.tera_syntax.specs.declared.cut.Opening.{Opening}
 use Rattle.tera_syntax.specs.Cut.{longer, opening_at, opens, start_size}

@@ -10,11 +10,11 @@ use Rattle.tera_syntax.specs.declared.refusal.Refusal as reader
 use Rattle.tera_syntax.specs.declared.refusal.Refusal.TheVariants.{Syntax}
 use Rattle.tera_syntax.specs.Bytes.{place}
 use Rattle.tera_syntax.specs.Cut.{Piece, Words, Found, words, trims_before, opening_at, opens, piece, cut, pieces}
-use Rattle.tera_syntax.specs.Delimiters.{Delims}
+use Rattle.tera_tree.specs.Delimiters.{Delims}
 use Rattle.tera_syntax.specs.Reader.{nodes}
 use Rattle.tera_syntax.specs.Reads.{SpellsNone}
 use Rattle.tera_syntax.specs.Spells.{Spells}
-use Rattle.tera_syntax.specs.Tree.{Tree, Nodes, NoNodes}
+use Rattle.tera_tree.specs.Tree.{Tree, Nodes, NoNodes}
 use Rattle.tera_syntax.proofs.Openings.{by_order}
 use Rattle.tera_syntax.proofs.Places.{place_le, place_here, place_passes}
 use Rattle.tera_syntax.proofs.Cuts.{cut_step, cut_nothing}

@@ -10,11 +10,11 @@ use Rattle.tera_syntax.specs.declared.token.Kind.TheVariants as k
 use Rattle.tera_syntax.specs.Token.{Token}
 use Rattle.tera_syntax.specs.Input.{Input, begin, kind, text, start, next, span, is_reserved}
 use Rattle.tera_syntax.specs.Cut.{Piece, Words, Comment, Variable, Block, Broken}
-use Rattle.tera_syntax.specs.Tree.{Expr, Name, Content, Print, Nodes, NoNodes, MoreNodes}
-use Rattle.tera_syntax.specs.Depth.{expr_depth, nodes_depth}
+use Rattle.tera_tree.specs.Tree.{Expr, Name, Content, Print, Nodes, NoNodes, MoreNodes}
+use Rattle.tera_tree.specs.Depth.{depth, nodes_depth}
 use Rattle.tera_syntax.specs.Grammar.{Derives, name, DerivesNodes, none, content, blank, comment, print}
-use Rattle.tera_syntax.specs.declared.tree.Node as declared
-use Rattle.tera_syntax.specs.View.{node_of, nodes_of}
+use Rattle.tera_tree.specs.declared.node.Node as declared
+use Rattle.tera_tree.specs.View.{node_of, nodes_of}
 use Rattle.tera_syntax.specs.Reader.{same, expr, ended, whole, printed, piece_nodes, join, joined, nodes, PutsSome}
 use Rattle.tera_syntax.specs.Answers.{Refuses}
 use Rattle.tera_syntax.specs.declared.refusal.Refusal.{Refusal}
@@ -63,7 +63,7 @@ expr_complete : {x : Expr} {i j : Input} → Derives x i j → expr i ≡ Some (
 unfolding expr
 expr_complete (name {i} e r) = rw (e, same_refl k.Name, r) refl
 
-expr_flat : {x : Expr} {i j : Input} → Derives x i j → expr_depth x ≡ 1
+expr_flat : {x : Expr} {i j : Input} → Derives x i j → depth x ≡ 1
 expr_flat (name e r) = refl
 
 ended_by : (q : Bool) (x y : Expr) → (if q then Some x else None) ≡ Some y → (q ≡ true) × (x ≡ y)

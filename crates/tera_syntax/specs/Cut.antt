@@ -5,7 +5,7 @@ use Rattle.std.specs.List.{ends_with}
 use Rattle.tera_errors.specs.Site.{Text}
 use Rattle.tera_errors.specs.declared.span.Span.{Span}
 use Rattle.tera_syntax.specs.Bytes.{begins, place}
-use Rattle.tera_syntax.specs.Delimiters.{Delims}
+use Rattle.tera_tree.specs.Delimiters.{Delims}
 use Rattle.tera_syntax.specs.Token.{Token}
 use Rattle.tera_syntax.specs.Inside.{Inside, inside, hyphen}
 use Rattle.tera_syntax.specs.declared.cut.Tag.{Tag}

@@ -6,7 +6,7 @@ use Rattle.tera_syntax.specs.declared.token.Kind.TheVariants as k
 use Rattle.tera_syntax.specs.Token.{Token}
 use Rattle.tera_syntax.specs.Input.{Input, begin, kind, text, start, next, span, is_reserved}
 use Rattle.tera_syntax.specs.Cut.{Piece, Words, Comment, Variable}
-use Rattle.tera_syntax.specs.Tree.{Expr, Name, Content, Print, Nodes, NoNodes, MoreNodes}
+use Rattle.tera_tree.specs.Tree.{Expr, Name, Content, Print, Nodes, NoNodes, MoreNodes}
 
 -- The tokens from the first place to the second are an expression.
 pub data Derives : Expr → Input → Input → Type 0 where

@@ -1,6 +1,3 @@
-pub mod Delimiters
-pub mod Tree
-pub mod View
 pub mod Bytes
 pub mod Answers
 pub mod Token
@@ -8,7 +5,6 @@ pub mod Inside
 pub mod Cut
 pub mod Input
 pub mod Grammar
-pub mod Depth
 pub mod Spells
 pub mod Reads
 pub mod Takes

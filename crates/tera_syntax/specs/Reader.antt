@@ -9,7 +9,7 @@ use Rattle.tera_syntax.specs.Answers.{Refuses}
 use Rattle.tera_syntax.specs.Token.{Token}
 use Rattle.tera_syntax.specs.Input.{Input, begin, kind, text, start, next, span, is_reserved}
 use Rattle.tera_syntax.specs.Cut.{Piece, Words, Comment, Variable, Block, Broken}
-use Rattle.tera_syntax.specs.Tree.{Expr, Name, Content, Print, Nodes, NoNodes, MoreNodes}
+use Rattle.tera_tree.specs.Tree.{Expr, Name, Content, Print, Nodes, NoNodes, MoreNodes}
 
 unfoldable pub same : Kind → Kind → Bool
 same = sameb the_type

@@ -4,10 +4,10 @@ use Rattle.tera_errors.specs.Site.{Text, Name}
 use Rattle.tera_errors.specs.Fault.{Fault, syntax_error}
 use Rattle.tera_errors.specs.declared.span.Span.{Span}
 use Rattle.tera_syntax.specs.Cut.{opens}
-use Rattle.tera_syntax.specs.Delimiters.{Delims}
-use Rattle.tera_syntax.specs.Depth.{IsWellFormed}
+use Rattle.tera_tree.specs.Delimiters.{Delims}
+use Rattle.tera_tree.specs.Depth.{IsWellFormed}
 use Rattle.tera_syntax.specs.Spells.{Spells}
-use Rattle.tera_syntax.specs.Tree.{Tree}
+use Rattle.tera_tree.specs.Tree.{Tree}
 
 -- a stretch of a text of this size
 abbrev pub Within : ℕ → Span → Type 0

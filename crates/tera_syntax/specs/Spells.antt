@@ -2,9 +2,9 @@
 use Rattle.std.specs.Prelude.{[]}
 use Rattle.tera_errors.specs.Site.{Text, Name}
 use Rattle.tera_syntax.specs.Cut.{pieces}
-use Rattle.tera_syntax.specs.Delimiters.{Delims}
+use Rattle.tera_tree.specs.Delimiters.{Delims}
 use Rattle.tera_syntax.specs.Grammar.{DerivesNodes}
-use Rattle.tera_syntax.specs.Tree.{Tree}
+use Rattle.tera_tree.specs.Tree.{Tree}
 
 -- All pieces of the text are the nodes of the tree.
 abbrev pub Spells : Name → Delims → Text → Tree → Type 0

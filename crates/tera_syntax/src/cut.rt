@@ -3,11 +3,11 @@ ghost use Rattle.std.specs.Prelude.{◌≡◌, ◌<◌, ◌≤◌, ◌+◌, ◌-
 ghost use Rattle.tera_syntax.specs.Answers.{Answers, Follows};
 ghost use Rattle.tera_syntax.specs.Bytes.{place};
 ghost use Rattle.tera_syntax.specs.Cut as spec;
-ghost use Rattle.tera_syntax.specs.Delimiters.{accepted, delimiters_of};
+ghost use Rattle.tera_tree.specs.Delimiters.{accepted, delimiters_of};
 ghost use Rattle.tera_syntax.specs.Found.{found_of};
 
 use crate::bytes::{after, before, begins, place as place_of};
-use crate::delimiters::Delimiters;
+use tera_tree::Delimiters;
 use crate::inside::{cut_inside, is_hyphen};
 use crate::refusal::Refusal;
 use crate::token::Token;

@@ -3,7 +3,6 @@
 
 pub(crate) mod bytes;
 pub(crate) mod cut;
-pub mod delimiters;
 pub(crate) mod input;
 pub(crate) mod inside;
 pub mod laws;
@@ -12,8 +11,6 @@ pub(crate) mod refusal;
 #[cfg(test)]
 mod tests;
 pub(crate) mod token;
-pub mod tree;
 
-pub use delimiters::Delimiters;
 pub use reader::parse;
-pub use tree::{Expression, Node, ParserOutput};
+pub use tera_tree::{BinaryOperator, Delimiters, Entry, Expression, Item, LiteralKey, Node, ParserOutput};

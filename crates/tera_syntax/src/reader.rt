@@ -3,21 +3,21 @@ ghost use Rattle.std.specs.Prelude.{◌≡◌, ◌≤◌, ◌<◌, ◌+◌, ◌^
 ghost use Rattle.tera_errors.specs.Answer.{GivesOneOf};
 ghost use Rattle.tera_syntax.specs.Answers.{Answers};
 ghost use Rattle.tera_syntax.specs.Cut.{pieces};
-ghost use Rattle.tera_syntax.specs.Delimiters.{accepted, delimiters_of};
+ghost use Rattle.tera_tree.specs.Delimiters.{accepted, delimiters_of};
 ghost use Rattle.tera_syntax.specs.Reader as spec;
 ghost use Rattle.tera_syntax.specs.Reader.{Puts};
 ghost use Rattle.tera_syntax.specs.Reads.{Reads, ReadsPlainText, Within};
 ghost use Rattle.tera_syntax.specs.Found.{piece_of};
 ghost use Rattle.tera_syntax.specs.Takes.{Takes, input};
 ghost use Rattle.tera_syntax.specs.Token.{tokens_of};
-ghost use Rattle.tera_syntax.specs.View.{expr_of, nodes_of, tree_of};
+ghost use Rattle.tera_tree.specs.View.{expr_of, nodes_of, tree_of};
 
 use crate::cut::{Piece, next_piece};
-use crate::delimiters::Delimiters;
+use tera_tree::Delimiters;
 use crate::input::{Tokens, is_reserved};
 use crate::refusal::Refusal;
 use crate::token::{Kind, Token};
-use crate::tree::{Expression, Node, ParserOutput};
+use tera_tree::{Expression, Node, ParserOutput};
 use std::alloc::Global;
 use tera_errors::{Error, Span, TeraResult};
 

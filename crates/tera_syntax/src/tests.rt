@@ -1,11 +1,11 @@
 //! Readings of small texts.
 
 ghost use Rattle.std.specs.Prelude.{IsTrue};
-ghost use Rattle.tera_syntax.specs.Delimiters.{accepted, delimiters_of};
+ghost use Rattle.tera_tree.specs.Delimiters.{accepted, delimiters_of};
 
-use crate::delimiters::Delimiters;
+use tera_tree::Delimiters;
 use crate::reader::parse;
-use crate::tree::{Expression, Node, ParserOutput};
+use tera_tree::{Expression, Node, ParserOutput};
 use std::alloc::{AllocError, Global};
 use std::test::Fail;
 use tera_errors::{ErrorKind, Span};

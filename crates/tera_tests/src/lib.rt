@@ -2,10 +2,14 @@
 #![tactic(auto)]
 
 #[cfg(test)]
-mod allocations;
+mod errors;
 #[cfg(test)]
 mod memory;
 #[cfg(test)]
+mod other_delimiters;
+#[cfg(test)]
 mod refused_renderings;
+#[cfg(test)]
+mod refused_runs;
 #[cfg(test)]
 mod renderings;

@@ -5,34 +5,31 @@ use std::alloc::Global;
 const ROOM: usize = 8192;
 
 /// The least that the C library hands out: with steps of it each request is once the first that is refused.
-pub const STEP: usize = 32;
+const STEP: usize = 32;
 
-/// Steps enough for all the room.
-pub const TRIES: usize = ROOM / STEP;
-
-/// Takes pieces of a size until there are no more.
-fn take_pieces(alloc: Global, taken: &mut Vec<Vec<u8>>, size: usize) {
-    for _ in 0..20_000 {
-        match Vec::with_capacity(alloc, size) {
-            Ok(piece) => {
-                let _ = taken.push(piece);
-            }
-            Err(_) => break,
-        }
-    }
+/// How a call ends where little memory is left.
+#[derive(Clone, Copy, PartialEq, Eq)]
+pub enum Tried {
+    /// It had memory enough, and answered what it should.
+    Answered,
+    /// It was refused memory, and changed nothing.
+    Refused,
+    /// Neither of these.
+    Wrong,
 }
 
-/// Takes all the memory that there is.
-fn take_all(alloc: Global, taken: &mut Vec<Vec<u8>>) {
-    let mut size: usize = 1 << 34;
-    for _ in 0..34 {
-        take_pieces(alloc, taken, size);
-        size = size / 2;
+/// How often a call is refused before it answers, where it has more and more bytes; none where it goes wrong.
+pub fn refusals<F: Fn(usize) -> Tried>(call: F) -> Option<usize>
+    requires { F.IsAlwaysCallable call }
+{
+    for refused in 0..ROOM / STEP {
+        match call(STEP * refused) {
+            Tried::Answered => return Some(refused),
+            Tried::Refused => {}
+            Tried::Wrong => return None,
+        }
     }
-    // The C library keeps small pieces that were given back, by their size, and hands them out for that size alone.
-    for place in 0..64 {
-        take_pieces(alloc, taken, 1032 - 16 * place);
-    }
+    None
 }
 
 /// What the call answers where so many bytes are left; none where there is not even room for this test itself.
@@ -49,4 +46,29 @@ pub fn with_budget<T, F: FnOnce() -> T>(alloc: Global, budget: usize, call: F) -
     drop(plug);
     drop(taken);
     Some(answer)
+}
+
+/// Takes all the memory that there is.
+fn take_all(alloc: Global, taken: &mut Vec<Vec<u8>>) {
+    let mut size: usize = 1 << 34;
+    for _ in 0..34 {
+        take_pieces(alloc, taken, size);
+        size = size / 2;
+    }
+    // The C library keeps small pieces that were given back, by their size, and hands them out for that size alone.
+    for place in 0..64 {
+        take_pieces(alloc, taken, 1032 - 16 * place);
+    }
+}
+
+/// Takes pieces of a size until there are no more.
+fn take_pieces(alloc: Global, taken: &mut Vec<Vec<u8>>, size: usize) {
+    for _ in 0..20_000 {
+        match Vec::with_capacity(alloc, size) {
+            Ok(piece) => {
+                let _ = taken.push(piece);
+            }
+            Err(_) => break,
+        }
+    }
 }

@@ -1,83 +1,61 @@
 //! Renderings to which memory is refused, at their first request, at their second one, and so on.
-use crate::memory::{STEP, TRIES, with_budget};
+use crate::memory::{Tried, refusals, with_budget};
 use std::alloc::Global;
-use std::process::Abort;
-use tera::{Context, Error, ErrorKind, Tera, TeraResult, Value};
+use tera::{Context, ErrorKind, Tera, TeraResult, Value};
 
 const INPUT: &str = "Hello {{ name }}!{# not this #}";
 
 const WANT: &str = "Hello &lt;world&gt;!";
 
-fn greeting(alloc: Global) -> TeraResult<(Tera, Context)> {
-    let engine = Tera::new(alloc)?;
+const BEFORE: &[u8] = b"before ";
+
+fn greeting(alloc: Global) -> TeraResult<Context> {
     let mut context = Context::new(alloc);
     context.insert("name", Value::string(alloc, "<world>")?)?;
-    Ok((engine, context))
+    Ok(context)
 }
 
-/// How often the rendering was refused before it answered; none where it never did.
-fn refusals(rt: &impl Abort, alloc: Global) -> TeraResult<Option<usize>> {
-    let (engine, context) = greeting(alloc)?;
-    for refused in 0..TRIES {
-        let answer = with_budget(alloc, STEP * refused, || {
-            engine.render_str(INPUT, &context, true)
-        });
-        match answer {
-            Some(Ok(text)) => {
-                assert!(rt; text.as_str() == WANT);
-                return Ok(Some(refused));
-            }
-            Some(Err(error)) => assert!(rt; matches!(error.kind(), ErrorKind::OutOfMemory)),
-            None => return Err(Error::out_of_memory()),
+fn judged(answer: Option<TeraResult<()>>, is_right: bool, is_unchanged: bool) -> Tried {
+    match answer {
+        Some(Ok(())) if is_right => Tried::Answered,
+        Some(Err(error)) if is_unchanged && matches!(error.kind(), ErrorKind::OutOfMemory) => {
+            Tried::Refused
         }
-        // What was refused has changed nothing.
-        assert!(rt; engine.render_str(INPUT, &context, true)?.as_str() == WANT);
+        _ => Tried::Wrong,
     }
-    Ok(None)
 }
 
-/// The same of the call that appends.
-fn refusals_of_appending(rt: &impl Abort, alloc: Global) -> TeraResult<Option<usize>> {
-    let (engine, context) = greeting(alloc)?;
-    for refused in 0..TRIES {
-        let mut out = b"before ".to_vec(alloc)?;
-        let answer = with_budget(alloc, STEP * refused, || {
-            engine.render_str_to(INPUT, &context, true, &mut out)
-        });
-        match answer {
-            Some(Ok(())) => {
-                assert!(rt; out.starts_with(b"before ") && out.ends_with(WANT.as_bytes()));
-                assert!(rt; out.len() == WANT.len().saturating_add(7));
-                return Ok(Some(refused));
-            }
-            Some(Err(error)) => {
-                assert!(rt; matches!(error.kind(), ErrorKind::OutOfMemory));
-                assert!(rt; out.as_slice() == b"before ".as_slice());
-            }
-            None => return Err(Error::out_of_memory()),
-        }
+fn try_rendering(alloc: Global, engine: &Tera, context: &Context, budget: usize) -> Tried {
+    match with_budget(alloc, budget, || engine.render_str(INPUT, context, true)) {
+        Some(Ok(text)) => judged(Some(Ok(())), text.as_str() == WANT, true),
+        Some(Err(error)) => judged(Some(Err(error)), false, true),
+        None => Tried::Wrong,
     }
-    Ok(None)
+}
+
+fn try_appending(alloc: Global, engine: &Tera, context: &Context, budget: usize) -> Tried {
+    let Ok(mut out) = BEFORE.to_vec(alloc) else {
+        return Tried::Wrong;
+    };
+    let answer = with_budget(alloc, budget, || {
+        engine.render_str_to(INPUT, context, true, &mut out)
+    });
+    let is_unchanged = out.as_slice() == BEFORE;
+    let is_right = out.strip_prefix(BEFORE) == Some(WANT.as_bytes());
+    judged(answer, is_right, is_unchanged)
 }
 
 #[test]
-fn a_rendering_is_refused_in_turn(rt: HostRuntime) {
-    match refusals(&rt, rt.alloc()) {
-        Ok(Some(refused)) => {
-            let _ = println!(rt; "refused {refused} times");
-            assert!(rt; refused > 0);
+fn renderings_are_refused_in_turn(rt: HostRuntime) {
+    match (Tera::new(rt.alloc()), greeting(rt.alloc())) {
+        (Ok(engine), Ok(context)) => {
+            let refused = refusals(|budget| try_rendering(rt.alloc(), &engine, &context, budget));
+            let _ = println!(rt; "refused {refused:?} times");
+            assert!(rt; refused > Some(0));
+            let refused = refusals(|budget| try_appending(rt.alloc(), &engine, &context, budget));
+            let _ = println!(rt; "refused {refused:?} times");
+            assert!(rt; refused > Some(0));
         }
-        _ => assert!(rt; false, "no answer"),
-    }
-}
-
-#[test]
-fn appending_is_refused_in_turn(rt: HostRuntime) {
-    match refusals_of_appending(&rt, rt.alloc()) {
-        Ok(Some(refused)) => {
-            let _ = println!(rt; "refused {refused} times");
-            assert!(rt; refused > 0);
-        }
-        _ => assert!(rt; false, "no answer"),
+        _ => assert!(rt; false, "no engine"),
     }
 }

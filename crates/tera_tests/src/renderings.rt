@@ -1,31 +1,85 @@
 //! Texts that stand beside the registry: what they render to, and where they are refused.
 use std::alloc::Global;
-use std::process::Abort;
-use tera::{Context, Error, ErrorKind, ReportError, Tera, TeraResult, Value};
+use tera::{Context, Error, ErrorKind, Tera, TeraResult, Value};
 
-/// A fault in words of this file: its kind, and the place that a report names.
-fn told(error: &Error) -> (&'static str, Option<&ReportError>) {
-    match error.kind() {
-        ErrorKind::SyntaxError(report) => ("syntax", Some(report)),
-        ErrorKind::RenderingError(report) => ("rendering", Some(report)),
-        ErrorKind::Message(_) => ("message", None),
-        ErrorKind::OutOfMemory => ("memory", None),
-        _ => ("other", None),
-    }
+const BEFORE: &[u8] = b"before ";
+
+fn put(context: &mut Context, name: &str, value: TeraResult<Value>) -> TeraResult<()> {
+    context.insert(name, value?)
 }
 
 fn people(alloc: Global) -> TeraResult<Context> {
     let mut context = Context::new(alloc);
-    context.insert("name", Value::string(alloc, "world")?)?;
-    context.insert("html", Value::string(alloc, "<script>")?)?;
-    context.insert("markup", Value::safe_string(alloc, "<b>")?)?;
-    context.insert("hidden", Value::undefined())?;
+    put(&mut context, "name", Value::string(alloc, "world"))?;
+    put(&mut context, "html", Value::string(alloc, "<script>"))?;
+    put(&mut context, "markup", Value::safe_string(alloc, "<b>"))?;
+    put(&mut context, "hidden", Ok(Value::undefined()))?;
     Ok(context)
 }
 
-fn texts_render(rt: &impl Abort, alloc: Global) -> TeraResult<()> {
-    let context = people(alloc)?;
-    let engine = Tera::new(alloc)?;
+fn renders(engine: &Tera, context: &Context, input: &str, autoescape: bool, want: &str) -> bool {
+    match engine.render_str(input, context, autoescape) {
+        Ok(text) => text.as_str() == want,
+        Err(_) => false,
+    }
+}
+
+fn appends(
+    alloc: Global,
+    engine: &Tera,
+    context: &Context,
+    input: &str,
+    autoescape: bool,
+    want: &str,
+) -> bool {
+    let Ok(mut out) = BEFORE.to_vec(alloc) else {
+        return false;
+    };
+    let answer = engine.render_str_to(input, context, autoescape, &mut out);
+    answer.is_ok() && out.strip_prefix(BEFORE) == Some(want.as_bytes())
+}
+
+/// Whether this is the fault: its kind, and the place that it reports.
+fn tells(error: &Error, is_syntax: bool, start: usize, end: usize) -> bool {
+    match error.kind() {
+        ErrorKind::SyntaxError(report) => {
+            is_syntax && report.file() == "__tera_one_off" && report.span().end <= end
+        }
+        ErrorKind::RenderingError(report) => {
+            !is_syntax
+                && report.file() == "__tera_one_off"
+                && report.span().start == start
+                && report.span().end == end
+        }
+        _ => false,
+    }
+}
+
+/// Whether the text is refused with this fault, and nothing is appended.
+fn is_refused(
+    alloc: Global,
+    engine: &Tera,
+    context: &Context,
+    input: &str,
+    is_syntax: bool,
+    start: usize,
+    end: usize,
+) -> bool {
+    let Ok(mut out) = BEFORE.to_vec(alloc) else {
+        return false;
+    };
+    match engine.render_str_to(input, context, true, &mut out) {
+        Ok(()) => false,
+        Err(error) => out.as_slice() == BEFORE && tells(&error, is_syntax, start, end),
+    }
+}
+
+#[test]
+fn texts_beside_the_registry(rt: HostRuntime) {
+    let (Ok(engine), Ok(context)) = (Tera::new(rt.alloc()), people(rt.alloc())) else {
+        assert!(rt; false, "no engine");
+        return;
+    };
     for (input, autoescape, want) in [
         ("", false, ""),
         ("Hello {{ name }}!", false, "Hello world!"),
@@ -36,61 +90,28 @@ fn texts_render(rt: &impl Abort, alloc: Global) -> TeraResult<()> {
         ("a{# not this #}b", true, "ab"),
     ] {
         assert!(rt;
-            engine.render_str(input, &context, autoescape)?.as_str() == want,
+            renders(&engine, &context, input, autoescape, want),
             "at {input}"
         );
         assert!(rt;
-            Tera::one_off(alloc, input, &context, autoescape)?.as_str() == want,
+            appends(rt.alloc(), &engine, &context, input, autoescape, want),
             "at {input}"
         );
-        let mut out = b"before ".to_vec(alloc)?;
-        engine.render_str_to(input, &context, autoescape, &mut out)?;
-        assert!(rt;
-            out.starts_with(b"before ") && out.ends_with(want.as_bytes()),
-            "at {input}"
-        );
-        assert!(rt; out.len() == want.len().saturating_add(7), "at {input}");
     }
-    Ok(())
-}
-
-fn faults_have_places(rt: &impl Abort, alloc: Global) -> TeraResult<()> {
-    let context = people(alloc)?;
-    let engine = Tera::new(alloc)?;
-    for (input, kind, start, end) in [
-        ("{{ nope }}", "rendering", 3, 7),
-        ("{{ hidden }}", "rendering", 3, 9),
-        ("{{ name }}: {{ nope }}", "rendering", 15, 19),
-        ("{{ name", "syntax", 0, 7),
-        ("{{ }}", "syntax", 0, 5),
+    for (input, is_syntax, start, end) in [
+        ("{{ nope }}", false, 3, 7),
+        ("{{ hidden }}", false, 3, 9),
+        ("{{ name }}: {{ nope }}", false, 15, 19),
+        ("{{ name", true, 0, 7),
+        ("{{ }}", true, 0, 5),
     ] {
-        let mut out = b"before".to_vec(alloc)?;
-        match engine.render_str_to(input, &context, true, &mut out) {
-            Ok(()) => assert!(rt; false, "not refused: {input}"),
-            Err(error) => match told(&error) {
-                (found, Some(report)) => {
-                    assert!(rt; found == kind, "at {input}");
-                    assert!(rt; report.file() == "__tera_one_off", "at {input}");
-                    assert!(rt;
-                        start <= report.span().start && report.span().end <= end,
-                        "at {input}"
-                    );
-                    assert!(rt;
-                        kind == "syntax" || report.span().start == start,
-                        "at {input}"
-                    );
-                    assert!(rt; kind == "syntax" || report.span().end == end, "at {input}");
-                }
-                _ => assert!(rt; false, "no report: {input}"),
-            },
-        }
-        assert!(rt; out.as_slice() == b"before".as_slice(), "at {input}");
+        assert!(rt;
+            is_refused(rt.alloc(), &engine, &context, input, is_syntax, start, end),
+            "at {input}"
+        );
     }
-    Ok(())
-}
-
-#[test]
-fn texts_beside_the_registry(rt: HostRuntime) {
-    assert!(rt; texts_render(&rt, rt.alloc()).is_ok());
-    assert!(rt; faults_have_places(&rt, rt.alloc()).is_ok());
+    match Tera::one_off(rt.alloc(), "Hello {{ name }}!", &context, true) {
+        Ok(text) => assert!(rt; text.as_str() == "Hello world!"),
+        Err(_) => assert!(rt; false, "refused"),
+    }
 }

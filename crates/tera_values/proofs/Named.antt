@@ -1,10 +1,11 @@
 -- Putting and finding by name.
-use Rattle.std.proofs.Common.{◌≡◌, ◌⊎◌, inl, inr, Bool, true, false, List, [], ◌∷◌, Option, Some, String, string_bytes, refl, sym, ap, ◌∙◌, cond, if◌then◌else◌, Ordering, Less, Equal, Greater}
+use Rattle.std.proofs.Common.{◌≡◌, ◌⊎◌, inl, inr, Bool, true, false, List, [], ◌∷◌, Option, Some, String, string_bytes, refl, sym, ap, ◌∙◌, cond, map, if◌then◌else◌, Ordering, Less, Equal, Greater}
 use Rattle.std.specs.Ordering.{ordering_reverse, match_ordering}
 use Rattle.std.specs.Cmp.{IsTotalOrder}
-use Rattle.std.specs.Map.{lookup}
+use Rattle.std.specs.Map.{lookup, keys_of}
+use Rattle.std.specs.BTreeSet.{insert_key}
 use Rattle.std.specs.Str.{bytes_eq}
-use Rattle.std.specs.String.{string_eq}
+use Rattle.std.specs.String.{string_eq, string_cmp}
 use Rattle.std.specs.Cmp.Lexicographic.{bytes_decides}
 use Rattle.std.proofs.lemmas.Cmp.{nat_list_cmp_total, tied_itself}
 use Rattle.std.proofs.lemmas.Map.Lookups.{exact_bytes}
@@ -114,3 +115,58 @@ module _ {A : Type 0} where
     pub inserted : (es : List (String Z × A)) (k : String Z) (a : A) → by_name (insert_entry string_eq es k a) ≡ put (string_bytes k) a (by_name es)
     inserted [] k a = refl
     inserted (e ∷ es) k a = by_test (bytes_eq (string_bytes k) (string_bytes e.0)) e es (insert_entry string_eq es k a) k a refl (inserted es k a)
+
+abbrev pub tags : {A : Type 0} → Named A → Named (Unit {0})
+tags m = map (λ e. (e.0, tt)) m
+
+-- names put one by one, onto those that are there
+abbrev pub tags_in : {Z : Type 0} → List (String Z) → Named (Unit {0}) → Named (Unit {0})
+tags_in [] m = m
+tags_in (k ∷ ks) m = tags_in ks (put (string_bytes k) tt m)
+
+abbrev pub set_tags : {Z : Type 0} → List (String Z) → Named (Unit {0})
+set_tags ks = map (λ k. (string_bytes k, tt)) ks
+
+either_order : (j k : Name) (m : Named (Unit {0})) → put j tt (put k tt m) ≡ put k tt (put j tt m)
+either_order j k m = elim (three (name_cmp j k)) [
+  | inl h ↦ put_swap j k tt tt m h
+  | inr (inl h) ↦ let e : j ≡ k = exact_bytes j k h in ap (λ (n : Name). put n tt (put k tt m)) e ∙ ap (λ (n : Name). put k tt (put n tt m)) (sym e)
+  | inr (inr h) ↦ sym (put_swap k j tt tt m (flip_greater j k h))
+]
+
+module _ {A : Type 0} where
+  -- the names of a list after a thing was put
+  tags_put : (n : Name) (a : A) (es : Named A) → tags (put n a es) ≡ put n tt (tags es)
+  tags_put n a [] = refl
+  tags_put n a (e ∷ es) = elim (three (name_cmp n e.0)) [
+    | inl h ↦ ap tags (before n a e es h) ∙ sym (before n tt (e.0, tt) (tags es) h)
+    | inr (inl h) ↦ ap tags (there n a e es h) ∙ sym (there n tt (e.0, tt) (tags es) h)
+    | inr (inr h) ↦ ap tags (after n a e es h) ∙ ap (λ (l : Named (Unit {0})). (e.0, tt) ∷ l) (tags_put n a es) ∙ sym (after n tt (e.0, tt) (tags es) h)
+  ]
+
+module _ {Z : Type 0} where
+  put_into : (ks : List (String Z)) (n : Name) (m : Named (Unit {0})) → tags_in ks (put n tt m) ≡ put n tt (tags_in ks m)
+  put_into [] n m = refl
+  put_into (k ∷ ks) n m = ap (tags_in ks) (either_order (string_bytes k) n m) ∙ put_into ks n (put (string_bytes k) tt m)
+
+  pub set_more : (ks : List (String Z)) (k : String Z) → set_tags (insert_key string_cmp ks k) ≡ put (string_bytes k) tt (set_tags ks)
+  set_more [] k = refl
+  set_more (x ∷ ks) k = elim (three (name_cmp (string_bytes k) (string_bytes x))) [
+    | inl h ↦ ap (λ (o : Ordering). set_tags (match_ordering o (k ∷ x ∷ ks) (x ∷ ks) (x ∷ insert_key string_cmp ks k))) h ∙ sym (before (string_bytes k) tt (string_bytes x, tt) (set_tags ks) h)
+    | inr (inl h) ↦ ap (λ (o : Ordering). set_tags (match_ordering o (k ∷ x ∷ ks) (x ∷ ks) (x ∷ insert_key string_cmp ks k))) h ∙ ap (λ (n : Name). (n, tt) ∷ set_tags ks) (sym (exact_bytes (string_bytes k) (string_bytes x) h)) ∙ sym (there (string_bytes k) tt (string_bytes x, tt) (set_tags ks) h)
+    | inr (inr h) ↦ ap (λ (o : Ordering). set_tags (match_ordering o (k ∷ x ∷ ks) (x ∷ ks) (x ∷ insert_key string_cmp ks k))) h ∙ ap (λ (l : Named (Unit {0})). (string_bytes x, tt) ∷ l) (set_more ks k) ∙ sym (after (string_bytes k) tt (string_bytes x, tt) (set_tags ks) h)
+  ]
+
+  -- all names of the entries, put one by one
+  pub tags_all : {A : Type 0} (es : List (String Z × A)) → tags_in (keys_of es) [] ≡ tags (by_name es)
+  tags_all [] = refl
+  tags_all (e ∷ es) = put_into (keys_of es) (string_bytes e.0) [] ∙ ap (put (string_bytes e.0) tt) (tags_all es) ∙ sym (tags_put (string_bytes e.0) e.1 (by_name es))
+
+  -- the names of a list, by its tags
+  pub names_of_set : (ks : List (String Z)) → map string_bytes ks ≡ map (λ e. e.0) (set_tags ks)
+  names_of_set [] = refl
+  names_of_set (k ∷ ks) = ap (λ (l : List Name). string_bytes k ∷ l) (names_of_set ks)
+
+pub names_of : {A : Type 0} (m : Named A) → map (λ e. e.0) (tags m) ≡ map (λ e. e.0) m
+names_of [] = refl
+names_of (e ∷ m) = ap (λ (l : List Name). e.0 ∷ l) (names_of m)

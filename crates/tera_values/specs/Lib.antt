@@ -16,6 +16,8 @@ pub use Rattle.tera_values_data.specs.Finite
 pub use Rattle.tera_values_data.specs.Growth
 pub use Rattle.tera_values_data.specs.Printed
 pub use Rattle.tera_values_data.specs.Escape
+pub use Rattle.tera_values_data.specs.Promises
 pub mod Named
 pub mod Names
 pub mod Arguments
+pub mod Number

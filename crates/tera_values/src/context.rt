@@ -1,10 +1,11 @@
 // What a rendering is given: values by name.
-ghost use Rattle.std.specs.Prelude.{◌≡◌, [], IfErr, OnOk, OnErr, option_copied};
-ghost use Rattle.tera_errors.specs.Answer.{Lacks};
+ghost use Rattle.std.specs.Prelude.{◌≡◌, [], Ok, IfErr, OnOk, OnErr, map, option_copied, string_bytes};
+ghost use Rattle.tera_errors.specs.Answer.{Gives, Lacks};
 ghost use Rattle.tera_values.specs.Named.{at_name, put};
 
 use indexmap::IndexMap;
 use std::alloc::Global;
+use std::collections::BTreeSet;
 use std::marker::Model;
 use tera_errors::TeraResult;
 use tera_values_data::Value;
@@ -63,5 +64,24 @@ impl Context {
         ensures { option_copied result ≡ at_name name.now self.now }
     {
         self.names.get(name)
+    }
+
+    /// The names, in byte order.
+    pub fn names(&self) -> TeraResult<Vec<String>>
+        ensures { Gives (λ v. map string_bytes v.items) result (Ok (map (λ e. e.0) self.now)) }
+    {
+        let ordered = self.ordered_names()?;
+        let names = ordered.into_iter().collect(self.alloc)?;
+        Ok(names)
+    }
+
+    fn ordered_names(&self) -> TeraResult<BTreeSet<String>>
+        ensures { Gives (λ s. map string_bytes s.keys) result (Ok (map (λ e. e.0) self.now)) }
+    {
+        let mut ordered = BTreeSet::new(self.alloc);
+        for name in self.names.keys() {
+            ordered.insert(name.clone()?)?;
+        }
+        Ok(ordered)
     }
 }

@@ -5,6 +5,7 @@ pub mod argument;
 pub mod context;
 pub mod kwargs;
 pub mod name;
+pub mod number;
 pub mod string_input;
 
 pub use argument::ArgFromValue;
@@ -14,3 +15,6 @@ pub use name::Name;
 pub use string_input::StringInput;
 pub use tera_errors::{Error, ErrorKind, ReportError, Span, TeraResult};
 pub use tera_values_data::{Key, Map, Shape, Value, ValueKind, escape_html};
+
+#[cfg(test)]
+mod tests;

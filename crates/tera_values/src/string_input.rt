@@ -59,7 +59,8 @@ impl StringInput {
     pub fn into_value(self) -> Value
         ensures { result ≡ self }
     {
-        self.value
+        let StringInput { value } = self;
+        value
     }
 
     /// Another text with this one's mark.

@@ -14,3 +14,4 @@ pub mod Listed
 pub mod Strides
 pub mod Told
 pub mod Parts
+pub mod Symmetric

@@ -15,3 +15,4 @@ pub mod Finite
 pub mod Items
 pub mod Paths
 pub mod Slices
+pub mod Promises

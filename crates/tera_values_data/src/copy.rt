@@ -96,7 +96,7 @@ impl Value {
     pub fn shared(self, alloc: Global) -> TeraResult<Value>
         ensures { Gives (λ v. v) result (Ok self) }
     {
-        match self.node {
+        match self.into_node() {
             Node::Array(items) => {
                 let mut items = items;
                 share_items(alloc, items.as_mut_slice())?;

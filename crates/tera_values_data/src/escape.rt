@@ -8,6 +8,7 @@ ghost use Rattle.tera_values_data.specs.Growth.{Keeps, by_byte, form_or_byte};
 use tera_errors::TeraResult;
 
 /// Appends the text; what was there stays whatever comes.
+#[inline]
 pub(crate) fn append(text: &str, out: &mut String) -> TeraResult<()>
     ensures ok { OnOk result (string_bytes out.new ≡ string_bytes out.old ++ text.now) }
     ensures err { OnErr result (string_bytes out.new ≡ string_bytes out.old) }
@@ -34,6 +35,7 @@ struct Markup;
 impl Forms for Markup {
     ghost spelled = { escape_byte };
 
+    #[inline]
     fn form(byte: u8) -> Option<&'static str> {
         match byte {
             b'&' => Some("&amp;"),
@@ -52,6 +54,7 @@ struct Quotes;
 impl Forms for Quotes {
     ghost spelled = { quoted_byte };
 
+    #[inline]
     fn form(byte: u8) -> Option<&'static str> {
         match byte {
             b'\\' => Some("\\\\"),

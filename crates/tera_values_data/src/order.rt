@@ -151,13 +151,13 @@ impl Map {
     pub fn same_as(&self, other: &Map) -> bool
         ensures { IsSameMap result self.now other.now }
     {
-        compare_entries(
+        let answer = compare_entries(
             self.all.as_slice(),
             self.by_key.as_slice(),
             other.all.as_slice(),
             other.by_key.as_slice(),
-        )
-        .is_eq()
+        );
+        answer.is_eq()
     }
 }
 

@@ -3,6 +3,7 @@ ghost use Rattle.std.specs.Prelude.{◌≡◌, false, true, Ok};
 ghost use Rattle.tera_errors.specs.Answer.{Gives};
 ghost use Rattle.tera_values_data.specs.Val.{Val, bool, bytes, array, map, undefined, none, int, text, vals, entries};
 ghost use Rattle.tera_values_data.specs.Access.{marked};
+ghost use Rattle.tera_values_data.specs.View.{node_view};
 
 use crate::key::Key;
 use std::alloc::Global;
@@ -25,9 +26,16 @@ pub enum ValueKind {
 
 /// A value of a template. A copy of a text, of bytes and of what is in shared form is a count.
 #[cycle(value)]
-#[derive(Drop)]
 pub struct Value {
     pub(crate) node: Node,
+}
+
+impl Drop for Value {
+    #[cycle(dropping)]
+    fn drop(self) {
+        let Value { node } = self;
+        drop(node);
+    }
 }
 
 /// How a value is kept. What `Shared` and `SharedMap` hold is shared all the way down.
@@ -181,11 +189,18 @@ impl Value {
         }
     }
 
+    pub(crate) fn into_node(self) -> Node
+        ensures { node_view result ≡ self }
+    {
+        let Value { node } = self;
+        node
+    }
+
     /// The same text with the safe mark; any other value as it is.
     pub fn mark_safe(self) -> Value
         ensures { result ≡ marked self }
     {
-        match self.node {
+        match self.into_node() {
             Node::Text(content, _) => Value {
                 node: Node::Text(content, true),
             },

@@ -4,8 +4,8 @@ use Rattle.tera_script.specs.Reply.{line_of, reply_seen}
 use Rattle.tera_script.proofs.Passages.{parts_fail}
 use Rattle.tera_script.proofs.program.write_replies.Goals as goal
 
-pub returns-in-Err : goal.returns-in-Err
-returns-in-Err g c =
+pub returns-in-Err-clause-passed : goal.returns-in-Err-clause-passed
+returns-in-Err-clause-passed g c =
     let mid = g.W.Output.passed c.loop-reply.writer in
     let new = g.W.Output.passed c.write_reply.new.writer in
     parts_fail (λ reply. line_of (reply_seen reply)) (g.W.Output.passed c.args.writer.now) mid new

@@ -1,4 +1,4 @@
-use Rattle.tera_syntax.specs.Delimiters.{delimiters_of}
+use Rattle.tera_tree.specs.Delimiters.{delimiters_of}
 use Rattle.tera_syntax.proofs.Openings.{filled}
 use Rattle.tera_syntax.proofs.cut.behind.Goals as goal
 

@@ -1,6 +1,6 @@
 use Rattle.std.proofs.Common.{◌≡◌, arith, drop, true, false}
 use Rattle.tera_syntax.specs.Cut.{opens}
-use Rattle.tera_syntax.specs.Delimiters.{delimiters_of}
+use Rattle.tera_tree.specs.Delimiters.{delimiters_of}
 use Rattle.tera_syntax.proofs.Places.{place_here, place_later, place_end}
 use Rattle.tera_syntax.proofs.cut.next_opening.Goals as goal
 

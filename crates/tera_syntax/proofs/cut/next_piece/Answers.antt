@@ -1,6 +1,6 @@
 use Rattle.std.proofs.Common.{◌≡◌, ◌<◌, ◌+◌, ap, Some, None, false, is_some, arith}
 use Rattle.tera_syntax.specs.Cut.{opening_at, opens}
-use Rattle.tera_syntax.specs.Delimiters.{delimiters_of}
+use Rattle.tera_tree.specs.Delimiters.{delimiters_of}
 use Rattle.tera_syntax.proofs.Openings.{start_of, start_fits, start_boundary, start_size_le}
 use Rattle.tera_syntax.proofs.Cuts.{next_of, place_positive, if_ok}
 use Rattle.tera_syntax.proofs.cut.next_piece.Goals as goal

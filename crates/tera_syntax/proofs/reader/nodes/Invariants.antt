@@ -2,9 +2,9 @@ use denote.Shadow.{shadow}
 use denote.Text.{Utf8}
 use Rattle.std.proofs.Common.{◌≡◌, ◌+◌, length, Some}
 use Rattle.tera_syntax.specs.Cut.{cut, pieces}
-use Rattle.tera_syntax.specs.Delimiters.{delimiters_of}
+use Rattle.tera_tree.specs.Delimiters.{delimiters_of}
 use Rattle.tera_syntax.specs.Reader as spec
-use Rattle.tera_syntax.specs.View.{nodes_of}
+use Rattle.tera_tree.specs.View.{nodes_of}
 use Rattle.tera_syntax.proofs.reader.nodes.Given as goal
 
 abbrev pub invariant-loop-rest : goal.invariant-loop-rest

@@ -1,7 +1,7 @@
 use Rattle.std.proofs.Common.{arith, refl}
-use Rattle.tera_syntax.specs.Delimiters.{delimiters_of}
+use Rattle.tera_tree.specs.Delimiters.{delimiters_of}
 use Rattle.tera_syntax.specs.Reads.{Reads, ReadsPlainText}
-use Rattle.tera_syntax.specs.View.{nodes_of}
+use Rattle.tera_tree.specs.View.{nodes_of}
 use Rattle.tera_syntax.proofs.Reading.{sound, shallow}
 use Rattle.tera_syntax.proofs.Plain.{says_one, refused_by, spells_none, plain}
 use Rattle.tera_syntax.proofs.reader.parse.Goals as goal

@@ -1,5 +1,5 @@
 use Rattle.std.proofs.Common.{string_bytes, Global}
-use Rattle.tera_syntax.specs.View.{tree_of}
+use Rattle.tera_tree.specs.View.{tree_of}
 use Rattle.tera.specs.Registry.{registry_of}
 use Rattle.tera.proofs.Renders.{refused, rendered}
 use Rattle.tera.proofs.engine.Tera.read_and_render.Goals as goal
@@ -10,4 +10,4 @@ returns-in-Err c =
 
 pub returns-in-Ok : goal.returns-in-Ok
 returns-in-Ok c =
-    rendered (registry_of c.args.self.now) c.args.input.now c.args.context.now c.args.autoescape (string_bytes {Z = Global}) (tree_of c.in-Ok.output) c.render_nodes.result c.in-Ok.ensures.reads c.render_nodes.ensures
+    rendered (registry_of c.args.self.now) c.args.input.now c.args.context.now c.args.autoescape (string_bytes {Z = Global}) (tree_of c.in-Ok.output) c.render_nodes.result c.in-Ok.ensures.reads (rw c.as_slice.ensures.value at c.render_nodes.ensures)

@@ -17,7 +17,7 @@ returns c =
     let kb = c.other.inside.by_key.items in
     let es = entry_views a in
     let fs = entry_views b in
-    let e : c.compare_entries.result ≡ slice_cmp pair_order (picked ka es) (picked kb fs) = rw (c.as_slice.ensures.value, c.as_slice-2.ensures.value, c.as_slice-3.ensures.value, c.as_slice-4.ensures.value) at c.compare_entries.ensures in
+    let e : c.compare_entries-answer.result ≡ slice_cmp pair_order (picked ka es) (picked kb fs) = rw (c.as_slice.ensures.value, c.as_slice-2.ensures.value, c.as_slice-3.ensures.value, c.as_slice-4.ensures.value) at c.compare_entries-answer.ensures in
     let r : c.is_eq.result ≡ same (map (entries es)) (map (entries fs)) = c.is_eq.ensures ∙ ap is_eq (e ∙ as_entries ka kb es fs c.self.invariant c.other.invariant) in
     let law : IsSameMap c.is_eq.result es fs = (λ h. finds_from_plain es fs (plain_from_same (map (entries es)) (map (entries fs)) (sym r ∙ h)), λ h. r ∙ same_from_plain (map (entries es)) (map (entries fs)) (plain_from_finds es fs h)) in
     subst (λ x. IsSameMap c.is_eq.result c.args.self.now x) c.other.view_is (subst (λ x. IsSameMap c.is_eq.result x fs) c.self.view_is law)

@@ -1,0 +1,12 @@
+use Rattle.std.proofs.Common.{◌≡◌, drop}
+use Rattle.tera_tree.specs.View.{items_of, entries_of}
+use Rattle.tera_code.specs.Code.{items_code, entries_code, lengthened}
+use Rattle.tera_code.proofs.compiler.Compiler.+expressions.Given as goal
+
+abbrev pub invariant-items-loop-item : goal.invariant-items-loop-item
+invariant-items-loop-item l =
+    lengthened l.self (items_code (items_of (drop l.item-index l.items))) ≡ lengthened l.initial.self (items_code (items_of l.items))
+
+abbrev pub invariant-entries-loop-entry : goal.invariant-entries-loop-entry
+invariant-entries-loop-entry l =
+    lengthened l.self (entries_code (entries_of (drop l.entry-index l.entries))) ≡ lengthened l.initial.self (entries_code (entries_of l.entries))

@@ -1,0 +1,161 @@
+// Expressions.
+ghost use Rattle.std.specs.Prelude.{◌≡◌, OnOk, IfErr};
+ghost use Rattle.tera_errors.specs.Answer.{Lacks};
+ghost use Rattle.tera_code.specs.Code.{expr_code, bound_code, items_code, entries_code, lengthened};
+ghost use Rattle.tera_tree.specs.View.{expr_of, optional_of, items_of, entries_of};
+
+use crate::compiler::Compiler;
+use crate::content::{Keys, Spreads};
+use crate::instruction::Instruction;
+use std::alloc::Global;
+use tera_tree::{Entry, Expression, Item, LiteralKey};
+use tera_values::{Span, TeraResult, Value};
+
+impl Compiler {
+    #[cycle(expressions)]
+    pub(crate) fn expression(&mut self, expression: &Expression) -> TeraResult<()>
+        ensures ok { OnOk result (self.new ≡ lengthened self.old (expr_code (expr_of expression.now))) }
+        ensures lacks { IfErr result Lacks }
+    {
+        match expression {
+            Expression::None { span } => self.constant(Value::none(), *span),
+            Expression::Bool { value, span } => self.constant(Value::from_bool(*value), *span),
+            Expression::Int { value, span } => self.constant(Value::from_int(*value), *span),
+            Expression::Text { text, span } => self.text(text, *span),
+            Expression::Name { name, span } => self.load(name, *span),
+            Expression::Attribute {
+                target,
+                name,
+                optional,
+                span,
+            } => {
+                self.expression(target)?;
+                self.attribute(name, *optional, *span)
+            }
+            Expression::Index {
+                target,
+                index,
+                optional,
+                span,
+            } => {
+                self.expression(target)?;
+                self.expression(index)?;
+                self.emit(Instruction::LoadItem {
+                    optional: *optional,
+                    span: *span,
+                })
+            }
+            Expression::Slice {
+                target,
+                start,
+                end,
+                step,
+                optional,
+                span,
+            } => {
+                self.expression(target)?;
+                self.bound(start)?;
+                self.bound(end)?;
+                self.bound(step)?;
+                self.emit(Instruction::Slice {
+                    optional: *optional,
+                    span: *span,
+                })
+            }
+            Expression::Not { operand, span: _ } => {
+                self.expression(operand)?;
+                self.emit(Instruction::Not)
+            }
+            Expression::Negate { operand, span: _ } => {
+                self.expression(operand)?;
+                self.emit(Instruction::Negate)
+            }
+            Expression::Binary {
+                operator,
+                left,
+                right,
+                span,
+            } => {
+                self.expression(left)?;
+                self.expression(right)?;
+                self.emit(Instruction::Binary(*operator, *span))
+            }
+            Expression::And {
+                left,
+                right,
+                span: _,
+            } => {
+                self.expression(left)?;
+                let mut second = self.part()?;
+                second.expression(right)?;
+                self.emit(Instruction::JumpIfFalseOrPop(second.len()))?;
+                self.append(second)
+            }
+            Expression::Or {
+                left,
+                right,
+                span: _,
+            } => {
+                self.expression(left)?;
+                let mut second = self.part()?;
+                second.expression(right)?;
+                self.emit(Instruction::JumpIfTrueOrPop(second.len()))?;
+                self.append(second)
+            }
+            Expression::Ternary {
+                value,
+                condition,
+                other,
+                span: _,
+            } => {
+                self.expression(condition)?;
+                let mut first = self.part()?;
+                first.expression(value)?;
+                let mut second = self.part()?;
+                second.expression(other)?;
+                self.choice(first, second)
+            }
+            Expression::Array { items, span } => {
+                self.items(items.as_slice())?;
+                self.make_array(items.as_slice(), *span)
+            }
+            Expression::Map { entries, span } => {
+                self.entries(entries.as_slice())?;
+                self.make_map(entries.as_slice(), *span)
+            }
+        }
+    }
+
+    #[cycle(expressions)]
+    fn bound(&mut self, bound: &Option<Box<Expression>>) -> TeraResult<()>
+        ensures ok { OnOk result (self.new ≡ lengthened self.old (bound_code (optional_of bound.now))) }
+        ensures lacks { IfErr result Lacks }
+    {
+        match bound {
+            None => self.constant(Value::none(), Span { start: 0, end: 0 }),
+            Some(expression) => self.expression(expression),
+        }
+    }
+
+    #[cycle(expressions)]
+    fn items(&mut self, items: &[Item]) -> TeraResult<()>
+        ensures ok { OnOk result (self.new ≡ lengthened self.old (items_code (items_of items.now))) }
+        ensures lacks { IfErr result Lacks }
+    {
+        for item in items {
+            self.expression(&item.value)?;
+        }
+        Ok(())
+    }
+
+    #[cycle(expressions)]
+    fn entries(&mut self, entries: &[Entry]) -> TeraResult<()>
+        ensures ok { OnOk result (self.new ≡ lengthened self.old (entries_code (entries_of entries.now))) }
+        ensures lacks { IfErr result Lacks }
+    {
+        for entry in entries {
+            self.expression(&entry.value)?;
+        }
+        Ok(())
+    }
+}

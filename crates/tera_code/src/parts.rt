@@ -1,0 +1,106 @@
+// Instructions of single forms.
+ghost use Rattle.std.specs.Prelude.{◌≡◌, [], ◌∷◌, ◌++◌, ◌+◌, Ok, OnOk, IfErr, length, string_bytes, false};
+ghost use Rattle.tera_errors.specs.Answer.{Gives, Lacks};
+ghost use Rattle.tera_values.specs.Val as val;
+ghost use Rattle.tera_code.specs.declared.instruction.Instruction.TheVariants as instruction;
+ghost use Rattle.tera_code.specs.Code.{lengthened, choice_tail, spreads_of, keys_in};
+ghost use Rattle.tera_tree.specs.View.{keys_of};
+ghost use Rattle.tera_tree.specs.View.{items_of, entries_of, key_option, key_of};
+
+use crate::compiler::Compiler;
+use crate::content::{Keys, Spreads};
+use crate::instruction::Instruction;
+use std::alloc::Global;
+use tera_tree::{Entry, Item, LiteralKey};
+use tera_values::{Span, TeraResult, Value};
+
+impl Compiler {
+    pub(crate) fn text(&mut self, text: &String, span: Span) -> TeraResult<()>
+        ensures ok { OnOk result (self.new ≡ lengthened self.old (instruction.LoadConst (val.text (string_bytes text.now) false) span ∷ [])) }
+        ensures lacks { IfErr result Lacks }
+    {
+        let value = Value::string(self.alloc(), text.as_str())?;
+        self.constant(value, span)
+    }
+
+    pub(crate) fn load(&mut self, name: &String, span: Span) -> TeraResult<()>
+        ensures ok { OnOk result (self.new ≡ lengthened self.old (instruction.LoadName (string_bytes name.now) span ∷ [])) }
+        ensures lacks { IfErr result Lacks }
+    {
+        let name = self.name(name)?;
+        self.emit(Instruction::LoadName(name, span))
+    }
+
+    pub(crate) fn attribute(&mut self, name: &String, optional: bool, span: Span) -> TeraResult<()>
+        ensures ok { OnOk result (self.new ≡ lengthened self.old (instruction.LoadAttribute (string_bytes name.now) optional span ∷ [])) }
+        ensures lacks { IfErr result Lacks }
+    {
+        let name = self.name(name)?;
+        self.emit(Instruction::LoadAttribute {
+            name,
+            optional,
+            span,
+        })
+    }
+
+    // One of two parts, by the operand that stands on top.
+    pub(crate) fn choice(&mut self, body: Compiler, other: Compiler) -> TeraResult<()>
+        ensures ok { OnOk result (self.new ≡ lengthened self.old (choice_tail body.code other.code)) }
+        ensures lacks { IfErr result Lacks }
+    {
+        self.emit(Instruction::PopJumpIfFalse(body.len() + 1))?;
+        self.append(body)?;
+        self.emit(Instruction::Jump(other.len()))?;
+        self.append(other)
+    }
+
+    pub(crate) fn make_array(&mut self, items: &[Item], span: Span) -> TeraResult<()>
+        ensures ok { OnOk result (self.new ≡ lengthened self.old (instruction.MakeArray (spreads_of (items_of items.now)) span ∷ [])) }
+        ensures lacks { IfErr result Lacks }
+    {
+        let spreads = spreads(self.alloc(), items)?;
+        self.emit(Instruction::MakeArray(spreads, span))
+    }
+
+    pub(crate) fn make_map(&mut self, entries: &[Entry], span: Span) -> TeraResult<()>
+        ensures ok { OnOk result (self.new ≡ lengthened self.old (instruction.MakeMap (keys_in (entries_of entries.now)) span ∷ [])) }
+        ensures lacks { IfErr result Lacks }
+    {
+        let keys = keys(self.alloc(), entries)?;
+        self.emit(Instruction::MakeMap(keys, span))
+    }
+}
+
+fn spreads(alloc: Global, items: &[Item]) -> TeraResult<Spreads>
+    ensures { Gives (λ s. s) result (Ok (spreads_of (items_of items.now))) }
+{
+    let mut flags = Vec::new(alloc);
+    for item in items {
+        flags.push(item.is_spread)?;
+    }
+    Ok(Spreads::new(flags))
+}
+
+fn keys(alloc: Global, entries: &[Entry]) -> TeraResult<Keys>
+    ensures { Gives (λ k. k) result (Ok (keys_in (entries_of entries.now))) }
+{
+    let mut keys = Vec::new(alloc);
+    for entry in entries {
+        keys.push(copied(alloc, &entry.key)?)?;
+    }
+    Ok(Keys::new(keys))
+}
+
+fn copied(alloc: Global, key: &Option<LiteralKey>) -> TeraResult<Option<LiteralKey>>
+    ensures { Gives key_option result (Ok (key_option key.now)) }
+{
+    match key {
+        None => Ok(None),
+        Some(LiteralKey::Bool(flag)) => Ok(Some(LiteralKey::Bool(*flag))),
+        Some(LiteralKey::Int(number)) => Ok(Some(LiteralKey::Int(*number))),
+        Some(LiteralKey::Text(text)) => {
+            let text = String::from_str(alloc, text.as_str())?;
+            Ok(Some(LiteralKey::Text(text)))
+        }
+    }
+}

@@ -1,0 +1,68 @@
+-- What an attribute, an index and a slice give.
+use Rattle.std.specs.Prelude.{ℤ, Bool, true, false, cond, Option, Some, None, Result, Ok, Err, ◌≡◌}
+use Rattle.tera_errors.specs.declared.span.Span.{Span}
+use Rattle.tera_errors.specs.Site.{Name}
+use Rattle.tera_errors.specs.Fault.{Fault}
+use Rattle.tera_errors.specs.Answer.{Refusal, Says}
+use Rattle.tera_values.specs.Val.{Val, undefined, none, bool, int, text, bytes, array, map}
+use Rattle.tera_values.specs.Access.{attr, is_undefined}
+use Rattle.tera_values.specs.Items.{get_item, or_undefined}
+use Rattle.tera_values.specs.Slices.{slice}
+use Rattle.tera_operators.specs.Operand.{Evaluated, Outcome, at_span, fault_at, known, placed, spanning, then}
+
+abbrev pub is_missing : Val → Bool
+is_missing undefined = true
+is_missing none = true
+is_missing (bool b) = false
+is_missing (int z) = false
+is_missing (text t s) = false
+is_missing (bytes t) = false
+is_missing (array vs) = false
+is_missing (map es) = false
+
+-- a part of a value that is not undefined; the optional form gives undefined for undefined and none
+abbrev pub part_of : Name → Bool → Evaluated → Span → Outcome → Outcome
+part_of file false target span part = cond (is_undefined target.value) (fault_at file target.span) part
+part_of file true target span part = cond (is_missing target.value) (at_span undefined span) part
+
+-- whatever the part is: an answer or a fault without it, or none where the part decides
+abbrev pub Decides : Result (Option Evaluated) Refusal → (Outcome → Outcome) → Type 0
+Decides (Ok None) meant = (part : Outcome) → meant part ≡ part
+Decides (Ok (Some answer)) meant = (part : Outcome) → meant part ≡ Ok answer
+Decides (Err e) meant = (part : Outcome) → Says e (meant part)
+
+-- the value at a text key of a map, and undefined of anything else
+abbrev pub attribute_of : Name → Bool → Evaluated → Name → Span → Outcome
+attribute_of file optional target name span =
+    part_of file optional target span (at_span (or_undefined (attr name target.value)) span)
+
+-- what stands at an index
+abbrev pub item_of : Name → Bool → Evaluated → Evaluated → Span → Outcome
+item_of file optional target index span =
+    part_of file optional target span
+    (then (placed file (get_item target.value index.value) index.span) (λ v.
+    at_span v (spanning target index)))
+
+-- an integer bounds a slice, and none leaves it open
+abbrev pub bound_of : Val → Option (Option ℤ)
+bound_of none = Some None
+bound_of (int z) = Some (Some z)
+bound_of undefined = None
+bound_of (bool b) = None
+bound_of (text t s) = None
+bound_of (bytes t) = None
+bound_of (array vs) = None
+bound_of (map es) = None
+
+abbrev pub bound_at : Name → Evaluated → Result (Option ℤ) Fault
+bound_at file a = known file (bound_of a.value) a.span
+
+-- the part between two bounds, in steps
+abbrev pub slice_of : Name → Bool → Evaluated → Evaluated → Evaluated → Evaluated → Span → Outcome
+slice_of file optional target start end step span =
+    part_of file optional target span
+    (then (bound_at file start) (λ s.
+    then (bound_at file end) (λ e.
+    then (bound_at file step) (λ t.
+    then (placed file (slice s e t target.value) target.span) (λ v.
+    at_span v target.span)))))

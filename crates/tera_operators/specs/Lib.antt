@@ -1,0 +1,4 @@
+pub mod Operand
+pub mod Accesses
+pub mod Operators
+pub mod Literals

@@ -1,0 +1,78 @@
+-- What arrays and maps that are written out give.
+use Rattle.std.specs.Prelude.{Bool, true, false, cond, List, [], ◌∷◌, ◌++◌, Option, Some, None, is_some, is_none, Result, Ok}
+use Rattle.std.specs.List.{list_any}
+use Rattle.tera_errors.specs.declared.span.Span.{Span}
+use Rattle.tera_errors.specs.Site.{Name}
+use Rattle.tera_errors.specs.Fault.{Fault}
+use Rattle.tera_tree.specs.Tree.{Key, BoolKey, IntKey, TextKey}
+use Rattle.tera_values.specs.Val.{Val, KeyVal, kbool, kint, ktext, undefined, none, bool, int, text, bytes, array, map, list_of, vals, entries}
+use Rattle.tera_values.specs.Access.{find, insert_pair, pairs}
+use Rattle.tera_operators.specs.Operand.{Evaluated, Outcome, at_span, known, then}
+
+abbrev pub items_of : Val → Option (List Val)
+items_of (array vs) = Some (list_of vs)
+items_of undefined = None
+items_of none = None
+items_of (bool b) = None
+items_of (int z) = None
+items_of (text t s) = None
+items_of (bytes t) = None
+items_of (map es) = None
+
+abbrev pub pairs_of : Val → Option (List (KeyVal × Val))
+pairs_of (map es) = Some (pairs es)
+pairs_of undefined = None
+pairs_of none = None
+pairs_of (bool b) = None
+pairs_of (int z) = None
+pairs_of (text t s) = None
+pairs_of (bytes t) = None
+pairs_of (array vs) = None
+
+-- an item, or the items of an array that is spread, before those that follow
+abbrev pub item_before : Name → Bool → Evaluated → List Val → Result (List Val) Fault
+item_before file false a rest = Ok (a.value ∷ rest)
+item_before file true a rest = then (known file (items_of a.value) a.span) (λ vs. Ok (vs ++ rest))
+
+-- from the right: of two spreads that are no arrays the right one is the fault
+abbrev pub array_items : Name → List (Bool × Evaluated) → Result (List Val) Fault
+array_items file [] = Ok []
+array_items file (i ∷ is) = then (array_items file is) (item_before file i.0 i.1)
+
+abbrev pub array_of : Name → List (Bool × Evaluated) → Span → Outcome
+array_of file is span = then (array_items file is) (λ vs. at_span (array (vals vs)) span)
+
+abbrev pub key_val : Key → KeyVal
+key_val (BoolKey b) = kbool b
+key_val (IntKey z) = kint z
+key_val (TextKey t) = ktext t
+
+-- the pairs whose keys are not there yet, after those that are
+abbrev pub kept : List (KeyVal × Val) → List (KeyVal × Val) → List (KeyVal × Val)
+kept all [] = all
+kept all (e ∷ es) = kept (cond (is_some (find e.0 all)) all (all ++ e ∷ [])) es
+
+-- an entry, or the entries of a map that is spread, after those that stand on its right
+abbrev pub entry_after : Name → Option Key → Evaluated → List (KeyVal × Val) → Result (List (KeyVal × Val)) Fault
+entry_after file (Some k) a all = Ok (kept all ((key_val k, a.value) ∷ []))
+entry_after file None a all = then (known file (pairs_of a.value) a.span) (λ es. Ok (kept all es))
+
+-- with a spread: from the right, and a key that is there stays
+abbrev pub from_right : Name → List (Option Key × Evaluated) → Result (List (KeyVal × Val)) Fault
+from_right file [] = Ok []
+from_right file (e ∷ es) = then (from_right file es) (entry_after file e.0 e.1)
+
+abbrev pub inserted : List (KeyVal × Val) → Option Key → Val → List (KeyVal × Val)
+inserted all None v = all
+inserted all (Some k) v = insert_pair all (key_val k) v
+
+-- without a spread: from the left, and a key that is there keeps its place with the later value
+abbrev pub from_left : List (KeyVal × Val) → List (Option Key × Evaluated) → List (KeyVal × Val)
+from_left all [] = all
+from_left all (e ∷ es) = from_left (inserted all e.0 e.1.value) es
+
+abbrev pub map_entries : Name → List (Option Key × Evaluated) → Result (List (KeyVal × Val)) Fault
+map_entries file es = cond (list_any (λ e. is_none e.0) es) (from_right file es) (Ok (from_left [] es))
+
+abbrev pub map_of : Name → List (Option Key × Evaluated) → Span → Outcome
+map_of file es span = then (map_entries file es) (λ all. at_span (map (entries all)) span)

@@ -1,0 +1,53 @@
+-- Values that were evaluated, as plain data.
+use Rattle.std.specs.Prelude.{ℕ, Option, Some, None, Result, Ok, Err, refl}
+use Rattle.std.specs.Coded.{Coded, code_by, coded×, coded_ℕ}
+use Rattle.tera_errors.specs.declared.span.Span.{Span}
+use Rattle.tera_errors.specs.Site.{Name}
+use Rattle.tera_errors.specs.Fault.{Fault, rendering_error}
+use Rattle.tera_errors.specs.Answer.{Refusal, Lacks, Tells}
+use Rattle.tera_values.specs.Val.{Val}
+use Rattle.tera_values.specs.Code.{val_code}
+
+-- a value, and the span at which a fault in it is reported
+pub record Evaluated : Type 0 where
+  pub value : Val
+  pub span : Span
+
+abbrev pub evaluated_code : Coded Evaluated
+evaluated_code =
+    code_by (Val × (ℕ × ℕ)) (coded× val_code (coded× coded_ℕ coded_ℕ)) (λ o. (o.value, (o.span.start, o.span.end))) (λ p. record { value = p.0; span = record { start = p.1.0; end = p.1.1 } }) (λ _. refl)
+
+-- what an operator answers
+abbrev pub Outcome : Type 0
+Outcome = Result Evaluated Fault
+
+abbrev pub at_span : Val → Span → Outcome
+at_span v span = Ok (record { value = v; span = span })
+
+-- from the start of the left operand to the end of the right one
+abbrev pub spanning : Evaluated → Evaluated → Span
+spanning a b = record { start = a.span.start; end = b.span.end }
+
+-- a fault at this span of the file
+abbrev pub fault_at : {A : Type 0} → Name → Span → Result A Fault
+fault_at file span = Err (rendering_error (record { file = file; span = span }))
+
+-- what is there, or a fault at this span
+abbrev pub known : {A : Type 0} → Name → Option A → Span → Result A Fault
+known file None span = fault_at file span
+known file (Some a) span = Ok a
+
+-- one and then the other, up to the first fault
+abbrev pub then : {A B : Type 0} → Result A Fault → (A → Result B Fault) → Result B Fault
+then (Ok a) go = go a
+then (Err f) go = Err f
+
+-- what is answered, where any refusal is a fault at this span
+abbrev pub placed : {A : Type 0} → Name → Result A Fault → Span → Result A Fault
+placed file (Ok a) span = Ok a
+placed file (Err f) span = fault_at file span
+
+-- a refusal told as this fault; want of memory stays want of memory
+abbrev pub Retells : Refusal → Refusal → Fault → Type 0
+Retells None told fault = Lacks told
+Retells (Some refused) told fault = Tells told fault

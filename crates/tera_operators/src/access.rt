@@ -1,0 +1,118 @@
+// Attributes, items and slices.
+ghost use Rattle.tera_errors.specs.Answer.{Gives};
+ghost use Rattle.std.specs.Prelude.{◌≡◌};
+ghost use Rattle.tera_operators.specs.Accesses.{is_missing, part_of, Decides, attribute_of, item_of, bound_at, slice_of};
+
+use crate::operand::Operand;
+use crate::place::{operand_or_fault, spanning};
+use std::alloc::Global;
+use tera_values::{Error, Shape, Span, TeraResult, Value};
+
+/// Undefined or none.
+fn is_missing(value: &Value) -> bool
+    ensures { result ≡ is_missing value.now }
+{
+    match value.shape() {
+        Shape::Undefined => true,
+        Shape::None => true,
+        _ => false,
+    }
+}
+
+/// What any access answers of a target that has no parts: a fault of undefined, or, where the access is optional, undefined
+/// of undefined and none.
+fn without_parts(
+    alloc: Global,
+    file: &str,
+    target: &Operand,
+    optional: bool,
+    span: Span,
+) -> TeraResult<Option<Operand>>
+    ensures { Decides result (part_of file.now optional target.now span) }
+{
+    if optional {
+        if is_missing(target.value()) {
+            return Ok(Some(Operand::new(Value::undefined(), span)));
+        }
+    } else if target.value().is_undefined() {
+        return Err(Error::rendering(alloc, "undefined has no parts", file, target.span()));
+    }
+    Ok(None)
+}
+
+/// `target.name`, or `target?.name` where it is optional: undefined where the target has no such attribute.
+pub fn attribute(
+    alloc: Global,
+    file: &str,
+    target: &Operand,
+    name: &str,
+    optional: bool,
+    span: Span,
+) -> TeraResult<Operand>
+    ensures { Gives (λ o. o) result (attribute_of file.now optional target.now name.now span) }
+{
+    if let Some(answer) = without_parts(alloc, file, target, optional, span)? {
+        return Ok(answer);
+    }
+    match target.value().get_attr(name) {
+        Some(value) => Ok(Operand::new(value.try_clone()?, span)),
+        None => Ok(Operand::new(Value::undefined(), span)),
+    }
+}
+
+/// `target[index]`, or `target?[index]` where it is optional.
+pub fn item(
+    alloc: Global,
+    file: &str,
+    target: &Operand,
+    index: &Operand,
+    optional: bool,
+    span: Span,
+) -> TeraResult<Operand>
+    ensures { Gives (λ o. o) result (item_of file.now optional target.now index.now span) }
+{
+    if let Some(answer) = without_parts(alloc, file, target, optional, span)? {
+        return Ok(answer);
+    }
+    let answer = target.value().get_item(alloc, index.value());
+    operand_or_fault(alloc, file, answer, index.span(), spanning(target, index))
+}
+
+/// The integer that bounds a slice, or none where the bound is none; a fault at the bound for other values.
+fn bound(alloc: Global, file: &str, operand: &Operand) -> TeraResult<Option<i128>>
+    ensures { Gives (λ b. b) result (bound_at file.now operand.now) }
+{
+    match operand.value().shape() {
+        Shape::None => Ok(None),
+        Shape::Int(number) => Ok(Some(number)),
+        _ => Err(Error::rendering(
+            alloc,
+            "only an integer bounds a slice",
+            file,
+            operand.span(),
+        )),
+    }
+}
+
+/// `target[start:end:step]`, or the same with `?[` where it is optional. A bound that isn't written is none.
+pub fn slice(
+    alloc: Global,
+    file: &str,
+    target: &Operand,
+    start: &Operand,
+    end: &Operand,
+    step: &Operand,
+    optional: bool,
+    span: Span,
+) -> TeraResult<Operand>
+    ensures { Gives (λ o. o) result (slice_of file.now optional target.now start.now end.now step.now span) }
+{
+    if let Some(answer) = without_parts(alloc, file, target, optional, span)? {
+        return Ok(answer);
+    }
+    let start = bound(alloc, file, start)?;
+    let end = bound(alloc, file, end)?;
+    let step = bound(alloc, file, step)?;
+    let answer = target.value().slice(alloc, start, end, step);
+    operand_or_fault(alloc, file, answer, target.span(), target.span())
+}

@@ -1,0 +1,112 @@
+// Truth, equality and order.
+ghost use Rattle.std.specs.Prelude.{◌≡◌, not};
+ghost use Rattle.std.specs.Ordering.{is_lt, is_gt, is_le, is_ge};
+ghost use Rattle.tera_errors.specs.Answer.{Gives};
+ghost use Rattle.tera_values.specs.Val.{bool};
+ghost use Rattle.tera_values.specs.Order.{same};
+ghost use Rattle.tera_operators.specs.Operand.{spanning};
+ghost use Rattle.tera_operators.specs.Operators.{not_of, standing_of, compared};
+
+use crate::operand::Operand;
+use crate::place::spanning;
+use std::alloc::Global;
+use std::cmp::Ordering;
+use tera_values::{Error, TeraResult, Value};
+
+/// `not operand`: a truth value, at the operand's span.
+pub fn not(operand: &Operand) -> Operand
+    ensures { result ≡ not_of operand.now }
+{
+    Operand::new(
+        Value::from_bool(!operand.value().is_truthy()),
+        operand.span(),
+    )
+}
+
+/// A truth value at the combined span.
+fn truth(flag: bool, left: &Operand, right: &Operand) -> Operand
+    ensures { result ≡ record { value = bool flag; span = spanning left.now right.now } }
+{
+    Operand::new(Value::from_bool(flag), spanning(left, right))
+}
+
+/// `left == right`: whether kind and content are the same, marks aside.
+pub(crate) fn equal(left: &Operand, right: &Operand) -> Operand
+    ensures { result ≡ record { value = bool (same left.now.value right.now.value); span = spanning left.now right.now } }
+{
+    truth(left.value() == right.value(), left, right)
+}
+
+/// `left != right`
+pub(crate) fn not_equal(left: &Operand, right: &Operand) -> Operand
+    ensures { result ≡ record { value = bool (not (same left.now.value right.now.value)); span = spanning left.now right.now } }
+{
+    truth(left.value() != right.value(), left, right)
+}
+
+/// How the left operand stands to the right one; a fault at the combined span where the two are not comparable.
+fn standing(alloc: Global, file: &str, left: &Operand, right: &Operand) -> TeraResult<Ordering>
+    ensures { Gives (λ o. o) result (standing_of file.now left.now right.now) }
+{
+    if !left.value().comparable(right.value()) {
+        return Err(Error::rendering(
+            alloc,
+            "the operands are not comparable",
+            file,
+            spanning(left, right),
+        ));
+    }
+    Ok(left.value().cmp(right.value()))
+}
+
+/// `left < right`
+pub(crate) fn less(
+    alloc: Global,
+    file: &str,
+    left: &Operand,
+    right: &Operand,
+) -> TeraResult<Operand>
+    ensures { Gives (λ o. o) result (compared file.now is_lt left.now right.now) }
+{
+    let standing = standing(alloc, file, left, right)?;
+    Ok(truth(standing.is_lt(), left, right))
+}
+
+/// `left > right`
+pub(crate) fn greater(
+    alloc: Global,
+    file: &str,
+    left: &Operand,
+    right: &Operand,
+) -> TeraResult<Operand>
+    ensures { Gives (λ o. o) result (compared file.now is_gt left.now right.now) }
+{
+    let standing = standing(alloc, file, left, right)?;
+    Ok(truth(standing.is_gt(), left, right))
+}
+
+/// `left <= right`
+pub(crate) fn less_or_equal(
+    alloc: Global,
+    file: &str,
+    left: &Operand,
+    right: &Operand,
+) -> TeraResult<Operand>
+    ensures { Gives (λ o. o) result (compared file.now is_le left.now right.now) }
+{
+    let standing = standing(alloc, file, left, right)?;
+    Ok(truth(standing.is_le(), left, right))
+}
+
+/// `left >= right`
+pub(crate) fn greater_or_equal(
+    alloc: Global,
+    file: &str,
+    left: &Operand,
+    right: &Operand,
+) -> TeraResult<Operand>
+    ensures { Gives (λ o. o) result (compared file.now is_ge left.now right.now) }
+{
+    let standing = standing(alloc, file, left, right)?;
+    Ok(truth(standing.is_ge(), left, right))
+}

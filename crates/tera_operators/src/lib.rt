@@ -1,0 +1,24 @@
+//! What operators, accesses and literals make of operands that were evaluated.
+#![tactic(auto)]
+
+pub mod access;
+pub mod arithmetic;
+pub mod arrays;
+pub mod compare;
+pub mod maps;
+pub mod membership;
+pub mod operand;
+pub mod operator;
+pub mod place;
+pub mod text;
+
+pub use access::{attribute, item, slice};
+pub use arithmetic::negative;
+pub use arrays::array;
+pub use compare::not;
+pub use maps::map;
+pub use operand::Operand;
+pub use operator::binary;
+
+#[cfg(test)]
+mod tests;

@@ -1,0 +1,47 @@
+// Answers and refusals, put at their places.
+ghost use Rattle.std.specs.Prelude.{◌≡◌, Result};
+ghost use Rattle.tera_errors.specs.Fault.{Fault, rendering_error};
+ghost use Rattle.tera_errors.specs.Answer.{Gives, Tells};
+ghost use Rattle.tera_values.specs.Val.{Val};
+ghost use Rattle.tera_operators.specs.Operand.{Retells, at_span, placed, spanning, then};
+
+use crate::operand::Operand;
+use std::alloc::Global;
+use tera_values::{Error, ErrorKind, Span, TeraResult, Value};
+
+/// From the start of the left operand to the end of the right one.
+pub(crate) fn spanning(left: &Operand, right: &Operand) -> Span
+    ensures { result ≡ spanning left.now right.now }
+{
+    Span {
+        start: left.span().start,
+        end: right.span().end,
+    }
+}
+
+/// The refusal as a fault at this span of the file, in the same words. Want of memory stays what it is.
+pub(crate) fn fault_at(alloc: Global, file: &str, refusal: &Error, span: Span) -> Error
+    ensures { Retells refusal.now result (rendering_error (record { file = file.now; span = span })) }
+{
+    match refusal.kind() {
+        ErrorKind::OutOfMemory => Error::out_of_memory(),
+        ErrorKind::Message(text) => Error::rendering(alloc, text.as_str(), file, span),
+        _ => Error::rendering(alloc, "this is refused", file, span),
+    }
+}
+
+/// The value as an operand at a span, or the refusal as a fault at another.
+pub(crate) fn operand_or_fault(
+    alloc: Global,
+    file: &str,
+    answer: TeraResult<Value>,
+    fault: Span,
+    span: Span,
+) -> TeraResult<Operand>
+    ensures { (meant : Result Val Fault) → Gives (λ v. v) answer meant → Gives (λ o. o) result (then (placed file.now meant fault) (λ v. at_span v span)) }
+{
+    match answer {
+        Ok(value) => Ok(Operand::new(value, span)),
+        Err(refusal) => Err(fault_at(alloc, file, &refusal, fault)),
+    }
+}

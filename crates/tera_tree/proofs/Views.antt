@@ -1,0 +1,58 @@
+-- Views of what holds a Vec, by the Vec's items.
+use Rattle.std.proofs.Common.{◌≡◌, Vec, Global, refl, ap, ap₂, ◌∙◌}
+use mathlib.Core.Former.{Count}
+use Rattle.tera_errors.specs.declared.span.Span.{Span}
+use Rattle.tera_tree.specs.declared.expression.Item as item
+use Rattle.tera_tree.specs.declared.expression.Entry as entry
+use Rattle.tera_tree.specs.declared.expression.Expression.{Expression, Row_of-Item, end_of-Item, more_of-Item, items-the_row-Item, items_hidden-the_row-Item-0, Row_of-Entry, end_of-Entry, more_of-Entry, items-the_row-Entry, items_hidden-the_row-Entry-1}
+use Rattle.tera_tree.specs.declared.expression.Expression.TheVariants as expression
+use Rattle.tera_tree.specs.declared.node.Node.{Row_of-Node, end_of-Node, more_of-Node, items-the_row-Node, items_hidden-the_row-Node-0}
+use Rattle.tera_tree.specs.declared.node.Node as declared
+use Rattle.tera_tree.specs.declared.node.Node.TheVariants as variant
+use Rattle.tera_tree.specs.Tree.{Array, Map, MoreItems, MoreEntries, If, MoreNodes}
+use Rattle.tera_tree.specs.View.{key_option, expr_of, row_items, items_of, row_entries, entries_of, node_of, row_nodes, nodes_of}
+
+pub items_row : (m : _) (row : Row_of-Item m) → row_items row ≡ items_of (items-the_row-Item m row)
+items_row m end_of-Item = refl
+items_row m (more_of-Item s e rest) = ap (λ r. MoreItems s (expr_of e) r) (items_row _ rest)
+
+pub entries_row : (m : _) (row : Row_of-Entry m) → row_entries row ≡ entries_of (items-the_row-Entry m row)
+entries_row m end_of-Entry = refl
+entries_row m (more_of-Entry k e rest) = ap (λ r. MoreEntries (key_option k) (expr_of e) r) (entries_row _ rest)
+
+pub nodes_row : (m : _) (row : Row_of-Node m) → row_nodes row ≡ nodes_of (items-the_row-Node m row)
+nodes_row m end_of-Node = refl
+nodes_row m (more_of-Node n rest) = ap (λ r. MoreNodes (node_of n) r) (nodes_row _ rest)
+
+abbrev items_in : Expression → (n : Count) × Row_of-Item n
+items_in (expression.Array' _ row _) = (_, row)
+items_in _ = (_, end_of-Item)
+
+abbrev entries_in : Expression → (n : Count) × Row_of-Entry n
+entries_in (expression.Map' _ row _) = (_, row)
+entries_in _ = (_, end_of-Entry)
+
+abbrev body_in : declared.Node → (n : Count) × Row_of-Node n
+body_in (variant.If' _ _ row _ _) = (_, row)
+body_in _ = (_, end_of-Node)
+
+abbrev other_in : declared.Node → (n : Count) × Row_of-Node n
+other_in (variant.If' _ _ _ _ row) = (_, row)
+other_in _ = (_, end_of-Node)
+
+nodes_is : (r : (n : Count) × Row_of-Node n) (all : Vec declared.Node Global) → items-the_row-Node r.0 r.1 ≡ all.items → row_nodes r.1 ≡ nodes_of all.items
+nodes_is r all e = nodes_row r.0 r.1 ∙ ap nodes_of e
+
+pub view_array : (all : Vec item.Item Global) (span : Span) → expr_of (expression.Array all span) ≡ Array (items_of all.items) span
+view_array all span =
+    let r = items_in (expression.Array all span) in
+    ap (λ x. Array x span) (items_row r.0 r.1 ∙ ap items_of (items_hidden-the_row-Item-0 all))
+
+pub view_map : (all : Vec entry.Entry Global) (span : Span) → expr_of (expression.Map all span) ≡ Map (entries_of all.items) span
+view_map all span =
+    let r = entries_in (expression.Map all span) in
+    ap (λ x. Map x span) (entries_row r.0 r.1 ∙ ap entries_of (items_hidden-the_row-Entry-1 all))
+
+pub view_if : (c : Expression) (body other : Vec declared.Node Global) → node_of (variant.If c body other) ≡ If (expr_of c) (nodes_of body.items) (nodes_of other.items)
+view_if c body other =
+    ap₂ (λ x y. If (expr_of c) x y) (nodes_is (body_in (variant.If c body other)) body (items_hidden-the_row-Node-0 body)) (nodes_is (other_in (variant.If c body other)) other (items_hidden-the_row-Node-0 other))

@@ -1,0 +1,50 @@
+-- How deep trees are.
+use Rattle.std.specs.Prelude.{ℕ, suc, max, ◌≤◌}
+use Rattle.tera_tree.specs.Tree.{Expr, Nothing, Boolean, Integer, Text, Name, Attribute, Index, Slice, Not, Negate, Binary, And, Or, Ternary, Array, Map, Optional, Absent, Present, Items, NoItems, MoreItems, Entries, NoEntries, MoreEntries, Node, Content, Print, If, Nodes, NoNodes, MoreNodes, Tree}
+
+-- a leaf has depth 1, and anything else one more than its deepest part
+abbrev mutual
+  pub depth : Expr → ℕ
+  depth (Nothing span) = 1
+  depth (Boolean b span) = 1
+  depth (Integer z span) = 1
+  depth (Text t span) = 1
+  depth (Name n span) = 1
+  depth (Attribute e n optional span) = suc (depth e)
+  depth (Index a b optional span) = suc (max (depth a) (depth b))
+  depth (Slice e a b c optional span) =
+      suc (max (depth e) (max (optional_depth a) (max (optional_depth b) (optional_depth c))))
+  depth (Not e span) = suc (depth e)
+  depth (Negate e span) = suc (depth e)
+  depth (Binary op a b span) = suc (max (depth a) (depth b))
+  depth (And a b span) = suc (max (depth a) (depth b))
+  depth (Or a b span) = suc (max (depth a) (depth b))
+  depth (Ternary v c o span) = suc (max (depth v) (max (depth c) (depth o)))
+  depth (Array all span) = suc (items_depth all)
+  depth (Map all span) = suc (entries_depth all)
+
+  pub optional_depth : Optional → ℕ
+  optional_depth Absent = 0
+  optional_depth (Present e) = depth e
+
+  pub items_depth : Items → ℕ
+  items_depth NoItems = 0
+  items_depth (MoreItems s e rest) = max (depth e) (items_depth rest)
+
+  pub entries_depth : Entries → ℕ
+  entries_depth NoEntries = 0
+  entries_depth (MoreEntries k e rest) = max (depth e) (entries_depth rest)
+
+abbrev mutual
+  pub node_depth : Node → ℕ
+  node_depth (Content t span) = 1
+  node_depth (Print e) = suc (depth e)
+  node_depth (If c body other) = suc (max (depth c) (max (nodes_depth body) (nodes_depth other)))
+
+  pub nodes_depth : Nodes → ℕ
+  nodes_depth NoNodes = 0
+  nodes_depth (MoreNodes n rest) = max (node_depth n) (nodes_depth rest)
+
+-- what the grammar allows: at most 200 deep
+abbrev pub IsWellFormed : Tree → Type 0
+IsWellFormed t = nodes_depth t.nodes ≤ 200

@@ -1,0 +1,4 @@
+pub mod Delimiters
+pub mod Tree
+pub mod View
+pub mod Depth

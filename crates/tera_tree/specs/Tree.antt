@@ -1,0 +1,56 @@
+-- Trees as plain data.
+use Rattle.std.specs.Prelude.{ℤ, Bool, Option}
+use Rattle.tera_errors.specs.Site as site
+use Rattle.tera_errors.specs.declared.span.Span.{Span}
+use Rattle.tera_tree.specs.declared.expression.BinaryOperator.{BinaryOperator}
+
+-- a key that is written out
+pub data Key : Type 0 where
+  BoolKey : (value : Bool) → Key
+  IntKey : (value : ℤ) → Key
+  TextKey : (text : site.Text) → Key
+
+mutual
+  pub data Expr : Type 0 where
+    Nothing : (span : Span) → Expr
+    Boolean : (value : Bool) (span : Span) → Expr
+    Integer : (value : ℤ) (span : Span) → Expr
+    Text : (text : site.Text) (span : Span) → Expr
+    Name : (name : site.Name) (span : Span) → Expr
+    Attribute : (target : Expr) (name : site.Name) (optional : Bool) (span : Span) → Expr
+    Index : (target : Expr) (index : Expr) (optional : Bool) (span : Span) → Expr
+    Slice : (target : Expr) (start : Optional) (end : Optional) (step : Optional) (optional : Bool) (span : Span) → Expr
+    Not : (operand : Expr) (span : Span) → Expr
+    Negate : (operand : Expr) (span : Span) → Expr
+    Binary : (operator : BinaryOperator) (left : Expr) (right : Expr) (span : Span) → Expr
+    And : (left : Expr) (right : Expr) (span : Span) → Expr
+    Or : (left : Expr) (right : Expr) (span : Span) → Expr
+    Ternary : (value : Expr) (condition : Expr) (other : Expr) (span : Span) → Expr
+    Array : (items : Items) (span : Span) → Expr
+    Map : (entries : Entries) (span : Span) → Expr
+
+  pub data Optional : Type 0 where
+    Absent : Optional
+    Present : (expr : Expr) → Optional
+
+  pub data Items : Type 0 where
+    NoItems : Items
+    MoreItems : (is_spread : Bool) (value : Expr) (rest : Items) → Items
+
+  -- an entry without a key is spread
+  pub data Entries : Type 0 where
+    NoEntries : Entries
+    MoreEntries : (key : Option Key) (value : Expr) (rest : Entries) → Entries
+
+mutual
+  pub data Node : Type 0 where
+    Content : (text : site.Text) (span : Span) → Node
+    Print : (value : Expr) → Node
+    If : (condition : Expr) (body : Nodes) (other : Nodes) → Node
+
+  pub data Nodes : Type 0 where
+    NoNodes : Nodes
+    MoreNodes : (node : Node) (rest : Nodes) → Nodes
+
+pub record Tree : Type 0 where
+  pub nodes : Nodes

@@ -1,0 +1,91 @@
+-- The plain data that a tree in memory stands for.
+use Rattle.std.specs.Prelude.{List, [], ◌∷◌, Option, Some, None, string_bytes, Box, map as map_list}
+use Rattle.std.specs.Global.{Global}
+use Rattle.tera_tree.specs.declared.expression.Expression.{Expression, Row_of-Item, end_of-Item, more_of-Item, Row_of-Entry, end_of-Entry, more_of-Entry, Held-Expression-Slice-1, Expression-Slice-1-None', Some'}
+use Rattle.tera_tree.specs.declared.expression.Expression.TheVariants as expression
+use Rattle.tera_tree.specs.declared.expression.LiteralKey.{LiteralKey}
+use Rattle.tera_tree.specs.declared.expression.LiteralKey.TheVariants as key
+use Rattle.tera_tree.specs.declared.expression.Item as item
+use Rattle.tera_tree.specs.declared.expression.Entry as entry
+use Rattle.tera_tree.specs.declared.node.Node.{Row_of-Node, end_of-Node, more_of-Node}
+use Rattle.tera_tree.specs.declared.node.Node as declared
+use Rattle.tera_tree.specs.declared.node.Node.TheVariants as variant
+use Rattle.tera_tree.specs.declared.node.ParserOutput.{ParserOutput}
+use Rattle.tera_tree.specs.Tree.{Key, BoolKey, IntKey, TextKey, Expr, Nothing, Boolean, Integer, Text, Name, Attribute, Index, Slice, Not, Negate, Binary, And, Or, Ternary, Array, Map, Optional, Absent, Present, Items, NoItems, MoreItems, Entries, NoEntries, MoreEntries, Node, Content, Print, If, Nodes, NoNodes, MoreNodes, Tree}
+
+abbrev pub key_of : LiteralKey → Key
+key_of (key.Bool b) = BoolKey b
+key_of (key.Int z) = IntKey z
+key_of (key.Text t) = TextKey (string_bytes t)
+
+abbrev pub key_option : Option LiteralKey → Option Key
+key_option None = None
+key_option (Some k) = Some (key_of k)
+
+abbrev pub keys_of : List (Option LiteralKey) → List (Option Key)
+keys_of = map_list key_option
+
+abbrev mutual
+  pub expr_of : Expression → Expr
+  expr_of (expression.None span) = Nothing span
+  expr_of (expression.Bool b span) = Boolean b span
+  expr_of (expression.Int z span) = Integer z span
+  expr_of (expression.Text t span) = Text (string_bytes t) span
+  expr_of (expression.Name t span) = Name (string_bytes t) span
+  expr_of (expression.Attribute' p e t optional span) = Attribute (expr_of e) (string_bytes t) optional span
+  expr_of (expression.Index' p a q b optional span) = Index (expr_of a) (expr_of b) optional span
+  expr_of (expression.Slice' p e a b c optional span) = Slice (expr_of e) (held_of a) (held_of b) (held_of c) optional span
+  expr_of (expression.Not' p e span) = Not (expr_of e) span
+  expr_of (expression.Negate' p e span) = Negate (expr_of e) span
+  expr_of (expression.Binary' op p a q b span) = Binary op (expr_of a) (expr_of b) span
+  expr_of (expression.And' p a q b span) = And (expr_of a) (expr_of b) span
+  expr_of (expression.Or' p a q b span) = Or (expr_of a) (expr_of b) span
+  expr_of (expression.Ternary' p v q c r o span) = Ternary (expr_of v) (expr_of c) (expr_of o) span
+  expr_of (expression.Array' m all span) = Array (row_items all) span
+  expr_of (expression.Map' m all span) = Map (row_entries all) span
+
+  pub held_of : Held-Expression-Slice-1 → Optional
+  held_of Expression-Slice-1-None' = Absent
+  held_of (Some' p e) = Present (expr_of e)
+
+  pub row_items : {m : _} → Row_of-Item m → Items
+  row_items end_of-Item = NoItems
+  row_items (more_of-Item b e rest) = MoreItems b (expr_of e) (row_items rest)
+
+  pub row_entries : {m : _} → Row_of-Entry m → Entries
+  row_entries end_of-Entry = NoEntries
+  row_entries (more_of-Entry k e rest) = MoreEntries (key_option k) (expr_of e) (row_entries rest)
+
+abbrev pub optional_of : Option (Box Expression Global) → Optional
+optional_of None = Absent
+optional_of (Some b) = Present (expr_of b.value)
+
+-- the same of a part that stands in no box
+abbrev pub option_of : Option Expression → Optional
+option_of None = Absent
+option_of (Some e) = Present (expr_of e)
+
+abbrev pub items_of : List item.Item → Items
+items_of [] = NoItems
+items_of (a ∷ rest) = MoreItems a.is_spread (expr_of a.value) (items_of rest)
+
+abbrev pub entries_of : List entry.Entry → Entries
+entries_of [] = NoEntries
+entries_of (a ∷ rest) = MoreEntries (key_option a.key) (expr_of a.value) (entries_of rest)
+
+abbrev mutual
+  pub node_of : declared.Node → Node
+  node_of (variant.Content t span) = Content (string_bytes t) span
+  node_of (variant.Print e) = Print (expr_of e)
+  node_of (variant.If' c m body n other) = If (expr_of c) (row_nodes body) (row_nodes other)
+
+  pub row_nodes : {m : _} → Row_of-Node m → Nodes
+  row_nodes end_of-Node = NoNodes
+  row_nodes (more_of-Node n rest) = MoreNodes (node_of n) (row_nodes rest)
+
+abbrev pub nodes_of : List declared.Node → Nodes
+nodes_of [] = NoNodes
+nodes_of (n ∷ ns) = MoreNodes (node_of n) (nodes_of ns)
+
+abbrev pub tree_of : ParserOutput → Tree
+tree_of output = record { nodes = nodes_of output.nodes.items }

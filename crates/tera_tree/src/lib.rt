@@ -1,0 +1,12 @@
+//! Trees of templates, and the delimiters that tell tags from text.
+#![tactic(auto)]
+
+pub mod delimiters;
+pub mod expression;
+pub mod make;
+pub mod node;
+
+pub use delimiters::Delimiters;
+pub use expression::{BinaryOperator, Entry, Expression, Item, LiteralKey};
+pub use make::Bounds;
+pub use node::{Node, ParserOutput};

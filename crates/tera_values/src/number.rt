@@ -1,0 +1,194 @@
+// Arithmetic. What is not an integer is refused, and so is what no `i128` holds: a `Message` each time.
+ghost use Rattle.std.specs.Prelude.{◌≡◌, pos, ◌≤ℤ◌, pos, ◌+ℤ◌, Option};
+ghost use Rattle.tera_errors.specs.Answer.{Gives};
+ghost use Rattle.tera_values.specs.Number.{within, told, integers, sum, difference, product, quotient, remainder, exact_quotient, power, add, sub, mul, div, floor_div, rem, pow, negate};
+
+use std::alloc::Global;
+use tera_errors::{Error, TeraResult};
+use tera_values_data::{Shape, Value};
+
+/// The two integers, or none where there are not two.
+fn integers(left: &Value, right: &Value) -> Option<(i128, i128)>
+    ensures { result ≡ integers left.now right.now }
+{
+    match left.shape() {
+        Shape::Int(a) => match right.shape() {
+            Shape::Int(b) => Some((a, b)),
+            _ => None,
+        },
+        _ => None,
+    }
+}
+
+/// The number as a value, or a refusal.
+fn answer(alloc: Global, number: Option<i128>) -> TeraResult<Value>
+    ensures { Gives (λ v. v) result (told number) }
+{
+    match number {
+        Some(number) => Ok(Value::from_int(number)),
+        None => Err(Error::message(alloc, "no integer is the result")),
+    }
+}
+
+fn sum(a: i128, b: i128) -> Option<i128>
+    ensures { told result ≡ sum a b }
+{
+    a.checked_add(b)
+}
+
+fn difference(a: i128, b: i128) -> Option<i128>
+    ensures { told result ≡ difference a b }
+{
+    a.checked_sub(b)
+}
+
+fn product(a: i128, b: i128) -> Option<i128>
+    ensures { told result ≡ product a b }
+{
+    a.checked_mul(b)
+}
+
+/// Euclid's quotient.
+fn quotient(a: i128, b: i128) -> Option<i128>
+    ensures { told result ≡ quotient a b }
+{
+    if b == 0 {
+        None
+    } else if b == -1 {
+        a.checked_neg()
+    } else {
+        Some(a.div_euclid(b))
+    }
+}
+
+/// Euclid's remainder.
+fn remainder(a: i128, b: i128) -> Option<i128>
+    ensures { told result ≡ remainder a b }
+{
+    if b == 0 {
+        None
+    } else if b == -1 {
+        Some(0)
+    } else {
+        Some(a.rem_euclid(b))
+    }
+}
+
+fn exact_quotient(a: i128, b: i128) -> Option<i128>
+    ensures { told result ≡ exact_quotient a b }
+{
+    match remainder(a, b) {
+        Some(0) => quotient(a, b),
+        _ => None,
+    }
+}
+
+fn power(a: i128, b: i128) -> Option<i128>
+    ensures { told result ≡ power a b }
+{
+    if b < 0 {
+        None
+    } else if b < 128 {
+        a.checked_pow(b as u32)
+    } else {
+        far_power(a, b)
+    }
+}
+
+/// The power at an exponent at which the powers of nothing but 0, 1 and -1 have room.
+fn far_power(a: i128, b: i128) -> Option<i128>
+    requires { pos 128 ≤ℤ b }
+    ensures { told result ≡ power a b }
+{
+    if a == 0 {
+        Some(0)
+    } else if a == 1 {
+        Some(1)
+    } else if a != -1 {
+        None
+    } else if b.unsigned_abs() % 2 == 0 {
+        Some(1)
+    } else {
+        Some(-1)
+    }
+}
+
+/// The sum.
+pub fn add(alloc: Global, left: &Value, right: &Value) -> TeraResult<Value>
+    ensures { Gives (λ v. v) result (add left.now right.now) }
+{
+    match integers(left, right) {
+        Some((a, b)) => answer(alloc, sum(a, b)),
+        None => Err(Error::message(alloc, "only integers are added")),
+    }
+}
+
+/// The difference.
+pub fn sub(alloc: Global, left: &Value, right: &Value) -> TeraResult<Value>
+    ensures { Gives (λ v. v) result (sub left.now right.now) }
+{
+    match integers(left, right) {
+        Some((a, b)) => answer(alloc, difference(a, b)),
+        None => Err(Error::message(alloc, "only integers are subtracted")),
+    }
+}
+
+/// The product.
+pub fn mul(alloc: Global, left: &Value, right: &Value) -> TeraResult<Value>
+    ensures { Gives (λ v. v) result (mul left.now right.now) }
+{
+    match integers(left, right) {
+        Some((a, b)) => answer(alloc, product(a, b)),
+        None => Err(Error::message(alloc, "only integers are multiplied")),
+    }
+}
+
+/// The exact quotient; a refusal where it is not whole, as at a zero divisor.
+pub fn div(alloc: Global, left: &Value, right: &Value) -> TeraResult<Value>
+    ensures { Gives (λ v. v) result (div left.now right.now) }
+{
+    match integers(left, right) {
+        Some((a, b)) => answer(alloc, exact_quotient(a, b)),
+        None => Err(Error::message(alloc, "only integers are divided")),
+    }
+}
+
+/// Euclid's quotient; a refusal at a zero divisor.
+pub fn floor_div(alloc: Global, left: &Value, right: &Value) -> TeraResult<Value>
+    ensures { Gives (λ v. v) result (floor_div left.now right.now) }
+{
+    match integers(left, right) {
+        Some((a, b)) => answer(alloc, quotient(a, b)),
+        None => Err(Error::message(alloc, "only integers are divided")),
+    }
+}
+
+/// Euclid's remainder, which is never negative; a refusal at a zero divisor.
+pub fn rem(alloc: Global, left: &Value, right: &Value) -> TeraResult<Value>
+    ensures { Gives (λ v. v) result (rem left.now right.now) }
+{
+    match integers(left, right) {
+        Some((a, b)) => answer(alloc, remainder(a, b)),
+        None => Err(Error::message(alloc, "only integers are divided")),
+    }
+}
+
+/// The power; a refusal at a negative exponent. `0 ** 0` is 1.
+pub fn pow(alloc: Global, left: &Value, right: &Value) -> TeraResult<Value>
+    ensures { Gives (λ v. v) result (pow left.now right.now) }
+{
+    match integers(left, right) {
+        Some((a, b)) => answer(alloc, power(a, b)),
+        None => Err(Error::message(alloc, "only integers are raised to powers")),
+    }
+}
+
+/// The number with the other sign.
+pub fn negate(alloc: Global, value: &Value) -> TeraResult<Value>
+    ensures { Gives (λ v. v) result (negate value.now) }
+{
+    match value.shape() {
+        Shape::Int(number) => answer(alloc, number.checked_neg()),
+        _ => Err(Error::message(alloc, "only an integer has a sign")),
+    }
+}

@@ -9,23 +9,20 @@ use Rattle.tera_script.specs.declared.command.Command.{Command}
 use Rattle.tera_script.specs.declared.reply.Reply.{Reply}
 use Rattle.tera_script.specs.Act.{Act, put_text, render_text, act_of, acts_of}
 use Rattle.tera_script.specs.Reply.{Replied, done, says, refuses, reply_seen, replies_seen}
-use Rattle.tera_script.specs.Session.{Session, MayAnswer, Replies, after, after_all, fresh}
+use Rattle.tera_script.specs.Session.{Session, MayAnswer, Replies, after, after_all, fresh, session}
 
 -- one command more
-pub Replies-snoc : (session : Session) (acts : List Act) (replies : List Replied) (act : Act) (reply : Replied) → Replies session acts replies → MayAnswer (after_all session acts replies) act reply → Replies session (acts ++ act ∷ []) (replies ++ reply ∷ [])
-Replies-snoc session [] [] act reply h last = (last, tt)
-Replies-snoc session [] (r ∷ replies) act reply h last = absurd h
-Replies-snoc session (a ∷ acts) [] act reply h last = absurd h
-Replies-snoc session (a ∷ acts) (r ∷ replies) act reply h last = (h.0, Replies-snoc (after session a r) acts replies act reply h.1 last)
+pub Replies-snoc : (now : Session) (acts : List Act) (replies : List Replied) (act : Act) (reply : Replied) → Replies now acts replies → MayAnswer (after_all now acts replies) act reply → Replies now (acts ++ act ∷ []) (replies ++ reply ∷ [])
+Replies-snoc now [] [] act reply h last = (last, tt)
+Replies-snoc now [] (r ∷ replies) act reply h last = absurd h
+Replies-snoc now (a ∷ acts) [] act reply h last = absurd h
+Replies-snoc now (a ∷ acts) (r ∷ replies) act reply h last = (h.0, Replies-snoc (after now a r) acts replies act reply h.1 last)
 
-pub after_all-snoc : (session : Session) (acts : List Act) (replies : List Replied) (act : Act) (reply : Replied) → Replies session acts replies → after_all session (acts ++ act ∷ []) (replies ++ reply ∷ []) ≡ after (after_all session acts replies) act reply
-after_all-snoc session [] [] act reply h = refl
-after_all-snoc session [] (r ∷ replies) act reply h = absurd h
-after_all-snoc session (a ∷ acts) [] act reply h = absurd h
-after_all-snoc session (a ∷ acts) (r ∷ replies) act reply h = after_all-snoc (after session a r) acts replies act reply h.1
-
-abbrev pub session : Registry → Named Val → Session
-session registry context = record { registry = registry; context = context }
+pub after_all-snoc : (now : Session) (acts : List Act) (replies : List Replied) (act : Act) (reply : Replied) → Replies now acts replies → after_all now (acts ++ act ∷ []) (replies ++ reply ∷ []) ≡ after (after_all now acts replies) act reply
+after_all-snoc now [] [] act reply h = refl
+after_all-snoc now [] (r ∷ replies) act reply h = absurd h
+after_all-snoc now (a ∷ acts) [] act reply h = absurd h
+after_all-snoc now (a ∷ acts) (r ∷ replies) act reply h = after_all-snoc (after now a r) acts replies act reply h.1
 
 after-registry : (s : Session) (act : Act) (reply : Replied) → (after s act reply).registry ≡ s.registry
 after-registry s (put_text name body) done = refl

@@ -83,7 +83,7 @@ with_command n None body rest = stopped n
 with_command n (Some head) None rest = stopped n
 with_command n (Some head) (Some body) rest = before (with_body head (joined body)) (rest (length body + 1))
 
--- The script of lines that begin with line n. The first so many of them belong to a body.
+-- The script of lines, of which the first is line n. So many of them belong to a body that was read before.
 abbrev pub script_of_lines : ℕ → ℕ → List Text → Script
 script_of_lines n taken [] = record { acts = []; unreadable = None }
 script_of_lines n (suc taken) (line ∷ lines) = script_of_lines (n + 1) taken lines
@@ -91,6 +91,6 @@ script_of_lines n zero ([] ∷ lines) = script_of_lines (n + 1) zero lines
 script_of_lines n zero ((byte ∷ bytes) ∷ lines) =
     with_command n (head_of (byte ∷ bytes)) (body_lines lines) (λ taken. script_of_lines (n + 1) taken lines)
 
--- Lines are counted from 1. What is no UTF-8 is unreadable from there on.
+-- Lines are counted from 1. Bytes that are no UTF-8 are unreadable at the first.
 abbrev pub script_of : List ℕ → Script
 script_of bytes = if is_utf8 bytes then script_of_lines 1 0 (lines_of bytes) else stopped 1

@@ -15,38 +15,41 @@ pub record Session : Type 0 where
   pub registry : Registry
   pub context : Named Val
 
+abbrev pub session : Registry → Named Val → Session
+session registry context = record { registry = registry; context = context }
+
 -- A run begins with an empty context.
 abbrev pub fresh : Registry → Session
-fresh registry = record { registry = registry; context = [] }
+fresh registry = session registry []
 
--- Want of memory may always be the answer.
+-- What a command may be answered. Want of memory may always be the answer.
 abbrev pub MayAnswer : Session → Act → Replied → Type 0
-MayAnswer session (put_text name body) done = Unit {0}
-MayAnswer session (put_text name body) (says answer) = ⊥
-MayAnswer session (put_text name body) (refuses refusal) = refusal ≡ None
-MayAnswer session (render_text autoescape body) done = ⊥
-MayAnswer session (render_text autoescape body) (says answer) = OneOff session.registry body session.context autoescape (Ok answer)
-MayAnswer session (render_text autoescape body) (refuses refusal) = SaysOneOf refusal (OneOff session.registry body session.context autoescape)
+MayAnswer now (put_text name body) done = Unit {0}
+MayAnswer now (put_text name body) (says answer) = ⊥
+MayAnswer now (put_text name body) (refuses refusal) = refusal ≡ None
+MayAnswer now (render_text autoescape body) done = ⊥
+MayAnswer now (render_text autoescape body) (says answer) = OneOff now.registry body now.context autoescape (Ok answer)
+MayAnswer now (render_text autoescape body) (refuses refusal) = SaysOneOf refusal (OneOff now.registry body now.context autoescape)
 
 -- A command that is refused changes nothing.
 abbrev pub after : Session → Act → Replied → Session
-after session (put_text name body) done = record session { context = put name (text body false) session.context }
-after session (put_text name body) (says answer) = session
-after session (put_text name body) (refuses refusal) = session
-after session (render_text autoescape body) reply = session
+after now (put_text name body) done = record now { context = put name (text body false) now.context }
+after now (put_text name body) (says answer) = now
+after now (put_text name body) (refuses refusal) = now
+after now (render_text autoescape body) reply = now
 
 -- one reply a command, each in the session that the commands before it left
 abbrev pub Replies : Session → List Act → List Replied → Type 0
-Replies session [] [] = Unit {0}
-Replies session [] (reply ∷ replies) = ⊥
-Replies session (act ∷ acts) [] = ⊥
-Replies session (act ∷ acts) (reply ∷ replies) = MayAnswer session act reply × Replies (after session act reply) acts replies
+Replies now [] [] = Unit {0}
+Replies now [] (reply ∷ replies) = ⊥
+Replies now (act ∷ acts) [] = ⊥
+Replies now (act ∷ acts) (reply ∷ replies) = MayAnswer now act reply × Replies (after now act reply) acts replies
 
 -- the session that the commands leave
 abbrev pub after_all : Session → List Act → List Replied → Session
-after_all session [] replies = session
-after_all session (act ∷ acts) [] = session
-after_all session (act ∷ acts) (reply ∷ replies) = after_all (after session act reply) acts replies
+after_all now [] replies = now
+after_all now (act ∷ acts) [] = now
+after_all now (act ∷ acts) (reply ∷ replies) = after_all (after now act reply) acts replies
 
 -- The commands that these bytes spell may be answered so, beside this registry, and the answers are written in order.
 pub record Program (registry : Registry) (input output : List ℕ) : Type 0 where

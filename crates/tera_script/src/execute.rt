@@ -4,7 +4,7 @@ ghost use Rattle.tera.specs.Registry.{registry_of};
 ghost use Rattle.tera_errors.specs.Answer.{Lacks};
 ghost use Rattle.tera_script.specs.Act.{act_of, acts_of};
 ghost use Rattle.tera_script.specs.Reply.{reply_seen, replies_seen};
-ghost use Rattle.tera_script.specs.Session.{MayAnswer, Replies, after, fresh};
+ghost use Rattle.tera_script.specs.Session.{MayAnswer, Replies, after, fresh, session};
 ghost use Rattle.tera_values.specs.Named.{put};
 ghost use Rattle.tera_values.specs.Val.{text};
 
@@ -47,8 +47,8 @@ fn append(replies: &mut Vec<Reply>, reply: Reply)
 }
 
 fn reply_to(alloc: Global, engine: &Tera, context: &mut Context, command: &Command<'_>) -> Reply
-    ensures reply { MayAnswer (record { registry = registry_of engine.now; context = context.old }) (act_of command.now) (reply_seen result) }
-    ensures context { context.new ≡ (after (record { registry = registry_of engine.now; context = context.old }) (act_of command.now) (reply_seen result)).context }
+    ensures reply { MayAnswer (session (registry_of engine.now) context.old) (act_of command.now) (reply_seen result) }
+    ensures context { context.new ≡ (after (session (registry_of engine.now) context.old) (act_of command.now) (reply_seen result)).context }
 {
     match *command {
         Command::Text { name, body } => match put_text(alloc, context, name, body) {

@@ -25,8 +25,8 @@ impl Trace {
     }
 
     /// A piece more, and so many failures more.
-    pub fn with(_before: &Trace, _piece: &[u8], _failures: usize) -> Trace
-        ensures { (result.bytes ≡ _before.now.bytes ++ _piece.now) × (result.failures ≡ _before.now.failures + _failures) }
+    pub fn with(before: &Trace, piece: &[u8], failures: usize) -> Trace
+        ensures { (result.bytes ≡ before.now.bytes ++ piece.now) × (result.failures ≡ before.now.failures + failures) }
     {
         Trace {}
     }

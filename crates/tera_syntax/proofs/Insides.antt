@@ -1,13 +1,13 @@
 -- The steps of the cut of a tag.
-use Rattle.std.proofs.Common.{◌≡◌, ℕ, zero, suc, ◌+◌, ◌-◌, ◌<◌, ◌≤◌, List, [], ◌∷◌, ◌++◌, Bool, true, false, ◌&&◌, length, take, drop, get_or, Option, Some, None, refl, ap, sym, ◌∙◌, arith, if◌then◌else◌, append_assoc}
+use Rattle.std.proofs.Common.{◌≡◌, ℕ, zero, suc, ◌+◌, ◌-◌, ◌<◌, ◌≤◌, List, [], ◌∷◌, ◌++◌, Bool, true, false, ◌==◌, ◌&&◌, length, take, drop, get_or, Option, Some, None, refl, ap, sym, ◌∙◌, arith, if◌then◌else◌, append_assoc}
 use Rattle.std.proofs.lemmas.List.{drop_more, drop-drop, length-take-le, map-append}
 use Rattle.tera_errors.specs.Site.{Text}
 use Rattle.tera_syntax.specs.declared.inside.Ending.{Ending}
 use Rattle.tera_syntax.specs.declared.token.Kind.TheVariants as k
-use Rattle.tera_syntax.specs.Token.{Token, token, token_of, tokens_of, next_token, is_blank, is_letter, is_name_byte, run}
-use Rattle.tera_syntax.specs.Inside.{Inside, inside, closing, hyphen, prefixed, token_then}
+use Rattle.tera_syntax.specs.Token.{Token, token_of, tokens_of, next_token, is_blank}
+use Rattle.tera_syntax.specs.Inside.{Inside, inside, closing, closing_in, open_after, hyphen, prefixed, token_then}
 use Rattle.tera_syntax.specs.Bytes.{begins}
-use Rattle.tera_syntax.proofs.Tokens.{run_le}
+use Rattle.tera_syntax.proofs.Tokens.{token_size}
 use Rattle.tera_syntax.proofs.Places.{boundary_after}
 use Rattle.std.specs.Str.{IsUtf8, IsCharBoundary}
 use Rattle.tera_syntax.specs.declared.token.Token as declared
@@ -17,87 +17,64 @@ prefixed-append ts us None = refl
 prefixed-append ts us (Some x) = ap (λ all. Some (record x { tokens = all })) (sym (append_assoc ts us x.tokens))
 
 -- what is passed over is no part of it
-pub passed : (end : Text) (n at : ℕ) (text : Text) → inside end n at text ≡ inside end 0 (at + n) (drop n text)
+pub passed : (end : Text) (opened n at : ℕ) (text : Text) → inside end opened n at text ≡ inside end opened 0 (at + n) (drop n text)
 unfolding inside
-passed end zero at text = let e : at ≡ at + 0 = omega arith in ap (λ k. inside end 0 k text) e
-passed end (suc n) at [] = refl
-passed end (suc n) at (b ∷ bs) = let e : suc at + n ≡ at + suc n = omega arith in passed end n (suc at) bs ∙ ap (λ k. inside end 0 k (drop n bs)) e
+passed end opened zero at text = let e : at ≡ at + 0 = omega arith in ap (λ k. inside end opened 0 k text) e
+passed end opened (suc n) at [] = refl
+passed end opened (suc n) at (b ∷ bs) = let e : suc at + n ≡ at + suc n = omega arith in passed end opened n (suc at) bs ∙ ap (λ k. inside end opened 0 k (drop n bs)) e
 
-head_ends : (end : Text) (at b : ℕ) (bs : Text) (c : Ending) → closing end (b ∷ bs) ≡ Some c
-    → inside end 0 at (b ∷ bs) ≡ Some (record { tokens = []; next = at + c.size; trims = c.trims })
+head_ends : (end : Text) (opened at b : ℕ) (bs : Text) (c : Ending) → closing_in opened end (b ∷ bs) ≡ Some c
+    → inside end opened 0 at (b ∷ bs) ≡ Some (record { tokens = []; next = at + c.size; trims = c.trims })
 unfolding inside
-head_ends end at b bs c h = rw h
+head_ends end opened at b bs c h = rw h
 
-head_blank : (end : Text) (at b : ℕ) (bs : Text) → closing end (b ∷ bs) ≡ None → is_blank b ≡ true → inside end 0 at (b ∷ bs) ≡ inside end 0 (suc at) bs
+head_blank : (end : Text) (opened at b : ℕ) (bs : Text) → closing_in opened end (b ∷ bs) ≡ None → is_blank b ≡ true → inside end opened 0 at (b ∷ bs) ≡ inside end opened 0 (suc at) bs
 unfolding inside
-head_blank end at b bs h k = rw h (rw k)
+head_blank end opened at b bs h k = rw h (rw k)
 
-head_token : (end : Text) (at b : ℕ) (bs : Text) → closing end (b ∷ bs) ≡ None → is_blank b ≡ false
-    → inside end 0 at (b ∷ bs) ≡ token_then (next_token at (b ∷ bs)) (λ n. inside end (n - 1) (suc at) bs)
+head_token : (end : Text) (opened at b : ℕ) (bs : Text) → closing_in opened end (b ∷ bs) ≡ None → is_blank b ≡ false
+    → inside end opened 0 at (b ∷ bs) ≡ token_then (next_token at (b ∷ bs)) (λ t. inside end (open_after opened t.kind) (length t.text - 1) (suc at) bs)
 unfolding inside
-head_token end at b bs h k = rw h (rw k)
+head_token end opened at b bs h k = rw h (rw k)
 
-pub ends_here : (end : Text) (at i : ℕ) (text : Text) (c : Ending) → i < length text → closing end (drop i text) ≡ Some c
-    → inside end 0 (at + i) (drop i text) ≡ Some (record { tokens = []; next = at + i + c.size; trims = c.trims })
-ends_here end at i text c l h =
+pub ends_here : (end : Text) (opened at i : ℕ) (text : Text) (c : Ending) → i < length text → closing_in opened end (drop i text) ≡ Some c
+    → inside end opened 0 (at + i) (drop i text) ≡ Some (record { tokens = []; next = at + i + c.size; trims = c.trims })
+ends_here end opened at i text c l h =
     let d = drop_more text i 0 l in
-    rw d (head_ends end (at + i) (get_or text i 0) (drop (i + 1) text) c (ap (closing end) (sym d) ∙ h))
+    rw d (head_ends end opened (at + i) (get_or text i 0) (drop (i + 1) text) c (ap (closing_in opened end) (sym d) ∙ h))
 
-pub passes_blank : (end : Text) (at i : ℕ) (text : Text) → i < length text → closing end (drop i text) ≡ None → is_blank (get_or text i 0) ≡ true
-    → inside end 0 (at + i) (drop i text) ≡ inside end 0 (at + (i + 1)) (drop (i + 1) text)
-passes_blank end at i text l h k =
+pub passes_blank : (end : Text) (opened at i : ℕ) (text : Text) → i < length text → closing_in opened end (drop i text) ≡ None → is_blank (get_or text i 0) ≡ true
+    → inside end opened 0 (at + i) (drop i text) ≡ inside end opened 0 (at + (i + 1)) (drop (i + 1) text)
+passes_blank end opened at i text l h k =
     let d = drop_more text i 0 l in
     let e : suc (at + i) ≡ at + (i + 1) = omega arith in
-    rw d (head_blank end (at + i) (get_or text i 0) (drop (i + 1) text) (ap (closing end) (sym d) ∙ h) k ∙ ap (λ n. inside end 0 n (drop (i + 1) text)) e)
+    rw d (head_blank end opened (at + i) (get_or text i 0) (drop (i + 1) text) (ap (closing_in opened end) (sym d) ∙ h) k ∙ ap (λ n. inside end opened 0 n (drop (i + 1) text)) e)
 
-abbrev past : Text → ℕ → ℕ → Text → ℕ → Option Inside
-past end at i text n = inside end (n - 1) (suc (at + i)) (drop (i + 1) text)
+abbrev past : Text → ℕ → ℕ → ℕ → Text → Token → Option Inside
+past end opened at i text t = inside end (open_after opened t.kind) (length t.text - 1) (suc (at + i)) (drop (i + 1) text)
 
-token_here : (end : Text) (at i : ℕ) (text : Text) → i < length text → closing end (drop i text) ≡ None → is_blank (get_or text i 0) ≡ false
-    → inside end 0 (at + i) (drop i text) ≡ token_then (next_token (at + i) (drop i text)) (past end at i text)
-token_here end at i text l h k =
+token_here : (end : Text) (opened at i : ℕ) (text : Text) → i < length text → closing_in opened end (drop i text) ≡ None → is_blank (get_or text i 0) ≡ false
+    → inside end opened 0 (at + i) (drop i text) ≡ token_then (next_token (at + i) (drop i text)) (past end opened at i text)
+token_here end opened at i text l h k =
     let d = drop_more text i 0 l in
-    rw d (head_token end (at + i) (get_or text i 0) (drop (i + 1) text) (ap (closing end) (sym d) ∙ h) k)
+    rw d (head_token end opened (at + i) (get_or text i 0) (drop (i + 1) text) (ap (closing_in opened end) (sym d) ∙ h) k)
 
-pub no_token : (end : Text) (at i : ℕ) (text : Text) → i < length text → closing end (drop i text) ≡ None → is_blank (get_or text i 0) ≡ false
-    → next_token (at + i) (drop i text) ≡ None → inside end 0 (at + i) (drop i text) ≡ None
-no_token end at i text l h k t = token_here end at i text l h k ∙ ap (λ o. token_then o (past end at i text)) t
+pub no_token : (end : Text) (opened at i : ℕ) (text : Text) → i < length text → closing_in opened end (drop i text) ≡ None → is_blank (get_or text i 0) ≡ false
+    → next_token (at + i) (drop i text) ≡ None → inside end opened 0 (at + i) (drop i text) ≡ None
+no_token end opened at i text l h k t = token_here end opened at i text l h k ∙ ap (λ o. token_then o (past end opened at i text)) t
 
-abbrev text_of : Option Token → Text
-text_of None = []
-text_of (Some t) = t.text
-
-some_size : (n : ℕ) (text : Text) (t : Token) → 0 < n → n ≤ length text → take n text ≡ t.text → (0 < length t.text) × (length t.text ≤ length text)
-some_size n text t l h e =
-    let f : length (take n text) ≡ length t.text = ap length e in
-    let g = length-take-le n text h in
-    (omega arith, omega arith)
-
-head_size : (q : Bool) (at b : ℕ) (bs : Text) (t : Token) → (if q then Some (token k.Name (suc (run is_name_byte bs)) at (b ∷ bs)) else None) ≡ Some t
-    → (0 < length t.text) × (length t.text ≤ length (b ∷ bs))
-head_size true at b bs t h =
-    let l = run_le is_name_byte bs in
-    some_size (suc (run is_name_byte bs)) (b ∷ bs) t (omega arith) (omega arith) (ap text_of h)
-head_size false at b bs t h = absurd (cc)
-
--- a token is not empty, and part of the text
-pub token_size : (at : ℕ) (text : Text) (t : Token) → next_token at text ≡ Some t → (0 < length t.text) × (length t.text ≤ length text)
-unfolding next_token
-token_size at [] t h = absurd (cc)
-token_size at (b ∷ bs) t h = head_size (is_letter b) at b bs t h
-
-past_is : (end : Text) (at i n : ℕ) (text : Text) → 0 < n → past end at i text n ≡ inside end 0 (at + (i + n)) (drop (i + n) text)
-past_is end at i n text h =
+past_is : (end : Text) (opened at i n : ℕ) (text : Text) → 0 < n → inside end opened (n - 1) (suc (at + i)) (drop (i + 1) text) ≡ inside end opened 0 (at + (i + n)) (drop (i + n) text)
+past_is end opened at i n text h =
     let e : suc (at + i) + (n - 1) ≡ at + (i + n) = omega arith in
     let f : (i + 1) + (n - 1) ≡ i + n = omega arith in
-    passed end (n - 1) (suc (at + i)) (drop (i + 1) text) ∙ rw (e, drop-drop (n - 1) (i + 1) text, f) refl
+    passed end opened (n - 1) (suc (at + i)) (drop (i + 1) text) ∙ rw (e, drop-drop (n - 1) (i + 1) text, f) refl
 
-pub takes_token : (end : Text) (at i : ℕ) (text : Text) (t : Token) → i < length text → closing end (drop i text) ≡ None → is_blank (get_or text i 0) ≡ false
+pub takes_token : (end : Text) (opened at i : ℕ) (text : Text) (t : Token) → i < length text → closing_in opened end (drop i text) ≡ None → is_blank (get_or text i 0) ≡ false
     → next_token (at + i) (drop i text) ≡ Some t
-    → inside end 0 (at + i) (drop i text) ≡ prefixed (t ∷ []) (inside end 0 (at + (i + length t.text)) (drop (i + length t.text) text))
-takes_token end at i text t l h k n =
-    token_here end at i text l h k ∙ ap (λ o. token_then o (past end at i text)) n
-    ∙ ap (prefixed (t ∷ [])) (past_is end at i (length t.text) text (token_size (at + i) (drop i text) t n).0)
+    → inside end opened 0 (at + i) (drop i text) ≡ prefixed (t ∷ []) (inside end (open_after opened t.kind) 0 (at + (i + length t.text)) (drop (i + length t.text) text))
+takes_token end opened at i text t l h k n =
+    token_here end opened at i text l h k ∙ ap (λ o. token_then o (past end opened at i text)) n
+    ∙ ap (prefixed (t ∷ [])) (past_is end (open_after opened t.kind) at i (length t.text) text (token_size (at + i) (drop i text) t n).0)
 
 and_right : (p q : Bool) → (p && q) ≡ true → q ≡ true
 and_right true q h = h
@@ -134,6 +111,14 @@ none_from (Some x) h = absurd (h x refl)
 pub tokens_of-push : (ts : List declared.Token) (t : declared.Token) → tokens_of (ts ++ t ∷ []) ≡ tokens_of ts ++ token_of t ∷ []
 tokens_of-push ts t = map-append token_of ts (t ∷ [])
 
-pub nothing : (end : Text) (at : ℕ) → inside end 0 at [] ≡ None
+pub nothing : (end : Text) (opened at : ℕ) → inside end opened 0 at [] ≡ None
 unfolding inside
-nothing end at = refl
+nothing end opened at = refl
+
+-- the end of a tag that is found is one
+pub closing_found : (opened : ℕ) (end text : Text) (c : Ending) → closing_in opened end text ≡ Some c → closing end text ≡ Some c
+closing_found opened end text c h = go (opened == 0) h
+  where
+    go : (q : Bool) → (if q then closing end text else None) ≡ Some c → closing end text ≡ Some c
+    go true e = e
+    go false e = absurd (cc)

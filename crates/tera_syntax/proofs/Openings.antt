@@ -12,7 +12,7 @@ use Rattle.tera_tree.specs.declared.delimiters.Delimiters.{Delimiters}
 use Rattle.tera_syntax.specs.declared.cut.Tag.{Tag}
 use Rattle.tera_syntax.specs.declared.cut.Opening.{Opening}
 use Rattle.tera_syntax.specs.Cut.{longer, opening_at, opens, start_size}
-use Rattle.tera_syntax.proofs.Places.{word_fits, boundary_before, boundary_after, place_le, place_passes}
+use Rattle.tera_syntax.proofs.Places.{by_order, word_fits, boundary_before, boundary_after, place_le, place_passes}
 
 -- a word that may be a start delimiter, and begins the text
 pub record Start (text : Text) (o : Opening) : Type 0 where
@@ -106,9 +106,6 @@ opening_boundary d text i h e =
     let p = some_from (opening_at (delimiters_of d) (drop i text)) e in
     let s = start_of d (drop i text) p.0 h p.1 in
     boundary_before s.word text i s.utf8 s.begun s.filled
-
-pub by_order : {P : Type 0} (a b : ℕ) → (a < b → P) → (b ≤ a → P) → P
-by_order a b f g = elim (leb_tells (suc a) b) [ inl p ↦ f p.1 | inr p ↦ g (omega arith) ]
 
 pub words_boundary : (d : Delimiters) (text : Text) → IsTrue (accepted (delimiters_of d)) → IsUtf8 text → IsCharBoundary text (place (opens (delimiters_of d)) text)
 words_boundary d text h u =

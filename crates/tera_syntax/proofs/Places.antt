@@ -1,13 +1,16 @@
 -- Places in a text.
-use Rattle.std.proofs.Common.{◌≡◌, ℕ, suc, ◌+◌, ◌<◌, ◌≤◌, [], ◌∷◌, ◌++◌, Bool, true, false, length, take, drop, get_or, refl, ap, sym, ◌∙◌, arith, if◌then◌else◌}
+use Rattle.std.proofs.Common.{inl, inr, ◌≡◌, ℕ, suc, ◌+◌, ◌<◌, ◌≤◌, [], ◌∷◌, ◌++◌, Bool, true, false, length, take, drop, get_or, refl, ap, sym, ◌∙◌, arith, if◌then◌else◌}
 use Rattle.std.proofs.lemmas.Grind.{common_steps}
 use Rattle.std.proofs.lemmas.List.{drop_more, drop_all, get_or-drop, length-drop, length-append, get_or_append_left, take_at}
 use Rattle.std.proofs.lemmas.Slice.Eq.{starts_is}
-use Rattle.std.proofs.lemmas.Bool.Decides.{Decides-eqb}
+use Rattle.std.proofs.lemmas.Bool.Decides.{Decides-eqb, leb_tells}
 use Rattle.std.proofs.lemmas.Str.{IsCharBoundary-start, IsCharBoundary-from_take, IsCharBoundary-from_rest, IsUtf8-drop}
 use Rattle.std.specs.Str.{IsUtf8, IsCharBoundary}
 use Rattle.tera_errors.specs.Site.{Text}
 use Rattle.tera_syntax.specs.Bytes.{begins, place}
+
+pub by_order : {P : Type 0} (a b : ℕ) → (a < b → P) → (b ≤ a → P) → P
+by_order a b f g = elim (leb_tells (suc a) b) [ inl p ↦ f p.1 | inr p ↦ g (omega arith) ]
 
 place_head : (test : Text → Bool) (b : ℕ) (bs : Text) → test (b ∷ bs) ≡ true → place test (b ∷ bs) ≡ 0
 unfolding place

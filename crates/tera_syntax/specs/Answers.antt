@@ -1,6 +1,9 @@
 -- How the answer of a part of the reader stands to its definition.
 use Rattle.std.specs.Prelude.{◌≡◌, ◌≤◌, ◌+◌, ◌-◌, ℕ, length, drop, IsUtf8, Option, Some, None, Result, Ok, Err}
 use Rattle.tera_errors.specs.Site.{Text}
+use Rattle.tera_tree.specs.declared.expression.Expression.{Expression}
+use Rattle.tera_tree.specs.Tree.{Expr}
+use Rattle.tera_tree.specs.View.{expr_of}
 use Rattle.tera_syntax.specs.declared.refusal.Refusal.{Refusal}
 use Rattle.tera_syntax.specs.declared.refusal.Refusal.TheVariants.{Syntax, OutOfMemory}
 
@@ -21,3 +24,9 @@ Follows at text next rest = (at ≤ next) × (next ≤ at + length text) × (res
 abbrev pub IsSyntax : Refusal → Type 0
 IsSyntax (Syntax why span) = Unit {0}
 IsSyntax OutOfMemory = ⊥
+
+-- a form is made, unless memory is refused
+abbrev pub Makes : Expr → Result Expression Refusal → Type 0
+Makes meant (Ok x) = expr_of x ≡ meant
+Makes meant (Err (Syntax why span)) = ⊥
+Makes meant (Err OutOfMemory) = Unit {0}

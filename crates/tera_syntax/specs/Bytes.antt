@@ -11,3 +11,8 @@ begins word text = starts_with (λ a b. a == b) text word
 unfoldable pub place : (Text → Bool) → Text → ℕ
 place test [] = 0
 place test (b ∷ bs) = if test (b ∷ bs) then 0 else suc (place test bs)
+
+-- how many bytes at the front of the text pass the test
+unfoldable pub run : (ℕ → Bool) → Text → ℕ
+run test [] = 0
+run test (b ∷ bs) = if test b then suc (run test bs) else 0

@@ -73,8 +73,8 @@ tag_of make None = None
 tag_of make (Some x) = Some (record { piece = make x.tokens; next = x.next; trims = x.trims })
 
 abbrev pub behind : Delims → Tag → ℕ → Text → Option Found
-behind d tag.Variable at text = tag_of Variable (inside d.variable_end 0 at text)
-behind d tag.Block at text = tag_of Block (inside d.block_end 0 at text)
+behind d tag.Variable at text = tag_of Variable (inside d.variable_end 0 0 at text)
+behind d tag.Block at text = tag_of Block (inside d.block_end 0 0 at text)
 behind d tag.Comment at text = comment d.comment_end at text
 
 -- a `-` right behind a start delimiter belongs to it

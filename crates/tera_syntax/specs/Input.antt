@@ -1,9 +1,11 @@
--- A place among the tokens of a tag.
-use Rattle.std.specs.Prelude.{ℕ, List, [], ◌∷◌, Bool, bytes_eq, codes, ◌||◌, false}
+-- A place among the tokens of a tag, and the steps of a reader.
+use Rattle.std.specs.Prelude.{ℕ, zero, suc, List, [], ◌∷◌, length, drop, Bool, true, false, Option, Some, None, if◌then◌else◌}
+use denote.Enum.Bare.{sameb}
 use Rattle.tera_errors.specs.Site.{Text}
 use Rattle.tera_errors.specs.declared.span.Span.{Span}
+use Rattle.tera_syntax.specs.contracts.token.Kind.{the_type}
 use Rattle.tera_syntax.specs.declared.token.Kind.{Kind}
-use Rattle.tera_syntax.specs.declared.token.Kind.TheVariants.{End}
+use Rattle.tera_syntax.specs.declared.token.Kind.TheVariants as k
 use Rattle.tera_syntax.specs.Token.{Token}
 
 -- the tokens ahead, and where the last one that was taken ends
@@ -15,7 +17,7 @@ abbrev pub begin : List Token → Input
 begin tokens = record { ahead = tokens; last = 0 }
 
 abbrev pub kind_of : List Token → Kind
-kind_of [] = End
+kind_of [] = k.End
 kind_of (t ∷ ts) = t.kind
 
 -- the kind of the next token
@@ -46,15 +48,56 @@ after (t ∷ ts) last = record { ahead = ts; last = t.span.end }
 unfoldable pub next : Input → Input
 next i = after i.ahead i.last
 
+-- how many tokens are ahead
+unfoldable pub left : Input → ℕ
+left i = length i.ahead
+
 -- from a place to the end of the token that was taken last
 abbrev pub span : ℕ → Input → Span
 span from j = record { start = from; end = j.last }
 
-abbrev pub is_one_of : List Text → Text → Bool
-is_one_of [] name = false
-is_one_of (word ∷ words) name = bytes_eq name word || is_one_of words name
+-- the starts of the first n tokens, from the last on
+abbrev pub starts : List Token → ℕ → List ℕ
+starts run zero = []
+starts run (suc n) = start_of (drop n run) ∷ starts run n
 
--- the words that are no names of variables
-abbrev pub is_reserved : Text → Bool
-is_reserved = is_one_of (codes "true" ∷ codes "True" ∷ codes "false" ∷ codes "False" ∷ codes "none" ∷ codes "None" ∷ codes "and" ∷ codes "or"
-    ∷ codes "not" ∷ codes "in" ∷ codes "is" ∷ codes "if" ∷ codes "elif" ∷ codes "else" ∷ codes "for" ∷ [])
+unfoldable pub same : Kind → Kind → Bool
+same = sameb the_type
+
+-- words, reserved ones too: an attribute may have any for its name
+unfoldable pub is_word : Kind → Bool
+is_word k.Name = true
+is_word k.True = true
+is_word k.False = true
+is_word k.Nothing = true
+is_word k.And = true
+is_word k.Or = true
+is_word k.Not = true
+is_word k.In = true
+is_word k.Is = true
+is_word k.If = true
+is_word k.Elif = true
+is_word k.Else = true
+is_word k.For = true
+is_word kind = false
+
+-- what was read, and the place behind it
+abbrev pub Outcome : Type 0 → Type 0
+Outcome A = Option (A × Input)
+
+abbrev pub Parser : Type 0 → Type 0
+Parser A = Input → Outcome A
+
+abbrev pub and_then : {A B : Type 0} → Outcome A → (A → Parser B) → Outcome B
+and_then (Some p) f = f p.0 p.1
+and_then None f = None
+
+infixl 10 ◌>>=◌
+abbrev pub ◌>>=◌ : {A B : Type 0} → Parser A → (A → Parser B) → Parser B
+p >>= f = λ i. and_then (p i) f
+
+abbrev pub refuse : {A : Type 0} → Parser A
+refuse = λ i. None
+
+unfoldable pub expect : Kind → Parser (Unit {0})
+expect s = λ i. if same s (kind i) then Some (tt, next i) else None

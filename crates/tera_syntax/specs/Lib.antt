@@ -4,6 +4,8 @@ pub mod Token
 pub mod Inside
 pub mod Cut
 pub mod Input
+pub mod Literal
+pub mod Expressions
 pub mod Grammar
 pub mod Spells
 pub mod Reads

@@ -1,15 +1,46 @@
 -- How a function that takes tokens stands to its definition.
-use Rattle.std.specs.Prelude.{◌≡◌, Option, Some, Result, Ok, Err}
+use Rattle.std.specs.Prelude.{◌≡◌, ℕ, List, Bool, Some, Result, Ok, Err}
+use Rattle.std.specs.declared.alloc.Global.{Global}
+use denote.Ref.{MutBor}
+use Rattle.tera_errors.specs.declared.span.Span.{Span}
+use Rattle.tera_tree.specs.declared.expression.BinaryOperator.{BinaryOperator}
+use Rattle.tera_tree.specs.declared.expression.Item as item
+use Rattle.tera_tree.specs.Tree.{Expr, And, Or, Binary}
+use Rattle.tera_tree.specs.View.{expr_of, items_of}
 use Rattle.tera_syntax.specs.declared.refusal.Refusal.{Refusal}
-use Rattle.tera_syntax.specs.Answers.{Refuses}
 use Rattle.tera_syntax.specs.declared.input.Tokens.{Tokens}
+use Rattle.tera_syntax.specs.declared.expressions.Deep as declared
+use Rattle.tera_syntax.specs.declared.expressions.Infix.{Infix}
+use Rattle.tera_syntax.specs.declared.expressions.Infix.TheVariants as form
+use Rattle.tera_syntax.specs.Answers.{Refuses}
 use Rattle.tera_syntax.specs.Token.{tokens_of}
-use Rattle.tera_syntax.specs.Input.{Input}
+use Rattle.tera_syntax.specs.Input.{Input, Outcome}
+use Rattle.tera_syntax.specs.Expressions.{Deep, expr, join_items, one_item}
 
 abbrev pub input : Tokens → Input
 input t = record { ahead = tokens_of t.ahead.now; last = t.last }
 
+abbrev pub deep_of : declared.Deep → Deep
+deep_of x = record { expr = expr_of x.expression; depth = x.depth }
+
+abbrev pub infix_of : Infix → Expr → Expr → Span → Expr
+infix_of form.And = And
+infix_of form.Or = Or
+infix_of (form.Binary operator) = Binary operator
+
 -- What was read, seen by view, and the tokens that are left are the outcome that is meant.
-abbrev pub Takes : {X Y : Type 0} → (X → Y) → Option (Y × Input) → Result X Refusal → Tokens → Type 0
+abbrev pub Takes : {X Y : Type 0} → (X → Y) → Outcome Y → Result X Refusal → Tokens → Type 0
 Takes view meant (Ok x) new = meant ≡ Some (view x, input new)
 Takes view meant (Err refusal) new = Refuses meant refusal
+
+-- a function value that reads expressions to a depth
+pub record Nests (limit : ℕ) (pre : Global → MutBor Tokens → ℕ → ℕ → Type 0)
+    (post : Global → MutBor Tokens → ℕ → ℕ → Result declared.Deep Refusal → MutBor Tokens → Type 0) : Type 0 where
+  pub callable : (alloc : Global) (old : MutBor Tokens) (floor : ℕ) → pre alloc old limit floor
+  pub reads : (alloc : Global) (old new : MutBor Tokens) (floor : ℕ) (r : Result declared.Deep Refusal) → post alloc old limit floor r new
+      → Takes deep_of (expr limit floor (input old.now)) r new.now
+
+-- an item was read behind those that were there, and its depth is the answer
+abbrev pub TakesItem : Outcome Deep → Bool → List item.Item → List item.Item → Result ℕ Refusal → Tokens → Type 0
+TakesItem meant is_spread old items (Ok d) new = (x : Deep) × (meant ≡ Some (x, input new)) × (x.depth ≡ d) × (items_of items ≡ join_items (items_of old) (one_item is_spread x.expr))
+TakesItem meant is_spread old items (Err refusal) new = Refuses meant refusal

@@ -21,7 +21,11 @@ pub(crate) fn before(bytes: &[u8], i: usize) -> &[u8]
 pub(crate) fn begins(word: &[u8], bytes: &[u8]) -> bool
     ensures { result ≡ spec.begins word.now bytes.now }
 {
-    bytes.starts_with(word)
+    match (word, bytes) {
+        // Most texts differ at once.
+        ([first, ..], [byte, ..]) if first != byte => false,
+        _ => bytes.starts_with(word),
+    }
 }
 
 /// The first place where a word begins, or the end.

@@ -7,12 +7,12 @@ ghost use Rattle.tera_tree.specs.Delimiters.{accepted, delimiters_of};
 ghost use Rattle.tera_syntax.specs.Found.{found_of};
 
 use crate::bytes::{after, before, begins, place as place_of};
-use tera_tree::Delimiters;
 use crate::inside::{cut_inside, is_hyphen};
-use crate::refusal::Refusal;
+use crate::refusal::{Reason, Refusal};
 use crate::token::Token;
 use std::alloc::Global;
 use tera_errors::Span;
+use tera_tree::Delimiters;
 
 /// What a start delimiter begins.
 #[derive(Clone, Copy, PartialEq, Eq, Debug)]
@@ -154,7 +154,7 @@ fn comment<'a>(end: &str, text: &'a str, at: usize) -> Result<Found<'a>, Refusal
     let n = place_of(end.as_bytes(), bytes);
     if n >= bytes.len() {
         return Err(Refusal::Syntax(
-            "the comment has no end",
+            Reason::OpenComment,
             Span {
                 start: at,
                 end: at + bytes.len(),

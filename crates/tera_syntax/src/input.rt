@@ -2,10 +2,10 @@
 ghost use Rattle.std.specs.Prelude.{◌≡◌, length, drop};
 ghost use Rattle.tera_syntax.specs.Answers.{IsSyntax};
 ghost use Rattle.tera_syntax.specs.Input as spec;
-ghost use Rattle.tera_syntax.specs.Takes.{input};
+ghost use Rattle.tera_syntax.specs.Takes.{Takes, input};
 ghost use Rattle.tera_syntax.specs.Token.{tokens_of};
 
-use crate::refusal::Refusal;
+use crate::refusal::{Reason, Refusal};
 use crate::token::{Kind, Token};
 use tera_errors::Span;
 
@@ -76,8 +76,28 @@ impl<'a> Tokens<'a> {
         }
     }
 
+    #[tactic(auto, unfolding(crate::specs::Input::left))]
+    pub fn left(&self) -> usize
+        ensures { result ≡ spec.left (input self.now) }
+    {
+        self.ahead.len()
+    }
+
+    /// Takes a token of this kind.
+    #[tactic(auto, unfolding(crate::specs::Input::expect))]
+    pub fn expect(&mut self, kind: Kind) -> Result<(), Refusal>
+        ensures { Takes (λ done. done) (spec.expect kind (input self.old)) result self.new }
+    {
+        if same(kind, self.kind()) {
+            self.take();
+            Ok(())
+        } else {
+            Err(self.refuse(Reason::Expected(kind)))
+        }
+    }
+
     /// The refusal of the next token.
-    pub fn refuse(&self, why: &'static str) -> Refusal
+    pub fn refuse(&self, why: Reason) -> Refusal
         ensures { IsSyntax result }
     {
         match self.ahead.first() {
@@ -93,27 +113,44 @@ impl<'a> Tokens<'a> {
     }
 }
 
-pub(crate) fn is_reserved(name: &str) -> bool
-    ensures { result ≡ spec.is_reserved name.now }
+#[tactic(auto, unfolding(crate::specs::Input::same))]
+pub(crate) fn same(a: Kind, b: Kind) -> bool
+    ensures { result ≡ spec.same a b }
 {
-    matches!(
-        name,
-        "true"
-            | "True"
-            | "false"
-            | "False"
-            | "none"
-            | "None"
-            | "and"
-            | "or"
-            | "not"
-            | "in"
-            | "is"
-            | "if"
-            | "elif"
-            | "else"
-            | "for"
-    )
+    a == b
+}
+
+/// Words, reserved ones too.
+#[tactic(auto, unfolding(crate::specs::Input::is_word))]
+pub(crate) fn is_word(kind: Kind) -> bool
+    ensures { result ≡ spec.is_word kind }
+{
+    match kind {
+        Kind::Name
+        | Kind::True
+        | Kind::False
+        | Kind::Nothing
+        | Kind::And
+        | Kind::Or
+        | Kind::Not
+        | Kind::In
+        | Kind::Is
+        | Kind::If
+        | Kind::Elif
+        | Kind::Else
+        | Kind::For => true,
+        _ => false,
+    }
+}
+
+/// The start of a token, by its place.
+pub(crate) fn start_at(tokens: &[Token<'_>], at: usize) -> usize
+    ensures { result ≡ spec.start_of (drop at (tokens_of tokens.now)) }
+{
+    match tokens.get(at) {
+        Some(token) => token.span.start,
+        None => 0,
+    }
 }
 
 /// All but the first.

@@ -6,8 +6,8 @@ ghost use Rattle.tera_syntax.specs.Found.{inside_of};
 ghost use Rattle.tera_syntax.specs.Inside as spec;
 
 use crate::bytes::{after, begins};
-use crate::refusal::Refusal;
-use crate::token::{Token, is_blank, next_token};
+use crate::refusal::{Reason, Refusal};
+use crate::token::{Kind, Token, is_blank, next_token};
 use std::alloc::Global;
 use tera_errors::Span;
 
@@ -51,6 +51,32 @@ fn closing(end: &[u8], text: &[u8]) -> Option<Ending>
     None
 }
 
+/// The end of a tag, where no bracket is open.
+fn closing_in(opened: usize, end: &[u8], text: &[u8]) -> Option<Ending>
+    ensures { result ≡ spec.closing_in opened end.now text.now }
+{
+    if opened == 0 {
+        closing(end, text)
+    } else {
+        None
+    }
+}
+
+/// How many brackets are open behind a token.
+fn open_after(opened: usize, kind: Kind) -> usize
+    requires { opened < 2 ^ 63 }
+    ensures value { result ≡ spec.open_after opened kind }
+    ensures small { result ≤ opened + 1 }
+{
+    match kind {
+        Kind::LeftParenthesis | Kind::LeftBracket | Kind::OptionalBracket | Kind::LeftBrace => {
+            opened + 1
+        }
+        Kind::RightParenthesis | Kind::RightBracket | Kind::RightBrace => opened.saturating_sub(1),
+        _ => opened,
+    }
+}
+
 /// Cuts what stands behind a start delimiter, at a place of the source.
 pub(crate) fn cut_inside<'a>(
     alloc: Global,
@@ -60,14 +86,15 @@ pub(crate) fn cut_inside<'a>(
 ) -> Result<Inside<'a>, Refusal>
     requires room { at + length text.now < 2 ^ 64 }
     requires some { 0 < length end.now }
-    ensures value { Answers inside_of (spec.inside end.now 0 at text.now) result }
+    ensures value { Answers inside_of (spec.inside end.now 0 0 at text.now) result }
     ensures rest { IfOk result (λ x. Follows at text.now x.next x.rest.now) }
 {
     let bytes = text.as_bytes();
     let mut tokens = Vec::new(alloc);
+    let mut opened = 0;
     let mut i = 0;
     while i < bytes.len() {
-        if let Some(ending) = closing(end.as_bytes(), after(bytes, i)) {
+        if let Some(ending) = closing_in(opened, end.as_bytes(), after(bytes, i)) {
             let (_, rest) = text.split_at(i + ending.size);
             return Ok(Inside {
                 tokens,
@@ -81,19 +108,20 @@ pub(crate) fn cut_inside<'a>(
         } else {
             let Some(token) = next_token(text, i, at) else {
                 return Err(Refusal::Syntax(
-                    "no token begins here",
+                    Reason::NoToken,
                     Span {
                         start: at + i,
                         end: at + bytes.len(),
                     },
                 ));
             };
+            opened = open_after(opened, token.kind);
             i += token.text.len();
             tokens.push(token)?;
         }
     }
     Err(Refusal::Syntax(
-        "the tag has no end",
+        Reason::OpenTag,
         Span {
             start: at,
             end: at + bytes.len(),

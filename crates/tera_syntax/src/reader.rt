@@ -13,57 +13,34 @@ ghost use Rattle.tera_syntax.specs.Token.{tokens_of};
 ghost use Rattle.tera_tree.specs.View.{expr_of, nodes_of, tree_of};
 
 use crate::cut::{Piece, next_piece};
-use tera_tree::Delimiters;
-use crate::input::{Tokens, is_reserved};
-use crate::refusal::Refusal;
+use crate::expressions::expr;
+use crate::input::{Tokens, same};
+use crate::refusal::{Reason, Refusal};
 use crate::token::{Kind, Token};
-use tera_tree::{Expression, Node, ParserOutput};
 use std::alloc::Global;
 use tera_errors::{Error, Span, TeraResult};
+use tera_tree::{Delimiters, Expression, Node, ParserOutput};
 
-#[tactic(auto, unfolding(crate::specs::Reader::same))]
-fn same(a: Kind, b: Kind) -> bool
-    ensures { result ≡ spec.same a b }
-{
-    a == b
-}
-
-/// Takes an expression.
-#[tactic(auto, unfolding(crate::specs::Reader::expr))]
-fn expr(alloc: Global, tokens: &mut Tokens<'_>) -> Result<Expression, Refusal>
-    ensures { Takes expr_of (spec.expr (input tokens.old)) result tokens.new }
-{
-    let text = tokens.text();
-    if same(Kind::Name, tokens.kind()) && !is_reserved(text) {
-        let start = tokens.start();
-        let name = String::from_str(alloc, text)?;
-        tokens.take();
-        Ok(Expression::Name {
-            name,
-            span: tokens.span(start),
-        })
-    } else {
-        Err(tokens.refuse("no expression begins here"))
-    }
-}
+/// How deep a tree may be.
+const MAX_DEPTH: usize = 200;
 
 /// An expression that is all of a tag.
 #[tactic(auto, unfolding(crate::specs::Reader::whole))]
 fn whole(alloc: Global, tokens: &[Token<'_>]) -> Result<Expression, Refusal>
-    ensures { Answers expr_of (spec.whole (tokens_of tokens.now)) result }
+    ensures { Answers expr_of (spec.whole 199 (tokens_of tokens.now)) result }
 {
     let mut tokens = Tokens::begin(tokens);
-    let value = expr(alloc, &mut tokens)?;
+    let value = expr(alloc, &mut tokens, MAX_DEPTH - 1, 0)?;
     if same(Kind::End, tokens.kind()) {
-        Ok(value)
+        Ok(value.expression)
     } else {
-        Err(tokens.refuse("the tag goes on where its end is due"))
+        Err(tokens.refuse(Reason::TagGoesOn))
     }
 }
 
 /// Puts the node of a piece, if it is any, behind those that were read.
 fn put(alloc: Global, found: &mut Vec<Node>, piece: Piece<'_>) -> Result<(), Refusal>
-    ensures { Puts (spec.piece_nodes (piece_of piece.entry)) (nodes_of found.old.items) result (nodes_of found.new.items) }
+    ensures { Puts (spec.piece_nodes 200 (piece_of piece.entry)) (nodes_of found.old.items) result (nodes_of found.new.items) }
 {
     match piece {
         Piece::Words(text, span) => {
@@ -82,7 +59,7 @@ fn put(alloc: Global, found: &mut Vec<Node>, piece: Piece<'_>) -> Result<(), Ref
         }
         Piece::Block(tokens) => {
             let tokens = Tokens::begin(tokens.as_slice());
-            Err(tokens.refuse("no statement begins here"))
+            Err(tokens.refuse(Reason::NoStatement))
         }
     }
 }
@@ -90,7 +67,7 @@ fn put(alloc: Global, found: &mut Vec<Node>, piece: Piece<'_>) -> Result<(), Ref
 /// The nodes of a text.
 fn nodes(alloc: Global, delimiters: &Delimiters, source: &str) -> Result<Vec<Node>, Refusal>
     requires { IsTrue (accepted (delimiters_of delimiters.now)) }
-    ensures { Answers (λ found. nodes_of found.items) (spec.nodes (pieces (delimiters_of delimiters.now) source.now)) result }
+    ensures { Answers (λ found. nodes_of found.items) (spec.nodes 200 (pieces (delimiters_of delimiters.now) source.now)) result }
 {
     let mut found = Vec::new(alloc);
     let mut rest = source;
@@ -138,7 +115,7 @@ pub fn parse(
         Ok(nodes) => Ok(ParserOutput { nodes }),
         Err(Refusal::Syntax(why, span)) => {
             let span = clipped(span, source.len());
-            Err(Error::syntax(alloc, why, name, span))
+            Err(Error::syntax(alloc, why.words(), name, span))
         }
         Err(Refusal::OutOfMemory) => Err(Error::out_of_memory()),
     }

@@ -4,6 +4,8 @@
 #[cfg(test)]
 mod errors;
 #[cfg(test)]
+mod expressions;
+#[cfg(test)]
 mod memory;
 #[cfg(test)]
 mod other_delimiters;

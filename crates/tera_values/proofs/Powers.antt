@@ -1,14 +1,13 @@
 -- Powers at great exponents.
-use Rattle.std.proofs.Common.{◌≡◌, ◌⊎◌, inl, inr, ℕ, zero, suc, ◌^◌, ◌%◌, ◌==◌, ◌<◌, ◌≤◌, ℤ, pos, negsuc, neg_ℤ, unsigned_abs, ◌≤ℤ◌, Bool, true, false, cond, nat_lt, Ok, Err, refl, sym, ap, ◌∙◌, arith}
+use Rattle.std.proofs.Common.{◌≡◌, ℕ, zero, suc, ◌^◌, ◌%◌, ◌==◌, ◌≤◌, ℤ, pos, negsuc, neg_ℤ, unsigned_abs, ◌≤ℤ◌, Bool, true, false, cond, nat_lt, Ok, Err, refl, ap, ◌∙◌, arith}
 use Rattle.std.proofs.lemmas.Bool.Decides.{nat_tests}
 use native.Mathlib.Numerals.{unary_clauses}
 use Rattle.std.proofs.lemmas.Int.{ints}
 use Rattle.std.proofs.Math.Nat.{pow-le-pow_left}
 use Rattle.std.proofs.Math.Pow.{pow_mono}
-use Rattle.std.specs.Int.{int_pow}
 use Rattle.tera_errors.specs.Fault.{message}
 use Rattle.tera_values_data.specs.Val.{int}
-use Rattle.tera_values.specs.Number.{in_range, within, power}
+use Rattle.tera_values.specs.Number.{within, power}
 
 not_below : (a b : ℕ) → b ≤ a → nat_lt a b ≡ false
 not_below a b h = grind (arith, nat_tests)

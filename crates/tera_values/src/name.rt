@@ -23,6 +23,7 @@ impl Model for Name {
 }
 
 impl Name {
+    /// A copy of the text.
     pub fn new(alloc: Global, text: &str) -> TeraResult<Name>
         ensures { Gives (λ n. n) result (Ok text.now) }
     {
@@ -40,6 +41,7 @@ impl Name {
         })
     }
 
+    /// The text of the name.
     pub fn as_str(&self) -> &str
         ensures { result.now ≡ self.now }
     {

@@ -39,6 +39,7 @@ impl StringInput {
         StringInput { value }
     }
 
+    /// The text without its mark.
     pub fn as_str(&self) -> &str
         ensures { Some result.now ≡ text_of self.now }
     {

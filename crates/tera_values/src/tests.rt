@@ -343,7 +343,10 @@ fn many(alloc: Global) -> TeraResult<Map> {
     let mut many = Map::new(alloc);
     for number in 0..10_000_u32 {
         let mixed = number * 7_919 % 10_007;
-        many.insert(Key::Int(i128::from(mixed)), Value::from_int(i128::from(number)))?;
+        many.insert(
+            Key::Int(i128::from(mixed)),
+            Value::from_int(i128::from(number)),
+        )?;
     }
     Ok(many)
 }

@@ -1,5 +1,5 @@
 -- Laws of comparability and of maps.
-use Rattle.std.proofs.Common.{◌≡◌, ◌≢◌, ◌⊎◌, inl, inr, Bool, true, false, cond, if◌then◌else◌, List, [], ◌∷◌, Option, Some, None, refl, sym, ap, ◌∙◌, Ordering, Less, Equal, Greater, is_eq}
+use Rattle.std.proofs.Common.{◌≡◌, ◌≢◌, ◌⊎◌, inl, inr, Bool, true, false, cond, if◌then◌else◌, [], ◌∷◌, Option, Some, None, refl, sym, ap, ◌∙◌, Ordering, Less, Equal, Greater, is_eq}
 use Rattle.std.specs.Ordering.{ordering_reverse}
 use Rattle.tera_values_data.specs.Val.{Val, Vals, KeyVal, undefined, none, bool, int, text, bytes, array, map, no_items, item}
 use Rattle.tera_values_data.specs.Access.{find, insert_pair, key_eq}

@@ -147,3 +147,9 @@ key_of none = Err message
 key_of (bytes t) = Err message
 key_of (array vs) = Err message
 key_of (map es) = Err message
+
+-- a key as a value
+abbrev pub value_of_key : KeyVal → Val
+value_of_key (kbool b) = bool b
+value_of_key (kint z) = int z
+value_of_key (ktext t) = text t false

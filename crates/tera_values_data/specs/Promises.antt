@@ -1,5 +1,5 @@
 -- What holds of the definitions.
-use Rattle.std.specs.Prelude.{◌≡◌, ◌≢◌, ◌↔◌, ℕ, Bool, true, List, [], ◌∷◌, Option, Some}
+use Rattle.std.specs.Prelude.{◌≡◌, ◌≢◌, ◌↔◌, ℕ, Bool, true, List, Some}
 use Rattle.std.specs.Cmp.{IsTotalOrder}
 use Rattle.tera_values_data.specs.Val.{Val, KeyVal, text, map, entries}
 use Rattle.tera_values_data.specs.Access.{find, insert_pair, key_eq}

@@ -1,9 +1,9 @@
 // What is asked of a value as a whole.
-ghost use Rattle.std.specs.Prelude.{◌≡◌, ℕ, List, length, option_copied};
+ghost use Rattle.std.specs.Prelude.{◌≡◌, Ok, ℕ, List, length, option_copied};
 ghost use Rattle.std.specs.Str.{chars};
 ghost use Rattle.tera_errors.specs.Answer.{Gives};
 ghost use Rattle.tera_values_data.specs.View.{key_view};
-ghost use Rattle.tera_values_data.specs.Access.{is_undefined, is_safe, kind_of, kind_name, int_of, text_of, truthy, count, key_of, attr};
+ghost use Rattle.tera_values_data.specs.Access.{is_undefined, is_safe, kind_of, kind_name, int_of, text_of, truthy, count, key_of, value_of_key, attr};
 
 use crate::key::Key;
 use crate::shape::Shape;
@@ -18,6 +18,7 @@ pub(crate) fn char_count(text: &str) -> usize
 }
 
 impl Value {
+    /// Which of the eight kinds the value is of.
     pub fn kind(&self) -> ValueKind
         ensures { result ≡ kind_of self.now }
     {
@@ -49,6 +50,7 @@ impl Value {
         }
     }
 
+    /// Whether the value is what an unbound name stands for.
     pub fn is_undefined(&self) -> bool
         ensures { result ≡ is_undefined self.now }
     {
@@ -126,6 +128,17 @@ impl Value {
             Shape::Int(n) => Ok(Key::Int(n)),
             Shape::Text(t, _) => Ok(Key::Text(String::from_str(alloc, t)?)),
             _ => Err(Error::message(alloc, "not a key")),
+        }
+    }
+
+    /// A key as a value; a text without a mark.
+    pub fn from_key(alloc: Global, key: &Key) -> TeraResult<Value>
+        ensures { Gives (λ v. v) result (Ok (value_of_key (key_view key.now))) }
+    {
+        match key {
+            Key::Bool(flag) => Ok(Value::from_bool(*flag)),
+            Key::Int(number) => Ok(Value::from_int(*number)),
+            Key::Text(name) => Value::string(alloc, name.as_str()),
         }
     }
 

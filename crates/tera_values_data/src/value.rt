@@ -30,6 +30,7 @@ pub struct Value {
     pub(crate) node: Node,
 }
 
+// By hand, so that a value that goes out of scope is one call and not a match on every node.
 impl Drop for Value {
     #[cycle(dropping)]
     fn drop(self) {
@@ -122,12 +123,14 @@ impl Value {
         }
     }
 
+    /// Nothing, which is printed as nothing.
     pub fn none() -> Value
         ensures { result ≡ none }
     {
         Value { node: Node::None }
     }
 
+    /// A boolean.
     pub fn from_bool(flag: bool) -> Value
         ensures { result ≡ bool flag }
     {
@@ -136,6 +139,7 @@ impl Value {
         }
     }
 
+    /// An integer.
     pub fn from_int(number: i128) -> Value
         ensures { result ≡ int number }
     {
@@ -162,6 +166,7 @@ impl Value {
         })
     }
 
+    /// A copy of the bytes.
     pub fn bytes(alloc: Global, content: &[u8]) -> TeraResult<Value>
         ensures { Gives (λ v. v) result (Ok (bytes content.now)) }
     {

@@ -7,14 +7,15 @@ use Rattle.tera_syntax.specs.Found.{found_of, piece_of}
 use Rattle.tera_syntax.specs.Reader as spec
 use Rattle.tera_tree.specs.View.{nodes_of}
 use Rattle.tera_syntax.proofs.Cuts.{cut_step, cut_broken, cut_nothing}
-use Rattle.tera_syntax.proofs.Reading.{some_bytes, refused, joined_none, puts_more, join-none}
+use Rattle.tera_syntax.proofs.Turns.{refused}
+use Rattle.tera_syntax.proofs.Reading.{some_bytes, joined_none, puts_more, join-none}
 use Rattle.tera_syntax.proofs.reader.nodes.Goals as goal
 
 pub returns-in-Err : goal.returns-in-Err
 returns-in-Err c =
     let l = some_bytes c.loop-rest.rest.now (sym c.is_empty.ensures ∙ c.loop-rest-test.true) in
     refused c.in-Err.refusal (λ n. c.loop-rest.invariant.so_far
-    ∙ ap (λ ps. spec.joined (Some (nodes_of c.loop-rest.found.items)) (spec.nodes ps)) (cut_broken (delimiters_of c.args.delimiters.now) c.loop-rest.trims c.loop-rest.at c.loop-rest.rest.now l n))
+    ∙ ap (λ ps. spec.joined (Some (nodes_of c.loop-rest.found.items)) (spec.nodes 200 ps)) (cut_broken (delimiters_of c.args.delimiters.now) c.loop-rest.trims c.loop-rest.at c.loop-rest.rest.now l n))
     c.in-Err.ensures.value
 
 pub returns-in-Err-put : goal.returns-in-Err-put
@@ -23,7 +24,7 @@ returns-in-Err-put c =
     let l = some_bytes c.loop-rest.rest.now (sym c.is_empty.ensures ∙ c.loop-rest-test.true) in
     let s = cut_step d c.loop-rest.trims c.loop-rest.at c.loop-rest.rest.now (found_of c.in-Ok.piece) l c.in-Ok.ensures.value c.in-Ok.ensures.moves in
     refused c.in-Err-put.refusal (λ n. c.loop-rest.invariant.so_far
-    ∙ ap (λ ps. spec.joined (Some (nodes_of c.loop-rest.found.items)) (spec.nodes ps)) s
+    ∙ ap (λ ps. spec.joined (Some (nodes_of c.loop-rest.found.items)) (spec.nodes 200 ps)) s
     ∙ joined_none (nodes_of c.loop-rest.found.items) _ _ n)
     c.in-Err-put.ensures
 
@@ -38,14 +39,14 @@ loop-rest-preserved c =
       utf8 = f.3;
       place = omega (arith, f.0, f.1, k, c.loop-rest.invariant.place);
       so_far = c.loop-rest.invariant.so_far
-          ∙ ap (λ ps. spec.joined (Some (nodes_of c.loop-rest.found.items)) (spec.nodes ps)) s
-          ∙ puts_more (spec.piece_nodes (piece_of c.in-Ok.piece.piece)) _ (nodes_of c.loop-rest.found.items) (nodes_of c.put.new.found.items) c.in_default.ensures
-          ∙ ap (λ text. spec.joined (Some (nodes_of c.put.new.found.items)) (spec.nodes (cut d c.in-Ok.piece.trims 0 c.in-Ok.piece.next text))) (sym f.2);
+          ∙ ap (λ ps. spec.joined (Some (nodes_of c.loop-rest.found.items)) (spec.nodes 200 ps)) s
+          ∙ puts_more (spec.piece_nodes 200 (piece_of c.in-Ok.piece.piece)) _ (nodes_of c.loop-rest.found.items) (nodes_of c.put.new.found.items) c.in_default.ensures
+          ∙ ap (λ text. spec.joined (Some (nodes_of c.put.new.found.items)) (spec.nodes 200 (cut d c.in-Ok.piece.trims 0 c.in-Ok.piece.next text))) (sym f.2);
     }
 
 pub returns : goal.returns
 returns c =
     let z : length c.loop-rest.rest.now ≡ 0 = (Decides-eqb (length c.loop-rest.rest.now) 0).0 (sym c.is_empty.ensures ∙ c.loop-rest-test.false) in
     c.loop-rest.invariant.so_far
-    ∙ ap (λ ps. spec.joined (Some (nodes_of c.loop-rest.found.items)) (spec.nodes ps)) (cut_nothing (delimiters_of c.args.delimiters.now) c.loop-rest.trims c.loop-rest.at c.loop-rest.rest.now z)
+    ∙ ap (λ ps. spec.joined (Some (nodes_of c.loop-rest.found.items)) (spec.nodes 200 ps)) (cut_nothing (delimiters_of c.args.delimiters.now) c.loop-rest.trims c.loop-rest.at c.loop-rest.rest.now z)
     ∙ ap Some (join-none (nodes_of c.loop-rest.found.items))

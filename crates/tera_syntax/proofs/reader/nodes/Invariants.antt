@@ -11,7 +11,7 @@ abbrev pub invariant-loop-rest : goal.invariant-loop-rest
 invariant-loop-rest l = record {
   utf8 : shadow (Utf8 l.rest);
   place : l.at + length l.rest ≡ length l.source;
-  so_far : spec.nodes (pieces (delimiters_of l.delimiters) l.source) ≡ spec.joined (Some (nodes_of l.found.items)) (spec.nodes (cut (delimiters_of l.delimiters) l.trims 0 l.at l.rest));
+  so_far : spec.nodes 200 (pieces (delimiters_of l.delimiters) l.source) ≡ spec.joined (Some (nodes_of l.found.items)) (spec.nodes 200 (cut (delimiters_of l.delimiters) l.trims 0 l.at l.rest));
 }
 
 abbrev pub decreases-loop-rest : goal.decreases-loop-rest

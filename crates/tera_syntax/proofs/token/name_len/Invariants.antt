@@ -1,5 +1,6 @@
 use Rattle.std.proofs.Common.{◌≡◌, ◌+◌, drop}
-use Rattle.tera_syntax.specs.Token.{run, is_name_byte}
+use Rattle.tera_syntax.specs.Bytes.{run}
+use Rattle.tera_syntax.specs.Token.{is_name_byte}
 use Rattle.tera_syntax.proofs.token.name_len.Given as goal
 
 abbrev pub invariant-loop-i : goal.invariant-loop-i

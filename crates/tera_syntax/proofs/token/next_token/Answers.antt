@@ -1,27 +1,31 @@
-use Rattle.std.proofs.Common.{◌≡◌, ◌+◌, get_or, true, false, arith}
-use Rattle.tera_syntax.specs.Token.{is_letter}
-use Rattle.tera_syntax.proofs.Tokens.{name_end, name_end_le, name_boundary, no_name, a_name}
+use Rattle.std.proofs.Common.{◌≡◌, ◌+◌, ◌-◌, drop, take, Some, None, sym, ◌∙◌, ap, refl, arith}
+use Rattle.tera_syntax.specs.Token.{measured, named}
+use Rattle.tera_syntax.proofs.Tokens.{no_token, a_token, start_boundary, end_boundary, end_le}
 use Rattle.tera_syntax.proofs.token.next_token.Goals as goal
 
-pub returns-then-not-is_letter : goal.returns-then-not-is_letter
-returns-then-not-is_letter c =
-    let l : is_letter (get_or c.args.text.now c.args.i 0) ≡ false = cc in
-    no_name c.args.at c.args.i c.args.text.now c.requires.inside l
+pub returns-in-None : goal.returns-in-None
+returns-in-None c =
+    let m : measured (drop c.args.i c.args.text.now) ≡ None = cc in
+    no_token c.args.at c.args.i c.args.text.now m
 
-pub overflow_add-end-2 : goal.overflow_add-end-2
-overflow_add-end-2 c =
-    let e : c.args.i + 1 + c.name_len.result ≡ name_end c.args.i c.args.text.now = cc in
-    let h = name_end_le c.args.text.now c.args.i c.requires.inside in
+pub overflow_add-end : goal.overflow_add-end
+overflow_add-end c =
+    let m : measured (drop c.args.i c.args.text.now) ≡ Some c.in-Some.measure = cc in
+    let e = end_le c.args.i c.args.text.now c.in-Some.measure c.requires.inside m in
     omega arith
 
-pub range-requires-clause-end_boundary : goal.range-requires-clause-end_boundary
-range-requires-clause-end_boundary c =
-    let l : is_letter (get_or c.args.text.now c.args.i 0) ≡ true = cc in
-    let e : c.args.i + 1 + c.name_len.result ≡ name_end c.args.i c.args.text.now = cc in
-    rw e (name_boundary c.args.text.now c.args.i c.utf8.text c.requires.inside l)
+pub range-word-requires-clause-start_boundary : goal.range-word-requires-clause-start_boundary
+range-word-requires-clause-start_boundary c =
+    let m : measured (drop c.args.i c.args.text.now) ≡ Some c.in-Some.measure = cc in
+    λ _. start_boundary c.args.i c.args.text.now c.in-Some.measure c.requires.inside m
+
+pub range-word-requires-clause-end_boundary : goal.range-word-requires-clause-end_boundary
+range-word-requires-clause-end_boundary c =
+    let m : measured (drop c.args.i c.args.text.now) ≡ Some c.in-Some.measure = cc in
+    end_boundary c.args.i c.args.text.now c.in-Some.measure c.utf8.text c.requires.inside m
 
 pub returns : goal.returns
 returns c =
-    let l : is_letter (get_or c.args.text.now c.args.i 0) ≡ true = cc in
-    let e : c.args.i + 1 + c.name_len.result ≡ name_end c.args.i c.args.text.now = cc in
-    a_name c.args.at c.args.i (c.args.i + 1 + c.name_len.result) c.args.text.now _ c.requires.inside l e c.range.ensures.value
+    let m : measured (drop c.args.i c.args.text.now) ≡ Some c.in-Some.measure = cc in
+    let n : (c.args.i + c.in-Some.measure.size) - c.args.i ≡ c.in-Some.measure.size = omega arith in
+    a_token c.args.at c.args.i (c.args.i + c.in-Some.measure.size) c.args.text.now _ _ c.in-Some.measure m refl (c.range-word.ensures.value ∙ ap (λ k. take k (drop c.args.i c.args.text.now)) n) c.named.ensures

@@ -1,7 +1,5 @@
-use Rattle.std.proofs.Common.{◌≡◌, List, [], ◌∷◌, String, Ok, string_bytes, map, sym, ap, ◌∙◌, rules}
+use Rattle.std.proofs.Common.{◌≡◌, List, [], String, Ok, string_bytes, map, sym, ap, ◌∙◌, rules}
 use Rattle.std.specs.Map.{keys_of}
-use Rattle.std.specs.BTreeSet.{insert_key}
-use Rattle.std.specs.String.{string_cmp}
 use Rattle.tera_errors.specs.Site.{Name}
 use Rattle.tera_values_data.specs.Val.{Val}
 use Rattle.tera_values.specs.Named.{Named, put}

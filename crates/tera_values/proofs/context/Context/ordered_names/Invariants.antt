@@ -1,5 +1,4 @@
 use Rattle.std.proofs.Common.{◌≡◌, []}
-use Rattle.std.specs.Map.{keys_of}
 use Rattle.tera_values.proofs.Named.{tags_in, set_tags}
 use Rattle.tera_values.proofs.context.Context.ordered_names.Given as goal
 

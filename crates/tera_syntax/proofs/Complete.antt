@@ -5,14 +5,14 @@ use Rattle.tera_errors.specs.Site as site
 use Rattle.tera_errors.specs.declared.span.Span.{Span}
 use Rattle.tera_tree.specs.declared.expression.BinaryOperator.{BinaryOperator}
 use Rattle.tera_tree.specs.declared.expression.BinaryOperator.TheVariants as binary
-use Rattle.tera_tree.specs.Tree.{Expr, Nothing, Boolean, Integer, Text, Name, Attribute, Index, Not, Negate, Binary, And, Or, Ternary, Array, Items, NoItems, MoreItems}
-use Rattle.tera_tree.specs.Depth.{depth, items_depth}
+use Rattle.tera_tree.specs.Tree.{Expr, Nothing, Boolean, Integer, Text, Name, Attribute, Index, Slice, Optional, Absent, Present, Not, Negate, Binary, And, Or, Ternary, Array, Items, NoItems, MoreItems}
+use Rattle.tera_tree.specs.Depth.{depth, items_depth, optional_depth}
 use Rattle.tera_syntax.specs.declared.token.Kind.{Kind}
 use Rattle.tera_syntax.specs.declared.token.Kind.TheVariants as k
 use Rattle.tera_syntax.specs.Token.{Token}
 use Rattle.tera_syntax.specs.Input.{Input, Outcome, Parser, and_then, same, kind, kind_of, start, text, next, after, left, span, expect, is_word}
 use Rattle.tera_syntax.specs.Literal.{integer, literal}
-use Rattle.tera_syntax.specs.Grammar.{Operator, or, and, equal, not_equal, less, greater, less_or_equal, greater_or_equal, is_in, concat, add, subtract, multiply, divide, floor_divide, remainder, Dot, dot, optional_dot, Bracket, bracket, optional_bracket, Derives, quoted, tighter, choice, operation, not, not_in, minus, power, attribute, index, int, is_true, is_false, nothing, name, parentheses, array, DerivesItem, plain, spread, DerivesItems, none, one, more}
+use Rattle.tera_syntax.specs.Grammar.{Operator, or, and, equal, not_equal, less, greater, less_or_equal, greater_or_equal, is_in, concat, add, subtract, multiply, divide, floor_divide, remainder, Dot, dot, optional_dot, Bracket, bracket, optional_bracket, Derives, quoted, tighter, choice, operation, not, not_in, minus, power, attribute, index, slice, DerivesPart, absent, present, DerivesStep, no_step, step, int, is_true, is_false, nothing, name, parentheses, array, DerivesItem, plain, spread, DerivesItems, none, one, more}
 use Rattle.tera_syntax.specs.Expressions as r
 use Rattle.tera_syntax.specs.Expressions.{Deep, deep, needs, gives, begins, goes_on, floor_in, opened, climb, level, level_with, expr, head, node, prefixed, infixed, applied, behind_dots, join_items, one_item}
 use Rattle.tera_syntax.proofs.Steps as steps
@@ -238,6 +238,9 @@ mutual
   shorter (power {a = a} d h f) = let p1 = shorter d in let p2 = shorter f in let t1 = token k.Power a h (λ e. cc) in omega arith
   shorter (attribute {s = s} {a = a} w d h g) = let p1 = shorter d in let t1 = token s a h (dot-needs w).2 in let t2 = word-left (next a) g in omega arith
   shorter (index {s = s} {a = a} {b = b} w d h f g) = let p1 = shorter d in let p2 = shorter f in let t1 = token s a h (bracket-needs w).2 in let t2 = token k.RightBracket b g (λ e. cc) in omega arith
+  shorter (slice {s = s} {a = a} {b = b} {c = c} {d = e} w d h f g q t u) =
+      let p1 = shorter d in let p2 = shorter-part f in let p3 = shorter-part q in let p4 = shorter-step t in
+      let t1 = token s a h (bracket-needs w).2 in let t2 = token k.Colon b g (λ e. cc) in let t3 = token k.RightBracket e u (λ e. cc) in omega arith
   shorter (int {i = i} h e) = token k.Int i h (λ e. cc)
   shorter (quoted {i = i} h e) = token k.Text i h (λ e. cc)
   shorter (is_true {i = i} h) = token k.True i h (λ e. cc)
@@ -246,6 +249,14 @@ mutual
   shorter (name {i = i} h) = token k.Name i h (λ e. cc)
   shorter (parentheses {i = i} {a = a} h d g) = let p1 = shorter d in let t1 = token k.LeftParenthesis i h (λ e. cc) in let t2 = token k.RightParenthesis a g (λ e. cc) in omega arith
   shorter (array {i = i} {a = a} h d g) = let p1 = shorter-all d in let t1 = token k.LeftBracket i h (λ e. cc) in let t2 = token k.RightBracket a g (λ e. cc) in omega arith
+
+  shorter-part : {o : Optional} {i j : Input} → DerivesPart o i j → left j ≤ left i
+  shorter-part absent = omega arith
+  shorter-part (present d) = let p1 = shorter d in omega arith
+
+  shorter-step : {o : Optional} {i j : Input} → DerivesStep o i j → left j ≤ left i
+  shorter-step no_step = omega arith
+  shorter-step (step {i = i} h f) = let p1 = shorter-part f in let t1 = token k.Colon i h (λ e. cc) in omega arith
 
   shorter-item : {s : Bool} {x : Expr} {i j : Input} → DerivesItem s x i j → left j < left i
   shorter-item (plain d) = shorter d
@@ -358,16 +369,26 @@ module _ (limit : ℕ) (part : ℕ → Parser Deep) where
   attribute-is {s} {optional} w from x a h g le =
       attribute-by w from (deep x) a h ∙ rw g (deep-node limit (depth x) (Attribute x (text (next a)) optional (span from (next (next a)))) (next (next a)) (omega arith) refl)
 
-  index-by : {s : Kind} {optional : Bool} → Bracket s optional → (from : ℕ) (x : Deep) (a : Input) → kind a ≡ s → r.operation limit part from x a ≡ r.index limit part optional from x a
+  subscript-by : {s : Kind} {optional : Bool} → Bracket s optional → (from : ℕ) (x : Deep) (a : Input) → kind a ≡ s → r.operation limit part from x a ≡ r.subscript limit part optional from x a
   unfolding r.operation
-  index-by bracket from x a h = ap (λ s. r.operation_by limit part from x s a) h
-  index-by optional_bracket from x a h = ap (λ s. r.operation_by limit part from x s a) h
+  subscript-by bracket from x a h = ap (λ s. r.operation_by limit part from x s a) h
+  subscript-by optional_bracket from x a h = ap (λ s. r.operation_by limit part from x s a) h
 
-  index-is : {s : Kind} {optional : Bool} → Bracket s optional → (from : ℕ) (x y : Expr) (a b : Input) → kind a ≡ s → part 0 (next a) ≡ Some (deep y, b) → kind b ≡ k.RightBracket
+  index-is : {s : Kind} {optional : Bool} → Bracket s optional → (from : ℕ) (x y : Expr) (a b : Input) → kind a ≡ s → r.part limit part (next a) ≡ Some ((Present y, depth y), b) → kind b ≡ k.RightBracket
       → depth (Index x y optional (span from (next b))) ≤ limit → r.operation limit part from (deep x) a ≡ Some (deep (Index x y optional (span from (next b))), next b)
-  unfolding r.index
+  unfolding r.subscript r.index_at
   index-is {s} {optional} w from x y a b h f g le =
-      index-by w from (deep x) a h ∙ rw (f, expects k.RightBracket b g) (deep-node limit (max (depth x) (depth y)) (Index x y optional (span from (next b))) (next b) (omega arith) refl)
+      let q : same k.RightBracket (kind b) ≡ true = ap (same k.RightBracket) g ∙ steps.same-refl k.RightBracket in
+      subscript-by w from (deep x) a h ∙ rw (f, q) (deep-node limit (max (depth x) (depth y)) (Index x y optional (span from (next b))) (next b) (omega arith) refl)
+
+  slice-is : {s : Kind} {optional : Bool} → Bracket s optional → (from : ℕ) (x : Expr) (p q t : Optional) (a b c d : Input) → kind a ≡ s → r.part limit part (next a) ≡ Some ((p, optional_depth p), b)
+      → same k.RightBracket (kind b) ≡ false → kind b ≡ k.Colon → r.part limit part (next b) ≡ Some ((q, optional_depth q), c) → r.step limit part c ≡ Some ((t, optional_depth t), d) → kind d ≡ k.RightBracket
+      → depth (Slice x p q t optional (span from (next d))) ≤ limit → r.operation limit part from (deep x) a ≡ Some (deep (Slice x p q t optional (span from (next d))), next d)
+  unfolding r.subscript r.slice r.slice_made
+  slice-is {s} {optional} w from x p q t a b c d h f n g f2 f3 u le =
+      subscript-by w from (deep x) a h
+      ∙ rw (f, n, expects k.Colon b g, f2, f3, expects k.RightBracket d u)
+      (deep-node limit (max (depth x) (max (optional_depth p) (max (optional_depth q) (optional_depth t)))) (Slice x p q t optional (span from (next d))) (next d) (omega arith) refl)
 
   prefixed-is : (l : ℕ) (form : Expr → Span → Expr) (x : Expr) (i j : Input) → depth (form x (span (start i) j)) ≡ suc (depth x) → part l (next i) ≡ Some (deep x, j) → depth (form x (span (start i) j)) ≤ limit
       → prefixed limit part l form i ≡ Some (deep (form x (span (start i) j)), j)
@@ -421,26 +442,27 @@ module _ (limit : ℕ) (part : ℕ → Parser Deep) where
 
 -- no expression begins with a token of these kinds
 abbrev Begins : Kind → Type 0
-Begins s = (s ≡ k.RightBracket → ⊥) × (s ≡ k.Spread → ⊥)
+Begins s = (s ≡ k.RightBracket → ⊥) × (s ≡ k.Spread → ⊥) × (s ≡ k.Colon → ⊥)
 
 starts-so : {l : ℕ} {x : Expr} {i j : Input} → Derives l x i j → Begins (kind i)
 starts-so (tighter d) = starts-so d
 starts-so (choice d h f g q) = starts-so d
 starts-so (operation w d h f) = starts-so d
-starts-so (not h d) = (λ e. cc, λ e. cc)
+starts-so (not h d) = (λ e. cc, λ e. cc, λ e. cc)
 starts-so (not_in d h g f) = starts-so d
-starts-so (minus h d) = (λ e. cc, λ e. cc)
+starts-so (minus h d) = (λ e. cc, λ e. cc, λ e. cc)
 starts-so (power d h f) = starts-so d
 starts-so (attribute w d h g) = starts-so d
 starts-so (index w d h f g) = starts-so d
-starts-so (int h e) = (λ e. cc, λ e. cc)
-starts-so (quoted h e) = (λ e. cc, λ e. cc)
-starts-so (is_true h) = (λ e. cc, λ e. cc)
-starts-so (is_false h) = (λ e. cc, λ e. cc)
-starts-so (nothing h) = (λ e. cc, λ e. cc)
-starts-so (name h) = (λ e. cc, λ e. cc)
-starts-so (parentheses h d g) = (λ e. cc, λ e. cc)
-starts-so (array h d g) = (λ e. cc, λ e. cc)
+starts-so (slice w d h f g q t u) = starts-so d
+starts-so (int h e) = (λ e. cc, λ e. cc, λ e. cc)
+starts-so (quoted h e) = (λ e. cc, λ e. cc, λ e. cc)
+starts-so (is_true h) = (λ e. cc, λ e. cc, λ e. cc)
+starts-so (is_false h) = (λ e. cc, λ e. cc, λ e. cc)
+starts-so (nothing h) = (λ e. cc, λ e. cc, λ e. cc)
+starts-so (name h) = (λ e. cc, λ e. cc, λ e. cc)
+starts-so (parentheses h d g) = (λ e. cc, λ e. cc, λ e. cc)
+starts-so (array h d g) = (λ e. cc, λ e. cc, λ e. cc)
 
 item-starts : {s : Bool} {x : Expr} {i j : Input} → DerivesItem s x i j → (kind i ≡ k.RightBracket → ⊥) × (same k.Spread (kind i) ≡ s)
 item-starts (plain {i = i} d) = let b = starts-so d in (b.0, unlike k.Spread (kind i) b.1)
@@ -475,6 +497,7 @@ at-most (minus h d) = omega arith
 at-most (power d h f) = omega arith
 at-most (attribute w d h g) = omega arith
 at-most (index w d h f g) = omega arith
+at-most (slice w d h f g q t u) = omega arith
 at-most (int h e) = omega arith
 at-most (quoted h e) = omega arith
 at-most (is_true h) = omega arith
@@ -497,9 +520,9 @@ power-kind : (needs k.Power ≡ 10) × (gives k.Power ≡ 9)
 unfolding needs gives
 power-kind = (refl, refl)
 
-closing-kinds : (needs k.Else ≡ 12) × (needs k.RightParenthesis ≡ 12) × (needs k.RightBracket ≡ 12) × (needs k.Comma ≡ 12) × (needs k.End ≡ 12)
+closing-kinds : (needs k.Else ≡ 12) × (needs k.RightParenthesis ≡ 12) × (needs k.RightBracket ≡ 12) × (needs k.Comma ≡ 12) × (needs k.End ≡ 12) × (needs k.Colon ≡ 12)
 unfolding needs
-closing-kinds = (refl, refl, refl, refl, refl)
+closing-kinds = (refl, refl, refl, refl, refl, refl)
 
 needs-at : (s t : Kind) (n : ℕ) → s ≡ t → needs t ≡ n → needs s ≡ n
 needs-at s t n h e = ap needs h ∙ e
@@ -542,6 +565,34 @@ goes-leaf : (s : Kind) (x : Expr) (i : Input) → kind i ≡ s → (s ≡ k.Left
 goes-leaf s x i h never some be e b m n floor os y dep fl st fu c =
     let t1 = next-left s i h some in
     goes-first b m n floor 11 os s x i (next i) y h never be fl (omega arith) (head-is (suc b) (expr b) i s h ∙ e b) c
+
+part-colon : (limit : ℕ) (sub : ℕ → Parser Deep) (i : Input) → kind i ≡ k.Colon → r.part limit sub i ≡ Some ((Absent, 0), i)
+unfolding r.part
+part-colon limit sub i h = rw (alike k.Colon (kind i) h) refl
+
+part-bracket : (limit : ℕ) (sub : ℕ → Parser Deep) (i : Input) → kind i ≡ k.RightBracket → r.part limit sub i ≡ Some ((Absent, 0), i)
+unfolding r.part
+part-bracket limit sub i h = rw (differ k.Colon k.RightBracket (kind i) h (λ e. cc), alike k.RightBracket (kind i) h) refl
+
+part-some : (limit : ℕ) (sub : ℕ → Parser Deep) (x : Expr) (i a : Input) → (kind i ≡ k.Colon → ⊥) → (kind i ≡ k.RightBracket → ⊥) → sub 0 i ≡ Some (deep x, a) → r.part limit sub i ≡ Some ((Present x, depth x), a)
+unfolding r.part
+part-some limit sub x i a c b e = rw (unlike k.Colon (kind i) c, unlike k.RightBracket (kind i) b, e) refl
+
+step-none : (limit : ℕ) (sub : ℕ → Parser Deep) (i : Input) → kind i ≡ k.RightBracket → r.step limit sub i ≡ Some ((Absent, 0), i)
+unfolding r.step
+step-none limit sub i h = rw (differ k.Colon k.RightBracket (kind i) h (λ e. cc)) refl
+
+step-some : (limit : ℕ) (sub : ℕ → Parser Deep) (i : Input) → kind i ≡ k.Colon → r.step limit sub i ≡ r.part limit sub (next i)
+unfolding r.step
+step-some limit sub i h = rw (alike k.Colon (kind i) h) refl
+
+ends-bound : (s : Kind) → (s ≡ k.Colon) ⊎ (s ≡ k.RightBracket) → needs s ≡ 12
+ends-bound s (inl h) = needs-at s k.Colon 12 h closing-kinds.5
+ends-bound s (inr h) = needs-at s k.RightBracket 12 h closing-kinds.2
+
+step-begins : {o : Optional} {i a : Input} → DerivesStep o i a → kind a ≡ k.RightBracket → (kind i ≡ k.Colon) ⊎ (kind i ≡ k.RightBracket)
+step-begins no_step h = inr h
+step-begins (step q f) h = inl q
 
 mutual
   goes : {l : ℕ} {x : Expr} {i j : Input} → Derives l x i j → Goes l x i j
@@ -598,10 +649,18 @@ mutual
       let u = bracket-needs w in
       let n1 = needs-at (kind a) s 11 h u.0 in let g1 = gives-at (kind a) s 11 h u.1 in
       let n2 = needs-at (kind v) k.RightBracket 12 g closing-kinds.2 in
-      let pz : part-read b 0 z (next a) v = whole 0 z (next a) v (goes f) (inr (omega arith)) (inr (omega arith)) (some-depth z) b (omega arith) in
       let t1 = token s a h u.2 in let t2 = token k.RightBracket v g (λ e. cc) in let s1 = shorter f in
       goes-on b m n floor 11 11 os x (Index x z optional (span (start i) (next v))) i a (next v) y (goes d) (omega arith) fl (omega arith) n1 g1 fu (omega arith)
-      (index-is (suc b) (expr b) w (start i) x z a v h pz g dep) c
+      (index-is (suc b) (expr b) w (start i) x z a v h
+      (part-some (suc b) (expr b) z (next a) v (starts-so f).2 (starts-so f).0 (whole 0 z (next a) v (goes f) (inr (omega arith)) (inr (omega arith)) (some-depth z) b (omega arith))) g dep) c
+  goes (slice {s = s} {optional = optional} {x = x} {from = p} {to = q} {by = t} {i = i} {a = a} {b = v} {c = e} {d = o} w d h f g f2 f3 l) b m n floor os y dep fl st fu c =
+      let u = bracket-needs w in
+      let n1 = needs-at (kind a) s 11 h u.0 in let g1 = gives-at (kind a) s 11 h u.1 in
+      let t1 = token s a h u.2 in let t2 = token k.Colon v g (λ e. cc) in let t3 = token k.RightBracket o l (λ e. cc) in
+      let s1 = shorter-part f in let s2 = shorter-part f2 in let s3 = shorter-step f3 in
+      goes-on b m n floor 11 11 os x (Slice x p q t optional (span (start i) (next o))) i a (next o) y (goes d) (omega arith) fl (omega arith) n1 g1 fu (omega arith)
+      (slice-is (suc b) (expr b) w (start i) x p q t a v e o h (goes-part f (inl g) (suc b) b (omega arith)) (differ k.RightBracket k.Colon (kind v) g (λ e. cc)) g
+      (goes-part f2 (step-begins f3 l) (suc b) b (omega arith)) (goes-step f3 l (suc b) b (omega arith)) l dep) c
   goes (int {z = z} {i = i} h e) b m n floor os y dep fl st fu c =
       goes-leaf k.Int (Integer z (span (start i) (next i))) i h (λ e. cc) (λ e. cc) begin-kinds.2 (λ b. int-is (suc b) (expr b) z i e (omega arith)) b m n floor os y dep fl st fu c
   goes (quoted {t = t} {i = i} h e) b m n floor os y dep fl st fu c =
@@ -624,6 +683,19 @@ mutual
       let t1 = token k.LeftBracket i h (λ e. cc) in let t2 = token k.RightBracket a g (λ e. cc) in let s1 = shorter-all d in
       goes-first b m n floor 11 os k.LeftBracket (Array xs (span (start i) (next a))) i (next a) y h (λ e. cc) begin-kinds.4 fl (omega arith)
       (head-is (suc b) (expr b) i k.LeftBracket h ∙ array-is (suc b) (expr b) xs i a (goes-all d g b (left (next i)) NoItems 0 (omega arith) (omega arith) ∙ list-start xs (items_depth xs) (next a)) dep) c
+
+  -- a bound is read, where a colon or a bracket follows
+  goes-part : {o : Optional} {i a : Input} → DerivesPart o i a → (kind a ≡ k.Colon) ⊎ (kind a ≡ k.RightBracket) → (limit b : ℕ) → optional_depth o ≤ b → r.part limit (expr b) i ≡ Some ((o, optional_depth o), a)
+  goes-part (absent {i = i}) (inl h) limit b le = part-colon limit (expr b) i h
+  goes-part (absent {i = i}) (inr h) limit b le = part-bracket limit (expr b) i h
+  goes-part (present {x = x} {i = i} {j = a} d) h limit b le =
+      let n1 = ends-bound (kind a) h in
+      let w = starts-so d in
+      part-some limit (expr b) x i a w.2 w.0 (whole 0 x i a (goes d) (inr (omega arith)) (inr (omega arith)) (some-depth x) b le)
+
+  goes-step : {o : Optional} {i a : Input} → DerivesStep o i a → kind a ≡ k.RightBracket → (limit b : ℕ) → optional_depth o ≤ b → r.step limit (expr b) i ≡ Some ((o, optional_depth o), a)
+  goes-step (no_step {i = i}) h limit b le = step-none limit (expr b) i h
+  goes-step (step {i = i} q f) h limit b le = step-some limit (expr b) i q ∙ goes-part f (inr h) limit b le
 
   -- an item is read behind its dots, where no operator follows
   goes-item : {s : Bool} {x : Expr} {i a : Input} → DerivesItem s x i a → needs (kind a) ≡ 12 → (b : ℕ) → depth x ≤ b → expr b 0 (behind_dots i) ≡ Some (deep x, a)

@@ -5,13 +5,13 @@ use Rattle.tera_errors.specs.Site as site
 use Rattle.tera_errors.specs.declared.span.Span.{Span}
 use Rattle.tera_tree.specs.declared.expression.BinaryOperator.{BinaryOperator}
 use Rattle.tera_tree.specs.declared.expression.BinaryOperator.TheVariants as binary
-use Rattle.tera_tree.specs.Tree.{Expr, Nothing, Boolean, Integer, Text, Name, Attribute, Index, Not, Negate, Binary, And, Or, Ternary, Array, Items, NoItems, MoreItems}
-use Rattle.tera_tree.specs.Depth.{depth, items_depth}
+use Rattle.tera_tree.specs.Tree.{Expr, Nothing, Boolean, Integer, Text, Name, Attribute, Index, Slice, Optional, Absent, Present, Not, Negate, Binary, And, Or, Ternary, Array, Items, NoItems, MoreItems}
+use Rattle.tera_tree.specs.Depth.{depth, items_depth, optional_depth}
 use Rattle.tera_syntax.specs.declared.token.Kind.{Kind}
 use Rattle.tera_syntax.specs.declared.token.Kind.TheVariants as k
 use Rattle.tera_syntax.specs.Input.{Input, Outcome, Parser, and_then, same, kind, start, text, next, left, span, expect, is_word}
 use Rattle.tera_syntax.specs.Literal.{integer, literal}
-use Rattle.tera_syntax.specs.Grammar.{Operator, or, and, equal, not_equal, less, greater, less_or_equal, greater_or_equal, is_in, concat, add, subtract, multiply, divide, floor_divide, remainder, Dot, dot, optional_dot, Bracket, bracket, optional_bracket, Derives, quoted, tighter, choice, operation, not, not_in, minus, power, attribute, index, int, is_true, is_false, nothing, name, parentheses, array, DerivesItem, plain, spread, DerivesItems, none, one, more}
+use Rattle.tera_syntax.specs.Grammar.{Operator, or, and, equal, not_equal, less, greater, less_or_equal, greater_or_equal, is_in, concat, add, subtract, multiply, divide, floor_divide, remainder, Dot, dot, optional_dot, Bracket, bracket, optional_bracket, Derives, quoted, tighter, choice, operation, not, not_in, minus, power, attribute, index, slice, DerivesPart, absent, present, DerivesStep, no_step, step, int, is_true, is_false, nothing, name, parentheses, array, DerivesItem, plain, spread, DerivesItems, none, one, more}
 use Rattle.tera_syntax.specs.Expressions as r
 use Rattle.tera_syntax.specs.Expressions.{Deep, deep, needs, gives, begins, goes_on, floor_in, opened, climb, level, level_with, expr, head, node, prefixed, infixed, applied, behind_dots, join_items, one_item}
 use Rattle.tera_syntax.proofs.Steps.{and_then-some, guard, chosen, same-is, expect-some, some-pair, either, same-value, node-got}
@@ -112,6 +112,9 @@ item-at : (t : Bool) (x : Expr) (i a : Input) → same k.Spread (kind i) ≡ t �
 item-at true x i a e d = spread (same-is k.Spread (kind i) e) d
 item-at false x i a e d = plain d
 
+abbrev some-part : Optional × ℕ → Input → Option ((Optional × ℕ) × Input)
+some-part z i = Some (z, i)
+
 module _ (limit b : ℕ) (part : ℕ → Parser Deep) (sound : Sound b part) where
   prefixed-got : (l : ℕ) (form : Expr → Span → Expr) → ((x : Expr) (at : Span) → depth (form x at) ≡ suc (depth x)) → (i j : Input) (y : Deep) → l ≤ 11
       → ((x : Expr) (j : Input) → Derives l x (next i) j → Derives l (form x (span (start i) j)) i j) → prefixed limit part l form i ≡ Some (y, j) → Got limit l y i j
@@ -168,17 +171,76 @@ module _ (limit b : ℕ) (part : ℕ → Parser Deep) (sound : Sound b part) whe
       let q = guard (is_word (kind (next i))) (node limit (depth v) (Attribute v (text (next i)) optional (span (start p) (next (next i)))) (next (next i))) (y, j) hh in
       node-got (λ y j. Got limit 11 y p j) limit (depth v) (Attribute v (text (next i)) optional (span (start p) (next (next i)))) (next (next i)) j y q.1 refl (λ ok. got ok (attribute w d h q.0))
 
-  index-got : {s : Kind} {optional : Bool} → Bracket s optional → (p i j : Input) (x y : Deep) → kind i ≡ s → Got limit 11 x p i → r.index limit part optional (start p) x i ≡ Some (y, j) → Got limit 11 y p j
-  unfolding r.index
-  index-got {s} {optional} br p i j x y h (got {x = v} _ d) hh =
-      let q = and_then-some (part 0 (next i)) (λ y. λ b. and_then (expect k.RightBracket b) (λ _. λ j. node limit (max (depth v) y.depth) (Index v y.expr optional (span (start p) j)) j)) (y, j) hh in
-      let u = and_then-some (expect k.RightBracket q.1) (λ _. λ j. node limit (max (depth v) q.0.depth) (Index v q.0.expr optional (span (start p) j)) j) (y, j) q.3 in
-      let w = expect-some k.RightBracket q.1 u.1 u.0 u.2 in
-      go (sound 0 (next i) q.1 q.0 (omega arith) q.2) w.0 w.1 u.3
+  part-got : (i j : Input) (z : Optional × ℕ) → r.part limit part i ≡ Some (z, j) → DerivesPart z.0 i j × (z.1 ≡ optional_depth z.0)
+  unfolding r.part
+  part-got i j z hh =
+      either (chosen (same k.Colon (kind i)) (Some ((Absent, 0), i)) (if same k.RightBracket (kind i) then Some ((Absent, 0), i) else and_then (part 0 i) written) (Some (z, j)) hh)
+      (λ q. empty q.1)
+      (λ q. either (chosen (same k.RightBracket (kind i)) (Some ((Absent, 0), i)) (and_then (part 0 i) written) (Some (z, j)) q.1)
+      (λ q. empty q.1)
+      (λ q. let t = and_then-some (part 0 i) written (z, j) q.1 in go (sound 0 i t.1 t.0 (omega arith) t.2) t.3))
     where
-      go : {z : Deep} {e c : Input} → Got b 0 z (next i) e → kind e ≡ k.RightBracket → c ≡ next e → node limit (max (depth v) z.depth) (Index v z.expr optional (span (start p) c)) c ≡ Some (y, j) → Got limit 11 y p j
-      go {c = c} (got {x = w} {j = e} _ f) g eq n = node-got (λ y j. Got limit 11 y p j) limit (max (depth v) (depth w)) (Index v w optional (span (start p) c)) c j y n refl
-          (λ ok. let P : Input → Type 0 = λ c. depth (Index v w optional (span (start p) c)) ≤ limit → Got limit 11 (deep (Index v w optional (span (start p) c))) p c in subst P (sym eq) (λ ok. got ok (index br d h f g)) ok)
+      written : Deep → Parser (Optional × ℕ)
+      written x j = Some ((Present x.expr, x.depth), j)
+
+      P : Optional × ℕ → Input → Type 0
+      P z j = DerivesPart z.0 i j × (z.1 ≡ optional_depth z.0)
+
+      empty : some-part (Absent, 0) i ≡ some-part z j → P z j
+      empty h = let q = some-pair ((Absent, 0), i) (z, j) h in subst (λ w. P w j) q.0 (subst (λ w. P (Absent, 0) w) q.1 (absent, refl))
+
+      go : {x : Deep} {a : Input} → Got b 0 x i a → written x a ≡ Some (z, j) → P z j
+      go (got {x = v} {j = a} _ d) h = let q = some-pair ((Present v, depth v), a) (z, j) h in subst (λ w. P w j) q.0 (subst (λ w. P (Present v, depth v) w) q.1 (present d, refl))
+
+  step-got : (i j : Input) (z : Optional × ℕ) → r.step limit part i ≡ Some (z, j) → DerivesStep z.0 i j × (z.1 ≡ optional_depth z.0)
+  unfolding r.step
+  step-got i j z hh =
+      either (chosen (same k.Colon (kind i)) (r.part limit part (next i)) (Some ((Absent, 0), i)) (Some (z, j)) hh)
+      (λ q. let t = part-got (next i) j z q.1 in (step (same-is k.Colon (kind i) q.0) t.0, t.1))
+      (λ q. let e = some-pair ((Absent, 0), i) (z, j) q.1 in
+      let P : Optional × ℕ → Input → Type 0 = λ z j. DerivesStep z.0 i j × (z.1 ≡ optional_depth z.0) in
+      subst (λ w. P w j) e.0 (subst (λ w. P (Absent, 0) w) e.1 (no_step, refl)))
+
+  index-at-got : {s : Kind} {optional : Bool} → Bracket s optional → (p i a j : Input) (v : Expr) (y : Deep) (o : Optional) (d : ℕ) → kind i ≡ s → Derives 11 v p i → DerivesPart o (next i) a → d ≡ optional_depth o → kind a ≡ k.RightBracket
+      → r.index_at limit part optional (start p) (deep v) o d a ≡ Some (y, j) → Got limit 11 y p j
+  unfolding r.index_at
+  index-at-got w p i a j v y Absent d h dv f e g hh = cc
+  index-at-got {s} {optional} w p i a j v y (Present x) d h dv (present f) e g hh =
+      node-got (λ y j. Got limit 11 y p j) limit (max (depth v) d) (Index v x optional (span (start p) (next a))) (next a) j y hh (omega (arith, e)) (λ ok. got ok (index w dv h f g))
+
+  slice-got : {s : Kind} {optional : Bool} → Bracket s optional → (p i a j : Input) (v : Expr) (y : Deep) (z : Optional × ℕ) → kind i ≡ s → Derives 11 v p i → DerivesPart z.0 (next i) a → z.1 ≡ optional_depth z.0
+      → r.slice limit part optional (start p) (deep v) z a ≡ Some (y, j) → Got limit 11 y p j
+  unfolding r.slice r.slice_made
+  slice-got {s} {optional} br p i a j v y z h dv f e hh =
+      let q = and_then-some (expect k.Colon a) (λ _. λ j. and_then (r.part limit part j) bounded) (y, j) hh in
+      let u = expect-some k.Colon a q.1 q.0 q.2 in
+      let t = and_then-some (r.part limit part q.1) bounded (y, j) q.3 in
+      let st = and_then-some (r.step limit part t.1) (r.slice_made limit part optional (start p) (deep v) z t.0) (y, j) t.3 in
+      let m = and_then-some (expect k.RightBracket st.1) (λ _. λ j. node limit (max (depth v) (max z.1 (max t.0.1 st.0.1))) (Slice v z.0 t.0.0 st.0.0 optional (span (start p) j)) j) (y, j) st.3 in
+      let n = expect-some k.RightBracket st.1 m.1 m.0 m.2 in
+      let to = part-got q.1 t.1 t.0 t.2 in
+      let by = step-got t.1 st.1 st.0 st.2 in
+      go u.1 u.0 n.1 n.0 t.0 st.0 to.1 by.1 to.0 by.0 m.3
+    where
+      bounded : Optional × ℕ → Parser Deep
+      bounded q j = and_then (r.step limit part j) (r.slice_made limit part optional (start p) (deep v) z q)
+
+      go : {b' c d d' : Input} → b' ≡ next a → kind a ≡ k.Colon → d' ≡ next d → kind d ≡ k.RightBracket → (to by : Optional × ℕ) → to.1 ≡ optional_depth to.0 → by.1 ≡ optional_depth by.0
+          → DerivesPart to.0 b' c → DerivesStep by.0 c d
+          → node limit (max (depth v) (max z.1 (max to.1 by.1))) (Slice v z.0 to.0 by.0 optional (span (start p) d')) d' ≡ Some (y, j) → Got limit 11 y p j
+      go {c = c} {d = d} {d' = d'} e1 c1 e2 c2 to by g1 g2 f1 f2 nn =
+          node-got (λ y j. Got limit 11 y p j) limit (max (depth v) (max z.1 (max to.1 by.1))) (Slice v z.0 to.0 by.0 optional (span (start p) d')) d' j y nn (omega (arith, e, g1, g2))
+          (λ ok. let P : Input → Type 0 = λ d'. depth (Slice v z.0 to.0 by.0 optional (span (start p) d')) ≤ limit → Got limit 11 (deep (Slice v z.0 to.0 by.0 optional (span (start p) d'))) p d' in
+          subst P (sym e2) (λ ok. got ok (slice br dv h f c1 (subst (λ b. DerivesPart to.0 b c) e1 f1) f2 c2)) ok)
+
+  subscript-got : {s : Kind} {optional : Bool} → Bracket s optional → (p i j : Input) (x y : Deep) → kind i ≡ s → Got limit 11 x p i → r.subscript limit part optional (start p) x i ≡ Some (y, j) → Got limit 11 y p j
+  unfolding r.subscript
+  subscript-got {s} {optional} w p i j x y h (got {x = v} _ d) hh =
+      let q = and_then-some (r.part limit part (next i)) (r.subscript_with limit part optional (start p) (deep v)) (y, j) hh in
+      let f = part-got (next i) q.1 q.0 q.2 in
+      either (chosen (same k.RightBracket (kind q.1)) (r.index_at limit part optional (start p) (deep v) q.0.0 q.0.1 q.1) (r.slice limit part optional (start p) (deep v) q.0 q.1) (Some (y, j)) q.3)
+      (λ t. index-at-got w p i q.1 j v y q.0.0 q.0.1 h d f.0 f.1 (same-is k.RightBracket (kind q.1) t.0) t.1)
+      (λ t. slice-got w p i q.1 j v y q.0 h d f.0 f.1 t.1)
 
   in-got : (n : ℕ) (p i j : Input) (x y : Deep) → Got limit n x p i → applied limit part 5 binary.In (start p) x (next i) ≡ Some (y, j) → kind (next i) ≡ k.In → kind i ≡ k.Not → 4 ≤ n
       → (z : Deep) (l : Input) → node limit y.depth (Not y.expr (span (start p) j)) j ≡ Some (z, l) → Got limit 4 z p l
@@ -227,8 +289,8 @@ module _ (limit b : ℕ) (part : ℕ → Parser Deep) (sound : Sound b part) whe
   operation-by-got k.Power have p i j x y h n b g hh = power-got have p i j x y n h g hh
   operation-by-got k.Dot have p i j x y h n b g hh = attribute-got dot p i j x y h (lowered have 11 x p i n g) hh
   operation-by-got k.OptionalDot have p i j x y h n b g hh = attribute-got optional_dot p i j x y h (lowered have 11 x p i n g) hh
-  operation-by-got k.LeftBracket have p i j x y h n b g hh = index-got bracket p i j x y h (lowered have 11 x p i n g) hh
-  operation-by-got k.OptionalBracket have p i j x y h n b g hh = index-got optional_bracket p i j x y h (lowered have 11 x p i n g) hh
+  operation-by-got k.LeftBracket have p i j x y h n b g hh = subscript-got bracket p i j x y h (lowered have 11 x p i n g) hh
+  operation-by-got k.OptionalBracket have p i j x y h n b g hh = subscript-got optional_bracket p i j x y h (lowered have 11 x p i n g) hh
   operation-by-got _ have p i j x y h n b g hh = absurd (omega arith)
 
   operation-got : (have : ℕ) (p i j : Input) (x y : Deep) → needs (kind i) ≤ have → have ≤ 11 → Got limit have x p i → r.operation limit part (start p) x i ≡ Some (y, j) → Got limit (gives (kind i)) y p j

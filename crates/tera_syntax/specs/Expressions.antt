@@ -3,7 +3,7 @@ use Rattle.std.specs.Prelude.{◌≡◌, ℕ, zero, suc, ◌+◌, max, ℤ, List
 use Rattle.tera_errors.specs.declared.span.Span.{Span}
 use Rattle.tera_tree.specs.declared.expression.BinaryOperator.{BinaryOperator}
 use Rattle.tera_tree.specs.declared.expression.BinaryOperator.TheVariants as binary
-use Rattle.tera_tree.specs.Tree.{Expr, Nothing, Boolean, Integer, Text, Name, Attribute, Index, Not, Negate, Binary, And, Or, Ternary, Array, Items, NoItems, MoreItems}
+use Rattle.tera_tree.specs.Tree.{Expr, Nothing, Boolean, Integer, Text, Name, Attribute, Index, Slice, Optional, Absent, Present, Not, Negate, Binary, And, Or, Ternary, Array, Items, NoItems, MoreItems}
 use Rattle.tera_tree.specs.Depth.{depth}
 use Rattle.tera_syntax.specs.declared.token.Kind.{Kind}
 use Rattle.tera_syntax.specs.declared.token.Kind.TheVariants as k
@@ -130,9 +130,30 @@ module _ (limit : ℕ) (sub : ℕ → Parser Deep) where
   unfoldable pub attribute : Bool → ℕ → Deep → Parser Deep
   attribute optional from x = λ i. if is_word (kind (next i)) then node limit x.depth (Attribute x.expr (text (next i)) optional (span from (next (next i)))) (next (next i)) else None
 
-  unfoldable pub index : Bool → ℕ → Deep → Parser Deep
-  index optional from x = λ i. (sub 0 >>= (λ y. expect k.RightBracket >>= (λ _. λ j.
-      node limit (max x.depth y.depth) (Index x.expr y.expr optional (span from j)) j))) (next i)
+  -- a bound of a slice, if it is written, and how deep it is
+  unfoldable pub part : Parser (Optional × ℕ)
+  part = λ i. if same k.Colon (kind i) then Some ((Absent, 0), i) else (if same k.RightBracket (kind i) then Some ((Absent, 0), i)
+      else and_then (sub 0 i) (λ x. λ j. Some ((Present x.expr, x.depth), j)))
+
+  unfoldable pub step : Parser (Optional × ℕ)
+  step = λ i. if same k.Colon (kind i) then part (next i) else Some ((Absent, 0), i)
+
+  unfoldable pub index_at : Bool → ℕ → Deep → Optional → ℕ → Parser Deep
+  index_at optional from x Absent d = refuse
+  index_at optional from x (Present y) d = λ i. node limit (max x.depth d) (Index x.expr y optional (span from (next i))) (next i)
+
+  unfoldable pub slice_made : Bool → ℕ → Deep → Optional × ℕ → Optional × ℕ → Optional × ℕ → Parser Deep
+  slice_made optional from x p q r = expect k.RightBracket >>= (λ _. λ j.
+      node limit (max x.depth (max p.1 (max q.1 r.1))) (Slice x.expr p.0 q.0 r.0 optional (span from j)) j)
+
+  unfoldable pub slice : Bool → ℕ → Deep → Optional × ℕ → Parser Deep
+  slice optional from x p = expect k.Colon >>= (λ _. part >>= (λ q. step >>= (λ r. slice_made optional from x p q r)))
+
+  abbrev pub subscript_with : Bool → ℕ → Deep → Optional × ℕ → Parser Deep
+  subscript_with optional from x p = λ i. if same k.RightBracket (kind i) then index_at optional from x p.0 p.1 i else slice optional from x p i
+
+  unfoldable pub subscript : Bool → ℕ → Deep → Parser Deep
+  subscript optional from x = λ i. (part >>= subscript_with optional from x) (next i)
 
   abbrev pub operation_by : ℕ → Deep → Kind → Parser Deep
   operation_by from x k.If = choice from x
@@ -156,8 +177,8 @@ module _ (limit : ℕ) (sub : ℕ → Parser Deep) where
   operation_by from x k.Power = applied 8 binary.Power from x
   operation_by from x k.Dot = attribute false from x
   operation_by from x k.OptionalDot = attribute true from x
-  operation_by from x k.LeftBracket = index false from x
-  operation_by from x k.OptionalBracket = index true from x
+  operation_by from x k.LeftBracket = subscript false from x
+  operation_by from x k.OptionalBracket = subscript true from x
   operation_by from x _ = refuse
 
   unfoldable pub operation : ℕ → Deep → Parser Deep

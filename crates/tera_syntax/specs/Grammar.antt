@@ -3,7 +3,7 @@ use Rattle.std.specs.Prelude.{◌≡◌, ◌≢◌, ℕ, suc, ℤ, List, [], ◌
 use Rattle.tera_errors.specs.Site as site
 use Rattle.tera_errors.specs.declared.span.Span.{Span}
 use Rattle.tera_tree.specs.declared.expression.BinaryOperator.TheVariants as binary
-use Rattle.tera_tree.specs.Tree.{Expr, Nothing, Boolean, Integer, Text, Name, Attribute, Index, Not, Negate, Binary, And, Or, Ternary, Array, Items, NoItems, MoreItems, Node, Content, Print, Nodes, NoNodes, MoreNodes}
+use Rattle.tera_tree.specs.Tree.{Expr, Nothing, Boolean, Integer, Text, Name, Attribute, Index, Slice, Optional, Absent, Present, Not, Negate, Binary, And, Or, Ternary, Array, Items, NoItems, MoreItems, Node, Content, Print, Nodes, NoNodes, MoreNodes}
 use Rattle.tera_syntax.specs.declared.token.Kind.{Kind}
 use Rattle.tera_syntax.specs.declared.token.Kind.TheVariants as k
 use Rattle.tera_syntax.specs.Token.{Token}
@@ -58,6 +58,9 @@ mutual
         → Derives 11 (Attribute x (text (next a)) optional (span (start i) (next (next a)))) i (next (next a))
     index : {s : Kind} {optional : Bool} {x y : Expr} {i a b : Input} → Bracket s optional → Derives 11 x i a → kind a ≡ s → Derives 0 y (next a) b → kind b ≡ k.RightBracket
         → Derives 11 (Index x y optional (span (start i) (next b))) i (next b)
+    slice : {s : Kind} {optional : Bool} {x : Expr} {from to by : Optional} {i a b c d : Input} → Bracket s optional → Derives 11 x i a → kind a ≡ s
+        → DerivesPart from (next a) b → kind b ≡ k.Colon → DerivesPart to (next b) c → DerivesStep by c d → kind d ≡ k.RightBracket
+        → Derives 11 (Slice x from to by optional (span (start i) (next d))) i (next d)
     int : {z : ℤ} {i : Input} → kind i ≡ k.Int → integer (text i) ≡ Some z → Derives 11 (Integer z (span (start i) (next i))) i (next i)
     quoted : {t : site.Text} {i : Input} → kind i ≡ k.Text → literal (text i) ≡ Some t → Derives 11 (Text t (span (start i) (next i))) i (next i)
     is_true : {i : Input} → kind i ≡ k.True → Derives 11 (Boolean true (span (start i) (next i))) i (next i)
@@ -68,6 +71,16 @@ mutual
     parentheses : {x : Expr} {i a : Input} → kind i ≡ k.LeftParenthesis → Derives 0 x (next i) a → kind a ≡ k.RightParenthesis → Derives 11 x i (next a)
     array : {xs : Items} {i a : Input} → kind i ≡ k.LeftBracket → DerivesItems xs (next i) a → kind a ≡ k.RightBracket
         → Derives 11 (Array xs (span (start i) (next a))) i (next a)
+
+  -- a bound of a slice, if it is written
+  pub data DerivesPart : Optional → Input → Input → Type 0 where
+    absent : {i : Input} → DerivesPart Absent i i
+    present : {x : Expr} {i j : Input} → Derives 0 x i j → DerivesPart (Present x) i j
+
+  -- its step, if it is written
+  pub data DerivesStep : Optional → Input → Input → Type 0 where
+    no_step : {i : Input} → DerivesStep Absent i i
+    step : {by : Optional} {i j : Input} → kind i ≡ k.Colon → DerivesPart by (next i) j → DerivesStep by i j
 
   -- an item, or an array that is spread
   pub data DerivesItem : Bool → Expr → Input → Input → Type 0 where

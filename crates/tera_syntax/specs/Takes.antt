@@ -5,11 +5,12 @@ use denote.Ref.{MutBor}
 use Rattle.tera_errors.specs.declared.span.Span.{Span}
 use Rattle.tera_tree.specs.declared.expression.BinaryOperator.{BinaryOperator}
 use Rattle.tera_tree.specs.declared.expression.Item as item
-use Rattle.tera_tree.specs.Tree.{Expr, And, Or, Binary}
-use Rattle.tera_tree.specs.View.{expr_of, items_of}
+use Rattle.tera_tree.specs.Tree.{Expr, Optional, And, Or, Binary}
+use Rattle.tera_tree.specs.View.{expr_of, option_of, items_of}
 use Rattle.tera_syntax.specs.declared.refusal.Refusal.{Refusal}
 use Rattle.tera_syntax.specs.declared.input.Tokens.{Tokens}
 use Rattle.tera_syntax.specs.declared.expressions.Deep as declared
+use Rattle.tera_syntax.specs.declared.expressions.Part.{Part}
 use Rattle.tera_syntax.specs.declared.expressions.Infix.{Infix}
 use Rattle.tera_syntax.specs.declared.expressions.Infix.TheVariants as form
 use Rattle.tera_syntax.specs.Answers.{Refuses}
@@ -22,6 +23,9 @@ input t = record { ahead = tokens_of t.ahead.now; last = t.last }
 
 abbrev pub deep_of : declared.Deep → Deep
 deep_of x = record { expr = expr_of x.expression; depth = x.depth }
+
+abbrev pub part_of : Part → Optional × ℕ
+part_of p = (option_of p.expression, p.depth)
 
 abbrev pub infix_of : Infix → Expr → Expr → Span → Expr
 infix_of form.And = And

@@ -2,10 +2,10 @@
 ghost use Rattle.std.specs.Prelude.{◌≡◌, ℕ, [], Some, max};
 ghost use Rattle.tera_syntax.specs.Answers.{Makes};
 ghost use Rattle.tera_tree.specs.Tree.{Not, Negate, NoItems, Boolean};
-ghost use Rattle.tera_tree.specs.View.{expr_of, items_of};
+ghost use Rattle.tera_tree.specs.View.{expr_of, items_of, option_of};
 ghost use Rattle.tera_syntax.specs.Expressions as spec;
 ghost use Rattle.tera_syntax.specs.Input.{kind, left, next, same, span, start, starts};
-ghost use Rattle.tera_syntax.specs.Takes.{Takes, TakesItem, Nests, input, deep_of, infix_of};
+ghost use Rattle.tera_syntax.specs.Takes.{Takes, TakesItem, Nests, input, deep_of, part_of, infix_of};
 ghost use Rattle.tera_syntax.specs.Token.{tokens_of};
 
 use crate::input::{Tokens, is_word, same, start_at};
@@ -14,12 +14,19 @@ use crate::refusal::{Reason, Refusal};
 use crate::token::{Kind, Token};
 use std::alloc::Global;
 use tera_errors::Span;
-use tera_tree::{BinaryOperator, Expression, Item};
+use tera_tree::{BinaryOperator, Bounds, Expression, Item};
 
 /// An expression, and how deep it is.
 #[derive(Drop)]
 pub(crate) struct Deep {
     pub expression: Expression,
+    pub depth: usize,
+}
+
+/// A bound of a slice, if it is written, and how deep it is.
+#[derive(Drop)]
+pub(crate) struct Part {
+    pub expression: Option<Expression>,
     pub depth: usize,
 }
 
@@ -284,8 +291,121 @@ impl<F: Fn(Global, &mut Tokens<'_>, usize, u8) -> Result<Deep, Refusal>> Reader<
         self.node(tokens, x.depth, expression)
     }
 
-    #[tactic(auto, unfolding(crate::specs::Expressions::index))]
-    fn index(
+    /// A bound of a slice, if it is written, and how deep it is.
+    #[tactic(auto, unfolding(crate::specs::Expressions::part))]
+    fn part(&self, tokens: &mut Tokens<'_>) -> Result<Part, Refusal>
+        requires { Nests self.now.below (F.pre self.now.expr) (F.post self.now.expr) }
+        ensures { Takes part_of (spec.part self.now.limit (spec.expr self.now.below) (input tokens.old)) result tokens.new }
+    {
+        if same(Kind::Colon, tokens.kind()) {
+            return Ok(Part {
+                expression: None,
+                depth: 0,
+            });
+        }
+        if same(Kind::RightBracket, tokens.kind()) {
+            return Ok(Part {
+                expression: None,
+                depth: 0,
+            });
+        }
+        let x = self.sub(tokens, 0)?;
+        Ok(Part {
+            expression: Some(x.expression),
+            depth: x.depth,
+        })
+    }
+
+    #[tactic(auto, unfolding(crate::specs::Expressions::step))]
+    fn step(&self, tokens: &mut Tokens<'_>) -> Result<Part, Refusal>
+        requires { Nests self.now.below (F.pre self.now.expr) (F.post self.now.expr) }
+        ensures { Takes part_of (spec.step self.now.limit (spec.expr self.now.below) (input tokens.old)) result tokens.new }
+    {
+        if same(Kind::Colon, tokens.kind()) {
+            tokens.take();
+            return self.part(tokens);
+        }
+        Ok(Part {
+            expression: None,
+            depth: 0,
+        })
+    }
+
+    #[tactic(auto, unfolding(crate::specs::Expressions::index_at))]
+    fn index_at(
+        &self,
+        tokens: &mut Tokens<'_>,
+        optional: bool,
+        start: usize,
+        x: Deep,
+        y: Option<Expression>,
+        depth: usize,
+    ) -> Result<Deep, Refusal>
+        ensures { Takes deep_of (spec.index_at self.now.limit (spec.expr self.now.below) optional start (deep_of x) (option_of y) depth (input tokens.old)) result tokens.new }
+    {
+        match y {
+            None => Err(tokens.refuse(Reason::NoExpression)),
+            Some(index) => {
+                tokens.take();
+                let depth = larger(x.depth, depth);
+                let span = tokens.span(start);
+                let expression = Expression::index(
+                    self.alloc,
+                    x.expression,
+                    index,
+                    optional,
+                    span,
+                )?;
+                self.node(tokens, depth, expression)
+            }
+        }
+    }
+
+    #[tactic(auto, unfolding(crate::specs::Expressions::slice_made))]
+    fn slice_made(
+        &self,
+        tokens: &mut Tokens<'_>,
+        optional: bool,
+        start: usize,
+        x: Deep,
+        bounds: Bounds,
+        depth: usize,
+    ) -> Result<Deep, Refusal>
+        ensures { (p q r : ℕ) → depth ≡ max p (max q r) → Takes deep_of (spec.slice_made self.now.limit (spec.expr self.now.below) optional start (deep_of x) (option_of bounds.start, p) (option_of bounds.end, q) (option_of bounds.step, r) (input tokens.old)) result tokens.new }
+    {
+        tokens.expect(Kind::RightBracket)?;
+        let depth = larger(x.depth, depth);
+        let span = tokens.span(start);
+        let expression = Expression::slice(self.alloc, x.expression, bounds, optional, span)?;
+        self.node(tokens, depth, expression)
+    }
+
+    #[tactic(auto, unfolding(crate::specs::Expressions::slice))]
+    fn slice(
+        &self,
+        tokens: &mut Tokens<'_>,
+        optional: bool,
+        start: usize,
+        x: Deep,
+        p: Part,
+    ) -> Result<Deep, Refusal>
+        requires { Nests self.now.below (F.pre self.now.expr) (F.post self.now.expr) }
+        ensures { Takes deep_of (spec.slice self.now.limit (spec.expr self.now.below) optional start (deep_of x) (part_of p) (input tokens.old)) result tokens.new }
+    {
+        tokens.expect(Kind::Colon)?;
+        let q = self.part(tokens)?;
+        let r = self.step(tokens)?;
+        let depth = larger(p.depth, larger(q.depth, r.depth));
+        let bounds = Bounds {
+            start: p.expression,
+            end: q.expression,
+            step: r.expression,
+        };
+        self.slice_made(tokens, optional, start, x, bounds, depth)
+    }
+
+    #[tactic(auto, unfolding(crate::specs::Expressions::subscript))]
+    fn subscript(
         &self,
         tokens: &mut Tokens<'_>,
         optional: bool,
@@ -293,15 +413,15 @@ impl<F: Fn(Global, &mut Tokens<'_>, usize, u8) -> Result<Deep, Refusal>> Reader<
         x: Deep,
     ) -> Result<Deep, Refusal>
         requires { Nests self.now.below (F.pre self.now.expr) (F.post self.now.expr) }
-        ensures { Takes deep_of (spec.index self.now.limit (spec.expr self.now.below) optional start (deep_of x) (input tokens.old)) result tokens.new }
+        ensures { Takes deep_of (spec.subscript self.now.limit (spec.expr self.now.below) optional start (deep_of x) (input tokens.old)) result tokens.new }
     {
         tokens.take();
-        let y = self.sub(tokens, 0)?;
-        tokens.expect(Kind::RightBracket)?;
-        let depth = larger(x.depth, y.depth);
-        let span = tokens.span(start);
-        let expression = Expression::index(self.alloc, x.expression, y.expression, optional, span)?;
-        self.node(tokens, depth, expression)
+        let p = self.part(tokens)?;
+        if same(Kind::RightBracket, tokens.kind()) {
+            self.index_at(tokens, optional, start, x, p.expression, p.depth)
+        } else {
+            self.slice(tokens, optional, start, x, p)
+        }
     }
 
     #[tactic(auto, unfolding(crate::specs::Expressions::operation))]
@@ -314,8 +434,8 @@ impl<F: Fn(Global, &mut Tokens<'_>, usize, u8) -> Result<Deep, Refusal>> Reader<
             Kind::Not => self.not_in(tokens, start, x),
             Kind::Dot => self.attribute(tokens, false, start, x),
             Kind::OptionalDot => self.attribute(tokens, true, start, x),
-            Kind::LeftBracket => self.index(tokens, false, start, x),
-            Kind::OptionalBracket => self.index(tokens, true, start, x),
+            Kind::LeftBracket => self.subscript(tokens, false, start, x),
+            Kind::OptionalBracket => self.subscript(tokens, true, start, x),
             Kind::Or => self.infixed(tokens, 2, Infix::Or, start, x),
             Kind::And => self.infixed(tokens, 3, Infix::And, start, x),
             Kind::Equal => { self.binary(tokens, 5, BinaryOperator::Equal, start, x) }

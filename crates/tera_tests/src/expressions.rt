@@ -1,6 +1,6 @@
 //! Expressions in texts that stand beside the registry: what they render to, and the place of each fault.
-use std::alloc::Global;
 use self::Want::{Fault, SyntaxError, Text};
+use std::alloc::Global;
 use tera::{Context, ErrorKind, Tera, TeraResult, Value};
 
 fn variables(alloc: Global) -> TeraResult<Context> {
@@ -42,7 +42,7 @@ fn agrees(engine: &Tera, context: &Context, case: Case) -> bool {
     is_wanted(engine.render_str(input, context, true), want)
 }
 
-const CASES: [Case; 40] = [
+const CASES: [Case; 45] = [
     Case("{{ 2 ** 10 ~ \"x\" }}", Text("1024x")),
     Case("{{ -2 ** 2 }}", Text("-4")),
     Case("{{ (-2) ** 2 }}", Text("4")),
@@ -56,8 +56,14 @@ const CASES: [Case; 40] = [
     Case("{{ -7 // 2 }} {{ -7 % 2 }}", Text("-4 1")),
     Case("{{ 1 if false else 2 if false else 3 }}", Text("3")),
     Case("{{ not 0 }}{{ not not 0 }}", Text("truefalse")),
-    Case("{{ [1, \"<\", [true, none]] }}", Text("[1, &quot;&lt;&quot;, [true, none]]")),
-    Case("{{ [safe] }}{{ safe }}{{ text }}", Text("[&quot;&lt;b&gt;&quot;]<b>&lt;b&gt;")),
+    Case(
+        "{{ [1, \"<\", [true, none]] }}",
+        Text("[1, &quot;&lt;&quot;, [true, none]]"),
+    ),
+    Case(
+        "{{ [safe] }}{{ safe }}{{ text }}",
+        Text("[&quot;&lt;b&gt;&quot;]<b>&lt;b&gt;"),
+    ),
     Case("{{ [1, ...[2, 3], ...[], 4] }}", Text("[1, 2, 3, 4]")),
     Case("{{ [1, [2, 3]][1][-1] }}", Text("3")),
     Case("{{ [1, 2][5] or \"none\" }}", Text("none")),
@@ -66,6 +72,14 @@ const CASES: [Case; 40] = [
     Case("{{ 1 + 2 * 3 - 4 }}", Text("3")),
     Case("{{ \"a\" ~ 1 ~ true }}", Text("a1true")),
     Case("{{ 'it' == `it` }}", Text("true")),
+    Case("{{ [1, 2, 3][-1:0:-1] }}", Text("[3, 2]")),
+    Case(
+        "{{ [1, 2, 3][1:] }}{{ [1, 2, 3][:-1] }}",
+        Text("[2, 3][1, 2]"),
+    ),
+    Case("{{ none?[1:] or 'x' }}", Text("x")),
+    Case("{{ [1][\"a\":] }}", Fault(7, 10)),
+    Case("{{ hey[1:] }}", Fault(3, 6)),
     Case("{{ 2 ** -1 }}", Fault(3, 10)),
     Case("{{ hey.other or 1 }}", Fault(3, 6)),
     Case("{{ 7 / 2 }}", Fault(3, 8)),

@@ -42,7 +42,14 @@ fn other_delimiters(rt: HostRuntime) {
     };
     assert!(rt; is_message(told(rt.alloc(), &mut engine, "", "<#")));
     assert!(rt; is_message(told(rt.alloc(), &mut engine, "%>", "<<")));
-    assert!(rt; renders(&engine, &context, "Hello {{ name }}!<< name >>", "Hello 7!<< name >>"));
+    assert!(rt;
+        renders(
+            &engine,
+            &context,
+            "Hello {{ name }}!<< name >>",
+            "Hello 7!<< name >>"
+        )
+    );
     assert!(rt; told(rt.alloc(), &mut engine, "%>", "<#").is_ok());
     let input = "Hello, <# This is a comment #><< name >>! {{ name }}";
     assert!(rt; renders(&engine, &context, input, "Hello, 7! {{ name }}"));

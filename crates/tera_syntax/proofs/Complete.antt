@@ -1,22 +1,22 @@
 -- What is derived is read.
-use Rattle.std.proofs.Common.{◌≡◌, ℕ, zero, suc, ◌+◌, ◌-◌, ◌<◌, ◌≤◌, ◌⊎◌, inl, inr, max, ℤ, List, [], ◌∷◌, Bool, true, false, ◌&&◌, nat_le, nat_lt, Option, Some, None, option_map, if◌then◌else◌, refl, sym, ◌∙◌, ap, subst, arith, rules, length}
+use Rattle.std.proofs.Common.{◌≡◌, ℕ, zero, suc, ◌+◌, ◌-◌, ◌<◌, ◌≤◌, ◌⊎◌, inl, inr, max, ℤ, List, [], ◌∷◌, Bool, true, false, ◌&&◌, nat_le, nat_lt, Option, Some, None, option_map, if◌then◌else◌, refl, sym, ◌∙◌, ap, arith, length}
 use Rattle.std.proofs.lemmas.Grind.{common_steps}
 use Rattle.tera_errors.specs.Site as site
 use Rattle.tera_errors.specs.declared.span.Span.{Span}
-use Rattle.tera_tree.specs.declared.expression.BinaryOperator.{BinaryOperator}
 use Rattle.tera_tree.specs.declared.expression.BinaryOperator.TheVariants as binary
-use Rattle.tera_tree.specs.Tree.{Expr, Nothing, Boolean, Integer, Text, Name, Attribute, Index, Slice, Optional, Absent, Present, Not, Negate, Binary, And, Or, Ternary, Array, Items, NoItems, MoreItems}
-use Rattle.tera_tree.specs.Depth.{depth, items_depth, optional_depth}
+use Rattle.tera_tree.specs.Tree.{Expr, Nothing, Boolean, Integer, Text, Name, Attribute, Index, Slice, Optional, Absent, Present, Not, Negate, Binary, Ternary, Array, Items, NoItems, MoreItems, Map, Key, Entries, NoEntries, MoreEntries}
+use Rattle.tera_tree.specs.Depth.{depth, items_depth, entries_depth, optional_depth}
 use Rattle.tera_syntax.specs.declared.token.Kind.{Kind}
 use Rattle.tera_syntax.specs.declared.token.Kind.TheVariants as k
 use Rattle.tera_syntax.specs.Token.{Token}
 use Rattle.tera_syntax.specs.Input.{Input, Outcome, Parser, and_then, same, kind, kind_of, start, text, next, after, left, span, expect, is_word}
 use Rattle.tera_syntax.specs.Literal.{integer, literal}
-use Rattle.tera_syntax.specs.Grammar.{Operator, or, and, equal, not_equal, less, greater, less_or_equal, greater_or_equal, is_in, concat, add, subtract, multiply, divide, floor_divide, remainder, Dot, dot, optional_dot, Bracket, bracket, optional_bracket, Derives, quoted, tighter, choice, operation, not, not_in, minus, power, attribute, index, slice, DerivesPart, absent, present, DerivesStep, no_step, step, int, is_true, is_false, nothing, name, parentheses, array, DerivesItem, plain, spread, DerivesItems, none, one, more}
+use Rattle.tera_syntax.specs.Keys.{key_at, key_by}
+use Rattle.tera_syntax.specs.Grammar.{Operator, or, and, equal, not_equal, less, greater, less_or_equal, greater_or_equal, is_in, concat, add, subtract, multiply, divide, floor_divide, remainder, Dot, dot, optional_dot, Bracket, bracket, optional_bracket, Derives, quoted, tighter, choice, operation, not, not_in, minus, power, attribute, index, slice, DerivesPart, absent, present, DerivesStep, no_step, step, int, is_true, is_false, nothing, name, parentheses, array, map, DerivesEntry, keyed, spread_map, DerivesEntries, no_entries, one_entry, more_entries, DerivesItem, plain, spread, DerivesItems, none, one, more}
 use Rattle.tera_syntax.specs.Expressions as r
-use Rattle.tera_syntax.specs.Expressions.{Deep, deep, needs, gives, begins, goes_on, floor_in, opened, climb, level, level_with, expr, head, node, prefixed, infixed, applied, behind_dots, join_items, one_item}
+use Rattle.tera_syntax.specs.Expressions.{Deep, deep, needs, gives, begins, goes_on, floor_in, opened, climb, level, level_with, expr, head, node, prefixed, infixed, applied, behind_dots, join_items, one_item, join_entries}
 use Rattle.tera_syntax.proofs.Steps as steps
-use Rattle.tera_syntax.proofs.Sound.{gives-below, operator-depth, join-none, join-join}
+use Rattle.tera_syntax.proofs.Sound.{gives-below, operator-depth, join-none, join-join, join-no-entries, join-entries}
 
 -- No operator in this place binds more tightly than the level.
 abbrev Stops : ℕ → Kind → Type 0
@@ -227,6 +227,14 @@ whole l x i j g s o pos (suc b) le =
 token : (s : Kind) (i : Input) → kind i ≡ s → (s ≡ k.End → ⊥) → left (next i) < left i
 token s i h n = let e = next-left s i h n in omega arith
 
+-- a key is a token of its kinds
+key-kind : (s : Kind) (i : Input) (key : Key) → key_at i ≡ Some key → key_by s (text i) ≡ None → kind i ≡ s → ⊥
+unfolding key_at
+key-kind s i key h e q = let f : key_by (kind i) (text i) ≡ None = ap (λ s. key_by s (text i)) q ∙ e in cc
+
+key-left : (i : Input) (key : Key) → key_at i ≡ Some key → left (next i) < left i
+key-left i key h = token (kind i) i refl (key-kind k.End i key h refl)
+
 mutual
   shorter : {l : ℕ} {x : Expr} {i j : Input} → Derives l x i j → left j < left i
   shorter (tighter d) = shorter d
@@ -249,6 +257,16 @@ mutual
   shorter (name {i = i} h) = token k.Name i h (λ e. cc)
   shorter (parentheses {i = i} {a = a} h d g) = let p1 = shorter d in let t1 = token k.LeftParenthesis i h (λ e. cc) in let t2 = token k.RightParenthesis a g (λ e. cc) in omega arith
   shorter (array {i = i} {a = a} h d g) = let p1 = shorter-all d in let t1 = token k.LeftBracket i h (λ e. cc) in let t2 = token k.RightBracket a g (λ e. cc) in omega arith
+  shorter (map {i = i} {a = a} h d g) = let p1 = shorter-entries d in let t1 = token k.LeftBrace i h (λ e. cc) in let t2 = token k.RightBrace a g (λ e. cc) in omega arith
+
+  shorter-entry : {key : Option Key} {x : Expr} {i j : Input} → DerivesEntry key x i j → left j < left i
+  shorter-entry (keyed {key = key} {i = i} h q d) = let p1 = shorter d in let t1 = key-left i key h in let t2 = token k.Colon (next i) q (λ e. cc) in omega arith
+  shorter-entry (spread_map {i = i} h d) = let p1 = shorter d in let t1 = token k.Spread i h (λ e. cc) in omega arith
+
+  shorter-entries : {xs : Entries} {i j : Input} → DerivesEntries xs i j → left j ≤ left i
+  shorter-entries no_entries = omega arith
+  shorter-entries (one_entry d) = let p1 = shorter-entry d in omega arith
+  shorter-entries (more_entries {a = a} d h q) = let p1 = shorter-entry d in let p2 = shorter-entries q in let t1 = token k.Comma a h (λ e. cc) in omega arith
 
   shorter-part : {o : Optional} {i j : Input} → DerivesPart o i j → left j ≤ left i
   shorter-part absent = omega arith
@@ -432,6 +450,33 @@ module _ (limit : ℕ) (part : ℕ → Parser Deep) where
   unfolding r.array
   array-is xs i a h le = rw h (deep-node limit (items_depth xs) (Array xs (span (start i) (next a))) (next a) (omega arith) refl)
 
+  key-is : (key : Key) (i : Input) → key_at i ≡ Some key → kind (next i) ≡ k.Colon → r.entry_key i ≡ Some (Some key, next (next i))
+  unfolding r.entry_key
+  key-is key i h q = rw (unlike k.Spread (kind i) (key-kind k.Spread i key h refl), h, expects limit part k.Colon (next i) q) refl
+
+  dots-is : (i : Input) → kind i ≡ k.Spread → r.entry_key i ≡ Some (None, next i)
+  unfolding r.entry_key
+  dots-is i h = rw (alike k.Spread (kind i) h) refl
+
+  entry-none : (n : ℕ) (found : Entries) (d : ℕ) (i : Input) → kind i ≡ k.RightBrace → r.entries_from limit part (suc n) found d i ≡ Some ((found, d), next i)
+  unfolding r.entries_from
+  entry-none n found d i h = rw (alike k.RightBrace (kind i) h) refl
+
+  entry-one : (n : ℕ) (found : Entries) (d : ℕ) (key : Option Key) (x : Expr) (i m a : Input) → (kind i ≡ k.RightBrace → ⊥) → r.entry_key i ≡ Some (key, m) → part 0 m ≡ Some (deep x, a) → kind a ≡ k.RightBrace
+      → r.entries_from limit part (suc n) found d i ≡ Some ((join_entries found (r.one_entry key x), max d (depth x)), next a)
+  unfolding r.entries_from
+  entry-one n found d key x i m a h e p g = rw (unlike k.RightBrace (kind i) h, e, p, differ k.Comma k.RightBrace (kind a) g (λ e. cc), expects limit part k.RightBrace a g) refl
+
+  entry-more : (n : ℕ) (found : Entries) (d : ℕ) (key : Option Key) (x : Expr) (i m a : Input) (y : Option ((Entries × ℕ) × Input)) → (kind i ≡ k.RightBrace → ⊥) → r.entry_key i ≡ Some (key, m) → part 0 m ≡ Some (deep x, a)
+      → kind a ≡ k.Comma → r.entries_from limit part n (join_entries found (r.one_entry key x)) (max d (depth x)) (next a) ≡ y → r.entries_from limit part (suc n) found d i ≡ y
+  unfolding r.entries_from
+  entry-more n found d key x i m a y h e p g q = rw (unlike k.RightBrace (kind i) h, e, p, alike k.Comma (kind a) g) q
+
+  map-is : (xs : Entries) (i a : Input) → r.entries_from limit part (left (next i)) NoEntries 0 (next i) ≡ Some ((xs, entries_depth xs), next a)
+      → depth (Map xs (span (start i) (next a))) ≤ limit → r.map limit part i ≡ Some (deep (Map xs (span (start i) (next a))), next a)
+  unfolding r.map
+  map-is xs i a h le = rw h (deep-node limit (entries_depth xs) (Map xs (span (start i) (next a))) (next a) (omega arith) refl)
+
   int-is : (z : ℤ) (i : Input) → integer (text i) ≡ Some z → 1 ≤ limit → r.head_by limit part k.Int i ≡ Some (deep (Integer z (span (start i) (next i))), next i)
   int-is z i e le =
       ap (λ o. r.leaf limit part (option_map (λ z. Integer z (span (start i) (next i))) o) (next i)) e ∙ deep-node limit 0 (Integer z (span (start i) (next i))) (next i) le refl
@@ -454,6 +499,7 @@ starts-so (minus h d) = (λ e. cc, λ e. cc, λ e. cc)
 starts-so (power d h f) = starts-so d
 starts-so (attribute w d h g) = starts-so d
 starts-so (index w d h f g) = starts-so d
+starts-so (map h d g) = (λ e. cc, λ e. cc, λ e. cc)
 starts-so (slice w d h f g q t u) = starts-so d
 starts-so (int h e) = (λ e. cc, λ e. cc, λ e. cc)
 starts-so (quoted h e) = (λ e. cc, λ e. cc, λ e. cc)
@@ -485,6 +531,27 @@ list-more found s x xs d j =
 list-start : (xs : Items) (d : ℕ) (j : Input) → got (join_items NoItems xs) (max 0 d) j ≡ got xs d j
 list-start xs d j = let f : max 0 d ≡ d = omega arith in rw f refl
 
+entry-starts : {key : Option Key} {x : Expr} {i j : Input} → DerivesEntry key x i j → kind i ≡ k.RightBrace → ⊥
+entry-starts (keyed {key = key} {i = i} h q d) = key-kind k.RightBrace i key h refl
+entry-starts (spread_map h d) = λ e. cc
+
+abbrev held : Entries → ℕ → Input → Option ((Entries × ℕ) × Input)
+held xs d j = Some ((xs, d), j)
+
+row-nil : (found : Entries) (d : ℕ) (j : Input) → held found d j ≡ held (join_entries found NoEntries) (max d 0) j
+row-nil found d j = let f : max d 0 ≡ d = omega arith in rw (join-no-entries found, f) refl
+
+row-one : (found : Entries) (s : Option Key) (x : Expr) (d : ℕ) (j : Input) → held (join_entries found (r.one_entry s x)) (max d (depth x)) j ≡ held (join_entries found (MoreEntries s x NoEntries)) (max d (entries_depth (MoreEntries s x NoEntries))) j
+row-one found s x d j = let f : max (depth x) 0 ≡ depth x = omega arith in rw f refl
+
+row-more : (found : Entries) (s : Option Key) (x : Expr) (xs : Entries) (d : ℕ) (j : Input)
+    → held (join_entries (join_entries found (r.one_entry s x)) xs) (max (max d (depth x)) (entries_depth xs)) j ≡ held (join_entries found (MoreEntries s x xs)) (max d (entries_depth (MoreEntries s x xs))) j
+row-more found s x xs d j =
+    let f : max (max d (depth x)) (entries_depth xs) ≡ max d (max (depth x) (entries_depth xs)) = omega arith in rw (join-entries found (r.one_entry s x) xs, f) refl
+
+row-start : (xs : Entries) (d : ℕ) (j : Input) → held (join_entries NoEntries xs) (max 0 d) j ≡ held xs d j
+row-start xs d j = let f : max 0 d ≡ d = omega arith in rw f refl
+
 -- ---- what is derived is read
 
 at-most : {l : ℕ} {x : Expr} {i j : Input} → Derives l x i j → l ≤ 11
@@ -497,6 +564,7 @@ at-most (minus h d) = omega arith
 at-most (power d h f) = omega arith
 at-most (attribute w d h g) = omega arith
 at-most (index w d h f g) = omega arith
+at-most (map h d g) = omega arith
 at-most (slice w d h f g q t u) = omega arith
 at-most (int h e) = omega arith
 at-most (quoted h e) = omega arith
@@ -520,9 +588,9 @@ power-kind : (needs k.Power ≡ 10) × (gives k.Power ≡ 9)
 unfolding needs gives
 power-kind = (refl, refl)
 
-closing-kinds : (needs k.Else ≡ 12) × (needs k.RightParenthesis ≡ 12) × (needs k.RightBracket ≡ 12) × (needs k.Comma ≡ 12) × (needs k.End ≡ 12) × (needs k.Colon ≡ 12)
+closing-kinds : (needs k.Else ≡ 12) × (needs k.RightParenthesis ≡ 12) × (needs k.RightBracket ≡ 12) × (needs k.Comma ≡ 12) × (needs k.End ≡ 12) × (needs k.Colon ≡ 12) × (needs k.RightBrace ≡ 12)
 unfolding needs
-closing-kinds = (refl, refl, refl, refl, refl, refl)
+closing-kinds = (refl, refl, refl, refl, refl, refl, refl)
 
 needs-at : (s t : Kind) (n : ℕ) → s ≡ t → needs t ≡ n → needs s ≡ n
 needs-at s t n h e = ap needs h ∙ e
@@ -533,9 +601,9 @@ gives-at s t n h e = ap gives h ∙ e
 begins-at : (s t : Kind) (n : ℕ) → s ≡ t → begins t ≡ n → begins s ≡ n
 begins-at s t n h e = ap begins h ∙ e
 
-begin-kinds : (begins k.Not ≡ 3) × (begins k.Minus ≡ 8) × (begins k.Int ≡ 11) × (begins k.Name ≡ 11) × (begins k.LeftBracket ≡ 11) × (begins k.True ≡ 11) × (begins k.False ≡ 11) × (begins k.Nothing ≡ 11) × (begins k.Text ≡ 11)
+begin-kinds : (begins k.Not ≡ 3) × (begins k.Minus ≡ 8) × (begins k.Int ≡ 11) × (begins k.Name ≡ 11) × (begins k.LeftBracket ≡ 11) × (begins k.True ≡ 11) × (begins k.False ≡ 11) × (begins k.Nothing ≡ 11) × (begins k.Text ≡ 11) × (begins k.LeftBrace ≡ 11)
 unfolding begins
-begin-kinds = (refl, refl, refl, refl, refl, refl, refl, refl, refl)
+begin-kinds = (refl, refl, refl, refl, refl, refl, refl, refl, refl, refl)
 
 abbrev part-read : ℕ → ℕ → Expr → Input → Input → Type 0
 part-read b l x i j = expr b l i ≡ Some (deep x, j)
@@ -683,6 +751,34 @@ mutual
       let t1 = token k.LeftBracket i h (λ e. cc) in let t2 = token k.RightBracket a g (λ e. cc) in let s1 = shorter-all d in
       goes-first b m n floor 11 os k.LeftBracket (Array xs (span (start i) (next a))) i (next a) y h (λ e. cc) begin-kinds.4 fl (omega arith)
       (head-is (suc b) (expr b) i k.LeftBracket h ∙ array-is (suc b) (expr b) xs i a (goes-all d g b (left (next i)) NoItems 0 (omega arith) (omega arith) ∙ list-start xs (items_depth xs) (next a)) dep) c
+  goes (map {xs = xs} {i = i} {a = a} h d g) b m n floor os y dep fl st fu c =
+      let t1 = token k.LeftBrace i h (λ e. cc) in let t2 = token k.RightBrace a g (λ e. cc) in let s1 = shorter-entries d in
+      goes-first b m n floor 11 os k.LeftBrace (Map xs (span (start i) (next a))) i (next a) y h (λ e. cc) begin-kinds.9 fl (omega arith)
+      (head-is (suc b) (expr b) i k.LeftBrace h ∙ map-is (suc b) (expr b) xs i a (goes-entries d g b (left (next i)) NoEntries 0 (omega arith) (omega arith) ∙ row-start xs (entries_depth xs) (next a)) dep) c
+
+  -- the key of an entry, or its dots, and then its value
+  goes-entry : {key : Option Key} {x : Expr} {i a : Input} → DerivesEntry key x i a → needs (kind a) ≡ 12 → (limit b : ℕ) → depth x ≤ b → (m : Input) × (r.entry_key i ≡ Some (key, m)) × (expr b 0 m ≡ Some (deep x, a))
+  goes-entry (keyed {key = key} {x = x} {i = i} {j = a} e q d) h limit b le =
+      (next (next i), key-is limit (expr b) key i e q, whole 0 x (next (next i)) a (goes d) (inr (omega arith)) (inr (omega arith)) (some-depth x) b le)
+  goes-entry (spread_map {x = x} {i = i} {j = a} q d) h limit b le =
+      (next i, dots-is limit (expr b) i q, whole 0 x (next i) a (goes d) (inr (omega arith)) (inr (omega arith)) (some-depth x) b le)
+
+  goes-entries : {xs : Entries} {i a : Input} → DerivesEntries xs i a → kind a ≡ k.RightBrace → (b n : ℕ) (found : Entries) (d : ℕ) → entries_depth xs ≤ b → left i ≤ n
+      → r.entries_from (suc b) (expr b) n found d i ≡ Some ((join_entries found xs, max d (entries_depth xs)), next a)
+  goes-entries (no_entries {i = i}) g b zero found d le fu = let t1 = token k.RightBrace i g (λ e. cc) in absurd (omega arith)
+  goes-entries (no_entries {i = i}) g b (suc n) found d le fu = entry-none (suc b) (expr b) n found d i g ∙ row-nil found d (next i)
+  goes-entries (one_entry {key = s} {x = x} {i = i} {j = a} q) g b zero found d le fu = let s1 = shorter-entry q in absurd (omega arith)
+  goes-entries (one_entry {key = s} {x = x} {i = i} {j = a} q) g b (suc n) found d le fu =
+      let n1 = needs-at (kind a) k.RightBrace 12 g closing-kinds.6 in
+      let w = goes-entry q n1 (suc b) b (omega arith) in
+      entry-one (suc b) (expr b) n found d s x i w.0 a (entry-starts q) w.1 w.2 g ∙ row-one found s x d (next a)
+  goes-entries (more_entries {key = s} {x = x} {xs = xs} {i = i} {a = v} {j = a} q h u) g b zero found d le fu = let s1 = shorter-entry q in absurd (omega arith)
+  goes-entries (more_entries {key = s} {x = x} {xs = xs} {i = i} {a = v} {j = a} q h u) g b (suc n) found d le fu =
+      let n1 = needs-at (kind v) k.Comma 12 h closing-kinds.3 in
+      let s1 = shorter-entry q in let t1 = token k.Comma v h (λ e. cc) in
+      let w = goes-entry q n1 (suc b) b (omega arith) in
+      entry-more (suc b) (expr b) n found d s x i w.0 v (Some ((join_entries found (MoreEntries s x xs), max d (entries_depth (MoreEntries s x xs))), next a)) (entry-starts q) w.1 w.2 h
+      (goes-entries u g b n (join_entries found (r.one_entry s x)) (max d (depth x)) (omega arith) (omega arith) ∙ row-more found s x xs d (next a))
 
   -- a bound is read, where a colon or a bracket follows
   goes-part : {o : Optional} {i a : Input} → DerivesPart o i a → (kind a ≡ k.Colon) ⊎ (kind a ≡ k.RightBracket) → (limit b : ℕ) → optional_depth o ≤ b → r.part limit (expr b) i ≡ Some ((o, optional_depth o), a)

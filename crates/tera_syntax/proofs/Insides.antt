@@ -1,9 +1,8 @@
 -- The steps of the cut of a tag.
-use Rattle.std.proofs.Common.{◌≡◌, ℕ, zero, suc, ◌+◌, ◌-◌, ◌<◌, ◌≤◌, List, [], ◌∷◌, ◌++◌, Bool, true, false, ◌==◌, ◌&&◌, length, take, drop, get_or, Option, Some, None, refl, ap, sym, ◌∙◌, arith, if◌then◌else◌, append_assoc}
-use Rattle.std.proofs.lemmas.List.{drop_more, drop-drop, length-take-le, map-append}
+use Rattle.std.proofs.Common.{◌≡◌, ℕ, zero, suc, ◌+◌, ◌-◌, ◌<◌, List, [], ◌∷◌, ◌++◌, Bool, true, false, ◌==◌, ◌&&◌, length, drop, get_or, Option, Some, None, refl, ap, sym, ◌∙◌, arith, if◌then◌else◌, append_assoc}
+use Rattle.std.proofs.lemmas.List.{drop_more, drop-drop, map-append}
 use Rattle.tera_errors.specs.Site.{Text}
 use Rattle.tera_syntax.specs.declared.inside.Ending.{Ending}
-use Rattle.tera_syntax.specs.declared.token.Kind.TheVariants as k
 use Rattle.tera_syntax.specs.Token.{Token, token_of, tokens_of, next_token, is_blank}
 use Rattle.tera_syntax.specs.Inside.{Inside, inside, closing, closing_in, open_after, hyphen, prefixed, token_then}
 use Rattle.tera_syntax.specs.Bytes.{begins}

@@ -1,7 +1,6 @@
 -- Where a start delimiter begins.
-use Rattle.std.proofs.Common.{◌≡◌, ℕ, suc, ◌+◌, ◌<◌, ◌≤◌, [], ◌∷◌, Bool, true, false, ◌&&◌, nat_lt, length, drop, Option, Some, None, inl, inr, is_some, string_bytes, refl, arith, subst, if◌then◌else◌, IsTrue, IfSome}
+use Rattle.std.proofs.Common.{◌≡◌, ℕ, ◌+◌, ◌<◌, ◌≤◌, [], ◌∷◌, Bool, true, false, ◌&&◌, nat_lt, length, drop, Option, Some, None, is_some, string_bytes, refl, arith, subst, if◌then◌else◌, IsTrue, IfSome}
 use Rattle.std.proofs.lemmas.Str.{IsUtf8-string_bytes, IsCharBoundary-end, IsUtf8-from_is_utf8}
-use Rattle.std.proofs.lemmas.Bool.Decides.{leb_tells}
 use Rattle.std.specs.Str.{IsUtf8, IsCharBoundary, is_utf8, chars}
 use lib.Utf8.{encode}
 use Rattle.tera_errors.specs.Site.{Text}

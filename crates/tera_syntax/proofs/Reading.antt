@@ -1,5 +1,5 @@
 -- What the reader's function gives is what the pieces derive.
-use Rattle.std.proofs.Common.{◌≡◌, ℕ, suc, ◌-◌, ◌≤◌, max, List, [], ◌∷◌, Bool, true, false, not, ◌&&◌, Option, Some, None, ◌<◌, refl, ap, sym, ◌∙◌, subst, arith, rules, length, ◌==◌, ◌++◌, if◌then◌else◌}
+use Rattle.std.proofs.Common.{◌≡◌, ℕ, suc, ◌-◌, ◌≤◌, max, List, [], ◌∷◌, Bool, true, false, Option, Some, None, ◌<◌, refl, ap, sym, ◌∙◌, subst, arith, length, ◌==◌, ◌++◌, if◌then◌else◌}
 use Rattle.std.proofs.lemmas.Bool.Decides.{Decides-eqb}
 use Rattle.tera_errors.specs.Site.{Text}
 use Rattle.tera_errors.specs.declared.span.Span.{Span}

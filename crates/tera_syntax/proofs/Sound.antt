@@ -1,19 +1,20 @@
 -- What is read is derived.
-use Rattle.std.proofs.Common.{◌≡◌, ℕ, zero, suc, ◌+◌, ◌-◌, ◌<◌, ◌≤◌, ◌⊎◌, inl, inr, max, ℤ, List, [], ◌∷◌, Bool, true, false, ◌&&◌, nat_le, nat_lt, Option, Some, None, option_map, if◌then◌else◌, refl, sym, ◌∙◌, ap, subst, arith, rules, length}
+use Rattle.std.proofs.Common.{◌≡◌, ℕ, zero, suc, ◌≤◌, max, ℤ, List, [], ◌∷◌, Bool, true, false, ◌&&◌, nat_le, Option, Some, None, option_map, if◌then◌else◌, refl, sym, ◌∙◌, ap, subst, arith}
 use Rattle.std.proofs.lemmas.Grind.{common_steps}
 use Rattle.tera_errors.specs.Site as site
 use Rattle.tera_errors.specs.declared.span.Span.{Span}
 use Rattle.tera_tree.specs.declared.expression.BinaryOperator.{BinaryOperator}
 use Rattle.tera_tree.specs.declared.expression.BinaryOperator.TheVariants as binary
-use Rattle.tera_tree.specs.Tree.{Expr, Nothing, Boolean, Integer, Text, Name, Attribute, Index, Slice, Optional, Absent, Present, Not, Negate, Binary, And, Or, Ternary, Array, Items, NoItems, MoreItems}
-use Rattle.tera_tree.specs.Depth.{depth, items_depth, optional_depth}
+use Rattle.tera_tree.specs.Tree.{Expr, Nothing, Boolean, Integer, Text, Name, Attribute, Index, Slice, Optional, Absent, Present, Not, Negate, Binary, Ternary, Array, Items, NoItems, MoreItems, Map, Key, Entries, NoEntries, MoreEntries}
+use Rattle.tera_tree.specs.Depth.{depth, items_depth, entries_depth, optional_depth}
 use Rattle.tera_syntax.specs.declared.token.Kind.{Kind}
 use Rattle.tera_syntax.specs.declared.token.Kind.TheVariants as k
-use Rattle.tera_syntax.specs.Input.{Input, Outcome, Parser, and_then, same, kind, start, text, next, left, span, expect, is_word}
+use Rattle.tera_syntax.specs.Input.{Input, Parser, and_then, same, kind, start, text, next, left, span, expect, is_word}
 use Rattle.tera_syntax.specs.Literal.{integer, literal}
-use Rattle.tera_syntax.specs.Grammar.{Operator, or, and, equal, not_equal, less, greater, less_or_equal, greater_or_equal, is_in, concat, add, subtract, multiply, divide, floor_divide, remainder, Dot, dot, optional_dot, Bracket, bracket, optional_bracket, Derives, quoted, tighter, choice, operation, not, not_in, minus, power, attribute, index, slice, DerivesPart, absent, present, DerivesStep, no_step, step, int, is_true, is_false, nothing, name, parentheses, array, DerivesItem, plain, spread, DerivesItems, none, one, more}
+use Rattle.tera_syntax.specs.Keys.{key_at}
+use Rattle.tera_syntax.specs.Grammar.{Operator, or, and, equal, not_equal, less, greater, less_or_equal, greater_or_equal, is_in, concat, add, subtract, multiply, divide, floor_divide, remainder, Dot, dot, optional_dot, Bracket, bracket, optional_bracket, Derives, quoted, tighter, choice, operation, not, not_in, minus, power, attribute, index, slice, DerivesPart, absent, present, DerivesStep, no_step, step, int, is_true, is_false, nothing, name, parentheses, array, map, DerivesEntry, keyed, spread_map, DerivesEntries, no_entries, one_entry, more_entries, DerivesItem, plain, spread, DerivesItems, none, one, more}
 use Rattle.tera_syntax.specs.Expressions as r
-use Rattle.tera_syntax.specs.Expressions.{Deep, deep, needs, gives, begins, goes_on, floor_in, opened, climb, level, level_with, expr, head, node, prefixed, infixed, applied, behind_dots, join_items, one_item}
+use Rattle.tera_syntax.specs.Expressions.{Deep, deep, needs, gives, begins, goes_on, floor_in, opened, climb, level, level_with, expr, head, node, prefixed, infixed, applied, behind_dots, join_items, one_item, join_entries}
 use Rattle.tera_syntax.proofs.Steps.{and_then-some, guard, chosen, same-is, expect-some, some-pair, either, same-value, node-got}
 
 data Got : ℕ → ℕ → Deep → Input → Input → Type 0 where
@@ -107,6 +108,58 @@ one-item found s x d i a p h = got_items (one p) h refl (omega arith)
 more-items : (found : Items) (s : Bool) (x : Expr) (d : ℕ) (i a j : Input) (z : Items × ℕ) → DerivesItem s x i a → kind a ≡ k.Comma → GotItems (join_items found (one_item s x)) (max d (depth x)) (next a) z j
     → GotItems found d i z j
 more-items found s x d i a j z p h (got_items {xs = xs} q g e f) = got_items (more p h q) g (e ∙ join-join found (one_item s x) xs) (omega arith)
+
+-- the entries of a map
+data GotEntries : Entries → ℕ → Input → Entries × ℕ → Input → Type 0 where
+  got_entries : {found xs : Entries} {d : ℕ} {i a : Input} {z : Entries × ℕ} → DerivesEntries xs i a → kind a ≡ k.RightBrace → z.0 ≡ join_entries found xs → z.1 ≡ max d (entries_depth xs) → GotEntries found d i z (next a)
+
+abbrev took : Entries × ℕ → Input → Option ((Entries × ℕ) × Input)
+took z i = Some (z, i)
+
+same-entries : (found : Entries) (d : ℕ) (i : Input) (y z : Entries × ℕ) (a j : Input) → took y a ≡ took z j → GotEntries found d i y a → GotEntries found d i z j
+same-entries found d i y z a j h p = let q = some-pair (y, a) (z, j) h in subst (λ w. GotEntries found d i w j) q.0 (subst (λ w. GotEntries found d i y w) q.1 p)
+
+pub join-no-entries : (xs : Entries) → join_entries xs NoEntries ≡ xs
+join-no-entries NoEntries = refl
+join-no-entries (MoreEntries s x rest) = ap (MoreEntries s x) (join-no-entries rest)
+
+pub join-entries : (xs ys zs : Entries) → join_entries (join_entries xs ys) zs ≡ join_entries xs (join_entries ys zs)
+join-entries NoEntries ys zs = refl
+join-entries (MoreEntries s x rest) ys zs = ap (MoreEntries s x) (join-entries rest ys zs)
+
+no-more-entries : (found : Entries) (d : ℕ) (i : Input) → kind i ≡ k.RightBrace → GotEntries found d i (found, d) (next i)
+no-more-entries found d i h = got_entries no_entries h (sym (join-no-entries found)) (omega arith)
+
+last-entry : (found : Entries) (s : Option Key) (x : Expr) (d : ℕ) (i a : Input) → DerivesEntry s x i a → kind a ≡ k.RightBrace → GotEntries found d i (join_entries found (r.one_entry s x), max d (depth x)) (next a)
+last-entry found s x d i a p h = got_entries (one_entry p) h refl (omega arith)
+
+an-entry-more : (found : Entries) (s : Option Key) (x : Expr) (d : ℕ) (i a j : Input) (z : Entries × ℕ) → DerivesEntry s x i a → kind a ≡ k.Comma → GotEntries (join_entries found (r.one_entry s x)) (max d (depth x)) (next a) z j
+    → GotEntries found d i z j
+an-entry-more found s x d i a j z p h (got_entries {xs = xs} q g e f) = got_entries (more_entries p h q) g (e ∙ join-entries found (r.one_entry s x) xs) (omega arith)
+
+abbrev at-key : Option Key → Input → Option (Option Key × Input)
+at-key key i = Some (key, i)
+
+-- what stands before the value of an entry
+abbrev Keyed : Option Key → Input → Input → Type 0
+Keyed key i m = (x : Expr) (a : Input) → Derives 0 x m a → DerivesEntry key x i a
+
+same-key : (i : Input) (key key' : Option Key) (m m' : Input) → at-key key m ≡ at-key key' m' → Keyed key i m → Keyed key' i m'
+same-key i key key' m m' h p = let q = some-pair (key, m) (key', m') h in subst (λ w. Keyed w i m') q.0 (subst (λ w. Keyed key i w) q.1 p)
+
+keyed-got : (o : Option Key) (i m : Input) (key : Option Key) → key_at i ≡ o → r.keyed o i ≡ Some (key, m) → Keyed key i m
+keyed-got None i m key e h = cc
+keyed-got (Some word) i m key e h =
+    let q = and_then-some (expect k.Colon (next i)) (λ _. λ j. at-key (Some word) j) (key, m) h in
+    let u = expect-some k.Colon (next i) q.1 q.0 q.2 in
+    same-key i (Some word) key q.1 m q.3 (λ x a d. keyed e u.0 (subst (λ j. Derives 0 x j a) u.1 d))
+
+entry_key-got : (i m : Input) (key : Option Key) → r.entry_key i ≡ Some (key, m) → Keyed key i m
+unfolding r.entry_key
+entry_key-got i m key h =
+    either (chosen (same k.Spread (kind i)) (at-key None (next i)) (r.keyed (key_at i) i) (Some (key, m)) h)
+    (λ q. same-key i None key (next i) m q.1 (λ x a d. spread_map (same-is k.Spread (kind i) q.0) d))
+    (λ q. keyed-got (key_at i) i m key refl q.1)
 
 item-at : (t : Bool) (x : Expr) (i a : Input) → same k.Spread (kind i) ≡ t → Derives 0 x (if t then next i else i) a → DerivesItem t x i a
 item-at true x i a e d = spread (same-is k.Spread (kind i) e) d
@@ -361,6 +414,44 @@ module _ (limit b : ℕ) (part : ℕ → Parser Deep) (sound : Sound b part) whe
           node-got (λ y j. Got limit 11 y i j) limit (items_depth xs) (Array xs (span (start i) (next a))) (next a) j y (subst Q f2 (subst P p n)) refl
           (λ ok. got ok (array h q g))
 
+  entries-got : (n : ℕ) (found : Entries) (d : ℕ) (i j : Input) (z : Entries × ℕ) → r.entries_from limit part n found d i ≡ Some (z, j) → GotEntries found d i z j
+  unfolding r.entries_from
+  entries-got zero found d i j z hh = cc
+  entries-got (suc n) found d i j z hh =
+      either (chosen (same k.RightBrace (kind i)) (took (found, d) (next i)) (and_then (r.entry_key i) behind) (Some (z, j)) hh)
+      (λ q. same-entries found d i (found, d) z (next i) j q.1 (no-more-entries found d i (same-is k.RightBrace (kind i) q.0)))
+      (λ q. let t = and_then-some (r.entry_key i) behind (z, j) q.1 in
+      let u = and_then-some (part 0 t.1) (r.entry_rest limit part (r.entries_from limit part n) found d t.0) (z, j) t.3 in
+      go (λ found d i. entries-got n found d i j z) t.0 t.1 (entry_key-got i t.1 t.0 t.2) (sound 0 t.1 u.1 u.0 (omega arith) u.2) u.3)
+    where
+      behind : Option Key → Parser (Entries × ℕ)
+      behind key m = and_then (part 0 m) (r.entry_rest limit part (r.entries_from limit part n) found d key)
+
+      go : ((found : Entries) (d : ℕ) (i : Input) → r.entries_from limit part n found d i ≡ Some (z, j) → GotEntries found d i z j) → (key : Option Key) (m : Input) → Keyed key i m → {x : Deep} {a : Input} → Got b 0 x m a
+          → r.entry_rest limit part (r.entries_from limit part n) found d key x a ≡ Some (z, j) → GotEntries found d i z j
+      go again key m w (got {x = v} {j = a} _ p) h =
+          either (chosen (same k.Comma (kind a)) (r.entries_from limit part n (join_entries found (r.one_entry key v)) (max d (depth v)) (next a))
+          (and_then (expect k.RightBrace a) (λ _. λ o. took (join_entries found (r.one_entry key v), max d (depth v)) o)) (Some (z, j)) h)
+          (λ q. an-entry-more found key v d i a j z (w v a p) (same-is k.Comma (kind a) q.0) (again (join_entries found (r.one_entry key v)) (max d (depth v)) (next a) q.1))
+          (λ q. let g = and_then-some (expect k.RightBrace a) (λ _. λ o. took (join_entries found (r.one_entry key v), max d (depth v)) o) (z, j) q.1 in
+          let u = expect-some k.RightBrace a g.1 g.0 g.2 in
+          same-entries found d i (join_entries found (r.one_entry key v), max d (depth v)) z g.1 j g.3
+          (let P : Input → Type 0 = λ o. GotEntries found d i (join_entries found (r.one_entry key v), max d (depth v)) o in subst P (sym u.1) (last-entry found key v d i a (w v a p) u.0)))
+
+  map-got : (i j : Input) (y : Deep) → kind i ≡ k.LeftBrace → r.map limit part i ≡ Some (y, j) → Got limit 11 y i j
+  unfolding r.map
+  map-got i j y h hh =
+      let q = and_then-some (r.entries_from limit part (left (next i)) NoEntries 0 (next i)) (λ xs. λ j. node limit xs.1 (Map xs.0 (span (start i) j)) j) (y, j) hh in
+      go (entries-got (left (next i)) NoEntries 0 (next i) q.1 q.0 q.2) q.3
+    where
+      go : {z : Entries × ℕ} {c : Input} → GotEntries NoEntries 0 (next i) z c → node limit z.1 (Map z.0 (span (start i) c)) c ≡ Some (y, j) → Got limit 11 y i j
+      go {z = z} (got_entries {xs = xs} {a = a} q g p f) n =
+          let f2 : z.1 ≡ entries_depth xs = omega arith in
+          let P : Entries → Type 0 = λ v. node limit z.1 (Map v (span (start i) (next a))) (next a) ≡ Some (y, j) in
+          let Q : ℕ → Type 0 = λ m. node limit m (Map xs (span (start i) (next a))) (next a) ≡ Some (y, j) in
+          node-got (λ y j. Got limit 11 y i j) limit (entries_depth xs) (Map xs (span (start i) (next a))) (next a) j y (subst Q f2 (subst P p n)) refl
+          (λ ok. got ok (map h q g))
+
   leaf-got : (i j : Input) (y : Deep) (x : Expr) → depth x ≡ 1 → Derives 11 x i (next i) → node limit 0 x (next i) ≡ Some (y, j) → Got limit 11 y i j
   leaf-got i j y x e d h = node-got (λ y j. Got limit 11 y i j) limit 0 x (next i) j y h e (λ ok. got ok d)
 
@@ -383,6 +474,7 @@ module _ (limit b : ℕ) (part : ℕ → Parser Deep) (sound : Sound b part) whe
   head-by-got k.Nothing i j y h hh = leaf-got i j y (Nothing (span (start i) (next i))) refl (nothing h) hh
   head-by-got k.Name i j y h hh = leaf-got i j y (Name (text i) (span (start i) (next i))) refl (name h) hh
   head-by-got k.LeftBracket i j y h hh = array-got i j y h hh
+  head-by-got k.LeftBrace i j y h hh = map-got i j y h hh
   head-by-got _ i j y h hh = cc
 
   begins-small : (s : Kind) → begins s ≤ 11

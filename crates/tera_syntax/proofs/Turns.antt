@@ -4,13 +4,14 @@ use Rattle.std.proofs.lemmas.Grind.{common_steps}
 use Rattle.tera_syntax.specs.declared.refusal.Refusal.{Refusal}
 use Rattle.tera_syntax.specs.declared.refusal.Refusal.TheVariants.{Syntax, OutOfMemory}
 use Rattle.tera_syntax.specs.Answers.{Refuses, IsSyntax}
-use Rattle.tera_tree.specs.Tree.{Items, MoreItems}
-use Rattle.tera_tree.specs.View.{items_of, expr_of}
+use Rattle.tera_tree.specs.Tree.{Items, MoreItems, Key, Entries, MoreEntries}
+use Rattle.tera_tree.specs.View.{items_of, entries_of, key_option, expr_of}
 use Rattle.tera_tree.specs.declared.expression.Item as item
+use Rattle.tera_tree.specs.declared.expression.Entry as entry
 use Rattle.tera_syntax.specs.Token.{Token}
-use Rattle.tera_syntax.specs.declared.token.Kind.TheVariants.{LeftParenthesis, RightParenthesis, RightBracket, Comma, Spread}
-use Rattle.tera_syntax.specs.Input.{Input, Parser, and_then, kind, next, after, same, start, starts, start_of, expect}
-use Rattle.tera_syntax.specs.Expressions.{Deep, join_items, one_item, behind_dots, items_from, expr, level, climb, goes_on, gives, operation, floor_in, opened}
+use Rattle.tera_syntax.specs.declared.token.Kind.TheVariants.{LeftParenthesis, RightParenthesis, RightBracket, RightBrace, Comma, Spread}
+use Rattle.tera_syntax.specs.Input.{Input, Outcome, Parser, and_then, kind, next, after, same, start, starts, start_of, expect}
+use Rattle.tera_syntax.specs.Expressions.{Deep, join_items, one_item, join_entries, one_entry, entry_key, entry_rest, entries_from, behind_dots, items_from, expr, level, climb, goes_on, gives, operation, floor_in, opened}
 
 pub one_more : {X : Type 0} {x : X} (f : ℕ → X) (n at : ℕ) → at < n → x ≡ f (n - at) → x ≡ f (suc (n - (at + 1)))
 one_more f n at below e = let turn : n - at ≡ suc (n - (at + 1)) = omega arith in e ∙ ap f turn
@@ -114,3 +115,43 @@ module _ (limit : ℕ) (sub : ℕ → Parser Deep) where
 pub refused : {Y Z : Type 0} {part : Option Y} {meant : Option Z} (r : Refusal) → (part ≡ None → meant ≡ None) → Refuses part r → Refuses meant r
 refused (Syntax why place) f h = f h
 refused OutOfMemory f h = tt
+
+-- rows of entries
+pub entries_of-push : (all : List entry.Entry) (i : entry.Entry) → entries_of (all ++ i ∷ []) ≡ join_entries (entries_of all) (one_entry (key_option i.key) (expr_of i.value))
+entries_of-push [] i = refl
+entries_of-push (j ∷ all) i = ap (MoreEntries (key_option j.key) (expr_of j.value)) (entries_of-push all i)
+
+module _ (limit : ℕ) (sub : ℕ → Parser Deep) where
+  pub entries_end : (n : ℕ) (found : Entries) (d : ℕ) (i : Input) → same RightBrace (kind i) ≡ true → entries_from limit sub (suc n) found d i ≡ Some ((found, d), next i)
+  unfolding entries_from
+  entries_end n found d i h = rw h refl
+
+  abbrev pub behind_key : ℕ → Entries → ℕ → Option Key → Parser (Entries × ℕ)
+  behind_key n found d key j = and_then (sub 0 j) (entry_rest limit sub (entries_from limit sub n) found d key)
+
+  pub entries_entry : (n : ℕ) (found : Entries) (d : ℕ) (i : Input) → same RightBrace (kind i) ≡ false → entries_from limit sub (suc n) found d i ≡ and_then (entry_key i) (behind_key n found d)
+  unfolding entries_from
+  entries_entry n found d i h = rw h refl
+
+  none_by : (n : ℕ) (found : Entries) (d : ℕ) (o : Outcome (Option Key)) → and_then o (λ key. sub 0) ≡ None → and_then o (behind_key n found d) ≡ None
+  none_by n found d None h = refl
+  none_by n found d (Some p) h = ap (λ o. and_then o (entry_rest limit sub (entries_from limit sub n) found d p.0)) h
+
+  pub entries_none : (n : ℕ) (found : Entries) (d : ℕ) (i : Input) → same RightBrace (kind i) ≡ false → and_then (entry_key i) (λ key. sub 0) ≡ None → entries_from limit sub (suc n) found d i ≡ None
+  entries_none n found d i h e = entries_entry n found d i h ∙ none_by n found d (entry_key i) e
+
+  pub entries_some : (n : ℕ) (found : Entries) (d : ℕ) (i : Input) (key : Option Key) (m : Input) (x : Deep) (j : Input) → same RightBrace (kind i) ≡ false → entry_key i ≡ Some (key, m) → sub 0 m ≡ Some (x, j)
+      → entries_from limit sub (suc n) found d i ≡ entry_rest limit sub (entries_from limit sub n) found d key x j
+  entries_some n found d i key m x j h e f =
+      entries_entry n found d i h ∙ ap (λ o. and_then o (behind_key n found d)) e ∙ ap (λ o. and_then o (entry_rest limit sub (entries_from limit sub n) found d key)) f
+
+  pub entries_comma : (n : ℕ) (found : Entries) (d : ℕ) (key : Option Key) (x : Deep) (j : Input) → same Comma (kind j) ≡ true
+      → entry_rest limit sub (entries_from limit sub n) found d key x j ≡ entries_from limit sub n (join_entries found (one_entry key x.expr)) (max d x.depth) (next j)
+  entries_comma n found d key x j h = rw h refl
+
+  abbrev pub entries_closed : Entries → ℕ → Unit {0} → Parser (Entries × ℕ)
+  entries_closed f m done k = Some ((f, m), k)
+
+  pub entries_shut : (n : ℕ) (found : Entries) (d : ℕ) (key : Option Key) (x : Deep) (j : Input) → same Comma (kind j) ≡ false
+      → entry_rest limit sub (entries_from limit sub n) found d key x j ≡ and_then (expect RightBrace j) (entries_closed (join_entries found (one_entry key x.expr)) (max d x.depth))
+  entries_shut n found d key x j h = rw h refl

@@ -1,14 +1,15 @@
 -- The reader of expressions, as a function.
-use Rattle.std.specs.Prelude.{◌≡◌, ℕ, zero, suc, ◌+◌, max, ℤ, List, [], ◌∷◌, Bool, true, false, ◌&&◌, nat_le, nat_lt, Option, Some, None, option_map, if◌then◌else◌}
+use Rattle.std.specs.Prelude.{ℕ, zero, suc, ◌+◌, max, List, [], ◌∷◌, Bool, true, false, ◌&&◌, nat_le, nat_lt, Option, Some, None, option_map, if◌then◌else◌}
 use Rattle.tera_errors.specs.declared.span.Span.{Span}
 use Rattle.tera_tree.specs.declared.expression.BinaryOperator.{BinaryOperator}
 use Rattle.tera_tree.specs.declared.expression.BinaryOperator.TheVariants as binary
-use Rattle.tera_tree.specs.Tree.{Expr, Nothing, Boolean, Integer, Text, Name, Attribute, Index, Slice, Optional, Absent, Present, Not, Negate, Binary, And, Or, Ternary, Array, Items, NoItems, MoreItems}
+use Rattle.tera_tree.specs.Tree.{Expr, Nothing, Boolean, Integer, Text, Name, Attribute, Index, Slice, Optional, Absent, Present, Not, Negate, Binary, And, Or, Ternary, Array, Items, NoItems, MoreItems, Map, Key, Entries, NoEntries, MoreEntries}
 use Rattle.tera_tree.specs.Depth.{depth}
 use Rattle.tera_syntax.specs.declared.token.Kind.{Kind}
 use Rattle.tera_syntax.specs.declared.token.Kind.TheVariants as k
-use Rattle.tera_syntax.specs.Input.{Input, Outcome, Parser, and_then, ◌>>=◌, refuse, kind, text, start, next, left, span, same, expect, is_word}
+use Rattle.tera_syntax.specs.Input.{Input, Parser, and_then, ◌>>=◌, refuse, kind, text, start, next, left, span, same, expect, is_word}
 use Rattle.tera_syntax.specs.Literal.{integer, literal}
+use Rattle.tera_syntax.specs.Keys.{key_at}
 
 -- an expression, and how deep it is
 pub record Deep : Type 0 where
@@ -101,6 +102,21 @@ one_item s x = MoreItems s x NoItems
 -- a form over parts of this depth, if that is within the limit
 unfoldable pub node : ℕ → ℕ → Expr → Parser Deep
 node limit d x = λ i. if nat_lt d limit then Some (record { expr = x; depth = d + 1 }, i) else None
+
+abbrev pub join_entries : Entries → Entries → Entries
+join_entries NoEntries more = more
+join_entries (MoreEntries key x rest) more = MoreEntries key x (join_entries rest more)
+
+abbrev pub one_entry : Option Key → Expr → Entries
+one_entry key x = MoreEntries key x NoEntries
+
+abbrev pub keyed : Option Key → Parser (Option Key)
+keyed None = refuse
+keyed (Some key) = λ i. and_then (expect k.Colon (next i)) (λ _. λ j. Some (Some key, j))
+
+-- the key of an entry, and the place behind the colon; none behind the dots of a map that is spread
+unfoldable pub entry_key : Parser (Option Key)
+entry_key = λ i. if same k.Spread (kind i) then Some (None, next i) else keyed (key_at i) i
 
 -- the place behind the dots of an item that is spread
 abbrev pub behind_dots : Input → Input
@@ -198,6 +214,19 @@ module _ (limit : ℕ) (sub : ℕ → Parser Deep) where
   unfoldable pub array : Parser Deep
   array = λ i. (items >>= (λ xs. λ j. node limit xs.1 (Array xs.0 (span (start i) j)) j)) (next i)
 
+  abbrev pub entry_rest : (Entries → ℕ → Parser (Entries × ℕ)) → Entries → ℕ → Option Key → Deep → Parser (Entries × ℕ)
+  entry_rest more found d key x = λ j. if same k.Comma (kind j) then more (join_entries found (one_entry key x.expr)) (max d x.depth) (next j)
+      else and_then (expect k.RightBrace j) (λ _. λ a. Some ((join_entries found (one_entry key x.expr), max d x.depth), a))
+
+  -- entries with commas between, up to a brace
+  unfoldable pub entries_from : ℕ → Entries → ℕ → Parser (Entries × ℕ)
+  entries_from zero found d = refuse
+  entries_from (suc n) found d = λ i. if same k.RightBrace (kind i) then Some ((found, d), next i) else
+      and_then (entry_key i) (λ key. λ j. and_then (sub 0 j) (entry_rest (entries_from n) found d key))
+
+  unfoldable pub map : Parser Deep
+  map = λ i. ((λ j. entries_from (left j) NoEntries 0 j) >>= (λ xs. λ j. node limit xs.1 (Map xs.0 (span (start i) j)) j)) (next i)
+
   abbrev pub leaf : Option Expr → Parser Deep
   leaf None = refuse
   leaf (Some x) = node limit 0 x
@@ -212,6 +241,7 @@ module _ (limit : ℕ) (sub : ℕ → Parser Deep) where
   head_by k.Nothing = λ i. node limit 0 (Nothing (span (start i) (next i))) (next i)
   head_by k.Name = λ i. node limit 0 (Name (text i) (span (start i) (next i))) (next i)
   head_by k.LeftBracket = array
+  head_by k.LeftBrace = map
   head_by _ = refuse
 
   -- what stands before the first operator

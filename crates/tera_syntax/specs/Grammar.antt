@@ -1,14 +1,15 @@
 -- What tokens and pieces derive.
-use Rattle.std.specs.Prelude.{◌≡◌, ◌≢◌, ℕ, suc, ℤ, List, [], ◌∷◌, Bool, true, false, Option, Some}
+use Rattle.std.specs.Prelude.{◌≡◌, ◌≢◌, ℕ, suc, ℤ, List, [], ◌∷◌, Bool, true, false, Option, Some, None}
 use Rattle.tera_errors.specs.Site as site
 use Rattle.tera_errors.specs.declared.span.Span.{Span}
 use Rattle.tera_tree.specs.declared.expression.BinaryOperator.TheVariants as binary
-use Rattle.tera_tree.specs.Tree.{Expr, Nothing, Boolean, Integer, Text, Name, Attribute, Index, Slice, Optional, Absent, Present, Not, Negate, Binary, And, Or, Ternary, Array, Items, NoItems, MoreItems, Node, Content, Print, Nodes, NoNodes, MoreNodes}
+use Rattle.tera_tree.specs.Tree.{Expr, Nothing, Boolean, Integer, Text, Name, Attribute, Index, Slice, Optional, Absent, Present, Not, Negate, Binary, And, Or, Ternary, Array, Items, NoItems, MoreItems, Map, Key, Entries, NoEntries, MoreEntries, Content, Print, Nodes, NoNodes, MoreNodes}
 use Rattle.tera_syntax.specs.declared.token.Kind.{Kind}
 use Rattle.tera_syntax.specs.declared.token.Kind.TheVariants as k
 use Rattle.tera_syntax.specs.Token.{Token}
 use Rattle.tera_syntax.specs.Input.{Input, begin, kind, text, start, next, span, is_word}
 use Rattle.tera_syntax.specs.Literal.{integer, literal}
+use Rattle.tera_syntax.specs.Keys.{key_at}
 use Rattle.tera_syntax.specs.Cut.{Piece, Words, Comment, Variable}
 
 -- the operators that group to the left: a sign, the form that it makes of its operands, and a level
@@ -71,6 +72,8 @@ mutual
     parentheses : {x : Expr} {i a : Input} → kind i ≡ k.LeftParenthesis → Derives 0 x (next i) a → kind a ≡ k.RightParenthesis → Derives 11 x i (next a)
     array : {xs : Items} {i a : Input} → kind i ≡ k.LeftBracket → DerivesItems xs (next i) a → kind a ≡ k.RightBracket
         → Derives 11 (Array xs (span (start i) (next a))) i (next a)
+    map : {xs : Entries} {i a : Input} → kind i ≡ k.LeftBrace → DerivesEntries xs (next i) a → kind a ≡ k.RightBrace
+        → Derives 11 (Map xs (span (start i) (next a))) i (next a)
 
   -- a bound of a slice, if it is written
   pub data DerivesPart : Optional → Input → Input → Type 0 where
@@ -92,6 +95,18 @@ mutual
     none : {i : Input} → DerivesItems NoItems i i
     one : {s : Bool} {x : Expr} {i j : Input} → DerivesItem s x i j → DerivesItems (MoreItems s x NoItems) i j
     more : {s : Bool} {x : Expr} {xs : Items} {i a j : Input} → DerivesItem s x i a → kind a ≡ k.Comma → DerivesItems xs (next a) j → DerivesItems (MoreItems s x xs) i j
+
+  -- an entry, or a map that is spread
+  pub data DerivesEntry : Option Key → Expr → Input → Input → Type 0 where
+    keyed : {key : Key} {x : Expr} {i j : Input} → key_at i ≡ Some key → kind (next i) ≡ k.Colon → Derives 0 x (next (next i)) j → DerivesEntry (Some key) x i j
+    spread_map : {x : Expr} {i j : Input} → kind i ≡ k.Spread → Derives 0 x (next i) j → DerivesEntry None x i j
+
+  -- entries with commas between, and at will one behind the last
+  pub data DerivesEntries : Entries → Input → Input → Type 0 where
+    no_entries : {i : Input} → DerivesEntries NoEntries i i
+    one_entry : {key : Option Key} {x : Expr} {i j : Input} → DerivesEntry key x i j → DerivesEntries (MoreEntries key x NoEntries) i j
+    more_entries : {key : Option Key} {x : Expr} {xs : Entries} {i a j : Input} → DerivesEntry key x i a → kind a ≡ k.Comma → DerivesEntries xs (next a) j
+        → DerivesEntries (MoreEntries key x xs) i j
 
 -- The pieces from the first place to the second are nodes.
 pub data DerivesNodes : Nodes → List Piece → List Piece → Type 0 where

@@ -5,6 +5,7 @@ pub mod Inside
 pub mod Cut
 pub mod Input
 pub mod Literal
+pub mod Keys
 pub mod Expressions
 pub mod Grammar
 pub mod Spells

@@ -4,7 +4,7 @@ use Rattle.tera_syntax.specs.declared.token.Kind.TheVariants as k
 use Rattle.tera_syntax.specs.declared.refusal.Refusal.{Refusal}
 use Rattle.tera_syntax.specs.Answers.{Refuses}
 use Rattle.tera_syntax.specs.Token.{Token}
-use Rattle.tera_syntax.specs.Input.{Input, Outcome, begin, kind, same}
+use Rattle.tera_syntax.specs.Input.{Outcome, begin, kind, same}
 use Rattle.tera_syntax.specs.Expressions.{Deep, expr}
 use Rattle.tera_syntax.specs.Cut.{Piece, Words, Comment, Variable, Block, Broken}
 use Rattle.tera_tree.specs.Tree.{Expr, Content, Print, Nodes, NoNodes, MoreNodes}

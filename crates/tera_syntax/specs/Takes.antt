@@ -1,12 +1,12 @@
 -- How a function that takes tokens stands to its definition.
-use Rattle.std.specs.Prelude.{◌≡◌, ℕ, List, Bool, Some, Result, Ok, Err}
+use Rattle.std.specs.Prelude.{◌≡◌, ℕ, List, Bool, Option, Some, Result, Ok, Err}
 use Rattle.std.specs.declared.alloc.Global.{Global}
 use denote.Ref.{MutBor}
 use Rattle.tera_errors.specs.declared.span.Span.{Span}
-use Rattle.tera_tree.specs.declared.expression.BinaryOperator.{BinaryOperator}
 use Rattle.tera_tree.specs.declared.expression.Item as item
-use Rattle.tera_tree.specs.Tree.{Expr, Optional, And, Or, Binary}
-use Rattle.tera_tree.specs.View.{expr_of, option_of, items_of}
+use Rattle.tera_tree.specs.declared.expression.Entry as entry
+use Rattle.tera_tree.specs.Tree.{Expr, Key, Optional, And, Or, Binary}
+use Rattle.tera_tree.specs.View.{expr_of, option_of, items_of, entries_of}
 use Rattle.tera_syntax.specs.declared.refusal.Refusal.{Refusal}
 use Rattle.tera_syntax.specs.declared.input.Tokens.{Tokens}
 use Rattle.tera_syntax.specs.declared.expressions.Deep as declared
@@ -15,8 +15,8 @@ use Rattle.tera_syntax.specs.declared.expressions.Infix.{Infix}
 use Rattle.tera_syntax.specs.declared.expressions.Infix.TheVariants as form
 use Rattle.tera_syntax.specs.Answers.{Refuses}
 use Rattle.tera_syntax.specs.Token.{tokens_of}
-use Rattle.tera_syntax.specs.Input.{Input, Outcome}
-use Rattle.tera_syntax.specs.Expressions.{Deep, expr, join_items, one_item}
+use Rattle.tera_syntax.specs.Input.{Input, Outcome, Parser, and_then}
+use Rattle.tera_syntax.specs.Expressions.{Deep, expr, join_items, one_item, join_entries, one_entry}
 
 abbrev pub input : Tokens → Input
 input t = record { ahead = tokens_of t.ahead.now; last = t.last }
@@ -48,3 +48,9 @@ pub record Nests (limit : ℕ) (pre : Global → MutBor Tokens → ℕ → ℕ �
 abbrev pub TakesItem : Outcome Deep → Bool → List item.Item → List item.Item → Result ℕ Refusal → Tokens → Type 0
 TakesItem meant is_spread old items (Ok d) new = (x : Deep) × (meant ≡ Some (x, input new)) × (x.depth ≡ d) × (items_of items ≡ join_items (items_of old) (one_item is_spread x.expr))
 TakesItem meant is_spread old items (Err refusal) new = Refuses meant refusal
+
+-- an entry was read behind those that were there, and its depth is the answer
+abbrev pub TakesEntry : Outcome (Option Key) → Parser Deep → List entry.Entry → List entry.Entry → Result ℕ Refusal → Tokens → Type 0
+TakesEntry meant sub old entries (Ok d) new = (key : Option Key) × (j : Input) × (x : Deep) × (meant ≡ Some (key, j)) × (sub j ≡ Some (x, input new)) × (x.depth ≡ d)
+    × (entries_of entries ≡ join_entries (entries_of old) (one_entry key x.expr))
+TakesEntry meant sub old entries (Err refusal) new = Refuses (and_then meant (λ key. sub)) refusal

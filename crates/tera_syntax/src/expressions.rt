@@ -1,20 +1,21 @@
 // Expressions, by precedence. Open parentheses are counted, and cost no call.
-ghost use Rattle.std.specs.Prelude.{◌≡◌, ℕ, [], Some, max};
+ghost use Rattle.std.specs.Prelude.{◌≡◌, ℕ, [], Some, max, IfOk};
 ghost use Rattle.tera_syntax.specs.Answers.{Makes};
-ghost use Rattle.tera_tree.specs.Tree.{Not, Negate, NoItems, Boolean};
-ghost use Rattle.tera_tree.specs.View.{expr_of, items_of, option_of};
+ghost use Rattle.tera_tree.specs.Tree.{Not, Negate, NoItems, NoEntries, Boolean};
+ghost use Rattle.tera_tree.specs.View.{expr_of, items_of, entries_of, key_option, option_of};
 ghost use Rattle.tera_syntax.specs.Expressions as spec;
 ghost use Rattle.tera_syntax.specs.Input.{kind, left, next, same, span, start, starts};
-ghost use Rattle.tera_syntax.specs.Takes.{Takes, TakesItem, Nests, input, deep_of, part_of, infix_of};
+ghost use Rattle.tera_syntax.specs.Keys.{key_at};
+ghost use Rattle.tera_syntax.specs.Takes.{Takes, TakesItem, TakesEntry, Nests, input, deep_of, part_of, infix_of};
 ghost use Rattle.tera_syntax.specs.Token.{tokens_of};
 
 use crate::input::{Tokens, is_word, same, start_at};
 use crate::literal::{integer, literal};
 use crate::refusal::{Reason, Refusal};
 use crate::token::{Kind, Token};
-use std::alloc::Global;
+use std::alloc::{AllocError, Global};
 use tera_errors::Span;
-use tera_tree::{BinaryOperator, Bounds, Expression, Item};
+use tera_tree::{BinaryOperator, Bounds, Entry, Expression, Item, LiteralKey};
 
 /// An expression, and how deep it is.
 #[derive(Drop)]
@@ -514,6 +515,67 @@ impl<F: Fn(Global, &mut Tokens<'_>, usize, u8) -> Result<Deep, Refusal>> Reader<
         self.node(tokens, depth, expression)
     }
 
+    /// Entries with commas between, up to a brace, and the greatest depth.
+    #[tactic(auto, unfolding(crate::specs::Expressions::entries_from))]
+    fn entries(&self, tokens: &mut Tokens<'_>) -> Result<(Vec<Entry>, usize), Refusal>
+        requires { Nests self.now.below (F.pre self.now.expr) (F.post self.now.expr) }
+        ensures { Takes (λ p. (entries_of p.0.items, p.1)) (spec.entries_from self.now.limit (spec.expr self.now.below) (left (input tokens.old)) NoEntries 0 (input tokens.old)) result tokens.new }
+    {
+        let mut found = Vec::new(self.alloc);
+        let mut depth = 0usize;
+        for _turn in 0..tokens.left() {
+            if same(Kind::RightBrace, tokens.kind()) {
+                tokens.take();
+                return Ok((found, depth));
+            }
+            let x = match self.entry(tokens, &mut found) {
+                Ok(x) => x,
+                Err(refusal) => return Err(refusal),
+            };
+            depth = larger(depth, x);
+            if !same(Kind::Comma, tokens.kind()) {
+                return match tokens.expect(Kind::RightBrace) {
+                    Ok(()) => Ok((found, depth)),
+                    Err(refusal) => Err(refusal),
+                };
+            }
+            tokens.take();
+        }
+        Err(tokens.refuse(Reason::Expected(Kind::RightBrace)))
+    }
+
+    /// An entry, behind those that were read, and its depth.
+    fn entry(&self, tokens: &mut Tokens<'_>, found: &mut Vec<Entry>) -> Result<usize, Refusal>
+        requires { Nests self.now.below (F.pre self.now.expr) (F.post self.now.expr) }
+        ensures { TakesEntry (spec.entry_key (input tokens.old)) (spec.expr self.now.below 0) found.old.items found.new.items result tokens.new }
+    {
+        let key = match entry_key(self.alloc, tokens) {
+            Ok(key) => key,
+            Err(refusal) => return Err(refusal),
+        };
+        let x = match self.sub(tokens, 0) {
+            Ok(x) => x,
+            Err(refusal) => return Err(refusal),
+        };
+        found.push(Entry {
+            key,
+            value: x.expression,
+        })?;
+        Ok(x.depth)
+    }
+
+    #[tactic(auto, unfolding(crate::specs::Expressions::map))]
+    fn map(&self, tokens: &mut Tokens<'_>) -> Result<Deep, Refusal>
+        requires { Nests self.now.below (F.pre self.now.expr) (F.post self.now.expr) }
+        ensures { Takes deep_of (spec.map self.now.limit (spec.expr self.now.below) (input tokens.old)) result tokens.new }
+    {
+        let start = tokens.start();
+        tokens.take();
+        let (entries, depth) = self.entries(tokens)?;
+        let expression = Expression::map(entries, tokens.span(start));
+        self.node(tokens, depth, expression)
+    }
+
     fn int(&self, tokens: &mut Tokens<'_>) -> Result<Deep, Refusal>
         ensures { Takes deep_of (spec.head_by self.now.limit (spec.expr self.now.below) Kind.Int (input tokens.old)) result tokens.new }
     {
@@ -582,6 +644,7 @@ impl<F: Fn(Global, &mut Tokens<'_>, usize, u8) -> Result<Deep, Refusal>> Reader<
             }
             Kind::Name => self.name(tokens),
             Kind::LeftBracket => self.array(tokens),
+            Kind::LeftBrace => self.map(tokens),
             _ => Err(tokens.refuse(Reason::NoExpression)),
         }
     }
@@ -634,6 +697,45 @@ impl<F: Fn(Global, &mut Tokens<'_>, usize, u8) -> Result<Deep, Refusal>> Reader<
         let start = tokens.start();
         let x = self.head(tokens)?;
         self.climb(tokens, run, opens, turns, floor, begins, start, x)
+    }
+}
+
+/// The key that the next token is: a text, an integer, true or false.
+#[tactic(auto, unfolding(crate::specs::Keys::key_at))]
+fn key_at(alloc: Global, tokens: &Tokens<'_>) -> Result<Option<LiteralKey>, AllocError>
+    ensures { IfOk result (λ o. key_option o ≡ key_at (input tokens.now)) }
+{
+    match tokens.kind() {
+        Kind::Text => match literal(alloc, tokens.text())? {
+            Some(text) => Ok(Some(LiteralKey::Text(text))),
+            None => Ok(None),
+        },
+        Kind::Int => match integer(tokens.text()) {
+            Some(value) => Ok(Some(LiteralKey::Int(value))),
+            None => Ok(None),
+        },
+        Kind::True => Ok(Some(LiteralKey::Bool(true))),
+        Kind::False => Ok(Some(LiteralKey::Bool(false))),
+        _ => Ok(None),
+    }
+}
+
+/// Takes the key of an entry and its colon, or the dots of a map that is spread.
+#[tactic(auto, unfolding(crate::specs::Expressions::entry_key))]
+fn entry_key(alloc: Global, tokens: &mut Tokens<'_>) -> Result<Option<LiteralKey>, Refusal>
+    ensures { Takes key_option (spec.entry_key (input tokens.old)) result tokens.new }
+{
+    if same(Kind::Spread, tokens.kind()) {
+        tokens.take();
+        return Ok(None);
+    }
+    match key_at(alloc, tokens)? {
+        Some(key) => {
+            tokens.take();
+            tokens.expect(Kind::Colon)?;
+            Ok(Some(key))
+        }
+        None => Err(tokens.refuse(Reason::NoExpression)),
     }
 }
 

@@ -10,6 +10,8 @@ pub mod laws;
 pub(crate) mod literal;
 pub mod reader;
 pub(crate) mod refusal;
+#[cfg(test)]
+mod tests;
 pub(crate) mod token;
 
 pub use reader::parse;

@@ -42,7 +42,7 @@ fn agrees(engine: &Tera, context: &Context, case: Case) -> bool {
     is_wanted(engine.render_str(input, context, true), want)
 }
 
-const CASES: [Case; 45] = [
+const CASES: [Case; 52] = [
     Case("{{ 2 ** 10 ~ \"x\" }}", Text("1024x")),
     Case("{{ -2 ** 2 }}", Text("-4")),
     Case("{{ (-2) ** 2 }}", Text("4")),
@@ -80,6 +80,22 @@ const CASES: [Case; 45] = [
     Case("{{ none?[1:] or 'x' }}", Text("x")),
     Case("{{ [1][\"a\":] }}", Fault(7, 10)),
     Case("{{ hey[1:] }}", Fault(3, 6)),
+    Case("{{{\"a\": 1}.a}}", Text("1")),
+    Case("{{ {\"a\": {\"b\": 1}}.a.b }}", Text("1")),
+    Case(
+        "{{ {1: 'x', true: 'y'} }}",
+        Text("{1: &quot;x&quot;, true: &quot;y&quot;}"),
+    ),
+    Case("{{ {'a': 1, 'b': 2, 'a': 3}.a }}", Text("3")),
+    Case(
+        "{{ {'a': 1, ...{2: 3}} }}",
+        Text("{2: 3, &quot;a&quot;: 1}"),
+    ),
+    Case(
+        "{{ {2: 1, ...{2: 3}} }}{{ {...{2: 3}, 2: 1,} }}",
+        Text("{2: 3}{2: 1}"),
+    ),
+    Case("{{ {'a': 1, ...4} }}", Fault(15, 16)),
     Case("{{ 2 ** -1 }}", Fault(3, 10)),
     Case("{{ hey.other or 1 }}", Fault(3, 6)),
     Case("{{ 7 / 2 }}", Fault(3, 8)),

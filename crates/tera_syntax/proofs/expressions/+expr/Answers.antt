@@ -1,5 +1,5 @@
 use Rattle.tera_syntax.specs.Takes.{input}
-use Rattle.std.proofs.Common.{arith, ◌≡◌}
+use Rattle.std.proofs.Common.{arith}
 use Rattle.tera_syntax.proofs.Turns.{expr_more, expr_none, refuses}
 use Rattle.tera_syntax.proofs.expressions.+expr.Goals as goal
 

@@ -1,8 +1,8 @@
-use Rattle.std.proofs.Common.{rules, arith, ap, ◌∙◌, ◌≡◌, true}
+use Rattle.std.proofs.Common.{rules, arith, ◌≡◌, true}
 use Rattle.std.proofs.lemmas.Grind.{common_steps}
 use Rattle.tera_syntax.specs.declared.token.Kind.TheVariants.{LeftParenthesis}
 use Rattle.tera_syntax.specs.Input.{starts, same, kind}
-use Rattle.tera_syntax.specs.Takes.{input, deep_of}
+use Rattle.tera_syntax.specs.Takes.{input}
 use Rattle.tera_syntax.specs.Token.{tokens_of}
 use Rattle.tera_syntax.specs.Expressions.{opened}
 use Rattle.tera_syntax.proofs.Turns.{one_more, opened_turn}

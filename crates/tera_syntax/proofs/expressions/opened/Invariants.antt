@@ -1,6 +1,6 @@
 use Rattle.std.proofs.Common.{◌≡◌, ◌-◌, drop, []}
 use Rattle.tera_syntax.specs.Input.{left, starts}
-use Rattle.tera_syntax.specs.Takes.{input, deep_of}
+use Rattle.tera_syntax.specs.Takes.{input}
 use Rattle.tera_syntax.specs.Token.{tokens_of}
 use Rattle.tera_syntax.specs.Expressions.{opened}
 use Rattle.tera_syntax.proofs.expressions.opened.Given as goal

@@ -1,5 +1,4 @@
-use Rattle.std.proofs.Common.{◌≡◌, ◌≤◌, ◌<◌, ◌+◌, ◌-◌, ◌*◌, ◌^◌, get_or, length, drop, ap, ◌∙◌, arith}
-use Rattle.tera_syntax.specs.Literal.{number_from}
+use Rattle.std.proofs.Common.{◌≡◌, ◌≤◌, ◌<◌, ◌+◌, ◌-◌, ◌*◌, get_or, length, ap, ◌∙◌, arith}
 use Rattle.tera_syntax.proofs.Places.{by_order}
 use Rattle.tera_syntax.proofs.Literals.{too_large}
 use Rattle.tera_syntax.proofs.literal.integer.Goals as goal

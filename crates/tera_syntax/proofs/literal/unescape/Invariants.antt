@@ -1,4 +1,4 @@
-use Rattle.std.proofs.Common.{◌≡◌, ◌≤◌, ◌++◌, ◌-◌, false, drop, length, string_bytes}
+use Rattle.std.proofs.Common.{◌≡◌, ◌++◌, ◌-◌, false, drop, length, string_bytes}
 use Rattle.std.specs.Str.{IsCharBoundary}
 use Rattle.tera_syntax.specs.Literal.{unescaped}
 use Rattle.tera_syntax.proofs.literal.unescape.Given as goal

@@ -1,4 +1,4 @@
-use Rattle.std.proofs.Common.{arith, refl}
+use Rattle.std.proofs.Common.{refl}
 use Rattle.tera_tree.specs.Delimiters.{delimiters_of}
 use Rattle.tera_syntax.specs.Reads.{Reads, ReadsPlainText}
 use Rattle.tera_tree.specs.View.{nodes_of}

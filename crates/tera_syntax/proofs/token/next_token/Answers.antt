@@ -1,5 +1,5 @@
-use Rattle.std.proofs.Common.{◌≡◌, ◌+◌, ◌-◌, drop, take, Some, None, sym, ◌∙◌, ap, refl, arith}
-use Rattle.tera_syntax.specs.Token.{measured, named}
+use Rattle.std.proofs.Common.{◌≡◌, ◌+◌, ◌-◌, drop, take, Some, None, ◌∙◌, ap, refl, arith}
+use Rattle.tera_syntax.specs.Token.{measured}
 use Rattle.tera_syntax.proofs.Tokens.{no_token, a_token, start_boundary, end_boundary, end_le}
 use Rattle.tera_syntax.proofs.token.next_token.Goals as goal
 

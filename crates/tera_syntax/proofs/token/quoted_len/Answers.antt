@@ -1,4 +1,4 @@
-use Rattle.std.proofs.Common.{◌≡◌, ◌==◌, ◌&&◌, not, get_or, true, false, sym, ◌∙◌}
+use Rattle.std.proofs.Common.{false, sym, ◌∙◌}
 use Rattle.tera_syntax.specs.Token.{quoted}
 use Rattle.tera_syntax.proofs.Tokens.{quote_closes, quote_goes_on, quote_ends}
 use Rattle.tera_syntax.proofs.token.quoted_len.Goals as goal

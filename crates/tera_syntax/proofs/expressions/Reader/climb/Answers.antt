@@ -1,6 +1,6 @@
-use Rattle.std.proofs.Common.{rules, arith, ◌-◌, ◌+◌, suc, zero, []}
+use Rattle.std.proofs.Common.{rules, arith, ◌-◌, ◌+◌}
 use Rattle.std.proofs.lemmas.Grind.{common_steps}
-use Rattle.tera_syntax.specs.Input.{starts, left, expect}
+use Rattle.tera_syntax.specs.Input.{starts, expect}
 use Rattle.tera_syntax.specs.Takes.{input, deep_of}
 use Rattle.tera_syntax.specs.Token.{tokens_of}
 use Rattle.tera_syntax.specs.Expressions.{climb, expr}

@@ -1,7 +1,7 @@
-use Rattle.std.proofs.Common.{◌≡◌, ap, sym, ◌∙◌, refl, arith, Some}
+use Rattle.std.proofs.Common.{ap, sym, ◌∙◌, refl}
 use Rattle.tera_tree.specs.View.{items_of, expr_of}
 use Rattle.tera_syntax.specs.Expressions.{expr, join_items, one_item}
-use Rattle.tera_syntax.specs.Takes.{input, deep_of}
+use Rattle.tera_syntax.specs.Takes.{deep_of}
 use Rattle.tera_syntax.proofs.Turns.{items_of-push}
 use Rattle.tera_syntax.proofs.expressions.Reader.item.Goals as goal
 

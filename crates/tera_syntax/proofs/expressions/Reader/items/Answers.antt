@@ -1,10 +1,10 @@
-use Rattle.std.proofs.Common.{arith, ◌≡◌, ◌-◌, ◌+◌, suc, max, ap, sym, ◌∙◌, refl, true, false, Some, None}
+use Rattle.std.proofs.Common.{◌≡◌, ◌-◌, ◌+◌, max, ap, sym, ◌∙◌, true, false, Some}
 use Rattle.tera_tree.specs.View.{items_of}
 use Rattle.tera_syntax.specs.declared.token.Kind.TheVariants.{RightBracket, Comma, Spread}
-use Rattle.tera_syntax.specs.Input.{left, same, kind, and_then, next}
+use Rattle.tera_syntax.specs.Input.{same, kind, and_then, next}
 use Rattle.tera_syntax.specs.Takes.{input}
 use Rattle.tera_syntax.specs.Expressions.{items_from, expr, join_items, one_item}
-use Rattle.tera_syntax.proofs.Turns.{one_more, no_more, items_end, items_none, items_some, items_comma, items_shut, shut, refused}
+use Rattle.tera_syntax.proofs.Turns.{one_more, items_end, items_none, items_some, items_comma, items_shut, shut, refused}
 use Rattle.tera_syntax.proofs.expressions.Reader.items.Goals as goal
 
 pub returns-then-same : goal.returns-then-same

@@ -1,12 +1,2 @@
-pub mod Places
-pub mod Tokens
-pub mod Literals
-pub mod Turns
-pub mod Steps
-pub mod Sound
-pub mod Complete
-pub mod Insides
-pub mod Openings
-pub mod Cuts
 pub mod Reading
 pub mod Plain

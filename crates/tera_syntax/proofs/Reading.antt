@@ -3,20 +3,21 @@ use Rattle.std.proofs.Common.{◌≡◌, ℕ, suc, ◌-◌, ◌≤◌, max, List
 use Rattle.std.proofs.lemmas.Bool.Decides.{Decides-eqb}
 use Rattle.tera_errors.specs.Site.{Text}
 use Rattle.tera_errors.specs.declared.span.Span.{Span}
-use Rattle.tera_syntax.specs.declared.token.Kind.TheVariants as k
-use Rattle.tera_syntax.specs.Token.{Token}
-use Rattle.tera_syntax.specs.Input.{Input, Outcome, begin, kind, same}
-use Rattle.tera_syntax.specs.Expressions.{Deep, expr}
-use Rattle.tera_syntax.specs.Cut.{Piece, Words, Comment, Variable, Block, Broken}
+use Rattle.tera_tokens.specs.declared.token.Kind.TheVariants as k
+use Rattle.tera_tokens.specs.Token.{Token}
+use Rattle.tera_tokens.specs.Input.{Input, Outcome, begin, kind, same}
+use Rattle.tera_expressions.specs.Expressions.{Deep, expr}
+use Rattle.tera_tokens.specs.Cut.{Piece, Words, Comment, Variable, Block, Broken}
 use Rattle.tera_tree.specs.Tree.{Expr, Content, Print, Nodes, NoNodes, MoreNodes}
 use Rattle.tera_tree.specs.Depth.{depth, nodes_depth}
-use Rattle.tera_syntax.specs.Grammar.{Derives, DerivesNodes, empty, content, blank, comment, print}
+use Rattle.tera_expressions.specs.Grammar.{Derives}
+use Rattle.tera_syntax.specs.Grammar.{DerivesNodes, empty, content, blank, comment, print}
 use Rattle.tera_tree.specs.declared.node.Node as declared
 use Rattle.tera_tree.specs.View.{node_of, nodes_of}
 use Rattle.tera_syntax.specs.Reader.{ended, whole, printed, piece_nodes, join, joined, nodes, PutsSome}
-use Rattle.tera_syntax.proofs.Steps.{same-is, same-refl}
-use Rattle.tera_syntax.proofs.Sound.{what_is_read}
-use Rattle.tera_syntax.proofs.Complete.{complete}
+use Rattle.tera_expressions.proofs.Steps.{same-is, same-refl}
+use Rattle.tera_expressions.proofs.Sound.{what_is_read}
+use Rattle.tera_expressions.proofs.Complete.{complete}
 
 ended_by : (q : Bool) (x y : Expr) → (if q then Some x else None) ≡ Some y → (q ≡ true) × (x ≡ y)
 ended_by true x y h = (refl, cc)

@@ -1,15 +1,4 @@
-pub mod Bytes
-pub mod Answers
-pub mod Token
-pub mod Inside
-pub mod Cut
-pub mod Input
-pub mod Literal
-pub mod Keys
-pub mod Expressions
 pub mod Grammar
 pub mod Spells
 pub mod Reads
-pub mod Takes
 pub mod Reader
-pub mod Found

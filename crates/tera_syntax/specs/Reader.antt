@@ -1,12 +1,12 @@
 -- The reader, as a function.
 use Rattle.std.specs.Prelude.{ℕ, ◌-◌, List, [], ◌∷◌, Option, Some, None, Result, Ok, Err, ◌≡◌, if◌then◌else◌}
-use Rattle.tera_syntax.specs.declared.token.Kind.TheVariants as k
-use Rattle.tera_syntax.specs.declared.refusal.Refusal.{Refusal}
-use Rattle.tera_syntax.specs.Answers.{Refuses}
-use Rattle.tera_syntax.specs.Token.{Token}
-use Rattle.tera_syntax.specs.Input.{Outcome, begin, kind, same}
-use Rattle.tera_syntax.specs.Expressions.{Deep, expr}
-use Rattle.tera_syntax.specs.Cut.{Piece, Words, Comment, Variable, Block, Broken}
+use Rattle.tera_tokens.specs.declared.token.Kind.TheVariants as k
+use Rattle.tera_tokens.specs.declared.refusal.Refusal.{Refusal}
+use Rattle.tera_tokens.specs.Answers.{Refuses}
+use Rattle.tera_tokens.specs.Token.{Token}
+use Rattle.tera_tokens.specs.Input.{Outcome, begin, kind, same}
+use Rattle.tera_expressions.specs.Expressions.{Deep, expr}
+use Rattle.tera_tokens.specs.Cut.{Piece, Words, Comment, Variable, Block, Broken}
 use Rattle.tera_tree.specs.Tree.{Expr, Content, Print, Nodes, NoNodes, MoreNodes}
 
 abbrev pub ended : Outcome Deep → Option Expr

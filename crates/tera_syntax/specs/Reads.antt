@@ -3,7 +3,7 @@ use Rattle.std.specs.Prelude.{◌≡◌, ◌≤◌, ℕ, Result, Ok, Err, length
 use Rattle.tera_errors.specs.Site.{Text, Name}
 use Rattle.tera_errors.specs.Fault.{Fault, syntax_error}
 use Rattle.tera_errors.specs.declared.span.Span.{Span}
-use Rattle.tera_syntax.specs.Cut.{opens}
+use Rattle.tera_tokens.specs.Cut.{opens}
 use Rattle.tera_tree.specs.Delimiters.{Delims}
 use Rattle.tera_tree.specs.Depth.{IsWellFormed}
 use Rattle.tera_syntax.specs.Spells.{Spells}

@@ -1,7 +1,7 @@
 -- What the text of a template spells.
 use Rattle.std.specs.Prelude.{[]}
 use Rattle.tera_errors.specs.Site.{Text, Name}
-use Rattle.tera_syntax.specs.Cut.{pieces}
+use Rattle.tera_tokens.specs.Cut.{pieces}
 use Rattle.tera_tree.specs.Delimiters.{Delims}
 use Rattle.tera_syntax.specs.Grammar.{DerivesNodes}
 use Rattle.tera_tree.specs.Tree.{Tree}

@@ -1,22 +1,22 @@
 // From a template's text to its tree.
 ghost use Rattle.std.specs.Prelude.{◌≡◌, ◌≤◌, ◌<◌, ◌+◌, ◌^◌, Some, length, IsTrue, OnOk};
 ghost use Rattle.tera_errors.specs.Answer.{GivesOneOf};
-ghost use Rattle.tera_syntax.specs.Answers.{Answers};
-ghost use Rattle.tera_syntax.specs.Cut.{pieces};
+ghost use Rattle.tera_tokens.specs.Answers.{Answers};
+ghost use Rattle.tera_tokens.specs.Cut.{pieces};
 ghost use Rattle.tera_tree.specs.Delimiters.{accepted, delimiters_of};
 ghost use Rattle.tera_syntax.specs.Reader as spec;
 ghost use Rattle.tera_syntax.specs.Reader.{Puts};
 ghost use Rattle.tera_syntax.specs.Reads.{Reads, ReadsPlainText, Within};
-ghost use Rattle.tera_syntax.specs.Found.{piece_of};
-ghost use Rattle.tera_syntax.specs.Takes.{Takes, input};
-ghost use Rattle.tera_syntax.specs.Token.{tokens_of};
+ghost use Rattle.tera_tokens.specs.Found.{piece_of};
+ghost use Rattle.tera_tokens.specs.Takes.{Takes, input};
+ghost use Rattle.tera_tokens.specs.Token.{tokens_of};
 ghost use Rattle.tera_tree.specs.View.{expr_of, nodes_of, tree_of};
 
-use crate::cut::{Piece, next_piece};
-use crate::expressions::expr;
-use crate::input::{Tokens, same};
-use crate::refusal::{Reason, Refusal};
-use crate::token::{Kind, Token};
+use tera_tokens::cut::{Piece, next_piece};
+use tera_expressions::expressions::expr;
+use tera_tokens::input::{Tokens, same};
+use tera_tokens::refusal::{Reason, Refusal};
+use tera_tokens::token::{Kind, Token};
 use std::alloc::Global;
 use tera_errors::{Error, Span, TeraResult};
 use tera_tree::{Delimiters, Expression, Node, ParserOutput};

@@ -1,13 +1,13 @@
 use Rattle.std.proofs.Common.{◌≡◌, ◌-◌, length, ap, sym, ◌∙◌, Some, arith}
 use Rattle.std.proofs.lemmas.List.{length-drop}
 use Rattle.std.proofs.lemmas.Bool.Decides.{Decides-eqb}
-use Rattle.tera_syntax.specs.Cut.{cut}
+use Rattle.tera_tokens.specs.Cut.{cut}
 use Rattle.tera_tree.specs.Delimiters.{delimiters_of}
-use Rattle.tera_syntax.specs.Found.{found_of, piece_of}
+use Rattle.tera_tokens.specs.Found.{found_of, piece_of}
 use Rattle.tera_syntax.specs.Reader as spec
 use Rattle.tera_tree.specs.View.{nodes_of}
-use Rattle.tera_syntax.proofs.Cuts.{cut_step, cut_broken, cut_nothing}
-use Rattle.tera_syntax.proofs.Turns.{refused}
+use Rattle.tera_tokens.proofs.Cuts.{cut_step, cut_broken, cut_nothing}
+use Rattle.tera_expressions.proofs.Turns.{refused}
 use Rattle.tera_syntax.proofs.Reading.{some_bytes, joined_none, puts_more, join-none}
 use Rattle.tera_syntax.proofs.reader.nodes.Goals as goal
 

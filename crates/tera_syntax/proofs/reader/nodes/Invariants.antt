@@ -1,7 +1,7 @@
 use denote.Shadow.{shadow}
 use denote.Text.{Utf8}
 use Rattle.std.proofs.Common.{◌≡◌, ◌+◌, length, Some}
-use Rattle.tera_syntax.specs.Cut.{cut, pieces}
+use Rattle.tera_tokens.specs.Cut.{cut, pieces}
 use Rattle.tera_tree.specs.Delimiters.{delimiters_of}
 use Rattle.tera_syntax.specs.Reader as spec
 use Rattle.tera_tree.specs.View.{nodes_of}

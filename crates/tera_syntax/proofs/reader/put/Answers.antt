@@ -1,8 +1,8 @@
 use Rattle.std.proofs.Common.{◌≡◌, ◌==◌, length, ap, sym, ◌∙◌, Some, true, false}
 use Rattle.tera_tree.specs.Tree.{NoNodes, MoreNodes, Content, Print}
-use Rattle.tera_syntax.specs.Found.{piece_of}
+use Rattle.tera_tokens.specs.Found.{piece_of}
 use Rattle.tera_syntax.specs.Reader.{piece_nodes, printed, whole, join}
-use Rattle.tera_syntax.specs.Token.{tokens_of}
+use Rattle.tera_tokens.specs.Token.{tokens_of}
 use Rattle.tera_tree.specs.View.{nodes_of, expr_of}
 use Rattle.tera_syntax.proofs.Reading.{puts, join-none, no_words, some_words, nodes_of-push}
 use Rattle.tera_syntax.proofs.reader.put.Goals as goal

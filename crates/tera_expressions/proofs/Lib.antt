@@ -1,0 +1,4 @@
+pub mod Turns
+pub mod Steps
+pub mod Sound
+pub mod Complete

@@ -1,0 +1,270 @@
+-- The reader of expressions, as a function.
+use Rattle.std.specs.Prelude.{ℕ, zero, suc, ◌+◌, max, List, [], ◌∷◌, Bool, true, false, ◌&&◌, nat_le, nat_lt, Option, Some, None, option_map, if◌then◌else◌}
+use Rattle.tera_errors.specs.declared.span.Span.{Span}
+use Rattle.tera_tree.specs.declared.expression.BinaryOperator.{BinaryOperator}
+use Rattle.tera_tree.specs.declared.expression.BinaryOperator.TheVariants as binary
+use Rattle.tera_tree.specs.Tree.{Expr, Nothing, Boolean, Integer, Text, Name, Attribute, Index, Slice, Optional, Absent, Present, Not, Negate, Binary, And, Or, Ternary, Array, Items, NoItems, MoreItems, Map, Key, Entries, NoEntries, MoreEntries}
+use Rattle.tera_tree.specs.Depth.{depth}
+use Rattle.tera_tokens.specs.declared.token.Kind.{Kind}
+use Rattle.tera_tokens.specs.declared.token.Kind.TheVariants as k
+use Rattle.tera_tokens.specs.Input.{Input, Parser, and_then, ◌>>=◌, refuse, kind, text, start, next, left, span, same, expect, is_word}
+use Rattle.tera_tokens.specs.Literal.{integer, literal}
+use Rattle.tera_expressions.specs.Keys.{key_at}
+
+-- an expression, and how deep it is
+pub record Deep : Type 0 where
+  pub expr : Expr
+  pub depth : ℕ
+
+abbrev pub deep : Expr → Deep
+deep x = record { expr = x; depth = depth x }
+
+-- The least level of an expression before this token that goes on with it, and 12 where none does.
+unfoldable pub needs : Kind → ℕ
+needs k.If = 1
+needs k.Or = 1
+needs k.And = 2
+needs k.Not = 4
+needs k.Equal = 4
+needs k.NotEqual = 4
+needs k.Less = 4
+needs k.Greater = 4
+needs k.LessOrEqual = 4
+needs k.GreaterOrEqual = 4
+needs k.In = 4
+needs k.Tilde = 5
+needs k.Plus = 6
+needs k.Minus = 6
+needs k.Star = 7
+needs k.Slash = 7
+needs k.FloorSlash = 7
+needs k.Percent = 7
+needs k.Power = 10
+needs k.Dot = 11
+needs k.OptionalDot = 11
+needs k.LeftBracket = 11
+needs k.OptionalBracket = 11
+needs _ = 12
+
+-- the level of what it goes on to
+unfoldable pub gives : Kind → ℕ
+gives k.If = 0
+gives k.Or = 1
+gives k.And = 2
+gives k.Not = 4
+gives k.Equal = 4
+gives k.NotEqual = 4
+gives k.Less = 4
+gives k.Greater = 4
+gives k.LessOrEqual = 4
+gives k.GreaterOrEqual = 4
+gives k.In = 4
+gives k.Tilde = 5
+gives k.Plus = 6
+gives k.Minus = 6
+gives k.Star = 7
+gives k.Slash = 7
+gives k.FloorSlash = 7
+gives k.Percent = 7
+gives k.Power = 9
+gives k.Dot = 11
+gives k.OptionalDot = 11
+gives k.LeftBracket = 11
+gives k.OptionalBracket = 11
+gives _ = 12
+
+abbrev pub goes_on : ℕ → ℕ → Kind → Bool
+goes_on floor have kind = nat_le floor (gives kind) && nat_le (needs kind) have
+
+-- the level of what begins with this token
+unfoldable pub begins : Kind → ℕ
+begins k.Not = 3
+begins k.Minus = 8
+begins _ = 11
+
+-- inside open parentheses any expression may stand
+abbrev pub floor_in : List ℕ → ℕ → ℕ
+floor_in [] floor = floor
+floor_in (o ∷ os) floor = 0
+
+-- the parentheses that open before the next operand, behind those that are open
+unfoldable pub opened : ℕ → List ℕ → Parser (List ℕ)
+opened zero os = λ i. Some (os, i)
+opened (suc n) os = λ i. if same k.LeftParenthesis (kind i) then opened n (start i ∷ os) (next i) else Some (os, i)
+
+abbrev pub join_items : Items → Items → Items
+join_items NoItems more = more
+join_items (MoreItems s x rest) more = MoreItems s x (join_items rest more)
+
+abbrev pub one_item : Bool → Expr → Items
+one_item s x = MoreItems s x NoItems
+
+-- a form over parts of this depth, if that is within the limit
+unfoldable pub node : ℕ → ℕ → Expr → Parser Deep
+node limit d x = λ i. if nat_lt d limit then Some (record { expr = x; depth = d + 1 }, i) else None
+
+abbrev pub join_entries : Entries → Entries → Entries
+join_entries NoEntries more = more
+join_entries (MoreEntries key x rest) more = MoreEntries key x (join_entries rest more)
+
+abbrev pub one_entry : Option Key → Expr → Entries
+one_entry key x = MoreEntries key x NoEntries
+
+abbrev pub keyed : Option Key → Parser (Option Key)
+keyed None = refuse
+keyed (Some key) = λ i. and_then (expect k.Colon (next i)) (λ _. λ j. Some (Some key, j))
+
+-- the key of an entry, and the place behind the colon; none behind the dots of a map that is spread
+unfoldable pub entry_key : Parser (Option Key)
+entry_key = λ i. if same k.Spread (kind i) then Some (None, next i) else keyed (key_at i) i
+
+-- the place behind the dots of an item that is spread
+abbrev pub behind_dots : Input → Input
+behind_dots i = if same k.Spread (kind i) then next i else i
+
+-- `sub l` reads an expression of level l or above that is part of another, and `limit` is the greatest depth.
+module _ (limit : ℕ) (sub : ℕ → Parser Deep) where
+  unfoldable pub prefixed : ℕ → (Expr → Span → Expr) → Parser Deep
+  prefixed level form = λ i. (sub level >>= (λ x. λ j. node limit x.depth (form x.expr (span (start i) j)) j)) (next i)
+
+  unfoldable pub infixed : ℕ → (Expr → Expr → Span → Expr) → ℕ → Deep → Parser Deep
+  infixed level form from x = λ i. (sub level >>= (λ y. λ j. node limit (max x.depth y.depth) (form x.expr y.expr (span from j)) j)) (next i)
+
+  unfoldable pub applied : ℕ → BinaryOperator → ℕ → Deep → Parser Deep
+  applied level operator = infixed level (Binary operator)
+
+  unfoldable pub not_in : ℕ → Deep → Parser Deep
+  not_in from x = λ i. if same k.In (kind (next i)) then (applied 5 binary.In from x >>= (λ y. λ j. node limit y.depth (Not y.expr (span from j)) j)) (next i) else None
+
+  -- behind `else`
+  unfoldable pub other : ℕ → Deep → Deep → Parser Deep
+  other from x y = sub 0 >>= (λ z. λ j. node limit (max x.depth (max y.depth z.depth)) (Ternary x.expr y.expr z.expr (span from j)) j)
+
+  unfoldable pub choice : ℕ → Deep → Parser Deep
+  choice from x = λ i. (sub 1 >>= (λ y. expect k.Else >>= (λ _. other from x y))) (next i)
+
+  unfoldable pub attribute : Bool → ℕ → Deep → Parser Deep
+  attribute optional from x = λ i. if is_word (kind (next i)) then node limit x.depth (Attribute x.expr (text (next i)) optional (span from (next (next i)))) (next (next i)) else None
+
+  -- a bound of a slice, if it is written, and how deep it is
+  unfoldable pub part : Parser (Optional × ℕ)
+  part = λ i. if same k.Colon (kind i) then Some ((Absent, 0), i) else (if same k.RightBracket (kind i) then Some ((Absent, 0), i)
+      else and_then (sub 0 i) (λ x. λ j. Some ((Present x.expr, x.depth), j)))
+
+  unfoldable pub step : Parser (Optional × ℕ)
+  step = λ i. if same k.Colon (kind i) then part (next i) else Some ((Absent, 0), i)
+
+  unfoldable pub index_at : Bool → ℕ → Deep → Optional → ℕ → Parser Deep
+  index_at optional from x Absent d = refuse
+  index_at optional from x (Present y) d = λ i. node limit (max x.depth d) (Index x.expr y optional (span from (next i))) (next i)
+
+  unfoldable pub slice_made : Bool → ℕ → Deep → Optional × ℕ → Optional × ℕ → Optional × ℕ → Parser Deep
+  slice_made optional from x p q r = expect k.RightBracket >>= (λ _. λ j.
+      node limit (max x.depth (max p.1 (max q.1 r.1))) (Slice x.expr p.0 q.0 r.0 optional (span from j)) j)
+
+  unfoldable pub slice : Bool → ℕ → Deep → Optional × ℕ → Parser Deep
+  slice optional from x p = expect k.Colon >>= (λ _. part >>= (λ q. step >>= (λ r. slice_made optional from x p q r)))
+
+  abbrev pub subscript_with : Bool → ℕ → Deep → Optional × ℕ → Parser Deep
+  subscript_with optional from x p = λ i. if same k.RightBracket (kind i) then index_at optional from x p.0 p.1 i else slice optional from x p i
+
+  unfoldable pub subscript : Bool → ℕ → Deep → Parser Deep
+  subscript optional from x = λ i. (part >>= subscript_with optional from x) (next i)
+
+  abbrev pub operation_by : ℕ → Deep → Kind → Parser Deep
+  operation_by from x k.If = choice from x
+  operation_by from x k.Or = infixed 2 Or from x
+  operation_by from x k.And = infixed 3 And from x
+  operation_by from x k.Not = not_in from x
+  operation_by from x k.Equal = applied 5 binary.Equal from x
+  operation_by from x k.NotEqual = applied 5 binary.NotEqual from x
+  operation_by from x k.Less = applied 5 binary.Less from x
+  operation_by from x k.Greater = applied 5 binary.Greater from x
+  operation_by from x k.LessOrEqual = applied 5 binary.LessOrEqual from x
+  operation_by from x k.GreaterOrEqual = applied 5 binary.GreaterOrEqual from x
+  operation_by from x k.In = applied 5 binary.In from x
+  operation_by from x k.Tilde = applied 6 binary.Concat from x
+  operation_by from x k.Plus = applied 7 binary.Add from x
+  operation_by from x k.Minus = applied 7 binary.Subtract from x
+  operation_by from x k.Star = applied 8 binary.Multiply from x
+  operation_by from x k.Slash = applied 8 binary.Divide from x
+  operation_by from x k.FloorSlash = applied 8 binary.FloorDivide from x
+  operation_by from x k.Percent = applied 8 binary.Remainder from x
+  operation_by from x k.Power = applied 8 binary.Power from x
+  operation_by from x k.Dot = attribute false from x
+  operation_by from x k.OptionalDot = attribute true from x
+  operation_by from x k.LeftBracket = subscript false from x
+  operation_by from x k.OptionalBracket = subscript true from x
+  operation_by from x _ = refuse
+
+  unfoldable pub operation : ℕ → Deep → Parser Deep
+  operation from x = λ i. operation_by from x (kind i) i
+
+  -- items with commas between, up to a bracket
+  unfoldable pub items_from : ℕ → Items → ℕ → Parser (Items × ℕ)
+  items_from zero found d = refuse
+  items_from (suc n) found d = λ i. if same k.RightBracket (kind i) then Some ((found, d), next i) else
+      and_then (sub 0 (behind_dots i)) (λ x. λ j.
+      if same k.Comma (kind j) then items_from n (join_items found (one_item (same k.Spread (kind i)) x.expr)) (max d x.depth) (next j)
+      else (if same k.RightBracket (kind j) then Some ((join_items found (one_item (same k.Spread (kind i)) x.expr), max d x.depth), next j) else None))
+
+  abbrev pub items : Parser (Items × ℕ)
+  items = λ i. items_from (left i) NoItems 0 i
+
+  unfoldable pub array : Parser Deep
+  array = λ i. (items >>= (λ xs. λ j. node limit xs.1 (Array xs.0 (span (start i) j)) j)) (next i)
+
+  abbrev pub entry_rest : (Entries → ℕ → Parser (Entries × ℕ)) → Entries → ℕ → Option Key → Deep → Parser (Entries × ℕ)
+  entry_rest more found d key x = λ j. if same k.Comma (kind j) then more (join_entries found (one_entry key x.expr)) (max d x.depth) (next j)
+      else and_then (expect k.RightBrace j) (λ _. λ a. Some ((join_entries found (one_entry key x.expr), max d x.depth), a))
+
+  -- entries with commas between, up to a brace
+  unfoldable pub entries_from : ℕ → Entries → ℕ → Parser (Entries × ℕ)
+  entries_from zero found d = refuse
+  entries_from (suc n) found d = λ i. if same k.RightBrace (kind i) then Some ((found, d), next i) else
+      and_then (entry_key i) (λ key. λ j. and_then (sub 0 j) (entry_rest (entries_from n) found d key))
+
+  unfoldable pub map : Parser Deep
+  map = λ i. ((λ j. entries_from (left j) NoEntries 0 j) >>= (λ xs. λ j. node limit xs.1 (Map xs.0 (span (start i) j)) j)) (next i)
+
+  abbrev pub leaf : Option Expr → Parser Deep
+  leaf None = refuse
+  leaf (Some x) = node limit 0 x
+
+  abbrev pub head_by : Kind → Parser Deep
+  head_by k.Minus = prefixed 8 Negate
+  head_by k.Not = prefixed 3 Not
+  head_by k.Int = λ i. leaf (option_map (λ z. Integer z (span (start i) (next i))) (integer (text i))) (next i)
+  head_by k.Text = λ i. leaf (option_map (λ t. Text t (span (start i) (next i))) (literal (text i))) (next i)
+  head_by k.True = λ i. node limit 0 (Boolean true (span (start i) (next i))) (next i)
+  head_by k.False = λ i. node limit 0 (Boolean false (span (start i) (next i))) (next i)
+  head_by k.Nothing = λ i. node limit 0 (Nothing (span (start i) (next i))) (next i)
+  head_by k.Name = λ i. node limit 0 (Name (text i) (span (start i) (next i))) (next i)
+  head_by k.LeftBracket = array
+  head_by k.LeftBrace = map
+  head_by _ = refuse
+
+  -- what stands before the first operator
+  unfoldable pub head : Parser Deep
+  head = λ i. head_by (kind i) i
+
+  -- goes on with operators, and closes what is open
+  unfoldable pub climb : ℕ → List ℕ → ℕ → ℕ → ℕ → Deep → Parser Deep
+  climb zero os floor have from x = refuse
+  climb (suc n) [] floor have from x = λ i.
+      if goes_on floor have (kind i) then and_then (operation from x i) (climb n [] floor (gives (kind i)) from)
+      else Some (x, i)
+  climb (suc n) (o ∷ os) floor have from x = λ i.
+      if goes_on 0 have (kind i) then and_then (operation from x i) (climb n (o ∷ os) floor (gives (kind i)) from)
+      else (if same k.RightParenthesis (kind i) then climb n os floor 11 o x (next i) else None)
+
+  unfoldable pub level_with : ℕ → List ℕ → ℕ → Parser Deep
+  level_with n os floor = λ i. if nat_le (floor_in os floor) (begins (kind i)) then (head >>= climb n os floor (begins (kind i)) (start i)) i else None
+
+  unfoldable pub level : ℕ → Parser Deep
+  level floor = λ i. (opened (left i) [] >>= (λ os. level_with (left i) os floor)) i
+
+-- an expression of this level or above, no deeper than the first number
+unfoldable pub expr : ℕ → ℕ → Parser Deep
+expr zero floor = refuse
+expr (suc limit) floor = level (suc limit) (expr limit) floor

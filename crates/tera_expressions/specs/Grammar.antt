@@ -1,0 +1,109 @@
+-- What tokens derive: expressions.
+use Rattle.std.specs.Prelude.{◌≡◌, ◌≢◌, ℕ, suc, ℤ, List, [], ◌∷◌, Bool, true, false, Option, Some, None}
+use Rattle.tera_errors.specs.Site as site
+use Rattle.tera_errors.specs.declared.span.Span.{Span}
+use Rattle.tera_tree.specs.declared.expression.BinaryOperator.TheVariants as binary
+use Rattle.tera_tree.specs.Tree.{Expr, Nothing, Boolean, Integer, Text, Name, Attribute, Index, Slice, Optional, Absent, Present, Not, Negate, Binary, And, Or, Ternary, Array, Items, NoItems, MoreItems, Map, Key, Entries, NoEntries, MoreEntries, Content, Print, Nodes, NoNodes, MoreNodes}
+use Rattle.tera_tokens.specs.declared.token.Kind.{Kind}
+use Rattle.tera_tokens.specs.declared.token.Kind.TheVariants as k
+use Rattle.tera_tokens.specs.Token.{Token}
+use Rattle.tera_tokens.specs.Input.{Input, begin, kind, text, start, next, span, is_word}
+use Rattle.tera_tokens.specs.Literal.{integer, literal}
+use Rattle.tera_expressions.specs.Keys.{key_at}
+use Rattle.tera_tokens.specs.Cut.{Piece, Words, Comment, Variable}
+
+-- the operators that group to the left: a sign, the form that it makes of its operands, and a level
+pub data Operator : Kind → (Expr → Expr → Span → Expr) → ℕ → Type 0 where
+  or : Operator k.Or Or 1
+  and : Operator k.And And 2
+  equal : Operator k.Equal (Binary binary.Equal) 4
+  not_equal : Operator k.NotEqual (Binary binary.NotEqual) 4
+  less : Operator k.Less (Binary binary.Less) 4
+  greater : Operator k.Greater (Binary binary.Greater) 4
+  less_or_equal : Operator k.LessOrEqual (Binary binary.LessOrEqual) 4
+  greater_or_equal : Operator k.GreaterOrEqual (Binary binary.GreaterOrEqual) 4
+  is_in : Operator k.In (Binary binary.In) 4
+  concat : Operator k.Tilde (Binary binary.Concat) 5
+  add : Operator k.Plus (Binary binary.Add) 6
+  subtract : Operator k.Minus (Binary binary.Subtract) 6
+  multiply : Operator k.Star (Binary binary.Multiply) 7
+  divide : Operator k.Slash (Binary binary.Divide) 7
+  floor_divide : Operator k.FloorSlash (Binary binary.FloorDivide) 7
+  remainder : Operator k.Percent (Binary binary.Remainder) 7
+
+-- the signs before an attribute and before a subscript, and whether they make it optional
+pub data Dot : Kind → Bool → Type 0 where
+  dot : Dot k.Dot false
+  optional_dot : Dot k.OptionalDot true
+
+pub data Bracket : Kind → Bool → Type 0 where
+  bracket : Bracket k.LeftBracket false
+  optional_bracket : Bracket k.OptionalBracket true
+
+mutual
+  -- The tokens from the first place to the second are an expression of a level: 0 a choice, 1 or, 2 and, 3 not, 4 a comparison,
+  -- 5 concatenation, 6 sums, 7 products, 8 minus, 9 powers, 10 filters, 11 what stands before these
+  pub data Derives : ℕ → Expr → Input → Input → Type 0 where
+    tighter : {l : ℕ} {x : Expr} {i j : Input} → Derives (suc l) x i j → Derives l x i j
+    choice : {x y z : Expr} {i a b j : Input} → Derives 1 x i a → kind a ≡ k.If → Derives 1 y (next a) b → kind b ≡ k.Else → Derives 0 z (next b) j
+        → Derives 0 (Ternary x y z (span (start i) j)) i j
+    operation : {s : Kind} {form : Expr → Expr → Span → Expr} {l : ℕ} {x y : Expr} {i a j : Input} → Operator s form l → Derives l x i a → kind a ≡ s
+        → Derives (suc l) y (next a) j → Derives l (form x y (span (start i) j)) i j
+    not : {x : Expr} {i j : Input} → kind i ≡ k.Not → Derives 3 x (next i) j → Derives 3 (Not x (span (start i) j)) i j
+    not_in : {x y : Expr} {i a j : Input} → Derives 4 x i a → kind a ≡ k.Not → kind (next a) ≡ k.In → Derives 5 y (next (next a)) j
+        → Derives 4 (Not (Binary binary.In x y (span (start i) j)) (span (start i) j)) i j
+    minus : {x : Expr} {i j : Input} → kind i ≡ k.Minus → Derives 8 x (next i) j → Derives 8 (Negate x (span (start i) j)) i j
+    power : {x y : Expr} {i a j : Input} → Derives 10 x i a → kind a ≡ k.Power → Derives 8 y (next a) j
+        → Derives 9 (Binary binary.Power x y (span (start i) j)) i j
+    attribute : {s : Kind} {optional : Bool} {x : Expr} {i a : Input} → Dot s optional → Derives 11 x i a → kind a ≡ s → is_word (kind (next a)) ≡ true
+        → Derives 11 (Attribute x (text (next a)) optional (span (start i) (next (next a)))) i (next (next a))
+    index : {s : Kind} {optional : Bool} {x y : Expr} {i a b : Input} → Bracket s optional → Derives 11 x i a → kind a ≡ s → Derives 0 y (next a) b → kind b ≡ k.RightBracket
+        → Derives 11 (Index x y optional (span (start i) (next b))) i (next b)
+    slice : {s : Kind} {optional : Bool} {x : Expr} {from to by : Optional} {i a b c d : Input} → Bracket s optional → Derives 11 x i a → kind a ≡ s
+        → DerivesPart from (next a) b → kind b ≡ k.Colon → DerivesPart to (next b) c → DerivesStep by c d → kind d ≡ k.RightBracket
+        → Derives 11 (Slice x from to by optional (span (start i) (next d))) i (next d)
+    int : {z : ℤ} {i : Input} → kind i ≡ k.Int → integer (text i) ≡ Some z → Derives 11 (Integer z (span (start i) (next i))) i (next i)
+    quoted : {t : site.Text} {i : Input} → kind i ≡ k.Text → literal (text i) ≡ Some t → Derives 11 (Text t (span (start i) (next i))) i (next i)
+    is_true : {i : Input} → kind i ≡ k.True → Derives 11 (Boolean true (span (start i) (next i))) i (next i)
+    is_false : {i : Input} → kind i ≡ k.False → Derives 11 (Boolean false (span (start i) (next i))) i (next i)
+    nothing : {i : Input} → kind i ≡ k.Nothing → Derives 11 (Nothing (span (start i) (next i))) i (next i)
+    name : {i : Input} → kind i ≡ k.Name → Derives 11 (Name (text i) (span (start i) (next i))) i (next i)
+    -- parentheses are no part of what they are around
+    parentheses : {x : Expr} {i a : Input} → kind i ≡ k.LeftParenthesis → Derives 0 x (next i) a → kind a ≡ k.RightParenthesis → Derives 11 x i (next a)
+    array : {xs : Items} {i a : Input} → kind i ≡ k.LeftBracket → DerivesItems xs (next i) a → kind a ≡ k.RightBracket
+        → Derives 11 (Array xs (span (start i) (next a))) i (next a)
+    map : {xs : Entries} {i a : Input} → kind i ≡ k.LeftBrace → DerivesEntries xs (next i) a → kind a ≡ k.RightBrace
+        → Derives 11 (Map xs (span (start i) (next a))) i (next a)
+
+  -- a bound of a slice, if it is written
+  pub data DerivesPart : Optional → Input → Input → Type 0 where
+    absent : {i : Input} → DerivesPart Absent i i
+    present : {x : Expr} {i j : Input} → Derives 0 x i j → DerivesPart (Present x) i j
+
+  -- its step, if it is written
+  pub data DerivesStep : Optional → Input → Input → Type 0 where
+    no_step : {i : Input} → DerivesStep Absent i i
+    step : {by : Optional} {i j : Input} → kind i ≡ k.Colon → DerivesPart by (next i) j → DerivesStep by i j
+
+  -- an item, or an array that is spread
+  pub data DerivesItem : Bool → Expr → Input → Input → Type 0 where
+    plain : {x : Expr} {i j : Input} → Derives 0 x i j → DerivesItem false x i j
+    spread : {x : Expr} {i j : Input} → kind i ≡ k.Spread → Derives 0 x (next i) j → DerivesItem true x i j
+
+  -- items with commas between, and at will one behind the last
+  pub data DerivesItems : Items → Input → Input → Type 0 where
+    none : {i : Input} → DerivesItems NoItems i i
+    one : {s : Bool} {x : Expr} {i j : Input} → DerivesItem s x i j → DerivesItems (MoreItems s x NoItems) i j
+    more : {s : Bool} {x : Expr} {xs : Items} {i a j : Input} → DerivesItem s x i a → kind a ≡ k.Comma → DerivesItems xs (next a) j → DerivesItems (MoreItems s x xs) i j
+
+  -- an entry, or a map that is spread
+  pub data DerivesEntry : Option Key → Expr → Input → Input → Type 0 where
+    keyed : {key : Key} {x : Expr} {i j : Input} → key_at i ≡ Some key → kind (next i) ≡ k.Colon → Derives 0 x (next (next i)) j → DerivesEntry (Some key) x i j
+    spread_map : {x : Expr} {i j : Input} → kind i ≡ k.Spread → Derives 0 x (next i) j → DerivesEntry None x i j
+
+  -- entries with commas between, and at will one behind the last
+  pub data DerivesEntries : Entries → Input → Input → Type 0 where
+    no_entries : {i : Input} → DerivesEntries NoEntries i i
+    one_entry : {key : Option Key} {x : Expr} {i j : Input} → DerivesEntry key x i j → DerivesEntries (MoreEntries key x NoEntries) i j
+    more_entries : {key : Option Key} {x : Expr} {xs : Entries} {i a j : Input} → DerivesEntry key x i a → kind a ≡ k.Comma → DerivesEntries xs (next a) j
+        → DerivesEntries (MoreEntries key x xs) i j

@@ -1,0 +1,4 @@
+pub mod Keys
+pub mod Expressions
+pub mod Grammar
+pub mod Parts

@@ -1,0 +1,56 @@
+-- How the reader's parts of expressions stand to their definitions.
+use Rattle.std.specs.Prelude.{◌≡◌, ℕ, List, Bool, Option, Some, Result, Ok, Err}
+use Rattle.std.specs.declared.alloc.Global.{Global}
+use denote.Ref.{MutBor}
+use Rattle.tera_errors.specs.declared.span.Span.{Span}
+use Rattle.tera_tree.specs.declared.expression.Expression.{Expression}
+use Rattle.tera_tree.specs.declared.expression.Item as item
+use Rattle.tera_tree.specs.declared.expression.Entry as entry
+use Rattle.tera_tree.specs.Tree.{Expr, Key, Optional, And, Or, Binary}
+use Rattle.tera_tree.specs.View.{expr_of, option_of, items_of, entries_of}
+use Rattle.tera_tokens.specs.declared.refusal.Refusal.{Refusal}
+use Rattle.tera_tokens.specs.declared.refusal.Refusal.TheVariants.{Syntax, OutOfMemory}
+use Rattle.tera_tokens.specs.declared.input.Tokens.{Tokens}
+use Rattle.tera_tokens.specs.Answers.{Refuses}
+use Rattle.tera_tokens.specs.Input.{Input, Outcome, Parser, and_then}
+use Rattle.tera_tokens.specs.Takes.{Takes, input}
+use Rattle.tera_expressions.specs.declared.expressions.Deep as declared
+use Rattle.tera_expressions.specs.declared.expressions.Part.{Part}
+use Rattle.tera_expressions.specs.declared.expressions.Infix.{Infix}
+use Rattle.tera_expressions.specs.declared.expressions.Infix.TheVariants as form
+use Rattle.tera_expressions.specs.Expressions.{Deep, expr, join_items, one_item, join_entries, one_entry}
+
+abbrev pub deep_of : declared.Deep → Deep
+deep_of x = record { expr = expr_of x.expression; depth = x.depth }
+
+abbrev pub part_of : Part → Optional × ℕ
+part_of p = (option_of p.expression, p.depth)
+
+abbrev pub infix_of : Infix → Expr → Expr → Span → Expr
+infix_of form.And = And
+infix_of form.Or = Or
+infix_of (form.Binary operator) = Binary operator
+
+-- a function value that reads expressions to a depth
+pub record Nests (limit : ℕ) (pre : Global → MutBor Tokens → ℕ → ℕ → Type 0)
+    (post : Global → MutBor Tokens → ℕ → ℕ → Result declared.Deep Refusal → MutBor Tokens → Type 0) : Type 0 where
+  pub callable : (alloc : Global) (old : MutBor Tokens) (floor : ℕ) → pre alloc old limit floor
+  pub reads : (alloc : Global) (old new : MutBor Tokens) (floor : ℕ) (r : Result declared.Deep Refusal) → post alloc old limit floor r new
+      → Takes deep_of (expr limit floor (input old.now)) r new.now
+
+-- an item was read behind those that were there, and its depth is the answer
+abbrev pub TakesItem : Outcome Deep → Bool → List item.Item → List item.Item → Result ℕ Refusal → Tokens → Type 0
+TakesItem meant is_spread old items (Ok d) new = (x : Deep) × (meant ≡ Some (x, input new)) × (x.depth ≡ d) × (items_of items ≡ join_items (items_of old) (one_item is_spread x.expr))
+TakesItem meant is_spread old items (Err refusal) new = Refuses meant refusal
+
+-- an entry was read behind those that were there, and its depth is the answer
+abbrev pub TakesEntry : Outcome (Option Key) → Parser Deep → List entry.Entry → List entry.Entry → Result ℕ Refusal → Tokens → Type 0
+TakesEntry meant sub old entries (Ok d) new = (key : Option Key) × (j : Input) × (x : Deep) × (meant ≡ Some (key, j)) × (sub j ≡ Some (x, input new)) × (x.depth ≡ d)
+    × (entries_of entries ≡ join_entries (entries_of old) (one_entry key x.expr))
+TakesEntry meant sub old entries (Err refusal) new = Refuses (and_then meant (λ key. sub)) refusal
+
+-- a form is made, unless memory is refused
+abbrev pub Makes : Expr → Result Expression Refusal → Type 0
+Makes meant (Ok x) = expr_of x ≡ meant
+Makes meant (Err (Syntax why span)) = ⊥
+Makes meant (Err OutOfMemory) = Unit {0}

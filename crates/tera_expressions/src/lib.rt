@@ -1,0 +1,4 @@
+//! The reader of expressions: from the tokens of a tag to a tree.
+#![tactic(auto)]
+
+pub mod expressions;

@@ -1,8 +1,0 @@
-use Rattle.std.proofs.Common.{◌≡◌, ◌+◌, drop}
-use Rattle.tera_syntax.specs.Bytes.{place}
-use Rattle.tera_syntax.specs.Cut.{opens}
-use Rattle.tera_tree.specs.Delimiters.{delimiters_of}
-use Rattle.tera_syntax.proofs.cut.next_opening.Given as goal
-
-abbrev pub invariant-loop-i : goal.invariant-loop-i
-invariant-loop-i l = place (opens (delimiters_of l.delimiters)) l.text ≡ l.i + place (opens (delimiters_of l.delimiters)) (drop l.i l.text)

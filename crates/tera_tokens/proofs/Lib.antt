@@ -1,0 +1,6 @@
+pub mod Places
+pub mod Tokens
+pub mod Literals
+pub mod Insides
+pub mod Openings
+pub mod Cuts

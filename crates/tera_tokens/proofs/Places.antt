@@ -1,0 +1,81 @@
+-- Places in a text.
+use Rattle.std.proofs.Common.{inl, inr, ◌≡◌, ℕ, suc, ◌+◌, ◌<◌, ◌≤◌, [], ◌∷◌, ◌++◌, Bool, true, false, length, take, drop, get_or, refl, ap, sym, ◌∙◌, arith, if◌then◌else◌}
+use Rattle.std.proofs.lemmas.Grind.{common_steps}
+use Rattle.std.proofs.lemmas.List.{drop_more, drop_all, get_or-drop, length-drop, length-append, get_or_append_left, take_at}
+use Rattle.std.proofs.lemmas.Slice.Eq.{starts_is}
+use Rattle.std.proofs.lemmas.Bool.Decides.{Decides-eqb, leb_tells}
+use Rattle.std.proofs.lemmas.Str.{IsCharBoundary-start, IsCharBoundary-from_take, IsCharBoundary-from_rest, IsUtf8-drop}
+use Rattle.std.specs.Str.{IsUtf8, IsCharBoundary}
+use Rattle.tera_errors.specs.Site.{Text}
+use Rattle.tera_tokens.specs.Bytes.{begins, place}
+
+pub by_order : {P : Type 0} (a b : ℕ) → (a < b → P) → (b ≤ a → P) → P
+by_order a b f g = elim (leb_tells (suc a) b) [ inl p ↦ f p.1 | inr p ↦ g (omega arith) ]
+
+place_head : (test : Text → Bool) (b : ℕ) (bs : Text) → test (b ∷ bs) ≡ true → place test (b ∷ bs) ≡ 0
+unfolding place
+place_head test b bs h = rw h
+
+place_tail : (test : Text → Bool) (b : ℕ) (bs : Text) → test (b ∷ bs) ≡ false → place test (b ∷ bs) ≡ suc (place test bs)
+unfolding place
+place_tail test b bs h = rw h
+
+pub place_here : (test : Text → Bool) (i : ℕ) (text : Text) → i < length text → test (drop i text) ≡ true → place test (drop i text) ≡ 0
+place_here test i text l h =
+    let d = drop_more text i 0 l in
+    rw d (place_head test (get_or text i 0) (drop (i + 1) text) (ap test (sym d) ∙ h))
+
+pub place_later : (test : Text → Bool) (i : ℕ) (text : Text) → i < length text → test (drop i text) ≡ false → place test (drop i text) ≡ suc (place test (drop (i + 1) text))
+place_later test i text l h =
+    let d = drop_more text i 0 l in
+    rw d (place_tail test (get_or text i 0) (drop (i + 1) text) (ap test (sym d) ∙ h))
+
+pub place_end : (test : Text → Bool) (i : ℕ) (text : Text) → length text ≤ i → place test (drop i text) ≡ 0
+unfolding place
+place_end test i text l = let d = drop_all i text l in rw d refl
+
+passes_by : (q : Bool) (test : Text → Bool) (b : ℕ) (bs : Text) → test (b ∷ bs) ≡ q → (place test bs < length bs → test (drop (place test bs) bs) ≡ true)
+    → (if q then 0 else suc (place test bs)) < length (b ∷ bs) → test (drop (if q then 0 else suc (place test bs)) (b ∷ bs)) ≡ true
+passes_by true test b bs e later l = e
+passes_by false test b bs e later l = later (omega arith)
+
+-- there the test is passed
+pub place_passes : (test : Text → Bool) (text : Text) → place test text < length text → test (drop (place test text) text) ≡ true
+unfolding place
+place_passes test [] l = absurd (omega arith)
+place_passes test (b ∷ bs) l = passes_by (test (b ∷ bs)) test b bs refl (place_passes test bs) l
+
+pub place_le : (test : Text → Bool) (text : Text) → place test text ≤ length text
+unfolding place
+place_le test [] = omega arith
+place_le test (b ∷ bs) = let h = place_le test bs in grind (arith, common_steps, h)
+
+pub begins_is : (word text : Text) → begins word text ≡ true → text ≡ word ++ drop (length word) text
+begins_is word text h = (starts_is Decides-eqb text word (begins word text) refl).0 h
+
+pub word_fits : (word text : Text) (i : ℕ) → begins word (drop i text) ≡ true → 0 < length word → i + length word ≤ length text
+word_fits word text i h l =
+    let e : length (drop i text) ≡ length (word ++ drop (length word) (drop i text)) = ap length (begins_is word (drop i text) h) in
+    omega (arith, e, length-drop i text, length-append word (drop (length word) (drop i text)))
+
+word_lead : (word text : Text) (i : ℕ) → begins word (drop i text) ≡ true → 0 < length word → get_or text i 0 ≡ get_or word 0 0
+word_lead word text i h l =
+    let e = ap (λ bs. get_or bs 0 0) (begins_is word (drop i text) h) in
+    let p : i + 0 ≡ i = omega arith in
+    ap (λ k. get_or text k 0) (sym p) ∙ sym (get_or-drop i text 0 0) ∙ e ∙ get_or_append_left word (drop (length word) (drop i text)) 0 0 l
+
+-- a text may be cut before a word that stands in it, and behind it
+pub boundary_before : (word text : Text) (i : ℕ) → IsUtf8 word → begins word (drop i text) ≡ true → 0 < length word → IsCharBoundary text i
+boundary_before word text i u h l =
+    let f = word_fits word text i h l in
+    let e = word_lead word text i h l in
+    (omega arith, λ _ high. rw e ((IsCharBoundary-start word u).1 l (rw e at high)))
+
+pub boundary_after : (word text : Text) (i : ℕ) → IsUtf8 text → IsUtf8 word → begins word (drop i text) ≡ true → 0 < length word → IsCharBoundary text (i + length word)
+boundary_after word text i u v h l =
+    let f = word_fits word text i h l in
+    let d : IsUtf8 (drop i text) = IsUtf8-drop text i u (boundary_before word text i v h l) in
+    let t : take (length word) (drop i text) ≡ word = ap (take (length word)) (begins_is word (drop i text) h) ∙ take_at word (drop (length word) (drop i text)) (length word) refl in
+    let w : IsUtf8 (take (length word) (drop i text)) = rw t v in
+    let m : length word ≤ length (drop i text) = omega (arith, length-drop i text) in
+    IsCharBoundary-from_rest text i (length word) (omega arith) (IsCharBoundary-from_take (drop i text) (length word) d m w)

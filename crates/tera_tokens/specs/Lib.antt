@@ -1,0 +1,9 @@
+pub mod Bytes
+pub mod Answers
+pub mod Token
+pub mod Inside
+pub mod Cut
+pub mod Found
+pub mod Input
+pub mod Takes
+pub mod Literal

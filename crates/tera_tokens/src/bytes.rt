@@ -1,0 +1,42 @@
+// Parts of a text, by bytes.
+ghost use Rattle.std.specs.Prelude.{◌≡◌, ◌≤◌, length, drop, take};
+ghost use Rattle.tera_tokens.specs.Bytes as spec;
+
+/// The bytes from a place on.
+pub(crate) fn after(bytes: &[u8], i: usize) -> &[u8]
+    requires { i ≤ length bytes.now }
+    ensures { result.now ≡ drop i bytes.now }
+{
+    bytes.split_at(i).1
+}
+
+/// The bytes up to a place.
+pub(crate) fn before(bytes: &[u8], i: usize) -> &[u8]
+    requires { i ≤ length bytes.now }
+    ensures { result.now ≡ take i bytes.now }
+{
+    bytes.split_at(i).0
+}
+
+pub(crate) fn begins(word: &[u8], bytes: &[u8]) -> bool
+    ensures { result ≡ spec.begins word.now bytes.now }
+{
+    match (word, bytes) {
+        // Most texts differ at once.
+        ([first, ..], [byte, ..]) if first != byte => false,
+        _ => bytes.starts_with(word),
+    }
+}
+
+/// The first place where a word begins, or the end.
+#[tactic(auto, unfolding(crate::specs::Bytes::place))]
+pub(crate) fn place(word: &[u8], bytes: &[u8]) -> usize
+    ensures { result ≡ spec.place (spec.begins word.now) bytes.now }
+{
+    for i in 0..bytes.len() {
+        if begins(word, after(bytes, i)) {
+            return i;
+        }
+    }
+    bytes.len()
+}

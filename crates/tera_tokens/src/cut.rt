@@ -1,0 +1,234 @@
+// The cut of a text into text, comments and tags.
+ghost use Rattle.std.specs.Prelude.{◌≡◌, ◌<◌, ◌≤◌, ◌+◌, ◌-◌, ◌^◌, ◌≢◌, [], length, drop, IfOk, IfSome, IsTrue, Some, None, string_bytes};
+ghost use Rattle.tera_tokens.specs.Answers.{Answers, Follows};
+ghost use Rattle.tera_tokens.specs.Bytes.{place};
+ghost use Rattle.tera_tokens.specs.Cut as spec;
+ghost use Rattle.tera_tree.specs.Delimiters.{accepted, delimiters_of};
+ghost use Rattle.tera_tokens.specs.Found.{found_of};
+
+use crate::bytes::{after, before, begins, place as place_of};
+use crate::inside::{cut_inside, is_hyphen};
+use crate::refusal::{Reason, Refusal};
+use crate::token::Token;
+use std::alloc::Global;
+use tera_errors::Span;
+use tera_tree::Delimiters;
+
+/// What a start delimiter begins.
+#[derive(Clone, Copy, PartialEq, Eq, Debug)]
+pub enum Tag {
+    Variable,
+    Block,
+    Comment,
+}
+
+/// A start delimiter in the text.
+#[derive(Clone, Copy, Debug)]
+pub struct Opening {
+    pub tag: Tag,
+    pub size: usize,
+}
+
+/// A piece of a text.
+#[derive(Drop)]
+pub enum Piece<'a> {
+    Words(&'a str, Span),
+    Comment,
+    Variable(Vec<Token<'a>>),
+    Block(Vec<Token<'a>>),
+}
+
+/// A piece, and what follows it.
+#[derive(Drop)]
+pub struct Found<'a> {
+    pub piece: Piece<'a>,
+    pub next: usize,
+    pub trims: bool,
+    pub rest: &'a str,
+}
+
+fn opened_by(tag: Tag, start: &[u8], text: &[u8]) -> Option<Opening>
+    ensures { result ≡ spec.opened_by tag start.now text.now }
+{
+    if begins(start, text) {
+        Some(Opening {
+            tag,
+            size: start.len(),
+        })
+    } else {
+        None
+    }
+}
+
+fn longer(a: Option<Opening>, b: Option<Opening>) -> Option<Opening>
+    ensures { result ≡ spec.longer a b }
+{
+    match (a, b) {
+        (Some(x), Some(y)) => Some(if x.size < y.size { y } else { x }),
+        (Some(x), None) => Some(x),
+        (None, y) => y,
+    }
+}
+
+/// The start delimiter that begins the text, the longest of them.
+#[tactic(auto, unfolding(crate::specs::Cut::opening_at))]
+pub fn opening_at(delimiters: &Delimiters, text: &[u8]) -> Option<Opening>
+    ensures { result ≡ spec.opening_at (delimiters_of delimiters.now) text.now }
+{
+    let variable = opened_by(Tag::Variable, delimiters.variable_start.as_bytes(), text);
+    let block = opened_by(Tag::Block, delimiters.block_start.as_bytes(), text);
+    let comment = opened_by(Tag::Comment, delimiters.comment_start.as_bytes(), text);
+    longer(variable, longer(block, comment))
+}
+
+/// The first place where a start delimiter begins, or the end.
+fn next_opening(delimiters: &Delimiters, text: &[u8]) -> usize
+    ensures { result ≡ place (spec.opens (delimiters_of delimiters.now)) text.now }
+{
+    for i in 0..text.len() {
+        if opening_at(delimiters, after(text, i)).is_some() {
+            return i;
+        }
+    }
+    text.len()
+}
+
+/// Whether a start delimiter with a `-` begins the text.
+fn trims_before(text: &[u8], opening: Option<Opening>) -> bool
+    requires { IfSome opening (λ o. o.size ≤ length text.now) }
+    ensures { result ≡ spec.trims_before text.now opening }
+{
+    match opening {
+        Some(opening) => is_hyphen(after(text, opening.size)),
+        None => false,
+    }
+}
+
+/// How long a start delimiter is with the `-` that may follow it.
+fn start_size(opening: Opening, text: &[u8]) -> usize
+    requires { opening.size ≤ length text.now }
+    ensures { result ≡ spec.start_size opening text.now }
+{
+    if is_hyphen(after(text, opening.size)) {
+        opening.size + 1
+    } else {
+        opening.size
+    }
+}
+
+/// Text up to the next start delimiter.
+fn words<'a>(delimiters: &Delimiters, text: &'a str, at: usize, trims: bool) -> Found<'a>
+    requires room { at + length text.now < 2 ^ 64 }
+    requires usable { IsTrue (accepted (delimiters_of delimiters.now)) }
+    ensures value { spec.piece_by (delimiters_of delimiters.now) trims at text.now None ≡ Some (found_of result) }
+    ensures rest { Follows at text.now result.next result.rest.now }
+{
+    let n = next_opening(delimiters, text.as_bytes());
+    let (front, rest) = text.split_at(n);
+    let behind = trims_before(rest.as_bytes(), opening_at(delimiters, rest.as_bytes()));
+    let front = if trims { front.trim_start() } else { front };
+    let kept = if behind { front.trim_end() } else { front };
+    let start = at + (n - front.len());
+    Found {
+        piece: Piece::Words(
+            kept,
+            Span {
+                start,
+                end: start + kept.len(),
+            },
+        ),
+        next: at + n,
+        trims: false,
+        rest,
+    }
+}
+
+/// What is left of a comment behind its start delimiter.
+fn comment<'a>(end: &str, text: &'a str, at: usize) -> Result<Found<'a>, Refusal>
+    requires room { at + length text.now < 2 ^ 64 }
+    requires some { 0 < length end.now }
+    ensures value { Answers found_of (spec.comment end.now at text.now) result }
+    ensures rest { IfOk result (λ x. Follows at text.now x.next x.rest.now) }
+{
+    let bytes = text.as_bytes();
+    let n = place_of(end.as_bytes(), bytes);
+    if n >= bytes.len() {
+        return Err(Refusal::Syntax(
+            Reason::OpenComment,
+            Span {
+                start: at,
+                end: at + bytes.len(),
+            },
+        ));
+    }
+    let size = n + end.len();
+    let (_, rest) = text.split_at(size);
+    Ok(Found {
+        piece: Piece::Comment,
+        next: at + size,
+        trims: before(bytes, n).ends_with(b"-"),
+        rest,
+    })
+}
+
+/// What is left of a tag or a comment behind its start delimiter.
+fn behind<'a>(
+    alloc: Global,
+    delimiters: &Delimiters,
+    tag: Tag,
+    text: &'a str,
+    at: usize,
+) -> Result<Found<'a>, Refusal>
+    requires room { at + length text.now < 2 ^ 64 }
+    requires usable { IsTrue (accepted (delimiters_of delimiters.now)) }
+    ensures value { Answers found_of (spec.behind (delimiters_of delimiters.now) tag at text.now) result }
+    ensures rest { IfOk result (λ x. Follows at text.now x.next x.rest.now) }
+{
+    match tag {
+        Tag::Variable => {
+            let x = cut_inside(alloc, text, delimiters.variable_end.as_str(), at)?;
+            Ok(Found {
+                piece: Piece::Variable(x.tokens),
+                next: x.next,
+                trims: x.trims,
+                rest: x.rest,
+            })
+        }
+        Tag::Block => {
+            let x = cut_inside(alloc, text, delimiters.block_end.as_str(), at)?;
+            Ok(Found {
+                piece: Piece::Block(x.tokens),
+                next: x.next,
+                trims: x.trims,
+                rest: x.rest,
+            })
+        }
+        Tag::Comment => comment(delimiters.comment_end.as_str(), text, at),
+    }
+}
+
+/// The first piece of a text that stands at a place of the source.
+#[tactic(auto, unfolding(crate::specs::Cut::piece))]
+pub fn next_piece<'a>(
+    alloc: Global,
+    delimiters: &Delimiters,
+    text: &'a str,
+    at: usize,
+    trims: bool,
+) -> Result<Found<'a>, Refusal>
+    requires room { at + length text.now < 2 ^ 64 }
+    requires some { 0 < length text.now }
+    requires usable { IsTrue (accepted (delimiters_of delimiters.now)) }
+    ensures value { Answers found_of (spec.piece (delimiters_of delimiters.now) trims at text.now) result }
+    ensures rest { IfOk result (λ x. Follows at text.now x.next x.rest.now) }
+    ensures moves { IfOk result (λ x. at < x.next) }
+{
+    match opening_at(delimiters, text.as_bytes()) {
+        None => Ok(words(delimiters, text, at, trims)),
+        Some(opening) => {
+            let size = start_size(opening, text.as_bytes());
+            let (_, inner) = text.split_at(size);
+            behind(alloc, delimiters, opening.tag, inner, at + size)
+        }
+    }
+}

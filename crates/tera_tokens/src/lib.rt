@@ -1,0 +1,10 @@
+//! The cut: from a template's text to pieces of text, comments and tags, and from a tag to its tokens.
+#![tactic(auto)]
+
+pub(crate) mod bytes;
+pub mod cut;
+pub mod input;
+pub(crate) mod inside;
+pub mod literal;
+pub mod refusal;
+pub mod token;

@@ -5,6 +5,7 @@ ghost use Rattle.tera_code.specs.declared.instruction.Instruction.TheVariants as
 ghost use Rattle.tera_code.specs.Code.{lengthened};
 
 use crate::chunk::Chunk;
+use crate::content::Constant;
 use crate::instruction::Instruction;
 use std::alloc::Global;
 use std::marker::Model;
@@ -102,8 +103,8 @@ impl Compiler {
         ensures ok { OnOk result (self.new ≡ lengthened self.old (instruction.LoadConst value span ∷ [])) }
         ensures lacks { IfErr result Lacks }
     {
-        let value = value.shared(self.alloc)?;
-        self.emit(Instruction::LoadConst(value, span))
+        let constant = Constant::new(self.alloc, value.shared(self.alloc)?)?;
+        self.emit(Instruction::LoadConst(constant, span))
     }
 
     pub(crate) fn name(&self, text: &String) -> TeraResult<Name>

@@ -1,8 +1,11 @@
 // What instructions hold, as contracts see it.
-ghost use Rattle.std.specs.Prelude.{◌≡◌, length, string_bytes};
+ghost use Rattle.std.specs.Prelude.{◌≡◌, Ok, length, string_bytes};
+ghost use Rattle.tera_errors.specs.Answer.{Gives};
 
+use std::alloc::Global;
 use std::marker::Model;
 use tera_tree::LiteralKey;
+use tera_values::{TeraResult, Value};
 
 /// A piece of a template's text. A contract sees its bytes.
 #[derive(Drop)]
@@ -27,10 +30,47 @@ impl Content {
         Content { text }
     }
 
+    /// The text.
     pub fn as_str(&self) -> &str
         ensures { result.now ≡ self.now }
     {
         self.text.as_str()
+    }
+}
+
+/// A value that is written out, in a box, since values are larger than all else that instructions hold. A contract sees
+/// the value.
+#[derive(Drop)]
+pub struct Constant {
+    value: Box<Value>,
+}
+
+impl Model for Constant {
+    ghost use Rattle.tera_values.specs.Val.{Val};
+    ghost use Rattle.tera_values.specs.Code.{val_code};
+
+    ghost Value = { Val };
+
+    ghost coded = { val_code };
+
+    ghost view = { λ c. c.value.value };
+}
+
+impl Constant {
+    /// The value, which is moved and not copied.
+    pub fn new(alloc: Global, value: Value) -> TeraResult<Constant>
+        ensures { Gives (λ c. c) result (Ok value) }
+    {
+        Ok(Constant {
+            value: Box::new(alloc, value)?,
+        })
+    }
+
+    /// The value.
+    pub fn value(&self) -> &Value
+        ensures { result.now ≡ self.now }
+    {
+        &self.value
     }
 }
 
@@ -49,12 +89,14 @@ impl Model for Spreads {
 }
 
 impl Spreads {
+    /// A flag for each item.
     pub fn new(flags: Vec<bool>) -> Spreads
         ensures { result ≡ flags.items }
     {
         Spreads { flags }
     }
 
+    /// The flags.
     pub fn as_slice(&self) -> &[bool]
         ensures { result.now ≡ self.now }
     {
@@ -81,12 +123,14 @@ impl Model for Keys {
 impl Keys {
     ghost use Rattle.tera_tree.specs.View.{keys_of};
 
+    /// A key, or none, for each entry.
     pub fn new(keys: Vec<Option<LiteralKey>>) -> Keys
         ensures { result ≡ keys_of keys.items }
     {
         Keys { keys }
     }
 
+    /// The keys.
     #[tactic(auto, using(crate::proofs::Written::length_keys))]
     pub fn as_slice(&self) -> &[Option<LiteralKey>]
         ensures keys { keys_of result.now ≡ self.now }

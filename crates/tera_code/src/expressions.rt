@@ -2,6 +2,7 @@
 ghost use Rattle.std.specs.Prelude.{◌≡◌, OnOk, IfErr};
 ghost use Rattle.tera_errors.specs.Answer.{Lacks};
 ghost use Rattle.tera_code.specs.Code.{expr_code, bound_code, items_code, entries_code, lengthened};
+ghost use Rattle.tera_code.specs.Group.{group, Access, Operation, Branch, Collection};
 ghost use Rattle.tera_tree.specs.View.{expr_of, optional_of, items_of, entries_of};
 
 use crate::compiler::Compiler;
@@ -23,6 +24,27 @@ impl Compiler {
             Expression::Int { value, span } => self.constant(Value::from_int(*value), *span),
             Expression::Text { text, span } => self.text(text, *span),
             Expression::Name { name, span } => self.load(name, *span),
+            Expression::Attribute { .. } | Expression::Index { .. } | Expression::Slice { .. } => {
+                self.access(expression)
+            }
+            Expression::Not { .. } | Expression::Negate { .. } | Expression::Binary { .. } => {
+                self.operation(expression)
+            }
+            Expression::And { .. } | Expression::Or { .. } | Expression::Ternary { .. } => {
+                self.branch(expression)
+            }
+            Expression::Array { .. } | Expression::Map { .. } => self.collection(expression),
+        }
+    }
+
+    // A part of a value.
+    #[cycle(expressions)]
+    fn access(&mut self, expression: &Expression) -> TeraResult<()>
+        requires { group (expr_of expression.now) ≡ Access }
+        ensures ok { OnOk result (self.new ≡ lengthened self.old (expr_code (expr_of expression.now))) }
+        ensures lacks { IfErr result Lacks }
+    {
+        match expression {
             Expression::Attribute {
                 target,
                 name,
@@ -62,11 +84,23 @@ impl Compiler {
                     span: *span,
                 })
             }
-            Expression::Not { operand, span: _ } => {
+            _ => unreachable!(),
+        }
+    }
+
+    // What evaluates all its operands.
+    #[cycle(expressions)]
+    fn operation(&mut self, expression: &Expression) -> TeraResult<()>
+        requires { group (expr_of expression.now) ≡ Operation }
+        ensures ok { OnOk result (self.new ≡ lengthened self.old (expr_code (expr_of expression.now))) }
+        ensures lacks { IfErr result Lacks }
+    {
+        match expression {
+            Expression::Not { operand, .. } => {
                 self.expression(operand)?;
                 self.emit(Instruction::Not)
             }
-            Expression::Negate { operand, span: _ } => {
+            Expression::Negate { operand, .. } => {
                 self.expression(operand)?;
                 self.emit(Instruction::Negate)
             }
@@ -80,22 +114,26 @@ impl Compiler {
                 self.expression(right)?;
                 self.emit(Instruction::Binary(*operator, *span))
             }
-            Expression::And {
-                left,
-                right,
-                span: _,
-            } => {
+            _ => unreachable!(),
+        }
+    }
+
+    // What may leave a part out: that part is passed by a jump.
+    #[cycle(expressions)]
+    fn branch(&mut self, expression: &Expression) -> TeraResult<()>
+        requires { group (expr_of expression.now) ≡ Branch }
+        ensures ok { OnOk result (self.new ≡ lengthened self.old (expr_code (expr_of expression.now))) }
+        ensures lacks { IfErr result Lacks }
+    {
+        match expression {
+            Expression::And { left, right, .. } => {
                 self.expression(left)?;
                 let mut second = self.part()?;
                 second.expression(right)?;
                 self.emit(Instruction::JumpIfFalseOrPop(second.len()))?;
                 self.append(second)
             }
-            Expression::Or {
-                left,
-                right,
-                span: _,
-            } => {
+            Expression::Or { left, right, .. } => {
                 self.expression(left)?;
                 let mut second = self.part()?;
                 second.expression(right)?;
@@ -106,7 +144,7 @@ impl Compiler {
                 value,
                 condition,
                 other,
-                span: _,
+                ..
             } => {
                 self.expression(condition)?;
                 let mut first = self.part()?;
@@ -115,6 +153,18 @@ impl Compiler {
                 second.expression(other)?;
                 self.choice(first, second)
             }
+            _ => unreachable!(),
+        }
+    }
+
+    // What is written out item by item.
+    #[cycle(expressions)]
+    fn collection(&mut self, expression: &Expression) -> TeraResult<()>
+        requires { group (expr_of expression.now) ≡ Collection }
+        ensures ok { OnOk result (self.new ≡ lengthened self.old (expr_code (expr_of expression.now))) }
+        ensures lacks { IfErr result Lacks }
+    {
+        match expression {
             Expression::Array { items, span } => {
                 self.items(items.as_slice())?;
                 self.make_array(items.as_slice(), *span)
@@ -123,6 +173,7 @@ impl Compiler {
                 self.entries(entries.as_slice())?;
                 self.make_map(entries.as_slice(), *span)
             }
+            _ => unreachable!(),
         }
     }
 

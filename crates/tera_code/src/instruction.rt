@@ -1,7 +1,7 @@
 // What the machine can be told.
-use crate::content::{Content, Keys, Spreads};
+use crate::content::{Constant, Content, Keys, Spreads};
 use tera_tree::BinaryOperator;
-use tera_values::{Name, Span, Value};
+use tera_values::{Name, Span};
 
 /// One instruction. It holds constants, names, numbers and spans, and no part of a tree. A jump says how many
 /// instructions it passes; a span is where a fault of the instruction, or of the value that it makes, is reported.
@@ -12,7 +12,7 @@ pub enum Instruction {
     /// Takes the topmost operand and puts it out.
     WriteTop,
     /// Puts the constant on top of the operands.
-    LoadConst(Value, Span),
+    LoadConst(Constant, Span),
     /// Puts the value that the name stands for on top of the operands.
     LoadName(Name, Span),
     /// The attribute of the topmost operand in its place.

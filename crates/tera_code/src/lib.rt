@@ -12,6 +12,6 @@ pub mod steps;
 
 pub use chunk::Chunk;
 pub use compiler::Compiler;
-pub use content::{Content, Keys, Spreads};
+pub use content::{Constant, Content, Keys, Spreads};
 pub use instruction::Instruction;
 pub use steps::Steps;

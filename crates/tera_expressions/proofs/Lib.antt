@@ -1,4 +1,9 @@
 pub mod Turns
 pub mod Steps
+pub mod Precedence
+pub mod Rows
 pub mod Sound
+pub mod Extent
+pub mod Forms
+pub mod Turning
 pub mod Complete

@@ -1,11 +1,11 @@
 -- What is read is derived.
-use Rattle.std.proofs.Common.{◌≡◌, ℕ, zero, suc, ◌≤◌, max, ℤ, List, [], ◌∷◌, Bool, true, false, ◌&&◌, nat_le, Option, Some, None, option_map, if◌then◌else◌, refl, sym, ◌∙◌, ap, subst, arith}
+use Rattle.std.proofs.Common.{◌≡◌, ℕ, zero, suc, ◌≤◌, max, ℤ, List, [], ◌∷◌, Bool, true, false, nat_le, Option, Some, None, option_map, if◌then◌else◌, refl, sym, ◌∙◌, subst, arith}
 use Rattle.std.proofs.lemmas.Grind.{common_steps}
 use Rattle.tera_errors.specs.Site as site
 use Rattle.tera_errors.specs.declared.span.Span.{Span}
 use Rattle.tera_tree.specs.declared.expression.BinaryOperator.{BinaryOperator}
 use Rattle.tera_tree.specs.declared.expression.BinaryOperator.TheVariants as binary
-use Rattle.tera_tree.specs.Tree.{Expr, Nothing, Boolean, Integer, Text, Name, Attribute, Index, Slice, Optional, Absent, Present, Not, Negate, Binary, Ternary, Array, Items, NoItems, MoreItems, Map, Key, Entries, NoEntries, MoreEntries}
+use Rattle.tera_tree.specs.Tree.{Expr, Nothing, Boolean, Integer, Text, Name, Attribute, Index, Slice, Optional, Absent, Present, Not, Negate, Binary, Ternary, Array, Items, NoItems, Map, Key, Entries, NoEntries}
 use Rattle.tera_tree.specs.Depth.{depth, items_depth, entries_depth, optional_depth}
 use Rattle.tera_tokens.specs.declared.token.Kind.{Kind}
 use Rattle.tera_tokens.specs.declared.token.Kind.TheVariants as k
@@ -15,6 +15,8 @@ use Rattle.tera_expressions.specs.Keys.{key_at}
 use Rattle.tera_expressions.specs.Grammar.{Operator, or, and, equal, not_equal, less, greater, less_or_equal, greater_or_equal, is_in, concat, add, subtract, multiply, divide, floor_divide, remainder, Dot, dot, optional_dot, Bracket, bracket, optional_bracket, Derives, quoted, tighter, choice, operation, not, not_in, minus, power, attribute, index, slice, DerivesPart, absent, present, DerivesStep, no_step, step, int, is_true, is_false, nothing, name, parentheses, array, map, DerivesEntry, keyed, spread_map, DerivesEntries, no_entries, one_entry, more_entries, DerivesItem, plain, spread, DerivesItems, none, one, more}
 use Rattle.tera_expressions.specs.Expressions as r
 use Rattle.tera_expressions.specs.Expressions.{Deep, deep, needs, gives, begins, goes_on, floor_in, opened, climb, level, level_with, expr, head, node, prefixed, infixed, applied, behind_dots, join_items, one_item, join_entries}
+use Rattle.tera_expressions.proofs.Precedence.{gives-below, on-means, operator-depth}
+use Rattle.tera_expressions.proofs.Rows.{join-none, join-join, join-no-entries, join-entries}
 use Rattle.tera_expressions.proofs.Steps.{and_then-some, guard, chosen, same-is, expect-some, some-pair, either, same-value, node-got}
 
 data Got : ℕ → ℕ → Deep → Input → Input → Type 0 where
@@ -31,37 +33,6 @@ down (suc m) l {x} {i} {j} h d = go (λ e. down m l e (tighter d)) (nat_le l m) 
     go : (l ≤ m → Derives l x i j) → (b : Bool) → nat_le l m ≡ b → Derives l x i j
     go again true e = again (grind (arith, common_steps, e))
     go again false e = let f : suc m ≡ l = grind (arith, common_steps, e) in subst (λ n. Derives n x i j) f d
-
-pub gives-below : (s : Kind) → gives s ≤ needs s
-unfolding gives needs
-gives-below s = elim s as (λ s. gives s ≤ needs s) [ k.If ↦ omega arith | _ ↦ omega arith ]
-
-on-means : (floor have : ℕ) (s : Kind) → goes_on floor have s ≡ true → (floor ≤ gives s) × (needs s ≤ have)
-on-means floor have s h = go (nat_le floor (gives s)) (nat_le (needs s) have) refl refl h
-  where
-    go : (a b : Bool) → nat_le floor (gives s) ≡ a → nat_le (needs s) have ≡ b → (a && b) ≡ true → (floor ≤ gives s) × (needs s ≤ have)
-    go true true p q h = (grind (arith, common_steps, p), grind (arith, common_steps, q))
-    go true false p q h = cc
-    go false b p q h = cc
-
--- the form of two operands is one deeper than they are
-pub operator-depth : {s : Kind} {form : Expr → Expr → Span → Expr} {l : ℕ} → Operator s form l → (x y : Expr) (at : Span) → depth (form x y at) ≡ suc (max (depth x) (depth y))
-operator-depth or x y at = refl
-operator-depth and x y at = refl
-operator-depth equal x y at = refl
-operator-depth not_equal x y at = refl
-operator-depth less x y at = refl
-operator-depth greater x y at = refl
-operator-depth less_or_equal x y at = refl
-operator-depth greater_or_equal x y at = refl
-operator-depth is_in x y at = refl
-operator-depth concat x y at = refl
-operator-depth add x y at = refl
-operator-depth subtract x y at = refl
-operator-depth multiply x y at = refl
-operator-depth divide x y at = refl
-operator-depth floor_divide x y at = refl
-operator-depth remainder x y at = refl
 
 -- the parentheses that are open, from the last on, between two places
 data Opened : List ℕ → Input → Input → Type 0 where
@@ -91,14 +62,6 @@ taken z i = Some (z, i)
 same-items : (found : Items) (d : ℕ) (i : Input) (y z : Items × ℕ) (a j : Input) → taken y a ≡ taken z j → GotItems found d i y a → GotItems found d i z j
 same-items found d i y z a j h p = let q = some-pair (y, a) (z, j) h in subst (λ w. GotItems found d i w j) q.0 (subst (λ w. GotItems found d i y w) q.1 p)
 
-pub join-none : (xs : Items) → join_items xs NoItems ≡ xs
-join-none NoItems = refl
-join-none (MoreItems s x rest) = ap (MoreItems s x) (join-none rest)
-
-pub join-join : (xs ys zs : Items) → join_items (join_items xs ys) zs ≡ join_items xs (join_items ys zs)
-join-join NoItems ys zs = refl
-join-join (MoreItems s x rest) ys zs = ap (MoreItems s x) (join-join rest ys zs)
-
 no-items : (found : Items) (d : ℕ) (i : Input) → kind i ≡ k.RightBracket → GotItems found d i (found, d) (next i)
 no-items found d i h = got_items none h (sym (join-none found)) (omega arith)
 
@@ -118,14 +81,6 @@ took z i = Some (z, i)
 
 same-entries : (found : Entries) (d : ℕ) (i : Input) (y z : Entries × ℕ) (a j : Input) → took y a ≡ took z j → GotEntries found d i y a → GotEntries found d i z j
 same-entries found d i y z a j h p = let q = some-pair (y, a) (z, j) h in subst (λ w. GotEntries found d i w j) q.0 (subst (λ w. GotEntries found d i y w) q.1 p)
-
-pub join-no-entries : (xs : Entries) → join_entries xs NoEntries ≡ xs
-join-no-entries NoEntries = refl
-join-no-entries (MoreEntries s x rest) = ap (MoreEntries s x) (join-no-entries rest)
-
-pub join-entries : (xs ys zs : Entries) → join_entries (join_entries xs ys) zs ≡ join_entries xs (join_entries ys zs)
-join-entries NoEntries ys zs = refl
-join-entries (MoreEntries s x rest) ys zs = ap (MoreEntries s x) (join-entries rest ys zs)
 
 no-more-entries : (found : Entries) (d : ℕ) (i : Input) → kind i ≡ k.RightBrace → GotEntries found d i (found, d) (next i)
 no-more-entries found d i h = got_entries no_entries h (sym (join-no-entries found)) (omega arith)

@@ -1,5 +1,5 @@
 -- What the steps of a reader say once they gave a value.
-use Rattle.std.proofs.Common.{◌≡◌, ℕ, suc, ◌+◌, ◌<◌, ◌≤◌, Bool, true, false, nat_lt, Option, Some, None, if◌then◌else◌, refl, sym, ap, subst, arith, rules, ◌⊎◌, inl, inr}
+use Rattle.std.proofs.Common.{◌≡◌, ℕ, suc, ◌+◌, ◌<◌, ◌≤◌, Bool, true, false, nat_lt, Option, Some, None, if◌then◌else◌, refl, sym, ◌∙◌, ap, subst, arith, rules, ◌⊎◌, inl, inr}
 use Rattle.std.proofs.lemmas.Grind.{common_steps}
 use denote.Enum.Bare.{same_true}
 use Rattle.tera_tree.specs.Tree.{Expr}
@@ -28,6 +28,24 @@ same-is a b h = sym (same_true the_type (search rules) _ _ h)
 pub same-refl : (a : Kind) → same a a ≡ true
 unfolding same
 same-refl a = search rules
+
+-- a kind beside another
+pub differ : (s t u : Kind) → u ≡ t → (s ≡ t → ⊥) → same s u ≡ false
+differ s t u h n = go (same s u) refl
+  where
+    go : (b : Bool) → same s u ≡ b → same s u ≡ false
+    go true e = absurd (n (sym (same-is s u e) ∙ h))
+    go false e = e
+
+pub unlike : (s u : Kind) → (u ≡ s → ⊥) → same s u ≡ false
+unlike s u n = go (same s u) refl
+  where
+    go : (b : Bool) → same s u ≡ b → same s u ≡ false
+    go true e = absurd (n (same-is s u e))
+    go false e = e
+
+pub alike : (s u : Kind) → u ≡ s → same s u ≡ true
+alike s u h = ap (same s) h ∙ same-refl s
 
 pub some-pair : {A B : Type 0} (p q : A × B) → Some p ≡ Some q → (p.0 ≡ q.0) × (p.1 ≡ q.1)
 some-pair p q h = let e : p ≡ q = cc in (ap (λ r. r.0) e, ap (λ r. r.1) e)

@@ -15,9 +15,9 @@ use Rattle.tera_tokens.specs.Answers.{Refuses}
 use Rattle.tera_tokens.specs.Input.{Input, Outcome, Parser, and_then}
 use Rattle.tera_tokens.specs.Takes.{Takes, input}
 use Rattle.tera_expressions.specs.declared.expressions.Deep as declared
-use Rattle.tera_expressions.specs.declared.expressions.Part.{Part}
-use Rattle.tera_expressions.specs.declared.expressions.Infix.{Infix}
-use Rattle.tera_expressions.specs.declared.expressions.Infix.TheVariants as form
+use Rattle.tera_expressions.specs.declared.reader.Part.{Part}
+use Rattle.tera_expressions.specs.declared.operators.Infix.{Infix}
+use Rattle.tera_expressions.specs.declared.operators.Infix.TheVariants as form
 use Rattle.tera_expressions.specs.Expressions.{Deep, expr, join_items, one_item, join_entries, one_entry}
 
 abbrev pub deep_of : declared.Deep → Deep

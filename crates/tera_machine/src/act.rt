@@ -1,7 +1,8 @@
 // One instruction, by groups.
 ghost use Rattle.std.specs.Prelude.{◌≡◌, ◌≢◌, ℕ, Bool, Ok, length};
 ghost use Rattle.std.specs.List.{zip};
-ghost use Rattle.tera_machine.specs.Act.{Acted, act as act_spec, Sticks, pushed, top_written, outcome, on_one, on_two, on_four, on_many, branched, popped_branch, kept_if_falsy, kept_if_truthy, holding};
+ghost use Rattle.tera_machine.specs.Act.{Acted, act as act_spec, Goes, Sticks, with_text, pushed, top_written, outcome, on_one, on_two, on_four, on_many, branched, popped_branch, kept_if_falsy, kept_if_truthy, holding};
+ghost use Rattle.tera_machine.specs.declared.machine.Flow.TheVariants.{On};
 ghost use Rattle.tera_machine.specs.Config.{config_of};
 ghost use Rattle.tera_machine.specs.Subject.{here_of};
 ghost use Rattle.tera_operators.specs.Accesses.{attribute_of, item_of, slice_of};
@@ -12,7 +13,7 @@ ghost use Rattle.tera_tree.specs.declared.expression.BinaryOperator.{BinaryOpera
 
 use crate::configuration::Configuration;
 use crate::machine::{Flow, VirtualMachine};
-use tera_code::{Instruction, Keys, Spreads};
+use tera_code::{Content, Instruction, Keys, Spreads};
 use tera_operators::Operand;
 use tera_tree::BinaryOperator;
 use tera_values::{Error, Name, Span, TeraResult, Value};
@@ -29,12 +30,11 @@ impl VirtualMachine {
         ensures { Acted (act_spec (here_of self.now file.now) instruction.now (config_of configuration.old)) result (config_of configuration.new) }
     {
         match instruction {
-            Instruction::WriteText(text) => {
-                configuration.written.append(text.as_str())?;
-                Ok(Flow::On)
-            }
+            Instruction::WriteText(text) => write_text(configuration, text),
             Instruction::WriteTop => self.write_top(file, configuration),
-            Instruction::LoadConst(value, span) => push(configuration, value.try_clone()?, *span),
+            Instruction::LoadConst(constant, span) => {
+                push(configuration, constant.value().try_clone()?, *span)
+            }
             Instruction::LoadName(name, span) => load_name(configuration, name, *span),
             Instruction::LoadAttribute {
                 name,
@@ -229,6 +229,13 @@ impl VirtualMachine {
         let operand = tera_operators::map(self.alloc, file, written, operands, span)?;
         put(configuration, operand)
     }
+}
+
+fn write_text(configuration: &mut Configuration<'_>, text: &Content) -> TeraResult<Flow>
+    ensures { Acted (Goes (with_text text.now (config_of configuration.old)) On) result (config_of configuration.new) }
+{
+    configuration.written.append(text.as_str())?;
+    Ok(Flow::On)
 }
 
 fn put(configuration: &mut Configuration<'_>, operand: Operand) -> TeraResult<Flow>

@@ -28,6 +28,7 @@ impl<T: Drop> Stack<T> {
         }
     }
 
+    /// How many values there are.
     pub fn len(&self) -> usize
         ensures { result ≡ length self.now }
     {

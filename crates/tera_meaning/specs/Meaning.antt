@@ -1,15 +1,15 @@
 -- What trees mean, where the meaning of bodies that stand elsewhere is given.
-use Rattle.std.specs.Prelude.{Bool, false, not, ◌||◌, List, [], ◌∷◌, Option, Result, Ok, if◌then◌else◌}
+use Rattle.std.specs.Prelude.{Bool, false, List, [], ◌∷◌, Option, Result, Ok, if◌then◌else◌}
 use Rattle.tera_errors.specs.Site as site
 use Rattle.tera_errors.specs.Fault.{Fault}
 use Rattle.tera_tree.specs.Tree.{Key, Expr, Nothing, Boolean, Integer, Text, Name, Attribute, Index, Slice, Not, Negate, Binary, And, Or, Ternary, Array, Map, Optional, Absent, Present, Items, NoItems, MoreItems, Entries, NoEntries, MoreEntries, Node, Content, Print, If, Nodes, NoNodes, MoreNodes}
 use Rattle.tera_values.specs.Val.{none, bool, int, text}
-use Rattle.tera_values.specs.Access.{is_undefined, is_safe, truthy}
-use Rattle.tera_values.specs.Printed.{printed}
+use Rattle.tera_values.specs.Access.{is_undefined, truthy}
 use Rattle.tera_operators.specs.Operand.{Evaluated, fault_at}
 use Rattle.tera_operators.specs.Accesses.{attribute_of, item_of, slice_of}
 use Rattle.tera_operators.specs.Operators.{not_of, negative_of, binary_of}
 use Rattle.tera_operators.specs.Literals.{array_of, map_of}
+use Rattle.tera_state.specs.Rendered.{rendered}
 use Rattle.tera_state.specs.Scope.{look}
 use Rattle.tera_meaning.specs.Here.{Here}
 use Rattle.tera_meaning.specs.Run.{Signal, On, Meaning, Oracle, ◌▹◌, visit, gives, answered, value_at, if_else, reads, writes, go_on}
@@ -18,7 +18,7 @@ use Rattle.tera_meaning.specs.Run.{Signal, On, Meaning, Oracle, ◌▹◌, visit
 abbrev pub output : Here → Evaluated → Result site.Text Fault
 output here a =
     if is_undefined a.value then fault_at here.file a.span
-    else (if not here.autoescape || is_safe a.value then Ok (printed a.value) else Ok (here.engine.escape (printed a.value)))
+    else Ok (rendered here.autoescape here.engine.escape a.value)
 
 abbrev pub written : Here → Evaluated → Meaning Signal
 written here a = answered (output here a) ▹ writes

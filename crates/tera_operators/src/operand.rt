@@ -23,18 +23,21 @@ impl Model for Operand {
 }
 
 impl Operand {
+    /// The value at its span.
     pub fn new(value: Value, span: Span) -> Operand
         ensures { result ≡ record { value = value; span = span } }
     {
         Operand { value, span }
     }
 
+    /// The value.
     pub fn value(&self) -> &Value
         ensures { result.now ≡ self.now.value }
     {
         &self.value
     }
 
+    /// The span.
     pub fn span(&self) -> Span
         ensures { result ≡ self.now.span }
     {

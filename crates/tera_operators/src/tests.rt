@@ -106,7 +106,7 @@ fn joined(alloc: Global, operator: Op, left: Sample, right: Sample) -> Option<St
 }
 
 #[test]
-fn operators(rt: HostRuntime) -> Result<(), Fail> {
+fn sums_and_products(rt: HostRuntime) -> Result<(), Fail> {
     let alloc = rt.alloc();
     for (operator, left, right, want) in [
         (Op::Add, Int(2), Int(3), Want("int [5] 10-22")),
@@ -127,6 +127,16 @@ fn operators(rt: HostRuntime) -> Result<(), Fail> {
             Want("fault in page 10-22"),
         ),
         (Op::Multiply, Int(6), Int(-7), Want("int [-42] 10-22")),
+    ] {
+        agree(&rt, joined(alloc, operator, left, right), want);
+    }
+    Ok(())
+}
+
+#[test]
+fn quotients_and_powers(rt: HostRuntime) -> Result<(), Fail> {
+    let alloc = rt.alloc();
+    for (operator, left, right, want) in [
         (Op::Divide, Int(8), Int(2), Want("int [4] 10-22")),
         (Op::Divide, Int(7), Int(2), Want("fault in page 10-22")),
         (Op::Divide, Text("a"), Int(0), Want("fault in page 10-12")),
@@ -144,6 +154,16 @@ fn operators(rt: HostRuntime) -> Result<(), Fail> {
         (Op::Power, Int(0), Int(0), Want("int [1] 10-22")),
         (Op::Power, Int(2), Int(-1), Want("fault in page 10-22")),
         (Op::Power, Int(2), Int(127), Want("fault in page 10-22")),
+    ] {
+        agree(&rt, joined(alloc, operator, left, right), want);
+    }
+    Ok(())
+}
+
+#[test]
+fn joined_texts_and_containers(rt: HostRuntime) -> Result<(), Fail> {
+    let alloc = rt.alloc();
+    for (operator, left, right, want) in [
         (
             Op::Concat,
             Int(1024),
@@ -157,6 +177,25 @@ fn operators(rt: HostRuntime) -> Result<(), Fail> {
             Ints(&[1, 2]),
             Want("string [[1, 2]] 10-22"),
         ),
+        (Op::In, Int(2), Ints(&[1, 2]), Want("bool [true] 1-99")),
+        (Op::In, Text("x"), Text("abc"), Want("bool [false] 1-99")),
+        (
+            Op::In,
+            Text("b"),
+            Pairs(&[("b", 1)]),
+            Want("bool [true] 1-99"),
+        ),
+        (Op::In, Int(1), Int(2), Want("fault in page 20-22")),
+    ] {
+        agree(&rt, joined(alloc, operator, left, right), want);
+    }
+    Ok(())
+}
+
+#[test]
+fn comparisons(rt: HostRuntime) -> Result<(), Fail> {
+    let alloc = rt.alloc();
+    for (operator, left, right, want) in [
         (Op::Equal, Safe("a"), Text("a"), Want("bool [true] 10-22")),
         (Op::NotEqual, Int(1), Text("1"), Want("bool [true] 10-22")),
         (Op::Less, Int(1), Int(2), Want("bool [true] 10-22")),
@@ -185,15 +224,6 @@ fn operators(rt: HostRuntime) -> Result<(), Fail> {
             Nothing,
             Want("fault in page 10-22"),
         ),
-        (Op::In, Int(2), Ints(&[1, 2]), Want("bool [true] 1-99")),
-        (Op::In, Text("x"), Text("abc"), Want("bool [false] 1-99")),
-        (
-            Op::In,
-            Text("b"),
-            Pairs(&[("b", 1)]),
-            Want("bool [true] 1-99"),
-        ),
-        (Op::In, Int(1), Int(2), Want("fault in page 20-22")),
     ] {
         agree(&rt, joined(alloc, operator, left, right), want);
     }
@@ -311,6 +341,24 @@ fn slices(rt: HostRuntime) -> Result<(), Fail> {
             Want("string [él] 10-12"),
         ),
         (
+            none,
+            (Text("a"), none, none),
+            true,
+            Want("undefined [] 1-99"),
+        ),
+    ] {
+        agree(&rt, slice_in(alloc, target, bounds, optional), want);
+    }
+    Ok(())
+}
+
+#[test]
+fn bounds_refused(rt: HostRuntime) -> Result<(), Fail> {
+    let alloc = rt.alloc();
+    let numbers = Ints(&[1, 2, 3]);
+    let none = Nothing;
+    for (target, bounds, optional, want) in [
+        (
             numbers,
             (Text("a"), Undefined, Int(0)),
             false,
@@ -328,6 +376,18 @@ fn slices(rt: HostRuntime) -> Result<(), Fail> {
             false,
             Want("fault in page 40-42"),
         ),
+    ] {
+        agree(&rt, slice_in(alloc, target, bounds, optional), want);
+    }
+    Ok(())
+}
+
+#[test]
+fn slices_refused(rt: HostRuntime) -> Result<(), Fail> {
+    let alloc = rt.alloc();
+    let numbers = Ints(&[1, 2, 3]);
+    let none = Nothing;
+    for (target, bounds, optional, want) in [
         (
             numbers,
             (none, none, Int(0)),
@@ -345,12 +405,6 @@ fn slices(rt: HostRuntime) -> Result<(), Fail> {
             (Text("a"), none, none),
             false,
             Want("fault in page 10-12"),
-        ),
-        (
-            none,
-            (Text("a"), none, none),
-            true,
-            Want("undefined [] 1-99"),
         ),
     ] {
         agree(&rt, slice_in(alloc, target, bounds, optional), want);
@@ -396,12 +450,11 @@ fn map_with(alloc: Global, names: (&str, &str), samples: (Sample, Sample)) -> Op
 }
 
 #[test]
-fn literals(rt: HostRuntime) -> Result<(), Fail> {
+fn arrays(rt: HostRuntime) -> Result<(), Fail> {
     let alloc = rt.alloc();
     let one = Int(1);
     let two = Int(2);
     let numbers = Ints(&[3, 4]);
-    let more = Pairs(&[("b", 5), ("a", 6), ("c", 7)]);
     for (spreads, samples, want) in [
         (
             (false, false),
@@ -418,6 +471,16 @@ fn literals(rt: HostRuntime) -> Result<(), Fail> {
     ] {
         agree(&rt, array_with(alloc, spreads, samples), want);
     }
+    Ok(())
+}
+
+#[test]
+fn maps(rt: HostRuntime) -> Result<(), Fail> {
+    let alloc = rt.alloc();
+    let one = Int(1);
+    let two = Int(2);
+    let numbers = Ints(&[3, 4]);
+    let more = Pairs(&[("b", 5), ("a", 6), ("c", 7)]);
     for (names, samples, want) in [
         (
             ("b", "a"),

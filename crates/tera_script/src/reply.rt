@@ -56,7 +56,7 @@ fn write_kind<W: Output>(writer: &mut W, kind: &str) -> Result<(), Failure>
 }
 
 fn write_placed<W: Output>(writer: &mut W, kind: &str, report: &ReportError) -> Result<(), Failure>
-    ensures { Puts (W.passed writer.old) (W.passed writer.new) (codes "fault " ++ kind.now ++ codes " " ++ place report.now ++ codes "\n") result }
+    ensures { Puts (W.passed writer.old) (W.passed writer.new) (codes "fault " ++ kind.now ++ codes " " ++ place report.now.site ++ codes "\n") result }
 {
     let span = report.span();
     let mut start = Buffer::new();

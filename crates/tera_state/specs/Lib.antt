@@ -1,4 +1,5 @@
 pub mod Scope
 pub mod Lent
 pub mod Scopes
+pub mod Rendered
 pub mod View

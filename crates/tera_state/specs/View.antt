@@ -1,12 +1,12 @@
 -- What an object of the caller sees of a rendering, and what that makes of a value.
-use Rattle.std.specs.Prelude.{◌||◌, Bool, not, if◌then◌else◌, Option, Some, None, unwrap_or, Result, Ok, Err}
+use Rattle.std.specs.Prelude.{Bool, if◌then◌else◌, Option, Some, None, unwrap_or, Result, Ok, Err}
 use Rattle.tera_errors.specs.Site.{Name, Text}
 use Rattle.tera_errors.specs.Fault.{Fault, message}
 use Rattle.tera_values.specs.Val.{Val, undefined}
 use Rattle.tera_values.specs.Named.{at_name}
-use Rattle.tera_values.specs.Access.{is_undefined, is_safe}
-use Rattle.tera_values.specs.Printed.{printed}
+use Rattle.tera_values.specs.Access.{is_undefined}
 use Rattle.tera_values.specs.Escape.{escape_html}
+use Rattle.tera_state.specs.Rendered.{rendered}
 use Rattle.tera_state.specs.Scope.{Variables, look}
 use Rattle.tera_state.specs.Scopes.{variables_of}
 use Rattle.tera_state.specs.declared.state.Source.{Source}
@@ -32,9 +32,8 @@ look_in_source (Open scopes) name = look name (variables_of scopes.now)
 abbrev pub view_of : State → View
 view_of s = record { look = look_in_source s.source; autoescape = s.autoescape; escape = escape_html }
 
--- the printed text of a value where text is not escaped or the value is safe, and else the escape of that text
 abbrev pub written : View → Val → Text
-written view v = if not view.autoescape || is_safe v then printed v else view.escape (printed v)
+written view v = rendered view.autoescape view.escape v
 
 -- the same of a value that is defined; undefined is refused
 abbrev pub escaped_if_needed : View → Val → Result Text Fault

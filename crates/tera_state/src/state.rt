@@ -64,7 +64,9 @@ impl<'a> State<'a> {
     }
 
     /// The allocator of the rendering.
-    pub fn alloc(&self) -> Global {
+    pub fn alloc(&self) -> Global
+        ensures { result ≡ self.now.alloc }
+    {
         self.alloc
     }
 

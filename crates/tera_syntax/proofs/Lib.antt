@@ -1,2 +1,5 @@
-pub mod Reading
+pub mod Rows
+pub mod Whole
+pub mod Complete
+pub mod Sound
 pub mod Plain

@@ -18,7 +18,7 @@ use Rattle.tera_syntax.specs.Spells.{Spells}
 use Rattle.tera_tree.specs.Tree.{Tree, Nodes, NoNodes}
 use Rattle.tera_tokens.proofs.Places.{by_order, place_le, place_here, place_passes}
 use Rattle.tera_tokens.proofs.Cuts.{cut_step, cut_nothing}
-use Rattle.tera_syntax.proofs.Reading.{complete_nodes}
+use Rattle.tera_syntax.proofs.Complete.{complete_nodes}
 
 -- what an error that tells a fault says
 pub says_one : {Y : Type 0} (r : Refusal) (told : Fault) (Meant : Result Y Fault → Type 0) → Tells r told → Meant (Err told) → SaysOneOf r Meant

@@ -2,3 +2,4 @@ pub mod Grammar
 pub mod Spells
 pub mod Reads
 pub mod Reader
+pub mod View

@@ -2,7 +2,11 @@
 #![tactic(auto)]
 
 pub mod laws;
+mod progress;
 pub mod reader;
+#[cfg(test)]
+mod shown;
+mod statements;
 #[cfg(test)]
 mod tests;
 

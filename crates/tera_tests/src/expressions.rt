@@ -1,48 +1,8 @@
-//! Expressions in texts that stand beside the registry: what they render to, and the place of each fault.
-use self::Want::{Fault, SyntaxError, Text};
-use std::alloc::Global;
-use tera::{Context, ErrorKind, Tera, TeraResult, Value};
+//! Expressions: what they render to.
+use crate::cases::Want::{SyntaxError, Text};
+use crate::cases::{Case, agrees, setting};
 
-fn variables(alloc: Global) -> TeraResult<Context> {
-    let mut context = Context::new(alloc);
-    context.insert("text", Value::string(alloc, "<b>")?)?;
-    context.insert("safe", Value::safe_string(alloc, "<b>")?)?;
-    Ok(context)
-}
-
-/// What a text renders to, with autoescape on.
-#[derive(Clone, Copy)]
-enum Want {
-    Text(&'static str),
-    Fault(usize, usize),
-    SyntaxError,
-}
-
-#[derive(Clone, Copy)]
-struct Case(&'static str, Want);
-
-fn is_wanted(answer: TeraResult<String>, want: Want) -> bool {
-    match (answer, want) {
-        (Ok(text), Text(wanted)) => text.as_str() == wanted,
-        (Err(error), Fault(start, end)) => match error.kind() {
-            ErrorKind::RenderingError(report) => {
-                report.file() == "__tera_one_off"
-                    && report.span().start == start
-                    && report.span().end == end
-            }
-            _ => false,
-        },
-        (Err(error), SyntaxError) => matches!(error.kind(), ErrorKind::SyntaxError(_)),
-        _ => false,
-    }
-}
-
-fn agrees(engine: &Tera, context: &Context, case: Case) -> bool {
-    let Case(input, want) = case;
-    is_wanted(engine.render_str(input, context, true), want)
-}
-
-const CASES: [Case; 52] = [
+const CASES: [Case; 41] = [
     Case("{{ 2 ** 10 ~ \"x\" }}", Text("1024x")),
     Case("{{ -2 ** 2 }}", Text("-4")),
     Case("{{ (-2) ** 2 }}", Text("4")),
@@ -78,8 +38,6 @@ const CASES: [Case; 52] = [
         Text("[2, 3][1, 2]"),
     ),
     Case("{{ none?[1:] or 'x' }}", Text("x")),
-    Case("{{ [1][\"a\":] }}", Fault(7, 10)),
-    Case("{{ hey[1:] }}", Fault(3, 6)),
     Case("{{{\"a\": 1}.a}}", Text("1")),
     Case("{{ {\"a\": {\"b\": 1}}.a.b }}", Text("1")),
     Case(
@@ -95,15 +53,6 @@ const CASES: [Case; 52] = [
         "{{ {2: 1, ...{2: 3}} }}{{ {...{2: 3}, 2: 1,} }}",
         Text("{2: 3}{2: 1}"),
     ),
-    Case("{{ {'a': 1, ...4} }}", Fault(15, 16)),
-    Case("{{ 2 ** -1 }}", Fault(3, 10)),
-    Case("{{ hey.other or 1 }}", Fault(3, 6)),
-    Case("{{ 7 / 2 }}", Fault(3, 8)),
-    Case("{{ 7 // 0 }}", Fault(8, 9)),
-    Case("{{ 1 + text }}", Fault(3, 11)),
-    Case("{{ 1 * text }}", Fault(7, 11)),
-    Case("{{ text < 1 }}", Fault(3, 11)),
-    Case("{{ [1, ...2] }}", Fault(10, 11)),
     Case("{{ 1 2 }}", SyntaxError),
     Case("{{ a if b }}", SyntaxError),
     Case("{{ }}", SyntaxError),
@@ -117,11 +66,11 @@ const CASES: [Case; 52] = [
 
 #[test]
 fn expressions(rt: HostRuntime) {
-    let (Ok(engine), Ok(context)) = (Tera::new(rt.alloc()), variables(rt.alloc())) else {
+    let Ok((engine, context)) = setting(rt.alloc()) else {
         assert!(rt; false, "no engine");
         return;
     };
     for (row, case) in CASES.iter().enumerate() {
-        assert!(rt; agrees(&engine, &context, *case), "at row {row}");
+        assert!(rt; agrees(&engine, &context, true, *case), "at row {row}");
     }
 }

@@ -2,9 +2,15 @@
 #![tactic(auto)]
 
 #[cfg(test)]
+mod cases;
+#[cfg(test)]
 mod errors;
 #[cfg(test)]
 mod expressions;
+#[cfg(test)]
+mod faults;
+#[cfg(test)]
+mod language;
 #[cfg(test)]
 mod memory;
 #[cfg(test)]
@@ -15,3 +21,7 @@ mod refused_renderings;
 mod refused_runs;
 #[cfg(test)]
 mod renderings;
+#[cfg(test)]
+mod shared_copies;
+#[cfg(test)]
+mod statements;

@@ -1,5 +1,5 @@
 -- The steps of the cut of a tag.
-use Rattle.std.proofs.Common.{◌≡◌, ℕ, zero, suc, ◌+◌, ◌-◌, ◌<◌, List, [], ◌∷◌, ◌++◌, Bool, true, false, ◌==◌, ◌&&◌, length, drop, get_or, Option, Some, None, refl, ap, sym, ◌∙◌, arith, if◌then◌else◌, append_assoc}
+use Rattle.std.proofs.Common.{◌≡◌, ℕ, zero, suc, ◌+◌, ◌-◌, ◌<◌, ◌≤◌, List, [], ◌∷◌, ◌++◌, Bool, true, false, ◌==◌, ◌&&◌, length, drop, get_or, Option, Some, None, refl, ap, sym, ◌∙◌, arith, if◌then◌else◌, append_assoc}
 use Rattle.std.proofs.lemmas.List.{drop_more, drop-drop, map-append}
 use Rattle.tera_errors.specs.Site.{Text}
 use Rattle.tera_tokens.specs.declared.inside.Ending.{Ending}
@@ -7,7 +7,7 @@ use Rattle.tera_tokens.specs.Token.{Token, token_of, tokens_of, next_token, is_b
 use Rattle.tera_tokens.specs.Inside.{Inside, inside, closing, closing_in, open_after, hyphen, prefixed, token_then}
 use Rattle.tera_tokens.specs.Bytes.{begins}
 use Rattle.tera_tokens.proofs.Tokens.{token_size}
-use Rattle.tera_tokens.proofs.Places.{boundary_after}
+use Rattle.tera_tokens.proofs.Places.{boundary_after, word_fits}
 use Rattle.std.specs.Str.{IsUtf8, IsCharBoundary}
 use Rattle.tera_tokens.specs.declared.token.Token as declared
 
@@ -97,6 +97,26 @@ boundary_by end text i c u v l false true hp hq h =
     let e : c.size ≡ length end = sym (ap size_of h) in
     rw e (boundary_after end text i u v hq l)
 boundary_by end text i c u v l false false hp hq h = absurd (cc)
+
+fits_by : (end text : Text) (i : ℕ) (c : Ending) → 0 < length end
+    → (p q : Bool) → (begins hyphen (drop i text) && begins end (drop 1 (drop i text))) ≡ p → begins end (drop i text) ≡ q
+    → (if p then Some (record { size = length end + 1; trims = true }) else (if q then Some (record { size = length end; trims = false }) else None)) ≡ Some c
+    → (i < length text) × (i + c.size ≤ length text)
+fits_by end text i c l true q hp hq h =
+    let e : c.size ≡ length end + 1 = sym (ap size_of h) in
+    let f : begins end (drop (i + 1) text) ≡ true = ap (begins end) (sym (drop-drop 1 i text)) ∙ and_right _ _ hp in
+    let k = word_fits end text (i + 1) f l in
+    (omega arith, omega arith)
+fits_by end text i c l false true hp hq h =
+    let e : c.size ≡ length end = sym (ap size_of h) in
+    let k = word_fits end text i hq l in
+    (omega arith, omega arith)
+fits_by end text i c l false false hp hq h = absurd (cc)
+
+-- the end of a tag lies in the text
+pub ending_fits : (end text : Text) (i : ℕ) (c : Ending) → 0 < length end → closing end (drop i text) ≡ Some c → (i < length text) × (i + c.size ≤ length text)
+ending_fits end text i c l h =
+    fits_by end text i c l (begins hyphen (drop i text) && begins end (drop 1 (drop i text))) (begins end (drop i text)) refl refl h
 
 -- a text may be cut behind the end of a tag
 pub ending_boundary : (end text : Text) (i : ℕ) (c : Ending) → IsUtf8 text → IsUtf8 end → 0 < length end → closing end (drop i text) ≡ Some c → IsCharBoundary text (i + c.size)

@@ -4,3 +4,4 @@ pub mod Literals
 pub mod Insides
 pub mod Openings
 pub mod Cuts
+pub mod Raws

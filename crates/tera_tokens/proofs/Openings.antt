@@ -1,17 +1,20 @@
 -- Where a start delimiter begins.
-use Rattle.std.proofs.Common.{◌≡◌, ℕ, ◌+◌, ◌<◌, ◌≤◌, [], ◌∷◌, Bool, true, false, ◌&&◌, nat_lt, length, drop, Option, Some, None, is_some, string_bytes, refl, arith, subst, if◌then◌else◌, IsTrue, IfSome}
+use Rattle.std.proofs.Common.{◌≡◌, ℕ, ◌+◌, ◌<◌, ◌≤◌, [], ◌∷◌, Bool, true, false, ◌&&◌, nat_lt, length, drop, get_or, Option, Some, None, is_some, string_bytes, refl, arith, subst, if◌then◌else◌, IsTrue, IfSome}
 use Rattle.std.proofs.lemmas.Str.{IsUtf8-string_bytes, IsCharBoundary-end, IsUtf8-from_is_utf8}
 use Rattle.std.specs.Str.{IsUtf8, IsCharBoundary, is_utf8, chars}
 use lib.Utf8.{encode}
+use Rattle.std.proofs.lemmas.Grind.{common_steps}
+use Rattle.memchr.specs.Find.{is_byte3}
 use Rattle.tera_errors.specs.Site.{Text}
-use Rattle.tera_tokens.specs.Bytes.{begins, place}
+use Rattle.tera_tokens.specs.Bytes.{begins, place, heads}
 use Rattle.tera_tokens.specs.Inside.{hyphen}
 use Rattle.tera_tree.specs.Delimiters.{Delims, delimiters_of, accepted, is_filled}
 use Rattle.tera_tree.specs.declared.delimiters.Delimiters.{Delimiters}
 use Rattle.tera_tokens.specs.declared.cut.Tag.{Tag}
+use Rattle.tera_tokens.specs.declared.cut.Tag.TheVariants as tag
 use Rattle.tera_tokens.specs.declared.cut.Opening.{Opening}
 use Rattle.tera_tokens.specs.Cut.{longer, opening_at, opens, start_size}
-use Rattle.tera_tokens.proofs.Places.{by_order, word_fits, boundary_before, boundary_after, place_le, place_passes}
+use Rattle.tera_tokens.proofs.Places.{by_order, word_fits, boundary_before, boundary_after, place_le, place_passes, heads_word}
 
 -- a word that may be a start delimiter, and begins the text
 pub record Start (text : Text) (o : Opening) : Type 0 where
@@ -88,7 +91,7 @@ opening_starts d text h =
 pub start_of : (d : Delimiters) (text : Text) (o : Opening) → IsTrue (accepted (delimiters_of d)) → opening_at (delimiters_of d) text ≡ Some o → Start text o
 start_of d text o h e = subst (Starts text) e (opening_starts d text h)
 
-some_from : {A : Type 0} (o : Option A) → is_some o ≡ true → (x : A) × (o ≡ Some x)
+pub some_from : {A : Type 0} (o : Option A) → is_some o ≡ true → (x : A) × (o ≡ Some x)
 some_from None h = absurd (cc)
 some_from (Some x) h = (x, refl)
 
@@ -148,3 +151,30 @@ start_size_le text o = go (begins hyphen (drop o.size text))
     go : (q : Bool) → o.size ≤ (if q then o.size + 1 else o.size)
     go true = omega arith
     go false = omega arith
+
+pub start_size_fits : (text : Text) (o : Opening) → Start text o → start_size o text ≤ length text
+start_size_fits text o s = go (begins hyphen (drop o.size text)) refl
+  where
+    go : (q : Bool) → begins hyphen (drop o.size text) ≡ q → (if q then o.size + 1 else o.size) ≤ length text
+    go true e = word_fits hyphen text o.size e (omega arith)
+    go false e = (start_fits text o s).1
+
+-- the first bytes of the start delimiters
+abbrev pub first_bytes : Delims → ℕ → Bool
+first_bytes d = is_byte3 (get_or d.variable_start 0 0) (get_or d.block_start 0 0) (get_or d.comment_start 0 0)
+
+one_of : (a b c : ℕ) → (is_byte3 a b c a ≡ true) × (is_byte3 a b c b ≡ true) × (is_byte3 a b c c ≡ true)
+one_of a b c = (grind (arith, common_steps), grind (arith, common_steps), grind (arith, common_steps))
+
+heads_by : (u v w : Bool) (d : Delims) (text : Text) → Filled d → begins d.variable_start text ≡ u → begins d.block_start text ≡ v → begins d.comment_start text ≡ w
+    → is_some (longer (if u then Some (record { tag = tag.Variable; size = length d.variable_start }) else None)
+    (longer (if v then Some (record { tag = tag.Block; size = length d.block_start }) else None) (if w then Some (record { tag = tag.Comment; size = length d.comment_start }) else None))) ≡ true
+    → heads (first_bytes d) text ≡ true
+heads_by true v w d text f a b c h = heads_word (first_bytes d) d.variable_start text a f.variable_start (one_of (get_or d.variable_start 0 0) (get_or d.block_start 0 0) (get_or d.comment_start 0 0)).0
+heads_by false true w d text f a b c h = heads_word (first_bytes d) d.block_start text b f.block_start (one_of (get_or d.variable_start 0 0) (get_or d.block_start 0 0) (get_or d.comment_start 0 0)).1
+heads_by false false true d text f a b c h = heads_word (first_bytes d) d.comment_start text c f.comment_start (one_of (get_or d.variable_start 0 0) (get_or d.block_start 0 0) (get_or d.comment_start 0 0)).2
+heads_by false false false d text f a b c h = absurd (cc)
+
+pub opens_heads : (d : Delims) → Filled d → (text : Text) → opens d text ≡ true → heads (first_bytes d) text ≡ true
+unfolding opening_at
+opens_heads d f text h = heads_by (begins d.variable_start text) (begins d.block_start text) (begins d.comment_start text) d text f refl refl refl h

@@ -1,5 +1,5 @@
 -- Words in a text.
-use Rattle.std.specs.Prelude.{ℕ, suc, [], ◌∷◌, Bool, ◌==◌, if◌then◌else◌}
+use Rattle.std.specs.Prelude.{ℕ, suc, [], ◌∷◌, Bool, false, ◌==◌, if◌then◌else◌}
 use Rattle.std.specs.List.{starts_with}
 use Rattle.tera_errors.specs.Site.{Text}
 
@@ -16,3 +16,8 @@ place test (b ∷ bs) = if test (b ∷ bs) then 0 else suc (place test bs)
 unfoldable pub run : (ℕ → Bool) → Text → ℕ
 run test [] = 0
 run test (b ∷ bs) = if test b then suc (run test bs) else 0
+
+-- the first byte of the text passes the test
+abbrev pub heads : (ℕ → Bool) → Text → Bool
+heads test [] = false
+heads test (b ∷ bs) = test b

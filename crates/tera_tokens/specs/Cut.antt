@@ -1,5 +1,5 @@
 -- How a text is cut: into pieces of text, comments and tags.
-use Rattle.std.specs.Prelude.{ℕ, zero, suc, ◌+◌, ◌-◌, List, [], ◌∷◌, length, take, drop, Bool, false, ◌==◌, nat_lt, is_some, Option, Some, None, if◌then◌else◌}
+use Rattle.std.specs.Prelude.{ℕ, zero, suc, ◌+◌, ◌-◌, List, [], ◌∷◌, length, take, drop, Bool, false, ◌==◌, nat_lt, is_some, bytes_eq, codes, Option, Some, None, if◌then◌else◌}
 use Rattle.std.specs.Str.{trim_start, trim_end}
 use Rattle.std.specs.List.{ends_with}
 use Rattle.tera_errors.specs.Site.{Text}
@@ -72,14 +72,52 @@ abbrev pub tag_of : (List Token → Piece) → Option Inside → Option Found
 tag_of make None = None
 tag_of make (Some x) = Some (record { piece = make x.tokens; next = x.next; trims = x.trims })
 
-abbrev pub behind : Delims → Tag → ℕ → Text → Option Found
-behind d tag.Variable at text = tag_of Variable (inside d.variable_end 0 0 at text)
-behind d tag.Block at text = tag_of Block (inside d.block_end 0 0 at text)
-behind d tag.Comment at text = comment d.comment_end at text
-
 -- a `-` right behind a start delimiter belongs to it
 abbrev pub start_size : Opening → Text → ℕ
 start_size o text = if begins hyphen (drop o.size text) then o.size + 1 else o.size
+
+-- the tokens are this word alone
+abbrev pub is_alone : Text → List Token → Bool
+is_alone word (t ∷ []) = bytes_eq t.text word
+is_alone word ts = false
+
+-- a tag that is this word alone
+abbrev pub of_word : Text → Option Inside → Option Inside
+of_word word None = None
+of_word word (Some x) = if is_alone word x.tokens then Some x else None
+
+-- a tag of this kind that is `endraw` alone, behind its start delimiter
+abbrev pub endraw_of : Delims → Tag → ℕ → Text → Option Inside
+endraw_of d tag.Block at text = of_word (codes "endraw") (inside d.block_end 0 0 at text)
+endraw_of d kind at text = None
+
+abbrev pub endraw_by : Delims → ℕ → Text → Option Opening → Option Inside
+endraw_by d at text None = None
+endraw_by d at text (Some o) = endraw_of d o.tag (at + start_size o text) (drop (start_size o text) text)
+
+-- the tag `endraw` at the front of a text that stands at a place
+unfoldable pub endraw : Delims → ℕ → Text → Option Inside
+endraw d at text = endraw_by d at text (opening_at d text)
+
+abbrev pub ends_raw : Delims → Text → Bool
+ends_raw d text = is_some (endraw d 0 text)
+
+-- What the tag `raw` gives: the text behind it, up to the first tag `endraw`, as one piece. None where there is no such tag.
+unfoldable pub raw : Delims → Bool → ℕ → Text → Option Found
+raw d trims at text =
+    let n = place (ends_raw d) text in
+    tag_of (λ tokens. words trims (trims_before (drop n text) (opening_at d (drop n text))) n at text) (endraw d (at + n) (drop n text))
+
+-- What a block gives by its inside, where the text behind its start delimiter stands at a place.
+abbrev pub block : Delims → ℕ → Text → Option Inside → Option Found
+block d at text None = None
+block d at text (Some x) = if is_alone (codes "raw") x.tokens then raw d x.trims x.next (drop (x.next - at) text)
+    else tag_of Block (Some x)
+
+abbrev pub behind : Delims → Tag → ℕ → Text → Option Found
+behind d tag.Variable at text = tag_of Variable (inside d.variable_end 0 0 at text)
+behind d tag.Block at text = block d at text (inside d.block_end 0 0 at text)
+behind d tag.Comment at text = comment d.comment_end at text
 
 abbrev pub piece_by : Delims → Bool → ℕ → Text → Option Opening → Option Found
 piece_by d trims at text None =

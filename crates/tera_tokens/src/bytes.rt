@@ -1,6 +1,9 @@
 // Parts of a text, by bytes.
 ghost use Rattle.std.specs.Prelude.{◌≡◌, ◌≤◌, length, drop, take};
+ghost use Rattle.memchr.specs.Find.{is_byte3};
 ghost use Rattle.tera_tokens.specs.Bytes as spec;
+
+use memchr::memchr3;
 
 /// The bytes from a place on.
 pub(crate) fn after(bytes: &[u8], i: usize) -> &[u8]
@@ -39,4 +42,15 @@ pub(crate) fn place(word: &[u8], bytes: &[u8]) -> usize
         }
     }
     bytes.len()
+}
+
+/// The first place where one of three bytes stands, or the end.
+pub(crate) fn place_of_byte(a: u8, b: u8, c: u8, bytes: &[u8]) -> usize
+    ensures value { result ≡ spec.place (spec.heads (is_byte3 a b c)) bytes.now }
+    ensures within { result ≤ length bytes.now }
+{
+    match memchr3(a, b, c, bytes) {
+        Some(i) => i,
+        None => bytes.len(),
+    }
 }

@@ -4,10 +4,14 @@ ghost use Rattle.tera_tokens.specs.Answers.{Answers, Follows};
 ghost use Rattle.tera_tokens.specs.Bytes.{place};
 ghost use Rattle.tera_tokens.specs.Cut as spec;
 ghost use Rattle.tera_tree.specs.Delimiters.{accepted, delimiters_of};
-ghost use Rattle.tera_tokens.specs.Found.{found_of};
+ghost use Rattle.std.specs.Str.{IsCharBoundary};
+ghost use Rattle.tera_tokens.specs.Found.{found_of, piece_of};
+ghost use Rattle.tera_tokens.specs.Inside.{inside};
+ghost use Rattle.tera_tokens.specs.Token.{tokens_of};
 
-use crate::bytes::{after, before, begins, place as place_of};
+use crate::bytes::{after, before, begins, place as place_of, place_of_byte};
 use crate::inside::{cut_inside, is_hyphen};
+use crate::raw::raw;
 use crate::refusal::{Reason, Refusal};
 use crate::token::Token;
 use std::alloc::Global;
@@ -16,7 +20,7 @@ use tera_tree::Delimiters;
 
 /// What a start delimiter begins.
 #[derive(Clone, Copy, PartialEq, Eq, Debug)]
-pub enum Tag {
+pub(crate) enum Tag {
     Variable,
     Block,
     Comment,
@@ -24,7 +28,7 @@ pub enum Tag {
 
 /// A start delimiter in the text.
 #[derive(Clone, Copy, Debug)]
-pub struct Opening {
+pub(crate) struct Opening {
     pub tag: Tag,
     pub size: usize,
 }
@@ -32,9 +36,13 @@ pub struct Opening {
 /// A piece of a text.
 #[derive(Drop)]
 pub enum Piece<'a> {
+    /// Text as it is written out, and what it covers. It is empty where trimming leaves nothing.
     Words(&'a str, Span),
     Comment,
+    /// The tokens between the delimiters of a variable.
     Variable(Vec<Token<'a>>),
+    /// The tokens between the delimiters of a block. The block `raw` is no such piece: it gives words, and takes its
+    /// `endraw` along.
     Block(Vec<Token<'a>>),
 }
 
@@ -42,8 +50,11 @@ pub enum Piece<'a> {
 #[derive(Drop)]
 pub struct Found<'a> {
     pub piece: Piece<'a>,
+    /// The place behind it in the source.
     pub next: usize,
+    /// Whether a `-` at its end trims the text that follows.
     pub trims: bool,
+    /// The text from that place on.
     pub rest: &'a str,
 }
 
@@ -72,7 +83,7 @@ fn longer(a: Option<Opening>, b: Option<Opening>) -> Option<Opening>
 
 /// The start delimiter that begins the text, the longest of them.
 #[tactic(auto, unfolding(crate::specs::Cut::opening_at))]
-pub fn opening_at(delimiters: &Delimiters, text: &[u8]) -> Option<Opening>
+pub(crate) fn opening_at(delimiters: &Delimiters, text: &[u8]) -> Option<Opening>
     ensures { result ≡ spec.opening_at (delimiters_of delimiters.now) text.now }
 {
     let variable = opened_by(Tag::Variable, delimiters.variable_start.as_bytes(), text);
@@ -81,20 +92,27 @@ pub fn opening_at(delimiters: &Delimiters, text: &[u8]) -> Option<Opening>
     longer(variable, longer(block, comment))
 }
 
-/// The first place where a start delimiter begins, or the end.
-fn next_opening(delimiters: &Delimiters, text: &[u8]) -> usize
-    ensures { result ≡ place (spec.opens (delimiters_of delimiters.now)) text.now }
+/// The first place where a start delimiter begins, or the end. Most of a text is passed over by the first bytes alone.
+pub(crate) fn next_opening(delimiters: &Delimiters, text: &[u8]) -> usize
+    requires usable { IsTrue (accepted (delimiters_of delimiters.now)) }
+    ensures value { result ≡ place (spec.opens (delimiters_of delimiters.now)) text.now }
+    ensures within { result ≤ length text.now }
 {
-    for i in 0..text.len() {
+    let variable = delimiters.variable_start.as_bytes()[0];
+    let block = delimiters.block_start.as_bytes()[0];
+    let comment = delimiters.comment_start.as_bytes()[0];
+    let mut i = place_of_byte(variable, block, comment, text);
+    while i < text.len() {
         if opening_at(delimiters, after(text, i)).is_some() {
             return i;
         }
+        i = i + 1 + place_of_byte(variable, block, comment, after(text, i + 1));
     }
-    text.len()
+    i
 }
 
 /// Whether a start delimiter with a `-` begins the text.
-fn trims_before(text: &[u8], opening: Option<Opening>) -> bool
+pub(crate) fn trims_before(text: &[u8], opening: Option<Opening>) -> bool
     requires { IfSome opening (λ o. o.size ≤ length text.now) }
     ensures { result ≡ spec.trims_before text.now opening }
 {
@@ -105,7 +123,7 @@ fn trims_before(text: &[u8], opening: Option<Opening>) -> bool
 }
 
 /// How long a start delimiter is with the `-` that may follow it.
-fn start_size(opening: Opening, text: &[u8]) -> usize
+pub(crate) fn start_size(opening: Opening, text: &[u8]) -> usize
     requires { opening.size ≤ length text.now }
     ensures { result ≡ spec.start_size opening text.now }
 {
@@ -116,6 +134,31 @@ fn start_size(opening: Opening, text: &[u8]) -> usize
     }
 }
 
+/// The first n bytes of a text, without the white space that a `-` on either side removes.
+pub(crate) fn trimmed<'a>(
+    text: &'a str,
+    n: usize,
+    at: usize,
+    before: bool,
+    behind: bool,
+) -> Piece<'a>
+    requires room { at + length text.now < 2 ^ 64 }
+    requires whole { IsCharBoundary text.now n }
+    ensures { piece_of result ≡ spec.words before behind n at text.now }
+{
+    let (front, _) = text.split_at(n);
+    let front = if before { front.trim_start() } else { front };
+    let kept = if behind { front.trim_end() } else { front };
+    let start = at + (n - front.len());
+    Piece::Words(
+        kept,
+        Span {
+            start,
+            end: start + kept.len(),
+        },
+    )
+}
+
 /// Text up to the next start delimiter.
 fn words<'a>(delimiters: &Delimiters, text: &'a str, at: usize, trims: bool) -> Found<'a>
     requires room { at + length text.now < 2 ^ 64 }
@@ -124,19 +167,10 @@ fn words<'a>(delimiters: &Delimiters, text: &'a str, at: usize, trims: bool) -> 
     ensures rest { Follows at text.now result.next result.rest.now }
 {
     let n = next_opening(delimiters, text.as_bytes());
-    let (front, rest) = text.split_at(n);
+    let (_, rest) = text.split_at(n);
     let behind = trims_before(rest.as_bytes(), opening_at(delimiters, rest.as_bytes()));
-    let front = if trims { front.trim_start() } else { front };
-    let kept = if behind { front.trim_end() } else { front };
-    let start = at + (n - front.len());
     Found {
-        piece: Piece::Words(
-            kept,
-            Span {
-                start,
-                end: start + kept.len(),
-            },
-        ),
+        piece: trimmed(text, n, at, trims, behind),
         next: at + n,
         trims: false,
         rest,
@@ -171,6 +205,40 @@ fn comment<'a>(end: &str, text: &'a str, at: usize) -> Result<Found<'a>, Refusal
     })
 }
 
+/// Whether the tokens are this word alone.
+fn is_alone(word: &str, tokens: &[Token<'_>]) -> bool
+    ensures { result ≡ spec.is_alone word.now (tokens_of tokens.now) }
+{
+    match tokens {
+        [token] => token.text == word,
+        _ => false,
+    }
+}
+
+/// What is left of a block behind its start delimiter; `raw` takes the text up to its end along.
+fn block<'a>(
+    alloc: Global,
+    delimiters: &Delimiters,
+    text: &'a str,
+    at: usize,
+) -> Result<Found<'a>, Refusal>
+    requires room { at + length text.now < 2 ^ 64 }
+    requires usable { IsTrue (accepted (delimiters_of delimiters.now)) }
+    ensures value { Answers found_of (spec.block (delimiters_of delimiters.now) at text.now (inside (delimiters_of delimiters.now).block_end 0 0 at text.now)) result }
+    ensures rest { IfOk result (λ x. Follows at text.now x.next x.rest.now) }
+{
+    let x = cut_inside(alloc, text, delimiters.block_end.as_str(), at)?;
+    if is_alone("raw", x.tokens.as_slice()) {
+        return raw(delimiters, x.rest, x.next, x.trims);
+    }
+    Ok(Found {
+        piece: Piece::Block(x.tokens),
+        next: x.next,
+        trims: x.trims,
+        rest: x.rest,
+    })
+}
+
 /// What is left of a tag or a comment behind its start delimiter.
 fn behind<'a>(
     alloc: Global,
@@ -194,20 +262,13 @@ fn behind<'a>(
                 rest: x.rest,
             })
         }
-        Tag::Block => {
-            let x = cut_inside(alloc, text, delimiters.block_end.as_str(), at)?;
-            Ok(Found {
-                piece: Piece::Block(x.tokens),
-                next: x.next,
-                trims: x.trims,
-                rest: x.rest,
-            })
-        }
+        Tag::Block => block(alloc, delimiters, text, at),
         Tag::Comment => comment(delimiters.comment_end.as_str(), text, at),
     }
 }
 
-/// The first piece of a text that stands at a place of the source.
+/// The first piece of a text that stands at the place `at` of the source. A `-` before it trims it where `trims` says so:
+/// that is what the piece before it found, and `false` at the start.
 #[tactic(auto, unfolding(crate::specs::Cut::piece))]
 pub fn next_piece<'a>(
     alloc: Global,

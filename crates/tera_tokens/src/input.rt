@@ -9,14 +9,16 @@ use crate::refusal::{Reason, Refusal};
 use crate::token::{Kind, Token};
 use tera_errors::Span;
 
-/// The tokens ahead, and where the one before them ends.
+/// A place among the tokens of a tag. Past the last token stands one of the kind `End`, with no text, at the place 0.
 #[derive(Drop)]
 pub struct Tokens<'a> {
     pub ahead: &'a [Token<'a>],
+    /// Where the token before them ends: 0 before the first.
     pub last: usize,
 }
 
 impl<'a> Tokens<'a> {
+    /// The place before all of them.
     pub fn begin(tokens: &'a [Token<'a>]) -> Tokens<'a>
         ensures { input result ≡ spec.begin (tokens_of tokens.now) }
     {
@@ -26,6 +28,7 @@ impl<'a> Tokens<'a> {
         }
     }
 
+    /// The kind of the next token.
     #[tactic(auto, unfolding(crate::specs::Input::kind))]
     pub fn kind(&self) -> Kind
         ensures { result ≡ spec.kind (input self.now) }
@@ -36,6 +39,7 @@ impl<'a> Tokens<'a> {
         }
     }
 
+    /// The next token as it is written.
     #[tactic(auto, unfolding(crate::specs::Input::text))]
     pub fn text(&self) -> &'a str
         ensures { result.now ≡ spec.text (input self.now) }
@@ -46,6 +50,7 @@ impl<'a> Tokens<'a> {
         }
     }
 
+    /// Where the next token starts.
     #[tactic(auto, unfolding(crate::specs::Input::start))]
     pub fn start(&self) -> usize
         ensures { result ≡ spec.start (input self.now) }
@@ -56,6 +61,7 @@ impl<'a> Tokens<'a> {
         }
     }
 
+    /// Goes past the next token. Where none is left, nothing changes.
     #[tactic(auto, unfolding(crate::specs::Input::next))]
     pub fn take(&mut self)
         ensures { input self.new ≡ spec.next (input self.old) }
@@ -76,6 +82,7 @@ impl<'a> Tokens<'a> {
         }
     }
 
+    /// How many tokens are ahead.
     #[tactic(auto, unfolding(crate::specs::Input::left))]
     pub fn left(&self) -> usize
         ensures { result ≡ spec.left (input self.now) }
@@ -83,7 +90,7 @@ impl<'a> Tokens<'a> {
         self.ahead.len()
     }
 
-    /// Takes a token of this kind.
+    /// Goes past a token of this kind; any other is refused, and stays.
     #[tactic(auto, unfolding(crate::specs::Input::expect))]
     pub fn expect(&mut self, kind: Kind) -> Result<(), Refusal>
         ensures { Takes (λ done. done) (spec.expect kind (input self.old)) result self.new }
@@ -96,7 +103,7 @@ impl<'a> Tokens<'a> {
         }
     }
 
-    /// The refusal of the next token.
+    /// A refusal that points at the next token, or behind the last one.
     pub fn refuse(&self, why: Reason) -> Refusal
         ensures { IsSyntax result }
     {
@@ -113,6 +120,7 @@ impl<'a> Tokens<'a> {
     }
 }
 
+/// Whether the kinds are one.
 #[tactic(auto, unfolding(crate::specs::Input::same))]
 pub fn same(a: Kind, b: Kind) -> bool
     ensures { result ≡ spec.same a b }
@@ -120,7 +128,7 @@ pub fn same(a: Kind, b: Kind) -> bool
     a == b
 }
 
-/// Words, reserved ones too.
+/// Whether a token of this kind is a word, reserved or not.
 #[tactic(auto, unfolding(crate::specs::Input::is_word))]
 pub fn is_word(kind: Kind) -> bool
     ensures { result ≡ spec.is_word kind }
@@ -143,7 +151,7 @@ pub fn is_word(kind: Kind) -> bool
     }
 }
 
-/// The start of a token, by its place.
+/// Where the token of this index starts: 0 past the last.
 pub fn start_at(tokens: &[Token<'_>], at: usize) -> usize
     ensures { result ≡ spec.start_of (drop at (tokens_of tokens.now)) }
 {

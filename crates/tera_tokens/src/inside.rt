@@ -33,7 +33,7 @@ pub(crate) fn is_hyphen(text: &[u8]) -> bool
     begins(b"-", text)
 }
 
-fn closing(end: &[u8], text: &[u8]) -> Option<Ending>
+pub(crate) fn closing(end: &[u8], text: &[u8]) -> Option<Ending>
     ensures { result ≡ spec.closing end.now text.now }
 {
     if is_hyphen(text) && begins(end, after(text, 1)) {

@@ -6,5 +6,6 @@ pub mod cut;
 pub mod input;
 pub(crate) mod inside;
 pub mod literal;
+pub(crate) mod raw;
 pub mod refusal;
 pub mod token;

@@ -7,7 +7,7 @@ use crate::bytes::after;
 use crate::token::is_quote;
 use std::alloc::{AllocError, Global};
 
-/// The number that digits stand for, if it is below 2^127.
+/// The number that digits stand for, if it is below 2^127. It does not look for other bytes: a token has none.
 pub fn integer(digits: &str) -> Option<i128>
     ensures { result ≡ spec.integer digits.now }
 {

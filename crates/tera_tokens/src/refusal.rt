@@ -8,25 +8,37 @@ use tera_errors::{Error, Span};
 pub enum Reason {
     OpenTag,
     OpenComment,
+    OpenRaw,
     NoToken,
     NoExpression,
+    /// What follows an operand neither goes on with it nor ends it.
     NoOperation,
     NoStatement,
+    /// The end of a statement, or of a part of it, that is not open.
+    NotOpen,
+    /// A statement is open at the end of the text.
+    NoEnd,
+    /// A token follows what the tag is.
     TagGoesOn,
     TooDeep,
     LargeInteger,
+    /// Another token stands where one of this kind must.
     Expected(Kind),
 }
 
 impl Reason {
+    /// The same in words, as an error's message has them.
     pub fn words(self) -> &'static str {
         match self {
             Reason::OpenTag => "the tag has no end",
             Reason::OpenComment => "the comment has no end",
+            Reason::OpenRaw => "the raw text has no end",
             Reason::NoToken => "no token begins here",
             Reason::NoExpression => "no expression begins here",
             Reason::NoOperation => "no operation goes on here",
             Reason::NoStatement => "no statement begins here",
+            Reason::NotOpen => "what this tag ends or goes on with is not open here",
+            Reason::NoEnd => "the end of a statement is due here",
             Reason::TagGoesOn => "the tag goes on where its end is due",
             Reason::TooDeep => "what stands here is nested too deeply",
             Reason::LargeInteger => "the integer is too large",
@@ -42,10 +54,12 @@ impl Reason {
     }
 }
 
+/// Why nothing was read.
 #[derive(Drop)]
 pub enum Refusal {
-    /// What is wrong, and where.
+    /// What is wrong, and where in the source.
     Syntax(Reason, Span),
+    /// The text may be sound: memory was refused.
     OutOfMemory,
 }
 

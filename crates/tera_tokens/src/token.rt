@@ -7,16 +7,22 @@ ghost use Rattle.tera_tokens.specs.Token.{token_of};
 use crate::bytes::after;
 use tera_errors::Span;
 
-/// What a token is: a word, a number, a text or a sign.
+/// What a token is: a word, a number, a text or a sign. A reserved word has a kind of its own.
 #[derive(Clone, Copy, PartialEq, Eq, Debug)]
 pub enum Kind {
     /// No token is left.
     End,
+    /// A word that isn't reserved.
     Name,
+    /// Digits.
     Int,
+    /// A text between two quotes of one kind.
     Text,
+    /// `true` or `True`
     True,
+    /// `false` or `False`
     False,
+    /// `none` or `None`
     Nothing,
     And,
     Or,
@@ -36,14 +42,18 @@ pub enum Kind {
     Plus,
     Minus,
     Star,
+    /// `**`
     Power,
     Slash,
+    /// `//`
     FloorSlash,
     Percent,
     Tilde,
     Bar,
     Dot,
+    /// `?.`
     OptionalDot,
+    /// `?[`
     OptionalBracket,
     LeftBracket,
     RightBracket,
@@ -53,9 +63,12 @@ pub enum Kind {
     RightBrace,
     Comma,
     Colon,
+    /// `=`
     Assign,
+    /// `...`
     Spread,
     At,
+    /// `/>`
     TagEnd,
 }
 
@@ -63,18 +76,20 @@ pub enum Kind {
 #[derive(Clone, Copy, Debug)]
 pub struct Token<'a> {
     pub kind: Kind,
+    /// As it stands in the tag: a text has its quotes and backslashes.
     pub text: &'a str,
+    /// In the whole source, not in the tag.
     pub span: Span,
 }
 
 /// The kind of a token, and how many bytes it has.
 #[derive(Clone, Copy, Debug)]
-pub struct Measure {
+pub(crate) struct Measure {
     pub kind: Kind,
     pub size: usize,
 }
 
-pub fn is_blank(b: u8) -> bool
+pub(crate) fn is_blank(b: u8) -> bool
     ensures { result ≡ spec.is_blank b }
 {
     b == b' ' || b == b'\t' || b == b'\n' || b == b'\r'
@@ -92,13 +107,13 @@ fn is_digit(b: u8) -> bool
     b >= b'0' && b <= b'9'
 }
 
-fn is_name_byte(b: u8) -> bool
+pub(crate) fn is_name_byte(b: u8) -> bool
     ensures { result ≡ spec.is_name_byte b }
 {
     is_letter(b) || is_digit(b)
 }
 
-pub fn is_quote(b: u8) -> bool
+pub(crate) fn is_quote(b: u8) -> bool
     ensures { result ≡ spec.is_quote b }
 {
     b == b'"' || b == b'\'' || b == b'`'
@@ -219,7 +234,7 @@ fn sign(b: u8, c: u8, d: u8) -> Option<Measure>
     }
 }
 
-fn byte_at(text: &[u8], i: usize) -> u8
+pub(crate) fn byte_at(text: &[u8], i: usize) -> u8
     ensures { result ≡ get_or text.now i 0 }
 {
     match text.get(i) {
@@ -295,7 +310,7 @@ fn named(kind: Kind, word: &str) -> Kind
 }
 
 /// The longest token at a byte of the text, which stands at a place of the source.
-pub fn next_token<'a>(text: &'a str, i: usize, at: usize) -> Option<Token<'a>>
+pub(crate) fn next_token<'a>(text: &'a str, i: usize, at: usize) -> Option<Token<'a>>
     requires inside { i < length text.now }
     requires room { at + length text.now < 2 ^ 64 }
     ensures { option_map token_of result ≡ spec.next_token (at + i) (drop i text.now) }

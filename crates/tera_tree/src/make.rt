@@ -10,6 +10,7 @@ use std::alloc::Global;
 use tera_errors::{Span, TeraResult};
 
 impl Expression {
+    /// `target.name`, or `target?.name` where it is optional.
     pub fn attribute(
         alloc: Global,
         target: Expression,
@@ -27,6 +28,7 @@ impl Expression {
         })
     }
 
+    /// `target[index]`, or `target?[index]` where it is optional.
     pub fn index(
         alloc: Global,
         target: Expression,
@@ -65,6 +67,7 @@ impl Expression {
         })
     }
 
+    /// `not operand`
     pub fn not(alloc: Global, operand: Expression, span: Span) -> TeraResult<Expression>
         ensures { Gives expr_of result (Ok (Not (expr_of operand) span)) }
     {
@@ -74,6 +77,7 @@ impl Expression {
         })
     }
 
+    /// `-operand`
     pub fn negate(alloc: Global, operand: Expression, span: Span) -> TeraResult<Expression>
         ensures { Gives expr_of result (Ok (Negate (expr_of operand) span)) }
     {
@@ -83,6 +87,7 @@ impl Expression {
         })
     }
 
+    /// The operator between two operands.
     pub fn binary(
         alloc: Global,
         operator: BinaryOperator,
@@ -100,6 +105,7 @@ impl Expression {
         })
     }
 
+    /// `left and right`
     pub fn and(
         alloc: Global,
         left: Expression,
@@ -115,6 +121,7 @@ impl Expression {
         })
     }
 
+    /// `left or right`
     pub fn or(
         alloc: Global,
         left: Expression,
@@ -148,12 +155,14 @@ impl Expression {
         })
     }
 
+    /// `[item, ..]`
     pub fn array(items: Vec<Item>, span: Span) -> Expression
         ensures { expr_of result ≡ Array (items_of items.items) span }
     {
         Expression::Array { items, span }
     }
 
+    /// `{key: value, ..}`
     pub fn map(entries: Vec<Entry>, span: Span) -> Expression
         ensures { expr_of result ≡ Map (entries_of entries.items) span }
     {

@@ -21,3 +21,4 @@ pub mod Named
 pub mod Names
 pub mod Arguments
 pub mod Number
+pub mod Division

@@ -4,6 +4,7 @@
 pub mod argument;
 pub mod context;
 pub mod kwargs;
+pub mod laws;
 pub mod name;
 pub mod number;
 pub mod string_input;

@@ -1,32 +1,35 @@
-use Rattle.std.proofs.Common.{◌≡◌, ◌-◌, length, ap, sym, ◌∙◌, Some, arith}
+use Rattle.std.proofs.Common.{◌≡◌, ◌-◌, length, ap, sym, ◌∙◌, subst, arith}
+use Rattle.std.specs.Prelude.{option_and_then}
 use Rattle.std.proofs.lemmas.List.{length-drop}
 use Rattle.std.proofs.lemmas.Bool.Decides.{Decides-eqb}
 use Rattle.tera_tokens.specs.Cut.{cut}
+use Rattle.tera_tokens.specs.Answers.{Answers}
 use Rattle.tera_tree.specs.Delimiters.{delimiters_of}
+use Rattle.tera_tree.specs.View.{nodes_of}
 use Rattle.tera_tokens.specs.Found.{found_of, piece_of}
 use Rattle.tera_syntax.specs.Reader as spec
-use Rattle.tera_tree.specs.View.{nodes_of}
+use Rattle.tera_syntax.specs.View.{progress_of}
 use Rattle.tera_tokens.proofs.Cuts.{cut_step, cut_broken, cut_nothing}
 use Rattle.tera_expressions.proofs.Turns.{refused}
-use Rattle.tera_syntax.proofs.Reading.{some_bytes, joined_none, puts_more, join-none}
+use Rattle.tera_syntax.proofs.Rows.{some_bytes}
 use Rattle.tera_syntax.proofs.reader.nodes.Goals as goal
 
 pub returns-in-Err : goal.returns-in-Err
 returns-in-Err c =
     let l = some_bytes c.loop-rest.rest.now (sym c.is_empty.ensures ∙ c.loop-rest-test.true) in
     refused c.in-Err.refusal (λ n. c.loop-rest.invariant.so_far
-    ∙ ap (λ ps. spec.joined (Some (nodes_of c.loop-rest.found.items)) (spec.nodes 200 ps)) (cut_broken (delimiters_of c.args.delimiters.now) c.loop-rest.trims c.loop-rest.at c.loop-rest.rest.now l n))
+    ∙ ap (spec.run 200 (progress_of c.loop-rest.progress)) (cut_broken (delimiters_of c.args.delimiters.now) c.loop-rest.trims c.loop-rest.at c.loop-rest.rest.now l n))
     c.in-Err.ensures.value
 
-pub returns-in-Err-put : goal.returns-in-Err-put
-returns-in-Err-put c =
+pub returns-in-Err-step : goal.returns-in-Err-step
+returns-in-Err-step c =
     let d = delimiters_of c.args.delimiters.now in
     let l = some_bytes c.loop-rest.rest.now (sym c.is_empty.ensures ∙ c.loop-rest-test.true) in
     let s = cut_step d c.loop-rest.trims c.loop-rest.at c.loop-rest.rest.now (found_of c.in-Ok.piece) l c.in-Ok.ensures.value c.in-Ok.ensures.moves in
-    refused c.in-Err-put.refusal (λ n. c.loop-rest.invariant.so_far
-    ∙ ap (λ ps. spec.joined (Some (nodes_of c.loop-rest.found.items)) (spec.nodes 200 ps)) s
-    ∙ joined_none (nodes_of c.loop-rest.found.items) _ _ n)
-    c.in-Err-put.ensures
+    refused c.in-Err-step.refusal (λ n. c.loop-rest.invariant.so_far
+    ∙ ap (spec.run 200 (progress_of c.loop-rest.progress)) s
+    ∙ ap (option_and_then (λ t. spec.run 200 t (cut d c.in-Ok.piece.trims 0 c.in-Ok.piece.next _))) n)
+    c.in-Err-step.ensures
 
 pub loop-rest-preserved : goal.loop-rest-preserved
 loop-rest-preserved c =
@@ -39,14 +42,14 @@ loop-rest-preserved c =
       utf8 = f.3;
       place = omega (arith, f.0, f.1, k, c.loop-rest.invariant.place);
       so_far = c.loop-rest.invariant.so_far
-          ∙ ap (λ ps. spec.joined (Some (nodes_of c.loop-rest.found.items)) (spec.nodes 200 ps)) s
-          ∙ puts_more (spec.piece_nodes 200 (piece_of c.in-Ok.piece.piece)) _ (nodes_of c.loop-rest.found.items) (nodes_of c.put.new.found.items) c.in_default.ensures
-          ∙ ap (λ text. spec.joined (Some (nodes_of c.put.new.found.items)) (spec.nodes 200 (cut d c.in-Ok.piece.trims 0 c.in-Ok.piece.next text))) (sym f.2);
+          ∙ ap (spec.run 200 (progress_of c.loop-rest.progress)) s
+          ∙ ap (option_and_then (λ t. spec.run 200 t (cut d c.in-Ok.piece.trims 0 c.in-Ok.piece.next _))) c.in-Ok-step.ensures
+          ∙ ap (λ text. spec.run 200 (progress_of c.in-Ok-step.progress) (cut d c.in-Ok.piece.trims 0 c.in-Ok.piece.next text)) (sym f.2);
     }
 
 pub returns : goal.returns
 returns c =
     let z : length c.loop-rest.rest.now ≡ 0 = (Decides-eqb (length c.loop-rest.rest.now) 0).0 (sym c.is_empty.ensures ∙ c.loop-rest-test.false) in
-    c.loop-rest.invariant.so_far
-    ∙ ap (λ ps. spec.joined (Some (nodes_of c.loop-rest.found.items)) (spec.nodes 200 ps)) (cut_nothing (delimiters_of c.args.delimiters.now) c.loop-rest.trims c.loop-rest.at c.loop-rest.rest.now z)
-    ∙ ap Some (join-none (nodes_of c.loop-rest.found.items))
+    let e = c.loop-rest.invariant.so_far
+    ∙ ap (spec.run 200 (progress_of c.loop-rest.progress)) (cut_nothing (delimiters_of c.args.delimiters.now) c.loop-rest.trims c.loop-rest.at c.loop-rest.rest.now z) in
+    subst (λ o. Answers (λ found. nodes_of found.items) o c.finish.result) (sym e) c.finish.ensures

@@ -1,14 +1,14 @@
-use Rattle.std.proofs.Common.{refl}
+use Rattle.std.proofs.Common.{refl, arith}
 use Rattle.tera_tree.specs.Delimiters.{delimiters_of}
 use Rattle.tera_syntax.specs.Reads.{Reads, ReadsPlainText}
 use Rattle.tera_tree.specs.View.{nodes_of}
-use Rattle.tera_syntax.proofs.Reading.{sound}
+use Rattle.tera_syntax.proofs.Sound.{sound}
 use Rattle.tera_syntax.proofs.Plain.{says_one, refused_by, spells_none, plain}
 use Rattle.tera_syntax.proofs.reader.parse.Goals as goal
 
 pub returns-in-Ok-clause-reads : goal.returns-in-Ok-clause-reads
 returns-in-Ok-clause-reads c =
-    sound 199 _ (nodes_of c.in-Ok.nodes.items) c.in-Ok.ensures
+    sound 200 _ (nodes_of c.in-Ok.nodes.items) (omega arith) c.in-Ok.ensures
 
 pub returns-in-Err-Syntax-clause-reads : goal.returns-in-Err-Syntax-clause-reads
 returns-in-Err-Syntax-clause-reads c =

@@ -5,8 +5,5 @@ use Rattle.tera_tokens.proofs.cut.behind.Goals as goal
 pub cut_inside-requires-clause-some : goal.cut_inside-requires-clause-some
 cut_inside-requires-clause-some c = rw c.as_str.ensures.value (filled (delimiters_of c.args.delimiters.now) c.requires.usable).variable_end
 
-pub cut_inside-requires-in-Block-clause-some : goal.cut_inside-requires-in-Block-clause-some
-cut_inside-requires-in-Block-clause-some c = rw c.as_str-in-Block.ensures.value (filled (delimiters_of c.args.delimiters.now) c.requires.usable).block_end
-
 pub comment-requires-clause-some : goal.comment-requires-clause-some
 comment-requires-clause-some c = rw c.as_str-in-Comment.ensures.value (filled (delimiters_of c.args.delimiters.now) c.requires.usable).comment_end

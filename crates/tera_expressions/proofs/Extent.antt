@@ -1,0 +1,122 @@
+-- How many tokens a derivation takes, and with which it begins.
+use Rattle.std.proofs.Common.{◌≡◌, ℕ, suc, ◌<◌, ◌≤◌, ◌⊎◌, inl, inr, List, [], ◌∷◌, Bool, true, Option, Some, None, refl, sym, ◌∙◌, ap, arith, length}
+use Rattle.tera_tree.specs.Tree.{Expr, Optional, Items, Key, Entries}
+use Rattle.tera_tokens.specs.declared.token.Kind.{Kind}
+use Rattle.tera_tokens.specs.declared.token.Kind.TheVariants as k
+use Rattle.tera_tokens.specs.Token.{Token}
+use Rattle.tera_tokens.specs.Input.{Input, same, kind, kind_of, text, next, after, left, is_word}
+use Rattle.tera_expressions.specs.Keys.{key_at, key_by}
+use Rattle.tera_expressions.specs.Grammar.{Derives, quoted, tighter, choice, operation, not, not_in, minus, power, attribute, index, slice, DerivesPart, absent, present, DerivesStep, no_step, step, int, is_true, is_false, nothing, name, parentheses, array, map, DerivesEntry, keyed, spread_map, DerivesEntries, no_entries, one_entry, more_entries, DerivesItem, plain, spread, DerivesItems, none, one, more}
+use Rattle.tera_expressions.proofs.Steps.{unlike, alike}
+use Rattle.tera_expressions.proofs.Precedence.{is-no-end, dot-needs, bracket-needs}
+
+pub next-left : (s : Kind) (i : Input) → kind i ≡ s → (s ≡ k.End → ⊥) → left i ≡ suc (left (next i))
+unfolding left next kind
+next-left s i h n = go i.ahead i.last h
+  where
+    go : (ts : List Token) (last : ℕ) → kind_of ts ≡ s → length ts ≡ suc (length (after ts last).ahead)
+    go [] last h = absurd (n (sym h))
+    go (t ∷ ts) last h = omega arith
+
+pub token : (s : Kind) (i : Input) → kind i ≡ s → (s ≡ k.End → ⊥) → left (next i) < left i
+token s i h n = let e = next-left s i h n in omega arith
+
+-- a word is a token
+pub word-left : (i : Input) → is_word (kind i) ≡ true → left (next i) < left i
+unfolding is_word
+word-left i h = let e = next-left (kind i) i refl (λ e. let f : is_word k.End ≡ true = ap is_word (sym e) ∙ h in cc) in omega arith
+
+-- a key is a token of its kinds
+pub key-kind : (s : Kind) (i : Input) (key : Key) → key_at i ≡ Some key → key_by s (text i) ≡ None → kind i ≡ s → ⊥
+unfolding key_at
+key-kind s i key h e q = let f : key_by (kind i) (text i) ≡ None = ap (λ s. key_by s (text i)) q ∙ e in cc
+
+pub key-left : (i : Input) (key : Key) → key_at i ≡ Some key → left (next i) < left i
+key-left i key h = token (kind i) i refl (key-kind k.End i key h refl)
+
+mutual
+  pub shorter : {l : ℕ} {x : Expr} {i j : Input} → Derives l x i j → left j < left i
+  shorter (tighter d) = shorter d
+  shorter (choice {i = i} {a = a} {b = b} d h f g q) = let p1 = shorter d in let p2 = shorter f in let p3 = shorter q in let t1 = token k.If a h (λ e. cc) in let t2 = token k.Else b g (λ e. cc) in omega arith
+  shorter (operation {s = s} {a = a} w d h f) = let p1 = shorter d in let p2 = shorter f in let t1 = token s a h (λ e. is-no-end w e) in omega arith
+  shorter (not {i = i} h d) = let p1 = shorter d in let t1 = token k.Not i h (λ e. cc) in omega arith
+  shorter (not_in {a = a} d h g f) = let p1 = shorter d in let p2 = shorter f in let t1 = token k.Not a h (λ e. cc) in let t2 = token k.In (next a) g (λ e. cc) in omega arith
+  shorter (minus {i = i} h d) = let p1 = shorter d in let t1 = token k.Minus i h (λ e. cc) in omega arith
+  shorter (power {a = a} d h f) = let p1 = shorter d in let p2 = shorter f in let t1 = token k.Power a h (λ e. cc) in omega arith
+  shorter (attribute {s = s} {a = a} w d h g) = let p1 = shorter d in let t1 = token s a h (dot-needs w).2 in let t2 = word-left (next a) g in omega arith
+  shorter (index {s = s} {a = a} {b = b} w d h f g) = let p1 = shorter d in let p2 = shorter f in let t1 = token s a h (bracket-needs w).2 in let t2 = token k.RightBracket b g (λ e. cc) in omega arith
+  shorter (slice {s = s} {a = a} {b = b} {c = c} {d = e} w d h f g q t u) =
+      let p1 = shorter d in let p2 = shorter-part f in let p3 = shorter-part q in let p4 = shorter-step t in
+      let t1 = token s a h (bracket-needs w).2 in let t2 = token k.Colon b g (λ e. cc) in let t3 = token k.RightBracket e u (λ e. cc) in omega arith
+  shorter (int {i = i} h e) = token k.Int i h (λ e. cc)
+  shorter (quoted {i = i} h e) = token k.Text i h (λ e. cc)
+  shorter (is_true {i = i} h) = token k.True i h (λ e. cc)
+  shorter (is_false {i = i} h) = token k.False i h (λ e. cc)
+  shorter (nothing {i = i} h) = token k.Nothing i h (λ e. cc)
+  shorter (name {i = i} h) = token k.Name i h (λ e. cc)
+  shorter (parentheses {i = i} {a = a} h d g) = let p1 = shorter d in let t1 = token k.LeftParenthesis i h (λ e. cc) in let t2 = token k.RightParenthesis a g (λ e. cc) in omega arith
+  shorter (array {i = i} {a = a} h d g) = let p1 = shorter-all d in let t1 = token k.LeftBracket i h (λ e. cc) in let t2 = token k.RightBracket a g (λ e. cc) in omega arith
+  shorter (map {i = i} {a = a} h d g) = let p1 = shorter-entries d in let t1 = token k.LeftBrace i h (λ e. cc) in let t2 = token k.RightBrace a g (λ e. cc) in omega arith
+
+  pub shorter-entry : {key : Option Key} {x : Expr} {i j : Input} → DerivesEntry key x i j → left j < left i
+  shorter-entry (keyed {key = key} {i = i} h q d) = let p1 = shorter d in let t1 = key-left i key h in let t2 = token k.Colon (next i) q (λ e. cc) in omega arith
+  shorter-entry (spread_map {i = i} h d) = let p1 = shorter d in let t1 = token k.Spread i h (λ e. cc) in omega arith
+
+  pub shorter-entries : {xs : Entries} {i j : Input} → DerivesEntries xs i j → left j ≤ left i
+  shorter-entries no_entries = omega arith
+  shorter-entries (one_entry d) = let p1 = shorter-entry d in omega arith
+  shorter-entries (more_entries {a = a} d h q) = let p1 = shorter-entry d in let p2 = shorter-entries q in let t1 = token k.Comma a h (λ e. cc) in omega arith
+
+  pub shorter-part : {o : Optional} {i j : Input} → DerivesPart o i j → left j ≤ left i
+  shorter-part absent = omega arith
+  shorter-part (present d) = let p1 = shorter d in omega arith
+
+  pub shorter-step : {o : Optional} {i j : Input} → DerivesStep o i j → left j ≤ left i
+  shorter-step no_step = omega arith
+  shorter-step (step {i = i} h f) = let p1 = shorter-part f in let t1 = token k.Colon i h (λ e. cc) in omega arith
+
+  pub shorter-item : {s : Bool} {x : Expr} {i j : Input} → DerivesItem s x i j → left j < left i
+  shorter-item (plain d) = shorter d
+  shorter-item (spread {i = i} h d) = let p1 = shorter d in let t1 = token k.Spread i h (λ e. cc) in omega arith
+
+  pub shorter-all : {xs : Items} {i j : Input} → DerivesItems xs i j → left j ≤ left i
+  shorter-all none = omega arith
+  shorter-all (one d) = let p1 = shorter-item d in omega arith
+  shorter-all (more {a = a} d h q) = let p1 = shorter-item d in let p2 = shorter-all q in let t1 = token k.Comma a h (λ e. cc) in omega arith
+
+-- no expression begins with a token of these kinds
+abbrev pub Begins : Kind → Type 0
+Begins s = (s ≡ k.RightBracket → ⊥) × (s ≡ k.Spread → ⊥) × (s ≡ k.Colon → ⊥)
+
+pub starts-so : {l : ℕ} {x : Expr} {i j : Input} → Derives l x i j → Begins (kind i)
+starts-so (tighter d) = starts-so d
+starts-so (choice d h f g q) = starts-so d
+starts-so (operation w d h f) = starts-so d
+starts-so (not h d) = (λ e. cc, λ e. cc, λ e. cc)
+starts-so (not_in d h g f) = starts-so d
+starts-so (minus h d) = (λ e. cc, λ e. cc, λ e. cc)
+starts-so (power d h f) = starts-so d
+starts-so (attribute w d h g) = starts-so d
+starts-so (index w d h f g) = starts-so d
+starts-so (map h d g) = (λ e. cc, λ e. cc, λ e. cc)
+starts-so (slice w d h f g q t u) = starts-so d
+starts-so (int h e) = (λ e. cc, λ e. cc, λ e. cc)
+starts-so (quoted h e) = (λ e. cc, λ e. cc, λ e. cc)
+starts-so (is_true h) = (λ e. cc, λ e. cc, λ e. cc)
+starts-so (is_false h) = (λ e. cc, λ e. cc, λ e. cc)
+starts-so (nothing h) = (λ e. cc, λ e. cc, λ e. cc)
+starts-so (name h) = (λ e. cc, λ e. cc, λ e. cc)
+starts-so (parentheses h d g) = (λ e. cc, λ e. cc, λ e. cc)
+starts-so (array h d g) = (λ e. cc, λ e. cc, λ e. cc)
+
+pub item-starts : {s : Bool} {x : Expr} {i j : Input} → DerivesItem s x i j → (kind i ≡ k.RightBracket → ⊥) × (same k.Spread (kind i) ≡ s)
+item-starts (plain {i = i} d) = let b = starts-so d in (b.0, unlike k.Spread (kind i) b.1)
+item-starts (spread {i = i} h d) = (λ e. cc, alike k.Spread (kind i) h)
+
+pub entry-starts : {key : Option Key} {x : Expr} {i j : Input} → DerivesEntry key x i j → kind i ≡ k.RightBrace → ⊥
+entry-starts (keyed {key = key} {i = i} h q d) = key-kind k.RightBrace i key h refl
+entry-starts (spread_map h d) = λ e. cc
+
+pub step-begins : {o : Optional} {i a : Input} → DerivesStep o i a → kind a ≡ k.RightBracket → (kind i ≡ k.Colon) ⊎ (kind i ≡ k.RightBracket)
+step-begins no_step h = inr h
+step-begins (step q f) h = inl q

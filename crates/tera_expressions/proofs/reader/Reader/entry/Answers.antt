@@ -1,0 +1,17 @@
+use Rattle.std.proofs.Common.{ap, ◌∙◌, refl}
+use Rattle.tera_tree.specs.View.{entries_of, key_option}
+use Rattle.tera_tokens.specs.Takes.{input}
+use Rattle.tera_expressions.specs.Parts.{deep_of}
+use Rattle.tera_expressions.proofs.Turns.{entries_of-push}
+use Rattle.tera_expressions.proofs.reader.Reader.entry.Goals as goal
+
+pub returns : goal.returns
+returns g c = (
+  key_option c.in-Ok.key,
+  input c.entry_key.new.tokens,
+  deep_of c.in-Ok-sub.x,
+  c.in-Ok.ensures,
+  c.in-Ok-sub.ensures,
+  refl,
+  ap entries_of c.in_ok-push.ensures.items ∙ entries_of-push c.args.found.now.items _,
+)

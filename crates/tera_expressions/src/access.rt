@@ -1,0 +1,215 @@
+// Attributes, indices and slices.
+ghost use Rattle.std.specs.Prelude.{◌≡◌, ℕ, max};
+ghost use Rattle.tera_tree.specs.View.{option_of};
+ghost use Rattle.tera_tokens.specs.Takes.{Takes, input};
+ghost use Rattle.tera_expressions.specs.Expressions as spec;
+ghost use Rattle.tera_expressions.specs.Parts.{Nests, deep_of, part_of};
+
+use crate::expressions::Deep;
+use crate::reader::{Part, Reader, larger};
+use std::alloc::Global;
+use tera_tokens::input::{Tokens, is_word, same};
+use tera_tokens::refusal::{Reason, Refusal};
+use tera_tokens::token::Kind;
+use tera_tree::{Bounds, Expression};
+
+impl<F: Fn(Global, &mut Tokens<'_>, usize, u8) -> Result<Deep, Refusal>> Reader<F> {
+    /// `x.name`, from the dot on.
+    #[tactic(auto, unfolding(crate::specs::Expressions::attribute))]
+    pub(crate) fn attribute(
+        &self,
+        tokens: &mut Tokens<'_>,
+        optional: bool,
+        start: usize,
+        x: Deep,
+    ) -> Result<Deep, Refusal>
+        ensures { Takes deep_of (spec.attribute self.now.limit (spec.expr self.now.below) optional start (deep_of x) (input tokens.old)) result tokens.new }
+    {
+        tokens.take();
+        if !is_word(tokens.kind()) {
+            drop(x);
+            return Err(tokens.refuse(Reason::Expected(Kind::Name)));
+        }
+        let name = match String::from_str(self.alloc, tokens.text()) {
+            Ok(name) => name,
+            Err(refused) => {
+                drop(x);
+                return Err(refused.into());
+            }
+        };
+        tokens.take();
+        let span = tokens.span(start);
+        let expression = Expression::attribute(self.alloc, x.expression, name, optional, span)?;
+        self.node(tokens, x.depth, expression)
+    }
+
+    /// `x[y]` or a slice, from the bracket on.
+    #[tactic(auto, unfolding(crate::specs::Expressions::subscript))]
+    pub(crate) fn subscript(
+        &self,
+        tokens: &mut Tokens<'_>,
+        optional: bool,
+        start: usize,
+        x: Deep,
+    ) -> Result<Deep, Refusal>
+        requires { Nests self.now.below (F.pre self.now.expr) (F.post self.now.expr) }
+        ensures { Takes deep_of (spec.subscript self.now.limit (spec.expr self.now.below) optional start (deep_of x) (input tokens.old)) result tokens.new }
+    {
+        tokens.take();
+        let p = match self.part(tokens) {
+            Ok(p) => p,
+            Err(refusal) => {
+                drop(x);
+                return Err(refusal);
+            }
+        };
+        if same(Kind::RightBracket, tokens.kind()) {
+            self.index_at(tokens, optional, start, x, p.expression, p.depth)
+        } else {
+            self.slice(tokens, optional, start, x, p)
+        }
+    }
+
+    /// A bound of a slice, if it is written, and how deep it is.
+    #[tactic(auto, unfolding(crate::specs::Expressions::part))]
+    pub(crate) fn part(&self, tokens: &mut Tokens<'_>) -> Result<Part, Refusal>
+        requires { Nests self.now.below (F.pre self.now.expr) (F.post self.now.expr) }
+        ensures { Takes part_of (spec.part self.now.limit (spec.expr self.now.below) (input tokens.old)) result tokens.new }
+    {
+        if same(Kind::Colon, tokens.kind()) {
+            return Ok(Part {
+                expression: None,
+                depth: 0,
+            });
+        }
+        if same(Kind::RightBracket, tokens.kind()) {
+            return Ok(Part {
+                expression: None,
+                depth: 0,
+            });
+        }
+        let x = self.sub(tokens, 0)?;
+        Ok(Part {
+            expression: Some(x.expression),
+            depth: x.depth,
+        })
+    }
+
+    /// The step of a slice, if it is written, and how deep it is.
+    #[tactic(auto, unfolding(crate::specs::Expressions::step))]
+    pub(crate) fn step(&self, tokens: &mut Tokens<'_>) -> Result<Part, Refusal>
+        requires { Nests self.now.below (F.pre self.now.expr) (F.post self.now.expr) }
+        ensures { Takes part_of (spec.step self.now.limit (spec.expr self.now.below) (input tokens.old)) result tokens.new }
+    {
+        if same(Kind::Colon, tokens.kind()) {
+            tokens.take();
+            return self.part(tokens);
+        }
+        Ok(Part {
+            expression: None,
+            depth: 0,
+        })
+    }
+
+    /// The index that was read, up to its bracket.
+    #[tactic(auto, unfolding(crate::specs::Expressions::index_at))]
+    pub(crate) fn index_at(
+        &self,
+        tokens: &mut Tokens<'_>,
+        optional: bool,
+        start: usize,
+        x: Deep,
+        y: Option<Expression>,
+        depth: usize,
+    ) -> Result<Deep, Refusal>
+        ensures { Takes deep_of (spec.index_at self.now.limit (spec.expr self.now.below) optional start (deep_of x) (option_of y) depth (input tokens.old)) result tokens.new }
+    {
+        match y {
+            None => {
+                drop(x);
+                Err(tokens.refuse(Reason::NoExpression))
+            }
+            Some(index) => {
+                tokens.take();
+                let depth = larger(x.depth, depth);
+                let span = tokens.span(start);
+                let expression = Expression::index(
+                    self.alloc,
+                    x.expression,
+                    index,
+                    optional,
+                    span,
+                )?;
+                self.node(tokens, depth, expression)
+            }
+        }
+    }
+
+    /// A slice, from the first colon on.
+    #[tactic(auto, unfolding(crate::specs::Expressions::slice))]
+    pub(crate) fn slice(
+        &self,
+        tokens: &mut Tokens<'_>,
+        optional: bool,
+        start: usize,
+        x: Deep,
+        p: Part,
+    ) -> Result<Deep, Refusal>
+        requires { Nests self.now.below (F.pre self.now.expr) (F.post self.now.expr) }
+        ensures { Takes deep_of (spec.slice self.now.limit (spec.expr self.now.below) optional start (deep_of x) (part_of p) (input tokens.old)) result tokens.new }
+    {
+        if let Err(refusal) = tokens.expect(Kind::Colon) {
+            drop(x);
+            drop(p);
+            return Err(refusal);
+        }
+        let q = match self.part(tokens) {
+            Ok(q) => q,
+            Err(refusal) => {
+                drop(x);
+                drop(p);
+                return Err(refusal);
+            }
+        };
+        let r = match self.step(tokens) {
+            Ok(r) => r,
+            Err(refusal) => {
+                drop(x);
+                drop(p);
+                drop(q);
+                return Err(refusal);
+            }
+        };
+        let depth = larger(p.depth, larger(q.depth, r.depth));
+        let bounds = Bounds {
+            start: p.expression,
+            end: q.expression,
+            step: r.expression,
+        };
+        self.slice_made(tokens, optional, start, x, bounds, depth)
+    }
+
+    /// A slice whose bounds were read, up to its bracket.
+    #[tactic(auto, unfolding(crate::specs::Expressions::slice_made))]
+    pub(crate) fn slice_made(
+        &self,
+        tokens: &mut Tokens<'_>,
+        optional: bool,
+        start: usize,
+        x: Deep,
+        bounds: Bounds,
+        depth: usize,
+    ) -> Result<Deep, Refusal>
+        ensures { (p q r : ℕ) → depth ≡ max p (max q r) → Takes deep_of (spec.slice_made self.now.limit (spec.expr self.now.below) optional start (deep_of x) (option_of bounds.start, p) (option_of bounds.end, q) (option_of bounds.step, r) (input tokens.old)) result tokens.new }
+    {
+        if let Err(refusal) = tokens.expect(Kind::RightBracket) {
+            drop(x);
+            drop(bounds);
+            return Err(refusal);
+        }
+        let depth = larger(x.depth, depth);
+        let span = tokens.span(start);
+        let expression = Expression::slice(self.alloc, x.expression, bounds, optional, span)?;
+        self.node(tokens, depth, expression)
+    }
+}

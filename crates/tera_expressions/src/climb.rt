@@ -1,0 +1,138 @@
+// The climb from operator to operator. Open parentheses are counted, and cost no call.
+ghost use Rattle.std.specs.Prelude.{◌≡◌, [], Some};
+ghost use Rattle.tera_tokens.specs.Input.{left, starts};
+ghost use Rattle.tera_tokens.specs.Takes.{Takes, input};
+ghost use Rattle.tera_tokens.specs.Token.{tokens_of};
+ghost use Rattle.tera_expressions.specs.Expressions as spec;
+ghost use Rattle.tera_expressions.specs.Parts.{Nests, deep_of};
+
+use crate::expressions::Deep;
+use crate::levels::{begins, gives, goes_on};
+use crate::operators::Infix;
+use crate::reader::Reader;
+use std::alloc::Global;
+use tera_tokens::input::{Tokens, same, start_at};
+use tera_tokens::refusal::{Reason, Refusal};
+use tera_tokens::token::{Kind, Token};
+use tera_tree::BinaryOperator;
+
+impl<F: Fn(Global, &mut Tokens<'_>, usize, u8) -> Result<Deep, Refusal>> Reader<F> {
+    /// An expression of this level or above.
+    #[tactic(auto, unfolding(crate::specs::Expressions::level, crate::specs::Expressions::level_with))]
+    pub(crate) fn level(&self, tokens: &mut Tokens<'_>, floor: u8) -> Result<Deep, Refusal>
+        requires { Nests self.now.below (F.pre self.now.expr) (F.post self.now.expr) }
+        ensures { Takes deep_of (spec.level self.now.limit (spec.expr self.now.below) floor (input tokens.old)) result tokens.new }
+    {
+        let run = tokens.ahead;
+        let turns = tokens.left();
+        let opens = opened(tokens);
+        let begins = begins(tokens.kind());
+        if begins < if opens == 0 { floor } else { 0 } {
+            return Err(tokens.refuse(Reason::NoExpression));
+        }
+        let start = tokens.start();
+        let x = self.head(tokens)?;
+        self.climb(tokens, run, opens, turns, floor, begins, start, x)
+    }
+
+    /// Goes on with operators, and closes the parentheses that are open. `run` begins with these.
+    #[tactic(auto, unfolding(crate::specs::Expressions::climb))]
+    pub(crate) fn climb(
+        &self,
+        tokens: &mut Tokens<'_>,
+        run: &[Token<'_>],
+        mut opens: usize,
+        turns: usize,
+        floor: u8,
+        mut have: u8,
+        mut start: usize,
+        mut x: Deep,
+    ) -> Result<Deep, Refusal>
+        requires { Nests self.now.below (F.pre self.now.expr) (F.post self.now.expr) }
+        ensures { Takes deep_of (spec.climb self.now.limit (spec.expr self.now.below) turns (starts (tokens_of run.now) opens) floor have start (deep_of x) (input tokens.old)) result tokens.new }
+    {
+        for _turn in 0..turns {
+            let kind = tokens.kind();
+            if goes_on(if opens == 0 { floor } else { 0 }, have, kind) {
+                x = self.operation(tokens, start, x)?;
+                have = gives(kind);
+            } else if opens == 0 {
+                return Ok(x);
+            } else {
+                match tokens.expect(Kind::RightParenthesis) {
+                    Ok(()) => {
+                        opens -= 1;
+                        start = start_at(run, opens);
+                        have = 11;
+                    }
+                    Err(refusal) => {
+                        drop(x);
+                        return Err(refusal);
+                    }
+                }
+            }
+        }
+        drop(x);
+        Err(tokens.refuse(Reason::NoOperation))
+    }
+
+    /// What the next token goes on to.
+    #[tactic(auto, unfolding(crate::specs::Expressions::operation))]
+    pub(crate) fn operation(
+        &self,
+        tokens: &mut Tokens<'_>,
+        start: usize,
+        x: Deep,
+    ) -> Result<Deep, Refusal>
+        requires { Nests self.now.below (F.pre self.now.expr) (F.post self.now.expr) }
+        ensures { Takes deep_of (spec.operation self.now.limit (spec.expr self.now.below) start (deep_of x) (input tokens.old)) result tokens.new }
+    {
+        match tokens.kind() {
+            Kind::If => self.choice(tokens, start, x),
+            Kind::Not => self.not_in(tokens, start, x),
+            Kind::Dot => self.attribute(tokens, false, start, x),
+            Kind::OptionalDot => self.attribute(tokens, true, start, x),
+            Kind::LeftBracket => self.subscript(tokens, false, start, x),
+            Kind::OptionalBracket => self.subscript(tokens, true, start, x),
+            Kind::Or => self.infixed(tokens, 2, Infix::Or, start, x),
+            Kind::And => self.infixed(tokens, 3, Infix::And, start, x),
+            Kind::Equal => { self.binary(tokens, 5, BinaryOperator::Equal, start, x) }
+            Kind::NotEqual => { self.binary(tokens, 5, BinaryOperator::NotEqual, start, x) }
+            Kind::Less => self.binary(tokens, 5, BinaryOperator::Less, start, x),
+            Kind::Greater => { self.binary(tokens, 5, BinaryOperator::Greater, start, x) }
+            Kind::LessOrEqual => { self.binary(tokens, 5, BinaryOperator::LessOrEqual, start, x) }
+            Kind::GreaterOrEqual => {
+                self.binary(tokens, 5, BinaryOperator::GreaterOrEqual, start, x)
+            }
+            Kind::In => self.binary(tokens, 5, BinaryOperator::In, start, x),
+            Kind::Tilde => self.binary(tokens, 6, BinaryOperator::Concat, start, x),
+            Kind::Plus => self.binary(tokens, 7, BinaryOperator::Add, start, x),
+            Kind::Minus => { self.binary(tokens, 7, BinaryOperator::Subtract, start, x) }
+            Kind::Star => { self.binary(tokens, 8, BinaryOperator::Multiply, start, x) }
+            Kind::Slash => self.binary(tokens, 8, BinaryOperator::Divide, start, x),
+            Kind::FloorSlash => { self.binary(tokens, 8, BinaryOperator::FloorDivide, start, x) }
+            Kind::Percent => { self.binary(tokens, 8, BinaryOperator::Remainder, start, x) }
+            Kind::Power => self.binary(tokens, 8, BinaryOperator::Power, start, x),
+            _ => {
+                drop(x);
+                Err(tokens.refuse(Reason::NoOperation))
+            }
+        }
+    }
+}
+
+/// How many parentheses open here. They are taken.
+#[tactic(auto, unfolding(crate::specs::Expressions::opened))]
+pub(crate) fn opened(tokens: &mut Tokens<'_>) -> usize
+    ensures { spec.opened (left (input tokens.old)) [] (input tokens.old) ≡ Some (starts (tokens_of tokens.old.ahead.now) result, input tokens.new) }
+{
+    let mut count = 0usize;
+    for _turn in 0..tokens.left() {
+        if !same(Kind::LeftParenthesis, tokens.kind()) {
+            break;
+        }
+        tokens.take();
+        count += 1;
+    }
+    count
+}

@@ -1,0 +1,94 @@
+// What stands before the first operator.
+ghost use Rattle.tera_tree.specs.Tree.{Boolean};
+ghost use Rattle.tera_tokens.specs.Input.{next, span, start};
+ghost use Rattle.tera_tokens.specs.Takes.{Takes, input};
+ghost use Rattle.tera_expressions.specs.Expressions as spec;
+ghost use Rattle.tera_expressions.specs.Parts.{Nests, deep_of};
+
+use crate::expressions::Deep;
+use crate::reader::Reader;
+use std::alloc::Global;
+use tera_tokens::input::Tokens;
+use tera_tokens::literal::{integer, literal};
+use tera_tokens::refusal::{Reason, Refusal};
+use tera_tokens::token::Kind;
+use tera_tree::Expression;
+
+impl<F: Fn(Global, &mut Tokens<'_>, usize, u8) -> Result<Deep, Refusal>> Reader<F> {
+    /// What stands before the first operator.
+    #[tactic(auto, unfolding(crate::specs::Expressions::head))]
+    pub(crate) fn head(&self, tokens: &mut Tokens<'_>) -> Result<Deep, Refusal>
+        requires { Nests self.now.below (F.pre self.now.expr) (F.post self.now.expr) }
+        ensures { Takes deep_of (spec.head self.now.limit (spec.expr self.now.below) (input tokens.old)) result tokens.new }
+    {
+        match tokens.kind() {
+            Kind::Minus => self.negated(tokens),
+            Kind::Not => self.inverted(tokens),
+            Kind::Int => self.int(tokens),
+            Kind::Text => self.text(tokens),
+            Kind::True => self.constant(tokens, true),
+            Kind::False => self.constant(tokens, false),
+            Kind::Nothing => {
+                let start = tokens.start();
+                tokens.take();
+                let span = tokens.span(start);
+                self.node(tokens, 0, Expression::None { span })
+            }
+            Kind::Name => self.name(tokens),
+            Kind::LeftBracket => self.array(tokens),
+            Kind::LeftBrace => self.map(tokens),
+            _ => Err(tokens.refuse(Reason::NoExpression)),
+        }
+    }
+
+    /// An integer.
+    pub(crate) fn int(&self, tokens: &mut Tokens<'_>) -> Result<Deep, Refusal>
+        ensures { Takes deep_of (spec.head_by self.now.limit (spec.expr self.now.below) Kind.Int (input tokens.old)) result tokens.new }
+    {
+        let start = tokens.start();
+        match integer(tokens.text()) {
+            Some(value) => {
+                tokens.take();
+                let span = tokens.span(start);
+                self.node(tokens, 0, Expression::Int { value, span })
+            }
+            None => Err(tokens.refuse(Reason::LargeInteger)),
+        }
+    }
+
+    /// A text in quotes.
+    pub(crate) fn text(&self, tokens: &mut Tokens<'_>) -> Result<Deep, Refusal>
+        ensures { Takes deep_of (spec.head_by self.now.limit (spec.expr self.now.below) Kind.Text (input tokens.old)) result tokens.new }
+    {
+        let start = tokens.start();
+        match literal(self.alloc, tokens.text())? {
+            Some(text) => {
+                tokens.take();
+                let span = tokens.span(start);
+                self.node(tokens, 0, Expression::Text { text, span })
+            }
+            None => Err(tokens.refuse(Reason::NoExpression)),
+        }
+    }
+
+    /// A name.
+    pub(crate) fn name(&self, tokens: &mut Tokens<'_>) -> Result<Deep, Refusal>
+        ensures { Takes deep_of (spec.head_by self.now.limit (spec.expr self.now.below) Kind.Name (input tokens.old)) result tokens.new }
+    {
+        let start = tokens.start();
+        let name = String::from_str(self.alloc, tokens.text())?;
+        tokens.take();
+        let span = tokens.span(start);
+        self.node(tokens, 0, Expression::Name { name, span })
+    }
+
+    /// `true` or `false`.
+    pub(crate) fn constant(&self, tokens: &mut Tokens<'_>, value: bool) -> Result<Deep, Refusal>
+        ensures { Takes deep_of (spec.node self.now.limit 0 (Boolean value (span (start (input tokens.old)) (next (input tokens.old)))) (next (input tokens.old))) result tokens.new }
+    {
+        let start = tokens.start();
+        tokens.take();
+        let span = tokens.span(start);
+        self.node(tokens, 0, Expression::Bool { value, span })
+    }
+}

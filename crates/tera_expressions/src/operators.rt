@@ -1,0 +1,196 @@
+// Operators of one, two and three operands.
+ghost use Rattle.tera_tree.specs.Tree.{Not, Negate};
+ghost use Rattle.tera_tree.specs.View.{expr_of};
+ghost use Rattle.tera_tokens.specs.Takes.{Takes, input};
+ghost use Rattle.tera_expressions.specs.Expressions as spec;
+ghost use Rattle.tera_expressions.specs.Parts.{Makes, Nests, deep_of, infix_of};
+
+use crate::expressions::Deep;
+use crate::reader::{Reader, larger};
+use std::alloc::Global;
+use tera_errors::Span;
+use tera_tokens::input::{Tokens, same};
+use tera_tokens::refusal::{Reason, Refusal};
+use tera_tokens::token::Kind;
+use tera_tree::{BinaryOperator, Expression};
+
+/// What stands between two operands.
+#[derive(Clone, Copy)]
+pub(crate) enum Infix {
+    /// `and`, which reads its right operand only where it has to.
+    And,
+    /// `or`, likewise.
+    Or,
+    /// An operator that works on two values.
+    Binary(BinaryOperator),
+}
+
+impl<F: Fn(Global, &mut Tokens<'_>, usize, u8) -> Result<Deep, Refusal>> Reader<F> {
+    /// `-x`
+    #[tactic(auto, unfolding(crate::specs::Expressions::prefixed))]
+    pub(crate) fn negated(&self, tokens: &mut Tokens<'_>) -> Result<Deep, Refusal>
+        requires { Nests self.now.below (F.pre self.now.expr) (F.post self.now.expr) }
+        ensures { Takes deep_of (spec.prefixed self.now.limit (spec.expr self.now.below) 8 Negate (input tokens.old)) result tokens.new }
+    {
+        let start = tokens.start();
+        tokens.take();
+        let x = self.sub(tokens, 8)?;
+        let expression = Expression::negate(self.alloc, x.expression, tokens.span(start))?;
+        self.node(tokens, x.depth, expression)
+    }
+
+    /// `not x`
+    #[tactic(auto, unfolding(crate::specs::Expressions::prefixed))]
+    pub(crate) fn inverted(&self, tokens: &mut Tokens<'_>) -> Result<Deep, Refusal>
+        requires { Nests self.now.below (F.pre self.now.expr) (F.post self.now.expr) }
+        ensures { Takes deep_of (spec.prefixed self.now.limit (spec.expr self.now.below) 3 Not (input tokens.old)) result tokens.new }
+    {
+        let start = tokens.start();
+        tokens.take();
+        let x = self.sub(tokens, 3)?;
+        let expression = Expression::not(self.alloc, x.expression, tokens.span(start))?;
+        self.node(tokens, x.depth, expression)
+    }
+
+    /// An operator and what stands behind it, of this level or above.
+    #[tactic(auto, unfolding(crate::specs::Expressions::infixed))]
+    pub(crate) fn infixed(
+        &self,
+        tokens: &mut Tokens<'_>,
+        level: u8,
+        op: Infix,
+        start: usize,
+        x: Deep,
+    ) -> Result<Deep, Refusal>
+        requires { Nests self.now.below (F.pre self.now.expr) (F.post self.now.expr) }
+        ensures { Takes deep_of (spec.infixed self.now.limit (spec.expr self.now.below) level (infix_of op) start (deep_of x) (input tokens.old)) result tokens.new }
+    {
+        tokens.take();
+        let y = match self.sub(tokens, level) {
+            Ok(y) => y,
+            Err(refusal) => {
+                drop(x);
+                return Err(refusal);
+            }
+        };
+        let depth = larger(x.depth, y.depth);
+        let span = tokens.span(start);
+        let expression = make_infix(self.alloc, op, x.expression, y.expression, span)?;
+        self.node(tokens, depth, expression)
+    }
+
+    /// The same, for an operator that works on two values.
+    #[tactic(auto, unfolding(crate::specs::Expressions::applied))]
+    pub(crate) fn binary(
+        &self,
+        tokens: &mut Tokens<'_>,
+        level: u8,
+        operator: BinaryOperator,
+        start: usize,
+        x: Deep,
+    ) -> Result<Deep, Refusal>
+        requires { Nests self.now.below (F.pre self.now.expr) (F.post self.now.expr) }
+        ensures { Takes deep_of (spec.applied self.now.limit (spec.expr self.now.below) level operator start (deep_of x) (input tokens.old)) result tokens.new }
+    {
+        self.infixed(tokens, level, Infix::Binary(operator), start, x)
+    }
+
+    /// `x not in y`
+    #[tactic(auto, unfolding(crate::specs::Expressions::not_in))]
+    pub(crate) fn not_in(
+        &self,
+        tokens: &mut Tokens<'_>,
+        start: usize,
+        x: Deep,
+    ) -> Result<Deep, Refusal>
+        requires { Nests self.now.below (F.pre self.now.expr) (F.post self.now.expr) }
+        ensures { Takes deep_of (spec.not_in self.now.limit (spec.expr self.now.below) start (deep_of x) (input tokens.old)) result tokens.new }
+    {
+        tokens.take();
+        if !same(Kind::In, tokens.kind()) {
+            drop(x);
+            return Err(tokens.refuse(Reason::Expected(Kind::In)));
+        }
+        let y = self.binary(tokens, 5, BinaryOperator::In, start, x)?;
+        let expression = Expression::not(self.alloc, y.expression, tokens.span(start))?;
+        self.node(tokens, y.depth, expression)
+    }
+
+    /// `x if y else z`, from `if` on.
+    #[tactic(auto, unfolding(crate::specs::Expressions::choice))]
+    pub(crate) fn choice(
+        &self,
+        tokens: &mut Tokens<'_>,
+        start: usize,
+        x: Deep,
+    ) -> Result<Deep, Refusal>
+        requires { Nests self.now.below (F.pre self.now.expr) (F.post self.now.expr) }
+        ensures { Takes deep_of (spec.choice self.now.limit (spec.expr self.now.below) start (deep_of x) (input tokens.old)) result tokens.new }
+    {
+        tokens.take();
+        let y = match self.sub(tokens, 1) {
+            Ok(y) => y,
+            Err(refusal) => {
+                drop(x);
+                return Err(refusal);
+            }
+        };
+        match tokens.expect(Kind::Else) {
+            Ok(()) => self.other(tokens, start, x, y),
+            Err(refusal) => {
+                drop(x);
+                drop(y);
+                Err(refusal)
+            }
+        }
+    }
+
+    /// What stands behind `else`.
+    #[tactic(auto, unfolding(crate::specs::Expressions::other))]
+    pub(crate) fn other(
+        &self,
+        tokens: &mut Tokens<'_>,
+        start: usize,
+        x: Deep,
+        y: Deep,
+    ) -> Result<Deep, Refusal>
+        requires { Nests self.now.below (F.pre self.now.expr) (F.post self.now.expr) }
+        ensures { Takes deep_of (spec.other self.now.limit (spec.expr self.now.below) start (deep_of x) (deep_of y) (input tokens.old)) result tokens.new }
+    {
+        let z = match self.sub(tokens, 0) {
+            Ok(z) => z,
+            Err(refusal) => {
+                drop(x);
+                drop(y);
+                return Err(refusal);
+            }
+        };
+        let depth = larger(x.depth, larger(y.depth, z.depth));
+        let span = tokens.span(start);
+        let expression = Expression::ternary(
+            self.alloc,
+            x.expression,
+            y.expression,
+            z.expression,
+            span,
+        )?;
+        self.node(tokens, depth, expression)
+    }
+}
+
+/// The form that an operator makes of its operands.
+pub(crate) fn make_infix(
+    alloc: Global,
+    op: Infix,
+    left: Expression,
+    right: Expression,
+    span: Span,
+) -> Result<Expression, Refusal>
+    ensures { Makes (infix_of op (expr_of left) (expr_of right) span) result }
+{
+    match op {
+        Infix::And => Ok(Expression::and(alloc, left, right, span)?),
+        Infix::Or => Ok(Expression::or(alloc, left, right, span)?),
+        Infix::Binary(operator) => Ok(Expression::binary(alloc, operator, left, right, span)?),
+    }
+}

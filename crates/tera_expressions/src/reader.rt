@@ -1,0 +1,69 @@
+// What every form is read with. A tree that is not used is let go by a call of `drop`: let go in place, it costs each
+// function a proof over every form.
+ghost use Rattle.std.specs.Prelude.{◌≡◌, max};
+ghost use Rattle.tera_tree.specs.View.{expr_of};
+ghost use Rattle.tera_tokens.specs.Takes.{Takes, input};
+ghost use Rattle.tera_expressions.specs.Expressions as spec;
+ghost use Rattle.tera_expressions.specs.Parts.{Nests, deep_of};
+
+use crate::expressions::Deep;
+use std::alloc::Global;
+use tera_tokens::input::Tokens;
+use tera_tokens::refusal::{Reason, Refusal};
+use tera_tree::Expression;
+
+/// A bound of a slice, if it is written, and how deep it is.
+#[derive(Drop)]
+pub(crate) struct Part {
+    pub(crate) expression: Option<Expression>,
+    pub(crate) depth: usize,
+}
+
+/// The reader of expressions of one depth.
+#[derive(Drop)]
+pub(crate) struct Reader<F> {
+    pub(crate) alloc: Global,
+    /// How deep an expression may be.
+    pub(crate) limit: usize,
+    /// How deep its parts may be.
+    pub(crate) below: usize,
+    /// What reads its parts.
+    pub(crate) expr: F,
+}
+
+impl<F: Fn(Global, &mut Tokens<'_>, usize, u8) -> Result<Deep, Refusal>> Reader<F> {
+    /// A part, of this level or above.
+    pub(crate) fn sub(&self, tokens: &mut Tokens<'_>, floor: u8) -> Result<Deep, Refusal>
+        requires { Nests self.now.below (F.pre self.now.expr) (F.post self.now.expr) }
+        ensures { Takes deep_of (spec.expr self.now.below floor (input tokens.old)) result tokens.new }
+    {
+        (self.expr)(self.alloc, tokens, self.below, floor)
+    }
+
+    /// A form over parts of this depth.
+    #[tactic(auto, unfolding(crate::specs::Expressions::node))]
+    pub(crate) fn node(
+        &self,
+        tokens: &mut Tokens<'_>,
+        depth: usize,
+        expression: Expression,
+    ) -> Result<Deep, Refusal>
+        ensures { Takes deep_of (spec.node self.now.limit depth (expr_of expression) (input tokens.old)) result tokens.new }
+    {
+        if depth >= self.limit {
+            drop(expression);
+            return Err(tokens.refuse(Reason::TooDeep));
+        }
+        Ok(Deep {
+            expression,
+            depth: depth + 1,
+        })
+    }
+}
+
+/// The larger of two depths.
+pub(crate) fn larger(a: usize, b: usize) -> usize
+    ensures { result ≡ max a b }
+{
+    if a < b { b } else { a }
+}

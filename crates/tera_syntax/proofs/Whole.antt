@@ -1,0 +1,42 @@
+-- An expression that is all from here to the end of a tag.
+use Rattle.std.proofs.Common.{◌≡◌, ℕ, zero, suc, ◌≤◌, ◌<◌, Bool, true, false, Option, Some, None, if◌then◌else◌, refl, ap, ◌∙◌, subst, arith}
+use Rattle.tera_tokens.specs.declared.token.Kind.TheVariants as k
+use Rattle.tera_tokens.specs.Input.{Input, Outcome, kind, same}
+use Rattle.tera_expressions.specs.Expressions.{Deep, expr}
+use Rattle.tera_tree.specs.Tree.{Expr}
+use Rattle.tera_tree.specs.Depth.{depth}
+use Rattle.tera_expressions.specs.Grammar.{Derives}
+use Rattle.tera_syntax.specs.Grammar.{DerivesWhole, whole}
+use Rattle.tera_syntax.specs.Reader as r
+use Rattle.tera_expressions.proofs.Steps.{same-is, same-refl}
+use Rattle.tera_expressions.proofs.Sound.{what_is_read}
+use Rattle.tera_expressions.proofs.Complete.{complete}
+
+ended_by : (q : Bool) (x y : Expr) → (if q then Some x else None) ≡ Some y → (q ≡ true) × (x ≡ y)
+ended_by true x y h = (refl, cc)
+ended_by false x y h = absurd (cc)
+
+whole_from : (o : Outcome Deep) (x : Expr) → r.ended o ≡ Some x → (p : Deep × Input) × (o ≡ Some p) × (kind p.1 ≡ k.End) × (p.0.expr ≡ x)
+whole_from None x h = absurd (cc)
+whole_from (Some p) x h =
+    let e = ended_by (same k.End (kind p.1)) p.0.expr x h in
+    (p, refl, same-is k.End (kind p.1) e.0, e.1)
+
+pub whole_sound : (limit : ℕ) (i : Input) (x : Expr) → r.whole limit i ≡ Some x → DerivesWhole x i × (depth x ≤ limit)
+unfolding r.whole
+whole_sound limit i x h =
+    let p = whole_from (expr limit 0 i) x h in
+    let d = what_is_read limit i p.0.1 p.0.0 p.1 in
+    (whole (subst (λ x. Derives 0 x i p.0.1) p.3 d.0) p.2, subst (λ x. depth x ≤ limit) p.3 d.2)
+
+pub whole_complete : {x : Expr} {i : Input} → DerivesWhole x i → (limit : ℕ) → depth x ≤ limit → r.whole limit i ≡ Some x
+unfolding r.whole
+whole_complete (whole {x = x} {i = i} {end = j} d e) limit le =
+    let q : same k.End (kind j) ≡ true = ap (same k.End) e ∙ same-refl k.End in
+    rw (complete x i j d e limit le, q) refl
+
+-- where one is read, the limit is not 0
+pub whole_room : (limit : ℕ) (i : Input) (x : Expr) → r.whole limit i ≡ Some x → 0 < limit
+unfolding r.whole expr
+whole_room zero i x h = absurd (cc)
+whole_room (suc n) i x h = omega arith

@@ -1,0 +1,11 @@
+use Rattle.std.proofs.Common.{◌≡◌, vec_len}
+use Rattle.tera_syntax.specs.Reader as spec
+use Rattle.tera_syntax.specs.View.{frames_of}
+use Rattle.tera_tree.specs.View.{nodes_of}
+use Rattle.tera_syntax.proofs.progress.Progress.close.Given as goal
+
+abbrev pub invariant-loop-frame : goal.invariant-loop-frame
+invariant-loop-frame l = spec.closed (frames_of l.initial.frames.items) (nodes_of l.initial.found.items) ≡ spec.closed (frames_of l.frames.items) (nodes_of l.found.items)
+
+abbrev pub decreases-loop-frame : goal.decreases-loop-frame
+decreases-loop-frame l = vec_len l.frames

@@ -1,0 +1,23 @@
+-- What is open while a text is read, as plain data.
+use Rattle.std.specs.Prelude.{List, Option, Some, None, Vec, map, reverse}
+use Rattle.std.specs.Global.{Global}
+use Rattle.tera_tree.specs.declared.node.Node as declared
+use Rattle.tera_tree.specs.Tree.{Nodes}
+use Rattle.tera_tree.specs.View.{expr_of, nodes_of}
+use Rattle.tera_syntax.specs.Reader.{Frame, Progress}
+use Rattle.tera_syntax.specs.declared.progress.Frame as frame
+use Rattle.tera_syntax.specs.declared.progress.Progress as progress
+
+abbrev pub body_of : Option (Vec declared.Node Global) → Option Nodes
+body_of None = None
+body_of (Some nodes) = Some (nodes_of nodes.items)
+
+abbrev pub frame_of : frame.Frame → Frame
+frame_of f = record { before = nodes_of f.before.items; condition = expr_of f.condition; body = body_of f.body; is_chained = f.is_chained }
+
+-- the innermost stands last in memory
+abbrev pub frames_of : List frame.Frame → List Frame
+frames_of fs = map frame_of (reverse fs)
+
+abbrev pub progress_of : progress.Progress → Progress
+progress_of s = record { frames = frames_of s.frames.items; found = nodes_of s.found.items }

@@ -1,0 +1,196 @@
+//! Trees in words, for tests: each node with its parts and its span.
+use std::alloc::{AllocError, Global};
+use tera_errors::Span;
+use tera_tree::{Expression, Node};
+
+/// Words that are written one behind another.
+#[derive(Drop)]
+pub(crate) struct Shown {
+    alloc: Global,
+    text: String,
+    /// Whether memory was wanting, so that words are missing.
+    is_short: bool,
+}
+
+impl Shown {
+    pub fn new(alloc: Global) -> Shown {
+        Shown {
+            alloc,
+            text: String::new(alloc),
+            is_short: false,
+        }
+    }
+
+    pub fn is(&self, want: &str) -> bool {
+        !self.is_short && self.text.as_str() == want
+    }
+
+    fn put(&mut self, text: &str) {
+        if self.text.push_str(text).is_err() {
+            self.is_short = true;
+        }
+    }
+
+    fn put_made(&mut self, made: Result<String, AllocError>) {
+        match made {
+            Ok(text) => self.put(text.as_str()),
+            Err(_) => self.is_short = true,
+        }
+    }
+
+    fn put_span(&mut self, span: Span) {
+        let Span { start, end } = span;
+        self.put_made(format!(in self.alloc; " {start}-{end})"));
+    }
+
+    /// What a leaf or an operator is.
+    fn put_value(&mut self, expression: &Expression) {
+        match expression {
+            Expression::Bool { value, .. } => self.put_made(format!(in self.alloc; "{value}")),
+            Expression::Int { value, .. } => self.put_made(format!(in self.alloc; "{value}")),
+            Expression::Text { text, .. } => self.put_made(format!(in self.alloc; "'{text}'")),
+            Expression::Name { name, .. } => self.put(name.as_str()),
+            Expression::Binary { operator, .. } => {
+                self.put_made(format!(in self.alloc; "{operator:?}"));
+            }
+            _ => {}
+        }
+    }
+
+    #[cycle(expression)]
+    fn put_bound(&mut self, bound: &Option<Box<Expression>>) {
+        match bound {
+            Some(part) => self.expression(part),
+            None => self.put("_"),
+        }
+    }
+
+    /// An expression: its word, its parts and its span.
+    #[cycle(expression)]
+    pub fn expression(&mut self, expression: &Expression) {
+        self.put("(");
+        self.put(word(expression));
+        self.put_value(expression);
+        match expression {
+            Expression::Not { operand, .. } | Expression::Negate { operand, .. } => {
+                self.expression(operand);
+            }
+            Expression::Binary { left, right, .. }
+            | Expression::And { left, right, .. }
+            | Expression::Or { left, right, .. } => {
+                self.expression(left);
+                self.expression(right);
+            }
+            Expression::Attribute { target, name, .. } => {
+                self.expression(target);
+                self.put(name.as_str());
+            }
+            Expression::Index { target, index, .. } => {
+                self.expression(target);
+                self.expression(index);
+            }
+            Expression::Slice {
+                target,
+                start,
+                end,
+                step,
+                ..
+            } => {
+                self.expression(target);
+                self.put_bound(start);
+                self.put_bound(end);
+                self.put_bound(step);
+            }
+            Expression::Ternary {
+                value,
+                condition,
+                other,
+                ..
+            } => {
+                self.expression(value);
+                self.expression(condition);
+                self.expression(other);
+            }
+            Expression::Array { items, .. } => {
+                for item in items {
+                    self.put(if item.is_spread { "..." } else { "" });
+                    self.expression(&item.value);
+                }
+            }
+            Expression::Map { entries, .. } => {
+                for entry in entries {
+                    self.put(if entry.key.is_some() { ":" } else { "..." });
+                    self.expression(&entry.value);
+                }
+            }
+            _ => {}
+        }
+        self.put_span(span_of(expression));
+    }
+
+    /// Nodes, one behind another.
+    pub fn nodes(&mut self, nodes: &[Node]) {
+        for node in nodes {
+            match node {
+                Node::Content { text, span } => {
+                    self.put("(");
+                    self.put(text.as_str());
+                    self.put_span(*span);
+                }
+                Node::Print { value } => self.expression(value),
+                Node::If {
+                    condition,
+                    body,
+                    other,
+                } => {
+                    self.put("(if ");
+                    self.expression(condition);
+                    self.put(" then ");
+                    self.nodes(body);
+                    self.put(" else ");
+                    self.nodes(other);
+                    self.put(")");
+                }
+            }
+        }
+    }
+}
+
+fn span_of(expression: &Expression) -> Span {
+    match expression {
+        Expression::None { span }
+        | Expression::Bool { span, .. }
+        | Expression::Int { span, .. }
+        | Expression::Text { span, .. }
+        | Expression::Name { span, .. }
+        | Expression::Attribute { span, .. }
+        | Expression::Index { span, .. }
+        | Expression::Slice { span, .. }
+        | Expression::Not { span, .. }
+        | Expression::Negate { span, .. }
+        | Expression::Binary { span, .. }
+        | Expression::And { span, .. }
+        | Expression::Or { span, .. }
+        | Expression::Ternary { span, .. }
+        | Expression::Array { span, .. }
+        | Expression::Map { span, .. } => *span
+    }
+}
+
+/// What begins the form.
+fn word(expression: &Expression) -> &'static str {
+    match expression {
+        Expression::None { .. } => "none",
+        Expression::Attribute { optional, .. } => if *optional { "?." } else { "." },
+        Expression::Index { optional, .. } => if *optional { "?[]" } else { "[]" },
+        Expression::Slice { optional, .. } => if *optional { "?[:]" } else { "[:]" },
+        Expression::Not { .. } => "not",
+        Expression::Negate { .. } => "-",
+        Expression::And { .. } => "and",
+        Expression::Or { .. } => "or",
+        Expression::Ternary { .. } => "if",
+        Expression::Array { .. } => "array",
+        Expression::Map { .. } => "map",
+        _ => "",
+    }
+}

@@ -1,0 +1,118 @@
+// What a piece of the text adds to what was read.
+ghost use Rattle.std.specs.Prelude.{◌≡◌, Some};
+ghost use Rattle.tera_syntax.specs.Reader as spec;
+ghost use Rattle.tera_syntax.specs.View.{progress_of};
+ghost use Rattle.tera_tokens.specs.Answers.{Answers};
+ghost use Rattle.tera_tokens.specs.Found.{piece_of};
+ghost use Rattle.tera_tokens.specs.Input.{begin, kind, next};
+ghost use Rattle.tera_tokens.specs.Takes.{input};
+ghost use Rattle.tera_tokens.specs.Token.{tokens_of};
+ghost use Rattle.tera_tree.specs.View.{expr_of};
+
+use crate::progress::Progress;
+use std::alloc::Global;
+use tera_errors::Span;
+use tera_expressions::expressions::expr;
+use tera_tokens::cut::Piece;
+use tera_tokens::input::{Tokens, same};
+use tera_tokens::refusal::{Reason, Refusal};
+use tera_tokens::token::{Kind, Token};
+use tera_tree::{Expression, Node};
+
+/// An expression that is all from here to the end of the tag.
+#[tactic(auto, unfolding(crate::specs::Reader::whole))]
+fn whole(alloc: Global, tokens: &mut Tokens<'_>, limit: usize) -> Result<Expression, Refusal>
+    ensures { Answers expr_of (spec.whole limit (input tokens.old)) result }
+{
+    let value = expr(alloc, tokens, limit, 0)?;
+    if same(Kind::End, tokens.kind()) {
+        Ok(value.expression)
+    } else {
+        Err(tokens.refuse(Reason::TagGoesOn))
+    }
+}
+
+/// `if` or `elif`, behind that word.
+fn opened(
+    progress: Progress,
+    alloc: Global,
+    tokens: &mut Tokens<'_>,
+    is_chained: bool,
+) -> Result<Progress, Refusal>
+    ensures { Answers progress_of (spec.opened is_chained (progress_of progress) (spec.whole (spec.room 200 (progress_of progress)) (input tokens.old))) result }
+{
+    let condition = whole(alloc, tokens, progress.room())?;
+    progress.open(alloc, is_chained, condition)
+}
+
+/// Nothing follows the first word of the tag.
+fn is_alone(tokens: &Tokens<'_>) -> bool
+    ensures { result ≡ spec.alone (input tokens.now) }
+{
+    let mut behind = Tokens {
+        ahead: tokens.ahead,
+        last: tokens.last,
+    };
+    behind.take();
+    same(Kind::End, behind.kind())
+}
+
+fn is_endif(tokens: &Tokens<'_>) -> bool
+    ensures { result ≡ spec.is_endif (input tokens.now) }
+{
+    is_alone(tokens) && tokens.text() == "endif"
+}
+
+/// A statement, or a tag that belongs to one.
+#[tactic(auto, unfolding(crate::specs::Reader::statement))]
+fn statement(
+    progress: Progress,
+    alloc: Global,
+    tokens: &mut Tokens<'_>,
+) -> Result<Progress, Refusal>
+    ensures { Answers progress_of (spec.statement 200 (progress_of progress) (input tokens.old)) result }
+{
+    match tokens.kind() {
+        Kind::If => {
+            tokens.take();
+            opened(progress, alloc, tokens, false)
+        }
+        Kind::Elif => {
+            let progress = progress.turn(alloc, tokens)?;
+            tokens.take();
+            opened(progress, alloc, tokens, true)
+        }
+        Kind::Else if is_alone(tokens) => progress.turn(alloc, tokens),
+        Kind::Name if is_endif(tokens) => progress.close(alloc, tokens),
+        _ => Err(tokens.refuse(Reason::NoStatement)),
+    }
+}
+
+fn put_words(progress: Progress, alloc: Global, text: &str, span: Span) -> Result<Progress, Refusal>
+    ensures { Answers progress_of (Some (spec.put_words (progress_of progress) text.now span)) result }
+{
+    if text.is_empty() {
+        return Ok(progress);
+    }
+    let text = String::from_str(alloc, text)?;
+    progress.put(Node::Content { text, span })
+}
+
+/// What was read, and a piece more.
+pub(crate) fn step(progress: Progress, alloc: Global, piece: Piece<'_>) -> Result<Progress, Refusal>
+    ensures { Answers progress_of (spec.step 200 (progress_of progress) (piece_of piece.entry)) result }
+{
+    match piece {
+        Piece::Words(text, span) => put_words(progress, alloc, text, span),
+        Piece::Comment => Ok(progress),
+        Piece::Variable(tokens) => {
+            let mut tokens = Tokens::begin(tokens.as_slice());
+            let value = whole(alloc, &mut tokens, progress.room())?;
+            progress.put(Node::Print { value })
+        }
+        Piece::Block(tokens) => {
+            let mut tokens = Tokens::begin(tokens.as_slice());
+            statement(progress, alloc, &mut tokens)
+        }
+    }
+}

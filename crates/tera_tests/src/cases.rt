@@ -1,0 +1,54 @@
+//! Texts that stand beside the registry, and what they render to.
+use self::Want::{Fault, SyntaxError, Text};
+use std::alloc::Global;
+use tera::{Context, ErrorKind, Tera, TeraResult, Value};
+
+/// What a text renders to: a text, a `RenderingError` at these bytes of it, or a `SyntaxError` inside of it.
+#[derive(Clone, Copy)]
+pub enum Want {
+    Text(&'static str),
+    Fault(usize, usize),
+    SyntaxError,
+}
+
+/// A text, and what it renders to.
+#[derive(Clone, Copy)]
+pub struct Case(pub &'static str, pub Want);
+
+/// An engine, and a context with a text, `text`, the same marked safe, `safe`, and `name`, which is `world`.
+pub fn setting(alloc: Global) -> TeraResult<(Tera, Context)> {
+    let mut context = Context::new(alloc);
+    context.insert("text", Value::string(alloc, "<b>")?)?;
+    context.insert("safe", Value::safe_string(alloc, "<b>")?)?;
+    context.insert("name", Value::string(alloc, "world")?)?;
+    Ok((Tera::new(alloc)?, context))
+}
+
+fn is_wanted(answer: TeraResult<String>, want: Want, size: usize) -> bool {
+    match (answer, want) {
+        (Ok(text), Text(wanted)) => text.as_str() == wanted,
+        (Err(error), Fault(start, end)) => match error.kind() {
+            ErrorKind::RenderingError(report) => {
+                report.file() == "__tera_one_off"
+                    && report.span().start == start
+                    && report.span().end == end
+            }
+            _ => false,
+        },
+        (Err(error), SyntaxError) => match error.kind() {
+            ErrorKind::SyntaxError(report) => {
+                report.file() == "__tera_one_off"
+                    && report.span().start <= report.span().end
+                    && report.span().end <= size
+            }
+            _ => false,
+        },
+        _ => false,
+    }
+}
+
+/// Whether the text renders to what is wanted.
+pub fn agrees(engine: &Tera, context: &Context, autoescape: bool, case: Case) -> bool {
+    let Case(input, want) = case;
+    is_wanted(engine.render_str(input, context, autoescape), want, input.len())
+}

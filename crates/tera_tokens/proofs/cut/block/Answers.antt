@@ -1,0 +1,6 @@
+use Rattle.tera_tree.specs.Delimiters.{delimiters_of}
+use Rattle.tera_tokens.proofs.Openings.{filled}
+use Rattle.tera_tokens.proofs.cut.block.Goals as goal
+
+pub cut_inside-requires-clause-some : goal.cut_inside-requires-clause-some
+cut_inside-requires-clause-some c = rw c.as_str.ensures.value (filled (delimiters_of c.args.delimiters.now) c.requires.usable).block_end

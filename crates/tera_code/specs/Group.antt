@@ -28,5 +28,5 @@ group (Binary operator left right span) = Operation
 group (And left right span) = Branch
 group (Or left right span) = Branch
 group (Ternary value condition other span) = Branch
-group (Array items span) = Collection
-group (Map entries span) = Collection
+group (Array all span) = Collection
+group (Map all span) = Collection

@@ -4,11 +4,11 @@ use Rattle.std.specs.Prelude.{option_and_then, bytes_eq, codes}
 use Rattle.tera_tokens.specs.declared.token.Kind.{Kind}
 use Rattle.tera_tokens.specs.declared.token.Kind.TheVariants as k
 use Rattle.tera_tokens.specs.Token.{Token}
-use Rattle.tera_tokens.specs.Input.{Input, begin, kind, text, next, same}
-use Rattle.tera_tokens.specs.Cut.{Piece, Words, Block}
+use Rattle.tera_tokens.specs.Input.{begin, text, next, same}
+use Rattle.tera_tokens.specs.Cut.{Piece}
 use Rattle.tera_tree.specs.Tree.{Expr, Content, Print, If, Nodes, NoNodes}
 use Rattle.tera_tree.specs.Depth.{depth, nodes_depth}
-use Rattle.tera_syntax.specs.Grammar.{IsAlone, IsWord, Asks, DerivesWhole, DerivesNodes, empty, content, blank, comment, print, choice, DerivesOther, no_other, otherwise, chained}
+use Rattle.tera_syntax.specs.Grammar.{IsAlone, IsWord, Asks, DerivesNodes, empty, content, blank, comment, print, choice, DerivesOther, no_other, otherwise, chained}
 use Rattle.tera_syntax.specs.Reader.{Frame, Progress, join, one, printed, room, opened, turned, closed, alone, is_endif, statement, statement_by, run, nodes, whole}
 use Rattle.tera_expressions.proofs.Steps.{same-refl}
 use Rattle.tera_syntax.proofs.Rows.{join-none, join-join, rest-le}

@@ -1,5 +1,5 @@
 -- Rows of nodes, and what is open around them.
-use Rattle.std.proofs.Common.{◌≡◌, ℕ, suc, ◌≤◌, ◌<◌, max, List, [], ◌∷◌, false, ◌==◌, refl, ap, ◌∙◌, arith, length, ◌++◌, map, reverse}
+use Rattle.std.proofs.Common.{◌≡◌, ℕ, ◌≤◌, ◌<◌, max, List, [], ◌∷◌, false, ◌==◌, refl, ap, arith, length, ◌++◌, map}
 use Rattle.tera_errors.specs.Site.{Text}
 use Rattle.std.proofs.lemmas.List.{reverse-append}
 use Rattle.tera_tree.specs.Tree.{Nodes, NoNodes, MoreNodes}

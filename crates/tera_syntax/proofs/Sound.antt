@@ -1,12 +1,11 @@
 -- What is read is derived.
-use Rattle.std.proofs.Common.{◌≡◌, ℕ, suc, ◌-◌, ◌≤◌, ◌<◌, max, List, [], ◌∷◌, Bool, true, false, ◌&&◌, Option, Some, None, if◌then◌else◌, refl, ap, sym, ◌∙◌, subst, arith, length}
+use Rattle.std.proofs.Common.{◌≡◌, ℕ, suc, ◌-◌, ◌≤◌, ◌<◌, max, List, [], ◌∷◌, Bool, true, false, ◌&&◌, Option, Some, None, if◌then◌else◌, refl, sym, ◌∙◌, subst, arith, length}
 use Rattle.std.specs.Prelude.{option_and_then, bytes_eq, codes}
 use Rattle.std.proofs.lemmas.Slice.Eq.{bytes_eq-Decides}
-use Rattle.tera_errors.specs.Site as site
 use Rattle.tera_tokens.specs.declared.token.Kind.{Kind}
 use Rattle.tera_tokens.specs.declared.token.Kind.TheVariants as k
 use Rattle.tera_tokens.specs.Token.{Token}
-use Rattle.tera_tokens.specs.Input.{Input, begin, kind, text, next, same}
+use Rattle.tera_tokens.specs.Input.{begin, kind, text, next}
 use Rattle.tera_tokens.specs.Cut.{Piece, Words, Comment, Variable, Block, Broken}
 use Rattle.tera_tree.specs.Tree.{Expr, Content, Print, If, Nodes, NoNodes}
 use Rattle.tera_tree.specs.Depth.{depth, nodes_depth}

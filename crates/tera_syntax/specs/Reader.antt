@@ -4,7 +4,6 @@ use Rattle.tera_errors.specs.Site.{Text}
 use Rattle.tera_errors.specs.declared.span.Span.{Span}
 use Rattle.tera_tokens.specs.declared.token.Kind.{Kind}
 use Rattle.tera_tokens.specs.declared.token.Kind.TheVariants as k
-use Rattle.tera_tokens.specs.Token.{Token}
 use Rattle.tera_tokens.specs.Input.{Input, Outcome, begin, kind, text, next, same}
 use Rattle.tera_expressions.specs.Expressions.{Deep, expr}
 use Rattle.tera_tokens.specs.Cut.{Piece, Words, Comment, Variable, Block, Broken}

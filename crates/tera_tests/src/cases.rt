@@ -15,13 +15,13 @@ pub enum Want {
 #[derive(Clone, Copy)]
 pub struct Case(pub &'static str, pub Want);
 
-/// An engine, and a context with a text, `text`, the same marked safe, `safe`, and `name`, which is `world`.
-pub fn setting(alloc: Global) -> TeraResult<(Tera, Context)> {
+/// A context with a text, `text`, the same marked safe, `safe`, and `name`, which is `world`.
+fn variables(alloc: Global) -> TeraResult<Context> {
     let mut context = Context::new(alloc);
     context.insert("text", Value::string(alloc, "<b>")?)?;
     context.insert("safe", Value::safe_string(alloc, "<b>")?)?;
     context.insert("name", Value::string(alloc, "world")?)?;
-    Ok((Tera::new(alloc)?, context))
+    Ok(context)
 }
 
 fn is_wanted(answer: TeraResult<String>, want: Want, size: usize) -> bool {
@@ -47,8 +47,30 @@ fn is_wanted(answer: TeraResult<String>, want: Want, size: usize) -> bool {
     }
 }
 
-/// Whether the text renders to what is wanted.
-pub fn agrees(engine: &Tera, context: &Context, autoescape: bool, case: Case) -> bool {
+fn agrees(engine: &Tera, context: &Context, autoescape: bool, case: Case) -> bool {
     let Case(input, want) = case;
-    is_wanted(engine.render_str(input, context, autoescape), want, input.len())
+    is_wanted(
+        engine.render_str(input, context, autoescape),
+        want,
+        input.len(),
+    )
+}
+
+fn first_wrong(
+    engine: &Tera,
+    context: &Context,
+    autoescape: bool,
+    cases: &[Case],
+) -> Option<usize> {
+    cases
+        .iter()
+        .position(|case| !agrees(engine, context, autoescape, *case))
+}
+
+/// The first text that doesn't render to what is wanted. With no engine to render with, that is the first.
+pub fn wrong(alloc: Global, autoescape: bool, cases: &[Case]) -> Option<usize> {
+    match (Tera::new(alloc), variables(alloc)) {
+        (Ok(engine), Ok(context)) => first_wrong(&engine, &context, autoescape, cases),
+        _ => Some(0),
+    }
 }

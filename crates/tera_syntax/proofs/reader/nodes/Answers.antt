@@ -6,7 +6,7 @@ use Rattle.tera_tokens.specs.Cut.{cut}
 use Rattle.tera_tokens.specs.Answers.{Answers}
 use Rattle.tera_tree.specs.Delimiters.{delimiters_of}
 use Rattle.tera_tree.specs.View.{nodes_of}
-use Rattle.tera_tokens.specs.Found.{found_of, piece_of}
+use Rattle.tera_tokens.specs.Found.{found_of}
 use Rattle.tera_syntax.specs.Reader as spec
 use Rattle.tera_syntax.specs.View.{progress_of}
 use Rattle.tera_tokens.proofs.Cuts.{cut_step, cut_broken, cut_nothing}

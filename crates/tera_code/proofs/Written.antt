@@ -17,7 +17,7 @@ use Rattle.tera_tree.proofs.Views.{view_array, view_map, view_if}
 use Rattle.tera_code.specs.declared.instruction.Instruction.TheVariants as instruction
 use Rattle.tera_code.specs.Listing.{Listing}
 use Rattle.tera_tree.specs.View.{keys_of}
-use Rattle.tera_code.specs.Code.{Code, expr_code, items_code, entries_code, node_code, nodes_code, choice_tail, spreads_of, keys_in, lengthened}
+use Rattle.tera_code.specs.Code.{Code, expr_code, items_code, entries_code, node_code, nodes_code, choice_code, spreads_of, keys_in, lengthened}
 use Rattle.tera_code.proofs.Lengthened.{lengthened-lengthened}
 
 pub length_keys : (ks : List (Option LiteralKey)) → length (keys_of ks) ≡ length ks
@@ -34,12 +34,6 @@ fine a = Ok a
 
 same_ok : {A : Type 0} (a b : A) → fine a ≡ fine b → a ≡ b
 same_ok a b e = cc
-
--- a part that was begun empty holds what was written into it
-pub part_code : (file : Name) (p0 p : Listing) (code : Code) → fine (record { file = file; code = [] }) ≡ fine p0 → p ≡ lengthened p0 code → p.code ≡ code
-part_code file p0 p code e h =
-    let empty : Listing = record { file = file; code = [] } in
-    ap (λ l. l.code) (h ∙ ap (λ l. lengthened l code) (sym (same_ok empty p0 e)))
 
 -- one key more is copied
 pub keys_more : (ks js : List (Option LiteralKey)) (k : Option LiteralKey) (e : Entry) (before rest : List Entry) (all : List (Option Key)) → js ≡ ks ++ k ∷ [] → fine (key_option e.key) ≡ fine (key_option k) → before ≡ e ∷ rest → keys_of ks ++ keys_in (entries_of before) ≡ all → keys_of js ++ keys_in (entries_of rest) ≡ all
@@ -73,11 +67,9 @@ map_written l m n e entries span xs ys r is a b h =
     ∙ ap (λ t. lengthened l (expr_code t)) (sym (view_map entries span))
     ∙ ap (λ t. lengthened l (expr_code (expr_of t))) (sym is))
 
-pub if_written : (l m n p q : Listing) (node : Node) (condition : Expression) (body other : Vec Node Global) (xs ys : List Node) (r : Result (Unit {0}) Refusal) → node ≡ variant.If condition body other → xs ≡ body.items → ys ≡ other.items → m ≡ lengthened l (expr_code (expr_of condition)) → p.code ≡ nodes_code (nodes_of xs) → q.code ≡ nodes_code (nodes_of ys) → OnOk r (n ≡ lengthened m (choice_tail p.code q.code)) → OnOk r (n ≡ lengthened l (node_code (node_of node)))
-if_written l m n p q node condition body other xs ys r is a b h f g =
-    let cc = expr_code (expr_of condition) in
-    on_ok_by r n _ _ (ap₂ (λ x y. lengthened m (choice_tail x y)) (f ∙ ap (λ x. nodes_code (nodes_of x)) a) (g ∙ ap (λ x. nodes_code (nodes_of x)) b)
-    ∙ ap (λ k. lengthened k (choice_tail (nodes_code (nodes_of body.items)) (nodes_code (nodes_of other.items)))) h
-    ∙ lengthened-lengthened l cc (choice_tail (nodes_code (nodes_of body.items)) (nodes_code (nodes_of other.items)))
+pub if_written : (l m : Listing) (node : Node) (condition : Expression) (body other : Vec Node Global) (xs ys : List Node) → node ≡ variant.If condition body other → xs ≡ body.items → ys ≡ other.items → m ≡ lengthened l (choice_code (expr_code (expr_of condition)) (nodes_code (nodes_of xs)) (nodes_code (nodes_of ys))) → m ≡ lengthened l (node_code (node_of node))
+if_written l m node condition body other xs ys is a b h =
+    h
+    ∙ ap₂ (λ x y. lengthened l (choice_code (expr_code (expr_of condition)) (nodes_code (nodes_of x)) (nodes_code (nodes_of y)))) a b
     ∙ ap (λ t. lengthened l (node_code t)) (sym (view_if condition body other))
-    ∙ ap (λ t. lengthened l (node_code (node_of t))) (sym is))
+    ∙ ap (λ t. lengthened l (node_code (node_of t))) (sym is)

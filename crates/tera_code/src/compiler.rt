@@ -1,8 +1,8 @@
 // From trees to instructions.
-ghost use Rattle.std.specs.Prelude.{◌≡◌, [], ◌∷◌, Ok, OnOk, IfErr, length, string_bytes};
+ghost use Rattle.std.specs.Prelude.{◌≡◌, ◌<◌, [], ◌∷◌, Ok, OnOk, IfOk, IfErr, length, string_bytes};
 ghost use Rattle.tera_errors.specs.Answer.{Gives, Lacks};
 ghost use Rattle.tera_code.specs.declared.instruction.Instruction.TheVariants as instruction;
-ghost use Rattle.tera_code.specs.Code.{lengthened};
+ghost use Rattle.tera_code.specs.Code.{lengthened, filled, behind};
 
 use crate::chunk::Chunk;
 use crate::content::Constant;
@@ -57,25 +57,8 @@ impl Compiler {
         Chunk::new(file, code)
     }
 
-    // A compiler of a part of the same body.
-    pub(crate) fn part(&self) -> TeraResult<Compiler>
-        ensures { Gives (λ c. c) result (Ok (record { file = self.now.file; code = [] })) }
-    {
-        Ok(Compiler {
-            alloc: self.alloc,
-            file: self.file.share()?,
-            code: Vec::new(self.alloc),
-        })
-    }
-
     pub(crate) fn alloc(&self) -> Global {
         self.alloc
-    }
-
-    pub(crate) fn len(&self) -> usize
-        ensures { result ≡ length self.now.code }
-    {
-        self.code.len()
     }
 
     pub(crate) fn emit(&mut self, instruction: Instruction) -> TeraResult<()>
@@ -86,17 +69,31 @@ impl Compiler {
         Ok(())
     }
 
-    pub(crate) fn append(&mut self, part: Compiler) -> TeraResult<()>
-        ensures ok { OnOk result (self.new ≡ lengthened self.old part.code) }
+    // Keeps a place for a jump, whose length is known once what it passes is written.
+    pub(crate) fn keep_place(&mut self) -> TeraResult<usize>
+        ensures place { IfOk result (λ place. place ≡ length self.old.code) }
+        ensures ok { OnOk result (self.new ≡ lengthened self.old (instruction.Jump 0 ∷ [])) }
         ensures lacks { IfErr result Lacks }
     {
-        let Compiler {
-            alloc: _,
-            file: _,
-            mut code,
-        } = part;
-        self.code.append(&mut code)?;
-        Ok(())
+        let place = self.code.len();
+        self.emit(Instruction::Jump(0))?;
+        Ok(place)
+    }
+
+    // How many instructions stand behind the place.
+    pub(crate) fn behind(&self, place: usize) -> usize
+        requires { place < length self.now.code }
+        ensures { result ≡ behind place self.now }
+    {
+        self.code.len() - place - 1
+    }
+
+    // Puts a jump at the place that was kept for it.
+    pub(crate) fn fill(&mut self, place: usize, jump: Instruction)
+        requires { place < length self.old.code }
+        ensures { self.new ≡ filled place jump self.old }
+    {
+        self.code[place] = jump;
     }
 
     pub(crate) fn constant(&mut self, value: Value, span: Span) -> TeraResult<()>

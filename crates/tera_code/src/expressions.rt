@@ -128,17 +128,17 @@ impl Compiler {
         match expression {
             Expression::And { left, right, .. } => {
                 self.expression(left)?;
-                let mut second = self.part()?;
-                second.expression(right)?;
-                self.emit(Instruction::JumpIfFalseOrPop(second.len()))?;
-                self.append(second)
+                let place = self.keep_place()?;
+                self.expression(right)?;
+                self.fill(place, Instruction::JumpIfFalseOrPop(self.behind(place)));
+                Ok(())
             }
             Expression::Or { left, right, .. } => {
                 self.expression(left)?;
-                let mut second = self.part()?;
-                second.expression(right)?;
-                self.emit(Instruction::JumpIfTrueOrPop(second.len()))?;
-                self.append(second)
+                let place = self.keep_place()?;
+                self.expression(right)?;
+                self.fill(place, Instruction::JumpIfTrueOrPop(self.behind(place)));
+                Ok(())
             }
             Expression::Ternary {
                 value,
@@ -147,11 +147,12 @@ impl Compiler {
                 ..
             } => {
                 self.expression(condition)?;
-                let mut first = self.part()?;
-                first.expression(value)?;
-                let mut second = self.part()?;
-                second.expression(other)?;
-                self.choice(first, second)
+                let place = self.keep_place()?;
+                self.expression(value)?;
+                let place = self.turn(place)?;
+                self.expression(other)?;
+                self.fill(place, Instruction::Jump(self.behind(place)));
+                Ok(())
             }
             _ => unreachable!(),
         }

@@ -43,11 +43,12 @@ impl Compiler {
                 other,
             } => {
                 self.expression(condition)?;
-                let mut first = self.part()?;
-                first.compile(body.as_slice())?;
-                let mut second = self.part()?;
-                second.compile(other.as_slice())?;
-                self.choice(first, second)
+                let place = self.keep_place()?;
+                self.compile(body.as_slice())?;
+                let place = self.turn(place)?;
+                self.compile(other.as_slice())?;
+                self.fill(place, Instruction::Jump(self.behind(place)));
+                Ok(())
             }
         }
     }

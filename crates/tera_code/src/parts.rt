@@ -1,9 +1,9 @@
 // Instructions of single forms.
-ghost use Rattle.std.specs.Prelude.{◌≡◌, [], ◌∷◌, ◌++◌, ◌+◌, Ok, OnOk, IfErr, length, string_bytes, false};
+ghost use Rattle.std.specs.Prelude.{◌≡◌, ◌<◌, [], ◌∷◌, ◌++◌, Ok, OnOk, IfOk, IfErr, length, string_bytes, false};
 ghost use Rattle.tera_errors.specs.Answer.{Gives, Lacks};
 ghost use Rattle.tera_values.specs.Val as val;
 ghost use Rattle.tera_code.specs.declared.instruction.Instruction.TheVariants as instruction;
-ghost use Rattle.tera_code.specs.Code.{lengthened, choice_tail, spreads_of, keys_in};
+ghost use Rattle.tera_code.specs.Code.{lengthened, turned, spreads_of, keys_in};
 ghost use Rattle.tera_tree.specs.View.{keys_of};
 ghost use Rattle.tera_tree.specs.View.{items_of, entries_of, key_option, key_of};
 
@@ -43,15 +43,16 @@ impl Compiler {
         })
     }
 
-    // One of two parts, by the operand that stands on top.
-    pub(crate) fn choice(&mut self, body: Compiler, other: Compiler) -> TeraResult<()>
-        ensures ok { OnOk result (self.new ≡ lengthened self.old (choice_tail body.code other.code)) }
+    // The first of two parts ends, which starts behind the place; the place that was kept behind it.
+    pub(crate) fn turn(&mut self, place: usize) -> TeraResult<usize>
+        requires { place < length self.old.code }
+        ensures place { IfOk result (λ next. next ≡ length self.old.code) }
+        ensures ok { OnOk result (self.new ≡ turned place self.old) }
         ensures lacks { IfErr result Lacks }
     {
-        self.emit(Instruction::PopJumpIfFalse(body.len() + 1))?;
-        self.append(body)?;
-        self.emit(Instruction::Jump(other.len()))?;
-        self.append(other)
+        let next = self.keep_place()?;
+        self.fill(place, Instruction::PopJumpIfFalse(self.behind(place)));
+        Ok(next)
     }
 
     pub(crate) fn make_array(&mut self, items: &[Item], span: Span) -> TeraResult<()>

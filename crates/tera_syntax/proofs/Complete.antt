@@ -1,16 +1,15 @@
 -- What is derived is read.
-use Rattle.std.proofs.Common.{◌≡◌, ℕ, suc, ◌-◌, ◌≤◌, max, List, [], ◌∷◌, Bool, true, false, ◌&&◌, Some, None, if◌then◌else◌, refl, ap, sym, ◌∙◌, arith, length}
-use Rattle.std.specs.Prelude.{option_and_then, bytes_eq, codes}
+use Rattle.std.proofs.Common.{◌≡◌, ℕ, suc, ◌-◌, ◌≤◌, max, List, [], ◌∷◌, Bool, true, false, Some, None, if◌then◌else◌, refl, ap, sym, ◌∙◌, arith, length}
+use Rattle.std.specs.Prelude.{option_and_then, codes}
 use Rattle.tera_tokens.specs.declared.token.Kind.{Kind}
 use Rattle.tera_tokens.specs.declared.token.Kind.TheVariants as k
 use Rattle.tera_tokens.specs.Token.{Token}
-use Rattle.tera_tokens.specs.Input.{begin, text, next, same}
+use Rattle.tera_tokens.specs.Input.{begin, next}
 use Rattle.tera_tokens.specs.Cut.{Piece}
 use Rattle.tera_tree.specs.Tree.{Expr, Content, Print, If, Nodes, NoNodes}
 use Rattle.tera_tree.specs.Depth.{depth, nodes_depth}
-use Rattle.tera_syntax.specs.Grammar.{IsAlone, IsWord, Asks, DerivesNodes, empty, content, blank, comment, print, choice, DerivesOther, no_other, otherwise, chained}
-use Rattle.tera_syntax.specs.Reader.{Frame, Progress, join, one, printed, room, opened, turned, closed, alone, is_endif, statement, statement_by, run, nodes, whole}
-use Rattle.tera_expressions.proofs.Steps.{same-refl}
+use Rattle.tera_syntax.specs.Grammar.{IsWord, Asks, DerivesNodes, empty, content, blank, comment, print, choice, DerivesOther, no_other, otherwise, chained}
+use Rattle.tera_syntax.specs.Reader.{Frame, Progress, join, one, printed, room, opened, turned, closed, statement, statement_by, run, nodes, whole}
 use Rattle.tera_syntax.proofs.Rows.{join-none, join-join, rest-le}
 use Rattle.tera_syntax.proofs.Whole.{whole_complete}
 
@@ -31,36 +30,28 @@ choice-fits c b o r limit h le = (omega arith, omega arith, omega arith, omega a
 print-fits : (v r limit h : ℕ) → max (suc v) r ≤ limit - h → (v ≤ limit - suc h) × (r ≤ limit - h)
 print-fits v r limit h le = (omega arith, omega arith)
 
-is-alone : {s : Kind} (tokens : List Token) → IsAlone s tokens → alone (begin tokens) ≡ true
-is-alone tokens a = ap (same k.End) a.1 ∙ same-refl k.End
-
-if-read : (limit : ℕ) (s : Progress) (tokens : List Token) (c : Expr) → Asks k.If c tokens → depth c ≤ room limit s → statement limit s (begin tokens) ≡ opened false s (Some c)
+if-read : (limit : ℕ) (s : Progress) (tokens : List Token) (c : Expr) → Asks k.If c tokens → depth c ≤ room limit s → statement limit s tokens ≡ opened false s (Some c)
 unfolding statement
-if-read limit s tokens c a le = ap (statement_by limit s (begin tokens)) a.0 ∙ ap (opened false s) (whole_complete a.1 (room limit s) le)
+if-read limit s tokens c a le = ap (statement_by limit s tokens) a.0 ∙ ap (opened false s) (whole_complete a.1 (room limit s) le)
 
-elif-read : (limit : ℕ) (s t : Progress) (tokens : List Token) (c : Expr) → turned s.frames s.found ≡ Some t → Asks k.Elif c tokens → depth c ≤ room limit t → statement limit s (begin tokens) ≡ opened true t (Some c)
+elif-read : (limit : ℕ) (s t : Progress) (tokens : List Token) (c : Expr) → turned s.frames s.found ≡ Some t → Asks k.Elif c tokens → depth c ≤ room limit t → statement limit s tokens ≡ opened true t (Some c)
 unfolding statement
 elif-read limit s t tokens c h a le =
-    ap (statement_by limit s (begin tokens)) a.0
+    ap (statement_by limit s tokens) a.0
     ∙ ap (option_and_then (λ (t : Progress). opened true t (whole (room limit t) (next (begin tokens))))) h
     ∙ ap (opened true t) (whole_complete a.1 (room limit t) le)
 
-else-read : (limit : ℕ) (s : Progress) (tokens : List Token) → IsAlone k.Else tokens → statement limit s (begin tokens) ≡ turned s.frames s.found
+else-read : (limit : ℕ) (s : Progress) (tokens : List Token) → IsWord k.Else (codes "else") tokens → statement limit s tokens ≡ turned s.frames s.found
 unfolding statement
-else-read limit s tokens a =
-    ap (statement_by limit s (begin tokens)) a.0
-    ∙ ap (λ b. if b then turned s.frames s.found else None) (is-alone tokens a)
+else-read limit s tokens w =
+    ap (statement_by limit s tokens) w.0
+    ∙ ap (λ b. if b then turned s.frames s.found else None) w.1
 
-endif-is : (tokens : List Token) → IsWord (codes "endif") tokens → is_endif (begin tokens) ≡ true
-endif-is tokens w =
-    ap (λ b. b && bytes_eq (text (begin tokens)) (codes "endif")) (is-alone tokens w.0)
-    ∙ ap (λ t. bytes_eq t (codes "endif")) w.1
-
-endif-read : (limit : ℕ) (s : Progress) (tokens : List Token) → IsWord (codes "endif") tokens → statement limit s (begin tokens) ≡ closed s.frames s.found
+endif-read : (limit : ℕ) (s : Progress) (tokens : List Token) → IsWord k.Name (codes "endif") tokens → statement limit s tokens ≡ closed s.frames s.found
 unfolding statement
 endif-read limit s tokens w =
-    ap (statement_by limit s (begin tokens)) w.0.0
-    ∙ ap (λ b. if b then closed s.frames s.found else None) (endif-is tokens w)
+    ap (statement_by limit s tokens) w.0
+    ∙ ap (λ b. if b then closed s.frames s.found else None) w.1
 
 mutual
   reads : {x : Nodes} {i j : List Piece} → DerivesNodes x i j → (limit : ℕ) (fs : List Frame) (found : Nodes) → nodes_depth x ≤ limit - length fs

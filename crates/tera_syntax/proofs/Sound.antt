@@ -1,17 +1,15 @@
 -- What is read is derived.
-use Rattle.std.proofs.Common.{◌≡◌, ℕ, suc, ◌-◌, ◌≤◌, ◌<◌, max, List, [], ◌∷◌, Bool, true, false, ◌&&◌, Option, Some, None, if◌then◌else◌, refl, sym, ◌∙◌, subst, arith, length}
-use Rattle.std.specs.Prelude.{option_and_then, bytes_eq, codes}
-use Rattle.std.proofs.lemmas.Slice.Eq.{bytes_eq-Decides}
+use Rattle.std.proofs.Common.{◌≡◌, ℕ, suc, ◌-◌, ◌≤◌, ◌<◌, max, List, [], ◌∷◌, Bool, true, false, Option, Some, None, if◌then◌else◌, refl, sym, ◌∙◌, subst, arith, length}
+use Rattle.std.specs.Prelude.{option_and_then, codes}
 use Rattle.tera_tokens.specs.declared.token.Kind.{Kind}
 use Rattle.tera_tokens.specs.declared.token.Kind.TheVariants as k
 use Rattle.tera_tokens.specs.Token.{Token}
-use Rattle.tera_tokens.specs.Input.{begin, kind, text, next}
-use Rattle.tera_tokens.specs.Cut.{Piece, Words, Comment, Variable, Block, Broken}
+use Rattle.tera_tokens.specs.Input.{begin, kind, next}
+use Rattle.tera_tokens.specs.Cut.{Piece, Words, Comment, Variable, Block, Broken, is_alone}
 use Rattle.tera_tree.specs.Tree.{Expr, Content, Print, If, Nodes, NoNodes}
 use Rattle.tera_tree.specs.Depth.{depth, nodes_depth}
-use Rattle.tera_syntax.specs.Grammar.{IsAlone, IsWord, Asks, DerivesNodes, empty, content, blank, comment, print, choice, DerivesOther, no_other, otherwise, chained}
-use Rattle.tera_syntax.specs.Reader.{Frame, Progress, join, one, printed, put, room, choice_by, row, opened, turned, turned_by, closed, alone, is_endif, statement, statement_by, run, nodes, whole}
-use Rattle.tera_expressions.proofs.Steps.{same-is}
+use Rattle.tera_syntax.specs.Grammar.{IsWord, Asks, DerivesNodes, empty, content, blank, comment, print, choice, DerivesOther, no_other, otherwise, chained}
+use Rattle.tera_syntax.specs.Reader.{Frame, Progress, join, one, printed, put, room, choice_by, row, opened, turned, turned_by, closed, statement, statement_by, run, nodes, whole}
 use Rattle.tera_syntax.proofs.Rows.{join-none, join-join, deep}
 use Rattle.tera_syntax.proofs.Whole.{whole_sound, whole_room}
 use Rattle.tera_syntax.proofs.Complete.{at, asking, halved}
@@ -23,7 +21,7 @@ mutual
     in_body : {limit : ℕ} {f : Frame} {fs : List Frame} {found y o x : Nodes} {i m l : List Piece} → f.body ≡ None → DerivesNodes y i m → nodes_depth y ≤ limit - suc (length fs)
         → DerivesOther o m l → nodes_depth o ≤ limit - suc (length fs) → Closes limit f.is_chained fs (join f.before (one (If f.condition (join found y) o))) l x → Goes limit (f ∷ fs) found i x
     in_other : {limit : ℕ} {f : Frame} {fs : List Frame} {found body y x : Nodes} {tokens : List Token} {i l : List Piece} → f.body ≡ Some body → DerivesNodes y i (Block tokens ∷ l)
-        → nodes_depth y ≤ limit - suc (length fs) → IsWord (codes "endif") tokens → Closes limit f.is_chained fs (join f.before (one (If f.condition body (join found y)))) l x
+        → nodes_depth y ≤ limit - suc (length fs) → IsWord k.Name (codes "endif") tokens → Closes limit f.is_chained fs (join f.before (one (If f.condition body (join found y)))) l x
         → Goes limit (f ∷ fs) found i x
 
   -- The same behind a choice that was ended; the flag says whether it ends the choice around it too.
@@ -50,19 +48,6 @@ choice-small c b o limit h lt p q r = omega arith
 
 room-below : (limit h : ℕ) → 0 < limit - suc h → suc h < limit
 room-below limit h lt = omega arith
-
--- tags of one word
-both : (a b : Bool) → (a && b) ≡ true → (a ≡ true) × (b ≡ true)
-both true b h = (refl, h)
-both false b h = absurd (cc)
-
-alone-is : (s : Kind) (tokens : List Token) → kind (begin tokens) ≡ s → alone (begin tokens) ≡ true → IsAlone s tokens
-alone-is s tokens e h = (e, same-is k.End (kind (next (begin tokens))) h)
-
-endif-is : (tokens : List Token) → kind (begin tokens) ≡ k.Name → is_endif (begin tokens) ≡ true → IsWord (codes "endif") tokens
-endif-is tokens e h =
-    let b = both (alone (begin tokens)) (bytes_eq (text (begin tokens)) (codes "endif")) h in
-    (alone-is k.Name tokens e b.0, (bytes_eq-Decides (text (begin tokens)) (codes "endif")).0 b.1)
 
 -- what a step that was taken says
 if_then : {A B : Type 0} (b : Bool) (f : A → Option B) (o : Option A) (y : B) → option_and_then f (if b then o else None) ≡ Some y → (b ≡ true) × (option_and_then f o ≡ Some y)
@@ -97,13 +82,13 @@ module _ (limit : ℕ) (tokens : List Token) (i : List Piece) (x : Nodes) where
       (subst (λ r. Closes limit f.is_chained fs (join f.before (one (If f.condition r (one (If c y o))))) l x) (sym (join-none found)) g)
   elif-got f fs found c e a lt le (in_other n d small w r) = absurd (cc)
 
-  else-got : (f : Frame) (fs : List Frame) (found : Nodes) → f.body ≡ None → IsAlone k.Else tokens → Goes limit (half f found ∷ fs) NoNodes i x → Goes limit (f ∷ fs) found (Block tokens ∷ i) x
+  else-got : (f : Frame) (fs : List Frame) (found : Nodes) → f.body ≡ None → IsWord k.Else (codes "else") tokens → Goes limit (half f found ∷ fs) NoNodes i x → Goes limit (f ∷ fs) found (Block tokens ∷ i) x
   else-got f fs found e a (in_body n d small w less r) = absurd (cc)
   else-got f fs found e a (in_other {body = body} {y = y} {l = l} n d small w g) =
       let p : body ≡ join found NoNodes = sym (join-none found ∙ (let q : found ≡ body = cc in q)) in
       in_body e empty (omega arith) (otherwise a d w) small (subst (λ r. Closes limit f.is_chained fs (join f.before (one (If f.condition r y))) l x) p g)
 
-  endif-got : (f : Frame) (fs : List Frame) (found : Nodes) (b : Option Nodes) → f.body ≡ b → IsWord (codes "endif") tokens
+  endif-got : (f : Frame) (fs : List Frame) (found : Nodes) (b : Option Nodes) → f.body ≡ b → IsWord k.Name (codes "endif") tokens
       → Closes limit f.is_chained fs (join f.before (one (choice_by f.condition b found))) i x → Goes limit (f ∷ fs) found (Block tokens ∷ i) x
   endif-got f fs found None e w g =
       in_body e empty (omega arith) (no_other w) (omega arith) (subst (λ r. Closes limit f.is_chained fs (join f.before (one (If f.condition r NoNodes))) i x) (sym (join-none found)) g)
@@ -121,7 +106,7 @@ module _ (limit : ℕ) (tokens : List Token) (i : List Piece) (x : Nodes) where
   closes again (f ∷ fs) true found lt h = around (closes again fs f.is_chained (row f found) (omega arith) h)
 
   if-by : Again → (fs : List Frame) (found : Nodes) → length fs < limit → kind (begin tokens) ≡ k.If
-      → option_and_then (λ t. run limit t i) (statement_by limit (at fs found) (begin tokens) k.If) ≡ Some x → Goes limit fs found (Block tokens ∷ i) x
+      → option_and_then (λ t. run limit t i) (statement_by limit (at fs found) tokens k.If) ≡ Some x → Goes limit fs found (Block tokens ∷ i) x
   if-by again fs found lt e h =
       let p = opened_then false (at fs found) (λ t. run limit t i) (whole (room limit (at fs found)) (next (begin tokens))) x h in
       let w = whole_sound (room limit (at fs found)) (next (begin tokens)) p.0 p.1 in
@@ -139,36 +124,36 @@ module _ (limit : ℕ) (tokens : List Token) (i : List Piece) (x : Nodes) where
       elif-got f fs found p.0 n (e, w.0) lt w.1 (again (asking NoNodes p.0 true ∷ half f found ∷ fs) NoNodes b p.2)
 
   elif-by : Again → (fs : List Frame) (found : Nodes) → length fs < limit → kind (begin tokens) ≡ k.Elif
-      → option_and_then (λ t. run limit t i) (statement_by limit (at fs found) (begin tokens) k.Elif) ≡ Some x → Goes limit fs found (Block tokens ∷ i) x
+      → option_and_then (λ t. run limit t i) (statement_by limit (at fs found) tokens k.Elif) ≡ Some x → Goes limit fs found (Block tokens ∷ i) x
   elif-by again [] found lt e h = absurd (cc)
   elif-by again (f ∷ fs) found lt e h = elif-turned again f fs found f.body refl lt e h
 
-  else-turned : Again → (f : Frame) (fs : List Frame) (found : Nodes) (b : Option Nodes) → f.body ≡ b → suc (length fs) < limit → IsAlone k.Else tokens
+  else-turned : Again → (f : Frame) (fs : List Frame) (found : Nodes) (b : Option Nodes) → f.body ≡ b → suc (length fs) < limit → IsWord k.Else (codes "else") tokens
       → option_and_then (λ t. run limit t i) (turned_by f b fs found) ≡ Some x → Goes limit (f ∷ fs) found (Block tokens ∷ i) x
   else-turned again f fs found (Some body) n lt a h = absurd (cc)
   else-turned again f fs found None n lt a h = else-got f fs found n a (again (half f found ∷ fs) NoNodes lt h)
 
-  else-by : Again → (fs : List Frame) (found : Nodes) → length fs < limit → IsAlone k.Else tokens → option_and_then (λ t. run limit t i) (turned fs found) ≡ Some x → Goes limit fs found (Block tokens ∷ i) x
+  else-by : Again → (fs : List Frame) (found : Nodes) → length fs < limit → IsWord k.Else (codes "else") tokens → option_and_then (λ t. run limit t i) (turned fs found) ≡ Some x → Goes limit fs found (Block tokens ∷ i) x
   else-by again [] found lt a h = absurd (cc)
   else-by again (f ∷ fs) found lt a h = else-turned again f fs found f.body refl lt a h
 
-  endif-by : Again → (fs : List Frame) (found : Nodes) → length fs < limit → IsWord (codes "endif") tokens → option_and_then (λ t. run limit t i) (closed fs found) ≡ Some x → Goes limit fs found (Block tokens ∷ i) x
+  endif-by : Again → (fs : List Frame) (found : Nodes) → length fs < limit → IsWord k.Name (codes "endif") tokens → option_and_then (λ t. run limit t i) (closed fs found) ≡ Some x → Goes limit fs found (Block tokens ∷ i) x
   endif-by again [] found lt w h = absurd (cc)
   endif-by again (f ∷ fs) found lt w h = endif-got f fs found f.body refl w (closes again fs f.is_chained (row f found) (omega arith) h)
 
   block-by : Again → (fs : List Frame) (found : Nodes) → length fs < limit → (s : Kind) → kind (begin tokens) ≡ s
-      → option_and_then (λ t. run limit t i) (statement_by limit (at fs found) (begin tokens) s) ≡ Some x → Goes limit fs found (Block tokens ∷ i) x
+      → option_and_then (λ t. run limit t i) (statement_by limit (at fs found) tokens s) ≡ Some x → Goes limit fs found (Block tokens ∷ i) x
   block-by again fs found lt k.If e h = if-by again fs found lt e h
   block-by again fs found lt k.Elif e h = elif-by again fs found lt e h
   block-by again fs found lt k.Else e h =
-      let g = if_then (alone (begin tokens)) (λ t. run limit t i) (turned fs found) x h in
-      else-by again fs found lt (alone-is k.Else tokens e g.0) g.1
+      let g = if_then (is_alone (codes "else") tokens) (λ t. run limit t i) (turned fs found) x h in
+      else-by again fs found lt (e, g.0) g.1
   block-by again fs found lt k.Name e h =
-      let g = if_then (is_endif (begin tokens)) (λ t. run limit t i) (closed fs found) x h in
-      endif-by again fs found lt (endif-is tokens e g.0) g.1
+      let g = if_then (is_alone (codes "endif") tokens) (λ t. run limit t i) (closed fs found) x h in
+      endif-by again fs found lt (e, g.0) g.1
   block-by again fs found lt _ e h = absurd (cc)
 
-  block : Again → (fs : List Frame) (found : Nodes) → length fs < limit → option_and_then (λ t. run limit t i) (statement limit (at fs found) (begin tokens)) ≡ Some x → Goes limit fs found (Block tokens ∷ i) x
+  block : Again → (fs : List Frame) (found : Nodes) → length fs < limit → option_and_then (λ t. run limit t i) (statement limit (at fs found) tokens) ≡ Some x → Goes limit fs found (Block tokens ∷ i) x
   unfolding statement
   block again fs found lt h = block-by again fs found lt (kind (begin tokens)) refl h
 

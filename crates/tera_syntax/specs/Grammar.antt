@@ -1,26 +1,22 @@
 -- What pieces derive: nodes.
-use Rattle.std.specs.Prelude.{◌≡◌, ◌≢◌, List, [], ◌∷◌, codes}
+use Rattle.std.specs.Prelude.{◌≡◌, ◌≢◌, List, [], ◌∷◌, codes, IsTrue}
 use Rattle.tera_errors.specs.Site as site
 use Rattle.tera_errors.specs.declared.span.Span.{Span}
 use Rattle.tera_tree.specs.Tree.{Expr, Content, Print, If, Nodes, NoNodes, MoreNodes}
 use Rattle.tera_tokens.specs.declared.token.Kind.{Kind}
 use Rattle.tera_tokens.specs.declared.token.Kind.TheVariants as k
 use Rattle.tera_tokens.specs.Token.{Token}
-use Rattle.tera_tokens.specs.Input.{Input, begin, kind, text, next}
-use Rattle.tera_tokens.specs.Cut.{Piece, Words, Comment, Variable, Block}
+use Rattle.tera_tokens.specs.Input.{Input, begin, kind, next}
+use Rattle.tera_tokens.specs.Cut.{Piece, Words, Comment, Variable, Block, is_alone}
 use Rattle.tera_expressions.specs.Grammar.{Derives}
 
 -- The tokens from here to the end of the tag are the expression.
 pub data DerivesWhole : Expr → Input → Type 0 where
   whole : {x : Expr} {i end : Input} → Derives 0 x i end → kind end ≡ k.End → DerivesWhole x i
 
--- the tag is one token, of this kind
-abbrev pub IsAlone : Kind → List Token → Type 0
-IsAlone s tokens = (kind (begin tokens) ≡ s) × (kind (next (begin tokens)) ≡ k.End)
-
--- the tag is this one name
-abbrev pub IsWord : site.Text → List Token → Type 0
-IsWord word tokens = IsAlone k.Name tokens × (text (begin tokens) ≡ word)
+-- the tag is this word alone, which is of this kind
+abbrev pub IsWord : Kind → site.Text → List Token → Type 0
+IsWord s word tokens = (kind (begin tokens) ≡ s) × IsTrue (is_alone word tokens)
 
 -- the tag is a word of this kind, and behind it the condition
 abbrev pub Asks : Kind → Expr → List Token → Type 0
@@ -42,8 +38,8 @@ mutual
 
   -- what follows the body of a choice, up to its `endif`: an `elif` is a choice that stands alone in the other body
   pub data DerivesOther : Nodes → List Piece → List Piece → Type 0 where
-    no_other : {tokens : List Token} {i : List Piece} → IsWord (codes "endif") tokens → DerivesOther NoNodes (Block tokens ∷ i) i
-    otherwise : {tokens last : List Token} {body : Nodes} {i j : List Piece} → IsAlone k.Else tokens → DerivesNodes body i (Block last ∷ j) → IsWord (codes "endif") last
+    no_other : {tokens : List Token} {i : List Piece} → IsWord k.Name (codes "endif") tokens → DerivesOther NoNodes (Block tokens ∷ i) i
+    otherwise : {tokens last : List Token} {body : Nodes} {i j : List Piece} → IsWord k.Else (codes "else") tokens → DerivesNodes body i (Block last ∷ j) → IsWord k.Name (codes "endif") last
         → DerivesOther body (Block tokens ∷ i) j
     chained : {condition : Expr} {tokens : List Token} {body other : Nodes} {i m j : List Piece} → Asks k.Elif condition tokens → DerivesNodes body i m → DerivesOther other m j
         → DerivesOther (MoreNodes (If condition body other) NoNodes) (Block tokens ∷ i) j

@@ -1,12 +1,13 @@
 -- The reader, as a function: it goes over the pieces once, with the statements that are open on a stack.
-use Rattle.std.specs.Prelude.{ℕ, suc, ◌-◌, length, List, [], ◌∷◌, Bool, true, false, ◌&&◌, Option, Some, None, option_and_then, bytes_eq, codes, if◌then◌else◌}
+use Rattle.std.specs.Prelude.{ℕ, suc, ◌-◌, length, List, [], ◌∷◌, Bool, true, false, Option, Some, None, option_and_then, codes, if◌then◌else◌}
 use Rattle.tera_errors.specs.Site.{Text}
 use Rattle.tera_errors.specs.declared.span.Span.{Span}
 use Rattle.tera_tokens.specs.declared.token.Kind.{Kind}
 use Rattle.tera_tokens.specs.declared.token.Kind.TheVariants as k
-use Rattle.tera_tokens.specs.Input.{Input, Outcome, begin, kind, text, next, same}
+use Rattle.tera_tokens.specs.Token.{Token}
+use Rattle.tera_tokens.specs.Input.{Input, Outcome, begin, kind, next, same}
 use Rattle.tera_expressions.specs.Expressions.{Deep, expr}
-use Rattle.tera_tokens.specs.Cut.{Piece, Words, Comment, Variable, Block, Broken}
+use Rattle.tera_tokens.specs.Cut.{Piece, Words, Comment, Variable, Block, Broken, is_alone}
 use Rattle.tera_tree.specs.Tree.{Expr, Content, Print, If, Node, Nodes, NoNodes, MoreNodes}
 
 abbrev pub ended : Outcome Deep → Option Expr
@@ -75,22 +76,16 @@ abbrev pub closed : List Frame → Nodes → Option Progress
 closed [] found = None
 closed (f ∷ fs) found = if f.is_chained then closed fs (row f found) else Some (record { frames = fs; found = row f found })
 
--- nothing follows the first word of a tag
-abbrev pub alone : Input → Bool
-alone i = same k.End (kind (next i))
+abbrev pub statement_by : ℕ → Progress → List Token → Kind → Option Progress
+statement_by limit s tokens k.If = opened false s (whole (room limit s) (next (begin tokens)))
+statement_by limit s tokens k.Elif = option_and_then (λ t. opened true t (whole (room limit t) (next (begin tokens)))) (turned s.frames s.found)
+statement_by limit s tokens k.Else = if is_alone (codes "else") tokens then turned s.frames s.found else None
+statement_by limit s tokens k.Name = if is_alone (codes "endif") tokens then closed s.frames s.found else None
+statement_by limit s tokens _ = None
 
-abbrev pub is_endif : Input → Bool
-is_endif i = alone i && bytes_eq (text i) (codes "endif")
-
-abbrev pub statement_by : ℕ → Progress → Input → Kind → Option Progress
-statement_by limit s i k.If = opened false s (whole (room limit s) (next i))
-statement_by limit s i k.Elif = option_and_then (λ t. opened true t (whole (room limit t) (next i))) (turned s.frames s.found)
-statement_by limit s i k.Else = if alone i then turned s.frames s.found else None
-statement_by limit s i k.Name = if is_endif i then closed s.frames s.found else None
-statement_by limit s i _ = None
-
-unfoldable pub statement : ℕ → Progress → Input → Option Progress
-statement limit s i = statement_by limit s i (kind i)
+-- a statement, or a tag that belongs to one
+unfoldable pub statement : ℕ → Progress → List Token → Option Progress
+statement limit s tokens = statement_by limit s tokens (kind (begin tokens))
 
 abbrev pub printed : Progress → Option Expr → Option Progress
 printed s None = None
@@ -106,7 +101,7 @@ abbrev pub step : ℕ → Progress → Piece → Option Progress
 step limit s (Words words place) = Some (put_words s words place)
 step limit s Comment = Some s
 step limit s (Variable tokens) = printed s (whole (room limit s) (begin tokens))
-step limit s (Block tokens) = statement limit s (begin tokens)
+step limit s (Block tokens) = statement limit s tokens
 step limit s Broken = None
 
 -- at the end nothing is open

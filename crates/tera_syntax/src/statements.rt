@@ -13,7 +13,7 @@ use crate::progress::Progress;
 use std::alloc::Global;
 use tera_errors::Span;
 use tera_expressions::expressions::expr;
-use tera_tokens::cut::Piece;
+use tera_tokens::cut::{Piece, is_alone};
 use tera_tokens::input::{Tokens, same};
 use tera_tokens::refusal::{Reason, Refusal};
 use tera_tokens::token::{Kind, Token};
@@ -45,46 +45,29 @@ fn opened(
     progress.open(alloc, is_chained, condition)
 }
 
-/// Nothing follows the first word of the tag.
-fn is_alone(tokens: &Tokens<'_>) -> bool
-    ensures { result ≡ spec.alone (input tokens.now) }
-{
-    let mut behind = Tokens {
-        ahead: tokens.ahead,
-        last: tokens.last,
-    };
-    behind.take();
-    same(Kind::End, behind.kind())
-}
-
-fn is_endif(tokens: &Tokens<'_>) -> bool
-    ensures { result ≡ spec.is_endif (input tokens.now) }
-{
-    is_alone(tokens) && tokens.text() == "endif"
-}
-
 /// A statement, or a tag that belongs to one.
 #[tactic(auto, unfolding(crate::specs::Reader::statement))]
 fn statement(
     progress: Progress,
     alloc: Global,
-    tokens: &mut Tokens<'_>,
+    tokens: &[Token<'_>],
 ) -> Result<Progress, Refusal>
-    ensures { Answers progress_of (spec.statement 200 (progress_of progress) (input tokens.old)) result }
+    ensures { Answers progress_of (spec.statement 200 (progress_of progress) (tokens_of tokens.now)) result }
 {
-    match tokens.kind() {
+    let mut ahead = Tokens::begin(tokens);
+    match ahead.kind() {
         Kind::If => {
-            tokens.take();
-            opened(progress, alloc, tokens, false)
+            ahead.take();
+            opened(progress, alloc, &mut ahead, false)
         }
         Kind::Elif => {
-            let progress = progress.turn(alloc, tokens)?;
-            tokens.take();
-            opened(progress, alloc, tokens, true)
+            let progress = progress.turn(alloc, &ahead)?;
+            ahead.take();
+            opened(progress, alloc, &mut ahead, true)
         }
-        Kind::Else if is_alone(tokens) => progress.turn(alloc, tokens),
-        Kind::Name if is_endif(tokens) => progress.close(alloc, tokens),
-        _ => Err(tokens.refuse(Reason::NoStatement)),
+        Kind::Else if is_alone("else", tokens) => progress.turn(alloc, &ahead),
+        Kind::Name if is_alone("endif", tokens) => progress.close(alloc, &ahead),
+        _ => Err(ahead.refuse(Reason::NoStatement)),
     }
 }
 
@@ -110,9 +93,6 @@ pub(crate) fn step(progress: Progress, alloc: Global, piece: Piece<'_>) -> Resul
             let value = whole(alloc, &mut tokens, progress.room())?;
             progress.put(Node::Print { value })
         }
-        Piece::Block(tokens) => {
-            let mut tokens = Tokens::begin(tokens.as_slice());
-            statement(progress, alloc, &mut tokens)
-        }
+        Piece::Block(tokens) => statement(progress, alloc, tokens.as_slice()),
     }
 }

@@ -206,7 +206,7 @@ fn comment<'a>(end: &str, text: &'a str, at: usize) -> Result<Found<'a>, Refusal
 }
 
 /// Whether the tokens are this word alone.
-fn is_alone(word: &str, tokens: &[Token<'_>]) -> bool
+pub fn is_alone(word: &str, tokens: &[Token<'_>]) -> bool
     ensures { result ≡ spec.is_alone word.now (tokens_of tokens.now) }
 {
     match tokens {

@@ -1,3 +1,8 @@
+use Rattle.std.proofs.Common.{◌≡◌, ◌∙◌, ◌∷◌, ◌++◌, length, ap, ap₂, sym}
+use Rattle.tera_tree.specs.View.{expr_of}
+use Rattle.tera_code.specs.declared.instruction.Instruction.TheVariants as instruction
+use Rattle.tera_code.specs.Code.{expr_code, choice_code, lengthened}
+use Rattle.tera_code.proofs.Filled.{jump_written, choice_written}
 use Rattle.tera_code.proofs.Written.{array_written, map_written}
 use Rattle.tera_code.proofs.compiler.Compiler.+expressions.Goals as goal
 
@@ -8,3 +13,24 @@ collection-returns-in_ok-items-in-Array-clause-ok t c =
 pub collection-returns-in_ok-entries-in-Map-clause-ok : goal.collection-returns-in_ok-entries-in-Map-clause-ok
 collection-returns-in_ok-entries-in-Map-clause-ok t c =
     map_written _ _ _ _ c.in-Map.entries c.in-Map.span _ _ _ c.in-Map.is c.as_slice-in-Map.ensures.value c.as_slice-in-Map-2.ensures.value c.in_ok-entries-in-Map.ensures.ok c.make_map.ensures.ok
+
+pub branch-returns-in_ok-expression-in-And-2-clause-ok : goal.branch-returns-in_ok-expression-in-And-2-clause-ok
+branch-returns-in_ok-expression-in-And-2-clause-ok t c =
+    jump_written _ _ _ _ _ _ _ _ _ (λ count. instruction.JumpIfFalseOrPop count) c.in_ok-expression-in-And.ensures.ok c.in_ok-place-in-And.ensures.place c.in_ok-place-in-And.ensures.ok c.in_ok-expression-in-And-2.ensures.ok c.behind.ensures c.fill.ensures
+    ∙ ap₂ (λ x y. lengthened c.args.self.now (expr_code (expr_of x) ++ instruction.JumpIfFalseOrPop (length (expr_code (expr_of y))) ∷ expr_code (expr_of y))) c.deref.ensures c.deref-in-And.ensures
+    ∙ ap (λ e. lengthened c.args.self.now (expr_code (expr_of e))) (sym c.in-And.is)
+
+pub branch-returns-in_ok-expression-in-Or-2-clause-ok : goal.branch-returns-in_ok-expression-in-Or-2-clause-ok
+branch-returns-in_ok-expression-in-Or-2-clause-ok t c =
+    jump_written _ _ _ _ _ _ _ _ _ (λ count. instruction.JumpIfTrueOrPop count) c.in_ok-expression-in-Or.ensures.ok c.in_ok-place-in-Or.ensures.place c.in_ok-place-in-Or.ensures.ok c.in_ok-expression-in-Or-2.ensures.ok c.behind-in-Or.ensures c.fill-in-Or.ensures
+    ∙ ap₂ (λ x y. lengthened c.args.self.now (expr_code (expr_of x) ++ instruction.JumpIfTrueOrPop (length (expr_code (expr_of y))) ∷ expr_code (expr_of y))) c.deref-in-Or.ensures c.deref-in-Or-2.ensures
+    ∙ ap (λ e. lengthened c.args.self.now (expr_code (expr_of e))) (sym c.in-Or.is)
+
+pub branch-returns-in_ok-expression-in-Ternary-3-clause-ok : goal.branch-returns-in_ok-expression-in-Ternary-3-clause-ok
+branch-returns-in_ok-expression-in-Ternary-3-clause-ok t c =
+    choice_written _ _ _ _ _ _ _ _ _ _ _ _ _ c.in_ok-expression-in-Ternary.ensures.ok c.in_ok-place-in-Ternary.ensures.place c.in_ok-place-in-Ternary.ensures.ok
+    c.in_ok-expression-in-Ternary-2.ensures.ok c.in_ok-place-in-Ternary-2.ensures.place c.in_ok-place-in-Ternary-2.ensures.ok c.in_ok-expression-in-Ternary-3.ensures.ok c.behind-in-Ternary.ensures
+    c.fill-in-Ternary.ensures
+    ∙ ap (λ x. lengthened c.args.self.now (choice_code (expr_code (expr_of x)) (expr_code (expr_of c.deref-in-Ternary-2.result.now)) (expr_code (expr_of c.deref-in-Ternary-3.result.now)))) c.deref-in-Ternary.ensures
+    ∙ ap₂ (λ x y. lengthened c.args.self.now (choice_code (expr_code (expr_of c.in-Ternary.condition.value)) (expr_code (expr_of x)) (expr_code (expr_of y)))) c.deref-in-Ternary-2.ensures c.deref-in-Ternary-3.ensures
+    ∙ ap (λ e. lengthened c.args.self.now (expr_code (expr_of e))) (sym c.in-Ternary.is)

@@ -1,3 +1,4 @@
+pub mod Constant
 pub mod Listing
 pub mod Code
 pub mod Group

@@ -5,11 +5,11 @@ ghost use Rattle.tera_code.specs.declared.instruction.Instruction.TheVariants as
 ghost use Rattle.tera_code.specs.Code.{lengthened, filled, behind};
 
 use crate::chunk::Chunk;
-use crate::content::Constant;
+use crate::constant::Constant;
 use crate::instruction::Instruction;
 use std::alloc::Global;
 use std::marker::Model;
-use tera_values::{Name, Span, TeraResult, Value};
+use tera_values::{Name, Span, TeraResult};
 
 /// Writes the instructions of one body. A contract sees those that are written so far.
 #[derive(Drop)]
@@ -96,11 +96,10 @@ impl Compiler {
         self.code[place] = jump;
     }
 
-    pub(crate) fn constant(&mut self, value: Value, span: Span) -> TeraResult<()>
-        ensures ok { OnOk result (self.new ≡ lengthened self.old (instruction.LoadConst value span ∷ [])) }
+    pub(crate) fn constant(&mut self, constant: Constant, span: Span) -> TeraResult<()>
+        ensures ok { OnOk result (self.new ≡ lengthened self.old (instruction.LoadConst constant span ∷ [])) }
         ensures lacks { IfErr result Lacks }
     {
-        let constant = Constant::new(self.alloc, value.shared(self.alloc)?)?;
         self.emit(Instruction::LoadConst(constant, span))
     }
 

@@ -1,11 +1,8 @@
-// What instructions hold, as contracts see it.
-ghost use Rattle.std.specs.Prelude.{◌≡◌, Ok, length, string_bytes};
-ghost use Rattle.tera_errors.specs.Answer.{Gives};
+// Lists that instructions hold, and pieces of text.
+ghost use Rattle.std.specs.Prelude.{◌≡◌, length, string_bytes};
 
-use std::alloc::Global;
 use std::marker::Model;
 use tera_tree::LiteralKey;
-use tera_values::{TeraResult, Value};
 
 /// A piece of a template's text. A contract sees its bytes.
 #[derive(Drop)]
@@ -35,42 +32,6 @@ impl Content {
         ensures { result.now ≡ self.now }
     {
         self.text.as_str()
-    }
-}
-
-/// A value that is written out, in a box, since values are larger than all else that instructions hold. A contract sees
-/// the value.
-#[derive(Drop)]
-pub struct Constant {
-    value: Box<Value>,
-}
-
-impl Model for Constant {
-    ghost use Rattle.tera_values.specs.Val.{Val};
-    ghost use Rattle.tera_values.specs.Code.{val_code};
-
-    ghost Value = { Val };
-
-    ghost coded = { val_code };
-
-    ghost view = { λ c. c.value.value };
-}
-
-impl Constant {
-    /// The value, which is moved and not copied.
-    pub fn new(alloc: Global, value: Value) -> TeraResult<Constant>
-        ensures { Gives (λ c. c) result (Ok value) }
-    {
-        Ok(Constant {
-            value: Box::new(alloc, value)?,
-        })
-    }
-
-    /// The value.
-    pub fn value(&self) -> &Value
-        ensures { result.now ≡ self.now }
-    {
-        &self.value
     }
 }
 

@@ -6,11 +6,12 @@ ghost use Rattle.tera_code.specs.Group.{group, Access, Operation, Branch, Collec
 ghost use Rattle.tera_tree.specs.View.{expr_of, optional_of, items_of, entries_of};
 
 use crate::compiler::Compiler;
+use crate::constant::Constant;
 use crate::content::{Keys, Spreads};
 use crate::instruction::Instruction;
 use std::alloc::Global;
 use tera_tree::{Entry, Expression, Item, LiteralKey};
-use tera_values::{Span, TeraResult, Value};
+use tera_values::{Span, TeraResult};
 
 impl Compiler {
     #[cycle(expressions)]
@@ -19,9 +20,9 @@ impl Compiler {
         ensures lacks { IfErr result Lacks }
     {
         match expression {
-            Expression::None { span } => self.constant(Value::none(), *span),
-            Expression::Bool { value, span } => self.constant(Value::from_bool(*value), *span),
-            Expression::Int { value, span } => self.constant(Value::from_int(*value), *span),
+            Expression::None { span } => self.constant(Constant::none(), *span),
+            Expression::Bool { value, span } => self.constant(Constant::from_bool(*value), *span),
+            Expression::Int { value, span } => self.constant(Constant::from_int(*value), *span),
             Expression::Text { text, span } => self.text(text, *span),
             Expression::Name { name, span } => self.load(name, *span),
             Expression::Attribute { .. } | Expression::Index { .. } | Expression::Slice { .. } => {
@@ -184,7 +185,7 @@ impl Compiler {
         ensures lacks { IfErr result Lacks }
     {
         match bound {
-            None => self.constant(Value::none(), Span { start: 0, end: 0 }),
+            None => self.constant(Constant::none(), Span { start: 0, end: 0 }),
             Some(expression) => self.expression(expression),
         }
     }

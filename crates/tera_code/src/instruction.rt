@@ -1,5 +1,6 @@
 // What the machine can be told.
-use crate::content::{Constant, Content, Keys, Spreads};
+use crate::constant::Constant;
+use crate::content::{Content, Keys, Spreads};
 use tera_tree::BinaryOperator;
 use tera_values::{Name, Span};
 

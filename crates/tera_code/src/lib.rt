@@ -3,6 +3,7 @@
 
 pub mod chunk;
 pub mod compiler;
+pub mod constant;
 pub mod content;
 mod expressions;
 pub mod instruction;
@@ -12,6 +13,7 @@ pub mod steps;
 
 pub use chunk::Chunk;
 pub use compiler::Compiler;
-pub use content::{Constant, Content, Keys, Spreads};
+pub use constant::Constant;
+pub use content::{Content, Keys, Spreads};
 pub use instruction::Instruction;
 pub use steps::Steps;

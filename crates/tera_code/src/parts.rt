@@ -8,19 +8,20 @@ ghost use Rattle.tera_tree.specs.View.{keys_of};
 ghost use Rattle.tera_tree.specs.View.{items_of, entries_of, key_option, key_of};
 
 use crate::compiler::Compiler;
+use crate::constant::Constant;
 use crate::content::{Keys, Spreads};
 use crate::instruction::Instruction;
 use std::alloc::Global;
 use tera_tree::{Entry, Item, LiteralKey};
-use tera_values::{Span, TeraResult, Value};
+use tera_values::{Span, TeraResult};
 
 impl Compiler {
     pub(crate) fn text(&mut self, text: &String, span: Span) -> TeraResult<()>
         ensures ok { OnOk result (self.new ≡ lengthened self.old (instruction.LoadConst (val.text (string_bytes text.now) false) span ∷ [])) }
         ensures lacks { IfErr result Lacks }
     {
-        let value = Value::string(self.alloc(), text.as_str())?;
-        self.constant(value, span)
+        let constant = Constant::text(self.alloc(), text.as_str())?;
+        self.constant(constant, span)
     }
 
     pub(crate) fn load(&mut self, name: &String, span: Span) -> TeraResult<()>

@@ -27,16 +27,9 @@ impl<F: Fn(Global, &mut Tokens<'_>, usize, u8) -> Result<Deep, Refusal>> Reader<
     {
         tokens.take();
         if !is_word(tokens.kind()) {
-            drop(x);
             return Err(tokens.refuse(Reason::Expected(Kind::Name)));
         }
-        let name = match String::from_str(self.alloc, tokens.text()) {
-            Ok(name) => name,
-            Err(refused) => {
-                drop(x);
-                return Err(refused.into());
-            }
-        };
+        let name = String::from_str(self.alloc, tokens.text())?;
         tokens.take();
         let span = tokens.span(start);
         let expression = Expression::attribute(self.alloc, x.expression, name, optional, span)?;
@@ -56,13 +49,7 @@ impl<F: Fn(Global, &mut Tokens<'_>, usize, u8) -> Result<Deep, Refusal>> Reader<
         ensures { Takes deep_of (spec.subscript self.now.limit (spec.expr self.now.below) optional start (deep_of x) (input tokens.old)) result tokens.new }
     {
         tokens.take();
-        let p = match self.part(tokens) {
-            Ok(p) => p,
-            Err(refusal) => {
-                drop(x);
-                return Err(refusal);
-            }
-        };
+        let p = self.part(tokens)?;
         if same(Kind::RightBracket, tokens.kind()) {
             self.index_at(tokens, optional, start, x, p.expression, p.depth)
         } else {
@@ -125,10 +112,7 @@ impl<F: Fn(Global, &mut Tokens<'_>, usize, u8) -> Result<Deep, Refusal>> Reader<
         ensures { Takes deep_of (spec.index_at self.now.limit (spec.expr self.now.below) optional start (deep_of x) (option_of y) depth (input tokens.old)) result tokens.new }
     {
         match y {
-            None => {
-                drop(x);
-                Err(tokens.refuse(Reason::NoExpression))
-            }
+            None => Err(tokens.refuse(Reason::NoExpression)),
             Some(index) => {
                 tokens.take();
                 let depth = larger(x.depth, depth);
@@ -158,28 +142,9 @@ impl<F: Fn(Global, &mut Tokens<'_>, usize, u8) -> Result<Deep, Refusal>> Reader<
         requires { Nests self.now.below (F.pre self.now.expr) (F.post self.now.expr) }
         ensures { Takes deep_of (spec.slice self.now.limit (spec.expr self.now.below) optional start (deep_of x) (part_of p) (input tokens.old)) result tokens.new }
     {
-        if let Err(refusal) = tokens.expect(Kind::Colon) {
-            drop(x);
-            drop(p);
-            return Err(refusal);
-        }
-        let q = match self.part(tokens) {
-            Ok(q) => q,
-            Err(refusal) => {
-                drop(x);
-                drop(p);
-                return Err(refusal);
-            }
-        };
-        let r = match self.step(tokens) {
-            Ok(r) => r,
-            Err(refusal) => {
-                drop(x);
-                drop(p);
-                drop(q);
-                return Err(refusal);
-            }
-        };
+        tokens.expect(Kind::Colon)?;
+        let q = self.part(tokens)?;
+        let r = self.step(tokens)?;
         let depth = larger(p.depth, larger(q.depth, r.depth));
         let bounds = Bounds {
             start: p.expression,
@@ -202,11 +167,7 @@ impl<F: Fn(Global, &mut Tokens<'_>, usize, u8) -> Result<Deep, Refusal>> Reader<
     ) -> Result<Deep, Refusal>
         ensures { (p q r : ℕ) → depth ≡ max p (max q r) → Takes deep_of (spec.slice_made self.now.limit (spec.expr self.now.below) optional start (deep_of x) (option_of bounds.start, p) (option_of bounds.end, q) (option_of bounds.step, r) (input tokens.old)) result tokens.new }
     {
-        if let Err(refusal) = tokens.expect(Kind::RightBracket) {
-            drop(x);
-            drop(bounds);
-            return Err(refusal);
-        }
+        tokens.expect(Kind::RightBracket)?;
         let depth = larger(x.depth, depth);
         let span = tokens.span(start);
         let expression = Expression::slice(self.alloc, x.expression, bounds, optional, span)?;

@@ -65,14 +65,10 @@ impl<F: Fn(Global, &mut Tokens<'_>, usize, u8) -> Result<Deep, Refusal>> Reader<
                         start = start_at(run, opens);
                         have = 11;
                     }
-                    Err(refusal) => {
-                        drop(x);
-                        return Err(refusal);
-                    }
+                    Err(refusal) => return Err(refusal),
                 }
             }
         }
-        drop(x);
         Err(tokens.refuse(Reason::NoOperation))
     }
 
@@ -113,10 +109,7 @@ impl<F: Fn(Global, &mut Tokens<'_>, usize, u8) -> Result<Deep, Refusal>> Reader<
             Kind::FloorSlash => { self.binary(tokens, 8, BinaryOperator::FloorDivide, start, x) }
             Kind::Percent => { self.binary(tokens, 8, BinaryOperator::Remainder, start, x) }
             Kind::Power => self.binary(tokens, 8, BinaryOperator::Power, start, x),
-            _ => {
-                drop(x);
-                Err(tokens.refuse(Reason::NoOperation))
-            }
+            _ => Err(tokens.refuse(Reason::NoOperation)),
         }
     }
 }

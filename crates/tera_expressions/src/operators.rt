@@ -66,13 +66,7 @@ impl<F: Fn(Global, &mut Tokens<'_>, usize, u8) -> Result<Deep, Refusal>> Reader<
         ensures { Takes deep_of (spec.infixed self.now.limit (spec.expr self.now.below) level (infix_of op) start (deep_of x) (input tokens.old)) result tokens.new }
     {
         tokens.take();
-        let y = match self.sub(tokens, level) {
-            Ok(y) => y,
-            Err(refusal) => {
-                drop(x);
-                return Err(refusal);
-            }
-        };
+        let y = self.sub(tokens, level)?;
         let depth = larger(x.depth, y.depth);
         let span = tokens.span(start);
         let expression = make_infix(self.alloc, op, x.expression, y.expression, span)?;
@@ -108,7 +102,6 @@ impl<F: Fn(Global, &mut Tokens<'_>, usize, u8) -> Result<Deep, Refusal>> Reader<
     {
         tokens.take();
         if !same(Kind::In, tokens.kind()) {
-            drop(x);
             return Err(tokens.refuse(Reason::Expected(Kind::In)));
         }
         let y = self.binary(tokens, 5, BinaryOperator::In, start, x)?;
@@ -128,21 +121,9 @@ impl<F: Fn(Global, &mut Tokens<'_>, usize, u8) -> Result<Deep, Refusal>> Reader<
         ensures { Takes deep_of (spec.choice self.now.limit (spec.expr self.now.below) start (deep_of x) (input tokens.old)) result tokens.new }
     {
         tokens.take();
-        let y = match self.sub(tokens, 1) {
-            Ok(y) => y,
-            Err(refusal) => {
-                drop(x);
-                return Err(refusal);
-            }
-        };
-        match tokens.expect(Kind::Else) {
-            Ok(()) => self.other(tokens, start, x, y),
-            Err(refusal) => {
-                drop(x);
-                drop(y);
-                Err(refusal)
-            }
-        }
+        let y = self.sub(tokens, 1)?;
+        tokens.expect(Kind::Else)?;
+        self.other(tokens, start, x, y)
     }
 
     /// What stands behind `else`.
@@ -157,14 +138,7 @@ impl<F: Fn(Global, &mut Tokens<'_>, usize, u8) -> Result<Deep, Refusal>> Reader<
         requires { Nests self.now.below (F.pre self.now.expr) (F.post self.now.expr) }
         ensures { Takes deep_of (spec.other self.now.limit (spec.expr self.now.below) start (deep_of x) (deep_of y) (input tokens.old)) result tokens.new }
     {
-        let z = match self.sub(tokens, 0) {
-            Ok(z) => z,
-            Err(refusal) => {
-                drop(x);
-                drop(y);
-                return Err(refusal);
-            }
-        };
+        let z = self.sub(tokens, 0)?;
         let depth = larger(x.depth, larger(y.depth, z.depth));
         let span = tokens.span(start);
         let expression = Expression::ternary(

@@ -1,5 +1,4 @@
-// What every form is read with. A tree that is not used is let go by a call of `drop`: let go in place, it costs each
-// function a proof over every form.
+// What every form is read with.
 ghost use Rattle.std.specs.Prelude.{◌≡◌, max};
 ghost use Rattle.tera_tree.specs.View.{expr_of};
 ghost use Rattle.tera_tokens.specs.Takes.{Takes, input};
@@ -51,7 +50,6 @@ impl<F: Fn(Global, &mut Tokens<'_>, usize, u8) -> Result<Deep, Refusal>> Reader<
         ensures { Takes deep_of (spec.node self.now.limit depth (expr_of expression) (input tokens.old)) result tokens.new }
     {
         if depth >= self.limit {
-            drop(expression);
             return Err(tokens.refuse(Reason::TooDeep));
         }
         Ok(Deep {

@@ -33,7 +33,7 @@ impl VirtualMachine {
             Instruction::WriteText(text) => write_text(configuration, text),
             Instruction::WriteTop => self.write_top(file, configuration),
             Instruction::LoadConst(constant, span) => {
-                push(configuration, constant.value().try_clone()?, *span)
+                push(configuration, constant.load()?, *span)
             }
             Instruction::LoadName(name, span) => load_name(configuration, name, *span),
             Instruction::LoadAttribute {

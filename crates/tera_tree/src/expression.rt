@@ -31,7 +31,6 @@ pub enum LiteralKey {
 }
 
 /// An expression. Its span runs from the first token's start to the last one's end; parentheses around it are no part of it.
-#[derive(Drop)]
 #[cycle(expression)]
 pub enum Expression {
     None {
@@ -116,6 +115,75 @@ pub enum Expression {
         entries: Vec<Entry>,
         span: Span,
     },
+}
+
+// By hand, so that a tree that goes out of scope is one call and not a match on every form.
+impl Drop for Expression {
+    #[cycle(dropping)]
+    fn drop(self) {
+        match self {
+            Expression::None { span: _ } => {}
+            Expression::Bool { value: _, span: _ } => {}
+            Expression::Int { value: _, span: _ } => {}
+            Expression::Text { text: _, span: _ } => {}
+            Expression::Name { name: _, span: _ } => {}
+            Expression::Attribute {
+                target: _,
+                name: _,
+                optional: _,
+                span: _,
+            } => {}
+            Expression::Index {
+                target: _,
+                index: _,
+                optional: _,
+                span: _,
+            } => {}
+            Expression::Slice {
+                target: _,
+                start: _,
+                end: _,
+                step: _,
+                optional: _,
+                span: _,
+            } => {}
+            Expression::Not {
+                operand: _,
+                span: _,
+            } => {}
+            Expression::Negate {
+                operand: _,
+                span: _,
+            } => {}
+            Expression::Binary {
+                operator: _,
+                left: _,
+                right: _,
+                span: _,
+            } => {}
+            Expression::And {
+                left: _,
+                right: _,
+                span: _,
+            } => {}
+            Expression::Or {
+                left: _,
+                right: _,
+                span: _,
+            } => {}
+            Expression::Ternary {
+                value: _,
+                condition: _,
+                other: _,
+                span: _,
+            } => {}
+            Expression::Array { items: _, span: _ } => {}
+            Expression::Map {
+                entries: _,
+                span: _,
+            } => {}
+        }
+    }
 }
 
 /// An item of an array, or an array whose items are spread into it.

@@ -1,7 +1,6 @@
 -- Forms whose parts stand in a Vec.
 use Rattle.std.proofs.Common.{◌≡◌, suc, length, List, [], ◌∷◌, ◌++◌, Vec, Global, Result, Ok, Err, OnOk, Option, refl, sym, ap, ap₂, ◌∙◌, append_assoc}
 use Rattle.tera_errors.specs.declared.span.Span.{Span}
-use Rattle.tera_errors.specs.Site.{Name}
 use Rattle.tera_errors.specs.Fault.{Fault}
 use Rattle.tera_errors.specs.Answer.{Refusal}
 use Rattle.tera_tree.specs.declared.expression.Item.{Item}
@@ -17,7 +16,7 @@ use Rattle.tera_tree.proofs.Views.{view_array, view_map, view_if}
 use Rattle.tera_code.specs.declared.instruction.Instruction.TheVariants as instruction
 use Rattle.tera_code.specs.Listing.{Listing}
 use Rattle.tera_tree.specs.View.{keys_of}
-use Rattle.tera_code.specs.Code.{Code, expr_code, items_code, entries_code, node_code, nodes_code, choice_code, spreads_of, keys_in, lengthened}
+use Rattle.tera_code.specs.Code.{expr_code, items_code, entries_code, node_code, nodes_code, choice_code, spreads_of, keys_in, lengthened}
 use Rattle.tera_code.proofs.Lengthened.{lengthened-lengthened}
 
 pub length_keys : (ks : List (Option LiteralKey)) → length (keys_of ks) ≡ length ks

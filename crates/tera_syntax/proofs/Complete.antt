@@ -1,7 +1,6 @@
 -- What is derived is read.
 use Rattle.std.proofs.Common.{◌≡◌, ℕ, suc, ◌-◌, ◌≤◌, max, List, [], ◌∷◌, Bool, true, false, Some, None, if◌then◌else◌, refl, ap, sym, ◌∙◌, arith, length}
 use Rattle.std.specs.Prelude.{option_and_then, codes}
-use Rattle.tera_tokens.specs.declared.token.Kind.{Kind}
 use Rattle.tera_tokens.specs.declared.token.Kind.TheVariants as k
 use Rattle.tera_tokens.specs.Token.{Token}
 use Rattle.tera_tokens.specs.Input.{begin, next}

@@ -47,11 +47,7 @@ fn opened(
 
 /// A statement, or a tag that belongs to one.
 #[tactic(auto, unfolding(crate::specs::Reader::statement))]
-fn statement(
-    progress: Progress,
-    alloc: Global,
-    tokens: &[Token<'_>],
-) -> Result<Progress, Refusal>
+fn statement(progress: Progress, alloc: Global, tokens: &[Token<'_>]) -> Result<Progress, Refusal>
     ensures { Answers progress_of (spec.statement 200 (progress_of progress) (tokens_of tokens.now)) result }
 {
     let mut ahead = Tokens::begin(tokens);

@@ -16,7 +16,7 @@ pub enum Want {
 pub struct Case(pub &'static str, pub Want);
 
 /// A context with a text, `text`, the same marked safe, `safe`, and `name`, which is `world`.
-fn variables(alloc: Global) -> TeraResult<Context> {
+pub fn variables(alloc: Global) -> TeraResult<Context> {
     let mut context = Context::new(alloc);
     context.insert("text", Value::string(alloc, "<b>")?)?;
     context.insert("safe", Value::safe_string(alloc, "<b>")?)?;
@@ -47,8 +47,8 @@ fn is_wanted(answer: TeraResult<String>, want: Want, size: usize) -> bool {
     }
 }
 
-fn agrees(engine: &Tera, context: &Context, autoescape: bool, case: Case) -> bool {
-    let Case(input, want) = case;
+/// Whether the text renders to what is wanted.
+pub fn agrees(engine: &Tera, context: &Context, autoescape: bool, input: &str, want: Want) -> bool {
     is_wanted(
         engine.render_str(input, context, autoescape),
         want,
@@ -62,9 +62,7 @@ fn first_wrong(
     autoescape: bool,
     cases: &[Case],
 ) -> Option<usize> {
-    cases
-        .iter()
-        .position(|case| !agrees(engine, context, autoescape, *case))
+    cases.iter().position(|case| !agrees(engine, context, autoescape, case.0, case.1))
 }
 
 /// The first text that doesn't render to what is wanted. With no engine to render with, that is the first.

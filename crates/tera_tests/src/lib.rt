@@ -4,6 +4,8 @@
 #[cfg(test)]
 mod cases;
 #[cfg(test)]
+mod depths;
+#[cfg(test)]
 mod errors;
 #[cfg(test)]
 mod expressions;

@@ -1,4 +1,4 @@
-use Rattle.std.proofs.Common.{◌≡◌, ◌∙◌, ◌∷◌, ◌++◌, length, ap, ap₂, sym}
+use Rattle.std.proofs.Common.{◌∙◌, ◌∷◌, ◌++◌, length, ap, ap₂, sym}
 use Rattle.tera_tree.specs.View.{expr_of}
 use Rattle.tera_code.specs.declared.instruction.Instruction.TheVariants as instruction
 use Rattle.tera_code.specs.Code.{expr_code, choice_code, lengthened}

@@ -5,7 +5,8 @@ use Rattle.std.proofs.Math.Seq.{set-append_seam}
 use Rattle.tera_code.specs.declared.instruction.Instruction.{Instruction}
 use Rattle.tera_code.specs.declared.instruction.Instruction.TheVariants as instruction
 use Rattle.tera_code.specs.Listing.{Listing}
-use Rattle.tera_code.specs.Code.{Code, lengthened, filled, behind, turned, choice_tail}
+use Rattle.tera_code.specs.Code.{Code, lengthened, choice_tail}
+use Rattle.tera_code.specs.Places.{filled, behind, turned}
 use Rattle.tera_code.proofs.Lengthened.{lengthened-lengthened}
 
 -- what stands at a place that is kept

@@ -1,5 +1,5 @@
 -- The instructions of a tree.
-use Rattle.std.specs.Prelude.{Bool, false, ℕ, suc, ◌+◌, ◌-◌, set, List, [], ◌∷◌, ◌++◌, length, Option}
+use Rattle.std.specs.Prelude.{Bool, false, ◌+◌, List, [], ◌∷◌, ◌++◌, length, Option}
 use Rattle.tera_errors.specs.Site as site
 use Rattle.tera_values.specs.Val as val
 use Rattle.tera_tree.specs.Tree.{Key, Expr, Nothing, Boolean, Integer, Text, Name, Attribute, Index, Slice, Not, Negate, Binary, And, Or, Ternary, Array, Map, Optional, Absent, Present, Items, NoItems, MoreItems, Entries, NoEntries, MoreEntries, Node, Content, Print, If, Nodes, NoNodes, MoreNodes}
@@ -83,17 +83,3 @@ listing_of file nodes = record { file = file; code = nodes_code nodes }
 -- with further instructions behind
 abbrev pub lengthened : Listing → Code → Listing
 lengthened l code = record l { code = l.code ++ code }
-
--- with a jump at the place that was kept for it
-abbrev pub filled : ℕ → Instruction → Listing → Listing
-filled place jump l = record l { code = set l.code place jump }
-
--- how many instructions stand behind a place
-abbrev pub behind : ℕ → Listing → ℕ
-behind place l = length l.code - suc place
-
--- a place is kept behind the first of two parts, and the place before that part jumps behind both
-abbrev pub turned : ℕ → Listing → Listing
-turned place l =
-    let next = lengthened l (instruction.Jump 0 ∷ []) in
-    filled place (instruction.PopJumpIfFalse (behind place next)) next

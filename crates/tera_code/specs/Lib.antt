@@ -1,4 +1,5 @@
 pub mod Constant
 pub mod Listing
 pub mod Code
+pub mod Places
 pub mod Group

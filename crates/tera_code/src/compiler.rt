@@ -2,7 +2,8 @@
 ghost use Rattle.std.specs.Prelude.{◌≡◌, ◌<◌, [], ◌∷◌, Ok, OnOk, IfOk, IfErr, length, string_bytes};
 ghost use Rattle.tera_errors.specs.Answer.{Gives, Lacks};
 ghost use Rattle.tera_code.specs.declared.instruction.Instruction.TheVariants as instruction;
-ghost use Rattle.tera_code.specs.Code.{lengthened, filled, behind};
+ghost use Rattle.tera_code.specs.Code.{lengthened};
+ghost use Rattle.tera_code.specs.Places.{filled, behind};
 
 use crate::chunk::Chunk;
 use crate::constant::Constant;

@@ -36,12 +36,14 @@ impl Model for Constant {
 }
 
 impl Constant {
+    /// `none`.
     pub fn none() -> Constant
         ensures { result ≡ val.none }
     {
         Constant { kept: Kept::None }
     }
 
+    /// `true` or `false`.
     pub fn from_bool(flag: bool) -> Constant
         ensures { result ≡ val.bool flag }
     {
@@ -50,6 +52,7 @@ impl Constant {
         }
     }
 
+    /// An integer.
     pub fn from_int(number: i128) -> Constant
         ensures { result ≡ val.int number }
     {

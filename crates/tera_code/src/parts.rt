@@ -3,7 +3,8 @@ ghost use Rattle.std.specs.Prelude.{◌≡◌, ◌<◌, [], ◌∷◌, ◌++◌,
 ghost use Rattle.tera_errors.specs.Answer.{Gives, Lacks};
 ghost use Rattle.tera_values.specs.Val as val;
 ghost use Rattle.tera_code.specs.declared.instruction.Instruction.TheVariants as instruction;
-ghost use Rattle.tera_code.specs.Code.{lengthened, turned, spreads_of, keys_in};
+ghost use Rattle.tera_code.specs.Code.{lengthened, spreads_of, keys_in};
+ghost use Rattle.tera_code.specs.Places.{turned};
 ghost use Rattle.tera_tree.specs.View.{keys_of};
 ghost use Rattle.tera_tree.specs.View.{items_of, entries_of, key_option, key_of};
 

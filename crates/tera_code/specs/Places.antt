@@ -1,0 +1,20 @@
+-- Places that are kept for jumps while what they pass is written. No public contract speaks of them.
+use Rattle.std.specs.Prelude.{ℕ, suc, ◌-◌, [], ◌∷◌, length, set}
+use Rattle.tera_code.specs.declared.instruction.Instruction.{Instruction}
+use Rattle.tera_code.specs.declared.instruction.Instruction.TheVariants as instruction
+use Rattle.tera_code.specs.Listing.{Listing}
+use Rattle.tera_code.specs.Code.{lengthened}
+
+-- with a jump at the place that was kept for it
+abbrev pub filled : ℕ → Instruction → Listing → Listing
+filled place jump l = record l { code = set l.code place jump }
+
+-- how many instructions stand behind a place
+abbrev pub behind : ℕ → Listing → ℕ
+behind place l = length l.code - suc place
+
+-- a place is kept behind the first of two parts, and the place before that part jumps behind both
+abbrev pub turned : ℕ → Listing → Listing
+turned place l =
+    let next = lengthened l (instruction.Jump 0 ∷ []) in
+    filled place (instruction.PopJumpIfFalse (behind place next)) next

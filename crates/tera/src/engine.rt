@@ -11,12 +11,20 @@ use tera_tree::Delimiters;
 use tera_values::{Context, TeraResult};
 
 /// An engine: what templates are read by, and what every rendering reads. Definitions see it as a registry.
-#[derive(Drop)]
 pub struct Tera {
     pub(crate) alloc: Global,
     pub(crate) delimiters: Delimiters,
     pub(crate) global_context: Context,
     ghost accepted: { IsTrue (accepted (delimiters_of delimiters)) },
+}
+
+// By hand, so that an engine that goes out of scope is one call.
+impl Drop for Tera {
+    fn drop(self) {
+        let Tera { alloc: _, delimiters, global_context } = self;
+        drop(delimiters);
+        drop(global_context);
+    }
 }
 
 impl Tera {

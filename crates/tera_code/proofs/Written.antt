@@ -1,5 +1,5 @@
 -- Forms whose parts stand in a Vec.
-use Rattle.std.proofs.Common.{◌≡◌, suc, length, List, [], ◌∷◌, ◌++◌, Vec, Global, Result, Ok, Err, OnOk, Option, refl, sym, ap, ap₂, ◌∙◌, append_assoc}
+use Rattle.std.proofs.Common.{◌≡◌, suc, length, List, [], ◌∷◌, ◌++◌, Vec, Box, Global, Result, Ok, Err, OnOk, Option, refl, sym, ap, ap₂, ◌∙◌, append_assoc}
 use Rattle.tera_errors.specs.declared.span.Span.{Span}
 use Rattle.tera_errors.specs.Fault.{Fault}
 use Rattle.tera_errors.specs.Answer.{Refusal}
@@ -66,9 +66,12 @@ map_written l m n e entries span xs ys r is a b h =
     ∙ ap (λ t. lengthened l (expr_code t)) (sym (view_map entries span))
     ∙ ap (λ t. lengthened l (expr_code (expr_of t))) (sym is))
 
-pub if_written : (l m : Listing) (node : Node) (condition : Expression) (body other : Vec Node Global) (xs ys : List Node) → node ≡ variant.If condition body other → xs ≡ body.items → ys ≡ other.items → m ≡ lengthened l (choice_code (expr_code (expr_of condition)) (nodes_code (nodes_of xs)) (nodes_code (nodes_of ys))) → m ≡ lengthened l (node_code (node_of node))
+pub if_written : (l m : Listing) (node : Node) (condition : Box Expression Global) (body other : Vec Node Global) (xs ys : List Node) → node ≡ variant.If condition body other → xs ≡ body.items → ys ≡ other.items → m ≡ lengthened l (choice_code (expr_code (expr_of condition.value)) (nodes_code (nodes_of xs)) (nodes_code (nodes_of ys))) → m ≡ lengthened l (node_code (node_of node))
 if_written l m node condition body other xs ys is a b h =
     h
-    ∙ ap₂ (λ x y. lengthened l (choice_code (expr_code (expr_of condition)) (nodes_code (nodes_of x)) (nodes_code (nodes_of y)))) a b
+    ∙ ap₂ (λ x y. lengthened l (choice_code (expr_code (expr_of condition.value)) (nodes_code (nodes_of x)) (nodes_code (nodes_of y)))) a b
     ∙ ap (λ t. lengthened l (node_code t)) (sym (view_if condition body other))
     ∙ ap (λ t. lengthened l (node_code (node_of t))) (sym is)
+
+pub boxed_written : (l m : Listing) (x y : Expression) → m ≡ lengthened l (expr_code (expr_of x)) → x ≡ y → m ≡ lengthened l (expr_code (expr_of y))
+boxed_written l m x y h e = h ∙ ap (λ e. lengthened l (expr_code (expr_of e))) e

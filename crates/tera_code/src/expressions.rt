@@ -70,16 +70,14 @@ impl Compiler {
             }
             Expression::Slice {
                 target,
-                start,
-                end,
-                step,
+                bounds,
                 optional,
                 span,
             } => {
                 self.expression(target)?;
-                self.bound(start)?;
-                self.bound(end)?;
-                self.bound(step)?;
+                self.bound(&bounds.start)?;
+                self.bound(&bounds.end)?;
+                self.bound(&bounds.step)?;
                 self.emit(Instruction::Slice {
                     optional: *optional,
                     span: *span,

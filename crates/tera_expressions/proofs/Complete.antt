@@ -5,8 +5,9 @@ use Rattle.tera_tree.specs.Tree.{Expr, Nothing, Boolean, Integer, Text, Name, At
 use Rattle.tera_tree.specs.Depth.{depth, items_depth, entries_depth, optional_depth}
 use Rattle.tera_tokens.specs.declared.token.Kind.TheVariants as k
 use Rattle.tera_tokens.specs.Input.{Input, kind, start, text, next, left, span}
-use Rattle.tera_expressions.specs.Grammar.{Derives, quoted, tighter, choice, operation, not, not_in, minus, power, attribute, index, slice, DerivesPart, absent, present, DerivesStep, no_step, step, int, is_true, is_false, nothing, name, parentheses, array, map, DerivesEntry, keyed, spread_map, DerivesEntries, no_entries, one_entry, more_entries, DerivesItem, plain, spread, DerivesItems, none, one, more}
+use Rattle.tera_expressions.specs.Grammar.{Derives, quoted, tighter, choice, operation, not, not_in, minus, power, attribute, index, slice, DerivesPart, absent, present, DerivesStep, no_step, step, int, is_true, is_false, nothing, name, of_loop, parentheses, array, map, DerivesEntry, keyed, spread_map, DerivesEntries, no_entries, one_entry, more_entries, DerivesItem, plain, spread, DerivesItems, none, one, more}
 use Rattle.tera_expressions.specs.Expressions as r
+use Rattle.tera_expressions.specs.Loops.{behind_loop}
 use Rattle.tera_expressions.specs.Expressions.{deep, needs, expr, behind_dots, join_items, one_item, join_entries}
 use Rattle.tera_expressions.proofs.Steps.{differ, unlike, alike}
 use Rattle.tera_expressions.proofs.Precedence.{operator-depth, is-no-end, operator-needs, dot-needs, bracket-needs, needs-some, not-three, not-eight, stops-up, ends-up, ends, eight-of-nine, if-kind, not-kind, power-kind, closing-kinds, needs-at, gives-at, begin-kinds, ends-bound, at-most}
@@ -92,8 +93,13 @@ mutual
       goes-leaf k.False (Boolean false (span (start i) (next i))) i h (λ e. cc) (λ e. cc) begin-kinds.6 (λ b. deep-node (suc b) 0 (Boolean false (span (start i) (next i))) (next i) (omega arith) refl) b m n floor os y dep fl st fu c
   goes (nothing {i = i} h) b m n floor os y dep fl st fu c =
       goes-leaf k.Nothing (Nothing (span (start i) (next i))) i h (λ e. cc) (λ e. cc) begin-kinds.7 (λ b. deep-node (suc b) 0 (Nothing (span (start i) (next i))) (next i) (omega arith) refl) b m n floor os y dep fl st fu c
-  goes (name {i = i} h) b m n floor os y dep fl st fu c =
-      goes-leaf k.Name (Name (text i) (span (start i) (next i))) i h (λ e. cc) (λ e. cc) begin-kinds.3 (λ b. deep-node (suc b) 0 (Name (text i) (span (start i) (next i))) (next i) (omega arith) refl) b m n floor os y dep fl st fu c
+  goes (name {i = i} h e) b m n floor os y dep fl st fu c =
+      goes-leaf k.Name (Name (text i) (span (start i) (next i))) i h (λ e. cc) (λ e. cc) begin-kinds.3
+      (λ b. ap (λ o. r.name_by (suc b) (expr b) o i) e ∙ deep-node (suc b) 0 (Name (text i) (span (start i) (next i))) (next i) (omega arith) refl) b m n floor os y dep fl st fu c
+  goes (of_loop {n = word} {i = i} h e) b m n floor os y dep fl st fu c =
+      let t1 = shorter (of_loop h e) in
+      goes-first b m n floor 11 os k.Name (Name word (span (start i) (behind_loop i))) i (behind_loop i) y h (λ e. cc) begin-kinds.3 fl (omega arith)
+      (head-is (suc b) (expr b) i k.Name h ∙ ap (λ o. r.name_by (suc b) (expr b) o i) e ∙ deep-node (suc b) 0 (Name word (span (start i) (behind_loop i))) (behind_loop i) (omega arith) refl) c
   goes (parentheses {x = x} {i = i} {a = a} h d g) b m n floor os y dep fl st fu c =
       let n1 = needs-at (kind a) k.RightParenthesis 12 g closing-kinds.1 in
       let t1 = next-left k.LeftParenthesis i h (λ e. cc) in let t2 = next-left k.RightParenthesis a g (λ e. cc) in

@@ -6,17 +6,26 @@ use Rattle.tera_tokens.specs.declared.token.Kind.TheVariants as k
 use Rattle.tera_tokens.specs.Token.{Token}
 use Rattle.tera_tokens.specs.Input.{Input, same, kind, kind_of, text, next, after, left, is_word}
 use Rattle.tera_expressions.specs.Keys.{key_at, key_by}
-use Rattle.tera_expressions.specs.Grammar.{Derives, quoted, tighter, choice, operation, not, not_in, minus, power, attribute, index, slice, DerivesPart, absent, present, DerivesStep, no_step, step, int, is_true, is_false, nothing, name, parentheses, array, map, DerivesEntry, keyed, spread_map, DerivesEntries, no_entries, one_entry, more_entries, DerivesItem, plain, spread, DerivesItems, none, one, more}
+use Rattle.tera_expressions.specs.Grammar.{Derives, quoted, tighter, choice, operation, not, not_in, minus, power, attribute, index, slice, DerivesPart, absent, present, DerivesStep, no_step, step, int, is_true, is_false, nothing, name, of_loop, parentheses, array, map, DerivesEntry, keyed, spread_map, DerivesEntries, no_entries, one_entry, more_entries, DerivesItem, plain, spread, DerivesItems, none, one, more}
 use Rattle.tera_expressions.proofs.Steps.{unlike, alike}
 use Rattle.tera_expressions.proofs.Precedence.{is-no-end, dot-needs, bracket-needs}
 
 pub next-left : (s : Kind) (i : Input) → kind i ≡ s → (s ≡ k.End → ⊥) → left i ≡ suc (left (next i))
 unfolding left next kind
-next-left s i h n = go i.ahead i.last h
+next-left s i h n = go i.ahead i.last i.in_loop h
   where
-    go : (ts : List Token) (last : ℕ) → kind_of ts ≡ s → length ts ≡ suc (length (after ts last).ahead)
-    go [] last h = absurd (n (sym h))
-    go (t ∷ ts) last h = omega arith
+    go : (ts : List Token) (last : ℕ) (q : Bool) → kind_of ts ≡ s → length ts ≡ suc (length (after ts last q).ahead)
+    go [] last q h = absurd (n (sym h))
+    go (t ∷ ts) last q h = omega arith
+
+-- no step brings tokens back
+pub next-le : (i : Input) → left (next i) ≤ left i
+unfolding left next
+next-le i = go i.ahead i.last i.in_loop
+  where
+    go : (ts : List Token) (last : ℕ) (q : Bool) → length (after ts last q).ahead ≤ length ts
+    go [] last q = omega arith
+    go (t ∷ ts) last q = omega arith
 
 pub token : (s : Kind) (i : Input) → kind i ≡ s → (s ≡ k.End → ⊥) → left (next i) < left i
 token s i h n = let e = next-left s i h n in omega arith
@@ -53,7 +62,8 @@ mutual
   shorter (is_true {i = i} h) = token k.True i h (λ e. cc)
   shorter (is_false {i = i} h) = token k.False i h (λ e. cc)
   shorter (nothing {i = i} h) = token k.Nothing i h (λ e. cc)
-  shorter (name {i = i} h) = token k.Name i h (λ e. cc)
+  shorter (name {i = i} h e) = token k.Name i h (λ e. cc)
+  shorter (of_loop {i = i} h e) = let t1 = token k.Name i h (λ e. cc) in let t2 = next-le (next i) in let t3 = next-le (next (next i)) in omega arith
   shorter (parentheses {i = i} {a = a} h d g) = let p1 = shorter d in let t1 = token k.LeftParenthesis i h (λ e. cc) in let t2 = token k.RightParenthesis a g (λ e. cc) in omega arith
   shorter (array {i = i} {a = a} h d g) = let p1 = shorter-all d in let t1 = token k.LeftBracket i h (λ e. cc) in let t2 = token k.RightBracket a g (λ e. cc) in omega arith
   shorter (map {i = i} {a = a} h d g) = let p1 = shorter-entries d in let t1 = token k.LeftBrace i h (λ e. cc) in let t2 = token k.RightBrace a g (λ e. cc) in omega arith
@@ -105,7 +115,8 @@ starts-so (quoted h e) = (λ e. cc, λ e. cc, λ e. cc)
 starts-so (is_true h) = (λ e. cc, λ e. cc, λ e. cc)
 starts-so (is_false h) = (λ e. cc, λ e. cc, λ e. cc)
 starts-so (nothing h) = (λ e. cc, λ e. cc, λ e. cc)
-starts-so (name h) = (λ e. cc, λ e. cc, λ e. cc)
+starts-so (name h e) = (λ e. cc, λ e. cc, λ e. cc)
+starts-so (of_loop h e) = (λ e. cc, λ e. cc, λ e. cc)
 starts-so (parentheses h d g) = (λ e. cc, λ e. cc, λ e. cc)
 starts-so (array h d g) = (λ e. cc, λ e. cc, λ e. cc)
 

@@ -12,7 +12,8 @@ use Rattle.tera_tokens.specs.declared.token.Kind.TheVariants as k
 use Rattle.tera_tokens.specs.Input.{Input, Parser, and_then, same, kind, start, text, next, left, span, expect, is_word}
 use Rattle.tera_tokens.specs.Literal.{integer, literal}
 use Rattle.tera_expressions.specs.Keys.{key_at}
-use Rattle.tera_expressions.specs.Grammar.{Operator, or, and, equal, not_equal, less, greater, less_or_equal, greater_or_equal, is_in, concat, add, subtract, multiply, divide, floor_divide, remainder, Dot, dot, optional_dot, Bracket, bracket, optional_bracket, Derives, quoted, tighter, choice, operation, not, not_in, minus, power, attribute, index, slice, DerivesPart, absent, present, DerivesStep, no_step, step, int, is_true, is_false, nothing, name, parentheses, array, map, DerivesEntry, keyed, spread_map, DerivesEntries, no_entries, one_entry, more_entries, DerivesItem, plain, spread, DerivesItems, none, one, more}
+use Rattle.tera_expressions.specs.Loops.{loop_name, behind_loop}
+use Rattle.tera_expressions.specs.Grammar.{Operator, or, and, equal, not_equal, less, greater, less_or_equal, greater_or_equal, is_in, concat, add, subtract, multiply, divide, floor_divide, remainder, Dot, dot, optional_dot, Bracket, bracket, optional_bracket, Derives, quoted, tighter, choice, operation, not, not_in, minus, power, attribute, index, slice, DerivesPart, absent, present, DerivesStep, no_step, step, int, is_true, is_false, nothing, name, of_loop, parentheses, array, map, DerivesEntry, keyed, spread_map, DerivesEntries, no_entries, one_entry, more_entries, DerivesItem, plain, spread, DerivesItems, none, one, more}
 use Rattle.tera_expressions.specs.Expressions as r
 use Rattle.tera_expressions.specs.Expressions.{Deep, deep, needs, gives, begins, goes_on, floor_in, opened, climb, level, level_with, expr, head, node, prefixed, infixed, applied, behind_dots, join_items, one_item, join_entries}
 use Rattle.tera_expressions.proofs.Precedence.{gives-below, on-means, operator-depth}
@@ -407,8 +408,15 @@ module _ (limit b : ℕ) (part : ℕ → Parser Deep) (sound : Sound b part) whe
           node-got (λ y j. Got limit 11 y i j) limit (entries_depth xs) (Map xs (span (start i) (next a))) (next a) j y (subst Q f2 (subst P p n)) refl
           (λ ok. got ok (map h q g))
 
+  leaf-to : (i a j : Input) (y : Deep) (x : Expr) → depth x ≡ 1 → Derives 11 x i a → node limit 0 x a ≡ Some (y, j) → Got limit 11 y i j
+  leaf-to i a j y x e d h = node-got (λ y j. Got limit 11 y i j) limit 0 x a j y h e (λ ok. got ok d)
+
   leaf-got : (i j : Input) (y : Deep) (x : Expr) → depth x ≡ 1 → Derives 11 x i (next i) → node limit 0 x (next i) ≡ Some (y, j) → Got limit 11 y i j
-  leaf-got i j y x e d h = node-got (λ y j. Got limit 11 y i j) limit 0 x (next i) j y h e (λ ok. got ok d)
+  leaf-got i j y x e d h = leaf-to i (next i) j y x e d h
+
+  name-got : (o : Option site.Name) (i j : Input) (y : Deep) → loop_name i ≡ o → kind i ≡ k.Name → r.name_by limit part o i ≡ Some (y, j) → Got limit 11 y i j
+  name-got None i j y e h hh = leaf-got i j y (Name (text i) (span (start i) (next i))) refl (name h e) hh
+  name-got (Some n) i j y e h hh = leaf-to i (behind_loop i) j y (Name n (span (start i) (behind_loop i))) refl (of_loop h e) hh
 
   int-got : (o : Option ℤ) (i j : Input) (y : Deep) → integer (text i) ≡ o → kind i ≡ k.Int → r.leaf limit part (option_map (λ z. Integer z (span (start i) (next i))) o) (next i) ≡ Some (y, j) → Got limit 11 y i j
   int-got None i j y e h hh = cc
@@ -427,7 +435,7 @@ module _ (limit b : ℕ) (part : ℕ → Parser Deep) (sound : Sound b part) whe
   head-by-got k.True i j y h hh = leaf-got i j y (Boolean true (span (start i) (next i))) refl (is_true h) hh
   head-by-got k.False i j y h hh = leaf-got i j y (Boolean false (span (start i) (next i))) refl (is_false h) hh
   head-by-got k.Nothing i j y h hh = leaf-got i j y (Nothing (span (start i) (next i))) refl (nothing h) hh
-  head-by-got k.Name i j y h hh = leaf-got i j y (Name (text i) (span (start i) (next i))) refl (name h) hh
+  head-by-got k.Name i j y h hh = name-got (loop_name i) i j y refl h hh
   head-by-got k.LeftBracket i j y h hh = array-got i j y h hh
   head-by-got k.LeftBrace i j y h hh = map-got i j y h hh
   head-by-got _ i j y h hh = cc

@@ -47,11 +47,11 @@ floor_is run (suc p) floor = let f : nat_eq (suc p) 0 ≡ false = grind (arith, 
 
 pub ahead_next : (i : Input) (n : ℕ) (run : List Token) → i.ahead ≡ drop n run → (next i).ahead ≡ drop (n + 1) run
 unfolding next
-ahead_next i n run h = go i.ahead i.last ∙ ap (drop 1) h ∙ drop-drop 1 n run
+ahead_next i n run h = go i.ahead i.last i.in_loop ∙ ap (drop 1) h ∙ drop-drop 1 n run
   where
-    go : (ts : List Token) (last : ℕ) → (after ts last).ahead ≡ drop 1 ts
-    go [] last = refl
-    go (t ∷ ts) last = refl
+    go : (ts : List Token) (last : ℕ) (q : Bool) → (after ts last q).ahead ≡ drop 1 ts
+    go [] last q = refl
+    go (t ∷ ts) last q = refl
 
 pub opened_more : (n count : ℕ) (run : List Token) (i : Input) → i.ahead ≡ drop count run → same LeftParenthesis (kind i) ≡ true
     → opened (suc n) (starts run count) i ≡ opened n (starts run (count + 1)) (next i)

@@ -10,6 +10,8 @@ use Rattle.tera_tokens.specs.declared.token.Kind.TheVariants as k
 use Rattle.tera_tokens.specs.Input.{Input, Parser, and_then, ◌>>=◌, refuse, kind, text, start, next, left, span, same, expect, is_word}
 use Rattle.tera_tokens.specs.Literal.{integer, literal}
 use Rattle.tera_expressions.specs.Keys.{key_at}
+use Rattle.tera_expressions.specs.Loops.{loop_name, behind_loop}
+use Rattle.tera_errors.specs.Site as site
 
 -- an expression, and how deep it is
 pub record Deep : Type 0 where
@@ -231,6 +233,10 @@ module _ (limit : ℕ) (sub : ℕ → Parser Deep) where
   leaf None = refuse
   leaf (Some x) = node limit 0 x
 
+  abbrev pub name_by : Option site.Name → Parser Deep
+  name_by None = λ i. node limit 0 (Name (text i) (span (start i) (next i))) (next i)
+  name_by (Some n) = λ i. node limit 0 (Name n (span (start i) (behind_loop i))) (behind_loop i)
+
   abbrev pub head_by : Kind → Parser Deep
   head_by k.Minus = prefixed 8 Negate
   head_by k.Not = prefixed 3 Not
@@ -239,7 +245,7 @@ module _ (limit : ℕ) (sub : ℕ → Parser Deep) where
   head_by k.True = λ i. node limit 0 (Boolean true (span (start i) (next i))) (next i)
   head_by k.False = λ i. node limit 0 (Boolean false (span (start i) (next i))) (next i)
   head_by k.Nothing = λ i. node limit 0 (Nothing (span (start i) (next i))) (next i)
-  head_by k.Name = λ i. node limit 0 (Name (text i) (span (start i) (next i))) (next i)
+  head_by k.Name = λ i. name_by (loop_name i) i
   head_by k.LeftBracket = array
   head_by k.LeftBrace = map
   head_by _ = refuse

@@ -9,6 +9,7 @@ use Rattle.tera_tokens.specs.declared.token.Kind.TheVariants as k
 use Rattle.tera_tokens.specs.Input.{Input, kind, text, start, next, span, is_word}
 use Rattle.tera_tokens.specs.Literal.{integer, literal}
 use Rattle.tera_expressions.specs.Keys.{key_at}
+use Rattle.tera_expressions.specs.Loops.{loop_name, behind_loop}
 
 -- the operators that group to the left: a sign, the form that it makes of its operands, and a level
 pub data Operator : Kind → (Expr → Expr → Span → Expr) → ℕ → Type 0 where
@@ -65,7 +66,8 @@ mutual
     is_true : {i : Input} → kind i ≡ k.True → Derives 11 (Boolean true (span (start i) (next i))) i (next i)
     is_false : {i : Input} → kind i ≡ k.False → Derives 11 (Boolean false (span (start i) (next i))) i (next i)
     nothing : {i : Input} → kind i ≡ k.Nothing → Derives 11 (Nothing (span (start i) (next i))) i (next i)
-    name : {i : Input} → kind i ≡ k.Name → Derives 11 (Name (text i) (span (start i) (next i))) i (next i)
+    name : {i : Input} → kind i ≡ k.Name → loop_name i ≡ None → Derives 11 (Name (text i) (span (start i) (next i))) i (next i)
+    of_loop : {n : site.Name} {i : Input} → kind i ≡ k.Name → loop_name i ≡ Some n → Derives 11 (Name n (span (start i) (behind_loop i))) i (behind_loop i)
     -- parentheses are no part of what they are around
     parentheses : {x : Expr} {i a : Input} → kind i ≡ k.LeftParenthesis → Derives 0 x (next i) a → kind a ≡ k.RightParenthesis → Derives 11 x i (next a)
     array : {xs : Items} {i a : Input} → kind i ≡ k.LeftBracket → DerivesItems xs (next i) a → kind a ≡ k.RightBracket

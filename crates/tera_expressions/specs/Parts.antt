@@ -7,7 +7,7 @@ use Rattle.tera_tree.specs.declared.expression.Expression.{Expression}
 use Rattle.tera_tree.specs.declared.expression.Item as item
 use Rattle.tera_tree.specs.declared.expression.Entry as entry
 use Rattle.tera_tree.specs.Tree.{Expr, Key, Optional, And, Or, Binary}
-use Rattle.tera_tree.specs.View.{expr_of, option_of, items_of, entries_of}
+use Rattle.tera_tree.specs.View.{expr_of, optional_of, items_of, entries_of}
 use Rattle.tera_tokens.specs.declared.refusal.Refusal.{Refusal}
 use Rattle.tera_tokens.specs.declared.refusal.Refusal.TheVariants.{Syntax, OutOfMemory}
 use Rattle.tera_tokens.specs.declared.input.Tokens.{Tokens}
@@ -21,10 +21,10 @@ use Rattle.tera_expressions.specs.declared.operators.Infix.TheVariants as form
 use Rattle.tera_expressions.specs.Expressions.{Deep, expr, join_items, one_item, join_entries, one_entry}
 
 abbrev pub deep_of : declared.Deep → Deep
-deep_of x = record { expr = expr_of x.expression; depth = x.depth }
+deep_of x = record { expr = expr_of x.expression.value; depth = x.depth }
 
 abbrev pub part_of : Part → Optional × ℕ
-part_of p = (option_of p.expression, p.depth)
+part_of p = (optional_of p.expression, p.depth)
 
 abbrev pub infix_of : Infix → Expr → Expr → Span → Expr
 infix_of form.And = And

@@ -1,6 +1,6 @@
 // Attributes, indices and slices.
 ghost use Rattle.std.specs.Prelude.{◌≡◌, ℕ, max};
-ghost use Rattle.tera_tree.specs.View.{option_of};
+ghost use Rattle.tera_tree.specs.View.{optional_of};
 ghost use Rattle.tera_tokens.specs.Takes.{Takes, input};
 ghost use Rattle.tera_expressions.specs.Expressions as spec;
 ghost use Rattle.tera_expressions.specs.Parts.{Nests, deep_of, part_of};
@@ -32,7 +32,7 @@ impl<F: Fn(Global, &mut Tokens<'_>, usize, u8) -> Result<Deep, Refusal>> Reader<
         let name = String::from_str(self.alloc, tokens.text())?;
         tokens.take();
         let span = tokens.span(start);
-        let expression = Expression::attribute(self.alloc, x.expression, name, optional, span)?;
+        let expression = Expression::attribute(x.expression, name, optional, span);
         self.node(tokens, x.depth, expression)
     }
 
@@ -106,10 +106,10 @@ impl<F: Fn(Global, &mut Tokens<'_>, usize, u8) -> Result<Deep, Refusal>> Reader<
         optional: bool,
         start: usize,
         x: Deep,
-        y: Option<Expression>,
+        y: Option<Box<Expression>>,
         depth: usize,
     ) -> Result<Deep, Refusal>
-        ensures { Takes deep_of (spec.index_at self.now.limit (spec.expr self.now.below) optional start (deep_of x) (option_of y) depth (input tokens.old)) result tokens.new }
+        ensures { Takes deep_of (spec.index_at self.now.limit (spec.expr self.now.below) optional start (deep_of x) (optional_of y) depth (input tokens.old)) result tokens.new }
     {
         match y {
             None => Err(tokens.refuse(Reason::NoExpression)),
@@ -117,13 +117,7 @@ impl<F: Fn(Global, &mut Tokens<'_>, usize, u8) -> Result<Deep, Refusal>> Reader<
                 tokens.take();
                 let depth = larger(x.depth, depth);
                 let span = tokens.span(start);
-                let expression = Expression::index(
-                    self.alloc,
-                    x.expression,
-                    index,
-                    optional,
-                    span,
-                )?;
+                let expression = Expression::index(x.expression, index, optional, span);
                 self.node(tokens, depth, expression)
             }
         }
@@ -151,6 +145,7 @@ impl<F: Fn(Global, &mut Tokens<'_>, usize, u8) -> Result<Deep, Refusal>> Reader<
             end: q.expression,
             step: r.expression,
         };
+        let bounds = Box::new(self.alloc, bounds)?;
         self.slice_made(tokens, optional, start, x, bounds, depth)
     }
 
@@ -162,15 +157,15 @@ impl<F: Fn(Global, &mut Tokens<'_>, usize, u8) -> Result<Deep, Refusal>> Reader<
         optional: bool,
         start: usize,
         x: Deep,
-        bounds: Bounds,
+        bounds: Box<Bounds>,
         depth: usize,
     ) -> Result<Deep, Refusal>
-        ensures { (p q r : ℕ) → depth ≡ max p (max q r) → Takes deep_of (spec.slice_made self.now.limit (spec.expr self.now.below) optional start (deep_of x) (option_of bounds.start, p) (option_of bounds.end, q) (option_of bounds.step, r) (input tokens.old)) result tokens.new }
+        ensures { (p q r : ℕ) → depth ≡ max p (max q r) → Takes deep_of (spec.slice_made self.now.limit (spec.expr self.now.below) optional start (deep_of x) (optional_of bounds.value.start, p) (optional_of bounds.value.end, q) (optional_of bounds.value.step, r) (input tokens.old)) result tokens.new }
     {
         tokens.expect(Kind::RightBracket)?;
         let depth = larger(x.depth, depth);
         let span = tokens.span(start);
-        let expression = Expression::slice(self.alloc, x.expression, bounds, optional, span)?;
+        let expression = Expression::slice(x.expression, bounds, optional, span);
         self.node(tokens, depth, expression)
     }
 }

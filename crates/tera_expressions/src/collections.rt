@@ -73,7 +73,7 @@ impl<F: Fn(Global, &mut Tokens<'_>, usize, u8) -> Result<Deep, Refusal>> Reader<
         let x = self.sub(tokens, 0)?;
         found.push(Item {
             is_spread,
-            value: x.expression,
+            value: Box::into_inner(x.expression),
         })?;
         Ok(x.depth)
     }
@@ -139,7 +139,7 @@ impl<F: Fn(Global, &mut Tokens<'_>, usize, u8) -> Result<Deep, Refusal>> Reader<
         };
         found.push(Entry {
             key,
-            value: x.expression,
+            value: Box::into_inner(x.expression),
         })?;
         Ok(x.depth)
     }

@@ -13,7 +13,7 @@ use tera_tree::Expression;
 #[derive(Drop)]
 pub struct Deep {
     /// The expression.
-    pub expression: Expression,
+    pub expression: Box<Expression>,
     /// How deep it is: a leaf is 1 deep.
     pub depth: usize,
 }

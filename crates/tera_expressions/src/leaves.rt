@@ -3,12 +3,14 @@ ghost use Rattle.tera_tree.specs.Tree.{Boolean};
 ghost use Rattle.tera_tokens.specs.Input.{next, span, start};
 ghost use Rattle.tera_tokens.specs.Takes.{Takes, input};
 ghost use Rattle.tera_expressions.specs.Expressions as spec;
+ghost use Rattle.tera_expressions.specs.Loops as loops;
+ghost use Rattle.std.specs.Prelude.{◌≡◌, option_map};
 ghost use Rattle.tera_expressions.specs.Parts.{Nests, deep_of};
 
 use crate::expressions::Deep;
 use crate::reader::Reader;
 use std::alloc::Global;
-use tera_tokens::input::Tokens;
+use tera_tokens::input::{Tokens, same};
 use tera_tokens::literal::{integer, literal};
 use tera_tokens::refusal::{Reason, Refusal};
 use tera_tokens::token::Kind;
@@ -76,6 +78,14 @@ impl<F: Fn(Global, &mut Tokens<'_>, usize, u8) -> Result<Deep, Refusal>> Reader<
         ensures { Takes deep_of (spec.head_by self.now.limit (spec.expr self.now.below) Kind.Name (input tokens.old)) result tokens.new }
     {
         let start = tokens.start();
+        if let Some(word) = loop_name(tokens) {
+            let name = String::from_str(self.alloc, word)?;
+            tokens.take();
+            tokens.take();
+            tokens.take();
+            let span = tokens.span(start);
+            return self.node(tokens, 0, Expression::Name { name, span });
+        }
         let name = String::from_str(self.alloc, tokens.text())?;
         tokens.take();
         let span = tokens.span(start);
@@ -90,5 +100,39 @@ impl<F: Fn(Global, &mut Tokens<'_>, usize, u8) -> Result<Deep, Refusal>> Reader<
         tokens.take();
         let span = tokens.span(start);
         self.node(tokens, 0, Expression::Bool { value, span })
+    }
+}
+
+/// The name that a loop gives to the next three tokens, if these are one.
+#[tactic(auto, unfolding(crate::specs::Loops::loop_name))]
+fn loop_name(tokens: &Tokens<'_>) -> Option<&'static str>
+    ensures { option_map (λ s. s.now) result ≡ loops.loop_name (input tokens.now) }
+{
+    if !tokens.in_loop || tokens.text() != "loop" {
+        return None;
+    }
+    let mut ahead = Tokens {
+        ahead: tokens.ahead,
+        last: tokens.last,
+        in_loop: tokens.in_loop,
+    };
+    ahead.take();
+    if !same(Kind::Dot, ahead.kind()) {
+        return None;
+    }
+    ahead.take();
+    loop_word(ahead.text())
+}
+
+fn loop_word(word: &str) -> Option<&'static str>
+    ensures { option_map (λ s. s.now) result ≡ loops.loop_word word.now }
+{
+    match word {
+        "index" => Some("__tera_loop_index"),
+        "index0" => Some("__tera_loop_index0"),
+        "first" => Some("__tera_loop_first"),
+        "last" => Some("__tera_loop_last"),
+        "length" => Some("__tera_loop_length"),
+        _ => None,
     }
 }

@@ -1,9 +1,10 @@
 // Operators of one, two and three operands.
+ghost use Rattle.std.specs.Prelude.{◌≡◌};
 ghost use Rattle.tera_tree.specs.Tree.{Not, Negate};
 ghost use Rattle.tera_tree.specs.View.{expr_of};
 ghost use Rattle.tera_tokens.specs.Takes.{Takes, input};
 ghost use Rattle.tera_expressions.specs.Expressions as spec;
-ghost use Rattle.tera_expressions.specs.Parts.{Makes, Nests, deep_of, infix_of};
+ghost use Rattle.tera_expressions.specs.Parts.{Nests, deep_of, infix_of};
 
 use crate::expressions::Deep;
 use crate::reader::{Reader, larger};
@@ -35,7 +36,7 @@ impl<F: Fn(Global, &mut Tokens<'_>, usize, u8) -> Result<Deep, Refusal>> Reader<
         let start = tokens.start();
         tokens.take();
         let x = self.sub(tokens, 8)?;
-        let expression = Expression::negate(self.alloc, x.expression, tokens.span(start))?;
+        let expression = Expression::negate(x.expression, tokens.span(start));
         self.node(tokens, x.depth, expression)
     }
 
@@ -48,7 +49,7 @@ impl<F: Fn(Global, &mut Tokens<'_>, usize, u8) -> Result<Deep, Refusal>> Reader<
         let start = tokens.start();
         tokens.take();
         let x = self.sub(tokens, 3)?;
-        let expression = Expression::not(self.alloc, x.expression, tokens.span(start))?;
+        let expression = Expression::not(x.expression, tokens.span(start));
         self.node(tokens, x.depth, expression)
     }
 
@@ -69,7 +70,7 @@ impl<F: Fn(Global, &mut Tokens<'_>, usize, u8) -> Result<Deep, Refusal>> Reader<
         let y = self.sub(tokens, level)?;
         let depth = larger(x.depth, y.depth);
         let span = tokens.span(start);
-        let expression = make_infix(self.alloc, op, x.expression, y.expression, span)?;
+        let expression = make_infix(op, x.expression, y.expression, span);
         self.node(tokens, depth, expression)
     }
 
@@ -105,7 +106,7 @@ impl<F: Fn(Global, &mut Tokens<'_>, usize, u8) -> Result<Deep, Refusal>> Reader<
             return Err(tokens.refuse(Reason::Expected(Kind::In)));
         }
         let y = self.binary(tokens, 5, BinaryOperator::In, start, x)?;
-        let expression = Expression::not(self.alloc, y.expression, tokens.span(start))?;
+        let expression = Expression::not(y.expression, tokens.span(start));
         self.node(tokens, y.depth, expression)
     }
 
@@ -141,30 +142,23 @@ impl<F: Fn(Global, &mut Tokens<'_>, usize, u8) -> Result<Deep, Refusal>> Reader<
         let z = self.sub(tokens, 0)?;
         let depth = larger(x.depth, larger(y.depth, z.depth));
         let span = tokens.span(start);
-        let expression = Expression::ternary(
-            self.alloc,
-            x.expression,
-            y.expression,
-            z.expression,
-            span,
-        )?;
+        let expression = Expression::ternary(x.expression, y.expression, z.expression, span);
         self.node(tokens, depth, expression)
     }
 }
 
 /// The form that an operator makes of its operands.
 pub(crate) fn make_infix(
-    alloc: Global,
     op: Infix,
-    left: Expression,
-    right: Expression,
+    left: Box<Expression>,
+    right: Box<Expression>,
     span: Span,
-) -> Result<Expression, Refusal>
-    ensures { Makes (infix_of op (expr_of left) (expr_of right) span) result }
+) -> Expression
+    ensures { expr_of result ≡ infix_of op (expr_of left.value) (expr_of right.value) span }
 {
     match op {
-        Infix::And => Ok(Expression::and(alloc, left, right, span)?),
-        Infix::Or => Ok(Expression::or(alloc, left, right, span)?),
-        Infix::Binary(operator) => Ok(Expression::binary(alloc, operator, left, right, span)?),
+        Infix::And => Expression::and(left, right, span),
+        Infix::Or => Expression::or(left, right, span),
+        Infix::Binary(operator) => Expression::binary(operator, left, right, span),
     }
 }

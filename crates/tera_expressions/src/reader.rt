@@ -14,7 +14,7 @@ use tera_tree::Expression;
 /// A bound of a slice, if it is written, and how deep it is.
 #[derive(Drop)]
 pub(crate) struct Part {
-    pub(crate) expression: Option<Expression>,
+    pub(crate) expression: Option<Box<Expression>>,
     pub(crate) depth: usize,
 }
 
@@ -53,7 +53,7 @@ impl<F: Fn(Global, &mut Tokens<'_>, usize, u8) -> Result<Deep, Refusal>> Reader<
             return Err(tokens.refuse(Reason::TooDeep));
         }
         Ok(Deep {
-            expression,
+            expression: Box::new(self.alloc, expression)?,
             depth: depth + 1,
         })
     }

@@ -3,91 +3,118 @@ use Rattle.std.specs.Prelude.{Bool, false, List, [], ◌∷◌, Option, Result, 
 use Rattle.tera_errors.specs.Site as site
 use Rattle.tera_errors.specs.Fault.{Fault}
 use Rattle.tera_tree.specs.Tree.{Key, Expr, Nothing, Boolean, Integer, Text, Name, Attribute, Index, Slice, Not, Negate, Binary, And, Or, Ternary, Array, Map, Optional, Absent, Present, Items, NoItems, MoreItems, Entries, NoEntries, MoreEntries, Node, Content, Print, If, Nodes, NoNodes, MoreNodes}
+use Rattle.tera_values.specs.Alphabet.{Alphabet, plain, template, made}
 use Rattle.tera_values.specs.Val.{none, bool, int, text}
 use Rattle.tera_values.specs.Access.{is_undefined, truthy}
-use Rattle.tera_operators.specs.Operand.{Evaluated, fault_at}
-use Rattle.tera_operators.specs.Accesses.{attribute_of, item_of, slice_of}
-use Rattle.tera_operators.specs.Operators.{not_of, negative_of, binary_of}
+use Rattle.tera_operators.specs.Operand.{Evaluated, EvaluatedOf, fault_at}
+use Rattle.tera_operators.specs.Accesses.{attribute_of, item_in, sliced_in}
+use Rattle.tera_operators.specs.Operators.{not_of, negative_in, binary_in}
 use Rattle.tera_operators.specs.Literals.{array_of, map_of}
-use Rattle.tera_state.specs.Rendered.{rendered}
+use Rattle.tera_state.specs.Rendered.{rendered_in}
 use Rattle.tera_state.specs.Scope.{look}
 use Rattle.tera_meaning.specs.Here.{Here}
-use Rattle.tera_meaning.specs.Run.{Signal, On, Meaning, Oracle, ◌▹◌, visit, gives, answered, value_at, if_else, reads, writes, go_on}
+use Rattle.tera_meaning.specs.Run.{Signal, On, Meaning, MeaningOf, Oracle, OracleOf, ◌▹◌, visit, gives, answered, value_at, if_else, reads, writes, go_on}
 
--- the text that a value is put out as, at the operand's span; undefined has none
-abbrev pub output : Here → Evaluated → Result site.Text Fault
-output here a =
-    if is_undefined a.value then fault_at here.file a.span
-    else Ok (rendered here.autoescape here.engine.escape a.value)
+module _ {C : Type 0} (alphabet : Alphabet C) where
+  -- the text that a value is put out as, at the operand's span; undefined has none
+  abbrev pub output_in : Here → EvaluatedOf C → Result (List C) Fault
+  output_in here a =
+      if is_undefined a.value then fault_at here.file a.span
+      else Ok (rendered_in alphabet here.autoescape here.engine.escape a.value)
 
-abbrev pub written : Here → Evaluated → Meaning Signal
-written here a = answered (output here a) ▹ writes
+  abbrev pub written_in : Here → EvaluatedOf C → MeaningOf C Signal
+  written_in here a = answered (output_in here a) ▹ writes
 
 -- a bound that isn't written is none
-abbrev pub no_bound : Evaluated
+abbrev pub no_bound : {C : Type 0} → EvaluatedOf C
 no_bound = record { value = none; span = record { start = 0; end = 0 } }
 
-module _ (here : Here) (call : Oracle) where
+module _ {C : Type 0} (alphabet : Alphabet C) (here : Here) (call : OracleOf C) where
   abbrev mutual
-    pub expr_meaning : Expr → Meaning Evaluated
-    expr_meaning (Nothing span) = visit (value_at none span)
-    expr_meaning (Boolean b span) = visit (value_at (bool b) span)
-    expr_meaning (Integer z span) = visit (value_at (int z) span)
-    expr_meaning (Text t span) = visit (value_at (text t false) span)
-    expr_meaning (Name name span) = visit (reads (look name) ▹ λ v. value_at v span)
-    expr_meaning (Attribute target name optional span) =
-        visit (expr_meaning target ▹ λ a. answered (attribute_of here.file optional a name span))
-    expr_meaning (Index target index optional span) =
-        visit (expr_meaning target
-        ▹ λ a. expr_meaning index
-        ▹ λ i. answered (item_of here.file optional a i span))
-    expr_meaning (Slice target start end step optional span) =
-        visit (expr_meaning target
-        ▹ λ a. bound_meaning start
-        ▹ λ s. bound_meaning end
-        ▹ λ e. bound_meaning step
-        ▹ λ t. answered (slice_of here.file optional a s e t span))
-    expr_meaning (Not operand span) = visit (expr_meaning operand ▹ λ a. gives (not_of a))
-    expr_meaning (Negate operand span) =
-        visit (expr_meaning operand ▹ λ a. answered (negative_of here.file a))
-    expr_meaning (Binary operator left right span) =
-        visit (expr_meaning left
-        ▹ λ a. expr_meaning right
-        ▹ λ b. answered (binary_of here.file operator a b span))
-    expr_meaning (And left right span) =
-        visit (expr_meaning left ▹ λ a. if_else (truthy a.value) (expr_meaning right) (gives a))
-    expr_meaning (Or left right span) =
-        visit (expr_meaning left ▹ λ a. if_else (truthy a.value) (gives a) (expr_meaning right))
-    expr_meaning (Ternary value condition other span) =
-        visit (expr_meaning condition
-        ▹ λ c. if_else (truthy c.value) (expr_meaning value) (expr_meaning other))
-    expr_meaning (Array items span) =
-        visit (items_meaning items ▹ λ all. answered (array_of here.file all span))
-    expr_meaning (Map entries span) =
-        visit (entries_meaning entries ▹ λ all. answered (map_of here.file all span))
+    pub expr_meaning_in : Expr → MeaningOf C (EvaluatedOf C)
+    expr_meaning_in (Nothing span) = visit (value_at none span)
+    expr_meaning_in (Boolean b span) = visit (value_at (bool b) span)
+    expr_meaning_in (Integer z span) = visit (value_at (int z) span)
+    expr_meaning_in (Text t span) = visit (value_at (text (alphabet.spelled made t) false) span)
+    expr_meaning_in (Name name span) = visit (reads (look name) ▹ λ v. value_at v span)
+    expr_meaning_in (Attribute target name optional span) =
+        visit (expr_meaning_in target ▹ λ a. answered (attribute_of here.file optional a name span))
+    expr_meaning_in (Index target index optional span) =
+        visit (expr_meaning_in target
+        ▹ λ a. expr_meaning_in index
+        ▹ λ i. answered (item_in alphabet here.file optional a i span))
+    expr_meaning_in (Slice target start end step optional span) =
+        visit (expr_meaning_in target
+        ▹ λ a. bound_meaning_in start
+        ▹ λ s. bound_meaning_in end
+        ▹ λ e. bound_meaning_in step
+        ▹ λ t. answered (sliced_in alphabet here.file optional a s e t span))
+    expr_meaning_in (Not operand span) = visit (expr_meaning_in operand ▹ λ a. gives (not_of a))
+    expr_meaning_in (Negate operand span) =
+        visit (expr_meaning_in operand ▹ λ a. answered (negative_in alphabet here.file a))
+    expr_meaning_in (Binary operator left right span) =
+        visit (expr_meaning_in left
+        ▹ λ a. expr_meaning_in right
+        ▹ λ b. answered (binary_in alphabet here.file operator a b span))
+    expr_meaning_in (And left right span) =
+        visit (expr_meaning_in left ▹ λ a. if_else (truthy a.value) (expr_meaning_in right) (gives a))
+    expr_meaning_in (Or left right span) =
+        visit (expr_meaning_in left ▹ λ a. if_else (truthy a.value) (gives a) (expr_meaning_in right))
+    expr_meaning_in (Ternary value condition other span) =
+        visit (expr_meaning_in condition
+        ▹ λ c. if_else (truthy c.value) (expr_meaning_in value) (expr_meaning_in other))
+    expr_meaning_in (Array items span) =
+        visit (items_meaning_in items ▹ λ all. answered (array_of here.file all span))
+    expr_meaning_in (Map entries span) =
+        visit (entries_meaning_in entries ▹ λ all. answered (map_of here.file all span))
 
-    pub bound_meaning : Optional → Meaning Evaluated
-    bound_meaning Absent = gives no_bound
-    bound_meaning (Present e) = expr_meaning e
+    pub bound_meaning_in : Optional → MeaningOf C (EvaluatedOf C)
+    bound_meaning_in Absent = gives no_bound
+    bound_meaning_in (Present e) = expr_meaning_in e
 
-    pub items_meaning : Items → Meaning (List (Bool × Evaluated))
-    items_meaning NoItems = gives []
-    items_meaning (MoreItems is_spread value rest) =
-        expr_meaning value ▹ λ a. items_meaning rest ▹ λ all. gives ((is_spread, a) ∷ all)
+    pub items_meaning_in : Items → MeaningOf C (List (Bool × EvaluatedOf C))
+    items_meaning_in NoItems = gives []
+    items_meaning_in (MoreItems is_spread value rest) =
+        expr_meaning_in value ▹ λ a. items_meaning_in rest ▹ λ all. gives ((is_spread, a) ∷ all)
 
-    pub entries_meaning : Entries → Meaning (List (Option Key × Evaluated))
-    entries_meaning NoEntries = gives []
-    entries_meaning (MoreEntries key value rest) =
-        expr_meaning value ▹ λ a. entries_meaning rest ▹ λ all. gives ((key, a) ∷ all)
+    pub entries_meaning_in : Entries → MeaningOf C (List (Option Key × EvaluatedOf C))
+    entries_meaning_in NoEntries = gives []
+    entries_meaning_in (MoreEntries key value rest) =
+        expr_meaning_in value ▹ λ a. entries_meaning_in rest ▹ λ all. gives ((key, a) ∷ all)
 
   abbrev mutual
-    pub node_meaning : Node → Meaning Signal
-    node_meaning (Content t span) = visit (writes t)
-    node_meaning (Print value) = visit (expr_meaning value ▹ written here)
-    node_meaning (If condition body other) =
-        visit (expr_meaning condition
-        ▹ λ c. if_else (truthy c.value) (nodes_meaning body) (nodes_meaning other))
+    pub node_meaning_in : Node → MeaningOf C Signal
+    node_meaning_in (Content t span) = visit (writes (alphabet.spelled template t))
+    node_meaning_in (Print value) = visit (expr_meaning_in value ▹ written_in alphabet here)
+    node_meaning_in (If condition body other) =
+        visit (expr_meaning_in condition
+        ▹ λ c. if_else (truthy c.value) (nodes_meaning_in body) (nodes_meaning_in other))
 
-    pub nodes_meaning : Nodes → Meaning Signal
-    nodes_meaning NoNodes = gives On
-    nodes_meaning (MoreNodes node rest) = node_meaning node ▹ λ signal. go_on signal (nodes_meaning rest)
+    pub nodes_meaning_in : Nodes → MeaningOf C Signal
+    nodes_meaning_in NoNodes = gives On
+    nodes_meaning_in (MoreNodes node rest) = node_meaning_in node ▹ λ signal. go_on signal (nodes_meaning_in rest)
+
+-- of texts of bytes: this is what runs
+abbrev pub output : Here → Evaluated → Result site.Text Fault
+output = output_in plain
+
+abbrev pub written : Here → Evaluated → Meaning Signal
+written = written_in plain
+
+abbrev pub expr_meaning : Here → Oracle → Expr → Meaning Evaluated
+expr_meaning = expr_meaning_in plain
+
+abbrev pub bound_meaning : Here → Oracle → Optional → Meaning Evaluated
+bound_meaning = bound_meaning_in plain
+
+abbrev pub items_meaning : Here → Oracle → Items → Meaning (List (Bool × Evaluated))
+items_meaning = items_meaning_in plain
+
+abbrev pub entries_meaning : Here → Oracle → Entries → Meaning (List (Option Key × Evaluated))
+entries_meaning = entries_meaning_in plain
+
+abbrev pub node_meaning : Here → Oracle → Node → Meaning Signal
+node_meaning = node_meaning_in plain
+
+abbrev pub nodes_meaning : Here → Oracle → Nodes → Meaning Signal
+nodes_meaning = nodes_meaning_in plain

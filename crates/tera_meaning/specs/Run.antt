@@ -1,20 +1,23 @@
 -- What a tree gives, and what it does on the way.
 use Rattle.std.specs.Prelude.{ℕ, ◌+◌, Bool, true, false, List, [], ◌++◌, Result, Ok, Err}
 use Rattle.tera_errors.specs.declared.span.Span.{Span}
-use Rattle.tera_errors.specs.Site.{Text, Name}
+use Rattle.tera_errors.specs.Site.{Name}
 use Rattle.tera_errors.specs.Fault.{Fault}
-use Rattle.tera_values.specs.Val.{Val}
-use Rattle.tera_operators.specs.Operand.{Evaluated}
-use Rattle.tera_state.specs.Scope.{Variables}
+use Rattle.tera_values.specs.Val.{ValOf}
+use Rattle.tera_operators.specs.Operand.{EvaluatedOf}
+use Rattle.tera_state.specs.Scope.{VariablesOf}
 
 -- what was done so far: the variables, the text that was written, and the blocks that ended, each with its text
-pub record Run : Type 0 where
-  pub vars : Variables
-  pub text : Text
-  pub blocks : List (Name × Text)
+pub record RunOf (C : Type 0) : Type 0 where
+  pub vars : VariablesOf C
+  pub text : List C
+  pub blocks : List (Name × List C)
+
+abbrev pub Run : Type 0
+Run = RunOf ℕ
 
 -- nothing was done yet
-abbrev pub begun : Variables → Run
+abbrev pub begun : {C : Type 0} → VariablesOf C → RunOf C
 begun vars = record { vars = vars; text = []; blocks = [] }
 
 -- how a list of nodes ends: a loop's ways out are further cases
@@ -22,67 +25,76 @@ pub data Signal : Type 0 where
   On : Signal
 
 -- a fault, or a result and what was done; and how many visits that took
-pub data Answer (A : Type 0) : Type 0 where
-  Failed : (fault : Fault) (visits : ℕ) → Answer A
-  Gave : (result : A) (run : Run) (visits : ℕ) → Answer A
+pub data AnswerOf (C A : Type 0) : Type 0 where
+  Failed : (fault : Fault) (visits : ℕ) → AnswerOf C A
+  Gave : (result : A) (run : RunOf C) (visits : ℕ) → AnswerOf C A
+
+abbrev pub Answer : Type 0 → Type 0
+Answer = AnswerOf ℕ
+
+abbrev pub MeaningOf : Type 0 → Type 0 → Type 0
+MeaningOf C A = RunOf C → AnswerOf C A
 
 abbrev pub Meaning : Type 0 → Type 0
-Meaning A = Run → Answer A
+Meaning = MeaningOf ℕ
 
-abbrev pub more : {A : Type 0} → ℕ → Answer A → Answer A
+abbrev pub more : {C A : Type 0} → ℕ → AnswerOf C A → AnswerOf C A
 more n (Failed fault m) = Failed fault (n + m)
 more n (Gave a r m) = Gave a r (n + m)
 
-abbrev pub onward : {A B : Type 0} → Answer A → (A → Meaning B) → Answer B
+abbrev pub onward : {C A B : Type 0} → AnswerOf C A → (A → MeaningOf C B) → AnswerOf C B
 onward (Failed fault n) go = Failed fault n
 onward (Gave a r n) go = more n (go a r)
 
 -- one and then the other, up to the first fault
 infixr 4 ◌▹◌
-abbrev pub ◌▹◌ : {A B : Type 0} → Meaning A → (A → Meaning B) → Meaning B
+abbrev pub ◌▹◌ : {C A B : Type 0} → MeaningOf C A → (A → MeaningOf C B) → MeaningOf C B
 m ▹ go = λ r. onward (m r) go
 
 -- counted as a visit
-abbrev pub visit : {A : Type 0} → Meaning A → Meaning A
+abbrev pub visit : {C A : Type 0} → MeaningOf C A → MeaningOf C A
 visit m r = more 1 (m r)
 
-abbrev pub gives : {A : Type 0} → A → Meaning A
+abbrev pub gives : {C A : Type 0} → A → MeaningOf C A
 gives a r = Gave a r 0
 
-abbrev pub fails : {A : Type 0} → Fault → Meaning A
+abbrev pub fails : {C A : Type 0} → Fault → MeaningOf C A
 fails fault r = Failed fault 0
 
 -- what was answered, or its fault
-abbrev pub answered : {A : Type 0} → Result A Fault → Meaning A
+abbrev pub answered : {C A : Type 0} → Result A Fault → MeaningOf C A
 answered (Ok a) = gives a
 answered (Err fault) = fails fault
 
-abbrev pub value_at : Val → Span → Meaning Evaluated
+abbrev pub value_at : {C : Type 0} → ValOf C → Span → MeaningOf C (EvaluatedOf C)
 value_at v span = gives (record { value = v; span = span })
 
-abbrev pub if_else : {A : Type 0} → Bool → Meaning A → Meaning A → Meaning A
+abbrev pub if_else : {C A : Type 0} → Bool → MeaningOf C A → MeaningOf C A → MeaningOf C A
 if_else true m n = m
 if_else false m n = n
 
 -- what is read of the variables
-abbrev pub reads : {A : Type 0} → (Variables → A) → Meaning A
+abbrev pub reads : {C A : Type 0} → (VariablesOf C → A) → MeaningOf C A
 reads f r = Gave (f r.vars) r 0
 
-abbrev pub writes : Text → Meaning Signal
+abbrev pub writes : {C : Type 0} → List C → MeaningOf C Signal
 writes text r = Gave On (record r { text = r.text ++ text }) 0
 
 -- what follows, unless a turn of a loop ends
-abbrev pub go_on : Signal → Meaning Signal → Meaning Signal
+abbrev pub go_on : {C : Type 0} → Signal → MeaningOf C Signal → MeaningOf C Signal
 go_on On next = next
 
 -- what is asked of a body that stands elsewhere: blocks, includes and components are its cases
 pub data Request : Type 0 where
 
 -- the answer to a request: the text that was made, the variables after it, and the blocks that ended in it
+abbrev pub OracleOf : Type 0 → Type 0
+OracleOf C = Request → VariablesOf C → AnswerOf C Signal
+
 abbrev pub Oracle : Type 0
-Oracle = Request → Variables → Answer Signal
+Oracle = OracleOf ℕ
 
 -- how many visits an answer took
-abbrev pub visits_of : {A : Type 0} → Answer A → ℕ
+abbrev pub visits_of : {C A : Type 0} → AnswerOf C A → ℕ
 visits_of (Failed fault n) = n
 visits_of (Gave a r n) = n

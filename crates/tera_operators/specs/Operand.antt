@@ -5,27 +5,33 @@ use Rattle.tera_errors.specs.declared.span.Span.{Span}
 use Rattle.tera_errors.specs.Site.{Name}
 use Rattle.tera_errors.specs.Fault.{Fault, rendering_error}
 use Rattle.tera_errors.specs.Answer.{Refusal, Lacks, Tells}
-use Rattle.tera_values.specs.Val.{Val}
+use Rattle.tera_values.specs.Val.{Val, ValOf}
 use Rattle.tera_values.specs.Code.{val_code}
 
 -- a value, and the span at which a fault in it is reported
-pub record Evaluated : Type 0 where
-  pub value : Val
+pub record EvaluatedOf (C : Type 0) : Type 0 where
+  pub value : ValOf C
   pub span : Span
+
+abbrev pub Evaluated : Type 0
+Evaluated = EvaluatedOf ℕ
 
 abbrev pub evaluated_code : Coded Evaluated
 evaluated_code =
     code_by (Val × (ℕ × ℕ)) (coded× val_code (coded× coded_ℕ coded_ℕ)) (λ o. (o.value, (o.span.start, o.span.end))) (λ p. record { value = p.0; span = record { start = p.1.0; end = p.1.1 } }) (λ _. refl)
 
 -- what an operator answers
-abbrev pub Outcome : Type 0
-Outcome = Result Evaluated Fault
+abbrev pub OutcomeOf : Type 0 → Type 0
+OutcomeOf C = Result (EvaluatedOf C) Fault
 
-abbrev pub at_span : Val → Span → Outcome
+abbrev pub Outcome : Type 0
+Outcome = OutcomeOf ℕ
+
+abbrev pub at_span : {C : Type 0} → ValOf C → Span → Result (EvaluatedOf C) Fault
 at_span v span = Ok (record { value = v; span = span })
 
 -- from the start of the left operand to the end of the right one
-abbrev pub spanning : Evaluated → Evaluated → Span
+abbrev pub spanning : {C : Type 0} → EvaluatedOf C → EvaluatedOf C → Span
 spanning a b = record { start = a.span.start; end = b.span.end }
 
 -- a fault at this span of the file

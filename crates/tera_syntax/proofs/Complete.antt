@@ -37,7 +37,7 @@ elif-read : (limit : ℕ) (s t : Progress) (tokens : List Token) (c : Expr) → 
 unfolding statement
 elif-read limit s t tokens c h a le =
     ap (statement_by limit s tokens) a.0
-    ∙ ap (option_and_then (λ (t : Progress). opened true t (whole (room limit t) (next (begin tokens))))) h
+    ∙ ap (option_and_then (λ (t : Progress). opened true t (whole (room limit t) (next (begin false tokens))))) h
     ∙ ap (opened true t) (whole_complete a.1 (room limit t) le)
 
 else-read : (limit : ℕ) (s : Progress) (tokens : List Token) → IsWord k.Else (codes "else") tokens → statement limit s tokens ≡ turned s.frames s.found

@@ -105,25 +105,25 @@ module _ (limit : ℕ) (tokens : List Token) (i : List Piece) (x : Nodes) where
   closes again [] true found lt h = absurd (cc)
   closes again (f ∷ fs) true found lt h = around (closes again fs f.is_chained (row f found) (omega arith) h)
 
-  if-by : Again → (fs : List Frame) (found : Nodes) → length fs < limit → kind (begin tokens) ≡ k.If
+  if-by : Again → (fs : List Frame) (found : Nodes) → length fs < limit → kind (begin false tokens) ≡ k.If
       → option_and_then (λ t. run limit t i) (statement_by limit (at fs found) tokens k.If) ≡ Some x → Goes limit fs found (Block tokens ∷ i) x
   if-by again fs found lt e h =
-      let p = opened_then false (at fs found) (λ t. run limit t i) (whole (room limit (at fs found)) (next (begin tokens))) x h in
-      let w = whole_sound (room limit (at fs found)) (next (begin tokens)) p.0 p.1 in
-      let b = room-below limit (length fs) (whole_room (room limit (at fs found)) (next (begin tokens)) p.0 p.1) in
+      let p = opened_then false (at fs found) (λ t. run limit t i) (whole (room limit (at fs found)) (next (begin false tokens))) x h in
+      let w = whole_sound (room limit (at fs found)) (next (begin false tokens)) p.0 p.1 in
+      let b = room-below limit (length fs) (whole_room (room limit (at fs found)) (next (begin false tokens)) p.0 p.1) in
       if-got fs found p.0 (e, w.0) lt w.1 (again (asking found p.0 false ∷ fs) NoNodes b p.2)
 
-  elif-turned : Again → (f : Frame) (fs : List Frame) (found : Nodes) (b : Option Nodes) → f.body ≡ b → suc (length fs) < limit → kind (begin tokens) ≡ k.Elif
-      → option_and_then (λ t. run limit t i) (option_and_then (λ (t : Progress). opened true t (whole (room limit t) (next (begin tokens)))) (turned_by f b fs found)) ≡ Some x → Goes limit (f ∷ fs) found (Block tokens ∷ i) x
+  elif-turned : Again → (f : Frame) (fs : List Frame) (found : Nodes) (b : Option Nodes) → f.body ≡ b → suc (length fs) < limit → kind (begin false tokens) ≡ k.Elif
+      → option_and_then (λ t. run limit t i) (option_and_then (λ (t : Progress). opened true t (whole (room limit t) (next (begin false tokens)))) (turned_by f b fs found)) ≡ Some x → Goes limit (f ∷ fs) found (Block tokens ∷ i) x
   elif-turned again f fs found (Some body) n lt e h = absurd (cc)
   elif-turned again f fs found None n lt e h =
       let s = at (half f found ∷ fs) NoNodes in
-      let p = opened_then true s (λ t. run limit t i) (whole (room limit s) (next (begin tokens))) x h in
-      let w = whole_sound (room limit s) (next (begin tokens)) p.0 p.1 in
-      let b = room-below limit (suc (length fs)) (whole_room (room limit s) (next (begin tokens)) p.0 p.1) in
+      let p = opened_then true s (λ t. run limit t i) (whole (room limit s) (next (begin false tokens))) x h in
+      let w = whole_sound (room limit s) (next (begin false tokens)) p.0 p.1 in
+      let b = room-below limit (suc (length fs)) (whole_room (room limit s) (next (begin false tokens)) p.0 p.1) in
       elif-got f fs found p.0 n (e, w.0) lt w.1 (again (asking NoNodes p.0 true ∷ half f found ∷ fs) NoNodes b p.2)
 
-  elif-by : Again → (fs : List Frame) (found : Nodes) → length fs < limit → kind (begin tokens) ≡ k.Elif
+  elif-by : Again → (fs : List Frame) (found : Nodes) → length fs < limit → kind (begin false tokens) ≡ k.Elif
       → option_and_then (λ t. run limit t i) (statement_by limit (at fs found) tokens k.Elif) ≡ Some x → Goes limit fs found (Block tokens ∷ i) x
   elif-by again [] found lt e h = absurd (cc)
   elif-by again (f ∷ fs) found lt e h = elif-turned again f fs found f.body refl lt e h
@@ -141,7 +141,7 @@ module _ (limit : ℕ) (tokens : List Token) (i : List Piece) (x : Nodes) where
   endif-by again [] found lt w h = absurd (cc)
   endif-by again (f ∷ fs) found lt w h = endif-got f fs found f.body refl w (closes again fs f.is_chained (row f found) (omega arith) h)
 
-  block-by : Again → (fs : List Frame) (found : Nodes) → length fs < limit → (s : Kind) → kind (begin tokens) ≡ s
+  block-by : Again → (fs : List Frame) (found : Nodes) → length fs < limit → (s : Kind) → kind (begin false tokens) ≡ s
       → option_and_then (λ t. run limit t i) (statement_by limit (at fs found) tokens s) ≡ Some x → Goes limit fs found (Block tokens ∷ i) x
   block-by again fs found lt k.If e h = if-by again fs found lt e h
   block-by again fs found lt k.Elif e h = elif-by again fs found lt e h
@@ -155,7 +155,7 @@ module _ (limit : ℕ) (tokens : List Token) (i : List Piece) (x : Nodes) where
 
   block : Again → (fs : List Frame) (found : Nodes) → length fs < limit → option_and_then (λ t. run limit t i) (statement limit (at fs found) tokens) ≡ Some x → Goes limit fs found (Block tokens ∷ i) x
   unfolding statement
-  block again fs found lt h = block-by again fs found lt (kind (begin tokens)) refl h
+  block again fs found lt h = block-by again fs found lt (kind (begin false tokens)) refl h
 
 goes : (limit : ℕ) (i : List Piece) (fs : List Frame) (found x : Nodes) → length fs < limit → run limit (at fs found) i ≡ Some x → Goes limit fs found i x
 goes limit [] [] found x lt h = done empty (omega arith) (join-none found ∙ (let q : found ≡ x = cc in q))
@@ -168,8 +168,8 @@ goes limit (Words (b ∷ bs) place ∷ i) fs found x lt h =
 goes limit (Comment ∷ i) fs found x lt h =
     in_front limit fs found NoNodes (Comment ∷ i) i x (λ y m d. comment d) (omega arith) (subst (λ n. Goes limit fs n i x) (sym (join-none found)) (goes limit i fs found x lt h))
 goes limit (Variable tokens ∷ i) fs found x lt h =
-    let p = printed_then (at fs found) (λ t. run limit t i) (whole (room limit (at fs found)) (begin tokens)) x h in
-    let w = whole_sound (room limit (at fs found)) (begin tokens) p.0 p.1 in
+    let p = printed_then (at fs found) (λ t. run limit t i) (whole (room limit (at fs found)) (begin false tokens)) x h in
+    let w = whole_sound (room limit (at fs found)) (begin false tokens) p.0 p.1 in
     in_front limit fs found (one (Print p.0)) (Variable tokens ∷ i) i x (λ y m d. print w.0 d) (print-small (depth p.0) limit (length fs) lt w.1) (goes limit i fs (join found (one (Print p.0))) x lt p.2)
 goes limit (Block tokens ∷ i) fs found x lt h = block limit tokens i x (λ fs found lt h. goes limit i fs found x lt h) fs found lt h
 goes limit (Broken ∷ i) fs found x lt h = absurd (cc)

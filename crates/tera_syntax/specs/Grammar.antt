@@ -1,5 +1,5 @@
 -- What pieces derive: nodes.
-use Rattle.std.specs.Prelude.{◌≡◌, ◌≢◌, List, [], ◌∷◌, codes, IsTrue}
+use Rattle.std.specs.Prelude.{◌≡◌, ◌≢◌, List, [], ◌∷◌, codes, IsTrue, false}
 use Rattle.tera_errors.specs.Site as site
 use Rattle.tera_errors.specs.declared.span.Span.{Span}
 use Rattle.tera_tree.specs.Tree.{Expr, Content, Print, If, Nodes, NoNodes, MoreNodes}
@@ -16,11 +16,11 @@ pub data DerivesWhole : Expr → Input → Type 0 where
 
 -- the tag is this word alone, which is of this kind
 abbrev pub IsWord : Kind → site.Text → List Token → Type 0
-IsWord s word tokens = (kind (begin tokens) ≡ s) × IsTrue (is_alone word tokens)
+IsWord s word tokens = (kind (begin false tokens) ≡ s) × IsTrue (is_alone word tokens)
 
 -- the tag is a word of this kind, and behind it the condition
 abbrev pub Asks : Kind → Expr → List Token → Type 0
-Asks s condition tokens = (kind (begin tokens) ≡ s) × DerivesWhole condition (next (begin tokens))
+Asks s condition tokens = (kind (begin false tokens) ≡ s) × DerivesWhole condition (next (begin false tokens))
 
 mutual
   -- The pieces from the first place to the second are nodes.
@@ -31,7 +31,7 @@ mutual
     -- text of which trimming leaves nothing is no node
     blank : {place : Span} {nodes : Nodes} {i j : List Piece} → DerivesNodes nodes i j → DerivesNodes nodes (Words [] place ∷ i) j
     comment : {nodes : Nodes} {i j : List Piece} → DerivesNodes nodes i j → DerivesNodes nodes (Comment ∷ i) j
-    print : {value : Expr} {tokens : List Token} {rest : Nodes} {i j : List Piece} → DerivesWhole value (begin tokens) → DerivesNodes rest i j
+    print : {value : Expr} {tokens : List Token} {rest : Nodes} {i j : List Piece} → DerivesWhole value (begin false tokens) → DerivesNodes rest i j
         → DerivesNodes (MoreNodes (Print value) rest) (Variable tokens ∷ i) j
     choice : {condition : Expr} {tokens : List Token} {body other rest : Nodes} {i m l j : List Piece} → Asks k.If condition tokens → DerivesNodes body i m → DerivesOther other m l
         → DerivesNodes rest l j → DerivesNodes (MoreNodes (If condition body other) rest) (Block tokens ∷ i) j

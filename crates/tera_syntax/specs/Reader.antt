@@ -77,15 +77,15 @@ closed [] found = None
 closed (f ∷ fs) found = if f.is_chained then closed fs (row f found) else Some (record { frames = fs; found = row f found })
 
 abbrev pub statement_by : ℕ → Progress → List Token → Kind → Option Progress
-statement_by limit s tokens k.If = opened false s (whole (room limit s) (next (begin tokens)))
-statement_by limit s tokens k.Elif = option_and_then (λ t. opened true t (whole (room limit t) (next (begin tokens)))) (turned s.frames s.found)
+statement_by limit s tokens k.If = opened false s (whole (room limit s) (next (begin false tokens)))
+statement_by limit s tokens k.Elif = option_and_then (λ t. opened true t (whole (room limit t) (next (begin false tokens)))) (turned s.frames s.found)
 statement_by limit s tokens k.Else = if is_alone (codes "else") tokens then turned s.frames s.found else None
 statement_by limit s tokens k.Name = if is_alone (codes "endif") tokens then closed s.frames s.found else None
 statement_by limit s tokens _ = None
 
 -- a statement, or a tag that belongs to one
 unfoldable pub statement : ℕ → Progress → List Token → Option Progress
-statement limit s tokens = statement_by limit s tokens (kind (begin tokens))
+statement limit s tokens = statement_by limit s tokens (kind (begin false tokens))
 
 abbrev pub printed : Progress → Option Expr → Option Progress
 printed s None = None
@@ -100,7 +100,7 @@ put_words s (b ∷ bs) place = put s (Content (b ∷ bs) place)
 abbrev pub step : ℕ → Progress → Piece → Option Progress
 step limit s (Words words place) = Some (put_words s words place)
 step limit s Comment = Some s
-step limit s (Variable tokens) = printed s (whole (room limit s) (begin tokens))
+step limit s (Variable tokens) = printed s (whole (room limit s) (begin false tokens))
 step limit s (Block tokens) = statement limit s tokens
 step limit s Broken = None
 

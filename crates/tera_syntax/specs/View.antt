@@ -13,7 +13,7 @@ body_of None = None
 body_of (Some nodes) = Some (nodes_of nodes.items)
 
 abbrev pub frame_of : frame.Frame → Frame
-frame_of f = record { before = nodes_of f.before.items; condition = expr_of f.condition; body = body_of f.body; is_chained = f.is_chained }
+frame_of f = record { before = nodes_of f.before.items; condition = expr_of f.condition.value; body = body_of f.body; is_chained = f.is_chained }
 
 -- the innermost stands last in memory
 abbrev pub frames_of : List frame.Frame → List Frame

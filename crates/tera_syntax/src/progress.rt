@@ -19,7 +19,7 @@ const MAX_DEPTH: usize = 200;
 pub(crate) struct Frame {
     /// What stands in front of it.
     before: Vec<Node>,
-    condition: Expression,
+    condition: Box<Expression>,
     /// Its body, once `else` or `elif` ends that.
     body: Option<Vec<Node>>,
     /// What ends an `elif` ends the choice around it too.
@@ -35,8 +35,8 @@ pub(crate) struct Progress {
 }
 
 /// The choice that an end makes of what was read last.
-fn choice(alloc: Global, condition: Expression, body: Option<Vec<Node>>, found: Vec<Node>) -> Node
-    ensures { node_of result ≡ spec.choice_by (expr_of condition) (body_of body) (nodes_of found.items) }
+fn choice(alloc: Global, condition: Box<Expression>, body: Option<Vec<Node>>, found: Vec<Node>) -> Node
+    ensures { node_of result ≡ spec.choice_by (expr_of condition.value) (body_of body) (nodes_of found.items) }
 {
     match body {
         None => Node::choice(condition, found, Vec::new(alloc)),
@@ -90,9 +90,9 @@ impl Progress {
         self,
         alloc: Global,
         is_chained: bool,
-        condition: Expression,
+        condition: Box<Expression>,
     ) -> Result<Progress, Refusal>
-        ensures { Answers progress_of (spec.opened is_chained (progress_of self) (Some (expr_of condition))) result }
+        ensures { Answers progress_of (spec.opened is_chained (progress_of self) (Some (expr_of condition.value))) result }
     {
         let Progress { mut frames, found } = self;
         frames.push(Frame {

@@ -91,15 +91,13 @@ impl Shown {
             }
             Expression::Slice {
                 target,
-                start,
-                end,
-                step,
+                bounds,
                 ..
             } => {
                 self.expression(target);
-                self.put_bound(start);
-                self.put_bound(end);
-                self.put_bound(step);
+                self.put_bound(&bounds.start);
+                self.put_bound(&bounds.end);
+                self.put_bound(&bounds.step);
             }
             Expression::Ternary {
                 value,

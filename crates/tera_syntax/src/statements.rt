@@ -21,8 +21,8 @@ use tera_tree::{Expression, Node};
 
 /// An expression that is all from here to the end of the tag.
 #[tactic(auto, unfolding(crate::specs::Reader::whole))]
-fn whole(alloc: Global, tokens: &mut Tokens<'_>, limit: usize) -> Result<Expression, Refusal>
-    ensures { Answers expr_of (spec.whole limit (input tokens.old)) result }
+fn whole(alloc: Global, tokens: &mut Tokens<'_>, limit: usize) -> Result<Box<Expression>, Refusal>
+    ensures { Answers (λ b. expr_of b.value) (spec.whole limit (input tokens.old)) result }
 {
     let value = expr(alloc, tokens, limit, 0)?;
     if same(Kind::End, tokens.kind()) {
@@ -50,7 +50,7 @@ fn opened(
 fn statement(progress: Progress, alloc: Global, tokens: &[Token<'_>]) -> Result<Progress, Refusal>
     ensures { Answers progress_of (spec.statement 200 (progress_of progress) (tokens_of tokens.now)) result }
 {
-    let mut ahead = Tokens::begin(tokens);
+    let mut ahead = Tokens::begin(tokens, false);
     match ahead.kind() {
         Kind::If => {
             ahead.take();
@@ -85,7 +85,7 @@ pub(crate) fn step(progress: Progress, alloc: Global, piece: Piece<'_>) -> Resul
         Piece::Words(text, span) => put_words(progress, alloc, text, span),
         Piece::Comment => Ok(progress),
         Piece::Variable(tokens) => {
-            let mut tokens = Tokens::begin(tokens.as_slice());
+            let mut tokens = Tokens::begin(tokens.as_slice(), false);
             let value = whole(alloc, &mut tokens, progress.room())?;
             progress.put(Node::Print { value })
         }

@@ -12,9 +12,11 @@ use Rattle.tera_tokens.specs.Token.{Token}
 pub record Input : Type 0 where
   pub ahead : List Token
   pub last : ℕ
+  -- the tag stands inside a loop's body
+  pub in_loop : Bool
 
-abbrev pub begin : List Token → Input
-begin tokens = record { ahead = tokens; last = 0 }
+abbrev pub begin : Bool → List Token → Input
+begin in_loop tokens = record { ahead = tokens; last = 0; in_loop = in_loop }
 
 abbrev pub kind_of : List Token → Kind
 kind_of [] = k.End
@@ -40,13 +42,13 @@ start_of (t ∷ ts) = t.span.start
 unfoldable pub start : Input → ℕ
 start i = start_of i.ahead
 
-abbrev pub after : List Token → ℕ → Input
-after [] last = record { ahead = []; last = last }
-after (t ∷ ts) last = record { ahead = ts; last = t.span.end }
+abbrev pub after : List Token → ℕ → Bool → Input
+after [] last in_loop = record { ahead = []; last = last; in_loop = in_loop }
+after (t ∷ ts) last in_loop = record { ahead = ts; last = t.span.end; in_loop = in_loop }
 
 -- behind the next token
 unfoldable pub next : Input → Input
-next i = after i.ahead i.last
+next i = after i.ahead i.last i.in_loop
 
 -- how many tokens are ahead
 unfoldable pub left : Input → ℕ

@@ -7,7 +7,7 @@ use Rattle.tera_tokens.specs.Token.{tokens_of}
 use Rattle.tera_tokens.specs.Input.{Input, Outcome}
 
 abbrev pub input : Tokens → Input
-input t = record { ahead = tokens_of t.ahead.now; last = t.last }
+input t = record { ahead = tokens_of t.ahead.now; last = t.last; in_loop = t.in_loop }
 
 -- What was read, seen by view, and the tokens that are left are the outcome that is meant.
 abbrev pub Takes : {X Y : Type 0} → (X → Y) → Outcome Y → Result X Refusal → Tokens → Type 0

@@ -15,16 +15,19 @@ pub struct Tokens<'a> {
     pub ahead: &'a [Token<'a>],
     /// Where the token before them ends: 0 before the first.
     pub last: usize,
+    /// Whether the tag stands inside a loop's body.
+    pub in_loop: bool,
 }
 
 impl<'a> Tokens<'a> {
     /// The place before all of them.
-    pub fn begin(tokens: &'a [Token<'a>]) -> Tokens<'a>
-        ensures { input result ≡ spec.begin (tokens_of tokens.now) }
+    pub fn begin(tokens: &'a [Token<'a>], in_loop: bool) -> Tokens<'a>
+        ensures { input result ≡ spec.begin in_loop (tokens_of tokens.now) }
     {
         Tokens {
             ahead: tokens,
             last: 0,
+            in_loop,
         }
     }
 

@@ -90,7 +90,7 @@ pub(crate) fn cut_inside<'a>(
     ensures rest { IfOk result (λ x. Follows at text.now x.next x.rest.now) }
 {
     let bytes = text.as_bytes();
-    let mut tokens = Vec::new(alloc);
+    let mut tokens = Vec::with_capacity(alloc, 16)?;
     let mut opened = 0;
     let mut i = 0;
     while i < bytes.len() {

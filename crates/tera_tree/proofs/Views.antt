@@ -1,5 +1,5 @@
 -- Views of what holds a Vec, by the Vec's items.
-use Rattle.std.proofs.Common.{◌≡◌, Vec, Global, refl, ap, ap₂, ◌∙◌}
+use Rattle.std.proofs.Common.{◌≡◌, Vec, Box, Global, refl, ap, ap₂, ◌∙◌}
 use mathlib.Core.Former.{Count}
 use Rattle.tera_errors.specs.declared.span.Span.{Span}
 use Rattle.tera_tree.specs.declared.expression.Item as item
@@ -53,6 +53,6 @@ view_map all span =
     let r = entries_in (expression.Map all span) in
     ap (λ x. Map x span) (entries_row r.0 r.1 ∙ ap entries_of (items_hidden-the_row-Entry-1 all))
 
-pub view_if : (c : Expression) (body other : Vec declared.Node Global) → node_of (variant.If c body other) ≡ If (expr_of c) (nodes_of body.items) (nodes_of other.items)
+pub view_if : (c : Box Expression Global) (body other : Vec declared.Node Global) → node_of (variant.If c body other) ≡ If (expr_of c.value) (nodes_of body.items) (nodes_of other.items)
 view_if c body other =
-    ap₂ (λ x y. If (expr_of c) x y) (nodes_is (body_in (variant.If c body other)) body (items_hidden-the_row-Node-0 body)) (nodes_is (other_in (variant.If c body other)) other (items_hidden-the_row-Node-0 other))
+    ap₂ (λ x y. If (expr_of c.value) x y) (nodes_is (body_in (variant.If c body other)) body (items_hidden-the_row-Node-0 body)) (nodes_is (other_in (variant.If c body other)) other (items_hidden-the_row-Node-0 other))

@@ -1,7 +1,7 @@
 -- The plain data that a tree in memory stands for.
 use Rattle.std.specs.Prelude.{List, [], ◌∷◌, Option, Some, None, string_bytes, Box, map as map_list}
 use Rattle.std.specs.Global.{Global}
-use Rattle.tera_tree.specs.declared.expression.Expression.{Expression, Row_of-Item, end_of-Item, more_of-Item, Row_of-Entry, end_of-Entry, more_of-Entry, Held-Expression-Slice-1, Expression-Slice-1-None', Some'}
+use Rattle.tera_tree.specs.declared.expression.Expression.{Expression, Row_of-Item, end_of-Item, more_of-Item, Row_of-Entry, end_of-Entry, more_of-Entry, Held-Bounds-start, Bounds-start-None', Some'}
 use Rattle.tera_tree.specs.declared.expression.Expression.TheVariants as expression
 use Rattle.tera_tree.specs.declared.expression.LiteralKey.{LiteralKey}
 use Rattle.tera_tree.specs.declared.expression.LiteralKey.TheVariants as key
@@ -34,7 +34,7 @@ abbrev mutual
   expr_of (expression.Name t span) = Name (string_bytes t) span
   expr_of (expression.Attribute' p e t optional span) = Attribute (expr_of e) (string_bytes t) optional span
   expr_of (expression.Index' p a q b optional span) = Index (expr_of a) (expr_of b) optional span
-  expr_of (expression.Slice' p e a b c optional span) = Slice (expr_of e) (held_of a) (held_of b) (held_of c) optional span
+  expr_of (expression.Slice' p e q a b c optional span) = Slice (expr_of e) (held_of a) (held_of b) (held_of c) optional span
   expr_of (expression.Not' p e span) = Not (expr_of e) span
   expr_of (expression.Negate' p e span) = Negate (expr_of e) span
   expr_of (expression.Binary' op p a q b span) = Binary op (expr_of a) (expr_of b) span
@@ -44,8 +44,8 @@ abbrev mutual
   expr_of (expression.Array' m all span) = Array (row_items all) span
   expr_of (expression.Map' m all span) = Map (row_entries all) span
 
-  pub held_of : Held-Expression-Slice-1 → Optional
-  held_of Expression-Slice-1-None' = Absent
+  pub held_of : Held-Bounds-start → Optional
+  held_of Bounds-start-None' = Absent
   held_of (Some' p e) = Present (expr_of e)
 
   pub row_items : {m : _} → Row_of-Item m → Items
@@ -76,8 +76,8 @@ entries_of (a ∷ rest) = MoreEntries (key_option a.key) (expr_of a.value) (entr
 abbrev mutual
   pub node_of : declared.Node → Node
   node_of (variant.Content t span) = Content (string_bytes t) span
-  node_of (variant.Print e) = Print (expr_of e)
-  node_of (variant.If' c m body n other) = If (expr_of c) (row_nodes body) (row_nodes other)
+  node_of (variant.Print e) = Print (expr_of e.value)
+  node_of (variant.If' c m body n other) = If (expr_of c.value) (row_nodes body) (row_nodes other)
 
   pub row_nodes : {m : _} → Row_of-Node m → Nodes
   row_nodes end_of-Node = NoNodes

@@ -7,7 +7,6 @@ use std::alloc::Global;
 use tera_errors::{Error, TeraResult};
 
 /// The texts that begin and end the three kinds of tag.
-#[derive(Drop)]
 pub struct Delimiters {
     /// Begins a statement.
     pub block_start: String,
@@ -18,6 +17,19 @@ pub struct Delimiters {
     /// Begins a comment.
     pub comment_start: String,
     pub comment_end: String,
+}
+
+// By hand, so that delimiters that go out of scope are one call.
+impl Drop for Delimiters {
+    fn drop(self) {
+        let Delimiters { block_start, block_end, variable_start, variable_end, comment_start, comment_end } = self;
+        drop(block_start);
+        drop(block_end);
+        drop(variable_start);
+        drop(variable_end);
+        drop(comment_start);
+        drop(comment_end);
+    }
 }
 
 impl Delimiters {

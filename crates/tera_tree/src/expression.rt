@@ -70,9 +70,7 @@ pub enum Expression {
     /// `target[start:end:step]`, or the same with `?[` where it is optional.
     Slice {
         target: Box<Expression>,
-        start: Option<Box<Expression>>,
-        end: Option<Box<Expression>>,
-        step: Option<Box<Expression>>,
+        bounds: Box<Bounds>,
         optional: bool,
         span: Span,
     },
@@ -141,9 +139,7 @@ impl Drop for Expression {
             } => {}
             Expression::Slice {
                 target: _,
-                start: _,
-                end: _,
-                step: _,
+                bounds: _,
                 optional: _,
                 span: _,
             } => {}
@@ -200,4 +196,13 @@ pub struct Item {
 pub struct Entry {
     pub key: Option<LiteralKey>,
     pub value: Expression,
+}
+
+/// The bounds of a slice, as far as they are written.
+#[derive(Drop)]
+#[cycle(expression)]
+pub struct Bounds {
+    pub start: Option<Box<Expression>>,
+    pub end: Option<Box<Expression>>,
+    pub step: Option<Box<Expression>>,
 }

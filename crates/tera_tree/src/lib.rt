@@ -7,6 +7,5 @@ pub mod make;
 pub mod node;
 
 pub use delimiters::Delimiters;
-pub use expression::{BinaryOperator, Entry, Expression, Item, LiteralKey};
-pub use make::Bounds;
+pub use expression::{BinaryOperator, Bounds, Entry, Expression, Item, LiteralKey};
 pub use node::{Node, ParserOutput};

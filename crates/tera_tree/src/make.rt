@@ -1,158 +1,146 @@
 // Trees from their parts.
-ghost use Rattle.std.specs.Prelude.{◌≡◌, Ok, Option, string_bytes};
-ghost use Rattle.tera_errors.specs.Answer.{Gives};
+ghost use Rattle.std.specs.Prelude.{◌≡◌, Option, string_bytes};
 ghost use Rattle.tera_tree.specs.Tree.{Attribute, Index, Slice, Not, Negate, Binary, And, Or, Ternary, Array, Map, If};
-ghost use Rattle.tera_tree.specs.View.{expr_of, option_of, optional_of, items_of, entries_of, node_of, nodes_of};
+ghost use Rattle.tera_tree.specs.View.{expr_of, optional_of, items_of, entries_of, node_of, nodes_of};
 
-use crate::expression::{BinaryOperator, Entry, Expression, Item};
+use crate::expression::{BinaryOperator, Bounds, Entry, Expression, Item};
 use crate::node::Node;
-use std::alloc::Global;
-use tera_errors::{Span, TeraResult};
+use tera_errors::Span;
 
 impl Expression {
     /// `target.name`, or `target?.name` where it is optional.
     pub fn attribute(
-        alloc: Global,
-        target: Expression,
+        target: Box<Expression>,
         name: String,
         optional: bool,
         span: Span,
-    ) -> TeraResult<Expression>
-        ensures { Gives expr_of result (Ok (Attribute (expr_of target) (string_bytes name) optional span)) }
+    ) -> Expression
+        ensures { expr_of result ≡ Attribute (expr_of target.value) (string_bytes name) optional span }
     {
-        Ok(Expression::Attribute {
-            target: Box::new(alloc, target)?,
+        Expression::Attribute {
+            target,
             name,
             optional,
             span,
-        })
+        }
     }
 
     /// `target[index]`, or `target?[index]` where it is optional.
     pub fn index(
-        alloc: Global,
-        target: Expression,
-        index: Expression,
+        target: Box<Expression>,
+        index: Box<Expression>,
         optional: bool,
         span: Span,
-    ) -> TeraResult<Expression>
-        ensures { Gives expr_of result (Ok (Index (expr_of target) (expr_of index) optional span)) }
+    ) -> Expression
+        ensures { expr_of result ≡ Index (expr_of target.value) (expr_of index.value) optional span }
     {
-        Ok(Expression::Index {
-            target: Box::new(alloc, target)?,
-            index: Box::new(alloc, index)?,
+        Expression::Index {
+            target,
+            index,
             optional,
             span,
-        })
+        }
     }
 
     /// The bounds are those that are written, each in its place.
     pub fn slice(
-        alloc: Global,
-        target: Expression,
-        bounds: Bounds,
+        target: Box<Expression>,
+        bounds: Box<Bounds>,
         optional: bool,
         span: Span,
-    ) -> TeraResult<Expression>
-        ensures { Gives expr_of result (Ok (Slice (expr_of target) (option_of bounds.start) (option_of bounds.end) (option_of bounds.step) optional span)) }
+    ) -> Expression
+        ensures { expr_of result ≡ Slice (expr_of target.value) (optional_of bounds.value.start) (optional_of bounds.value.end) (optional_of bounds.value.step) optional span }
     {
-        let Bounds { start, end, step } = bounds;
-        Ok(Expression::Slice {
-            target: Box::new(alloc, target)?,
-            start: boxed(alloc, start)?,
-            end: boxed(alloc, end)?,
-            step: boxed(alloc, step)?,
+        Expression::Slice {
+            target,
+            bounds,
             optional,
             span,
-        })
+        }
     }
 
     /// `not operand`
-    pub fn not(alloc: Global, operand: Expression, span: Span) -> TeraResult<Expression>
-        ensures { Gives expr_of result (Ok (Not (expr_of operand) span)) }
+    pub fn not(operand: Box<Expression>, span: Span) -> Expression
+        ensures { expr_of result ≡ Not (expr_of operand.value) span }
     {
-        Ok(Expression::Not {
-            operand: Box::new(alloc, operand)?,
+        Expression::Not {
+            operand,
             span,
-        })
+        }
     }
 
     /// `-operand`
-    pub fn negate(alloc: Global, operand: Expression, span: Span) -> TeraResult<Expression>
-        ensures { Gives expr_of result (Ok (Negate (expr_of operand) span)) }
+    pub fn negate(operand: Box<Expression>, span: Span) -> Expression
+        ensures { expr_of result ≡ Negate (expr_of operand.value) span }
     {
-        Ok(Expression::Negate {
-            operand: Box::new(alloc, operand)?,
+        Expression::Negate {
+            operand,
             span,
-        })
+        }
     }
 
     /// The operator between two operands.
     pub fn binary(
-        alloc: Global,
         operator: BinaryOperator,
-        left: Expression,
-        right: Expression,
+        left: Box<Expression>,
+        right: Box<Expression>,
         span: Span,
-    ) -> TeraResult<Expression>
-        ensures { Gives expr_of result (Ok (Binary operator (expr_of left) (expr_of right) span)) }
+    ) -> Expression
+        ensures { expr_of result ≡ Binary operator (expr_of left.value) (expr_of right.value) span }
     {
-        Ok(Expression::Binary {
+        Expression::Binary {
             operator,
-            left: Box::new(alloc, left)?,
-            right: Box::new(alloc, right)?,
+            left,
+            right,
             span,
-        })
+        }
     }
 
     /// `left and right`
     pub fn and(
-        alloc: Global,
-        left: Expression,
-        right: Expression,
+        left: Box<Expression>,
+        right: Box<Expression>,
         span: Span,
-    ) -> TeraResult<Expression>
-        ensures { Gives expr_of result (Ok (And (expr_of left) (expr_of right) span)) }
+    ) -> Expression
+        ensures { expr_of result ≡ And (expr_of left.value) (expr_of right.value) span }
     {
-        Ok(Expression::And {
-            left: Box::new(alloc, left)?,
-            right: Box::new(alloc, right)?,
+        Expression::And {
+            left,
+            right,
             span,
-        })
+        }
     }
 
     /// `left or right`
     pub fn or(
-        alloc: Global,
-        left: Expression,
-        right: Expression,
+        left: Box<Expression>,
+        right: Box<Expression>,
         span: Span,
-    ) -> TeraResult<Expression>
-        ensures { Gives expr_of result (Ok (Or (expr_of left) (expr_of right) span)) }
+    ) -> Expression
+        ensures { expr_of result ≡ Or (expr_of left.value) (expr_of right.value) span }
     {
-        Ok(Expression::Or {
-            left: Box::new(alloc, left)?,
-            right: Box::new(alloc, right)?,
+        Expression::Or {
+            left,
+            right,
             span,
-        })
+        }
     }
 
     /// `value if condition else other`
     pub fn ternary(
-        alloc: Global,
-        value: Expression,
-        condition: Expression,
-        other: Expression,
+        value: Box<Expression>,
+        condition: Box<Expression>,
+        other: Box<Expression>,
         span: Span,
-    ) -> TeraResult<Expression>
-        ensures { Gives expr_of result (Ok (Ternary (expr_of value) (expr_of condition) (expr_of other) span)) }
+    ) -> Expression
+        ensures { expr_of result ≡ Ternary (expr_of value.value) (expr_of condition.value) (expr_of other.value) span }
     {
-        Ok(Expression::Ternary {
-            value: Box::new(alloc, value)?,
-            condition: Box::new(alloc, condition)?,
-            other: Box::new(alloc, other)?,
+        Expression::Ternary {
+            value,
+            condition,
+            other,
             span,
-        })
+        }
     }
 
     /// `[item, ..]`
@@ -170,28 +158,11 @@ impl Expression {
     }
 }
 
-/// The bounds of a slice, as far as they are written.
-#[derive(Drop)]
-pub struct Bounds {
-    pub start: Option<Expression>,
-    pub end: Option<Expression>,
-    pub step: Option<Expression>,
-}
-
-fn boxed(alloc: Global, part: Option<Expression>) -> TeraResult<Option<Box<Expression>>>
-    ensures { Gives optional_of result (Ok (option_of part)) }
-{
-    match part {
-        None => Ok(None),
-        Some(expression) => Ok(Some(Box::new(alloc, expression)?)),
-    }
-}
-
 impl Node {
     /// `{% if condition %}body{% else %}other{% endif %}`
     #[tactic(auto, using(crate::proofs::Views::view_if))]
-    pub fn choice(condition: Expression, body: Vec<Node>, other: Vec<Node>) -> Node
-        ensures { node_of result ≡ If (expr_of condition) (nodes_of body.items) (nodes_of other.items) }
+    pub fn choice(condition: Box<Expression>, body: Vec<Node>, other: Vec<Node>) -> Node
+        ensures { node_of result ≡ If (expr_of condition.value) (nodes_of body.items) (nodes_of other.items) }
     {
         Node::If {
             condition,

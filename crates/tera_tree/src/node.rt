@@ -12,11 +12,11 @@ pub enum Node {
     },
     /// `{{ value }}`
     Print {
-        value: Expression,
+        value: Box<Expression>,
     },
     /// `{% if condition %}body{% else %}other{% endif %}`; an `elif` is an `if` in the other body.
     If {
-        condition: Expression,
+        condition: Box<Expression>,
         body: Vec<Node>,
         other: Vec<Node>,
     },

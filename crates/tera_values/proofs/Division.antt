@@ -34,7 +34,7 @@ abbrev int_or : ℤ → Result Val Fault → ℤ
 int_or z (Ok (int w)) = w
 int_or z a = z
 
-told : (t s : Bool) (z w : ℤ) → cond t (Err message) (cond s (Ok (int z)) (Err message)) ≡ Ok (int w) → z ≡ w
+told : (t s : Bool) (z w : ℤ) → ◌≡◌ {A = Result Val Fault} (cond t (Err message) (cond s (Ok (int z)) (Err message))) (Ok (int w)) → z ≡ w
 told true s z w e = ap (int_or z) e
 told false true z w e = ap (int_or z) e
 told false false z w e = ap (int_or z) e

@@ -11,10 +11,17 @@ use tera_errors::TeraResult;
 use tera_values_data::Value;
 
 /// Values by name. Each is kept so that a copy of it, or of any part of it, is a count.
-#[derive(Drop)]
 pub struct Context {
     alloc: Global,
     names: IndexMap<String, Value>,
+}
+
+// By hand, so that a context that goes out of scope is one call.
+impl Drop for Context {
+    fn drop(self) {
+        let Context { alloc: _, names } = self;
+        drop(names);
+    }
 }
 
 impl Model for Context {

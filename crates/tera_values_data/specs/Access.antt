@@ -1,5 +1,6 @@
 use Rattle.std.specs.Prelude.{ℕ, ℤ, codes, Bool, true, false, if◌then◌else◌, List, [], ◌∷◌, Option, Some, None}
 use Rattle.std.specs.Ordering.{eq_by_cmp}
+use Rattle.tera_values_data.specs.Alphabet.{Alphabet, plain}
 use Rattle.tera_values_data.specs.Keys.{key_cmp}
 use Rattle.std.specs.Prelude.{not, length, pos, Result, Ok, Err}
 use Rattle.std.specs.Ordering.{int_eq}
@@ -8,27 +9,27 @@ use Rattle.tera_errors.specs.Fault.{Fault, message}
 use Rattle.tera_values_data.specs.declared.value.ValueKind.{ValueKind}
 use Rattle.tera_values_data.specs.declared.value.ValueKind.TheVariants as kind
 use Rattle.tera_values_data.specs.Val.{list_of}
-use Rattle.tera_values_data.specs.Val.{Val, Entries, KeyVal, kbool, kint, ktext, undefined, none, bool, int, text, bytes, array, map, no_items, item, no_entries, entry}
+use Rattle.tera_values_data.specs.Val.{Val, ValOf, EntriesOf, KeyVal, kbool, kint, ktext, undefined, none, bool, int, text, bytes, array, map, no_items, item, no_entries, entry}
 
 abbrev pub key_eq : KeyVal → KeyVal → Bool
 key_eq = eq_by_cmp key_cmp
 
 -- the value at a key
-abbrev pub find : KeyVal → List (KeyVal × Val) → Option Val
+abbrev pub find : {A : Type 0} → KeyVal → List (KeyVal × A) → Option A
 find k [] = None
 find k (e ∷ es) = if key_eq k e.0 then Some e.1 else find k es
 
 -- a key that is there keeps its place and takes the value, and a new key goes last
-abbrev pub insert_pair : List (KeyVal × Val) → KeyVal → Val → List (KeyVal × Val)
+abbrev pub insert_pair : {A : Type 0} → List (KeyVal × A) → KeyVal → A → List (KeyVal × A)
 insert_pair [] k v = (k, v) ∷ []
 insert_pair (e ∷ es) k v = if key_eq k e.0 then (e.0, v) ∷ es else e ∷ insert_pair es k v
 
-abbrev pub pairs : Entries → List (KeyVal × Val)
+abbrev pub pairs : {C : Type 0} → EntriesOf C → List (KeyVal × ValOf C)
 pairs no_entries = []
 pairs (entry k v es) = (k, v) ∷ pairs es
 
 -- the value of a map at a text key
-abbrev pub attr : List ℕ → Val → Option Val
+abbrev pub attr : {C : Type 0} → List ℕ → ValOf C → Option (ValOf C)
 attr n (map es) = find (ktext n) (pairs es)
 attr n undefined = None
 attr n none = None
@@ -38,7 +39,7 @@ attr n (text t s) = None
 attr n (bytes t) = None
 attr n (array vs) = None
 
-abbrev pub is_undefined : Val → Bool
+abbrev pub is_undefined : {C : Type 0} → ValOf C → Bool
 is_undefined undefined = true
 is_undefined none = false
 is_undefined (bool b) = false
@@ -49,7 +50,7 @@ is_undefined (array vs) = false
 is_undefined (map es) = false
 
 -- safe are marked texts, integers, booleans and none
-abbrev pub is_safe : Val → Bool
+abbrev pub is_safe : {C : Type 0} → ValOf C → Bool
 is_safe undefined = false
 is_safe none = true
 is_safe (bool b) = true
@@ -60,7 +61,7 @@ is_safe (array vs) = false
 is_safe (map es) = false
 
 -- a text with the safe mark, and any other value as it is
-abbrev pub marked : Val → Val
+abbrev pub marked : {C : Type 0} → ValOf C → ValOf C
 marked undefined = undefined
 marked none = none
 marked (bool b) = bool b
@@ -70,7 +71,7 @@ marked (bytes t) = bytes t
 marked (array vs) = array vs
 marked (map es) = map es
 
-abbrev pub kind_of : Val → ValueKind
+abbrev pub kind_of : {C : Type 0} → ValOf C → ValueKind
 kind_of undefined = kind.Undefined
 kind_of none = kind.None
 kind_of (bool b) = kind.Bool
@@ -81,7 +82,7 @@ kind_of (array vs) = kind.Array
 kind_of (map es) = kind.Map
 
 -- the word for a kind
-abbrev pub kind_name : Val → List ℕ
+abbrev pub kind_name : {C : Type 0} → ValOf C → List ℕ
 kind_name undefined = codes "undefined"
 kind_name none = codes "none"
 kind_name (bool b) = codes "bool"
@@ -91,7 +92,7 @@ kind_name (bytes t) = codes "bytes"
 kind_name (array vs) = codes "array"
 kind_name (map es) = codes "map"
 
-abbrev pub int_of : Val → Option ℤ
+abbrev pub int_of : {C : Type 0} → ValOf C → Option ℤ
 int_of (int z) = Some z
 int_of undefined = None
 int_of none = None
@@ -101,7 +102,7 @@ int_of (bytes t) = None
 int_of (array vs) = None
 int_of (map es) = None
 
-abbrev pub text_of : Val → Option (List ℕ)
+abbrev pub text_of : {C : Type 0} → ValOf C → Option (List C)
 text_of (text t s) = Some t
 text_of undefined = None
 text_of none = None
@@ -112,7 +113,7 @@ text_of (array vs) = None
 text_of (map es) = None
 
 -- false are undefined, none, false, 0 and what is empty
-abbrev pub truthy : Val → Bool
+abbrev pub truthy : {C : Type 0} → ValOf C → Bool
 truthy undefined = false
 truthy none = false
 truthy (bool b) = b
@@ -138,15 +139,18 @@ count (array vs) = Some (length (list_of vs))
 count (map es) = Some (length (pairs es))
 
 -- a value as a key
+abbrev pub key_in : {C : Type 0} → Alphabet C → ValOf C → Result KeyVal Fault
+key_in a (bool b) = Ok (kbool b)
+key_in a (int z) = Ok (kint z)
+key_in a (text t s) = Ok (ktext (a.seen t))
+key_in a undefined = Err message
+key_in a none = Err message
+key_in a (bytes t) = Err message
+key_in a (array vs) = Err message
+key_in a (map es) = Err message
+
 abbrev pub key_of : Val → Result KeyVal Fault
-key_of (bool b) = Ok (kbool b)
-key_of (int z) = Ok (kint z)
-key_of (text t s) = Ok (ktext t)
-key_of undefined = Err message
-key_of none = Err message
-key_of (bytes t) = Err message
-key_of (array vs) = Err message
-key_of (map es) = Err message
+key_of = key_in plain
 
 -- a key as a value
 abbrev pub value_of_key : KeyVal → Val

@@ -1,4 +1,5 @@
 pub mod Val
+pub mod Alphabet
 pub mod Code
 pub mod View
 pub mod Falls

@@ -2,8 +2,9 @@
 use Rattle.std.specs.Prelude.{ℕ, Bool, true, false, cond, List, [], ◌∷◌, ◌++◌, codes, nat_eq}
 use Rattle.std.specs.Fmt.{signed_decimal}
 use Rattle.std.specs.Str.Lossy.{utf8_lossy}
+use Rattle.tera_values_data.specs.Alphabet.{Alphabet, plain, made}
 use Rattle.tera_values_data.specs.Growth.{by_byte}
-use Rattle.tera_values_data.specs.Val.{Val, Vals, Entries, KeyVal, kbool, kint, ktext, undefined, none, bool, int, text, bytes, array, map, no_items, item, no_entries, entry}
+use Rattle.tera_values_data.specs.Val.{Val, ValOf, Vals, ValsOf, Entries, EntriesOf, KeyVal, kbool, kint, ktext, undefined, none, bool, int, text, bytes, array, map, no_items, item, no_entries, entry}
 
 abbrev pub bool_text : Bool → List ℕ
 bool_text true = codes "true"
@@ -29,34 +30,48 @@ key_text (kbool b) = bool_text b
 key_text (kint z) = signed_decimal z
 key_text (ktext t) = quoted t
 
--- as it stands inside an array or a map
-abbrev mutual
-  pub inside : Val → List ℕ
-  inside undefined = codes "undefined"
-  inside none = codes "none"
-  inside (bool b) = bool_text b
-  inside (int z) = signed_decimal z
-  inside (text t safe) = quoted t
-  inside (bytes t) = quoted (utf8_lossy t)
-  inside (array no_items) = codes "[]"
-  inside (array (item v vs)) = codes "[" ++ inside v ++ rest_inside vs ++ codes "]"
-  inside (map no_entries) = codes "{}"
-  inside (map (entry k v es)) = codes "{" ++ key_text k ++ codes ": " ++ inside v ++ pairs_inside es ++ codes "}"
+module _ {C : Type 0} (a : Alphabet C) where
+  -- as it stands inside an array or a map
+  abbrev mutual
+    pub inside_of : ValOf C → List ℕ
+    inside_of undefined = codes "undefined"
+    inside_of none = codes "none"
+    inside_of (bool b) = bool_text b
+    inside_of (int z) = signed_decimal z
+    inside_of (text t safe) = quoted (a.seen t)
+    inside_of (bytes t) = quoted (utf8_lossy t)
+    inside_of (array no_items) = codes "[]"
+    inside_of (array (item v vs)) = codes "[" ++ inside_of v ++ rest_inside_of vs ++ codes "]"
+    inside_of (map no_entries) = codes "{}"
+    inside_of (map (entry k v es)) = codes "{" ++ key_text k ++ codes ": " ++ inside_of v ++ pairs_inside_of es ++ codes "}"
 
-  pub rest_inside : Vals → List ℕ
-  rest_inside no_items = []
-  rest_inside (item v vs) = codes ", " ++ inside v ++ rest_inside vs
+    pub rest_inside_of : ValsOf C → List ℕ
+    rest_inside_of no_items = []
+    rest_inside_of (item v vs) = codes ", " ++ inside_of v ++ rest_inside_of vs
 
-  pub pairs_inside : Entries → List ℕ
-  pairs_inside no_entries = []
-  pairs_inside (entry k v es) = codes ", " ++ key_text k ++ codes ": " ++ inside v ++ pairs_inside es
+    pub pairs_inside_of : EntriesOf C → List ℕ
+    pairs_inside_of no_entries = []
+    pairs_inside_of (entry k v es) = codes ", " ++ key_text k ++ codes ": " ++ inside_of v ++ pairs_inside_of es
+
+  abbrev pub printed_of : ValOf C → List C
+  printed_of undefined = []
+  printed_of none = []
+  printed_of (bool b) = a.spelled made (bool_text b)
+  printed_of (int z) = a.spelled made (signed_decimal z)
+  printed_of (text t safe) = t
+  printed_of (bytes t) = a.spelled made (utf8_lossy t)
+  printed_of (array vs) = a.spelled made (inside_of (array vs))
+  printed_of (map es) = a.spelled made (inside_of (map es))
+
+-- of texts of bytes
+abbrev pub inside : Val → List ℕ
+inside = inside_of plain
+
+abbrev pub rest_inside : Vals → List ℕ
+rest_inside = rest_inside_of plain
+
+abbrev pub pairs_inside : Entries → List ℕ
+pairs_inside = pairs_inside_of plain
 
 abbrev pub printed : Val → List ℕ
-printed undefined = []
-printed none = []
-printed (bool b) = bool_text b
-printed (int z) = signed_decimal z
-printed (text t safe) = t
-printed (bytes t) = utf8_lossy t
-printed (array vs) = inside (array vs)
-printed (map es) = inside (map es)
+printed = printed_of plain

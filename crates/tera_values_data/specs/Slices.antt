@@ -3,7 +3,8 @@ use Rattle.std.specs.Prelude.{ℕ, zero, suc, ◌+◌, ◌-◌, ℤ, pos, negsuc
 use Rattle.std.specs.Ordering.{int_eq}
 use Rattle.std.specs.Str.{chars, encode_utf8_all}
 use Rattle.tera_errors.specs.Fault.{Fault, message}
-use Rattle.tera_values_data.specs.Val.{Val, Vals, KeyVal, undefined, text, array, map, no_items, item, vals, list_of}
+use Rattle.tera_values_data.specs.Alphabet.{Alphabet, plain, made}
+use Rattle.tera_values_data.specs.Val.{Val, ValOf, Vals, KeyVal, undefined, text, array, map, no_items, item, vals, list_of}
 use Rattle.tera_values_data.specs.Access.{find, pairs, key_of}
 use Rattle.tera_values_data.specs.Order.{same}
 
@@ -36,21 +37,24 @@ abbrev pub places : Option ℤ → Option ℤ → ℤ → ℕ → List ℕ
 places start end (pos step) n = upward n (bound (before n) 0 start) (bound (before n) n end) step
 places start end (negsuc k) n = downward n (bound (through n) n start) (bound (through n) 0 end) (suc k)
 
-abbrev pub picked_items : List ℕ → List Val → List Val
+abbrev pub picked_items : {C : Type 0} → List ℕ → List (ValOf C) → List (ValOf C)
 picked_items ps vs = map_list (λ p. slice_index_or vs p undefined) ps
 
 abbrev pub picked_chars : List ℕ → List ℕ → List ℕ
 picked_chars ps cs = map_list (λ p. slice_index_or cs p 0) ps
 
 -- no step of 0 leads anywhere
-abbrev pub unless_still : ℤ → Val → Result Val Fault
+abbrev pub unless_still : {C : Type 0} → ℤ → ValOf C → Result (ValOf C) Fault
 unless_still step v = cond (int_eq step (pos 0)) (Err message) (Ok v)
 
 -- the items or characters from the start to the end, by the step, which is 1 where none is given
+abbrev pub slice_in : {C : Type 0} → Alphabet C → Option ℤ → Option ℤ → Option ℤ → ValOf C → Result (ValOf C) Fault
+slice_in a start end step (array vs) = let by = unwrap_or step (pos 1) in unless_still by (array (vals (picked_items (places start end by (length (list_of vs))) (list_of vs))))
+slice_in a start end step (text t s) = let by = unwrap_or step (pos 1) in unless_still by (text (a.spelled made (encode_utf8_all (picked_chars (places start end by (length (chars (a.seen t)))) (chars (a.seen t))))) false)
+slice_in a start end step v = Err message
+
 abbrev pub slice : Option ℤ → Option ℤ → Option ℤ → Val → Result Val Fault
-slice start end step (array vs) = let by = unwrap_or step (pos 1) in unless_still by (array (vals (picked_items (places start end by (length (list_of vs))) (list_of vs))))
-slice start end step (text t s) = let by = unwrap_or step (pos 1) in unless_still by (text (encode_utf8_all (picked_chars (places start end by (length (chars t))) (chars t))) false)
-slice start end step v = Err message
+slice = slice_in plain
 
 -- the last item or character first
 abbrev pub reversed : Val → Result Val Fault

@@ -3,12 +3,13 @@ use Rattle.tera_tree.specs.Delimiters.{delimiters_of}
 use Rattle.tera_syntax.specs.Reads.{Reads, ReadsPlainText}
 use Rattle.tera_tree.specs.View.{nodes_of}
 use Rattle.tera_syntax.proofs.Sound.{sound}
-use Rattle.tera_syntax.proofs.Plain.{says_one, refused_by, spells_none, plain}
+use Rattle.tera_syntax.proofs.Plain.{says_one, refused_by, spells_none, plain, one_tree}
 use Rattle.tera_syntax.proofs.reader.parse.Goals as goal
 
 pub returns-in-Ok-clause-reads : goal.returns-in-Ok-clause-reads
 returns-in-Ok-clause-reads c =
-    sound 200 _ (nodes_of c.in-Ok.nodes.items) (omega arith) c.in-Ok.ensures
+    let s = sound 200 _ (nodes_of c.in-Ok.nodes.items) (omega arith) c.in-Ok.ensures in
+    (s.0, s.1, λ other w h. one_tree c.args.name.now (delimiters_of c.args.delimiters.now) c.args.source.now other (record { nodes = nodes_of c.in-Ok.nodes.items }) h s.0)
 
 pub returns-in-Err-Syntax-clause-reads : goal.returns-in-Err-Syntax-clause-reads
 returns-in-Err-Syntax-clause-reads c =

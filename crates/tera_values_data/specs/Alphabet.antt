@@ -1,0 +1,100 @@
+-- The characters of a text: bytes, or bytes that bear where they come from.
+use Rattle.std.specs.Prelude.{ℕ, Bool, cond, List, map, Result, Ok, Err}
+use Rattle.tera_errors.specs.Fault.{Fault}
+use Rattle.tera_values_data.specs.Val.{ValOf, ValsOf, EntriesOf, undefined, none, bool, int, text, bytes, array, map as map_of, no_items, item, no_entries, entry}
+
+-- where a character comes from
+pub data Mark : Type 0 where
+  template : Mark
+  marked_safe : Mark
+  escaped : Mark
+  made : Mark
+
+-- a byte and its mark
+abbrev pub Marked : Type 0
+Marked = ℕ × Mark
+
+-- how characters are seen as bytes, one and a text; how a text is spelled by them; a text that is vouched for, which may
+-- have been safe before; a value as it is without marks, as it comes from outside, and as an answer from there
+pub record Alphabet (C : Type 0) : Type 0 where
+  pub code : C → ℕ
+  pub seen : List C → List ℕ
+  pub spelled : Mark → List ℕ → List C
+  pub vouched : Bool → List C → List C
+  pub bare : ValOf C → ValOf ℕ
+  pub handed : ValOf ℕ → ValOf C
+  pub answers : Result (ValOf ℕ) Fault → Result (ValOf C) Fault
+
+-- bytes alone: this is what runs
+abbrev pub plain : Alphabet ℕ
+plain = record {
+  code = λ b. b;
+  seen = λ t. t;
+  spelled = λ mark t. t;
+  vouched = λ safe t. t;
+  bare = λ v. v;
+  handed = λ v. v;
+  answers = λ r. r;
+}
+
+abbrev pub bearing : Mark → List ℕ → List Marked
+bearing mark t = map (λ b. (b, mark)) t
+
+abbrev pub bytes_of : List Marked → List ℕ
+bytes_of t = map (λ c. c.0) t
+
+-- a value without its marks
+abbrev mutual
+  pub unmarked : ValOf Marked → ValOf ℕ
+  unmarked undefined = undefined
+  unmarked none = none
+  unmarked (bool b) = bool b
+  unmarked (int z) = int z
+  unmarked (text t s) = text (bytes_of t) s
+  unmarked (bytes t) = bytes t
+  unmarked (array vs) = array (all_unmarked vs)
+  unmarked (map_of es) = map_of (unmarked_entries es)
+
+  pub all_unmarked : ValsOf Marked → ValsOf ℕ
+  all_unmarked no_items = no_items
+  all_unmarked (item v vs) = item (unmarked v) (all_unmarked vs)
+
+  pub unmarked_entries : EntriesOf Marked → EntriesOf ℕ
+  unmarked_entries no_entries = no_entries
+  unmarked_entries (entry k v es) = entry k (unmarked v) (unmarked_entries es)
+
+-- a value of the caller: its safe texts are marked safe
+abbrev mutual
+  pub from_outside : ValOf ℕ → ValOf Marked
+  from_outside undefined = undefined
+  from_outside none = none
+  from_outside (bool b) = bool b
+  from_outside (int z) = int z
+  from_outside (text t s) = text (bearing marked_safe t) s
+  from_outside (bytes t) = bytes t
+  from_outside (array vs) = array (all_from_outside vs)
+  from_outside (map_of es) = map_of (entries_from_outside es)
+
+  pub all_from_outside : ValsOf ℕ → ValsOf Marked
+  all_from_outside no_items = no_items
+  all_from_outside (item v vs) = item (from_outside v) (all_from_outside vs)
+
+  pub entries_from_outside : EntriesOf ℕ → EntriesOf Marked
+  entries_from_outside no_entries = no_entries
+  entries_from_outside (entry k v es) = entry k (from_outside v) (entries_from_outside es)
+
+abbrev pub answer_from_outside : Result (ValOf ℕ) Fault → Result (ValOf Marked) Fault
+answer_from_outside (Ok v) = Ok (from_outside v)
+answer_from_outside (Err fault) = Err fault
+
+-- bytes with marks
+abbrev pub marking : Alphabet Marked
+marking = record {
+  code = λ c. c.0;
+  seen = bytes_of;
+  spelled = bearing;
+  vouched = λ safe t. cond safe t (bearing marked_safe (bytes_of t));
+  bare = unmarked;
+  handed = from_outside;
+  answers = answer_from_outside;
+}

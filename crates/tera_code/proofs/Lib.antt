@@ -1,3 +1,4 @@
 pub mod Filled
+pub mod Growth
 pub mod Lengthened
 pub mod Written

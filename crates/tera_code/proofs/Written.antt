@@ -23,7 +23,7 @@ pub length_keys : (ks : List (Option LiteralKey)) → length (keys_of ks) ≡ le
 length_keys [] = refl
 length_keys (k ∷ ks) = ap (λ n. suc n) (length_keys ks)
 
-keys_of-append : (ks : List (Option LiteralKey)) (k : Option LiteralKey) → keys_of (ks ++ k ∷ []) ≡ keys_of ks ++ key_option k ∷ []
+pub keys_of-append : (ks : List (Option LiteralKey)) (k : Option LiteralKey) → keys_of (ks ++ k ∷ []) ≡ keys_of ks ++ key_option k ∷ []
 keys_of-append [] k = refl
 keys_of-append (j ∷ ks) k = ap (λ all. key_option j ∷ all) (keys_of-append ks k)
 
@@ -31,7 +31,7 @@ keys_of-append (j ∷ ks) k = ap (λ all. key_option j ∷ all) (keys_of-append 
 abbrev pub fine : {A : Type 0} → A → Result A Fault
 fine a = Ok a
 
-same_ok : {A : Type 0} (a b : A) → fine a ≡ fine b → a ≡ b
+pub same_ok : {A : Type 0} (a b : A) → fine a ≡ fine b → a ≡ b
 same_ok a b e = cc
 
 -- one key more is copied

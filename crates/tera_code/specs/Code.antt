@@ -1,6 +1,7 @@
 -- The instructions of a tree.
-use Rattle.std.specs.Prelude.{Bool, false, ◌+◌, List, [], ◌∷◌, ◌++◌, length, Option}
+use Rattle.std.specs.Prelude.{Bool, false, ◌+◌, List, [], ◌∷◌, ◌++◌, length, Option, Some, None}
 use Rattle.tera_errors.specs.Site as site
+use Rattle.tera_errors.specs.declared.span.Span.{Span}
 use Rattle.tera_values.specs.Val as val
 use Rattle.tera_tree.specs.Tree.{Key, Expr, Nothing, Boolean, Integer, Text, Name, Attribute, Index, Slice, Not, Negate, Binary, And, Or, Ternary, Array, Map, Optional, Absent, Present, Items, NoItems, MoreItems, Entries, NoEntries, MoreEntries, Node, Content, Print, If, Nodes, NoNodes, MoreNodes}
 use Rattle.tera_code.specs.declared.instruction.Instruction.{Instruction}
@@ -65,10 +66,20 @@ abbrev mutual
   entries_code NoEntries = []
   entries_code (MoreEntries key value rest) = expr_code value ++ entries_code rest
 
+-- an expression that is a name
+abbrev pub named : Expr → Option (site.Name × Span)
+named (Name name span) = Some (name, span)
+named other = None
+
+-- what a name stands for is put out where it lies, and any other value from the top of the operands
+abbrev pub print_code : Option (site.Name × Span) → Code → Code
+print_code (Some (name, span)) value = instruction.WriteName name span ∷ []
+print_code None value = value ++ instruction.WriteTop ∷ []
+
 abbrev mutual
   pub node_code : Node → Code
   node_code (Content t span) = instruction.WriteText t ∷ []
-  node_code (Print value) = expr_code value ++ instruction.WriteTop ∷ []
+  node_code (Print value) = print_code (named value) (expr_code value)
   node_code (If condition body other) =
       choice_code (expr_code condition) (nodes_code body) (nodes_code other)
 

@@ -7,4 +7,4 @@ abbrev pub value_of : Kept → val.Val
 value_of kept.None = val.none
 value_of (kept.Bool b) = val.bool b
 value_of (kept.Int z) = val.int z
-value_of (kept.Shared boxed) = boxed.value
+value_of (kept.Shared value) = value.now

@@ -1,4 +1,5 @@
 pub mod Constant
+pub mod Packed
 pub mod Listing
 pub mod Code
 pub mod Places

@@ -1,21 +1,31 @@
 // The instructions of one body.
-ghost use Rattle.std.specs.Prelude.{◌≡◌, ◌+◌, ◌<◌, ◌^◌, length, slice_get, IfSome, MatchOption, Some, None};
+ghost use Rattle.std.specs.Prelude.{◌≡◌, ◌+◌, ◌<◌, ◌^◌, [], ◌∷◌, length, slice_get, OnOk, IfErr, IfSome, MatchOption, Some, None};
+ghost use Rattle.tera_errors.specs.Answer.{Lacks};
+ghost use Rattle.tera_code.specs.Code.{lengthened};
+ghost use Rattle.tera_code.specs.Packed.{IsJump};
+ghost use Rattle.tera_code.specs.Places.{filled};
 
 use crate::instruction::Instruction;
+use crate::packed::{Packed, Tables, jump_of};
 use crate::steps::Steps;
+use std::alloc::Global;
 use std::marker::Model;
 use std::sync::ledger::Ledger;
-use tera_values::Name;
+use tera_values::{Name, TeraResult};
 
 /// The instructions of a body, and the name of the template in whose text it stands.
 #[derive(Drop)]
 pub struct Chunk {
     file: Name,
-    code: Vec<Instruction>,
+    tables: Tables,
+    code: Vec<Packed>,
 }
 
 impl Model for Chunk {
+    ghost use Rattle.std.specs.Prelude.{map};
+    ghost use Rattle.std.specs.List.{All};
     ghost use Rattle.tera_code.specs.Listing.{Listing};
+    ghost use Rattle.tera_code.specs.Packed.{Within, shelf_of, unpacked};
     ghost use Rattle.std.specs.Coded.{codes};
     ghost use Rattle.tera_values.specs.Code.{val_code};
 
@@ -23,16 +33,22 @@ impl Model for Chunk {
 
     ghost coded = { Prim.hlevel (codes, val_code) };
 
-    ghost view = { λ c. record { file = c.file; code = c.code.items } };
+    ghost view = { λ c. record { file = c.file; code = map (unpacked (shelf_of c.tables)) c.code.items } };
+
+    ghost invariant = { λ c. All (Within (shelf_of c.tables)) c.code.items };
 }
 
 impl Chunk {
     ghost use Rattle.tera_code.specs.Listing.{Listing};
 
-    pub(crate) fn new(file: Name, code: Vec<Instruction>) -> Chunk
-        ensures { result ≡ record { file = file; code = code.items } }
+    pub(crate) fn new(alloc: Global, file: Name) -> Chunk
+        ensures { result ≡ record { file = file; code = [] } }
     {
-        Chunk { file, code }
+        Chunk {
+            file,
+            tables: Tables::new(alloc),
+            code: Vec::new(alloc),
+        }
     }
 
     /// The name of the template in whose text the body stands.
@@ -43,17 +59,45 @@ impl Chunk {
     }
 
     /// The instruction at this place, from 0, which is counted where there is one. No other call hands one out.
-    pub fn get<L: Ledger>(&self, at: usize, steps: &mut Steps<L>) -> Option<&Instruction>
-        ensures found { MatchOption result (slice_get self.now.code at ≡ None) (λ i. slice_get self.now.code at ≡ Some i.now) }
+    pub fn get<L: Ledger>(&self, at: usize, steps: &mut Steps<L>) -> Option<Instruction<'_>>
+        ensures found { MatchOption result (slice_get self.now.code at ≡ None) (λ i. slice_get self.now.code at ≡ Some i) }
         ensures small { IfSome result (λ _. length self.now.code < 2 ^ 64) }
         ensures count { MatchOption result (steps.new ≡ steps.old) (λ _. steps.new ≡ steps.old + 1) }
     {
         match self.code.get(at) {
             None => None,
-            Some(instruction) => {
+            Some(packed) => {
                 steps.tick();
-                Some(instruction)
+                Some(self.tables.unpack(*packed))
             }
         }
+    }
+
+    pub(crate) fn len(&self) -> usize
+        ensures { result ≡ length self.now.code }
+    {
+        self.code.len()
+    }
+
+    pub(crate) fn emit(
+        &mut self,
+        alloc: Global,
+        seen: &mut [u32; 64],
+        instruction: Instruction<'_>,
+    ) -> TeraResult<()>
+        ensures ok { OnOk result (self.new ≡ lengthened self.old (instruction.entry ∷ [])) }
+        ensures lacks { IfErr result Lacks }
+    {
+        let packed = self.tables.pack(alloc, seen, instruction)?;
+        self.code.push(packed)?;
+        Ok(())
+    }
+
+    pub(crate) fn fill(&mut self, place: usize, jump: Instruction<'_>)
+        requires place { place < length self.old.code }
+        requires jump { IsJump jump }
+        ensures { self.new ≡ filled place jump.entry self.old }
+    {
+        self.code[place] = jump_of(jump);
     }
 }

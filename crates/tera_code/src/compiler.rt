@@ -1,8 +1,10 @@
 // From trees to instructions.
-ghost use Rattle.std.specs.Prelude.{◌≡◌, ◌<◌, [], ◌∷◌, Ok, OnOk, IfOk, IfErr, length, string_bytes};
+ghost use Rattle.std.specs.Prelude.{◌≡◌, ◌<◌, [], ◌∷◌, Ok, OnOk, IfOk, IfErr, length};
 ghost use Rattle.tera_errors.specs.Answer.{Gives, Lacks};
+ghost use Rattle.tera_values.specs.Val as val;
 ghost use Rattle.tera_code.specs.declared.instruction.Instruction.TheVariants as instruction;
 ghost use Rattle.tera_code.specs.Code.{lengthened};
+ghost use Rattle.tera_code.specs.Packed.{IsJump};
 ghost use Rattle.tera_code.specs.Places.{filled, behind};
 
 use crate::chunk::Chunk;
@@ -10,14 +12,15 @@ use crate::constant::Constant;
 use crate::instruction::Instruction;
 use std::alloc::Global;
 use std::marker::Model;
-use tera_values::{Name, Span, TeraResult};
+use tera_values::{Name, Span, TeraResult, Value};
 
 /// Writes the instructions of one body. A contract sees those that are written so far.
 #[derive(Drop)]
 pub struct Compiler {
     alloc: Global,
-    file: Name,
-    code: Vec<Instruction>,
+    chunk: Chunk,
+    // where names of a kind were found last
+    seen: [u32; 64],
 }
 
 impl Model for Compiler {
@@ -29,7 +32,7 @@ impl Model for Compiler {
 
     ghost coded = { Prim.hlevel (codes, val_code) };
 
-    ghost view = { λ c. record { file = c.file; code = c.code.items } };
+    ghost view = { λ c. c.chunk };
 }
 
 impl Compiler {
@@ -39,10 +42,11 @@ impl Compiler {
     pub fn new(alloc: Global, file: &str) -> TeraResult<Compiler>
         ensures { Gives (λ c. c) result (Ok (record { file = file.now; code = [] })) }
     {
+        let file = Name::new(alloc, file)?;
         Ok(Compiler {
             alloc,
-            file: Name::new(alloc, file)?,
-            code: Vec::new(alloc),
+            chunk: Chunk::new(alloc, file),
+            seen: [0; 64],
         })
     }
 
@@ -52,22 +56,21 @@ impl Compiler {
     {
         let Compiler {
             alloc: _,
-            file,
-            code,
+            chunk,
+            seen: _,
         } = self;
-        Chunk::new(file, code)
+        chunk
     }
 
     pub(crate) fn alloc(&self) -> Global {
         self.alloc
     }
 
-    pub(crate) fn emit(&mut self, instruction: Instruction) -> TeraResult<()>
-        ensures ok { OnOk result (self.new ≡ lengthened self.old (instruction ∷ [])) }
+    pub(crate) fn emit(&mut self, instruction: Instruction<'_>) -> TeraResult<()>
+        ensures ok { OnOk result (self.new ≡ lengthened self.old (instruction.entry ∷ [])) }
         ensures lacks { IfErr result Lacks }
     {
-        self.code.push(instruction)?;
-        Ok(())
+        self.chunk.emit(self.alloc, &mut self.seen, instruction)
     }
 
     // Keeps a place for a jump, whose length is known once what it passes is written.
@@ -76,7 +79,7 @@ impl Compiler {
         ensures ok { OnOk result (self.new ≡ lengthened self.old (instruction.Jump 0 ∷ [])) }
         ensures lacks { IfErr result Lacks }
     {
-        let place = self.code.len();
+        let place = self.chunk.len();
         self.emit(Instruction::Jump(0))?;
         Ok(place)
     }
@@ -86,27 +89,32 @@ impl Compiler {
         requires { place < length self.now.code }
         ensures { result ≡ behind place self.now }
     {
-        self.code.len() - place - 1
+        self.chunk.len() - place - 1
     }
 
     // Puts a jump at the place that was kept for it.
-    pub(crate) fn fill(&mut self, place: usize, jump: Instruction)
-        requires { place < length self.old.code }
-        ensures { self.new ≡ filled place jump self.old }
+    pub(crate) fn fill(&mut self, place: usize, jump: Instruction<'_>)
+        requires place { place < length self.old.code }
+        requires jump { IsJump jump }
+        ensures { self.new ≡ filled place jump.entry self.old }
     {
-        self.code[place] = jump;
+        self.chunk.fill(place, jump)
     }
 
-    pub(crate) fn constant(&mut self, constant: Constant, span: Span) -> TeraResult<()>
-        ensures ok { OnOk result (self.new ≡ lengthened self.old (instruction.LoadConst constant span ∷ [])) }
+    pub(crate) fn constant(&mut self, constant: Constant<'_>, span: Span) -> TeraResult<()>
+        ensures ok { OnOk result (self.new ≡ lengthened self.old (instruction.LoadConst constant.entry span ∷ [])) }
         ensures lacks { IfErr result Lacks }
     {
         self.emit(Instruction::LoadConst(constant, span))
     }
 
-    pub(crate) fn name(&self, text: &String) -> TeraResult<Name>
-        ensures { Gives (λ n. n) result (Ok (string_bytes text.now)) }
+    pub(crate) fn integer(&mut self, number: i128, span: Span) -> TeraResult<()>
+        ensures ok { OnOk result (self.new ≡ lengthened self.old (instruction.LoadConst (val.int number) span ∷ [])) }
+        ensures lacks { IfErr result Lacks }
     {
-        Name::new(self.alloc, text.as_str())
+        match i64::try_from(number) {
+            Ok(number) => self.constant(Constant::from_int(number), span),
+            Err(_) => self.constant(Constant::shared(&Value::from_int(number)), span),
+        }
     }
 }

@@ -1,29 +1,28 @@
 // Values that are written out.
-ghost use Rattle.std.specs.Prelude.{◌≡◌, Ok, false};
+ghost use Rattle.std.specs.Prelude.{◌≡◌, Ok};
 ghost use Rattle.tera_errors.specs.Answer.{Gives};
 ghost use Rattle.tera_values.specs.Val as val;
 
-use std::alloc::Global;
 use std::marker::Model;
 use tera_values::{TeraResult, Value};
 
 /// A value that is written out. A contract sees the value.
 #[derive(Drop)]
-pub struct Constant {
-    kept: Kept,
+pub struct Constant<'a> {
+    pub(crate) kept: Kept<'a>,
 }
 
-/// How a constant is kept: small values stand in the instruction itself. Any other is in a box, since a value is larger than
-/// all else that instructions hold, and shared, so that loading it copies nothing.
-#[derive(Drop)]
-pub(crate) enum Kept {
+/// How a constant is kept: small values stand in the instruction itself, and any other beside the code, shared, so that loading
+/// it copies nothing.
+#[derive(Clone, Copy)]
+pub(crate) enum Kept<'a> {
     None,
     Bool(bool),
-    Int(i128),
-    Shared(Box<Value>),
+    Int(i64),
+    Shared(&'a Value),
 }
 
-impl Model for Constant {
+impl<'a> Model for Constant<'a> {
     ghost use Rattle.tera_values.specs.Val.{Val};
     ghost use Rattle.tera_values.specs.Code.{val_code};
     ghost use Rattle.tera_code.specs.Constant.{value_of};
@@ -35,16 +34,16 @@ impl Model for Constant {
     ghost view = { λ c. value_of c.kept };
 }
 
-impl Constant {
+impl<'a> Constant<'a> {
     /// `none`.
-    pub fn none() -> Constant
+    pub fn none() -> Constant<'a>
         ensures { result ≡ val.none }
     {
         Constant { kept: Kept::None }
     }
 
     /// `true` or `false`.
-    pub fn from_bool(flag: bool) -> Constant
+    pub fn from_bool(flag: bool) -> Constant<'a>
         ensures { result ≡ val.bool flag }
     {
         Constant {
@@ -53,7 +52,7 @@ impl Constant {
     }
 
     /// An integer.
-    pub fn from_int(number: i128) -> Constant
+    pub fn from_int(number: i64) -> Constant<'a>
         ensures { result ≡ val.int number }
     {
         Constant {
@@ -61,24 +60,23 @@ impl Constant {
         }
     }
 
-    /// A text that is not safe.
-    pub fn text(alloc: Global, text: &str) -> TeraResult<Constant>
-        ensures { Gives (λ c. c) result (Ok (val.text text.now false)) }
+    /// The value itself, which is not copied.
+    pub fn shared(value: &'a Value) -> Constant<'a>
+        ensures { result ≡ value.now }
     {
-        let value = Value::string(alloc, text)?.shared(alloc)?;
-        Ok(Constant {
-            kept: Kept::Shared(Box::new(alloc, value)?),
-        })
+        Constant {
+            kept: Kept::Shared(value),
+        }
     }
 
     /// The value once more: a count where it is shared, and no copy.
     pub fn load(&self) -> TeraResult<Value>
         ensures { Gives (λ v. v) result (Ok self.now) }
     {
-        match &self.kept {
+        match self.kept {
             Kept::None => Ok(Value::none()),
-            Kept::Bool(flag) => Ok(Value::from_bool(*flag)),
-            Kept::Int(number) => Ok(Value::from_int(*number)),
+            Kept::Bool(flag) => Ok(Value::from_bool(flag)),
+            Kept::Int(number) => Ok(Value::from_int(i128::from(number))),
             Kept::Shared(value) => value.try_clone(),
         }
     }

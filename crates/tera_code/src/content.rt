@@ -1,102 +1,131 @@
-// Lists that instructions hold, and pieces of text.
-ghost use Rattle.std.specs.Prelude.{◌≡◌, length, string_bytes};
+// What instructions lend from their chunk.
+ghost use Rattle.std.specs.Prelude.{◌≡◌, length};
 
 use std::marker::Model;
 use tera_tree::LiteralKey;
 
 /// A piece of a template's text. A contract sees its bytes.
 #[derive(Drop)]
-pub struct Content {
-    text: String,
+pub struct Content<'a> {
+    text: &'a str,
 }
 
-impl Model for Content {
-    ghost use Rattle.std.specs.Prelude.{string_bytes};
+impl<'a> Model for Content<'a> {
     ghost use Rattle.tera_errors.specs.Site.{Text};
 
     ghost Value = { Text };
 
-    ghost view = { λ c. string_bytes c.text };
+    ghost view = { λ c. c.text.now };
 }
 
-impl Content {
-    /// The text itself, which is moved and not copied.
-    pub fn new(text: String) -> Content
-        ensures { result ≡ string_bytes text }
+impl<'a> Content<'a> {
+    /// The text itself, which is not copied.
+    pub fn new(text: &'a str) -> Content<'a>
+        ensures { result ≡ text.now }
     {
         Content { text }
     }
 
     /// The text.
-    pub fn as_str(&self) -> &str
+    pub fn as_str(&self) -> &'a str
         ensures { result.now ≡ self.now }
     {
-        self.text.as_str()
+        self.text
+    }
+}
+
+/// A name. A contract sees its bytes.
+#[derive(Drop)]
+pub struct Title<'a> {
+    text: &'a str,
+}
+
+impl<'a> Model for Title<'a> {
+    ghost use Rattle.std.specs.Prelude.{ℕ, List};
+
+    ghost Value = { List ℕ };
+
+    ghost view = { λ n. n.text.now };
+}
+
+impl<'a> Title<'a> {
+    /// The text itself, which is not copied.
+    pub fn new(text: &'a str) -> Title<'a>
+        ensures { result ≡ text.now }
+    {
+        Title { text }
+    }
+
+    /// The text of the name.
+    pub fn as_str(&self) -> &'a str
+        ensures { result.now ≡ self.now }
+    {
+        self.text
     }
 }
 
 /// Which items of an array literal are spread, from left to right.
 #[derive(Drop)]
-pub struct Spreads {
-    flags: Vec<bool>,
+pub struct Spreads<'a> {
+    flags: &'a [bool],
 }
 
-impl Model for Spreads {
+impl<'a> Model for Spreads<'a> {
     ghost use Rattle.std.specs.Prelude.{Bool, List};
 
     ghost Value = { List Bool };
 
-    ghost view = { λ s. s.flags.items };
+    ghost view = { λ s. s.flags.now };
 }
 
-impl Spreads {
+impl<'a> Spreads<'a> {
     /// A flag for each item.
-    pub fn new(flags: Vec<bool>) -> Spreads
-        ensures { result ≡ flags.items }
+    pub fn new(flags: &'a [bool]) -> Spreads<'a>
+        ensures { result ≡ flags.now }
     {
         Spreads { flags }
     }
 
     /// The flags.
-    pub fn as_slice(&self) -> &[bool]
+    pub fn as_slice(&self) -> &'a [bool]
         ensures { result.now ≡ self.now }
     {
-        self.flags.as_slice()
+        self.flags
     }
 }
 
 /// The keys of a map literal, from left to right; what has none is spread.
 #[derive(Drop)]
-pub struct Keys {
-    keys: Vec<Option<LiteralKey>>,
+pub struct Keys<'a> {
+    keys: &'a [Option<LiteralKey>],
 }
 
-impl Model for Keys {
+impl<'a> Model for Keys<'a> {
     ghost use Rattle.std.specs.Prelude.{List, Option};
     ghost use Rattle.tera_tree.specs.Tree.{Key};
     ghost use Rattle.tera_tree.specs.View.{keys_of};
 
     ghost Value = { List (Option Key) };
 
-    ghost view = { λ k. keys_of k.keys.items };
+    ghost view = { λ k. keys_of k.keys.now };
 }
 
-impl Keys {
+impl<'a> Keys<'a> {
     ghost use Rattle.tera_tree.specs.View.{keys_of};
 
     /// A key, or none, for each entry.
-    pub fn new(keys: Vec<Option<LiteralKey>>) -> Keys
-        ensures { result ≡ keys_of keys.items }
+    pub fn new(keys: &'a [Option<LiteralKey>]) -> Keys<'a>
+        ensures { result ≡ keys_of keys.now }
     {
         Keys { keys }
     }
 
     /// The keys.
     #[tactic(auto, using(crate::proofs::Written::length_keys))]
-    pub fn as_slice(&self) -> &[Option<LiteralKey>]
+    pub fn as_slice(&self) -> &'a [Option<LiteralKey>]
         ensures keys { keys_of result.now ≡ self.now }
         ensures len { length result.now ≡ length self.now }
     {
-        self.keys.as_slice()
+        self.keys
     }
 }

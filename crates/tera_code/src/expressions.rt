@@ -7,7 +7,6 @@ ghost use Rattle.tera_tree.specs.View.{expr_of, optional_of, items_of, entries_o
 
 use crate::compiler::Compiler;
 use crate::constant::Constant;
-use crate::content::{Keys, Spreads};
 use crate::instruction::Instruction;
 use std::alloc::Global;
 use tera_tree::{Entry, Expression, Item, LiteralKey};
@@ -22,7 +21,7 @@ impl Compiler {
         match expression {
             Expression::None { span } => self.constant(Constant::none(), *span),
             Expression::Bool { value, span } => self.constant(Constant::from_bool(*value), *span),
-            Expression::Int { value, span } => self.constant(Constant::from_int(*value), *span),
+            Expression::Int { value, span } => self.integer(*value, *span),
             Expression::Text { text, span } => self.text(text, *span),
             Expression::Name { name, span } => self.load(name, *span),
             Expression::Attribute { .. } | Expression::Index { .. } | Expression::Slice { .. } => {

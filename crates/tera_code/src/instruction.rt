@@ -1,24 +1,27 @@
 // What the machine can be told.
 use crate::constant::Constant;
-use crate::content::{Content, Keys, Spreads};
+use crate::content::{Content, Keys, Spreads, Title};
 use tera_tree::BinaryOperator;
-use tera_values::{Name, Span};
+use tera_values::Span;
 
-/// One instruction. It holds constants, names, numbers and spans, and no part of a tree. A jump says how many
-/// instructions it passes; a span is where a fault of the instruction, or of the value that it makes, is reported.
+/// One instruction, as a chunk hands it out: it borrows texts, names, constants and lists from the chunk, and no part of a
+/// tree. A jump says how many instructions it passes; a span is where a fault of the instruction, or of the value that it
+/// makes, is reported.
 #[derive(Drop)]
-pub enum Instruction {
+pub enum Instruction<'a> {
     /// Puts the text out as it stands.
-    WriteText(Content),
+    WriteText(Content<'a>),
     /// Takes the topmost operand and puts it out.
     WriteTop,
+    /// Puts the value out that the name stands for, where it lies.
+    WriteName(Title<'a>, Span),
     /// Puts the constant on top of the operands.
-    LoadConst(Constant, Span),
+    LoadConst(Constant<'a>, Span),
     /// Puts the value that the name stands for on top of the operands.
-    LoadName(Name, Span),
+    LoadName(Title<'a>, Span),
     /// The attribute of the topmost operand in its place.
     LoadAttribute {
-        name: Name,
+        name: Title<'a>,
         optional: bool,
         span: Span,
     },
@@ -39,9 +42,9 @@ pub enum Instruction {
     /// What the operator makes of the two topmost operands, in their place.
     Binary(BinaryOperator, Span),
     /// An array of so many operands, in their place.
-    MakeArray(Spreads, Span),
+    MakeArray(Spreads<'a>, Span),
     /// A map of so many operands, in their place.
-    MakeMap(Keys, Span),
+    MakeMap(Keys<'a>, Span),
     /// Passes instructions.
     Jump(usize),
     /// Takes the topmost operand, and passes instructions where it is falsy.

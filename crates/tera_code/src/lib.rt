@@ -8,12 +8,13 @@ pub mod content;
 mod expressions;
 pub mod instruction;
 mod nodes;
+mod packed;
 mod parts;
 pub mod steps;
 
 pub use chunk::Chunk;
 pub use compiler::Compiler;
 pub use constant::Constant;
-pub use content::{Content, Keys, Spreads};
+pub use content::{Content, Keys, Spreads, Title};
 pub use instruction::Instruction;
 pub use steps::Steps;

@@ -1,16 +1,16 @@
 // Nodes.
-ghost use Rattle.std.specs.Prelude.{◌≡◌, [], ◌∷◌, OnOk, IfErr, string_bytes};
+ghost use Rattle.std.specs.Prelude.{◌≡◌, [], ◌∷◌, OnOk, IfErr, MatchOption, Some, None, string_bytes};
 ghost use Rattle.tera_errors.specs.Answer.{Lacks};
 ghost use Rattle.tera_code.specs.declared.instruction.Instruction.TheVariants as instruction;
-ghost use Rattle.tera_code.specs.Code.{node_code, nodes_code, lengthened};
-ghost use Rattle.tera_tree.specs.View.{node_of, nodes_of};
+ghost use Rattle.tera_code.specs.Code.{named, node_code, nodes_code, lengthened};
+ghost use Rattle.tera_tree.specs.View.{expr_of, node_of, nodes_of};
 
 use crate::compiler::Compiler;
-use crate::content::Content;
+use crate::content::{Content, Title};
 use crate::instruction::Instruction;
 use std::alloc::Global;
-use tera_tree::Node;
-use tera_values::TeraResult;
+use tera_tree::{Expression, Node};
+use tera_values::{Span, TeraResult};
 
 impl Compiler {
     /// The instructions of the nodes, one after another, behind those that are there. After a refusal some may be missing.
@@ -33,10 +33,13 @@ impl Compiler {
     {
         match node {
             Node::Content { text, span: _ } => self.content(text),
-            Node::Print { value } => {
-                self.expression(value)?;
-                self.emit(Instruction::WriteTop)
-            }
+            Node::Print { value } => match named(value) {
+                Some((name, span)) => self.write_name(name, span),
+                None => {
+                    self.expression(value)?;
+                    self.emit(Instruction::WriteTop)
+                }
+            },
             Node::If {
                 condition,
                 body,
@@ -57,7 +60,23 @@ impl Compiler {
         ensures ok { OnOk result (self.new ≡ lengthened self.old (instruction.WriteText (string_bytes text.now) ∷ [])) }
         ensures lacks { IfErr result Lacks }
     {
-        let text = String::from_str(self.alloc(), text.as_str())?;
-        self.emit(Instruction::WriteText(Content::new(text)))
+        self.emit(Instruction::WriteText(Content::new(text.as_str())))
+    }
+
+    fn write_name(&mut self, name: &String, span: Span) -> TeraResult<()>
+        ensures ok { OnOk result (self.new ≡ lengthened self.old (instruction.WriteName (string_bytes name.now) span ∷ [])) }
+        ensures lacks { IfErr result Lacks }
+    {
+        self.emit(Instruction::WriteName(Title::new(name.as_str()), span))
+    }
+}
+
+// The name that an expression is, if it is one.
+fn named(expression: &Expression) -> Option<(&String, Span)>
+    ensures { MatchOption result (named (expr_of expression.now) ≡ None) (λ p. named (expr_of expression.now) ≡ Some (string_bytes p.0.now, p.1)) }
+{
+    match expression {
+        Expression::Name { name, span } => Some((name, *span)),
+        _ => None,
     }
 }

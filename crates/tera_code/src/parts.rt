@@ -10,36 +10,34 @@ ghost use Rattle.tera_tree.specs.View.{items_of, entries_of, key_option, key_of}
 
 use crate::compiler::Compiler;
 use crate::constant::Constant;
-use crate::content::{Keys, Spreads};
+use crate::content::{Keys, Spreads, Title};
 use crate::instruction::Instruction;
 use std::alloc::Global;
 use tera_tree::{Entry, Item, LiteralKey};
-use tera_values::{Span, TeraResult};
+use tera_values::{Span, TeraResult, Value};
 
 impl Compiler {
     pub(crate) fn text(&mut self, text: &String, span: Span) -> TeraResult<()>
         ensures ok { OnOk result (self.new ≡ lengthened self.old (instruction.LoadConst (val.text (string_bytes text.now) false) span ∷ [])) }
         ensures lacks { IfErr result Lacks }
     {
-        let constant = Constant::text(self.alloc(), text.as_str())?;
-        self.constant(constant, span)
+        let value = Value::string(self.alloc(), text.as_str())?.shared(self.alloc())?;
+        self.constant(Constant::shared(&value), span)
     }
 
     pub(crate) fn load(&mut self, name: &String, span: Span) -> TeraResult<()>
         ensures ok { OnOk result (self.new ≡ lengthened self.old (instruction.LoadName (string_bytes name.now) span ∷ [])) }
         ensures lacks { IfErr result Lacks }
     {
-        let name = self.name(name)?;
-        self.emit(Instruction::LoadName(name, span))
+        self.emit(Instruction::LoadName(Title::new(name.as_str()), span))
     }
 
     pub(crate) fn attribute(&mut self, name: &String, optional: bool, span: Span) -> TeraResult<()>
         ensures ok { OnOk result (self.new ≡ lengthened self.old (instruction.LoadAttribute (string_bytes name.now) optional span ∷ [])) }
         ensures lacks { IfErr result Lacks }
     {
-        let name = self.name(name)?;
         self.emit(Instruction::LoadAttribute {
-            name,
+            name: Title::new(name.as_str()),
             optional,
             span,
         })
@@ -62,7 +60,7 @@ impl Compiler {
         ensures lacks { IfErr result Lacks }
     {
         let spreads = spreads(self.alloc(), items)?;
-        self.emit(Instruction::MakeArray(spreads, span))
+        self.emit(Instruction::MakeArray(Spreads::new(spreads.as_slice()), span))
     }
 
     pub(crate) fn make_map(&mut self, entries: &[Entry], span: Span) -> TeraResult<()>
@@ -70,31 +68,31 @@ impl Compiler {
         ensures lacks { IfErr result Lacks }
     {
         let keys = keys(self.alloc(), entries)?;
-        self.emit(Instruction::MakeMap(keys, span))
+        self.emit(Instruction::MakeMap(Keys::new(keys.as_slice()), span))
     }
 }
 
-fn spreads(alloc: Global, items: &[Item]) -> TeraResult<Spreads>
-    ensures { Gives (λ s. s) result (Ok (spreads_of (items_of items.now))) }
+fn spreads(alloc: Global, items: &[Item]) -> TeraResult<Vec<bool>>
+    ensures { Gives (λ s. s.items) result (Ok (spreads_of (items_of items.now))) }
 {
     let mut flags = Vec::new(alloc);
     for item in items {
         flags.push(item.is_spread)?;
     }
-    Ok(Spreads::new(flags))
+    Ok(flags)
 }
 
-fn keys(alloc: Global, entries: &[Entry]) -> TeraResult<Keys>
-    ensures { Gives (λ k. k) result (Ok (keys_in (entries_of entries.now))) }
+fn keys(alloc: Global, entries: &[Entry]) -> TeraResult<Vec<Option<LiteralKey>>>
+    ensures { Gives (λ k. keys_of k.items) result (Ok (keys_in (entries_of entries.now))) }
 {
     let mut keys = Vec::new(alloc);
     for entry in entries {
         keys.push(copied(alloc, &entry.key)?)?;
     }
-    Ok(Keys::new(keys))
+    Ok(keys)
 }
 
-fn copied(alloc: Global, key: &Option<LiteralKey>) -> TeraResult<Option<LiteralKey>>
+pub(crate) fn copied(alloc: Global, key: &Option<LiteralKey>) -> TeraResult<Option<LiteralKey>>
     ensures { Gives key_option result (Ok (key_option key.now)) }
 {
     match key {

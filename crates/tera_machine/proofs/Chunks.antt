@@ -8,6 +8,7 @@ use Rattle.tera_errors.specs.Fault.{Fault}
 use Rattle.tera_tree.specs.Tree.{Key, Expr, Nothing, Boolean, Integer, Text, Name, Attribute, Index, Slice, Not, Negate, Binary, And, Or, Ternary, Array, Map, Optional, Absent, Present, Items, NoItems, MoreItems, Entries, NoEntries, MoreEntries, Node, Content, Print, If, Nodes, NoNodes, MoreNodes}
 use Rattle.tera_values.specs.Val as val
 use Rattle.tera_values.specs.Access.{truthy}
+use Rattle.tera_state.specs.Scope.{look}
 use Rattle.tera_operators.specs.Operand.{Evaluated, Outcome}
 use Rattle.tera_operators.specs.Accesses.{attribute_of, item_of, slice_of}
 use Rattle.tera_operators.specs.Operators.{not_of, negative_of, binary_of}
@@ -56,9 +57,9 @@ module _ (here : Here) (call : Oracle) (code : Code) where
   outcome_runs ip stack rest r s (Err f) i l e h = fail here code {s = s} f i l e h
 
   -- one instruction, which puts a text out
-  put_out_runs : (ip : ℕ) (operands : List Evaluated) (a : Evaluated) (r : Run) (o : Result site.Text Fault) → slice_get code ip ≡ Some instruction.WriteTop → act here instruction.WriteTop (record { operands = a ∷ operands; run = r }) ≡ put_out o (record { operands = operands; run = r }) → Runs here code (spot ip (a ∷ operands) r) 9 0 (Arrive (ip + 1) operands) (onward (answered o r) writes)
-  put_out_runs ip operands a r (Ok text) i e = first here code _ 8 instruction.WriteTop i e (done here code (omega arith))
-  put_out_runs ip operands a r (Err f) i e = fail here code {s = 8} f instruction.WriteTop (omega arith) i e
+  put_out_runs : (ip : ℕ) (stack rest : List Evaluated) (r : Run) (s : ℕ) (o : Result site.Text Fault) (i : Instruction) → slice_get code ip ≡ Some i → act here i (record { operands = stack; run = r }) ≡ put_out o (record { operands = rest; run = r }) → Runs here code (spot ip stack r) (s + 1) 0 (Arrive (ip + 1) rest) (onward (answered o r) writes)
+  put_out_runs ip stack rest r s (Ok text) i at e = first here code _ s i at e (done here code (omega arith))
+  put_out_runs ip stack rest r s (Err f) i at e = fail here code {s = s} f i (omega arith) at e
 
   -- what follows, unless a turn of a loop ends
   go_on_runs : {ip : ℕ} {operands : List Evaluated} {goal : Signal → Run → Spot} (next : Meaning Signal) (s : ℕ) (signal : Signal) (r : Run) → Runs here code (spot ip operands r) s 0 goal (next r) → Runs here code (Arrive ip operands signal r) s 0 goal (go_on signal next r)
@@ -232,16 +233,36 @@ module _ (here : Here) (call : Oracle) (code : Code) where
         let len : ip + length cv + length cr ≡ ip + length (cv ++ cr) = omega (arith, length-append cv cr) in
         tops_at _ len (onward_runs here code (omega arith) (expr_runs value ip operands r (stands_front code ip cv cr has)) (λ a r1. onward_runs here code (omega arith) (entries_runs rest (ip + length cv) (a ∷ operands) r1 (stands_back code ip cv cr has)) (λ all r2. done here code (omega arith))))
 
+  -- a value goes onto the operands, and is put out from there
+  print_runs : (value : Expr) (ip : ℕ) (operands : List Evaluated) (r : Run) → StandsAt code ip (expr_code value ++ instruction.WriteTop ∷ []) → Runs here code (spot ip operands r) 0 0 (Arrive (ip + length (expr_code value ++ instruction.WriteTop ∷ [])) operands) (node_meaning here call (Print value) r)
+  print_runs value ip operands r has =
+      let ce = expr_code value in
+      let pe = ip + length ce in
+      let len : pe + 1 ≡ ip + length (ce ++ instruction.WriteTop ∷ []) = omega (arith, length-append ce (instruction.WriteTop ∷ [])) in
+      let i = (stands_back code ip ce (instruction.WriteTop ∷ []) has).0 in
+      arrive_at _ len (spend here code (onward_runs here code (omega arith) (expr_runs value ip operands r (stands_front code ip ce _ has)) (λ a r1. put_out_runs pe (a ∷ operands) operands r1 8 (output here a) instruction.WriteTop i refl)))
+
   mutual
     pub node_runs : (n : Node) (ip : ℕ) (operands : List Evaluated) (r : Run) → StandsAt code ip (node_code n) → Runs here code (spot ip operands r) 0 0 (Arrive (ip + length (node_code n)) operands) (node_meaning here call n r)
     node_runs (Content t span) ip operands r has =
         spend here code (first here code _ 7 (instruction.WriteText t) has.0 refl (done here code (omega arith)))
-    node_runs (Print value) ip operands r has =
-        let ce = expr_code value in
-        let pe = ip + length ce in
-        let len : pe + 1 ≡ ip + length (ce ++ instruction.WriteTop ∷ []) = omega (arith, length-append ce (instruction.WriteTop ∷ [])) in
-        let i = (stands_back code ip ce (instruction.WriteTop ∷ []) has).0 in
-        arrive_at _ len (spend here code (onward_runs here code (omega arith) (expr_runs value ip operands r (stands_front code ip ce _ has)) (λ a r1. put_out_runs pe operands a r1 (output here a) i refl)))
+    node_runs (Print (Nothing span)) ip operands r has = print_runs (Nothing span) ip operands r has
+    node_runs (Print (Boolean b span)) ip operands r has = print_runs (Boolean b span) ip operands r has
+    node_runs (Print (Integer z span)) ip operands r has = print_runs (Integer z span) ip operands r has
+    node_runs (Print (Text t span)) ip operands r has = print_runs (Text t span) ip operands r has
+    node_runs (Print (Name name span)) ip operands r has =
+        spend here code (spend here code (put_out_runs ip operands operands r 15 (output here (record { value = look name r.vars; span = span })) (instruction.WriteName name span) has.0 refl))
+    node_runs (Print (Attribute target name optional span)) ip operands r has = print_runs (Attribute target name optional span) ip operands r has
+    node_runs (Print (Index target index optional span)) ip operands r has = print_runs (Index target index optional span) ip operands r has
+    node_runs (Print (Slice target start end step optional span)) ip operands r has = print_runs (Slice target start end step optional span) ip operands r has
+    node_runs (Print (Not operand span)) ip operands r has = print_runs (Not operand span) ip operands r has
+    node_runs (Print (Negate operand span)) ip operands r has = print_runs (Negate operand span) ip operands r has
+    node_runs (Print (Binary operator left right span)) ip operands r has = print_runs (Binary operator left right span) ip operands r has
+    node_runs (Print (And left right span)) ip operands r has = print_runs (And left right span) ip operands r has
+    node_runs (Print (Or left right span)) ip operands r has = print_runs (Or left right span) ip operands r has
+    node_runs (Print (Ternary value condition other span)) ip operands r has = print_runs (Ternary value condition other span) ip operands r has
+    node_runs (Print (Array items span)) ip operands r has = print_runs (Array items span) ip operands r has
+    node_runs (Print (Map entries span)) ip operands r has = print_runs (Map entries span) ip operands r has
     node_runs (If condition body other) ip operands r has =
         let cc = expr_code condition in
         let cv = nodes_code body in

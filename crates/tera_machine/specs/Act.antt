@@ -3,6 +3,7 @@ use Rattle.std.specs.Prelude.{◌≡◌, ℕ, Bool, true, false, not, nat_le, co
 use Rattle.std.specs.List.{zip}
 use Rattle.tera_errors.specs.declared.span.Span.{Span}
 use Rattle.tera_errors.specs.Site.{Text}
+use Rattle.tera_errors.specs.Site as site
 use Rattle.tera_errors.specs.Fault.{Fault}
 use Rattle.tera_errors.specs.Answer.{Refusal}
 use Rattle.tera_values.specs.Val.{Val}
@@ -15,7 +16,7 @@ use Rattle.tera_state.specs.Scope.{look}
 use Rattle.tera_meaning.specs.Here.{Here}
 use Rattle.tera_meaning.specs.Meaning.{output}
 use Rattle.tera_code.specs.declared.instruction.Instruction.{Instruction}
-use Rattle.tera_code.specs.declared.instruction.Instruction.TheVariants.{WriteText, WriteTop, LoadConst, LoadName, LoadAttribute, LoadItem, Slice, Not, Negate, Binary, MakeArray, MakeMap, Jump, PopJumpIfFalse, JumpIfFalseOrPop, JumpIfTrueOrPop}
+use Rattle.tera_code.specs.declared.instruction.Instruction.TheVariants.{WriteText, WriteTop, WriteName, LoadConst, LoadName, LoadAttribute, LoadItem, Slice, Not, Negate, Binary, MakeArray, MakeMap, Jump, PopJumpIfFalse, JumpIfFalseOrPop, JumpIfTrueOrPop}
 use Rattle.tera_machine.specs.declared.machine.Flow.{Flow}
 use Rattle.tera_machine.specs.declared.machine.Flow.TheVariants.{On, Skip}
 use Rattle.tera_machine.specs.Config.{Config}
@@ -47,6 +48,9 @@ put_out (Err fault) c = Faults fault
 abbrev pub top_written : Here → List Evaluated → Config → Did
 top_written here [] c = Sticks
 top_written here (a ∷ rest) c = put_out (output here a) (holding rest c)
+
+abbrev pub name_written : Here → site.Name → Span → Config → Did
+name_written here name span c = put_out (output here (record { value = look name c.run.vars; span = span })) c
 
 abbrev pub on_one : (Evaluated → Outcome) → List Evaluated → Config → Did
 on_one f [] c = Sticks
@@ -95,6 +99,7 @@ kept_if_truthy skip (a ∷ rest) c = branched (not (truthy a.value)) (holding re
 abbrev pub act : Here → Instruction → Config → Did
 act here (WriteText text) c = Goes (with_text text c) On
 act here WriteTop c = top_written here c.operands c
+act here (WriteName name span) c = name_written here name span c
 act here (LoadConst v span) c = pushed v span c
 act here (LoadName name span) c = pushed (look name c.run.vars) span c
 act here (LoadAttribute name optional span) c = on_one (λ a. attribute_of here.file optional a name span) c.operands c

@@ -1,7 +1,9 @@
 // One instruction, by groups.
 ghost use Rattle.std.specs.Prelude.{◌≡◌, ◌≢◌, ℕ, Bool, Ok, length};
 ghost use Rattle.std.specs.List.{zip};
-ghost use Rattle.tera_machine.specs.Act.{Acted, act as act_spec, Goes, Sticks, with_text, pushed, top_written, outcome, on_one, on_two, on_four, on_many, branched, popped_branch, kept_if_falsy, kept_if_truthy, holding};
+ghost use Rattle.tera_errors.specs.Answer.{Tells};
+ghost use Rattle.tera_errors.specs.Fault.{rendering_error};
+ghost use Rattle.tera_machine.specs.Act.{Acted, act as act_spec, Goes, Sticks, with_text, pushed, top_written, name_written, outcome, on_one, on_two, on_four, on_many, branched, popped_branch, kept_if_falsy, kept_if_truthy, holding};
 ghost use Rattle.tera_machine.specs.declared.machine.Flow.TheVariants.{On};
 ghost use Rattle.tera_machine.specs.Config.{config_of};
 ghost use Rattle.tera_machine.specs.Subject.{here_of};
@@ -13,10 +15,10 @@ ghost use Rattle.tera_tree.specs.declared.expression.BinaryOperator.{BinaryOpera
 
 use crate::configuration::Configuration;
 use crate::machine::{Flow, VirtualMachine};
-use tera_code::{Content, Instruction, Keys, Spreads};
+use tera_code::{Content, Instruction, Keys, Spreads, Title};
 use tera_operators::Operand;
 use tera_tree::BinaryOperator;
-use tera_values::{Error, Name, Span, TeraResult, Value};
+use tera_values::{Error, Span, TeraResult, Value};
 
 impl VirtualMachine {
     /// Does what the instruction says, which stands in this file's text, and tells where to go on.
@@ -24,7 +26,7 @@ impl VirtualMachine {
         &self,
         file: &str,
         configuration: &mut Configuration<'_>,
-        instruction: &Instruction,
+        instruction: &Instruction<'_>,
     ) -> TeraResult<Flow>
         requires { act_spec (here_of self.now file.now) instruction.now (config_of configuration.old) ≢ Sticks }
         ensures { Acted (act_spec (here_of self.now file.now) instruction.now (config_of configuration.old)) result (config_of configuration.new) }
@@ -32,6 +34,9 @@ impl VirtualMachine {
         match instruction {
             Instruction::WriteText(text) => write_text(configuration, text),
             Instruction::WriteTop => self.write_top(file, configuration),
+            Instruction::WriteName(name, span) => {
+                self.write_name(file, configuration, name, *span)
+            }
             Instruction::LoadConst(constant, span) => {
                 push(configuration, constant.load()?, *span)
             }
@@ -71,12 +76,7 @@ impl VirtualMachine {
             unreachable!()
         };
         if operand.value().is_undefined() {
-            return Err(Error::rendering(
-                self.alloc,
-                "a value that is undefined can't be rendered",
-                file,
-                operand.span(),
-            ));
+            return Err(self.undefined_written(file, operand.span()));
         }
         if !self.autoescape || operand.value().is_safe() {
             configuration.written.append_printed(operand.value())?;
@@ -88,11 +88,45 @@ impl VirtualMachine {
         Ok(Flow::On)
     }
 
+    fn write_name(
+        &self,
+        file: &str,
+        configuration: &mut Configuration<'_>,
+        name: &Title<'_>,
+        span: Span,
+    ) -> TeraResult<Flow>
+        ensures { Acted (name_written (here_of self.now file.now) name.now span (config_of configuration.old)) result (config_of configuration.new) }
+    {
+        let Some(value) = configuration.scopes.look(name.as_str()) else {
+            return Err(self.undefined_written(file, span));
+        };
+        if value.is_undefined() {
+            return Err(self.undefined_written(file, span));
+        }
+        if !self.autoescape || value.is_safe() {
+            configuration.written.append_printed(value)?;
+        } else {
+            configuration.written.append_escaped(value, self.alloc)?;
+        }
+        Ok(Flow::On)
+    }
+
+    fn undefined_written(&self, file: &str, span: Span) -> Error
+        ensures { Tells result (rendering_error (record { file = file.now; span = span })) }
+    {
+        Error::rendering(
+            self.alloc,
+            "a value that is undefined can't be rendered",
+            file,
+            span,
+        )
+    }
+
     fn load_attribute(
         &self,
         file: &str,
         configuration: &mut Configuration<'_>,
-        name: &Name,
+        name: &Title<'_>,
         optional: bool,
         span: Span,
     ) -> TeraResult<Flow>
@@ -196,7 +230,7 @@ impl VirtualMachine {
         &self,
         file: &str,
         configuration: &mut Configuration<'_>,
-        spreads: &Spreads,
+        spreads: &Spreads<'_>,
         span: Span,
     ) -> TeraResult<Flow>
         requires { on_many (λ all. array_of file.now (zip spreads.now all) span) (length spreads.now) (config_of configuration.old).operands (config_of configuration.old) ≢ Sticks }
@@ -215,7 +249,7 @@ impl VirtualMachine {
         &self,
         file: &str,
         configuration: &mut Configuration<'_>,
-        keys: &Keys,
+        keys: &Keys<'_>,
         span: Span,
     ) -> TeraResult<Flow>
         requires { on_many (λ all. map_of file.now (zip keys.now all) span) (length keys.now) (config_of configuration.old).operands (config_of configuration.old) ≢ Sticks }
@@ -231,7 +265,7 @@ impl VirtualMachine {
     }
 }
 
-fn write_text(configuration: &mut Configuration<'_>, text: &Content) -> TeraResult<Flow>
+fn write_text(configuration: &mut Configuration<'_>, text: &Content<'_>) -> TeraResult<Flow>
     ensures { Acted (Goes (with_text text.now (config_of configuration.old)) On) result (config_of configuration.new) }
 {
     configuration.written.append(text.as_str())?;
@@ -251,7 +285,11 @@ fn push(configuration: &mut Configuration<'_>, value: Value, span: Span) -> Tera
     put(configuration, Operand::new(value, span))
 }
 
-fn load_name(configuration: &mut Configuration<'_>, name: &Name, span: Span) -> TeraResult<Flow>
+fn load_name(
+    configuration: &mut Configuration<'_>,
+    name: &Title<'_>,
+    span: Span,
+) -> TeraResult<Flow>
     ensures { Acted (pushed (look name.now (config_of configuration.old).run.vars) span (config_of configuration.old)) result (config_of configuration.new) }
 {
     let value = match configuration.scopes.look(name.as_str()) {

@@ -84,7 +84,7 @@ impl VirtualMachine {
     {
         let mut at = 0;
         while let Some(instruction) = chunk.get(at, steps) {
-            let flow = match self.act(chunk.file(), configuration, instruction) {
+            let flow = match self.act(chunk.file(), configuration, &instruction) {
                 Ok(flow) => flow,
                 Err(error) => return Err(error),
             };

@@ -1,0 +1,159 @@
+-- Tables that grow, and the instructions that name what stands in them.
+use Rattle.std.proofs.Common.{◌≡◌, ℕ, ◌+◌, ◌-◌, ◌<◌, ◌≤◌, List, [], ◌∷◌, ◌++◌, length, take, drop, map, get_or, Option, refl, sym, ap, ap₂, subst, ◌∙◌, append_assoc, arith}
+use Rattle.std.proofs.lemmas.List.{take-append-le, drop-append-le, get_or_append_left, length-append, length-drop, take_all, map-append, map-set}
+use Rattle.std.proofs.lemmas.List.Elements.{All-nil, All-cons, All-head, All-tail, All-append, All-set}
+use Rattle.std.proofs.lemmas.Str.{IsUtf8-append, IsUtf8-take, IsCharBoundary-from_take, IsCharBoundary-end}
+use Rattle.std.proofs.Math.Seq.{drop-append_seam}
+use Rattle.std.specs.Prelude.{set}
+use Rattle.std.specs.List.{All}
+use Rattle.std.specs.Str.{IsUtf8, IsCharBoundary}
+use Rattle.tera_errors.specs.Site.{Text}
+use Rattle.tera_values.specs.Val as val
+use Rattle.tera_tree.specs.declared.expression.LiteralKey.{LiteralKey}
+use Rattle.tera_tree.specs.Tree.{Key}
+use Rattle.tera_tree.specs.View.{key_option, keys_of}
+use Rattle.tera_code.specs.declared.instruction.Instruction.{Instruction}
+use Rattle.tera_code.specs.declared.instruction.Instruction.TheVariants as instruction
+use Rattle.tera_code.specs.declared.packed.Packed.{Packed}
+use Rattle.tera_code.specs.declared.packed.Packed.TheVariants as packed
+use Rattle.tera_code.specs.Packed.{Shelf, Longer, Grows, Packs, IsPacked, Within, unpacked, span_at}
+use Rattle.tera_code.specs.Listing.{Listing}
+use Rattle.tera_code.specs.Code.{lengthened}
+use Rattle.tera_code.specs.Places.{filled}
+use Rattle.tera_code.proofs.Written.{fine, same_ok, keys_of-append}
+
+pub boundary_stays : (bs ds : List ℕ) (i : ℕ) → IsUtf8 bs → IsUtf8 (bs ++ ds) → IsCharBoundary bs i → IsCharBoundary (bs ++ ds) i
+boundary_stays bs ds i u v b =
+    let long : i ≤ length (bs ++ ds) = omega (arith, length-append bs ds, b.0) in
+    IsCharBoundary-from_take (bs ++ ds) i v long (subst IsUtf8 (sym (take-append-le i bs ds b.0)) (IsUtf8-take bs i u b))
+
+pub slice_stays : (bs ds : List ℕ) (i j : ℕ) → i ≤ j → j ≤ length bs → take (j - i) (drop i (bs ++ ds)) ≡ take (j - i) (drop i bs)
+slice_stays bs ds i j l m =
+    let k : i ≤ length bs = omega (arith, l, m) in
+    let n : j - i ≤ length (drop i bs) = omega (arith, length-drop i bs, l, m) in
+    ap (take (j - i)) (drop-append-le i bs ds k) ∙ take-append-le (j - i) (drop i bs) ds n
+
+-- where a text was put
+pub text_there : (bs ds cs : List ℕ) (i j : ℕ) → IsUtf8 bs → IsUtf8 ds → i ≡ length bs → cs ≡ bs ++ ds → j ≡ length cs → ((i ≤ j) × (IsCharBoundary cs i × IsCharBoundary cs j)) × (take (j - i) (drop i cs) ≡ ds)
+text_there bs ds cs i j u v e g h =
+    let l : length cs ≡ length bs + length ds = ap length g ∙ length-append bs ds in
+    let n : j - i ≡ length ds = omega (arith, e, h, l) in (
+      (
+        omega (arith, e, h, l),
+        (
+          subst (λ x. IsCharBoundary x i) (sym g) (boundary_stays bs ds i u (IsUtf8-append bs ds u v) (subst (IsCharBoundary bs) (sym e) (IsCharBoundary-end bs))),
+          subst (IsCharBoundary cs) (sym h) (IsCharBoundary-end cs),
+        ),
+      ),
+      ap₂ (λ k x. take k (drop i x)) n g ∙ ap (λ k. take (length ds) (drop k (bs ++ ds))) e ∙ ap (take (length ds)) (drop-append_seam bs ds) ∙ take_all (length ds) ds (omega arith),
+    )
+
+-- one key more is copied
+pub copies_more : (ks js : List (Option LiteralKey)) (k e : Option LiteralKey) (before rest : List (Option LiteralKey)) (all : List (Option Key)) → js ≡ ks ++ k ∷ [] → fine (key_option e) ≡ fine (key_option k) → before ≡ e ∷ rest → keys_of ks ++ keys_of before ≡ all → keys_of js ++ keys_of rest ≡ all
+copies_more ks js k e before rest all h same b is =
+    ap (λ x. keys_of x ++ keys_of rest) h
+    ∙ ap (λ x. x ++ keys_of rest) (keys_of-append ks k)
+    ∙ append_assoc (keys_of ks) (key_option k ∷ []) (keys_of rest)
+    ∙ ap (λ x. keys_of ks ++ x ∷ keys_of rest) (sym (same_ok _ _ same))
+    ∙ ap (λ x. keys_of ks ++ keys_of x) (sym b)
+    ∙ is
+
+boundary_longer : (bs cs : Text) (i : ℕ) → IsUtf8 bs → IsUtf8 cs → Longer bs cs → IsCharBoundary bs i → IsCharBoundary cs i
+boundary_longer bs cs i u v g b =
+    subst (λ x. IsCharBoundary x i) (sym g) (boundary_stays bs (drop (length bs) cs) i u (subst IsUtf8 g v) b)
+
+slice_longer : (bs cs : Text) (i j : ℕ) → Longer bs cs → i ≤ j → j ≤ length bs → take (j - i) (drop i cs) ≡ take (j - i) (drop i bs)
+slice_longer bs cs i j g l m = ap (λ x. take (j - i) (drop i x)) g ∙ slice_stays bs (drop (length bs) cs) i j l m
+
+below_longer : {X : Type 0} (xs ys : List X) (n : ℕ) → Longer xs ys → n < length xs → n < length ys
+below_longer xs ys n g l = omega (arith, ap length g, length-append xs (drop (length xs) ys), l)
+
+at_longer : {X : Type 0} (xs ys : List X) (n : ℕ) (d : X) → Longer xs ys → n < length xs → get_or ys n d ≡ get_or xs n d
+at_longer xs ys n d g l = ap (λ z. get_or z n d) g ∙ get_or_append_left xs (drop (length xs) ys) d n l
+
+abbrev chunk_of : Shelf → List Packed → Text → Listing
+chunk_of s ps file = record { file = file; code = map (unpacked s) ps }
+
+module _ (s t : Shelf) (u : IsUtf8 s.pool) (v : IsUtf8 t.pool) (g : Grows s t) where
+  below_span : (n : ℕ) → n < length s.spans → n < length t.spans
+  below_span n l = below_longer s.spans t.spans n g.1.1.1.1.1 l
+
+  span_same : (n : ℕ) → n < length s.spans → span_at t n ≡ span_at s n
+  span_same n l = at_longer s.spans t.spans n _ g.1.1.1.1.1 l
+
+  within_stays : (p : Packed) → Within s p → Within t p
+  within_stays (packed.WriteText start end) w = (w.0, (boundary_longer s.pool t.pool start u v g.0 w.1.0, boundary_longer s.pool t.pool end u v g.0 w.1.1))
+  within_stays packed.WriteTop w = tt
+  within_stays (packed.LoadNone span) w = below_span span w
+  within_stays (packed.LoadBool flag span) w = below_span span w
+  within_stays (packed.LoadInt span number) w = below_span span w
+  within_stays (packed.LoadConst constant span) w = (below_longer s.constants t.constants constant g.1.1.0 w.0, below_span span w.1)
+  within_stays (packed.WriteName name span) w = (below_longer s.names t.names name g.1.0 w.0, below_span span w.1)
+  within_stays (packed.LoadName name span) w = (below_longer s.names t.names name g.1.0 w.0, below_span span w.1)
+  within_stays (packed.LoadAttribute name optional span) w = (below_longer s.names t.names name g.1.0 w.0, below_span span w.1)
+  within_stays (packed.LoadItem optional span) w = below_span span w
+  within_stays (packed.Slice optional span) w = below_span span w
+  within_stays packed.Not w = tt
+  within_stays packed.Negate w = tt
+  within_stays (packed.Binary operator span) w = below_span span w
+  within_stays (packed.MakeArray spreads span) w = (below_longer s.spreads t.spreads spreads g.1.1.1.0 w.0, below_span span w.1)
+  within_stays (packed.MakeMap keys span) w = (below_longer s.keys t.keys keys g.1.1.1.1.0 w.0, below_span span w.1)
+  within_stays (packed.Jump skip) w = tt
+  within_stays (packed.PopJumpIfFalse skip) w = tt
+  within_stays (packed.JumpIfFalseOrPop skip) w = tt
+  within_stays (packed.JumpIfTrueOrPop skip) w = tt
+
+  unpacked_stays : (p : Packed) → Within s p → unpacked t p ≡ unpacked s p
+  unpacked_stays (packed.WriteText start end) w = ap (λ x. instruction.WriteText x) (slice_longer s.pool t.pool start end g.0 w.0 w.1.1.0)
+  unpacked_stays packed.WriteTop w = refl
+  unpacked_stays (packed.LoadNone span) w = ap (λ y. instruction.LoadConst val.none y) (span_same span w)
+  unpacked_stays (packed.LoadBool flag span) w = ap (λ y. instruction.LoadConst (val.bool flag) y) (span_same span w)
+  unpacked_stays (packed.LoadInt span number) w = ap (λ y. instruction.LoadConst (val.int number) y) (span_same span w)
+  unpacked_stays (packed.LoadConst constant span) w = ap₂ (λ x y. instruction.LoadConst x y) (at_longer s.constants t.constants constant _ g.1.1.0 w.0) (span_same span w.1)
+  unpacked_stays (packed.WriteName name span) w = ap₂ (λ x y. instruction.WriteName x y) (at_longer s.names t.names name _ g.1.0 w.0) (span_same span w.1)
+  unpacked_stays (packed.LoadName name span) w = ap₂ (λ x y. instruction.LoadName x y) (at_longer s.names t.names name _ g.1.0 w.0) (span_same span w.1)
+  unpacked_stays (packed.LoadAttribute name optional span) w = ap₂ (λ x y. instruction.LoadAttribute x optional y) (at_longer s.names t.names name _ g.1.0 w.0) (span_same span w.1)
+  unpacked_stays (packed.LoadItem optional span) w = ap (λ y. instruction.LoadItem optional y) (span_same span w)
+  unpacked_stays (packed.Slice optional span) w = ap (λ y. instruction.Slice optional y) (span_same span w)
+  unpacked_stays packed.Not w = refl
+  unpacked_stays packed.Negate w = refl
+  unpacked_stays (packed.Binary operator span) w = ap (λ y. instruction.Binary operator y) (span_same span w)
+  unpacked_stays (packed.MakeArray spreads span) w = ap₂ (λ x y. instruction.MakeArray x y) (at_longer s.spreads t.spreads spreads _ g.1.1.1.0 w.0) (span_same span w.1)
+  unpacked_stays (packed.MakeMap keys span) w = ap₂ (λ x y. instruction.MakeMap x y) (at_longer s.keys t.keys keys _ g.1.1.1.1.0 w.0) (span_same span w.1)
+  unpacked_stays (packed.Jump skip) w = refl
+  unpacked_stays (packed.PopJumpIfFalse skip) w = refl
+  unpacked_stays (packed.JumpIfFalseOrPop skip) w = refl
+  unpacked_stays (packed.JumpIfTrueOrPop skip) w = refl
+
+  pub all_stay : (ps : List Packed) → All (Within s) ps → All (Within t) ps
+  all_stay [] h = All-nil (Within t)
+  all_stay (p ∷ ps) h = All-cons (Within t) p ps (within_stays p (All-head (Within s) p ps h)) (all_stay ps (All-tail (Within s) p ps h))
+
+  code_stays : (ps : List Packed) → All (Within s) ps → map (unpacked t) ps ≡ map (unpacked s) ps
+  code_stays [] h = refl
+  code_stays (p ∷ ps) h = ap₂ (λ x xs. x ∷ xs) (unpacked_stays p (All-head (Within s) p ps h)) (code_stays ps (All-tail (Within s) p ps h))
+
+  -- one instruction more, behind the others
+  pub all_grow : (ps qs : List Packed) (p : Packed) (i : Instruction) → All (Within s) ps → Packs t p i → qs ≡ ps ++ p ∷ [] → All (Within t) qs
+  all_grow ps qs p i h is e = subst (All (Within t)) (sym e) (All-append (Within t) ps (p ∷ []) (all_stay ps h) (All-cons (Within t) p [] is.0 (All-nil (Within t))))
+
+  code_grows : (ps qs : List Packed) (p : Packed) (i : Instruction) → All (Within s) ps → Packs t p i → qs ≡ ps ++ p ∷ [] → map (unpacked t) qs ≡ map (unpacked s) ps ++ i ∷ []
+  code_grows ps qs p i h is e =
+      ap (map (unpacked t)) e ∙ map-append (unpacked t) ps (p ∷ []) ∙ ap₂ (λ x y. x ++ y ∷ []) (code_stays ps h) is.1
+
+  -- the instruction found no place
+  pub all_left : (ps qs : List Packed) → All (Within s) ps → qs ≡ ps → All (Within t) qs
+  all_left ps qs h e = subst (All (Within t)) (sym e) (all_stay ps h)
+
+  pub chunk_grows : (ps qs : List Packed) (p : Packed) (i : Instruction) → All (Within s) ps → Packs t p i → qs ≡ ps ++ p ∷ [] → (file : Text) → chunk_of t qs file ≡ lengthened (chunk_of s ps file) (i ∷ [])
+  chunk_grows ps qs p i h is e file = ap (λ code. record { file = file; code = code }) (code_grows ps qs p i h is e)
+
+-- a jump at a place that was kept for it
+pub all_filled : (s : Shelf) (ps qs : List Packed) (at : ℕ) (p : Packed) (i : Instruction) → All (Within s) ps → IsPacked p i → qs ≡ set ps at p → All (Within s) qs
+all_filled s ps qs at p i h is e = subst (All (Within s)) (sym e) (All-set (Within s) ps at p (is s).0 h)
+
+code_filled : (s : Shelf) (ps qs : List Packed) (at : ℕ) (p : Packed) (i : Instruction) → IsPacked p i → qs ≡ set ps at p → map (unpacked s) qs ≡ set (map (unpacked s) ps) at i
+code_filled s ps qs at p i is e = ap (map (unpacked s)) e ∙ map-set (unpacked s) ps at p ∙ ap (set (map (unpacked s) ps) at) (is s).1
+
+pub chunk_filled : (s : Shelf) (ps qs : List Packed) (at : ℕ) (p : Packed) (i : Instruction) → IsPacked p i → qs ≡ set ps at p → (file : Text) → chunk_of s qs file ≡ filled at i (chunk_of s ps file)
+chunk_filled s ps qs at p i is e file = ap (λ code. record { file = file; code = code }) (code_filled s ps qs at p i is e)

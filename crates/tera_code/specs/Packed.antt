@@ -1,0 +1,127 @@
+-- Instructions that name by number what they need.
+use Rattle.std.specs.Prelude.{◌≡◌, ℕ, ◌-◌, ◌<◌, ◌≤◌, Bool, List, [], ◌++◌, length, take, drop, map, get_or, Option, string_bytes}
+use Rattle.std.specs.Str.{IsCharBoundary}
+use Rattle.tera_errors.specs.Site.{Text}
+use Rattle.tera_errors.specs.declared.span.Span.{Span}
+use Rattle.tera_values.specs.Val.{Val}
+use Rattle.tera_values.specs.Val as val
+use Rattle.tera_tree.specs.Tree.{Key}
+use Rattle.tera_tree.specs.View.{keys_of}
+use Rattle.tera_code.specs.declared.instruction.Instruction.{Instruction}
+use Rattle.tera_code.specs.declared.instruction.Instruction.TheVariants as instruction
+use Rattle.tera_code.specs.declared.packed.Packed.{Packed}
+use Rattle.tera_code.specs.declared.packed.Packed.TheVariants as packed
+use Rattle.tera_code.specs.declared.packed.Tables.{Tables}
+
+-- what instructions name by number
+pub record Shelf : Type 0 where
+  pub pool : Text
+  pub names : List Text
+  pub constants : List Val
+  pub spreads : List (List Bool)
+  pub keys : List (List (Option Key))
+  pub spans : List Span
+
+abbrev pub shelf_of : Tables → Shelf
+shelf_of t =
+    record {
+      pool = string_bytes t.pool;
+      names = t.names.items;
+      constants = t.constants.items;
+      spreads = map (λ v. v.items) t.spreads.items;
+      keys = map (λ v. keys_of v.items) t.keys.items;
+      spans = t.spans.items;
+    }
+
+abbrev pub span_at : Shelf → ℕ → Span
+span_at s i = get_or s.spans i (record { start = 0; end = 0 })
+
+-- the instruction that is meant
+abbrev pub unpacked : Shelf → Packed → Instruction
+unpacked s (packed.WriteText start end) = instruction.WriteText (take (end - start) (drop start s.pool))
+unpacked s packed.WriteTop = instruction.WriteTop
+unpacked s (packed.LoadNone span) = instruction.LoadConst val.none (span_at s span)
+unpacked s (packed.LoadBool flag span) = instruction.LoadConst (val.bool flag) (span_at s span)
+unpacked s (packed.LoadInt span number) = instruction.LoadConst (val.int number) (span_at s span)
+unpacked s (packed.LoadConst constant span) = instruction.LoadConst (get_or s.constants constant val.none) (span_at s span)
+unpacked s (packed.WriteName name span) = instruction.WriteName (get_or s.names name []) (span_at s span)
+unpacked s (packed.LoadName name span) = instruction.LoadName (get_or s.names name []) (span_at s span)
+unpacked s (packed.LoadAttribute name optional span) = instruction.LoadAttribute (get_or s.names name []) optional (span_at s span)
+unpacked s (packed.LoadItem optional span) = instruction.LoadItem optional (span_at s span)
+unpacked s (packed.Slice optional span) = instruction.Slice optional (span_at s span)
+unpacked s packed.Not = instruction.Not
+unpacked s packed.Negate = instruction.Negate
+unpacked s (packed.Binary operator span) = instruction.Binary operator (span_at s span)
+unpacked s (packed.MakeArray spreads span) = instruction.MakeArray (get_or s.spreads spreads []) (span_at s span)
+unpacked s (packed.MakeMap keys span) = instruction.MakeMap (get_or s.keys keys []) (span_at s span)
+unpacked s (packed.Jump skip) = instruction.Jump skip
+unpacked s (packed.PopJumpIfFalse skip) = instruction.PopJumpIfFalse skip
+unpacked s (packed.JumpIfFalseOrPop skip) = instruction.JumpIfFalseOrPop skip
+unpacked s (packed.JumpIfTrueOrPop skip) = instruction.JumpIfTrueOrPop skip
+
+-- what it names is there
+abbrev pub Within : Shelf → Packed → Type 0
+Within s (packed.WriteText start end) = (start ≤ end) × (IsCharBoundary s.pool start × IsCharBoundary s.pool end)
+Within s packed.WriteTop = Unit {0}
+Within s (packed.LoadNone span) = span < length s.spans
+Within s (packed.LoadBool flag span) = span < length s.spans
+Within s (packed.LoadInt span number) = span < length s.spans
+Within s (packed.LoadConst constant span) = (constant < length s.constants) × (span < length s.spans)
+Within s (packed.WriteName name span) = (name < length s.names) × (span < length s.spans)
+Within s (packed.LoadName name span) = (name < length s.names) × (span < length s.spans)
+Within s (packed.LoadAttribute name optional span) = (name < length s.names) × (span < length s.spans)
+Within s (packed.LoadItem optional span) = span < length s.spans
+Within s (packed.Slice optional span) = span < length s.spans
+Within s packed.Not = Unit {0}
+Within s packed.Negate = Unit {0}
+Within s (packed.Binary operator span) = span < length s.spans
+Within s (packed.MakeArray spreads span) = (spreads < length s.spreads) × (span < length s.spans)
+Within s (packed.MakeMap keys span) = (keys < length s.keys) × (span < length s.spans)
+Within s (packed.Jump skip) = Unit {0}
+Within s (packed.PopJumpIfFalse skip) = Unit {0}
+Within s (packed.JumpIfFalseOrPop skip) = Unit {0}
+Within s (packed.JumpIfTrueOrPop skip) = Unit {0}
+
+-- these, and then others
+abbrev pub Longer : {X : Type 0} → List X → List X → Type 0
+Longer xs ys = ys ≡ xs ++ drop (length xs) ys
+
+-- nothing that was named by number is lost
+abbrev pub Grows : Shelf → Shelf → Type 0
+Grows s t =
+    Longer s.pool t.pool
+    × (Longer s.names t.names
+    × (Longer s.constants t.constants
+    × (Longer s.spreads t.spreads
+    × (Longer s.keys t.keys × Longer s.spans t.spans))))
+
+-- this element stands there
+abbrev pub IsAt : {X : Type 0} → List X → ℕ → X → Type 0
+IsAt xs i x = (i < length xs) × (get_or xs i x ≡ x)
+
+-- this is meant, and all that is named is there
+abbrev pub Packs : Shelf → Packed → Instruction → Type 0
+Packs s p i = Within s p × (unpacked s p ≡ i)
+
+abbrev pub IsJump : Instruction → Type 0
+IsJump (instruction.WriteText text) = ⊥
+IsJump instruction.WriteTop = ⊥
+IsJump (instruction.LoadConst value span) = ⊥
+IsJump (instruction.WriteName name span) = ⊥
+IsJump (instruction.LoadName name span) = ⊥
+IsJump (instruction.LoadAttribute name optional span) = ⊥
+IsJump (instruction.LoadItem optional span) = ⊥
+IsJump (instruction.Slice optional span) = ⊥
+IsJump instruction.Not = ⊥
+IsJump instruction.Negate = ⊥
+IsJump (instruction.Binary operator span) = ⊥
+IsJump (instruction.MakeArray spreads span) = ⊥
+IsJump (instruction.MakeMap keys span) = ⊥
+IsJump (instruction.Jump skip) = Unit {0}
+IsJump (instruction.PopJumpIfFalse skip) = Unit {0}
+IsJump (instruction.JumpIfFalseOrPop skip) = Unit {0}
+IsJump (instruction.JumpIfTrueOrPop skip) = Unit {0}
+
+-- this is meant, whatever is named
+abbrev pub IsPacked : Packed → Instruction → Type 0
+IsPacked p i = (s : Shelf) → Within s p × (unpacked s p ≡ i)

@@ -1,0 +1,413 @@
+// How a body's instructions are kept: small ones in a row, and beside them what they name by number.
+ghost use Rattle.std.specs.Prelude.{◌≡◌, ◌<◌, ◌^◌, Ok, OnOk, IfOk, IfErr};
+ghost use Rattle.tera_errors.specs.Answer.{Gives, Lacks};
+ghost use Rattle.tera_code.specs.Packed.{Grows, Longer, IsAt, Packs, Within, shelf_of, unpacked, IsJump, IsPacked};
+ghost use Rattle.tera_tree.specs.View.{keys_of};
+ghost use Rattle.tera_code.specs.declared.instruction.Instruction.TheVariants as instruction;
+
+use crate::constant::{Constant, Kept};
+use crate::content::{Content, Keys, Spreads, Title};
+use crate::instruction::Instruction;
+use crate::parts::copied;
+use std::alloc::Global;
+use tera_errors::Error;
+use tera_tree::{BinaryOperator, LiteralKey};
+use tera_values::{Name, Span, TeraResult, Value};
+
+/// An instruction that names by number what it needs.
+#[derive(Clone, Copy)]
+pub(crate) enum Packed {
+    WriteText {
+        start: u32,
+        end: u32,
+    },
+    WriteTop,
+    WriteName {
+        name: u32,
+        span: u32,
+    },
+    LoadNone {
+        span: u32,
+    },
+    LoadBool {
+        flag: bool,
+        span: u32,
+    },
+    LoadInt {
+        span: u32,
+        number: i64,
+    },
+    LoadConst {
+        constant: u32,
+        span: u32,
+    },
+    LoadName {
+        name: u32,
+        span: u32,
+    },
+    LoadAttribute {
+        name: u32,
+        optional: bool,
+        span: u32,
+    },
+    LoadItem {
+        optional: bool,
+        span: u32,
+    },
+    Slice {
+        optional: bool,
+        span: u32,
+    },
+    Not,
+    Negate,
+    Binary {
+        operator: BinaryOperator,
+        span: u32,
+    },
+    MakeArray {
+        spreads: u32,
+        span: u32,
+    },
+    MakeMap {
+        keys: u32,
+        span: u32,
+    },
+    Jump(usize),
+    PopJumpIfFalse(usize),
+    JumpIfFalseOrPop(usize),
+    JumpIfTrueOrPop(usize),
+}
+
+/// What instructions name by number.
+#[derive(Drop)]
+pub(crate) struct Tables {
+    pool: String,
+    names: Vec<Name>,
+    constants: Vec<Value>,
+    spreads: Vec<Vec<bool>>,
+    keys: Vec<Vec<Option<LiteralKey>>>,
+    spans: Vec<Span>,
+}
+
+/// A number that instructions hold. More than they can hold is want of memory.
+fn small(number: usize) -> TeraResult<u32>
+    ensures ok { IfOk result (λ n. n ≡ number) }
+    ensures lacks { IfErr result Lacks }
+{
+    match u32::try_from(number) {
+        Ok(number) => Ok(number),
+        Err(_) => Err(Error::out_of_memory()),
+    }
+}
+
+/// Puts the item behind the others, and tells its place.
+fn number<T: Drop>(items: &mut Vec<T>, item: T) -> TeraResult<u32>
+    ensures grows { Longer items.old.items items.new.items }
+    ensures ok { IfOk result (λ n. IsAt items.new.items n item) }
+    ensures lacks { IfErr result Lacks }
+{
+    let place = small(items.len())?;
+    items.push(item)?;
+    Ok(place)
+}
+
+/// Where a name may have been seen: a guess that tells most names apart.
+fn slot_of(name: &str) -> usize
+    ensures { result < 64 }
+{
+    let bytes = name.as_bytes();
+    let first = match bytes.first() {
+        Some(byte) => *byte as usize,
+        None => 0,
+    };
+    let last = match bytes.last() {
+        Some(byte) => *byte as usize,
+        None => 0,
+    };
+    (bytes.len() % 64 * 7 + first + last * 3) % 64
+}
+
+/// The place of the name among the names, to which it is added where it isn't found at the place that was seen last.
+fn name_number(
+    alloc: Global,
+    names: &mut Vec<Name>,
+    seen: &mut [u32; 64],
+    name: &str,
+) -> TeraResult<u32>
+    ensures grows { Longer names.old.items names.new.items }
+    ensures ok { IfOk result (λ n. IsAt names.new.items n name.now) }
+    ensures lacks { IfErr result Lacks }
+{
+    let slot = slot_of(name);
+    let place = seen[slot];
+    if let Some(known) = names.get(place as usize) {
+        if known.as_str() == name {
+            return Ok(place);
+        }
+    }
+    let name = Name::new(alloc, name)?;
+    let place = number(names, name)?;
+    seen[slot] = place;
+    Ok(place)
+}
+
+impl Tables {
+    /// No number stands for anything yet; takes no memory.
+    pub(crate) fn new(alloc: Global) -> Tables {
+        Tables {
+            pool: String::new(alloc),
+            names: Vec::new(alloc),
+            constants: Vec::new(alloc),
+            spreads: Vec::new(alloc),
+            keys: Vec::new(alloc),
+            spans: Vec::new(alloc),
+        }
+    }
+
+    fn text(&mut self, text: &str) -> TeraResult<Packed>
+        ensures grows { Grows (shelf_of self.old) (shelf_of self.new) }
+        ensures ok { IfOk result (λ p. Packs (shelf_of self.new) p (instruction.WriteText text.now)) }
+        ensures lacks { IfErr result Lacks }
+    {
+        let start = small(self.pool.len())?;
+        self.pool.push_str(text)?;
+        let end = small(self.pool.len())?;
+        Ok(Packed::WriteText { start, end })
+    }
+
+    fn constant(&mut self, constant: &Constant<'_>, span: Span) -> TeraResult<Packed>
+        ensures grows { Grows (shelf_of self.old) (shelf_of self.new) }
+        ensures ok { IfOk result (λ p. Packs (shelf_of self.new) p (instruction.LoadConst constant.now span)) }
+        ensures lacks { IfErr result Lacks }
+    {
+        let span = number(&mut self.spans, span)?;
+        match constant.kept {
+            Kept::None => Ok(Packed::LoadNone { span }),
+            Kept::Bool(flag) => Ok(Packed::LoadBool { flag, span }),
+            Kept::Int(number) => Ok(Packed::LoadInt { span, number }),
+            Kept::Shared(value) => {
+                let value = value.try_clone()?;
+                let constant = number(&mut self.constants, value)?;
+                Ok(Packed::LoadConst { constant, span })
+            }
+        }
+    }
+}
+
+impl Tables {
+    fn load_name(
+        &mut self,
+        alloc: Global,
+        seen: &mut [u32; 64],
+        name: &Title<'_>,
+        span: Span,
+    ) -> TeraResult<Packed>
+        ensures grows { Grows (shelf_of self.old) (shelf_of self.new) }
+        ensures ok { IfOk result (λ p. Packs (shelf_of self.new) p (instruction.LoadName name.now span)) }
+        ensures lacks { IfErr result Lacks }
+    {
+        let name = name_number(alloc, &mut self.names, seen, name.as_str())?;
+        let span = number(&mut self.spans, span)?;
+        Ok(Packed::LoadName { name, span })
+    }
+
+    fn write_name(
+        &mut self,
+        alloc: Global,
+        seen: &mut [u32; 64],
+        name: &Title<'_>,
+        span: Span,
+    ) -> TeraResult<Packed>
+        ensures grows { Grows (shelf_of self.old) (shelf_of self.new) }
+        ensures ok { IfOk result (λ p. Packs (shelf_of self.new) p (instruction.WriteName name.now span)) }
+        ensures lacks { IfErr result Lacks }
+    {
+        let name = name_number(alloc, &mut self.names, seen, name.as_str())?;
+        let span = number(&mut self.spans, span)?;
+        Ok(Packed::WriteName { name, span })
+    }
+
+    fn load_attribute(
+        &mut self,
+        alloc: Global,
+        seen: &mut [u32; 64],
+        name: &Title<'_>,
+        optional: bool,
+        span: Span,
+    ) -> TeraResult<Packed>
+        ensures grows { Grows (shelf_of self.old) (shelf_of self.new) }
+        ensures ok { IfOk result (λ p. Packs (shelf_of self.new) p (instruction.LoadAttribute name.now optional span)) }
+        ensures lacks { IfErr result Lacks }
+    {
+        let name = name_number(alloc, &mut self.names, seen, name.as_str())?;
+        let span = number(&mut self.spans, span)?;
+        Ok(Packed::LoadAttribute {
+            name,
+            optional,
+            span,
+        })
+    }
+
+    fn make_array(&mut self, alloc: Global, spreads: &Spreads<'_>, span: Span) -> TeraResult<Packed>
+        ensures grows { Grows (shelf_of self.old) (shelf_of self.new) }
+        ensures ok { IfOk result (λ p. Packs (shelf_of self.new) p (instruction.MakeArray spreads.now span)) }
+        ensures lacks { IfErr result Lacks }
+    {
+        let mut flags = Vec::new(alloc);
+        flags.extend_from_slice(spreads.as_slice())?;
+        let spreads = number(&mut self.spreads, flags)?;
+        let span = number(&mut self.spans, span)?;
+        Ok(Packed::MakeArray { spreads, span })
+    }
+
+    fn make_map(&mut self, alloc: Global, keys: &Keys<'_>, span: Span) -> TeraResult<Packed>
+        ensures grows { Grows (shelf_of self.old) (shelf_of self.new) }
+        ensures ok { IfOk result (λ p. Packs (shelf_of self.new) p (instruction.MakeMap keys.now span)) }
+        ensures lacks { IfErr result Lacks }
+    {
+        let keys = copies(alloc, keys.as_slice())?;
+        let keys = number(&mut self.keys, keys)?;
+        let span = number(&mut self.spans, span)?;
+        Ok(Packed::MakeMap { keys, span })
+    }
+
+    /// The instruction by numbers, with all that it names put where they find it.
+    pub(crate) fn pack(
+        &mut self,
+        alloc: Global,
+        seen: &mut [u32; 64],
+        instruction: Instruction<'_>,
+    ) -> TeraResult<Packed>
+        ensures grows { Grows (shelf_of self.old) (shelf_of self.new) }
+        ensures ok { IfOk result (λ p. Packs (shelf_of self.new) p instruction.entry) }
+        ensures lacks { IfErr result Lacks }
+    {
+        match instruction {
+            Instruction::WriteText(text) => self.text(text.as_str()),
+            Instruction::WriteTop => Ok(Packed::WriteTop),
+            Instruction::WriteName(name, span) => self.write_name(alloc, seen, &name, span),
+            Instruction::LoadConst(constant, span) => self.constant(&constant, span),
+            Instruction::LoadName(name, span) => self.load_name(alloc, seen, &name, span),
+            Instruction::LoadAttribute {
+                name,
+                optional,
+                span,
+            } => self.load_attribute(alloc, seen, &name, optional, span),
+            Instruction::LoadItem { optional, span } => {
+                let span = number(&mut self.spans, span)?;
+                Ok(Packed::LoadItem { optional, span })
+            }
+            Instruction::Slice { optional, span } => {
+                let span = number(&mut self.spans, span)?;
+                Ok(Packed::Slice { optional, span })
+            }
+            Instruction::Not => Ok(Packed::Not),
+            Instruction::Negate => Ok(Packed::Negate),
+            Instruction::Binary(operator, span) => {
+                let span = number(&mut self.spans, span)?;
+                Ok(Packed::Binary { operator, span })
+            }
+            Instruction::MakeArray(spreads, span) => self.make_array(alloc, &spreads, span),
+            Instruction::MakeMap(keys, span) => self.make_map(alloc, &keys, span),
+            Instruction::Jump(skip) => Ok(Packed::Jump(skip)),
+            Instruction::PopJumpIfFalse(skip) => Ok(Packed::PopJumpIfFalse(skip)),
+            Instruction::JumpIfFalseOrPop(skip) => Ok(Packed::JumpIfFalseOrPop(skip)),
+            Instruction::JumpIfTrueOrPop(skip) => Ok(Packed::JumpIfTrueOrPop(skip)),
+        }
+    }
+
+    /// The instruction that is meant.
+    pub(crate) fn unpack(&self, packed: Packed) -> Instruction<'_>
+        requires { Within (shelf_of self.now) packed }
+        ensures { result ≡ unpacked (shelf_of self.now) packed }
+    {
+        match packed {
+            Packed::WriteText { start, end } => {
+                Instruction::WriteText(Content::new(&self.pool[start as usize..end as usize]))
+            }
+            Packed::WriteTop => Instruction::WriteTop,
+            Packed::LoadNone { span } => {
+                Instruction::LoadConst(Constant::none(), self.spans[span as usize])
+            }
+            Packed::LoadBool { flag, span } => {
+                Instruction::LoadConst(Constant::from_bool(flag), self.spans[span as usize])
+            }
+            Packed::LoadInt { span, number } => {
+                Instruction::LoadConst(Constant::from_int(number), self.spans[span as usize])
+            }
+            Packed::LoadConst { constant, span } => {
+                let value = &self.constants[constant as usize];
+                Instruction::LoadConst(Constant::shared(value), self.spans[span as usize])
+            }
+            Packed::WriteName { name, span } => {
+                let name = &self.names[name as usize];
+                Instruction::WriteName(Title::new(name.as_str()), self.spans[span as usize])
+            }
+            Packed::LoadName { name, span } => {
+                let name = &self.names[name as usize];
+                Instruction::LoadName(Title::new(name.as_str()), self.spans[span as usize])
+            }
+            Packed::LoadAttribute {
+                name,
+                optional,
+                span,
+            } => {
+                let name = &self.names[name as usize];
+                Instruction::LoadAttribute {
+                    name: Title::new(name.as_str()),
+                    optional,
+                    span: self.spans[span as usize],
+                }
+            }
+            Packed::LoadItem { optional, span } => Instruction::LoadItem {
+                optional,
+                span: self.spans[span as usize],
+            },
+            Packed::Slice { optional, span } => Instruction::Slice {
+                optional,
+                span: self.spans[span as usize],
+            },
+            Packed::Not => Instruction::Not,
+            Packed::Negate => Instruction::Negate,
+            Packed::Binary { operator, span } => {
+                Instruction::Binary(operator, self.spans[span as usize])
+            }
+            Packed::MakeArray { spreads, span } => {
+                let spreads = &self.spreads[spreads as usize];
+                Instruction::MakeArray(Spreads::new(spreads.as_slice()), self.spans[span as usize])
+            }
+            Packed::MakeMap { keys, span } => {
+                let keys = &self.keys[keys as usize];
+                Instruction::MakeMap(Keys::new(keys.as_slice()), self.spans[span as usize])
+            }
+            Packed::Jump(skip) => Instruction::Jump(skip),
+            Packed::PopJumpIfFalse(skip) => Instruction::PopJumpIfFalse(skip),
+            Packed::JumpIfFalseOrPop(skip) => Instruction::JumpIfFalseOrPop(skip),
+            Packed::JumpIfTrueOrPop(skip) => Instruction::JumpIfTrueOrPop(skip),
+        }
+    }
+}
+
+/// A jump names nothing.
+pub(crate) fn jump_of(jump: Instruction<'_>) -> Packed
+    requires { IsJump jump }
+    ensures { IsPacked result jump.entry }
+{
+    match jump {
+        Instruction::Jump(skip) => Packed::Jump(skip),
+        Instruction::PopJumpIfFalse(skip) => Packed::PopJumpIfFalse(skip),
+        Instruction::JumpIfFalseOrPop(skip) => Packed::JumpIfFalseOrPop(skip),
+        Instruction::JumpIfTrueOrPop(skip) => Packed::JumpIfTrueOrPop(skip),
+        _ => unreachable!(),
+    }
+}
+
+fn copies(alloc: Global, keys: &[Option<LiteralKey>]) -> TeraResult<Vec<Option<LiteralKey>>>
+    ensures { Gives (λ k. keys_of k.items) result (Ok (keys_of keys.now)) }
+{
+    let mut all = Vec::new(alloc);
+    for key in keys {
+        all.push(copied(alloc, key)?)?;
+    }
+    Ok(all)
+}

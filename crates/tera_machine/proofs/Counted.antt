@@ -2,21 +2,25 @@
 use Rattle.std.proofs.Common.{◌≡◌, ℕ, ◌+◌, ◌*◌, ◌≤◌, Bool, true, false, not, length, Some, refl, sym, subst, arith}
 use Rattle.std.specs.Prelude.{slice_get}
 use Rattle.tera_errors.specs.Fault.{Fault}
-use Rattle.tera_meaning.specs.Here.{Here}
-use Rattle.tera_meaning.specs.Run.{Run, Answer, Failed, Gave, Meaning, more, onward, if_else}
+use Rattle.tera_meaning.specs.Run.{Run, Signal, Request, Answer, Failed, Gave, Meaning, more, onward, if_else}
+use Rattle.tera_meaning.specs.Whole.{World, Place, here_at}
 use Rattle.tera_code.specs.declared.instruction.Instruction.{Instruction}
-use Rattle.tera_machine.specs.declared.machine.Flow.TheVariants.{On, Skip}
 use Rattle.tera_machine.specs.Config.{Config}
+use Rattle.tera_machine.specs.Flow.{Use, On, Skip}
 use Rattle.tera_machine.specs.Act.{Goes, Faults, act, branched}
-use Rattle.tera_machine.specs.Exec.{Code, Broken, Ends}
+use Rattle.tera_machine.specs.Exec.{Code, Finished, Broken, used, Ends, BodyEnds}
 use Rattle.tera_machine.specs.Progress.{Leads}
-use Rattle.tera_machine.proofs.Ends.{after-none, step_ends}
-use Rattle.tera_machine.proofs.Runs.{further, on_leads, skip_leads}
+use Rattle.tera_machine.proofs.Ends.{after-none, step_ends, further, on_leads, skip_leads}
 
 -- a place in the code, and what the machine works on there
 pub record Spot : Type 0 where
   pub ip : ℕ
   pub config : Config
+
+-- the body of a request gives this answer, in at most eight instructions a visit
+abbrev pub Asked : World → Place → Request → Use → Config → Answer Signal → Type 0
+Asked w place q u c (Failed f n) = (k : ℕ) × (k ≤ 8 * n) × BodyEnds w place q u c (Broken f k)
+Asked w place q u c (Gave signal r n) = (k : ℕ) × (k ≤ 8 * n) × BodyEnds w place q u c (Finished (used u r c) k)
 
 -- a fact of what an answer gives
 abbrev pub Holds : {A : Type 0} → (A → Type 0) → Answer A → Type 0
@@ -35,12 +39,12 @@ pub holds_any : {A : Type 0} (x : Answer A) → Holds (λ _. Unit {0}) x
 holds_any (Failed f v) = tt
 holds_any (Gave a r v) = tt
 
-module _ (here : Here) (code : Code) where
+module _ (w : World) (place : Place) (code : Code) where
   abbrev pub Reaches : Spot → ℕ → Spot → Type 0
-  Reaches a k b = Leads here code a.ip a.config k b.ip b.config
+  Reaches a k b = Leads w place code a.ip a.config k b.ip b.config
 
   abbrev pub Breaks : Spot → ℕ → Fault → Type 0
-  Breaks a k f = Ends here code a.ip a.config (Broken f k)
+  Breaks a k f = Ends w place code a.ip a.config (Broken f k)
 
   -- with so many instructions to spend besides eight a visit, of which so many are left
   abbrev pub Comes : {A : Type 0} → Spot → ℕ → ℕ → (A → Run → Spot) → Answer A → Type 0
@@ -52,13 +56,13 @@ module _ (here : Here) (code : Code) where
 
   reaches_then : (a b c : Spot) (j k : ℕ) → Reaches a j b → Reaches b k c → Reaches a (j + k) c
   reaches_then a b c j k g h =
-      further here code a.ip a.config j k (j + k) b.ip c.ip b.config c.config g refl h
+      further w place code a.ip a.config j k (j + k) b.ip c.ip b.config c.config g refl h
 
   breaks_then : (a b : Spot) (j k : ℕ) (f : Fault) → Reaches a j b → Breaks b k f → Breaks a (j + k) f
   breaks_then a b j k f g h = g.by (Broken f k) tt h
 
   reaches_none : (a : Spot) → Reaches a 0 a
-  reaches_none a = record { by = λ o over x. subst (Ends here code a.ip a.config) (sym (after-none o)) x }
+  reaches_none a = record { by = λ o over x. subst (Ends w place code a.ip a.config) (sym (after-none o)) x }
 
   -- nothing is to do
   pub done : {A : Type 0} {s t : ℕ} {goal : A → Run → Spot} {a : A} {r : Run} → t ≤ s → Runs (goal a r) s t goal (Gave a r 0)
@@ -77,14 +81,14 @@ module _ (here : Here) (code : Code) where
   step_comes a b s t goal (Gave x r v) g h = (1 + h.0, omega (arith, h.1), reaches_then a b (goal x r) 1 h.0 g h.2)
 
   -- one instruction, and the rest
-  pub first : {A : Type 0} {ip : ℕ} {c : Config} (c2 : Config) (s : ℕ) {t : ℕ} {goal : A → Run → Spot} {x : Answer A} (i : Instruction) → slice_get code ip ≡ Some i → act here i c ≡ Goes c2 On → Runs (record { ip = ip + 1; config = c2 }) s t goal x → Runs (record { ip = ip; config = c }) (s + 1) t goal x
+  pub first : {A : Type 0} {ip : ℕ} {c : Config} (c2 : Config) (s : ℕ) {t : ℕ} {goal : A → Run → Spot} {x : Answer A} (i : Instruction) → slice_get code ip ≡ Some i → act (here_at w place) (ip + 1) i c ≡ Goes c2 On → Runs (record { ip = ip + 1; config = c2 }) s t goal x → Runs (record { ip = ip; config = c }) (s + 1) t goal x
   first {ip = ip} {c = c} c2 s {t = t} {goal = goal} {x = x} i e a h =
-      record { by = step_comes (record { ip = ip; config = c }) (record { ip = ip + 1; config = c2 }) s t goal x (on_leads here code ip c c2 i e a) h.by }
+      record { by = step_comes (record { ip = ip; config = c }) (record { ip = ip + 1; config = c2 }) s t goal x (on_leads w place code ip c c2 i e a) h.by }
 
   -- one instruction, which jumps
-  pub jump : {A : Type 0} {ip : ℕ} {c : Config} (c2 : Config) (s n : ℕ) {t : ℕ} {goal : A → Run → Spot} {x : Answer A} (i : Instruction) → slice_get code ip ≡ Some i → act here i c ≡ Goes c2 (Skip n) → ip + 1 + n ≤ length code → Runs (record { ip = ip + 1 + n; config = c2 }) s t goal x → Runs (record { ip = ip; config = c }) (s + 1) t goal x
+  pub jump : {A : Type 0} {ip : ℕ} {c : Config} (c2 : Config) (s n : ℕ) {t : ℕ} {goal : A → Run → Spot} {x : Answer A} (i : Instruction) → slice_get code ip ≡ Some i → act (here_at w place) (ip + 1) i c ≡ Goes c2 (Skip n) → ip + 1 + n ≤ length code → Runs (record { ip = ip + 1 + n; config = c2 }) s t goal x → Runs (record { ip = ip; config = c }) (s + 1) t goal x
   jump {ip = ip} {c = c} c2 s n {t = t} {goal = goal} {x = x} i e a l h =
-      record { by = step_comes (record { ip = ip; config = c }) (record { ip = ip + 1 + n; config = c2 }) s t goal x (skip_leads here code ip n c c2 i e a l) h.by }
+      record { by = step_comes (record { ip = ip; config = c }) (record { ip = ip + 1 + n; config = c2 }) s t goal x (skip_leads w place code ip n c c2 i e a l) h.by }
 
   adjust_comes : {A : Type 0} (from : Spot) (s t s' t' : ℕ) (goal : A → Run → Spot) (x : Answer A) → s + t' ≤ s' + t → Comes from s t goal x → Comes from s' t' goal x
   adjust_comes from s t s' t' goal (Failed f v) l k = (k.0, omega (arith, l, k.1), k.2)
@@ -96,9 +100,9 @@ module _ (here : Here) (code : Code) where
       record { by = adjust_comes from s t s' t' goal x l h.by }
 
   -- one instruction, which faults
-  pub fail : {A : Type 0} {ip : ℕ} {c : Config} {s t : ℕ} {goal : A → Run → Spot} (f : Fault) (i : Instruction) → t ≤ s → slice_get code ip ≡ Some i → act here i c ≡ Faults f → Runs (record { ip = ip; config = c }) (s + 1) t goal (Failed f 0)
+  pub fail : {A : Type 0} {ip : ℕ} {c : Config} {s t : ℕ} {goal : A → Run → Spot} (f : Fault) (i : Instruction) → t ≤ s → slice_get code ip ≡ Some i → act (here_at w place) (ip + 1) i c ≡ Faults f → Runs (record { ip = ip; config = c }) (s + 1) t goal (Failed f 0)
   fail {ip = ip} {c = c} f i l e a =
-      record { by = (1, omega (arith, l), step_ends here code ip c i (Faults f) 0 (Broken f 0) e a refl) }
+      record { by = (1, omega (arith, l), step_ends w place code ip c i (Faults f) 0 (Broken f 0) e a refl) }
 
   rest_comes : {A : Type 0} (a b : Spot) (k s t u v : ℕ) (goal : A → Run → Spot) (y : Answer A) → k + t ≤ 0 + 8 * v → Reaches a k b → Comes b (s + t) u goal y → Comes a s u goal (more v y)
   rest_comes a b k s t u v goal (Failed f w) l g h = (k + h.0, omega (arith, h.1, l), breaks_then a b k h.0 f g h.2)
@@ -142,12 +146,12 @@ module _ (here : Here) (code : Code) where
       record { by = where_comes P from s t u goal goal' x go l p h.by k }
 
   -- one instruction, which chooses what comes next
-  pub choice_runs : {B : Type 0} {ip : ℕ} {c : Config} (go stay : Config) (s skip : ℕ) {t : ℕ} {goal : B → Run → Spot} (b : Bool) (m n : Meaning B) (r : Run) (i : Instruction) → slice_get code ip ≡ Some i → act here i c ≡ branched b go skip stay → ip + 1 + skip ≤ length code → Runs (record { ip = ip + 1; config = go }) s t goal (m r) → Runs (record { ip = ip + 1 + skip; config = stay }) s t goal (n r) → Runs (record { ip = ip; config = c }) (s + 1) t goal (if_else b m n r)
+  pub choice_runs : {B : Type 0} {ip : ℕ} {c : Config} (go stay : Config) (s skip : ℕ) {t : ℕ} {goal : B → Run → Spot} (b : Bool) (m n : Meaning B) (r : Run) (i : Instruction) → slice_get code ip ≡ Some i → act (here_at w place) (ip + 1) i c ≡ branched b go skip stay → ip + 1 + skip ≤ length code → Runs (record { ip = ip + 1; config = go }) s t goal (m r) → Runs (record { ip = ip + 1 + skip; config = stay }) s t goal (n r) → Runs (record { ip = ip; config = c }) (s + 1) t goal (if_else b m n r)
   choice_runs go stay s skip true m n r i e a l f g = first go s i e a f
   choice_runs go stay s skip false m n r i e a l f g = jump stay s skip i e a l g
 
   -- the same, where it chooses by the opposite
-  pub choice_not_runs : {B : Type 0} {ip : ℕ} {c : Config} (go stay : Config) (s skip : ℕ) {t : ℕ} {goal : B → Run → Spot} (b : Bool) (m n : Meaning B) (r : Run) (i : Instruction) → slice_get code ip ≡ Some i → act here i c ≡ branched (not b) go skip stay → ip + 1 + skip ≤ length code → Runs (record { ip = ip + 1; config = go }) s t goal (n r) → Runs (record { ip = ip + 1 + skip; config = stay }) s t goal (m r) → Runs (record { ip = ip; config = c }) (s + 1) t goal (if_else b m n r)
+  pub choice_not_runs : {B : Type 0} {ip : ℕ} {c : Config} (go stay : Config) (s skip : ℕ) {t : ℕ} {goal : B → Run → Spot} (b : Bool) (m n : Meaning B) (r : Run) (i : Instruction) → slice_get code ip ≡ Some i → act (here_at w place) (ip + 1) i c ≡ branched (not b) go skip stay → ip + 1 + skip ≤ length code → Runs (record { ip = ip + 1; config = go }) s t goal (n r) → Runs (record { ip = ip + 1 + skip; config = stay }) s t goal (m r) → Runs (record { ip = ip; config = c }) (s + 1) t goal (if_else b m n r)
   choice_not_runs go stay s skip true m n r i e a l f g = jump stay s skip i e a l g
   choice_not_runs go stay s skip false m n r i e a l f g = first go s i e a f
 

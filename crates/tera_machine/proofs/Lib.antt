@@ -1,6 +1,5 @@
 pub mod Ends
 pub mod Runs
-pub mod Stacks
 pub mod Literals
 pub mod Places
 pub mod Counted

@@ -1,25 +1,29 @@
 -- What one instruction does.
-use Rattle.std.specs.Prelude.{◌≡◌, ℕ, Bool, true, false, not, nat_le, cond, List, [], ◌∷◌, ◌++◌, length, reverse, take, drop, Option, Some, None, Result, Ok, Err}
+use Rattle.std.specs.Prelude.{◌≡◌, ◌≢◌, ℕ, Bool, true, false, not, nat_le, cond, List, [], ◌∷◌, ◌++◌, length, reverse, take, drop, Option, Some, None, Result, Ok, Err}
 use Rattle.std.specs.List.{zip}
 use Rattle.tera_errors.specs.declared.span.Span.{Span}
-use Rattle.tera_errors.specs.Site.{Text}
 use Rattle.tera_errors.specs.Site as site
+use Rattle.tera_errors.specs.Site.{Text}
 use Rattle.tera_errors.specs.Fault.{Fault}
 use Rattle.tera_errors.specs.Answer.{Refusal}
+use Rattle.tera_tree.specs.Tree.{Key}
+use Rattle.tera_tree.specs.declared.expression.BinaryOperator.{BinaryOperator}
 use Rattle.tera_values.specs.Val.{Val}
 use Rattle.tera_values.specs.Access.{truthy}
 use Rattle.tera_operators.specs.Operand.{Evaluated, Outcome}
 use Rattle.tera_operators.specs.Accesses.{attribute_of, item_of, slice_of}
 use Rattle.tera_operators.specs.Operators.{not_of, negative_of, binary_of}
 use Rattle.tera_operators.specs.Literals.{array_of, map_of}
-use Rattle.tera_state.specs.Scope.{look}
+use Rattle.tera_state.specs.Scope.{Around, look}
+use Rattle.tera_state.specs.Scopes.{around_of}
 use Rattle.tera_meaning.specs.Here.{Here}
 use Rattle.tera_meaning.specs.Meaning.{output}
 use Rattle.tera_code.specs.declared.instruction.Instruction.{Instruction}
 use Rattle.tera_code.specs.declared.instruction.Instruction.TheVariants.{WriteText, WriteTop, WriteName, LoadConst, LoadName, LoadAttribute, LoadItem, Slice, Not, Negate, Binary, MakeArray, MakeMap, Jump, PopJumpIfFalse, JumpIfFalseOrPop, JumpIfTrueOrPop}
-use Rattle.tera_machine.specs.declared.machine.Flow.{Flow}
-use Rattle.tera_machine.specs.declared.machine.Flow.TheVariants.{On, Skip}
-use Rattle.tera_machine.specs.Config.{Config}
+use Rattle.tera_machine.specs.declared.configuration.Configuration.{Configuration}
+use Rattle.tera_machine.specs.declared.machine.Flow as declared
+use Rattle.tera_machine.specs.Config.{Config, config_of}
+use Rattle.tera_machine.specs.Flow.{Flow, On, Skip, flow_of}
 
 -- what one instruction comes to: where it goes on, a fault, or nothing, where an operand is missing
 pub data Did : Type 0 where
@@ -45,12 +49,12 @@ abbrev pub put_out : Result Text Fault → Config → Did
 put_out (Ok text) c = Goes (with_text text c) On
 put_out (Err fault) c = Faults fault
 
-abbrev pub top_written : Here → List Evaluated → Config → Did
-top_written here [] c = Sticks
-top_written here (a ∷ rest) c = put_out (output here a) (holding rest c)
+abbrev pub top_written_in : Here → List Evaluated → Config → Did
+top_written_in here [] c = Sticks
+top_written_in here (a ∷ rest) c = put_out (output here a) (holding rest c)
 
 abbrev pub name_written : Here → site.Name → Span → Config → Did
-name_written here name span c = put_out (output here (record { value = look name c.run.vars; span = span })) c
+name_written here name span c = put_out (output here (record { value = look name here.around c.run.vars; span = span })) c
 
 abbrev pub on_one : (Evaluated → Outcome) → List Evaluated → Config → Did
 on_one f [] c = Sticks
@@ -84,39 +88,95 @@ abbrev pub branched : Bool → Config → ℕ → Config → Did
 branched true go skip stay = Goes go On
 branched false go skip stay = Goes stay (Skip skip)
 
-abbrev pub popped_branch : ℕ → List Evaluated → Config → Did
-popped_branch skip [] c = Sticks
-popped_branch skip (a ∷ rest) c = branched (truthy a.value) (holding rest c) skip (holding rest c)
+abbrev pub popped_branch_in : ℕ → List Evaluated → Config → Did
+popped_branch_in skip [] c = Sticks
+popped_branch_in skip (a ∷ rest) c = branched (truthy a.value) (holding rest c) skip (holding rest c)
 
-abbrev pub kept_if_falsy : ℕ → List Evaluated → Config → Did
-kept_if_falsy skip [] c = Sticks
-kept_if_falsy skip (a ∷ rest) c = branched (truthy a.value) (holding rest c) skip c
+abbrev pub kept_if_falsy_in : ℕ → List Evaluated → Config → Did
+kept_if_falsy_in skip [] c = Sticks
+kept_if_falsy_in skip (a ∷ rest) c = branched (truthy a.value) (holding rest c) skip c
 
-abbrev pub kept_if_truthy : ℕ → List Evaluated → Config → Did
-kept_if_truthy skip [] c = Sticks
-kept_if_truthy skip (a ∷ rest) c = branched (not (truthy a.value)) (holding rest c) skip c
+abbrev pub kept_if_truthy_in : ℕ → List Evaluated → Config → Did
+kept_if_truthy_in skip [] c = Sticks
+kept_if_truthy_in skip (a ∷ rest) c = branched (not (truthy a.value)) (holding rest c) skip c
 
-abbrev pub act : Here → Instruction → Config → Did
-act here (WriteText text) c = Goes (with_text text c) On
-act here WriteTop c = top_written here c.operands c
-act here (WriteName name span) c = name_written here name span c
-act here (LoadConst v span) c = pushed v span c
-act here (LoadName name span) c = pushed (look name c.run.vars) span c
-act here (LoadAttribute name optional span) c = on_one (λ a. attribute_of here.file optional a name span) c.operands c
-act here (LoadItem optional span) c = on_two (λ a i. item_of here.file optional a i span) c.operands c
-act here (Slice optional span) c = on_four (λ a s e t. slice_of here.file optional a s e t span) c.operands c
-act here Not c = on_one (λ a. Ok (not_of a)) c.operands c
-act here Negate c = on_one (negative_of here.file) c.operands c
-act here (Binary operator span) c = on_two (λ a b. binary_of here.file operator a b span) c.operands c
-act here (MakeArray spreads span) c = on_many (λ all. array_of here.file (zip spreads all) span) (length spreads) c.operands c
-act here (MakeMap keys span) c = on_many (λ all. map_of here.file (zip keys all) span) (length keys) c.operands c
-act here (Jump skip) c = Goes c (Skip skip)
-act here (PopJumpIfFalse skip) c = popped_branch skip c.operands c
-act here (JumpIfFalseOrPop skip) c = kept_if_falsy skip c.operands c
-act here (JumpIfTrueOrPop skip) c = kept_if_truthy skip c.operands c
+abbrev pub top_written : Here → Config → Did
+top_written here c = top_written_in here c.operands c
 
--- the code did what the definition says, unless memory was refused
-abbrev pub Acted : Did → Result Flow Refusal → Config → Type 0
-Acted d (Ok flow) c = d ≡ Goes c flow
+abbrev pub text_written : Text → Config → Did
+text_written text c = Goes (with_text text c) On
+
+abbrev pub outcome_put : Outcome → Config → Did
+outcome_put o c = outcome o c.operands c
+
+abbrev pub name_loaded : Around → site.Name → Span → Config → Did
+name_loaded around name span c = pushed (look name around c.run.vars) span c
+
+abbrev pub attribute_loaded : site.Name → site.Name → Bool → Span → Config → Did
+attribute_loaded file name optional span c = on_one (λ a. attribute_of file optional a name span) c.operands c
+
+abbrev pub item_loaded : site.Name → Bool → Span → Config → Did
+item_loaded file optional span c = on_two (λ a i. item_of file optional a i span) c.operands c
+
+abbrev pub sliced : site.Name → Bool → Span → Config → Did
+sliced file optional span c = on_four (λ a s e t. slice_of file optional a s e t span) c.operands c
+
+abbrev pub denied : Config → Did
+denied c = on_one (λ a. Ok (not_of a)) c.operands c
+
+abbrev pub negated : site.Name → Config → Did
+negated file c = on_one (negative_of file) c.operands c
+
+abbrev pub operated : site.Name → BinaryOperator → Span → Config → Did
+operated file operator span c = on_two (λ a b. binary_of file operator a b span) c.operands c
+
+abbrev pub array_made : site.Name → List Bool → Span → Config → Did
+array_made file spreads span c =
+    on_many (λ all. array_of file (zip spreads all) span) (length spreads) c.operands c
+
+abbrev pub map_made : site.Name → List (Option Key) → Span → Config → Did
+map_made file keys span c = on_many (λ all. map_of file (zip keys all) span) (length keys) c.operands c
+
+abbrev pub popped_branch : ℕ → Config → Did
+popped_branch skip c = popped_branch_in skip c.operands c
+
+abbrev pub kept_if_falsy : ℕ → Config → Did
+kept_if_falsy skip c = kept_if_falsy_in skip c.operands c
+
+abbrev pub kept_if_truthy : ℕ → Config → Did
+kept_if_truthy skip c = kept_if_truthy_in skip c.operands c
+
+-- next is the place behind the instruction
+abbrev pub act : Here → ℕ → Instruction → Config → Did
+act here next (WriteText text) = text_written text
+act here next WriteTop = top_written here
+act here next (WriteName name span) = name_written here name span
+act here next (LoadConst v span) = pushed v span
+act here next (LoadName name span) = name_loaded here.around name span
+act here next (LoadAttribute name optional span) = attribute_loaded here.file name optional span
+act here next (LoadItem optional span) = item_loaded here.file optional span
+act here next (Slice optional span) = sliced here.file optional span
+act here next Not = denied
+act here next Negate = negated here.file
+act here next (Binary operator span) = operated here.file operator span
+act here next (MakeArray spreads span) = array_made here.file spreads span
+act here next (MakeMap keys span) = map_made here.file keys span
+act here next (Jump skip) = λ c. Goes c (Skip skip)
+act here next (PopJumpIfFalse skip) = popped_branch skip
+act here next (JumpIfFalseOrPop skip) = kept_if_falsy skip
+act here next (JumpIfTrueOrPop skip) = kept_if_truthy skip
+
+-- the code did so, unless memory was refused
+abbrev pub Acted : Did → Result declared.Flow Refusal → Config → Type 0
+Acted d (Ok flow) c = d ≡ Goes c (flow_of flow)
 Acted d (Err None) c = Unit {0}
 Acted d (Err (Some fault)) c = d ≡ Faults fault
+
+-- the operands that are needed are there
+abbrev pub IsReady : (Config → Did) → Configuration → Type 0
+IsReady does before = does (config_of before) ≢ Sticks
+
+-- the code does this to a configuration, and what is around its variables stays
+abbrev pub Does : (Config → Did) → Configuration → Result declared.Flow Refusal → Configuration → Type 0
+Does does before result after =
+    Acted (does (config_of before)) result (config_of after) × (around_of after.scopes ≡ around_of before.scopes)

@@ -1,4 +1,5 @@
 pub mod Config
+pub mod Flow
 pub mod Act
 pub mod Exec
 pub mod Progress

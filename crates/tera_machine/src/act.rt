@@ -1,354 +1,324 @@
 // One instruction, by groups.
-ghost use Rattle.std.specs.Prelude.{◌≡◌, ◌≢◌, ℕ, Bool, Ok, length};
-ghost use Rattle.std.specs.List.{zip};
+ghost use Rattle.std.specs.Prelude.{Ok, ℕ, Bool};
 ghost use Rattle.tera_errors.specs.Answer.{Tells};
 ghost use Rattle.tera_errors.specs.Fault.{rendering_error};
-ghost use Rattle.tera_machine.specs.Act.{Acted, act as act_spec, Goes, Sticks, with_text, pushed, top_written, name_written, outcome, on_one, on_two, on_four, on_many, branched, popped_branch, kept_if_falsy, kept_if_truthy, holding};
-ghost use Rattle.tera_machine.specs.declared.machine.Flow.TheVariants.{On};
-ghost use Rattle.tera_machine.specs.Config.{config_of};
+ghost use Rattle.tera_machine.specs.Act.{act, IsReady, Does, text_written, pushed, outcome_put, top_written, name_written, name_loaded, attribute_loaded, item_loaded, sliced, denied, negated, operated, array_made, map_made, popped_branch, kept_if_falsy, kept_if_truthy};
 ghost use Rattle.tera_machine.specs.Subject.{here_of};
-ghost use Rattle.tera_operators.specs.Accesses.{attribute_of, item_of, slice_of};
-ghost use Rattle.tera_operators.specs.Operators.{not_of, negative_of, binary_of};
-ghost use Rattle.tera_operators.specs.Literals.{array_of, map_of};
-ghost use Rattle.tera_state.specs.Scope.{look};
+ghost use Rattle.tera_state.specs.Scopes.{around_of};
 ghost use Rattle.tera_tree.specs.declared.expression.BinaryOperator.{BinaryOperator as Operator};
 
 use crate::configuration::Configuration;
 use crate::machine::{Flow, VirtualMachine};
+use std::alloc::Global;
 use tera_code::{Content, Instruction, Keys, Spreads, Title};
 use tera_operators::Operand;
+use tera_state::Found;
 use tera_tree::BinaryOperator;
 use tera_values::{Error, Span, TeraResult, Value};
 
-impl VirtualMachine {
-    /// Does what the instruction says, which stands in this file's text, and tells where to go on.
+impl<'c> Configuration<'c> {
+    /// Does what the instruction says, which stands in this file's text in front of the next place, and tells where to go on.
     pub(crate) fn act(
-        &self,
+        &mut self,
+        machine: &VirtualMachine,
         file: &str,
-        configuration: &mut Configuration<'_>,
+        next: usize,
         instruction: &Instruction<'_>,
     ) -> TeraResult<Flow>
-        requires { act_spec (here_of self.now file.now) instruction.now (config_of configuration.old) ≢ Sticks }
-        ensures { Acted (act_spec (here_of self.now file.now) instruction.now (config_of configuration.old)) result (config_of configuration.new) }
+        requires { IsReady (act (here_of machine.now file.now self.old) next instruction.now) self.old }
+        ensures { Does (act (here_of machine.now file.now self.old) next instruction.now) self.old result self.new }
     {
+        let _ = next;
+        let alloc = machine.alloc;
         match instruction {
-            Instruction::WriteText(text) => write_text(configuration, text),
-            Instruction::WriteTop => self.write_top(file, configuration),
-            Instruction::WriteName(name, span) => {
-                self.write_name(file, configuration, name, *span)
-            }
-            Instruction::LoadConst(constant, span) => {
-                push(configuration, constant.load()?, *span)
-            }
-            Instruction::LoadName(name, span) => load_name(configuration, name, *span),
+            Instruction::WriteText(text) => self.write_text(text),
+            Instruction::WriteTop => self.write_top(machine, file),
+            Instruction::WriteName(name, span) => self.write_name(machine, file, name, *span),
+            Instruction::LoadConst(constant, span) => self.push(constant.load()?, *span),
+            Instruction::LoadName(name, span) => self.load_name(alloc, name, *span),
             Instruction::LoadAttribute {
                 name,
                 optional,
                 span,
-            } => self.load_attribute(file, configuration, name, *optional, *span),
+            } => self.load_attribute(alloc, file, name, *optional, *span),
             Instruction::LoadItem { optional, span } => {
-                self.load_item(file, configuration, *optional, *span)
+                self.load_item(alloc, file, *optional, *span)
             }
-            Instruction::Slice { optional, span } => {
-                self.slice(file, configuration, *optional, *span)
-            }
-            Instruction::Not => negate_truth(configuration),
-            Instruction::Negate => self.negate(file, configuration),
-            Instruction::Binary(operator, span) => {
-                self.binary(file, configuration, *operator, *span)
-            }
-            Instruction::MakeArray(spreads, span) => {
-                self.make_array(file, configuration, spreads, *span)
-            }
-            Instruction::MakeMap(keys, span) => self.make_map(file, configuration, keys, *span),
+            Instruction::Slice { optional, span } => self.slice(alloc, file, *optional, *span),
+            Instruction::Not => self.deny(),
+            Instruction::Negate => self.negate(alloc, file),
+            Instruction::Binary(operator, span) => self.operate(alloc, file, *operator, *span),
+            Instruction::MakeArray(spreads, span) => self.make_array(alloc, file, spreads, *span),
+            Instruction::MakeMap(keys, span) => self.make_map(alloc, file, keys, *span),
             Instruction::Jump(skip) => Ok(Flow::Skip(*skip)),
-            Instruction::PopJumpIfFalse(skip) => pop_jump_if_false(configuration, *skip),
-            Instruction::JumpIfFalseOrPop(skip) => jump_if_false_or_pop(configuration, *skip),
-            Instruction::JumpIfTrueOrPop(skip) => jump_if_true_or_pop(configuration, *skip),
+            Instruction::PopJumpIfFalse(skip) => self.pop_jump_if_false(*skip),
+            Instruction::JumpIfFalseOrPop(skip) => self.jump_if_false_or_pop(*skip),
+            Instruction::JumpIfTrueOrPop(skip) => self.jump_if_true_or_pop(*skip),
         }
     }
 
-    fn write_top(&self, file: &str, configuration: &mut Configuration<'_>) -> TeraResult<Flow>
-        requires { top_written (here_of self.now file.now) (config_of configuration.old).operands (config_of configuration.old) ≢ Sticks }
-        ensures { Acted (top_written (here_of self.now file.now) (config_of configuration.old).operands (config_of configuration.old)) result (config_of configuration.new) }
+    fn write_text(&mut self, text: &Content<'_>) -> TeraResult<Flow>
+        ensures { Does (text_written text.now) self.old result self.new }
     {
-        let Some(operand) = configuration.operands.pop() else {
+        self.written.append(text.as_str())?;
+        Ok(Flow::On)
+    }
+
+    fn write_top(&mut self, machine: &VirtualMachine, file: &str) -> TeraResult<Flow>
+        requires { IsReady (top_written (here_of machine.now file.now self.old)) self.old }
+        ensures { Does (top_written (here_of machine.now file.now self.old)) self.old result self.new }
+    {
+        let Some(operand) = self.operands.pop() else {
             unreachable!()
         };
         if operand.value().is_undefined() {
-            return Err(self.undefined_written(file, operand.span()));
+            return Err(undefined_written(machine.alloc, file, operand.span()));
         }
-        if !self.autoescape || operand.value().is_safe() {
-            configuration.written.append_printed(operand.value())?;
-        } else {
-            configuration
-                .written
-                .append_escaped(operand.value(), self.alloc)?;
-        }
+        self.written
+            .append_value(machine.alloc, machine.autoescape, operand.value())?;
         Ok(Flow::On)
     }
 
+    // The value is read where it lies.
     fn write_name(
-        &self,
+        &mut self,
+        machine: &VirtualMachine,
         file: &str,
-        configuration: &mut Configuration<'_>,
         name: &Title<'_>,
         span: Span,
     ) -> TeraResult<Flow>
-        ensures { Acted (name_written (here_of self.now file.now) name.now span (config_of configuration.old)) result (config_of configuration.new) }
+        ensures { Does (name_written (here_of machine.now file.now self.old) name.now span) self.old result self.new }
     {
-        let Some(value) = configuration.scopes.look(name.as_str()) else {
-            return Err(self.undefined_written(file, span));
-        };
-        if value.is_undefined() {
-            return Err(self.undefined_written(file, span));
+        let found = self.scopes.look(name.as_str());
+        if found.is_undefined() {
+            return Err(undefined_written(machine.alloc, file, span));
         }
-        if !self.autoescape || value.is_safe() {
-            configuration.written.append_printed(value)?;
-        } else {
-            configuration.written.append_escaped(value, self.alloc)?;
+        match &found {
+            Found::Kept(value) => {
+                self.written
+                    .append_value(machine.alloc, machine.autoescape, value)?
+            }
+            _ => self.written.append_value(
+                machine.alloc,
+                machine.autoescape,
+                &found.to_value(machine.alloc)?,
+            )?,
         }
         Ok(Flow::On)
     }
 
-    fn undefined_written(&self, file: &str, span: Span) -> Error
-        ensures { Tells result (rendering_error (record { file = file.now; span = span })) }
+    fn put(&mut self, operand: Operand) -> TeraResult<Flow>
+        ensures { Does (outcome_put (Ok operand)) self.old result self.new }
     {
-        Error::rendering(
-            self.alloc,
-            "a value that is undefined can't be rendered",
-            file,
-            span,
-        )
+        self.operands.push(operand)?;
+        Ok(Flow::On)
+    }
+
+    fn push(&mut self, value: Value, span: Span) -> TeraResult<Flow>
+        ensures { Does (pushed value span) self.old result self.new }
+    {
+        self.put(Operand::new(value, span))
+    }
+
+    fn load_name(&mut self, alloc: Global, name: &Title<'_>, span: Span) -> TeraResult<Flow>
+        ensures { Does (name_loaded (around_of self.old.scopes) name.now span) self.old result self.new }
+    {
+        let value = self.scopes.look(name.as_str()).to_value(alloc)?;
+        self.push(value, span)
     }
 
     fn load_attribute(
-        &self,
+        &mut self,
+        alloc: Global,
         file: &str,
-        configuration: &mut Configuration<'_>,
         name: &Title<'_>,
         optional: bool,
         span: Span,
     ) -> TeraResult<Flow>
-        requires { on_one (λ a. attribute_of file.now optional a name.now span) (config_of configuration.old).operands (config_of configuration.old) ≢ Sticks }
-        ensures { Acted (on_one (λ a. attribute_of file.now optional a name.now span) (config_of configuration.old).operands (config_of configuration.old)) result (config_of configuration.new) }
+        requires { IsReady (attribute_loaded file.now name.now optional span) self.old }
+        ensures { Does (attribute_loaded file.now name.now optional span) self.old result self.new }
     {
-        let Some(target) = configuration.operands.pop() else {
+        let Some(target) = self.operands.pop() else {
             unreachable!()
         };
-        let operand = tera_operators::attribute(
-            self.alloc,
-            file,
-            &target,
-            name.as_str(),
-            optional,
-            span,
-        )?;
-        put(configuration, operand)
+        let operand =
+            tera_operators::attribute(alloc, file, &target, name.as_str(), optional, span)?;
+        self.put(operand)
     }
 
     fn load_item(
-        &self,
+        &mut self,
+        alloc: Global,
         file: &str,
-        configuration: &mut Configuration<'_>,
         optional: bool,
         span: Span,
     ) -> TeraResult<Flow>
-        requires { on_two (λ a i. item_of file.now optional a i span) (config_of configuration.old).operands (config_of configuration.old) ≢ Sticks }
-        ensures { Acted (on_two (λ a i. item_of file.now optional a i span) (config_of configuration.old).operands (config_of configuration.old)) result (config_of configuration.new) }
+        requires { IsReady (item_loaded file.now optional span) self.old }
+        ensures { Does (item_loaded file.now optional span) self.old result self.new }
     {
-        let Some(index) = configuration.operands.pop() else {
+        let Some(index) = self.operands.pop() else {
             unreachable!()
         };
-        let Some(target) = configuration.operands.pop() else {
+        let Some(target) = self.operands.pop() else {
             unreachable!()
         };
-        let operand = tera_operators::item(self.alloc, file, &target, &index, optional, span)?;
-        put(configuration, operand)
+        let operand = tera_operators::item(alloc, file, &target, &index, optional, span)?;
+        self.put(operand)
     }
 
-    fn slice(
-        &self,
+    fn slice(&mut self, alloc: Global, file: &str, optional: bool, span: Span) -> TeraResult<Flow>
+        requires { IsReady (sliced file.now optional span) self.old }
+        ensures { Does (sliced file.now optional span) self.old result self.new }
+    {
+        let Some(step) = self.operands.pop() else {
+            unreachable!()
+        };
+        let Some(end) = self.operands.pop() else {
+            unreachable!()
+        };
+        let Some(start) = self.operands.pop() else {
+            unreachable!()
+        };
+        let Some(target) = self.operands.pop() else {
+            unreachable!()
+        };
+        let operand =
+            tera_operators::slice(alloc, file, &target, &start, &end, &step, optional, span)?;
+        self.put(operand)
+    }
+
+    // The truth value that the topmost operand has not.
+    fn deny(&mut self) -> TeraResult<Flow>
+        requires { IsReady denied self.old }
+        ensures { Does denied self.old result self.new }
+    {
+        let Some(operand) = self.operands.pop() else {
+            unreachable!()
+        };
+        self.put(tera_operators::not(&operand))
+    }
+
+    fn negate(&mut self, alloc: Global, file: &str) -> TeraResult<Flow>
+        requires { IsReady (negated file.now) self.old }
+        ensures { Does (negated file.now) self.old result self.new }
+    {
+        let Some(operand) = self.operands.pop() else {
+            unreachable!()
+        };
+        let operand = tera_operators::negative(alloc, file, &operand)?;
+        self.put(operand)
+    }
+
+    fn operate(
+        &mut self,
+        alloc: Global,
         file: &str,
-        configuration: &mut Configuration<'_>,
-        optional: bool,
-        span: Span,
-    ) -> TeraResult<Flow>
-        requires { on_four (λ a s e t. slice_of file.now optional a s e t span) (config_of configuration.old).operands (config_of configuration.old) ≢ Sticks }
-        ensures { Acted (on_four (λ a s e t. slice_of file.now optional a s e t span) (config_of configuration.old).operands (config_of configuration.old)) result (config_of configuration.new) }
-    {
-        let Some(step) = configuration.operands.pop() else {
-            unreachable!()
-        };
-        let Some(end) = configuration.operands.pop() else {
-            unreachable!()
-        };
-        let Some(start) = configuration.operands.pop() else {
-            unreachable!()
-        };
-        let Some(target) = configuration.operands.pop() else {
-            unreachable!()
-        };
-        let operand = tera_operators::slice(
-            self.alloc, file, &target, &start, &end, &step, optional, span,
-        )?;
-        put(configuration, operand)
-    }
-
-    fn negate(&self, file: &str, configuration: &mut Configuration<'_>) -> TeraResult<Flow>
-        requires { on_one (negative_of file.now) (config_of configuration.old).operands (config_of configuration.old) ≢ Sticks }
-        ensures { Acted (on_one (negative_of file.now) (config_of configuration.old).operands (config_of configuration.old)) result (config_of configuration.new) }
-    {
-        let Some(operand) = configuration.operands.pop() else {
-            unreachable!()
-        };
-        let operand = tera_operators::negative(self.alloc, file, &operand)?;
-        put(configuration, operand)
-    }
-
-    fn binary(
-        &self,
-        file: &str,
-        configuration: &mut Configuration<'_>,
         operator: BinaryOperator,
         span: Span,
     ) -> TeraResult<Flow>
-        requires { on_two (λ a b. binary_of file.now operator a b span) (config_of configuration.old).operands (config_of configuration.old) ≢ Sticks }
-        ensures { Acted (on_two (λ a b. binary_of file.now operator a b span) (config_of configuration.old).operands (config_of configuration.old)) result (config_of configuration.new) }
+        requires { IsReady (operated file.now operator span) self.old }
+        ensures { Does (operated file.now operator span) self.old result self.new }
     {
-        let Some(right) = configuration.operands.pop() else {
+        let Some(right) = self.operands.pop() else {
             unreachable!()
         };
-        let Some(left) = configuration.operands.pop() else {
+        let Some(left) = self.operands.pop() else {
             unreachable!()
         };
-        let operand = tera_operators::binary(self.alloc, file, operator, &left, &right, span)?;
-        put(configuration, operand)
+        let operand = tera_operators::binary(alloc, file, operator, &left, &right, span)?;
+        self.put(operand)
     }
 
     fn make_array(
-        &self,
+        &mut self,
+        alloc: Global,
         file: &str,
-        configuration: &mut Configuration<'_>,
         spreads: &Spreads<'_>,
         span: Span,
     ) -> TeraResult<Flow>
-        requires { on_many (λ all. array_of file.now (zip spreads.now all) span) (length spreads.now) (config_of configuration.old).operands (config_of configuration.old) ≢ Sticks }
-        ensures { Acted (on_many (λ all. array_of file.now (zip spreads.now all) span) (length spreads.now) (config_of configuration.old).operands (config_of configuration.old)) result (config_of configuration.new) }
+        requires { IsReady (array_made file.now spreads.now span) self.old }
+        ensures { Does (array_made file.now spreads.now span) self.old result self.new }
     {
         let spreads = spreads.as_slice();
-        if configuration.operands.len() < spreads.len() {
+        if self.operands.len() < spreads.len() {
             unreachable!()
         }
-        let operands = configuration.operands.pop_many(spreads.len())?;
-        let operand = tera_operators::array(self.alloc, file, spreads, operands, span)?;
-        put(configuration, operand)
+        let operands = self.operands.pop_many(spreads.len())?;
+        let operand = tera_operators::array(alloc, file, spreads, operands, span)?;
+        self.put(operand)
     }
 
     fn make_map(
-        &self,
+        &mut self,
+        alloc: Global,
         file: &str,
-        configuration: &mut Configuration<'_>,
         keys: &Keys<'_>,
         span: Span,
     ) -> TeraResult<Flow>
-        requires { on_many (λ all. map_of file.now (zip keys.now all) span) (length keys.now) (config_of configuration.old).operands (config_of configuration.old) ≢ Sticks }
-        ensures { Acted (on_many (λ all. map_of file.now (zip keys.now all) span) (length keys.now) (config_of configuration.old).operands (config_of configuration.old)) result (config_of configuration.new) }
+        requires { IsReady (map_made file.now keys.now span) self.old }
+        ensures { Does (map_made file.now keys.now span) self.old result self.new }
     {
-        let written = keys.as_slice();
-        if configuration.operands.len() < written.len() {
+        let keys = keys.as_slice();
+        if self.operands.len() < keys.len() {
             unreachable!()
         }
-        let operands = configuration.operands.pop_many(written.len())?;
-        let operand = tera_operators::map(self.alloc, file, written, operands, span)?;
-        put(configuration, operand)
+        let operands = self.operands.pop_many(keys.len())?;
+        let operand = tera_operators::map(alloc, file, keys, operands, span)?;
+        self.put(operand)
+    }
+
+    fn pop_jump_if_false(&mut self, skip: usize) -> TeraResult<Flow>
+        requires { IsReady (popped_branch skip) self.old }
+        ensures { Does (popped_branch skip) self.old result self.new }
+    {
+        let Some(operand) = self.operands.pop() else {
+            unreachable!()
+        };
+        if operand.value().is_truthy() {
+            Ok(Flow::On)
+        } else {
+            Ok(Flow::Skip(skip))
+        }
+    }
+
+    fn jump_if_false_or_pop(&mut self, skip: usize) -> TeraResult<Flow>
+        requires { IsReady (kept_if_falsy skip) self.old }
+        ensures { Does (kept_if_falsy skip) self.old result self.new }
+    {
+        let Some(operand) = self.operands.pop() else {
+            unreachable!()
+        };
+        if operand.value().is_truthy() {
+            Ok(Flow::On)
+        } else {
+            self.operands.push(operand)?;
+            Ok(Flow::Skip(skip))
+        }
+    }
+
+    fn jump_if_true_or_pop(&mut self, skip: usize) -> TeraResult<Flow>
+        requires { IsReady (kept_if_truthy skip) self.old }
+        ensures { Does (kept_if_truthy skip) self.old result self.new }
+    {
+        let Some(operand) = self.operands.pop() else {
+            unreachable!()
+        };
+        if operand.value().is_truthy() {
+            self.operands.push(operand)?;
+            Ok(Flow::Skip(skip))
+        } else {
+            Ok(Flow::On)
+        }
     }
 }
 
-fn write_text(configuration: &mut Configuration<'_>, text: &Content<'_>) -> TeraResult<Flow>
-    ensures { Acted (Goes (with_text text.now (config_of configuration.old)) On) result (config_of configuration.new) }
+fn undefined_written(alloc: Global, file: &str, span: Span) -> Error
+    ensures { Tells result (rendering_error (record { file = file.now; span = span })) }
 {
-    configuration.written.append(text.as_str())?;
-    Ok(Flow::On)
-}
-
-fn put(configuration: &mut Configuration<'_>, operand: Operand) -> TeraResult<Flow>
-    ensures { Acted (outcome (Ok operand) (config_of configuration.old).operands (config_of configuration.old)) result (config_of configuration.new) }
-{
-    configuration.operands.push(operand)?;
-    Ok(Flow::On)
-}
-
-fn push(configuration: &mut Configuration<'_>, value: Value, span: Span) -> TeraResult<Flow>
-    ensures { Acted (pushed value span (config_of configuration.old)) result (config_of configuration.new) }
-{
-    put(configuration, Operand::new(value, span))
-}
-
-fn load_name(
-    configuration: &mut Configuration<'_>,
-    name: &Title<'_>,
-    span: Span,
-) -> TeraResult<Flow>
-    ensures { Acted (pushed (look name.now (config_of configuration.old).run.vars) span (config_of configuration.old)) result (config_of configuration.new) }
-{
-    let value = match configuration.scopes.look(name.as_str()) {
-        Some(value) => value.try_clone()?,
-        None => Value::undefined(),
-    };
-    push(configuration, value, span)
-}
-
-fn negate_truth(configuration: &mut Configuration<'_>) -> TeraResult<Flow>
-    requires { on_one (λ a. Ok (not_of a)) (config_of configuration.old).operands (config_of configuration.old) ≢ Sticks }
-    ensures { Acted (on_one (λ a. Ok (not_of a)) (config_of configuration.old).operands (config_of configuration.old)) result (config_of configuration.new) }
-{
-    let Some(operand) = configuration.operands.pop() else {
-        unreachable!()
-    };
-    put(configuration, tera_operators::not(&operand))
-}
-
-fn pop_jump_if_false(configuration: &mut Configuration<'_>, skip: usize) -> TeraResult<Flow>
-    requires { popped_branch skip (config_of configuration.old).operands (config_of configuration.old) ≢ Sticks }
-    ensures { Acted (popped_branch skip (config_of configuration.old).operands (config_of configuration.old)) result (config_of configuration.new) }
-{
-    let Some(operand) = configuration.operands.pop() else {
-        unreachable!()
-    };
-    if operand.value().is_truthy() {
-        Ok(Flow::On)
-    } else {
-        Ok(Flow::Skip(skip))
-    }
-}
-
-fn jump_if_false_or_pop(configuration: &mut Configuration<'_>, skip: usize) -> TeraResult<Flow>
-    requires { kept_if_falsy skip (config_of configuration.old).operands (config_of configuration.old) ≢ Sticks }
-    ensures { Acted (kept_if_falsy skip (config_of configuration.old).operands (config_of configuration.old)) result (config_of configuration.new) }
-{
-    let Some(operand) = configuration.operands.pop() else {
-        unreachable!()
-    };
-    if operand.value().is_truthy() {
-        Ok(Flow::On)
-    } else {
-        configuration.operands.push(operand)?;
-        Ok(Flow::Skip(skip))
-    }
-}
-
-fn jump_if_true_or_pop(configuration: &mut Configuration<'_>, skip: usize) -> TeraResult<Flow>
-    requires { kept_if_truthy skip (config_of configuration.old).operands (config_of configuration.old) ≢ Sticks }
-    ensures { Acted (kept_if_truthy skip (config_of configuration.old).operands (config_of configuration.old)) result (config_of configuration.new) }
-{
-    let Some(operand) = configuration.operands.pop() else {
-        unreachable!()
-    };
-    if operand.value().is_truthy() {
-        configuration.operands.push(operand)?;
-        Ok(Flow::Skip(skip))
-    } else {
-        Ok(Flow::On)
-    }
+    Error::rendering(
+        alloc,
+        "a value that is undefined can't be rendered",
+        file,
+        span,
+    )
 }

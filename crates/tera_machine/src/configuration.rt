@@ -1,9 +1,9 @@
 // What the machine works on.
-use crate::stack::Stack;
+use crate::ended::Ended;
 use crate::written::Written;
 use std::alloc::Global;
 use tera_operators::Operand;
-use tera_state::Scopes;
+use tera_state::{Scopes, Stack};
 
 /// Everything that an instruction may read or change.
 #[derive(Drop)]
@@ -11,22 +11,25 @@ pub struct Configuration<'c> {
     pub operands: Stack<Operand>,
     pub scopes: Scopes<'c>,
     pub written: Written,
+    pub ended: Ended,
 }
 
 impl<'c> Configuration<'c> {
     ghost use Rattle.std.specs.Prelude.{◌≡◌, []};
-    ghost use Rattle.tera_state.specs.Scopes.{variables_of};
+    ghost use Rattle.tera_state.specs.Scopes.{variables_of, around_of};
     ghost use Rattle.tera_meaning.specs.Run.{begun};
-    ghost use Rattle.tera_machine.specs.Config.{config_of};
+    ghost use Rattle.tera_machine.specs.Config.{config_of, starting};
 
     /// Where a body begins that reads these scopes; takes no memory.
     pub fn new(alloc: Global, scopes: Scopes<'c>) -> Configuration<'c>
-        ensures { config_of result ≡ record { operands = []; run = begun (variables_of scopes.entry) } }
+        ensures starts { config_of result ≡ starting (begun (variables_of scopes.entry)) }
+        ensures around { around_of result.scopes ≡ around_of scopes.entry }
     {
         Configuration {
             operands: Stack::new(alloc),
             scopes,
             written: Written::new(alloc),
+            ended: Ended::new(),
         }
     }
 }

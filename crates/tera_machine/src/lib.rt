@@ -3,11 +3,11 @@
 
 pub mod act;
 pub mod configuration;
+pub mod ended;
 pub mod machine;
-pub mod stack;
 pub mod written;
 
 pub use configuration::Configuration;
+pub use ended::Ended;
 pub use machine::VirtualMachine;
-pub use stack::Stack;
 pub use written::Written;

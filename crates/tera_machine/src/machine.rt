@@ -1,11 +1,14 @@
 // A run of a body.
-ghost use Rattle.std.specs.Prelude.{◌≡◌, ℕ, ◌+◌, ◌-◌, ◌*◌, ◌≤◌, IsTrue};
+ghost use Rattle.std.specs.Prelude.{◌≡◌, ℕ, ◌+◌, ◌-◌, ◌*◌, ◌≤◌, IsTrue, OnOk};
 ghost use Rattle.tera_meaning.specs.Run.{visits_of};
-ghost use Rattle.tera_meaning.specs.Whole.{here_at};
+ghost use Rattle.tera_meaning.specs.Registry.{new_registry};
+ghost use Rattle.tera_meaning.specs.Rendering.{alone};
+ghost use Rattle.tera_meaning.specs.Whole.{World};
+ghost use Rattle.tera_state.specs.Scopes.{around_of};
 ghost use Rattle.tera_code.specs.Code.{nodes_code};
 ghost use Rattle.tera_machine.specs.Config.{config_of};
 ghost use Rattle.tera_machine.specs.Exec.{EndsWithin, Ran};
-ghost use Rattle.tera_machine.specs.Subject.{Subject, meant, here_of, Means};
+ghost use Rattle.tera_machine.specs.Subject.{Subject, meant_from, engine_of, place_of, Means};
 
 use crate::configuration::Configuration;
 use std::alloc::Global;
@@ -23,12 +26,14 @@ pub enum Flow {
     Skip(usize),
 }
 
-/// How high the count of instructions may rise.
+/// What a run stands on, and how high the count of instructions may rise. Contracts alone see it.
 pub trait Limit {
+    ghost world: { World };
     ghost most: { ℕ };
 }
 
 impl Limit for Brand {
+    ghost world = { alone new_registry };
     ghost most = { 0 };
 }
 
@@ -62,10 +67,12 @@ impl VirtualMachine {
         steps: &mut Steps<L>,
     ) -> TeraResult<()>
         ghost about: { Subject }
-        requires here { here_of self.now chunk.now.file ≡ here_at about.world about.place }
+        requires engine { engine_of self.now ≡ about.world.registry.engine }
+        requires place { place_of self.now chunk.now.file configuration.old ≡ about.place }
         requires code { chunk.now.code ≡ nodes_code about.tree }
-        ensures few { steps.new ≤ steps.old + 8 * visits_of (meant about (config_of configuration.old).run) }
-        ensures means { Means (meant about (config_of configuration.old).run) (config_of configuration.old).operands result (config_of configuration.new) }
+        ensures few { steps.new ≤ steps.old + 8 * visits_of (meant_from about configuration.old) }
+        ensures means { Means (meant_from about configuration.old) (config_of configuration.old) result (config_of configuration.new) }
+        ensures stays { OnOk result (around_of configuration.new.scopes ≡ around_of configuration.old.scopes) }
     {
         self.run_counted::<Brand, L>(chunk, configuration, steps)
     }
@@ -77,20 +84,23 @@ impl VirtualMachine {
         configuration: &mut Configuration<'_>,
         steps: &mut Steps<L>,
     ) -> TeraResult<()>
-        requires { EndsWithin (here_of self.now chunk.now.file) chunk.now.code 0 (config_of configuration.old) (M.most - steps.old) }
+        requires engine { engine_of self.now ≡ M.world.registry.engine }
+        requires within { EndsWithin M.world (place_of self.now chunk.now.file configuration.old) chunk.now.code 0 (config_of configuration.old) (M.most - steps.old) }
         ensures counted { steps.old ≤ steps.new }
         ensures bounded { steps.old ≤ M.most → steps.new ≤ M.most }
-        ensures ends { Ran (here_of self.now chunk.now.file) chunk.now.code (config_of configuration.old) result (config_of configuration.new) (steps.new - steps.old) }
+        ensures ends { Ran M.world (place_of self.now chunk.now.file configuration.old) chunk.now.code (config_of configuration.old) result (config_of configuration.new) (steps.new - steps.old) }
+        ensures stays { OnOk result (around_of configuration.new.scopes ≡ around_of configuration.old.scopes) }
     {
         let mut at = 0;
         while let Some(instruction) = chunk.get(at, steps) {
-            let flow = match self.act(chunk.file(), configuration, &instruction) {
+            let next = at + 1;
+            let flow = match configuration.act(self, chunk.file(), next, &instruction) {
                 Ok(flow) => flow,
                 Err(error) => return Err(error),
             };
             match flow {
-                Flow::On => at += 1,
-                Flow::Skip(count) => at = at + 1 + count,
+                Flow::On => at = next,
+                Flow::Skip(count) => at = next + count,
             }
         }
         Ok(())

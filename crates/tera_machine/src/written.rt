@@ -1,12 +1,13 @@
 // What a rendering wrote.
 ghost use Rattle.std.specs.Prelude.{◌≡◌, ◌++◌, [], OnOk, IfErr, string_bytes};
 ghost use Rattle.tera_errors.specs.Answer.{Lacks};
-ghost use Rattle.tera_values.specs.Printed.{printed};
 ghost use Rattle.tera_values.specs.Escape.{escape_html};
+ghost use Rattle.tera_state.specs.Rendered.{rendered};
 
 use std::alloc::Global;
 use std::marker::Model;
-use tera_values::{TeraResult, Value, escape_html};
+use tera_state::write_value;
+use tera_values::{TeraResult, Value};
 
 /// Text that grows at its end. A contract sees its bytes. After a refusal a part of the new text may be there.
 #[derive(Drop)]
@@ -50,26 +51,11 @@ impl Written {
         Ok(())
     }
 
-    /// What the value prints, at the end.
-    pub fn append_printed(&mut self, value: &Value) -> TeraResult<()>
-        ensures ok { OnOk result (self.new ≡ self.old ++ printed value.now) }
+    /// What the value is rendered as, at the end.
+    pub fn append_value(&mut self, alloc: Global, autoescape: bool, value: &Value) -> TeraResult<()>
+        ensures ok { OnOk result (self.new ≡ self.old ++ rendered autoescape escape_html value.now) }
         ensures lacks { IfErr result Lacks }
     {
-        value.print_to(&mut self.text)
-    }
-
-    /// The escape of what the value prints, at the end. A text is not copied on the way.
-    pub fn append_escaped(&mut self, value: &Value, alloc: Global) -> TeraResult<()>
-        ensures ok { OnOk result (self.new ≡ self.old ++ escape_html (printed value.now)) }
-        ensures lacks { IfErr result Lacks }
-    {
-        match value.as_str() {
-            Some(text) => escape_html(text, &mut self.text),
-            None => {
-                let mut text = String::new(alloc);
-                value.print_to(&mut text)?;
-                escape_html(text.as_str(), &mut self.text)
-            }
-        }
+        write_value(alloc, autoescape, value, &mut self.text)
     }
 }

@@ -1,13 +1,19 @@
 -- Where nodes stand.
-use Rattle.std.specs.Prelude.{Bool}
+use Rattle.std.specs.Prelude.{ℕ, Bool}
 use Rattle.tera_errors.specs.Site.{Text, Name}
+use Rattle.tera_state.specs.Scope.{AroundOf}
 
 -- what an engine gives to every rendering: filters, tests and functions are further fields
 pub record Engine : Type 0 where
   pub escape : Text → Text
 
--- what is fixed while nodes are rendered: the template in whose text they stand, the autoescape flag and the engine
-pub record Here : Type 0 where
+-- what is fixed while nodes are rendered: the template in whose text they stand, what is around their variables, the
+-- autoescape flag and the engine
+pub record HereOf (C : Type 0) : Type 0 where
   pub file : Name
+  pub around : AroundOf C
   pub autoescape : Bool
   pub engine : Engine
+
+abbrev pub Here : Type 0
+Here = HereOf ℕ

@@ -12,31 +12,31 @@ use Rattle.tera_operators.specs.Operators.{not_of, negative_in, binary_in}
 use Rattle.tera_operators.specs.Literals.{array_of, map_of}
 use Rattle.tera_state.specs.Rendered.{rendered_in}
 use Rattle.tera_state.specs.Scope.{look}
-use Rattle.tera_meaning.specs.Here.{Here}
+use Rattle.tera_meaning.specs.Here.{Here, HereOf}
 use Rattle.tera_meaning.specs.Run.{Signal, On, Meaning, MeaningOf, Oracle, OracleOf, ◌▹◌, visit, gives, answered, value_at, if_else, reads, writes, go_on}
 
 module _ {C : Type 0} (alphabet : Alphabet C) where
   -- the text that a value is put out as, at the operand's span; undefined has none
-  abbrev pub output_in : Here → EvaluatedOf C → Result (List C) Fault
+  abbrev pub output_in : HereOf C → EvaluatedOf C → Result (List C) Fault
   output_in here a =
       if is_undefined a.value then fault_at here.file a.span
       else Ok (rendered_in alphabet here.autoescape here.engine.escape a.value)
 
-  abbrev pub written_in : Here → EvaluatedOf C → MeaningOf C Signal
+  abbrev pub written_in : HereOf C → EvaluatedOf C → MeaningOf C Signal
   written_in here a = answered (output_in here a) ▹ writes
 
 -- a bound that isn't written is none
 abbrev pub no_bound : {C : Type 0} → EvaluatedOf C
 no_bound = record { value = none; span = record { start = 0; end = 0 } }
 
-module _ {C : Type 0} (alphabet : Alphabet C) (here : Here) (call : OracleOf C) where
+module _ {C : Type 0} (alphabet : Alphabet C) (here : HereOf C) (call : OracleOf C) where
   abbrev mutual
     pub expr_meaning_in : Expr → MeaningOf C (EvaluatedOf C)
     expr_meaning_in (Nothing span) = visit (value_at none span)
     expr_meaning_in (Boolean b span) = visit (value_at (bool b) span)
     expr_meaning_in (Integer z span) = visit (value_at (int z) span)
     expr_meaning_in (Text t span) = visit (value_at (text (alphabet.spelled made t) false) span)
-    expr_meaning_in (Name name span) = visit (reads (look name) ▹ λ v. value_at v span)
+    expr_meaning_in (Name name span) = visit (reads (look name here.around) ▹ λ v. value_at v span)
     expr_meaning_in (Attribute target name optional span) =
         visit (expr_meaning_in target ▹ λ a. answered (attribute_of here.file optional a name span))
     expr_meaning_in (Index target index optional span) =

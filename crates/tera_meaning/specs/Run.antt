@@ -85,11 +85,14 @@ abbrev pub go_on : {C : Type 0} → Signal → MeaningOf C Signal → MeaningOf 
 go_on On next = next
 
 -- what is asked of a body that stands elsewhere: blocks, includes and components are its cases
-pub data Request : Type 0 where
+pub data RequestOf (C : Type 0) : Type 0 where
+
+abbrev pub Request : Type 0
+Request = RequestOf ℕ
 
 -- the answer to a request: the text that was made, the variables after it, and the blocks that ended in it
 abbrev pub OracleOf : Type 0 → Type 0
-OracleOf C = Request → VariablesOf C → AnswerOf C Signal
+OracleOf C = RequestOf C → VariablesOf C → AnswerOf C Signal
 
 abbrev pub Oracle : Type 0
 Oracle = OracleOf ℕ

@@ -1,5 +1,9 @@
-pub mod Scope
 pub mod Lent
+pub mod Items
+pub mod Scope
+pub mod Bound
+pub mod Found
+pub mod Opened
 pub mod Scopes
 pub mod Rendered
 pub mod View

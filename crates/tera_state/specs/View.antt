@@ -7,8 +7,8 @@ use Rattle.tera_values.specs.Named.{at_name}
 use Rattle.tera_values.specs.Access.{is_undefined}
 use Rattle.tera_values.specs.Escape.{escape_html}
 use Rattle.tera_state.specs.Rendered.{rendered}
-use Rattle.tera_state.specs.Scope.{Variables, look}
-use Rattle.tera_state.specs.Scopes.{variables_of}
+use Rattle.tera_state.specs.Scope.{Around, Variables, look}
+use Rattle.tera_state.specs.Scopes.{around_of, variables_of}
 use Rattle.tera_state.specs.declared.state.Source.{Source}
 use Rattle.tera_state.specs.declared.state.Source.TheVariants.{Alone, Open}
 use Rattle.tera_state.specs.declared.state.State.{State}
@@ -19,15 +19,15 @@ pub record View : Type 0 where
   pub autoescape : Bool
   pub escape : Text → Text
 
--- the view where these are the variables
-abbrev pub view_at : Variables → Bool → (Text → Text) → View
-view_at variables autoescape escape =
-    record { look = λ name. look name variables; autoescape = autoescape; escape = escape }
+-- the view where these are the variables, with this around them
+abbrev pub view_at : Around → Variables → Bool → (Text → Text) → View
+view_at around variables autoescape escape =
+    record { look = λ name. look name around variables; autoescape = autoescape; escape = escape }
 
 -- what a name stands for in a context alone, or in the scopes of a rendering
 abbrev pub look_in_source : Source → Name → Val
 look_in_source (Alone context) name = unwrap_or (at_name name context.now) undefined
-look_in_source (Open scopes) name = look name (variables_of scopes.now)
+look_in_source (Open scopes) name = look name (around_of scopes.now) (variables_of scopes.now)
 
 abbrev pub view_of : State → View
 view_of s = record { look = look_in_source s.source; autoescape = s.autoescape; escape = escape_html }

@@ -1,12 +1,22 @@
 //! The variables of a rendering, and what objects of the caller are lent of them.
 #![tactic(auto)]
 
+pub mod bindings;
+pub mod found;
+pub mod frame;
 pub mod lent;
+pub mod loops;
+pub mod rendered;
 pub mod scopes;
+pub mod stack;
 pub mod state;
-#[cfg(test)]
-mod tests;
 
+pub use bindings::Bindings;
+pub use found::Found;
+pub use frame::{Frame, Standing};
 pub use lent::Lent;
+pub use loops::ForLoop;
+pub use rendered::write_value;
 pub use scopes::Scopes;
+pub use stack::Stack;
 pub use state::State;

@@ -1,9 +1,12 @@
 // What an object of the caller is lent of a rendering.
-ghost use Rattle.std.specs.Prelude.{◌≡◌, ◌++◌, [], true, Ok, option_map, option_copied, unwrap_or, string_bytes, OnOk, OnErr, IfErr};
-ghost use Rattle.tera_errors.specs.Answer.{Gives, Lacks};
+ghost use Rattle.std.specs.Prelude.{◌≡◌, [], true, Ok, option_map, string_bytes, unwrap_or};
+ghost use Rattle.tera_errors.specs.Answer.{Gives};
 ghost use Rattle.tera_values.specs.Val.{undefined};
 ghost use Rattle.tera_values.specs.Escape.{escape_html};
+ghost use Rattle.tera_state.specs.Found.{found_value};
 
+use crate::found::Found;
+use crate::rendered::write_value;
 use crate::scopes::Scopes;
 use std::alloc::Global;
 use tera_values::{ArgFromValue, Context, Error, TeraResult, Value, escape_html};
@@ -18,11 +21,14 @@ enum Source<'a> {
 impl<'a> Source<'a> {
     ghost use Rattle.tera_state.specs.View.{look_in_source};
 
-    fn look(&self, name: &str) -> Option<&Value>
-        ensures { unwrap_or (option_copied result) undefined ≡ look_in_source self.now name.now }
+    fn look(&self, name: &str) -> Found<'_>
+        ensures { unwrap_or (found_value result) undefined ≡ look_in_source self.now name.now }
     {
         match self {
-            Source::Alone(context) => context.get(name),
+            Source::Alone(context) => match context.get(name) {
+                Some(value) => Found::Kept(value),
+                None => Found::Nothing,
+            },
             Source::Open(scopes) => scopes.look(name),
         }
     }
@@ -37,29 +43,17 @@ pub struct State<'a> {
 }
 
 impl<'a> State<'a> {
-    ghost use Rattle.tera_state.specs.Scope.{fresh};
-    ghost use Rattle.tera_state.specs.Scopes.{variables_of};
-    ghost use Rattle.tera_state.specs.View.{view_of, view_at, read_defined, escaped_if_needed, written};
+    ghost use Rattle.tera_state.specs.Scope.{outside, nothing_set};
+    ghost use Rattle.tera_state.specs.View.{view_of, view_at, read_defined, escaped_if_needed};
 
     /// A state over a context alone: text is escaped, and by `escape_html`. Takes no memory.
     pub fn new(context: &'a Context) -> State<'a>
-        ensures { view_of result ≡ view_at (record { frame = fresh context.now [] }) true escape_html }
+        ensures { view_of result ≡ view_at (outside context.now []) nothing_set true escape_html }
     {
         State {
             alloc: context.alloc(),
             source: Source::Alone(context),
             autoescape: true,
-        }
-    }
-
-    /// The state of a rendering, as it is lent to an object. Takes no memory.
-    pub fn open(alloc: Global, scopes: &'a Scopes<'a>, autoescape: bool) -> State<'a>
-        ensures { view_of result ≡ view_at (variables_of scopes.now) autoescape escape_html }
-    {
-        State {
-            alloc,
-            source: Source::Open(scopes),
-            autoescape,
         }
     }
 
@@ -72,11 +66,15 @@ impl<'a> State<'a> {
 
     /// The value that the name stands for, read as `T`; none where it is undefined.
     pub fn get<T: ArgFromValue>(&self, name: &str) -> TeraResult<Option<T>>
-        ensures { Gives (λ o. option_map T.stands_for o) result (read_defined T.reading ((view_of self.now).look name.now)) }
+        ensures given { Gives (λ o. option_map T.stands_for o) result (read_defined T.reading ((view_of self.now).look name.now)) }
     {
-        match self.source.look(name) {
-            Some(value) if !value.is_undefined() => Ok(Some(T::from_value(self.alloc, value)?)),
-            _ => Ok(None),
+        let found = self.source.look(name);
+        if found.is_undefined() {
+            return Ok(None);
+        }
+        match &found {
+            Found::Kept(value) => Ok(Some(T::from_value(self.alloc, value)?)),
+            _ => Ok(Some(T::from_value(self.alloc, &found.to_value(self.alloc)?)?)),
         }
     }
 
@@ -92,7 +90,7 @@ impl<'a> State<'a> {
         ensures { Gives string_bytes result (Ok ((view_of self.now).escape text.now)) }
     {
         let mut out = String::new(self.alloc);
-        self.escape_into(text, &mut out)?;
+        escape_html(text, &mut out)?;
         Ok(out)
     }
 
@@ -105,31 +103,23 @@ impl<'a> State<'a> {
             return Err(Error::message(self.alloc, "an undefined value can't be written"));
         }
         let mut out = String::new(self.alloc);
-        self.write(value, &mut out)?;
+        write_value(self.alloc, self.autoescape, value, &mut out)?;
         Ok(out)
     }
+}
 
-    /// Writes a value to the end of a text, which want of memory leaves as it was.
-    pub fn write(&self, value: &Value, out: &mut String) -> TeraResult<()>
-        ensures ok { OnOk result (string_bytes out.new ≡ string_bytes out.old ++ written (view_of self.now) value.now) }
-        ensures err { OnErr result (string_bytes out.new ≡ string_bytes out.old) }
-        ensures lacks { IfErr result Lacks }
-    {
-        if !self.autoescaping_enabled() || value.is_safe() {
-            return value.print_to(out);
-        }
-        match value.as_str() {
-            Some(text) => self.escape_into(text, out),
-            None => self.escape_into(value.printed(self.alloc)?.as_str(), out),
-        }
-    }
+impl<'a> Scopes<'a> {
+    ghost use Rattle.tera_state.specs.Scopes.{around_of, variables_of};
+    ghost use Rattle.tera_state.specs.View.{view_of, view_at};
 
-    // The only place that knows by what texts are escaped.
-    fn escape_into(&self, text: &str, out: &mut String) -> TeraResult<()>
-        ensures ok { OnOk result (string_bytes out.new ≡ string_bytes out.old ++ (view_of self.now).escape text.now) }
-        ensures err { OnErr result (string_bytes out.new ≡ string_bytes out.old) }
-        ensures lacks { IfErr result Lacks }
+    /// The state of the rendering, as it is lent to an object. Takes no memory.
+    pub fn state(&'a self, autoescape: bool) -> State<'a>
+        ensures { view_of result ≡ view_at (around_of self.now) (variables_of self.now) autoescape escape_html }
     {
-        escape_html(text, out)
+        State {
+            alloc: self.alloc,
+            source: Source::Open(self),
+            autoescape,
+        }
     }
 }

@@ -1,5 +1,6 @@
 -- The characters of a text: bytes, or bytes that bear where they come from.
 use Rattle.std.specs.Prelude.{ℕ, Bool, cond, List, map, Result, Ok, Err}
+use Rattle.tera_errors.specs.Site.{Name}
 use Rattle.tera_errors.specs.Fault.{Fault}
 use Rattle.tera_values_data.specs.Val.{ValOf, ValsOf, EntriesOf, undefined, none, bool, int, text, bytes, array, map as map_of, no_items, item, no_entries, entry}
 
@@ -15,7 +16,8 @@ abbrev pub Marked : Type 0
 Marked = ℕ × Mark
 
 -- how characters are seen as bytes, one and a text; how a text is spelled by them; a text that is vouched for, which may
--- have been safe before; a value as it is without marks, as it comes from outside, and as an answer from there
+-- have been safe before; a value as it is without marks, as it comes from outside, alone or by names, and as an answer from
+-- there
 pub record Alphabet (C : Type 0) : Type 0 where
   pub code : C → ℕ
   pub seen : List C → List ℕ
@@ -23,6 +25,7 @@ pub record Alphabet (C : Type 0) : Type 0 where
   pub vouched : Bool → List C → List C
   pub bare : ValOf C → ValOf ℕ
   pub handed : ValOf ℕ → ValOf C
+  pub all_handed : List (Name × ValOf ℕ) → List (Name × ValOf C)
   pub answers : Result (ValOf ℕ) Fault → Result (ValOf C) Fault
 
 -- bytes alone: this is what runs
@@ -34,6 +37,7 @@ plain = record {
   vouched = λ safe t. t;
   bare = λ v. v;
   handed = λ v. v;
+  all_handed = λ vs. vs;
   answers = λ r. r;
 }
 
@@ -83,6 +87,9 @@ abbrev mutual
   entries_from_outside no_entries = no_entries
   entries_from_outside (entry k v es) = entry k (from_outside v) (entries_from_outside es)
 
+abbrev pub names_from_outside : List (Name × ValOf ℕ) → List (Name × ValOf Marked)
+names_from_outside vs = map (λ v. (v.0, from_outside v.1)) vs
+
 abbrev pub answer_from_outside : Result (ValOf ℕ) Fault → Result (ValOf Marked) Fault
 answer_from_outside (Ok v) = Ok (from_outside v)
 answer_from_outside (Err fault) = Err fault
@@ -96,5 +103,6 @@ marking = record {
   vouched = λ safe t. cond safe t (bearing marked_safe (bytes_of t));
   bare = unmarked;
   handed = from_outside;
+  all_handed = names_from_outside;
   answers = answer_from_outside;
 }

@@ -1,16 +1,15 @@
 use Rattle.std.proofs.Common.{arith}
-use Rattle.tera_meaning.specs.Whole.{whole}
 use Rattle.tera_machine.specs.Config.{config_of}
 use Rattle.tera_machine.proofs.Conclusions.{can_run, gave_meant}
 use Rattle.tera_machine.proofs.machine.VirtualMachine.run.Goals as goal
 
-pub run_counted-requires : goal.run_counted-requires
-run_counted-requires g c =
-    can_run (whole g.about.world g.about.place) g.about.tree c.requires.1.0 c.requires.1.1 (config_of c.args.configuration.now) c.args.steps.now
+pub run_counted-requires-clause-within : goal.run_counted-requires-clause-within
+run_counted-requires-clause-within g c =
+    can_run g.about.world g.about.tree c.requires.1.1.0 c.requires.1.1.1 (config_of c.args.configuration.now) c.args.steps.now
 
 pub returns-clause-few : goal.returns-clause-few
 returns-clause-few g c = c.run_counted.ensures.bounded (omega arith)
 
 pub returns-clause-means : goal.returns-clause-means
 returns-clause-means g c =
-    gave_meant (whole g.about.world g.about.place) g.about.tree c.requires.1.0 c.requires.1.1 (config_of c.args.configuration.now) _ _ _ c.run_counted.ensures.ends
+    gave_meant g.about.world g.about.tree c.requires.1.1.0 c.requires.1.1.1 (config_of c.args.configuration.now) _ _ _ c.run_counted.ensures.ends

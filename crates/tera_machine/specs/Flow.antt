@@ -1,0 +1,25 @@
+-- Where the machine goes on.
+use Rattle.std.specs.Prelude.{ℕ, Bool}
+use Rattle.tera_errors.specs.declared.span.Span.{Span}
+use Rattle.tera_meaning.specs.Run.{Request}
+use Rattle.tera_machine.specs.declared.machine.Flow as declared
+use Rattle.tera_machine.specs.declared.machine.Flow.TheVariants as flow
+
+-- what is made of another body's text: it is written, or a value on top of the operands, which may be marked safe
+pub data Use : Type 0 where
+  Written : Use
+  Pushed : (safe : Bool) (span : Span) → Use
+
+-- at the next instruction; so many behind that; so many behind a place; at the end; or at the next one, when another body
+-- was taken
+pub data Flow : Type 0 where
+  On : Flow
+  Skip : (count : ℕ) → Flow
+  To : (place : ℕ) (count : ℕ) → Flow
+  Out : Flow
+  Ask : (request : Request) (use' : Use) → Flow
+
+-- what instructions come to today
+abbrev pub flow_of : declared.Flow → Flow
+flow_of flow.On = On
+flow_of (flow.Skip count) = Skip count

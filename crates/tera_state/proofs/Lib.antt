@@ -1,0 +1,9 @@
+pub mod Puts
+pub mod Once
+pub mod Walked
+pub mod Layers
+pub mod Steps
+pub mod Finds
+pub mod Beyond
+pub mod Started
+pub mod Stacks

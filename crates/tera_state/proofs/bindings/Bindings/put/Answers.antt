@@ -1,0 +1,34 @@
+use Rattle.std.proofs.Common.{rules, ◌≡◌, ◌∙◌, ap, sym, subst, Some, None, arith, ◌+◌, ◌<◌, length}
+use Rattle.tera_state.specs.Bound.{with_binding, place_from, IsOnce}
+use Rattle.tera_state.proofs.Puts.{bind-new, at_place, bind-at}
+use Rattle.tera_state.proofs.Once.{once-with}
+use Rattle.tera_state.proofs.bindings.Bindings.put.Goals as goal
+use Rattle.tera_state.proofs.bindings.Bindings.put.Goals.{in-Some, in-None+in_ok-push-in-None}
+
+pub index_mut-requires : goal.index_mut-requires
+index_mut-requires c =
+    let h : place_from 0 c.self.inside.items.items c.args.frame c.args.layer c.args.name ≡ Some c.in-Some.at = search rules in
+    let x = at_place 0 c.self.inside.items.items c.args.frame c.args.layer c.args.name c.in-Some.at h in
+    search (rules, x.1)
+
+pub invariant_of-self : goal.invariant_of-self
+invariant_of-self c =
+    let h : place_from 0 c.self.inside.items.items c.args.frame c.args.layer c.args.name ≡ Some c.in-Some.at = search rules in
+    let m : c.in-Some.at ≡ 0 + c.in-Some.at = omega arith in
+    subst IsOnce (sym (bind-at 0 c.in-Some.at c.self.inside.items.items c.args.frame c.args.layer c.args.name c.args.value c.index_mut.result.now (h ∙ ap Some m) c.index_mut.ensures.value)) (once-with c.self.inside.items.items c.args.frame c.args.layer c.args.name c.args.value c.self.invariant)
+
+pub invariant_of-self-in-Continue-1 : goal.invariant_of-self-in-Continue-1
+invariant_of-self-in-Continue-1 c =
+    let h : place_from 0 c.self.inside.items.items c.args.frame c.args.layer c.args.name ≡ None = search rules in
+    subst IsOnce (sym (c.in_ok-push-in-None.ensures.items ∙ bind-new 0 c.self.inside.items.items c.args.frame c.args.layer c.args.name c.args.value h)) (once-with c.self.inside.items.items c.args.frame c.args.layer c.args.name c.args.value c.self.invariant)
+
+pub returns-clause-ok : goal.returns-clause-ok
+returns-clause-ok c = elim c.match-place.branch [
+  | in-Some w ↦
+      let h : place_from 0 c.self.inside.items.items c.args.frame c.args.layer c.args.name ≡ Some w.in-Some.at = search rules in
+      let m : w.in-Some.at ≡ 0 + w.in-Some.at = omega arith in
+      w.self-is ∙ bind-at 0 w.in-Some.at c.self.inside.items.items c.args.frame c.args.layer c.args.name c.args.value w.index_mut.result.now (h ∙ ap Some m) w.index_mut.ensures.value ∙ ap (λ bs. with_binding bs c.args.frame c.args.layer c.args.name c.args.value) c.self.view_is
+  | in-None+in_ok-push-in-None w ↦
+      let h : place_from 0 c.self.inside.items.items c.args.frame c.args.layer c.args.name ≡ None = search rules in
+      w.self-is ∙ w.in_ok-push-in-None.ensures.items ∙ bind-new 0 c.self.inside.items.items c.args.frame c.args.layer c.args.name c.args.value h ∙ ap (λ bs. with_binding bs c.args.frame c.args.layer c.args.name c.args.value) c.self.view_is
+]

@@ -1,0 +1,9 @@
+use Rattle.std.proofs.Common.{rules}
+use Rattle.tera_state.proofs.Steps.{closes, cleared_stays}
+use Rattle.tera_state.proofs.scopes.Scopes.close_loop.Goals as goal
+
+pub returns-clause-variables : goal.returns-clause-variables
+returns-clause-variables c = closes c.args.self.now c.close.new.self c.clear.new.self c.len-frame.result c.layer-layer.result c.requires c.len-frame.ensures.count c.layer-layer.ensures c.close.ensures.loops c.clear.ensures
+
+pub returns-clause-stays : goal.returns-clause-stays
+returns-clause-stays c = cleared_stays c.args.self.now c.close.new.self c.clear.new.self c.len-frame.result c.layer-layer.result c.len-frame.ensures.count c.clear.ensures c.close.ensures.standing

@@ -1,0 +1,40 @@
+-- One list of bindings, by frame and layer.
+use Rattle.std.specs.Prelude.{◌≡◌, ℕ, Bool, ◌&&◌, ◌||◌, not, nat_eq, cond, List, [], ◌∷◌, Option, Some, None, filter, ◌+◌, bytes_eq, if◌then◌else◌}
+use Rattle.tera_errors.specs.Site.{Name}
+use Rattle.tera_values.specs.Val.{Val}
+use Rattle.tera_state.specs.Scope.{Bindings}
+use Rattle.tera_state.specs.declared.bindings.Binding.{Binding}
+
+abbrev pub is_for : ℕ → ℕ → Name → Binding → Bool
+is_for f l n b = nat_eq b.frame f && nat_eq b.layer l && bytes_eq n b.name
+
+-- the value of the name in the layer
+abbrev pub value_in : List Binding → ℕ → ℕ → Name → Option Val
+value_in [] f l n = None
+value_in (b ∷ bs) f l n = if is_for f l n b then Some b.value else value_in bs f l n
+
+abbrev pub with_binding : List Binding → ℕ → ℕ → Name → Val → List Binding
+with_binding [] f l n v = record { frame = f; layer = l; name = n; value = v } ∷ []
+with_binding (b ∷ bs) f l n v = if is_for f l n b then record b { value = v } ∷ bs else b ∷ with_binding bs f l n v
+
+-- the place of a binding, where the first stands at k
+abbrev pub place_from : ℕ → List Binding → ℕ → ℕ → Name → Option ℕ
+place_from k [] f l n = None
+place_from k (b ∷ bs) f l n = if is_for f l n b then Some k else place_from (k + 1) bs f l n
+
+-- what a layer, and what a frame binds is out
+abbrev pub without : List Binding → ℕ → ℕ → List Binding
+without bs f l = filter (λ b. not (nat_eq b.frame f) || not (nat_eq b.layer l)) bs
+
+abbrev pub without_frame : List Binding → ℕ → List Binding
+without_frame bs f = filter (λ b. not (nat_eq b.frame f)) bs
+
+-- a name stands at most once in a layer
+abbrev pub IsOnce : List Binding → Type 0
+IsOnce [] = Unit {0}
+IsOnce (b ∷ bs) = (value_in bs b.frame b.layer b.name ≡ None) × IsOnce bs
+
+-- what the layer binds
+abbrev pub layer_of : List Binding → ℕ → ℕ → Bindings
+layer_of [] f l = []
+layer_of (b ∷ bs) f l = if nat_eq b.frame f && nat_eq b.layer l then (b.name, b.value) ∷ layer_of bs f l else layer_of bs f l

@@ -1,0 +1,63 @@
+-- What an open loop stands for.
+use Rattle.std.specs.Prelude.{◌≡◌, ℕ, suc, pos, Bool, true, false, cond, List, [], ◌∷◌, Option, Some, None, Result, Ok, Err, length, drop, slice_get, map}
+use Rattle.tera_errors.specs.Fault.{Fault, message}
+use Rattle.tera_values.specs.Val.{Val, undefined, none, bool, int, text, bytes, array, map as map_of, list_of}
+use Rattle.tera_values.specs.Access.{pairs}
+use Rattle.tera_state.specs.Found.{key_as_value}
+use Rattle.tera_state.specs.Items.{Item, items, unkeyed}
+use Rattle.tera_state.specs.Scope.{Bindings, Turn, Heading, counters, named_item, turns_from}
+use Rattle.tera_state.specs.declared.loops.ForLoop.{ForLoop}
+
+abbrev pub heading_of : ForLoop → Heading
+heading_of l = record { name = l.name; key = l.key; counts = l.counts }
+
+-- what is gone over; a text was made an array before
+abbrev pub walked : Val → List Item
+walked (array vs) = unkeyed (list_of vs)
+walked (map_of es) = map (λ e. (Some (key_as_value e.0), e.1)) (pairs es)
+walked (bytes t) = unkeyed (map (λ b. int (pos b)) t)
+walked (text t safe) = []
+walked undefined = []
+walked none = []
+walked (bool b) = []
+walked (int z) = []
+
+abbrev pub items_of : ForLoop → List Item
+items_of l = walked l.items
+
+abbrev pub item_at : ForLoop → Option Item
+item_at l = slice_get (items_of l) l.index
+
+abbrev pub names_of : Heading → Option Item → Bindings
+names_of h None = []
+names_of h (Some i) = named_item h.key h.name i
+
+abbrev pub counters_of : ForLoop → Bindings
+counters_of l = cond l.counts (counters (length (items_of l)) l.index) []
+
+-- the turn that the loop is at, with what was set in it
+abbrev pub turn_of : Bindings → ForLoop → Turn
+turn_of sets l =
+    record { counters = counters_of l; sets = sets; names = names_of (heading_of l) (item_at l) }
+
+-- the turns that are still to come
+abbrev pub to_come : ForLoop → List Turn
+to_come l = turns_from (heading_of l) (length (items_of l)) (suc l.index) (drop (suc l.index) (items_of l))
+
+abbrev pub value_at : Option Item → Option Val
+value_at None = None
+value_at (Some i) = Some i.1
+
+abbrev pub key_at : Option Item → Option Val
+key_at None = None
+key_at (Some i) = i.0
+
+-- the turns of a loop that may be open, that at which it stands first
+abbrev pub turns_left : Option ForLoop → List Turn
+turns_left None = []
+turns_left (Some l) = turn_of [] l ∷ to_come l
+
+-- how the loop goes on: to its next turn, or nowhere where that was the last
+abbrev pub GoesOn : Bool → ForLoop → ForLoop → Type 0
+GoesOn true old new = to_come old ≡ turn_of [] new ∷ to_come new
+GoesOn false old new = (to_come old ≡ []) × (new ≡ old)

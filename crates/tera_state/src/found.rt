@@ -1,0 +1,47 @@
+// What a look-up hands out.
+ghost use Rattle.std.specs.Prelude.{◌≡◌, Ok, unwrap_or};
+ghost use Rattle.tera_errors.specs.Answer.{Gives};
+ghost use Rattle.tera_values.specs.Val.{undefined};
+ghost use Rattle.tera_values.specs.Access.{is_undefined};
+ghost use Rattle.tera_state.specs.Found.{found_value};
+
+use std::alloc::Global;
+use tera_values::{Key, TeraResult, Value};
+
+/// What a name stands for: a value or a key that is kept elsewhere, or a number, the one after it or a flag that is made. Takes no memory.
+#[derive(Drop)]
+pub enum Found<'a> {
+    Kept(&'a Value),
+    Key(&'a Key),
+    Number(usize),
+    After(usize),
+    Flag(bool),
+    Nothing,
+}
+
+impl<'a> Found<'a> {
+    /// Whether nothing is bound, or an undefined value.
+    pub fn is_undefined(&self) -> bool
+        ensures { result ≡ is_undefined (unwrap_or (found_value self.now) undefined) }
+    {
+        match self {
+            Found::Kept(value) => value.is_undefined(),
+            Found::Nothing => true,
+            _ => false,
+        }
+    }
+
+    /// The value itself. Only a text key takes memory, and only what is not in shared form is copied.
+    pub fn to_value(&self, alloc: Global) -> TeraResult<Value>
+        ensures { Gives (λ v. v) result (Ok (unwrap_or (found_value self.now) undefined)) }
+    {
+        match self {
+            Found::Kept(value) => value.try_clone(),
+            Found::Key(key) => Value::from_key(alloc, *key),
+            Found::Number(number) => Ok(Value::from_int(*number as i128)),
+            Found::After(number) => Ok(Value::from_int(*number as i128 + 1)),
+            Found::Flag(flag) => Ok(Value::from_bool(*flag)),
+            Found::Nothing => Ok(Value::undefined()),
+        }
+    }
+}

@@ -1,0 +1,76 @@
+// A stack.
+ghost use Rattle.std.specs.Prelude.{◌≡◌, ◌<◌, ◌≤◌, ◌^◌, [], ◌∷◌, length, reverse, take, drop, slice_get, MatchOption, IfOk, OnOk, OnErr, IfErr, None, Some};
+ghost use Rattle.tera_errors.specs.Answer.{Lacks};
+
+use std::alloc::Global;
+use std::marker::Model;
+use tera_errors::TeraResult;
+
+/// Values on top of one another. A contract sees the list of them, the topmost first.
+#[derive(Drop)]
+pub struct Stack<T> {
+    items: Vec<T>,
+}
+
+impl<T> Model for Stack<T> {
+    ghost use Rattle.std.specs.Prelude.{List, reverse};
+
+    ghost Value = { List T };
+
+    ghost view = { λ s. reverse s.items.items };
+}
+
+impl<T: Drop> Stack<T> {
+    /// An empty stack, which takes no memory.
+    pub fn new(alloc: Global) -> Stack<T>
+        ensures { result ≡ [] }
+    {
+        Stack {
+            items: Vec::new(alloc),
+        }
+    }
+
+    /// One more value on top.
+    pub fn push(&mut self, value: T) -> TeraResult<()>
+        ensures ok { OnOk result (self.new ≡ value ∷ self.old) }
+        ensures err { OnErr result (self.new ≡ self.old) }
+        ensures lacks { IfErr result Lacks }
+    {
+        self.items.push(value)?;
+        Ok(())
+    }
+
+    /// Takes the topmost value off.
+    pub fn pop(&mut self) -> Option<T>
+        ensures { MatchOption result ((self.old ≡ []) × (self.new ≡ [])) (λ value. self.old ≡ value ∷ self.new) }
+    {
+        self.items.pop()
+    }
+
+    /// How many values there are.
+    pub fn len(&self) -> usize
+        ensures count { result ≡ length self.now }
+        ensures small { result < 2 ^ 63 }
+    {
+        self.items.len()
+    }
+
+    /// The value with so many below it.
+    pub fn at_height(&self, height: usize) -> Option<&T>
+        ensures { MatchOption result (slice_get (reverse self.now) height ≡ None) (λ v. slice_get (reverse self.now) height ≡ Some v.now) }
+    {
+        self.items.get(height)
+    }
+
+    /// Takes so many off, in the order in which they were put there.
+    pub fn pop_many(&mut self, count: usize) -> TeraResult<Vec<T>>
+        requires { count ≤ length self.old }
+        ensures taken { IfOk result (λ all. all.items ≡ reverse (take count self.old)) }
+        ensures rest { OnOk result (self.new ≡ drop count self.old) }
+        ensures lacks { IfErr result Lacks }
+    {
+        let kept = self.items.len() - count;
+        let taken = self.items.split_off(kept)?;
+        Ok(taken)
+    }
+}

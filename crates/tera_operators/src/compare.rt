@@ -49,15 +49,15 @@ fn standing(alloc: Global, file: &str, left: &Operand, right: &Operand) -> TeraR
     ensures value { Gives (λ o. o) result (standing_of file.now left.now right.now) }
     ensures ready { IsOk (standing_of file.now left.now right.now) → IsOk result }
 {
-    if !left.value().comparable(right.value()) {
-        return Err(Error::rendering(
+    match left.value().checked_cmp(right.value()) {
+        Some(standing) => Ok(standing),
+        None => Err(Error::rendering(
             alloc,
             "the operands are not comparable",
             file,
             spanning(left, right),
-        ));
+        )),
     }
-    Ok(left.value().cmp(right.value()))
 }
 
 /// `left < right`

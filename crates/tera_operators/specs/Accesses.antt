@@ -1,5 +1,5 @@
 -- What an attribute, an index and a slice give.
-use Rattle.std.specs.Prelude.{ℤ, Bool, true, false, cond, Option, Some, None, Result, Ok, Err, ◌≡◌}
+use Rattle.std.specs.Prelude.{ℤ, Bool, true, false, cond, Option, Some, None, Result, Ok, Err, IsErr, ◌≡◌}
 use Rattle.tera_errors.specs.declared.span.Span.{Span}
 use Rattle.tera_errors.specs.Site.{Name}
 use Rattle.tera_errors.specs.Fault.{Fault}
@@ -30,7 +30,7 @@ part_of file true target span part = cond (is_missing target.value) (at_span und
 abbrev pub Decides : Result (Option Evaluated) Refusal → (Outcome → Outcome) → Type 0
 Decides (Ok None) meant = (part : Outcome) → meant part ≡ part
 Decides (Ok (Some answer)) meant = (part : Outcome) → meant part ≡ Ok answer
-Decides (Err e) meant = (part : Outcome) → Says e (meant part)
+Decides (Err e) meant = (part : Outcome) → IsErr (meant part) × Says e (meant part)
 
 -- the value at a text key of a map, and undefined of anything else
 abbrev pub attribute_of : {C : Type 0} → Name → Bool → EvaluatedOf C → Name → Span → OutcomeOf C

@@ -1,6 +1,7 @@
 // Attributes, items and slices.
 ghost use Rattle.tera_errors.specs.Answer.{Gives};
-ghost use Rattle.std.specs.Prelude.{◌≡◌};
+ghost use Rattle.std.specs.Prelude.{◌≡◌, IsTrue, IsSome, IsOk, IsOkAnd};
+ghost use Rattle.tera_values.specs.Access.{IsScalar};
 ghost use Rattle.tera_operators.specs.Accesses.{is_missing, part_of, Decides, attribute_of, item_of, bound_at, slice_of};
 
 use crate::operand::Operand;
@@ -28,7 +29,8 @@ fn without_parts(
     optional: bool,
     span: Span,
 ) -> TeraResult<Option<Operand>>
-    ensures { Decides result (part_of file.now optional target.now span) }
+    ensures answer { Decides result (part_of file.now optional target.now span) }
+    ensures ready { IsTrue optional → IsTrue (is_missing target.now.value) → IsOkAnd result IsSome }
 {
     if optional {
         if is_missing(target.value()) {
@@ -49,7 +51,8 @@ pub fn attribute(
     optional: bool,
     span: Span,
 ) -> TeraResult<Operand>
-    ensures { Gives (λ o. o) result (attribute_of file.now optional target.now name.now span) }
+    ensures part { Gives (λ o. o) result (attribute_of file.now optional target.now name.now span) }
+    ensures ready { IsOkAnd (attribute_of file.now optional target.now name.now span) (λ o. IsScalar o.value) → IsOk result }
 {
     if let Some(answer) = without_parts(alloc, file, target, optional, span)? {
         return Ok(answer);
@@ -69,7 +72,8 @@ pub fn item(
     optional: bool,
     span: Span,
 ) -> TeraResult<Operand>
-    ensures { Gives (λ o. o) result (item_of file.now optional target.now index.now span) }
+    ensures part { Gives (λ o. o) result (item_of file.now optional target.now index.now span) }
+    ensures ready { IsOkAnd (item_of file.now optional target.now index.now span) (λ o. IsScalar o.value) → IsOk result }
 {
     if let Some(answer) = without_parts(alloc, file, target, optional, span)? {
         return Ok(answer);
@@ -80,7 +84,8 @@ pub fn item(
 
 /// The integer that bounds a slice, or none where the bound is none; a fault at the bound for other values.
 fn bound(alloc: Global, file: &str, operand: &Operand) -> TeraResult<Option<i128>>
-    ensures { Gives (λ b. b) result (bound_at file.now operand.now) }
+    ensures bound { Gives (λ b. b) result (bound_at file.now operand.now) }
+    ensures ready { IsOk (bound_at file.now operand.now) → IsOk result }
 {
     match operand.value().shape() {
         Shape::None => Ok(None),
@@ -105,7 +110,8 @@ pub fn slice(
     optional: bool,
     span: Span,
 ) -> TeraResult<Operand>
-    ensures { Gives (λ o. o) result (slice_of file.now optional target.now start.now end.now step.now span) }
+    ensures part { Gives (λ o. o) result (slice_of file.now optional target.now start.now end.now step.now span) }
+    ensures ready { IsTrue optional → IsTrue (is_missing target.now.value) → IsOk result }
 {
     if let Some(answer) = without_parts(alloc, file, target, optional, span)? {
         return Ok(answer);

@@ -1,5 +1,5 @@
 // Arithmetic, with each fault at its place.
-ghost use Rattle.std.specs.Prelude.{◌≡◌, Result};
+ghost use Rattle.std.specs.Prelude.{◌≡◌, Result, IsOk};
 ghost use Rattle.tera_errors.specs.Fault.{Fault};
 ghost use Rattle.tera_errors.specs.Answer.{Gives};
 ghost use Rattle.tera_values.specs.Val.{Val};
@@ -13,7 +13,8 @@ use tera_values::{Error, TeraResult, Value, number};
 
 /// The number; a fault at the operand where it is none.
 fn number_at(alloc: Global, file: &str, operand: &Operand) -> TeraResult<i128>
-    ensures { Gives (λ n. n) result (number_at file.now operand.now) }
+    ensures value { Gives (λ n. n) result (number_at file.now operand.now) }
+    ensures ready { IsOk (number_at file.now operand.now) → IsOk result }
 {
     match operand.value().as_i128() {
         Some(number) => Ok(number),
@@ -23,7 +24,8 @@ fn number_at(alloc: Global, file: &str, operand: &Operand) -> TeraResult<i128>
 
 /// Both numbers; of two operands that are none the left one is the fault.
 fn numbers(alloc: Global, file: &str, left: &Operand, right: &Operand) -> TeraResult<(i128, i128)>
-    ensures { Gives (λ p. p) result (numbers file.now left.now right.now) }
+    ensures value { Gives (λ p. p) result (numbers file.now left.now right.now) }
+    ensures ready { IsOk (numbers file.now left.now right.now) → IsOk result }
 {
     let left = number_at(alloc, file, left)?;
     let right = number_at(alloc, file, right)?;
@@ -32,7 +34,8 @@ fn numbers(alloc: Global, file: &str, left: &Operand, right: &Operand) -> TeraRe
 
 /// The divisor, after both are numbers; a fault at the right operand where it is zero.
 fn divisor(alloc: Global, file: &str, left: &Operand, right: &Operand) -> TeraResult<i128>
-    ensures { Gives (λ n. n) result (divisor_of file.now left.now right.now) }
+    ensures value { Gives (λ n. n) result (divisor_of file.now left.now right.now) }
+    ensures ready { IsOk (divisor_of file.now left.now right.now) → IsOk result }
 {
     let (_, divisor) = numbers(alloc, file, left, right)?;
     if divisor == 0 {
@@ -49,7 +52,8 @@ fn combined(
     left: &Operand,
     right: &Operand,
 ) -> TeraResult<Operand>
-    ensures { (meant : Result Val Fault) → Gives (λ v. v) answer meant → Gives (λ o. o) result (combined file.now left.now right.now meant) }
+    ensures value { (meant : Result Val Fault) → Gives (λ v. v) answer meant → Gives (λ o. o) result (combined file.now left.now right.now meant) }
+    ensures ready { IsOk answer → IsOk result }
 {
     let span = spanning(left, right);
     operand_or_fault(alloc, file, answer, span, span)
@@ -57,7 +61,8 @@ fn combined(
 
 /// `-operand`, at the operand's span, as its faults are.
 pub fn negative(alloc: Global, file: &str, operand: &Operand) -> TeraResult<Operand>
-    ensures { Gives (λ o. o) result (negative_of file.now operand.now) }
+    ensures value { Gives (λ o. o) result (negative_of file.now operand.now) }
+    ensures ready { IsOk (negative_of file.now operand.now) → IsOk result }
 {
     let answer = number::negate(alloc, operand.value());
     operand_or_fault(alloc, file, answer, operand.span(), operand.span())
@@ -65,7 +70,8 @@ pub fn negative(alloc: Global, file: &str, operand: &Operand) -> TeraResult<Oper
 
 /// `left + right`; all faults are at the combined span.
 pub(crate) fn add(alloc: Global, file: &str, left: &Operand, right: &Operand) -> TeraResult<Operand>
-    ensures { Gives (λ o. o) result (combined file.now left.now right.now (add left.now.value right.now.value)) }
+    ensures value { Gives (λ o. o) result (combined file.now left.now right.now (add left.now.value right.now.value)) }
+    ensures ready { IsOk (combined file.now left.now right.now (add left.now.value right.now.value)) → IsOk result }
 {
     let answer = number::add(alloc, left.value(), right.value());
     combined(alloc, file, answer, left, right)
@@ -78,7 +84,8 @@ pub(crate) fn subtract(
     left: &Operand,
     right: &Operand,
 ) -> TeraResult<Operand>
-    ensures { Gives (λ o. o) result (calculated file.now sub left.now right.now) }
+    ensures value { Gives (λ o. o) result (calculated file.now sub left.now right.now) }
+    ensures ready { IsOk (calculated file.now sub left.now right.now) → IsOk result }
 {
     numbers(alloc, file, left, right)?;
     let answer = number::sub(alloc, left.value(), right.value());
@@ -92,7 +99,8 @@ pub(crate) fn multiply(
     left: &Operand,
     right: &Operand,
 ) -> TeraResult<Operand>
-    ensures { Gives (λ o. o) result (calculated file.now mul left.now right.now) }
+    ensures value { Gives (λ o. o) result (calculated file.now mul left.now right.now) }
+    ensures ready { IsOk (calculated file.now mul left.now right.now) → IsOk result }
 {
     numbers(alloc, file, left, right)?;
     let answer = number::mul(alloc, left.value(), right.value());
@@ -106,7 +114,8 @@ pub(crate) fn power(
     left: &Operand,
     right: &Operand,
 ) -> TeraResult<Operand>
-    ensures { Gives (λ o. o) result (calculated file.now pow left.now right.now) }
+    ensures value { Gives (λ o. o) result (calculated file.now pow left.now right.now) }
+    ensures ready { IsOk (calculated file.now pow left.now right.now) → IsOk result }
 {
     numbers(alloc, file, left, right)?;
     let answer = number::pow(alloc, left.value(), right.value());
@@ -120,7 +129,8 @@ pub(crate) fn divide(
     left: &Operand,
     right: &Operand,
 ) -> TeraResult<Operand>
-    ensures { Gives (λ o. o) result (divided file.now div left.now right.now) }
+    ensures value { Gives (λ o. o) result (divided file.now div left.now right.now) }
+    ensures ready { IsOk (divided file.now div left.now right.now) → IsOk result }
 {
     divisor(alloc, file, left, right)?;
     let answer = number::div(alloc, left.value(), right.value());
@@ -134,7 +144,8 @@ pub(crate) fn floor_divide(
     left: &Operand,
     right: &Operand,
 ) -> TeraResult<Operand>
-    ensures { Gives (λ o. o) result (divided file.now floor_div left.now right.now) }
+    ensures value { Gives (λ o. o) result (divided file.now floor_div left.now right.now) }
+    ensures ready { IsOk (divided file.now floor_div left.now right.now) → IsOk result }
 {
     divisor(alloc, file, left, right)?;
     let answer = number::floor_div(alloc, left.value(), right.value());
@@ -148,7 +159,8 @@ pub(crate) fn remainder(
     left: &Operand,
     right: &Operand,
 ) -> TeraResult<Operand>
-    ensures { Gives (λ o. o) result (divided file.now rem left.now right.now) }
+    ensures value { Gives (λ o. o) result (divided file.now rem left.now right.now) }
+    ensures ready { IsOk (divided file.now rem left.now right.now) → IsOk result }
 {
     divisor(alloc, file, left, right)?;
     let answer = number::rem(alloc, left.value(), right.value());

@@ -1,5 +1,5 @@
 // Truth, equality and order.
-ghost use Rattle.std.specs.Prelude.{◌≡◌, not};
+ghost use Rattle.std.specs.Prelude.{◌≡◌, not, IsOk};
 ghost use Rattle.std.specs.Ordering.{is_lt, is_gt, is_le, is_ge};
 ghost use Rattle.tera_errors.specs.Answer.{Gives};
 ghost use Rattle.tera_values.specs.Val.{bool};
@@ -46,17 +46,18 @@ pub(crate) fn not_equal(left: &Operand, right: &Operand) -> Operand
 
 /// How the left operand stands to the right one; a fault at the combined span where the two are not comparable.
 fn standing(alloc: Global, file: &str, left: &Operand, right: &Operand) -> TeraResult<Ordering>
-    ensures { Gives (λ o. o) result (standing_of file.now left.now right.now) }
+    ensures value { Gives (λ o. o) result (standing_of file.now left.now right.now) }
+    ensures ready { IsOk (standing_of file.now left.now right.now) → IsOk result }
 {
-    if !left.value().comparable(right.value()) {
-        return Err(Error::rendering(
+    match left.value().checked_cmp(right.value()) {
+        Some(standing) => Ok(standing),
+        None => Err(Error::rendering(
             alloc,
             "the operands are not comparable",
             file,
             spanning(left, right),
-        ));
+        )),
     }
-    Ok(left.value().cmp(right.value()))
 }
 
 /// `left < right`
@@ -66,7 +67,8 @@ pub(crate) fn less(
     left: &Operand,
     right: &Operand,
 ) -> TeraResult<Operand>
-    ensures { Gives (λ o. o) result (compared file.now is_lt left.now right.now) }
+    ensures value { Gives (λ o. o) result (compared file.now is_lt left.now right.now) }
+    ensures ready { IsOk (compared file.now is_lt left.now right.now) → IsOk result }
 {
     let standing = standing(alloc, file, left, right)?;
     Ok(truth(standing.is_lt(), left, right))
@@ -79,7 +81,8 @@ pub(crate) fn greater(
     left: &Operand,
     right: &Operand,
 ) -> TeraResult<Operand>
-    ensures { Gives (λ o. o) result (compared file.now is_gt left.now right.now) }
+    ensures value { Gives (λ o. o) result (compared file.now is_gt left.now right.now) }
+    ensures ready { IsOk (compared file.now is_gt left.now right.now) → IsOk result }
 {
     let standing = standing(alloc, file, left, right)?;
     Ok(truth(standing.is_gt(), left, right))
@@ -92,7 +95,8 @@ pub(crate) fn less_or_equal(
     left: &Operand,
     right: &Operand,
 ) -> TeraResult<Operand>
-    ensures { Gives (λ o. o) result (compared file.now is_le left.now right.now) }
+    ensures value { Gives (λ o. o) result (compared file.now is_le left.now right.now) }
+    ensures ready { IsOk (compared file.now is_le left.now right.now) → IsOk result }
 {
     let standing = standing(alloc, file, left, right)?;
     Ok(truth(standing.is_le(), left, right))
@@ -105,7 +109,8 @@ pub(crate) fn greater_or_equal(
     left: &Operand,
     right: &Operand,
 ) -> TeraResult<Operand>
-    ensures { Gives (λ o. o) result (compared file.now is_ge left.now right.now) }
+    ensures value { Gives (λ o. o) result (compared file.now is_ge left.now right.now) }
+    ensures ready { IsOk (compared file.now is_ge left.now right.now) → IsOk result }
 {
     let standing = standing(alloc, file, left, right)?;
     Ok(truth(standing.is_ge(), left, right))

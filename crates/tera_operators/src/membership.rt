@@ -1,5 +1,5 @@
 // What a container has in it.
-ghost use Rattle.std.specs.Prelude.{◌≡◌};
+ghost use Rattle.std.specs.Prelude.{◌≡◌, IsOk};
 ghost use Rattle.tera_errors.specs.Answer.{Gives};
 ghost use Rattle.tera_operators.specs.Operators.{contained};
 
@@ -16,7 +16,8 @@ pub(crate) fn is_in(
     right: &Operand,
     span: Span,
 ) -> TeraResult<Operand>
-    ensures { Gives (λ o. o) result (contained file.now left.now right.now span) }
+    ensures value { Gives (λ o. o) result (contained file.now left.now right.now span) }
+    ensures ready { IsOk (contained file.now left.now right.now span) → IsOk result }
 {
     match right.value().contains(alloc, left.value()) {
         Ok(found) => Ok(Operand::new(Value::from_bool(found), span)),

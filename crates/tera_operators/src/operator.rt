@@ -1,4 +1,5 @@
 // Operators between two operands.
+ghost use Rattle.std.specs.Prelude.{◌≢◌, IsOk};
 ghost use Rattle.tera_errors.specs.Answer.{Gives};
 ghost use Rattle.tera_operators.specs.Operators.{binary_of};
 
@@ -12,7 +13,7 @@ use tera_tree::BinaryOperator;
 use tera_values::{Span, TeraResult};
 
 /// What the operator makes of the two operands. The span is that of the expression, which only `in` takes on: others run
-/// from the left operand's start to the right one's end.
+/// from the left operand's start to the right one's end. Of the answers that are no fault only a joined text takes memory.
 pub fn binary(
     alloc: Global,
     file: &str,
@@ -21,7 +22,8 @@ pub fn binary(
     right: &Operand,
     span: Span,
 ) -> TeraResult<Operand>
-    ensures { Gives (λ o. o) result (binary_of file.now operator left.now right.now span) }
+    ensures value { Gives (λ o. o) result (binary_of file.now operator left.now right.now span) }
+    ensures ready { operator ≢ BinaryOperator.Concat → IsOk (binary_of file.now operator left.now right.now span) → IsOk result }
 {
     match operator {
         BinaryOperator::Add => add(alloc, file, left, right),

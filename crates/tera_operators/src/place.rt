@@ -1,5 +1,5 @@
 // Answers and refusals, put at their places.
-ghost use Rattle.std.specs.Prelude.{◌≡◌, Result};
+ghost use Rattle.std.specs.Prelude.{◌≡◌, Result, IsOk};
 ghost use Rattle.tera_errors.specs.Fault.{Fault, rendering_error};
 ghost use Rattle.tera_errors.specs.Answer.{Gives, Tells};
 ghost use Rattle.tera_values.specs.Val.{Val};
@@ -38,7 +38,8 @@ pub(crate) fn operand_or_fault(
     fault: Span,
     span: Span,
 ) -> TeraResult<Operand>
-    ensures { (meant : Result Val Fault) → Gives (λ v. v) answer meant → Gives (λ o. o) result (then (placed file.now meant fault) (λ v. at_span v span)) }
+    ensures placed { (meant : Result Val Fault) → Gives (λ v. v) answer meant → Gives (λ o. o) result (then (placed file.now meant fault) (λ v. at_span v span)) }
+    ensures ready { IsOk answer → IsOk result }
 {
     match answer {
         Ok(value) => Ok(Operand::new(value, span)),

@@ -1,3 +1,4 @@
 pub mod Named
+pub mod Contexts
 pub mod Powers
 pub mod Division

@@ -14,10 +14,10 @@ use Rattle.tera_errors.specs.Site.{Name}
 use Rattle.tera_values.specs.Named.{Named, name_cmp, at_name, put}
 use Rattle.tera_values.specs.Names.{by_name}
 
-names_total : IsTotalOrder name_cmp
+pub names_total : IsTotalOrder name_cmp
 names_total = nat_list_cmp_total
 
-three : (o : Ordering) → (o ≡ Less) ⊎ ((o ≡ Equal) ⊎ (o ≡ Greater))
+pub three : (o : Ordering) → (o ≡ Less) ⊎ ((o ≡ Equal) ⊎ (o ≡ Greater))
 three Less = inl refl
 three Equal = inr (inl refl)
 three Greater = inr (inr refl)
@@ -25,7 +25,7 @@ three Greater = inr (inr refl)
 flip_less : (a b : Name) → name_cmp a b ≡ Less → name_cmp b a ≡ Greater
 flip_less a b h = names_total.antisymm b a ∙ ap ordering_reverse h
 
-flip_greater : (a b : Name) → name_cmp a b ≡ Greater → name_cmp b a ≡ Less
+pub flip_greater : (a b : Name) → name_cmp a b ≡ Greater → name_cmp b a ≡ Less
 flip_greater a b h = names_total.antisymm b a ∙ ap ordering_reverse h
 
 itself : (a : Name) → name_cmp a a ≡ Equal
@@ -39,13 +39,13 @@ differ n k j h p q =
 
 module _ {A : Type 0} where
   -- the list that one comparison gives
-  before : (n : Name) (a : A) (e : Name × A) (es : Named A) → name_cmp n e.0 ≡ Less → put n a (e ∷ es) ≡ (n, a) ∷ e ∷ es
+  pub before : (n : Name) (a : A) (e : Name × A) (es : Named A) → name_cmp n e.0 ≡ Less → put n a (e ∷ es) ≡ (n, a) ∷ e ∷ es
   before n a e es h = ap (λ (o : Ordering). match_ordering o ((n, a) ∷ e ∷ es) ((n, a) ∷ es) (e ∷ put n a es)) h
 
-  there : (n : Name) (a : A) (e : Name × A) (es : Named A) → name_cmp n e.0 ≡ Equal → put n a (e ∷ es) ≡ (n, a) ∷ es
+  pub there : (n : Name) (a : A) (e : Name × A) (es : Named A) → name_cmp n e.0 ≡ Equal → put n a (e ∷ es) ≡ (n, a) ∷ es
   there n a e es h = ap (λ (o : Ordering). match_ordering o ((n, a) ∷ e ∷ es) ((n, a) ∷ es) (e ∷ put n a es)) h
 
-  after : (n : Name) (a : A) (e : Name × A) (es : Named A) → name_cmp n e.0 ≡ Greater → put n a (e ∷ es) ≡ e ∷ put n a es
+  pub after : (n : Name) (a : A) (e : Name × A) (es : Named A) → name_cmp n e.0 ≡ Greater → put n a (e ∷ es) ≡ e ∷ put n a es
   after n a e es h = ap (λ (o : Ordering). match_ordering o ((n, a) ∷ e ∷ es) ((n, a) ∷ es) (e ∷ put n a es)) h
 
   pub put_again : (n : Name) (a b : A) (es : Named A) → put n a (put n b es) ≡ put n a es

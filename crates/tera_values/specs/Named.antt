@@ -1,8 +1,9 @@
 -- Things by name, in byte order of the names.
-use Rattle.std.specs.Prelude.{List, [], ◌∷◌, Option, Some, None, cond}
+use Rattle.std.specs.Prelude.{List, [], ◌∷◌, Option, Some, None, cond, map}
 use Rattle.std.specs.declared.cmp.Ordering.{Ordering}
 use Rattle.std.specs.Ordering.{nat_cmp, match_ordering}
 use Rattle.std.specs.Cmp.Lexicographic.{slice_cmp}
+use Rattle.std.specs.List.Sorted.{IsStrictlySortedBy}
 use Rattle.std.specs.Coded.{Coded, coded×, coded_ℕ, coded_list}
 use Rattle.std.specs.Str.{bytes_eq}
 use Rattle.tera_errors.specs.Site.{Name}
@@ -22,6 +23,10 @@ at_name n (e ∷ es) = cond (bytes_eq n e.0) (Some e.1) (at_name n es)
 abbrev pub put : {A : Type 0} → Name → A → Named A → Named A
 put n a [] = (n, a) ∷ []
 put n a (e ∷ es) = match_ordering (name_cmp n e.0) ((n, a) ∷ e ∷ es) ((n, a) ∷ es) (e ∷ put n a es)
+
+-- each name is below those after it, so none stands twice
+abbrev pub IsAscending : {A : Type 0} → Named A → Type 0
+IsAscending es = IsStrictlySortedBy name_cmp (map (λ e. e.0) es)
 
 abbrev pub named_code : {A : Type 0} → Coded A → Coded (Named A)
 named_code code = coded_list (coded× (coded_list coded_ℕ) code)

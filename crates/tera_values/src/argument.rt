@@ -1,8 +1,9 @@
 // What an argument is read as.
-ghost use Rattle.std.specs.Prelude.{◌^◌, pos, false, string_bytes, Result, Ok};
+ghost use Rattle.std.specs.Prelude.{◌^◌, pos, false, string_bytes, Result, Ok, IsErr};
 ghost use Rattle.tera_errors.specs.Fault.{Fault};
-ghost use Rattle.tera_errors.specs.Answer.{Gives};
+ghost use Rattle.tera_errors.specs.Answer.{Gives, MemorySuffices};
 ghost use Rattle.tera_values_data.specs.Val.{Val, bool, int, text, array, map, vals, entries};
+ghost use Rattle.tera_values_data.specs.Access.{IsScalar};
 ghost use Rattle.tera_values.specs.Arguments.{as_bool, as_int, as_natural, as_text, as_marked_text, as_array, as_map};
 
 use crate::string_input::StringInput;
@@ -18,15 +19,22 @@ pub trait ArgFromValue: Drop {
     // What reading a value gives: what the argument stands for, or the fault.
     ghost reading: { Val → Result Val Fault };
 
-    /// The value as an argument; `InvalidArgument` where it is of a wrong type.
+    // The values whose reading takes no memory.
+    ghost is_ready: { Val → Type 0 } = { λ _. ⊥ };
+
+    /// The value as an argument; `InvalidArgument` where it is of a wrong type, which takes no memory.
     fn from_value(alloc: Global, value: &Value) -> TeraResult<Self>
-        ensures { Gives stands_for result (reading value.now) };
+        ensures read { Gives stands_for result (reading value.now) }
+        ensures fault { IsErr (reading value.now) → MemorySuffices result }
+        ensures ready { is_ready value.now → MemorySuffices result };
 }
 
 impl ArgFromValue for Value {
     ghost stands_for = { λ v. v };
 
     ghost reading = { λ v. Ok v };
+
+    ghost is_ready = { IsScalar };
 
     fn from_value(_alloc: Global, value: &Value) -> TeraResult<Value> {
         value.try_clone()
@@ -37,6 +45,8 @@ impl ArgFromValue for bool {
     ghost stands_for = { λ flag. bool flag };
 
     ghost reading = { as_bool };
+
+    ghost is_ready = { λ _. Unit {0} };
 
     fn from_value(_alloc: Global, value: &Value) -> TeraResult<bool> {
         match value.shape() {
@@ -51,6 +61,8 @@ impl ArgFromValue for i128 {
 
     ghost reading = { as_int };
 
+    ghost is_ready = { λ _. Unit {0} };
+
     fn from_value(_alloc: Global, value: &Value) -> TeraResult<i128> {
         match value.shape() {
             Shape::Int(number) => Ok(number),
@@ -63,6 +75,8 @@ impl ArgFromValue for u32 {
     ghost stands_for = { λ number. int (pos number) };
 
     ghost reading = { as_natural (2 ^ 32) };
+
+    ghost is_ready = { λ _. Unit {0} };
 
     fn from_value(_alloc: Global, value: &Value) -> TeraResult<u32> {
         match value.shape() {
@@ -81,6 +95,8 @@ impl ArgFromValue for usize {
     ghost stands_for = { λ number. int (pos number) };
 
     ghost reading = { as_natural (2 ^ 64) };
+
+    ghost is_ready = { λ _. Unit {0} };
 
     fn from_value(_alloc: Global, value: &Value) -> TeraResult<usize> {
         match value.shape() {

@@ -1,7 +1,7 @@
 // What a rendering is given: values by name.
 ghost use Rattle.std.specs.Prelude.{◌≡◌, [], Ok, IfErr, OnOk, OnErr, map, option_copied, string_bytes};
 ghost use Rattle.tera_errors.specs.Answer.{Gives, Lacks};
-ghost use Rattle.tera_values.specs.Named.{at_name, put};
+ghost use Rattle.tera_values.specs.Named.{at_name, put, IsAscending};
 
 use indexmap::IndexMap;
 use std::alloc::Global;
@@ -75,7 +75,8 @@ impl Context {
 
     /// The names, in byte order.
     pub fn names(&self) -> TeraResult<Vec<String>>
-        ensures { Gives (λ v. map string_bytes v.items) result (Ok (map (λ e. e.0) self.now)) }
+        ensures names { Gives (λ v. map string_bytes v.items) result (Ok (map (λ e. e.0) self.now)) }
+        ensures ascending { IsAscending self.now }
     {
         let ordered = self.ordered_names()?;
         let names = ordered.into_iter().collect(self.alloc)?;
@@ -83,7 +84,8 @@ impl Context {
     }
 
     fn ordered_names(&self) -> TeraResult<BTreeSet<String>>
-        ensures { Gives (λ s. map string_bytes s.keys) result (Ok (map (λ e. e.0) self.now)) }
+        ensures names { Gives (λ s. map string_bytes s.keys) result (Ok (map (λ e. e.0) self.now)) }
+        ensures ascending { IsAscending self.now }
     {
         let mut ordered = BTreeSet::new(self.alloc);
         for name in self.names.keys() {

@@ -1,6 +1,6 @@
 // Arguments by name.
-ghost use Rattle.std.specs.Prelude.{◌≡◌, [], IfErr, OnOk, OnErr, option_map};
-ghost use Rattle.tera_errors.specs.Answer.{Gives, Lacks};
+ghost use Rattle.std.specs.Prelude.{◌≡◌, [], IfErr, IfSome, IsErr, OnOk, OnErr, option_map};
+ghost use Rattle.tera_errors.specs.Answer.{Gives, Lacks, MemorySuffices};
 ghost use Rattle.tera_values.specs.Named.{at_name, put};
 ghost use Rattle.tera_values.specs.Arguments.{read, read_needed};
 
@@ -48,9 +48,11 @@ impl Kwargs {
         self.values.insert(name, value)
     }
 
-    /// The argument, or none where it is absent; `InvalidArgument` where it is of a wrong type.
+    /// The argument, or none where it is absent; `InvalidArgument` where it is of a wrong type. Only what is read takes memory.
     pub fn get<T: ArgFromValue>(&self, name: &str) -> TeraResult<Option<T>>
-        ensures { Gives (λ o. option_map T.stands_for o) result (read T.reading (at_name name.now self.now)) }
+        ensures read { Gives (λ o. option_map T.stands_for o) result (read T.reading (at_name name.now self.now)) }
+        ensures fault { IsErr (read T.reading (at_name name.now self.now)) → MemorySuffices result }
+        ensures ready { IfSome (at_name name.now self.now) T.is_ready → MemorySuffices result }
     {
         match self.values.get(name) {
             Some(value) => Ok(Some(T::from_value(self.values.alloc(), value)?)),
@@ -60,7 +62,9 @@ impl Kwargs {
 
     /// The argument; `MissingArgument` where it is absent, `InvalidArgument` where it is of a wrong type.
     pub fn must_get<T: ArgFromValue>(&self, name: &str) -> TeraResult<T>
-        ensures { Gives T.stands_for result (read_needed T.reading (at_name name.now self.now)) }
+        ensures read { Gives T.stands_for result (read_needed T.reading (at_name name.now self.now)) }
+        ensures fault { IsErr (read_needed T.reading (at_name name.now self.now)) → MemorySuffices result }
+        ensures ready { IfSome (at_name name.now self.now) T.is_ready → MemorySuffices result }
     {
         match self.values.get(name) {
             Some(value) => T::from_value(self.values.alloc(), value),

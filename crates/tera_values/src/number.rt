@@ -1,5 +1,5 @@
 // Arithmetic. What is not an integer is refused, and so is what no `i128` holds: a `Message` each time.
-ghost use Rattle.std.specs.Prelude.{◌≡◌, pos, ◌≤ℤ◌, pos, ◌+ℤ◌, Option};
+ghost use Rattle.std.specs.Prelude.{◌≡◌, pos, ◌≤ℤ◌, pos, ◌+ℤ◌, Option, IsOk};
 ghost use Rattle.tera_errors.specs.Answer.{Gives};
 ghost use Rattle.tera_values.specs.Number.{within, told, integers, sum, difference, product, quotient, remainder, exact_quotient, power, add, sub, mul, div, floor_div, rem, pow, negate};
 
@@ -22,7 +22,8 @@ fn integers(left: &Value, right: &Value) -> Option<(i128, i128)>
 
 /// The number as a value, or a refusal.
 fn answer(alloc: Global, number: Option<i128>) -> TeraResult<Value>
-    ensures { Gives (λ v. v) result (told number) }
+    ensures value { Gives (λ v. v) result (told number) }
+    ensures ready { IsOk (told number) → IsOk result }
 {
     match number {
         Some(number) => Ok(Value::from_int(number)),
@@ -115,7 +116,8 @@ fn far_power(a: i128, b: i128) -> Option<i128>
 
 /// The sum.
 pub fn add(alloc: Global, left: &Value, right: &Value) -> TeraResult<Value>
-    ensures { Gives (λ v. v) result (add left.now right.now) }
+    ensures value { Gives (λ v. v) result (add left.now right.now) }
+    ensures ready { IsOk (add left.now right.now) → IsOk result }
 {
     match integers(left, right) {
         Some((a, b)) => answer(alloc, sum(a, b)),
@@ -125,7 +127,8 @@ pub fn add(alloc: Global, left: &Value, right: &Value) -> TeraResult<Value>
 
 /// The difference.
 pub fn sub(alloc: Global, left: &Value, right: &Value) -> TeraResult<Value>
-    ensures { Gives (λ v. v) result (sub left.now right.now) }
+    ensures value { Gives (λ v. v) result (sub left.now right.now) }
+    ensures ready { IsOk (sub left.now right.now) → IsOk result }
 {
     match integers(left, right) {
         Some((a, b)) => answer(alloc, difference(a, b)),
@@ -135,7 +138,8 @@ pub fn sub(alloc: Global, left: &Value, right: &Value) -> TeraResult<Value>
 
 /// The product.
 pub fn mul(alloc: Global, left: &Value, right: &Value) -> TeraResult<Value>
-    ensures { Gives (λ v. v) result (mul left.now right.now) }
+    ensures value { Gives (λ v. v) result (mul left.now right.now) }
+    ensures ready { IsOk (mul left.now right.now) → IsOk result }
 {
     match integers(left, right) {
         Some((a, b)) => answer(alloc, product(a, b)),
@@ -145,7 +149,8 @@ pub fn mul(alloc: Global, left: &Value, right: &Value) -> TeraResult<Value>
 
 /// The exact quotient; a refusal where it is not whole, as at a zero divisor.
 pub fn div(alloc: Global, left: &Value, right: &Value) -> TeraResult<Value>
-    ensures { Gives (λ v. v) result (div left.now right.now) }
+    ensures value { Gives (λ v. v) result (div left.now right.now) }
+    ensures ready { IsOk (div left.now right.now) → IsOk result }
 {
     match integers(left, right) {
         Some((a, b)) => answer(alloc, exact_quotient(a, b)),
@@ -155,7 +160,8 @@ pub fn div(alloc: Global, left: &Value, right: &Value) -> TeraResult<Value>
 
 /// Euclid's quotient; a refusal at a zero divisor.
 pub fn floor_div(alloc: Global, left: &Value, right: &Value) -> TeraResult<Value>
-    ensures { Gives (λ v. v) result (floor_div left.now right.now) }
+    ensures value { Gives (λ v. v) result (floor_div left.now right.now) }
+    ensures ready { IsOk (floor_div left.now right.now) → IsOk result }
 {
     match integers(left, right) {
         Some((a, b)) => answer(alloc, quotient(a, b)),
@@ -165,7 +171,8 @@ pub fn floor_div(alloc: Global, left: &Value, right: &Value) -> TeraResult<Value
 
 /// Euclid's remainder, which is never negative; a refusal at a zero divisor.
 pub fn rem(alloc: Global, left: &Value, right: &Value) -> TeraResult<Value>
-    ensures { Gives (λ v. v) result (rem left.now right.now) }
+    ensures value { Gives (λ v. v) result (rem left.now right.now) }
+    ensures ready { IsOk (rem left.now right.now) → IsOk result }
 {
     match integers(left, right) {
         Some((a, b)) => answer(alloc, remainder(a, b)),
@@ -175,7 +182,8 @@ pub fn rem(alloc: Global, left: &Value, right: &Value) -> TeraResult<Value>
 
 /// The power; a refusal at a negative exponent. `0 ** 0` is 1.
 pub fn pow(alloc: Global, left: &Value, right: &Value) -> TeraResult<Value>
-    ensures { Gives (λ v. v) result (pow left.now right.now) }
+    ensures value { Gives (λ v. v) result (pow left.now right.now) }
+    ensures ready { IsOk (pow left.now right.now) → IsOk result }
 {
     match integers(left, right) {
         Some((a, b)) => answer(alloc, power(a, b)),
@@ -185,7 +193,8 @@ pub fn pow(alloc: Global, left: &Value, right: &Value) -> TeraResult<Value>
 
 /// The number with the other sign.
 pub fn negate(alloc: Global, value: &Value) -> TeraResult<Value>
-    ensures { Gives (λ v. v) result (negate value.now) }
+    ensures value { Gives (λ v. v) result (negate value.now) }
+    ensures ready { IsOk (negate value.now) → IsOk result }
 {
     match value.shape() {
         Shape::Int(number) => answer(alloc, number.checked_neg()),

@@ -8,6 +8,7 @@ pub mod Steps
 pub mod Compared
 pub mod Sizes
 pub mod Counts
+pub mod Checked
 pub mod Same
 pub mod Walks
 pub mod Listed

@@ -71,6 +71,20 @@ marked (bytes t) = bytes t
 marked (array vs) = array vs
 marked (map es) = map es
 
+-- a value that holds nothing in memory, so that a copy takes none
+abbrev pub IsScalar : Val → Type 0
+IsScalar undefined = Unit {0}
+IsScalar none = Unit {0}
+IsScalar (bool b) = Unit {0}
+IsScalar (int z) = Unit {0}
+IsScalar v = ⊥
+
+-- a value that holds no other
+abbrev pub IsFlat : Val → Type 0
+IsFlat (array vs) = ⊥
+IsFlat (map es) = ⊥
+IsFlat v = Unit {0}
+
 abbrev pub kind_of : {C : Type 0} → ValOf C → ValueKind
 kind_of undefined = kind.Undefined
 kind_of none = kind.None

@@ -1,10 +1,10 @@
 -- The order of values, and when two values are the same.
-use Rattle.std.specs.Prelude.{ℕ, Bool, true, false, cond}
+use Rattle.std.specs.Prelude.{ℕ, Bool, true, false, cond, List, Option, Some, None}
 use Rattle.std.specs.declared.cmp.Ordering.{Ordering}
 use Rattle.std.specs.declared.cmp.Ordering.TheVariants.{Less, Equal, Greater}
 use Rattle.std.specs.Ordering.{nat_cmp, int_cmp, bool_cmp, on, ordering_then, eq_by_cmp}
 use Rattle.std.specs.Cmp.Lexicographic.{slice_cmp}
-use Rattle.tera_values_data.specs.Val.{Val, Vals, Entries, KeyVal, undefined, none, bool, int, text, bytes, array, map, no_items, item, no_entries, entry}
+use Rattle.tera_values_data.specs.Val.{Val, Vals, Entries, KeyVal, undefined, none, bool, int, text, bytes, array, map, no_items, item, no_entries, entry, vals}
 use Rattle.tera_values_data.specs.Keys.{key_cmp}
 
 abbrev pub rank : Val → ℕ
@@ -95,3 +95,10 @@ abbrev mutual
   comparable_items no_items b = true
   comparable_items (item v vs) no_items = true
   comparable_items (item v vs) (item w ws) = cond (comparable v w) (cond (same v w) (comparable_items vs ws) true) false
+
+-- how a value stands to another, where the two are comparable
+abbrev pub checked_order : Val → Val → Option Ordering
+checked_order v w = cond (comparable v w) (Some (order v w)) None
+
+abbrev pub checked_items : List Val → List Val → Option Ordering
+checked_items vs ws = cond (comparable_items (vals vs) (vals ws)) (Some (slice_cmp order vs ws)) None

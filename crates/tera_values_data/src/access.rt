@@ -1,9 +1,9 @@
 // What is asked of a value as a whole.
-ghost use Rattle.std.specs.Prelude.{◌≡◌, Ok, ℕ, List, length, option_copied};
+ghost use Rattle.std.specs.Prelude.{◌≡◌, Ok, ℕ, List, length, option_copied, IsOk};
 ghost use Rattle.std.specs.Str.{chars};
 ghost use Rattle.tera_errors.specs.Answer.{Gives};
 ghost use Rattle.tera_values_data.specs.View.{key_view};
-ghost use Rattle.tera_values_data.specs.Access.{is_undefined, is_safe, kind_of, kind_name, int_of, text_of, truthy, count, key_of, value_of_key, attr};
+ghost use Rattle.tera_values_data.specs.Access.{IsScalar, is_undefined, is_safe, kind_of, kind_name, int_of, text_of, truthy, count, key_of, value_of_key, attr};
 
 use crate::key::Key;
 use crate::shape::Shape;
@@ -121,7 +121,8 @@ impl Value {
 
     /// The value as a key.
     pub fn as_key(&self, alloc: Global) -> TeraResult<Key>
-        ensures { Gives key_view result (key_of self.now) }
+        ensures key { Gives key_view result (key_of self.now) }
+        ensures ready { IsScalar self.now → IsOk (key_of self.now) → IsOk result }
     {
         match self.shape() {
             Shape::Bool(b) => Ok(Key::Bool(b)),
@@ -133,7 +134,8 @@ impl Value {
 
     /// A key as a value; a text without a mark.
     pub fn from_key(alloc: Global, key: &Key) -> TeraResult<Value>
-        ensures { Gives (λ v. v) result (Ok (value_of_key (key_view key.now))) }
+        ensures value { Gives (λ v. v) result (Ok (value_of_key (key_view key.now))) }
+        ensures ready { IsScalar (value_of_key (key_view key.now)) → IsOk result }
     {
         match key {
             Key::Bool(flag) => Ok(Value::from_bool(*flag)),

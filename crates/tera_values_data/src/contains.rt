@@ -1,5 +1,5 @@
 // Whether a value holds another one.
-ghost use Rattle.std.specs.Prelude.{◌≡◌};
+ghost use Rattle.std.specs.Prelude.{◌≡◌, IsOk};
 ghost use Rattle.tera_errors.specs.Answer.{Gives};
 ghost use Rattle.tera_values_data.specs.Val.{vals};
 ghost use Rattle.tera_values_data.specs.Access.{key_of};
@@ -44,7 +44,8 @@ impl Value {
     /// Whether an item of the array is equal to the value, the text has it as a part, or the map has
     /// it as a key. A `Message` for other kinds, and where no text is looked for in a text.
     pub fn contains(&self, alloc: Global, wanted: &Value) -> TeraResult<bool>
-        ensures { Gives (λ found. found) result (contains self.now wanted.now) }
+        ensures found { Gives (λ found. found) result (contains self.now wanted.now) }
+        ensures ready { IsOk (contains self.now wanted.now) → IsOk result }
     {
         match self.shape() {
             Shape::Array(items) => Ok(has_item(items, wanted)),

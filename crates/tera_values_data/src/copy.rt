@@ -1,6 +1,7 @@
 // The same value once more, and the form in which that is a count.
-ghost use Rattle.std.specs.Prelude.{◌≡◌, Ok, OnOk, IfErr};
+ghost use Rattle.std.specs.Prelude.{◌≡◌, Ok, OnOk, IfErr, IsOk};
 ghost use Rattle.tera_errors.specs.Answer.{Gives, Lacks};
+ghost use Rattle.tera_values_data.specs.Access.{IsScalar, IsFlat};
 ghost use Rattle.tera_values_data.specs.View.{entry_views};
 
 use crate::value::{Entry, Map, Node, Value};
@@ -13,7 +14,8 @@ impl Value {
     /// The same value, marks too; what is shared is shared with the copy.
     #[cycle(copying)]
     pub fn try_clone(&self) -> TeraResult<Value>
-        ensures { Gives (λ v. v) result (Ok self.now) }
+        ensures value { Gives (λ v. v) result (Ok self.now) }
+        ensures ready { IsScalar self.now → IsOk result }
     {
         match &self.node {
             Node::Undefined => Ok(Value {
@@ -94,7 +96,8 @@ impl Value {
     /// The same value, kept so that a copy of it or of any part of it is a count.
     #[cycle(sharing)]
     pub fn shared(self, alloc: Global) -> TeraResult<Value>
-        ensures { Gives (λ v. v) result (Ok self) }
+        ensures value { Gives (λ v. v) result (Ok self) }
+        ensures ready { IsFlat self → IsOk result }
     {
         match self.into_node() {
             Node::Array(items) => {

@@ -1,9 +1,9 @@
 // Items, characters, bytes and values at an index.
-ghost use Rattle.std.specs.Prelude.{◌≡◌, ℕ, Ok, length, option_copied, slice_get};
+ghost use Rattle.std.specs.Prelude.{◌≡◌, ℕ, Ok, length, option_copied, slice_get, IsOk, IsOkAnd};
 ghost use Rattle.std.specs.Str.{chars};
 ghost use Rattle.tera_errors.specs.Answer.{Gives};
 ghost use Rattle.tera_values_data.specs.View.{wanted_view};
-ghost use Rattle.tera_values_data.specs.Access.{find, key_of};
+ghost use Rattle.tera_values_data.specs.Access.{IsScalar, find, key_of};
 ghost use Rattle.tera_values_data.specs.Items.{place_of, char_text, item_at, byte_at, char_from, found_at, or_undefined, get_item};
 
 use crate::access::char_count;
@@ -47,7 +47,8 @@ fn char_value(alloc: Global, character: char) -> TeraResult<Value>
 }
 
 fn item_in(items: &[Value], index: i128) -> TeraResult<Value>
-    ensures { Gives (λ v. v) result (Ok (item_at (place_of index (length items.now)) items.now)) }
+    ensures value { Gives (λ v. v) result (Ok (item_at (place_of index (length items.now)) items.now)) }
+    ensures ready { IsScalar (item_at (place_of index (length items.now)) items.now) → IsOk result }
 {
     match place(index, items.len()) {
         Some(at) => match items.get(at) {
@@ -71,7 +72,8 @@ fn byte_in(bytes: &[u8], index: i128) -> Value
 }
 
 fn char_in(alloc: Global, text: &str, index: i128) -> TeraResult<Value>
-    ensures { Gives (λ v. v) result (Ok (char_from (place_of index (length (chars text.now))) (chars text.now))) }
+    ensures value { Gives (λ v. v) result (Ok (char_from (place_of index (length (chars text.now))) (chars text.now))) }
+    ensures ready { IsScalar (char_from (place_of index (length (chars text.now))) (chars text.now)) → IsOk result }
 {
     match place(index, char_count(text)) {
         Some(at) => match char_at(text, at) {
@@ -83,7 +85,8 @@ fn char_in(alloc: Global, text: &str, index: i128) -> TeraResult<Value>
 }
 
 fn value_in(all: &Map, wanted: &Wanted<'_>) -> TeraResult<Value>
-    ensures { Gives (λ v. v) result (Ok (or_undefined (find (wanted_view wanted.now) all.now))) }
+    ensures value { Gives (λ v. v) result (Ok (or_undefined (find (wanted_view wanted.now) all.now))) }
+    ensures ready { IsScalar (or_undefined (find (wanted_view wanted.now) all.now)) → IsOk result }
 {
     match all.value_at(wanted) {
         Some(value) => value.try_clone(),
@@ -92,7 +95,8 @@ fn value_in(all: &Map, wanted: &Wanted<'_>) -> TeraResult<Value>
 }
 
 fn entry_in(alloc: Global, all: &Map, index: &Value) -> TeraResult<Value>
-    ensures { Gives (λ v. v) result (found_at (key_of index.now) all.now) }
+    ensures value { Gives (λ v. v) result (found_at (key_of index.now) all.now) }
+    ensures ready { IsOkAnd (found_at (key_of index.now) all.now) IsScalar → IsOk result }
 {
     match index.shape() {
         Shape::Bool(flag) => value_in(all, &Wanted::Bool(flag)),
@@ -105,7 +109,8 @@ fn entry_in(alloc: Global, all: &Map, index: &Value) -> TeraResult<Value>
 impl Value {
     /// The item, character, byte or value at an index.
     pub fn get_item(&self, alloc: Global, index: &Value) -> TeraResult<Value>
-        ensures { Gives (λ v. v) result (get_item self.now index.now) }
+        ensures value { Gives (λ v. v) result (get_item self.now index.now) }
+        ensures ready { IsOkAnd (get_item self.now index.now) IsScalar → IsOk result }
     {
         match self.shape() {
             Shape::Map(all) => entry_in(alloc, all, index),

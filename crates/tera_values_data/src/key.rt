@@ -1,6 +1,7 @@
 // Keys of maps.
-ghost use Rattle.std.specs.Prelude.{◌≡◌, Ok};
+ghost use Rattle.std.specs.Prelude.{◌≡◌, Ok, IsOk};
 ghost use Rattle.tera_errors.specs.Answer.{Gives};
+ghost use Rattle.tera_values_data.specs.Access.{IsScalar, value_of_key};
 ghost use Rattle.tera_values_data.specs.Keys.{key_cmp};
 ghost use Rattle.tera_values_data.specs.View.{key_view, wanted_view};
 
@@ -36,7 +37,8 @@ impl Key {
 
     /// The same key.
     pub fn try_clone(&self) -> TeraResult<Key>
-        ensures { Gives key_view result (Ok (key_view self.now)) }
+        ensures key { Gives key_view result (Ok (key_view self.now)) }
+        ensures ready { IsScalar (value_of_key (key_view self.now)) → IsOk result }
     {
         match self {
             Key::Bool(flag) => Ok(Key::Bool(*flag)),

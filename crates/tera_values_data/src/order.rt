@@ -1,10 +1,9 @@
 // The order of values, their equality, and which of them an order makes sense of.
 ghost use Rattle.std.specs.Prelude.{◌≡◌};
 ghost use Rattle.std.specs.Cmp.Lexicographic.{slice_cmp};
-ghost use Rattle.tera_values_data.specs.Val.{vals};
 ghost use Rattle.tera_values_data.specs.View.{entry_views};
 ghost use Rattle.tera_values_data.specs.Index.{IsIndex, picked};
-ghost use Rattle.tera_values_data.specs.Order.{rank, order, pair_order, comparable, comparable_items};
+ghost use Rattle.tera_values_data.specs.Order.{rank, order, pair_order, comparable, checked_order, checked_items};
 ghost use Rattle.tera_values_data.specs.Finite.{IsSameMap};
 
 use crate::key::compare_key;
@@ -110,40 +109,58 @@ fn compare_entries(a: &[Entry], a_keys: &[usize], b: &[Entry], b_keys: &[usize])
 }
 
 impl Value {
-    /// Whether the two are of one kind that has an order; of arrays, up to and with the first unequal items.
+    /// How the value stands to the other in the order of values; none where the two are not comparable.
     #[cycle(comparable)]
+    pub fn checked_cmp(&self, other: &Value) -> Option<Ordering>
+        ensures { result ≡ checked_order self.now other.now }
+    {
+        match self.shape() {
+            Shape::Bool(a) => match other.shape() {
+                Shape::Bool(b) => Some(a.cmp(&b)),
+                _ => None,
+            },
+            Shape::Int(a) => match other.shape() {
+                Shape::Int(b) => Some(a.cmp(&b)),
+                _ => None,
+            },
+            Shape::Text(a, _) => match other.shape() {
+                Shape::Text(b, _) => Some(a.cmp(b)),
+                _ => None,
+            },
+            Shape::Bytes(a) => match other.shape() {
+                Shape::Bytes(b) => Some(a.cmp(b)),
+                _ => None,
+            },
+            Shape::Array(a) => match other.shape() {
+                Shape::Array(b) => checked_cmp_items(a, b),
+                _ => None,
+            },
+            _ => None,
+        }
+    }
+
+    /// Whether the two are of one kind that has an order; of arrays, up to and with the first unequal items.
     pub fn comparable(&self, other: &Value) -> bool
         ensures { result ≡ comparable self.now other.now }
     {
-        match self.shape() {
-            Shape::Bool(_) => matches!(&other.shape(), Shape::Bool(_)),
-            Shape::Int(_) => matches!(&other.shape(), Shape::Int(_)),
-            Shape::Text(_, _) => matches!(&other.shape(), Shape::Text(_, _)),
-            Shape::Bytes(_) => matches!(&other.shape(), Shape::Bytes(_)),
-            Shape::Array(a) => match other.shape() {
-                Shape::Array(b) => comparable_items(a, b),
-                _ => false,
-            },
-            _ => false,
-        }
+        self.checked_cmp(other).is_some()
     }
 }
 
+/// Whether items are comparable and how they stand is answered in one walk, so that no depth of arrays is walked twice.
 #[cycle(comparable)]
-fn comparable_items(a: &[Value], b: &[Value]) -> bool
-    ensures { result ≡ comparable_items (vals a.now) (vals b.now) }
+fn checked_cmp_items(a: &[Value], b: &[Value]) -> Option<Ordering>
+    ensures { result ≡ checked_items a.now b.now }
 {
     let mut place = 0;
     while place < a.len() && place < b.len() {
-        if !a[place].comparable(&b[place]) {
-            return false;
-        }
-        if a[place].compare(&b[place]).is_ne() {
-            return true;
+        let standing = a[place].checked_cmp(&b[place])?;
+        if standing.is_ne() {
+            return Some(standing);
         }
         place += 1;
     }
-    true
+    Some(a.len().cmp(&b.len()))
 }
 
 impl Map {

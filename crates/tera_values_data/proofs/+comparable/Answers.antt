@@ -1,14 +1,28 @@
-use Rattle.std.proofs.Common.{ap, sym, ◌∙◌, arith, drop}
-use Rattle.tera_values_data.specs.Val.{vals}
-use Rattle.tera_values_data.specs.Order.{comparable_items}
+use Rattle.std.proofs.Common.{◌⊎◌, inl, inr, ◌≤◌, length, Some, None, Ordering, cond, ap, sym, ◌∙◌, arith}
+use Rattle.tera_values_data.specs.Val.{Val, array, vals}
+use Rattle.tera_values_data.specs.Order.{comparable_items, checked_order}
 use Rattle.tera_values_data.proofs.Sizes.{item_below}
-use Rattle.tera_values_data.proofs.Counts.{past, with_none}
+use Rattle.tera_values_data.proofs.Compared.{as_items}
+use Rattle.tera_values_data.proofs.Checked.{checked_ends}
+use Rattle.tera_values_data.proofs.+comparable.Goals.{order::checked_cmp_items-then-loop-place-test+else-place-b, order::checked_cmp_items-else-loop-place-test}
 use Rattle.tera_values_data.proofs.+comparable.Goals as goal
 
-pub order::comparable_items-comparable-requires : goal.order::comparable_items-comparable-requires
-order::comparable_items-comparable-requires t c = (let below = item_below c.args.a.now c.loop-place.place c.index-a-place.result c.loop-place-test.true c.index-a-place.is in omega (arith, below, c.decreases), tt)
+pub order::checked_cmp_items-checked_cmp-requires : goal.order::checked_cmp_items-checked_cmp-requires
+order::checked_cmp_items-checked_cmp-requires t c = (let below = item_below c.args.a.now c.loop-place.place c.index-a-place.result c.loop-place-test.true c.index-a-place.is in omega (arith, below, c.decreases), tt)
 
-pub order::comparable_items-returns-else-place-b : goal.order::comparable_items-returns-else-place-b
-order::comparable_items-returns-else-place-b t c =
-    let left = vals (drop c.loop-place.place c.args.a.now) in
-    sym (with_none left) ∙ ap (λ l. comparable_items left (vals l)) (sym (past c.args.b.now c.loop-place.place c.if-place-b.false)) ∙ sym c.loop-place.invariant.rest
+pub order::checked_cmp_items-returns : goal.order::checked_cmp_items-returns
+order::checked_cmp_items-returns t c =
+    let done : (length c.args.a.now ≤ c.loop-place.place) ⊎ (length c.args.b.now ≤ c.loop-place.place) = elim c.loop-place-test.branch [
+      | order::checked_cmp_items-then-loop-place-test+else-place-b w ↦ inr w.if-place-b.false
+      | order::checked_cmp_items-else-loop-place-test w ↦ inl w.loop-place-test.false
+    ] in
+    ap Some c.cmp.ensures ∙ sym (checked_ends c.args.a.now c.args.b.now c.loop-place.place c.loop-place.invariant.in_a c.loop-place.invariant.in_b done) ∙ sym c.loop-place.invariant.rest
+
+pub value::Value::checked_cmp-returns-in-Array-shape : goal.value::Value::checked_cmp-returns-in-Array-shape
+value::Value::checked_cmp-returns-in-Array-shape t c =
+    let a = c.in-Array.a.now in
+    let b = c.in-Array-shape.b.now in
+    c.checked_cmp_items.ensures
+    ∙ ap (λ (o : Ordering). cond (comparable_items (vals a) (vals b)) (Some o) None) (as_items a b)
+    ∙ ap (λ (v : Val). checked_order v (array (vals b))) c.in-Array.ensures
+    ∙ ap (checked_order c.args.self.now) c.in-Array-shape.ensures

@@ -23,8 +23,8 @@ copy::copy_entries-loop-item-preserved t c =
     let h : i < length all = search rules in
     let h2 : i < length (entry_views all) = omega (arith, h, views_length all) in
     let e : Entry = record { key = c.in_ok-key.key; value = c.in_ok-value.value } in
-    let key : key_view x.key ≡ key_view c.in_ok-key.key = cc (c.in_ok-key.ensures) in
-    let value : x.value ≡ c.in_ok-value.value = cc (c.in_ok-value.ensures) in
+    let key : key_view x.key ≡ key_view c.in_ok-key.key = cc (c.in_ok-key.ensures.key) in
+    let value : x.value ≡ c.in_ok-value.value = cc (c.in_ok-value.ensures.value) in
     let pair : entry_view x ≡ entry_view e = λ j. (key j, value j) in
     let at : get_or (entry_views all) i (entry_view x) ≡ entry_view x = get_or-map entry_view all i x (entry_view x) h ∙ ap entry_view (sym c.item-item.is) in
     let more : c.push.new.self.items ≡ c.loop-item.copies.items ++ e ∷ [] = c.in_ok-push.ensures.items in

@@ -11,7 +11,7 @@ returns-clause-ok c =
     let es = c.self.inside.names.entries in
     let key = c.in_ok-key.key in
     let value = c.in_ok-value.value in
-    let same : value ≡ c.args.value = cc (c.in_ok-value.ensures) in
+    let same : value ≡ c.args.value = cc (c.in_ok-value.ensures.value) in
     ap by_name c.in_ok-old.ensures.entries
     ∙ inserted es key value
     ∙ ap (λ (n : Name). put n value (by_name es)) c.in_ok-key.ensures.ok

@@ -1,7 +1,8 @@
-use Rattle.std.proofs.Common.{List, sym, subst, length, Ok, rules}
-use Rattle.tera_values_data.specs.Val.{Val, KeyVal, array, vals}
+use Rattle.std.proofs.Common.{◌≡◌, List, Result, Ok, IsOk, IsOkAnd, sym, ap, ◌∙◌, subst, length, rules}
+use Rattle.tera_errors.specs.Fault.{Fault}
 use Rattle.tera_errors.specs.Answer.{Gives}
-use Rattle.tera_values_data.specs.Access.{key_of}
+use Rattle.tera_values_data.specs.Val.{Val, array, vals}
+use Rattle.tera_values_data.specs.Access.{IsScalar, key_of}
 use Rattle.tera_values_data.specs.Items.{get_item, found_at, item_at, place_of}
 use Rattle.tera_values_data.proofs.Pairs.{pairs_entries}
 use Rattle.tera_values_data.proofs.Counts.{list_vals}
@@ -9,12 +10,23 @@ use Rattle.tera_values_data.proofs.value.Value.get_item.Goals as goal
 
 pub returns-in-Map : goal.returns-in-Map
 returns-in-Map c =
-    subst (λ (v : Val). Gives (λ (x : Val). x) c.entry_in.result (get_item v c.args.index.now)) c.in-Map.ensures
-    (subst (λ (es : List (KeyVal × Val)). Gives (λ (x : Val). x) c.entry_in.result (found_at (key_of c.args.index.now) es)) (sym (pairs_entries c.in-Map.all.now)) c.entry_in.ensures)
+    let index = c.args.index.now in
+    let meant : found_at (key_of index) c.in-Map.all.now ≡ get_item c.args.self.now index =
+        ap (found_at (key_of index)) (sym (pairs_entries c.in-Map.all.now)) ∙ ap (λ (v : Val). get_item v index) c.in-Map.ensures in
+    record {
+      value = subst (λ (m : Result Val Fault). Gives (λ (x : Val). x) c.entry_in.result m) meant c.entry_in.ensures.value;
+      ready = subst (λ (m : Result Val Fault). IsOkAnd m IsScalar → IsOk c.entry_in.result) meant c.entry_in.ensures.ready;
+    }
 
 pub returns-in-Int : goal.returns-in-Int
 returns-in-Int c =
-    let fact : Gives {X = Val} {Y = Val} (λ (x : Val). x) c.item_in.result (Ok (item_at (place_of c.in-Int.n (length c.in-Array.items.now)) c.in-Array.items.now)) = search rules in
-    subst (λ (v : Val). Gives (λ (x : Val). x) c.item_in.result (get_item v c.args.index.now)) c.in-Array.ensures
-    (subst (λ (i : Val). Gives (λ (x : Val). x) c.item_in.result (get_item (array (vals c.in-Array.items.now)) i)) c.in-Int.ensures
-    (subst (λ (xs : List Val). Gives (λ (x : Val). x) c.item_in.result (Ok (item_at (place_of c.in-Int.n (length xs)) xs))) (sym (list_vals c.in-Array.items.now)) fact))
+    let xs = c.in-Array.items.now in
+    let at : List Val → Result Val Fault = λ (l : List Val). Ok (item_at (place_of c.in-Int.n (length l)) l) in
+    let meant : at xs ≡ get_item c.args.self.now c.args.index.now =
+        ap at (sym (list_vals xs)) ∙ ap (get_item (array (vals xs))) c.in-Int.ensures ∙ ap (λ (v : Val). get_item v c.args.index.now) c.in-Array.ensures in
+    let value : Gives {X = Val} {Y = Val} (λ (x : Val). x) c.item_in.result (at xs) = search rules in
+    let ready : IsOkAnd (at xs) IsScalar → IsOk c.item_in.result = search rules in
+    record {
+      value = subst (λ (m : Result Val Fault). Gives (λ (x : Val). x) c.item_in.result m) meant value;
+      ready = subst (λ (m : Result Val Fault). IsOkAnd m IsScalar → IsOk c.item_in.result) meant ready;
+    }

@@ -1,7 +1,8 @@
 // What an object of the caller is lent of a rendering.
-ghost use Rattle.std.specs.Prelude.{◌≡◌, [], true, Ok, option_map, string_bytes, unwrap_or};
+ghost use Rattle.std.specs.Prelude.{◌≡◌, [], true, Ok, option_map, string_bytes, unwrap_or, IsTrue, IsOk};
 ghost use Rattle.tera_errors.specs.Answer.{Gives};
 ghost use Rattle.tera_values.specs.Val.{undefined};
+ghost use Rattle.tera_values.specs.Access.{is_undefined};
 ghost use Rattle.tera_values.specs.Escape.{escape_html};
 ghost use Rattle.tera_state.specs.Found.{found_value};
 
@@ -64,9 +65,10 @@ impl<'a> State<'a> {
         self.alloc
     }
 
-    /// The value that the name stands for, read as `T`; none where it is undefined.
+    /// The value that the name stands for, read as `T`; none where it is undefined, which takes no memory.
     pub fn get<T: ArgFromValue>(&self, name: &str) -> TeraResult<Option<T>>
-        ensures given { Gives (λ o. option_map T.stands_for o) result (read_defined T.reading ((view_of self.now).look name.now)) }
+        ensures read { Gives (λ o. option_map T.stands_for o) result (read_defined T.reading ((view_of self.now).look name.now)) }
+        ensures undefined { IsTrue (is_undefined ((view_of self.now).look name.now)) → IsOk result }
     {
         let found = self.source.look(name);
         if found.is_undefined() {

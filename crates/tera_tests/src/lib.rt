@@ -24,6 +24,10 @@ mod refused_runs;
 #[cfg(test)]
 mod renderings;
 #[cfg(test)]
+mod scopes;
+#[cfg(test)]
 mod shared_copies;
+#[cfg(test)]
+mod state;
 #[cfg(test)]
 mod statements;

@@ -1,0 +1,127 @@
+//! What objects of the caller are lent of a rendering.
+use std::alloc::Global;
+use tera::{Context, ErrorKind, State, Value};
+use tera_state::Scopes;
+
+/// A name, and the text that it stands for, if any.
+#[derive(Clone, Copy)]
+struct Look(&'static str, Option<&'static str>);
+
+const LOOKS: [Look; 4] = [
+    Look("both", Some("context")),
+    Look("global", Some("global")),
+    Look("hidden", None),
+    Look("nope", None),
+];
+
+/// A value that is written, whether it is safe, and what is written where text is escaped.
+#[derive(Clone, Copy)]
+struct Row(&'static str, bool, &'static str);
+
+const ROWS: [Row; 3] = [
+    Row("plain", false, "plain"),
+    Row(
+        "<a href=\"b\">'&'</a>",
+        false,
+        "&lt;a href=&quot;b&quot;&gt;&#x27;&amp;&#x27;&lt;/a&gt;",
+    ),
+    Row("<b>", true, "<b>"),
+];
+
+fn put(alloc: Global, context: &mut Context, name: &str, text: &str) -> bool {
+    match Value::string(alloc, text) {
+        Ok(value) => context.insert(name, value).is_ok(),
+        Err(_) => false,
+    }
+}
+
+fn caller_context(alloc: Global) -> Option<Context> {
+    let mut context = Context::new(alloc);
+    if put(alloc, &mut context, "both", "context")
+        && context.insert("hidden", Value::undefined()).is_ok()
+    {
+        Some(context)
+    } else {
+        None
+    }
+}
+
+fn global_context(alloc: Global) -> Option<Context> {
+    let mut context = Context::new(alloc);
+    if put(alloc, &mut context, "both", "global")
+        && put(alloc, &mut context, "global", "global")
+        && put(alloc, &mut context, "hidden", "global")
+    {
+        Some(context)
+    } else {
+        None
+    }
+}
+
+fn finds(state: &State<'_>, look: Look) -> bool {
+    match state.get::<String>(look.0) {
+        Ok(Some(text)) => look.1 == Some(text.as_str()),
+        Ok(None) => look.1.is_none(),
+        Err(_) => false,
+    }
+}
+
+fn finds_all(alloc: Global, context: &Context, global: &Context) -> bool {
+    let scopes = Scopes::new(alloc, context, Some(global));
+    let state = scopes.state(false);
+    !state.autoescaping_enabled() && LOOKS.iter().all(|look| finds(&state, *look))
+}
+
+#[test]
+fn names_are_looked_up(rt: HostRuntime) {
+    let alloc = rt.alloc();
+    let holds = match (caller_context(alloc), global_context(alloc)) {
+        (Some(context), Some(global)) => finds_all(alloc, &context, &global),
+        _ => false,
+    };
+    assert!(rt; holds);
+}
+
+fn value_of(alloc: Global, row: Row) -> Option<Value> {
+    if row.1 {
+        Value::safe_string(alloc, row.0).ok()
+    } else {
+        Value::string(alloc, row.0).ok()
+    }
+}
+
+fn writes(alloc: Global, state: &State<'_>, row: Row) -> bool {
+    match value_of(alloc, row) {
+        Some(value) => match state.escape_if_needed(&value) {
+            Ok(text) => text.as_str() == row.2,
+            Err(_) => false,
+        },
+        None => false,
+    }
+}
+
+fn refuses_undefined(state: &State<'_>) -> bool {
+    match state.escape_if_needed(&Value::undefined()) {
+        Ok(_) => false,
+        Err(error) => matches!(error.kind(), ErrorKind::Message(_)),
+    }
+}
+
+fn escapes_all(state: &State<'_>) -> bool {
+    match state.escape("<b>") {
+        Ok(text) => text.as_str() == "&lt;b&gt;",
+        Err(_) => false,
+    }
+}
+
+#[test]
+fn values_are_written(rt: HostRuntime) {
+    let alloc = rt.alloc();
+    let context = Context::new(alloc);
+    let state = State::new(&context);
+    let holds = state.autoescaping_enabled()
+        && ROWS.iter().all(|row| writes(alloc, &state, *row))
+        && escapes_all(&state)
+        && refuses_undefined(&state);
+    assert!(rt; holds);
+}

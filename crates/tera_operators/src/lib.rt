@@ -19,6 +19,3 @@ pub use compare::not;
 pub use maps::map;
 pub use operand::Operand;
 pub use operator::binary;
-
-#[cfg(test)]
-mod tests;

@@ -16,6 +16,3 @@ pub use name::Name;
 pub use string_input::StringInput;
 pub use tera_errors::{Error, ErrorKind, ReportError, Span, TeraResult};
 pub use tera_values_data::{Key, Map, Shape, Value, ValueKind, escape_html};
-
-#[cfg(test)]
-mod tests;

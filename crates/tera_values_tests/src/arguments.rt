@@ -1,0 +1,139 @@
+// Arguments by name.
+use crate::sample::Sample::{Int, Ints, Pairs, Safe, Text, Truth};
+use crate::sample::{Sample, is_value, refusal, value};
+use std::alloc::Global;
+use tera_values::{ArgFromValue, Kwargs, Map, StringInput, TeraResult, Value};
+
+const WIDE: Sample = Int(4_294_967_296);
+
+fn put(kwargs: &mut Kwargs, value: Option<Value>) -> bool {
+    match value {
+        Some(value) => kwargs.insert("x", value).is_ok(),
+        None => false,
+    }
+}
+
+/// The argument `x` alone.
+fn given(alloc: Global, sample: Sample) -> Option<Kwargs> {
+    let mut kwargs = Kwargs::new(alloc);
+    if put(&mut kwargs, value(alloc, sample)) {
+        Some(kwargs)
+    } else {
+        None
+    }
+}
+
+fn needed<T: ArgFromValue>(alloc: Global, sample: Sample, name: &str) -> Option<TeraResult<T>> {
+    match given(alloc, sample) {
+        Some(kwargs) => Some(kwargs.must_get(name)),
+        None => None,
+    }
+}
+
+fn optional<T: ArgFromValue>(
+    alloc: Global,
+    sample: Sample,
+    name: &str,
+) -> Option<TeraResult<Option<T>>> {
+    match given(alloc, sample) {
+        Some(kwargs) => Some(kwargs.get(name)),
+        None => None,
+    }
+}
+
+fn is_refused<T: Drop>(answer: Option<TeraResult<T>>, want: &str) -> bool {
+    match answer {
+        Some(Err(error)) => refusal(&error) == want,
+        _ => false,
+    }
+}
+
+fn wrong_are_refused(alloc: Global) -> bool {
+    let narrow: Option<TeraResult<u32>> = needed(alloc, WIDE, "x");
+    let missing: Option<TeraResult<u32>> = needed(alloc, WIDE, "y");
+    let wrong: Option<TeraResult<Option<bool>>> = optional(alloc, WIDE, "x");
+    is_refused(narrow, "invalid argument")
+        && is_refused(missing, "missing argument")
+        && is_refused(wrong, "invalid argument")
+}
+
+fn reads_numbers(alloc: Global) -> bool {
+    let whole: Option<TeraResult<i128>> = needed(alloc, WIDE, "x");
+    let size: Option<TeraResult<Option<usize>>> = optional(alloc, WIDE, "x");
+    let small = u32::from_value(alloc, &Value::from_int(7));
+    matches!(whole, Some(Ok(4_294_967_296)))
+        && matches!(size, Some(Ok(Some(4_294_967_296))))
+        && matches!(small, Ok(7))
+}
+
+fn reads_flags(alloc: Global) -> bool {
+    let flag: Option<TeraResult<bool>> = needed(alloc, Truth(true), "x");
+    let absent: Option<TeraResult<Option<bool>>> = optional(alloc, WIDE, "y");
+    matches!(flag, Some(Ok(true))) && matches!(absent, Some(Ok(None)))
+}
+
+fn reads_text(alloc: Global) -> bool {
+    let read: Option<TeraResult<String>> = needed(alloc, Text("<b>"), "x");
+    match read {
+        Some(Ok(text)) => text.as_str() == "<b>",
+        _ => false,
+    }
+}
+
+fn is_marked(answer: TeraResult<Value>) -> bool {
+    match answer {
+        Ok(value) => value.is_safe(),
+        Err(_) => false,
+    }
+}
+
+fn reads_input(alloc: Global) -> bool {
+    let read: Option<TeraResult<StringInput>> = needed(alloc, Safe("<b>"), "x");
+    match read {
+        Some(Ok(input)) => {
+            input.is_safe()
+                && input.as_str() == "<b>"
+                && is_marked(input.inherit_safety(alloc, "x"))
+                && input.into_value().is_safe()
+        }
+        _ => false,
+    }
+}
+
+fn reads_items(alloc: Global) -> bool {
+    let read: Option<TeraResult<Vec<Value>>> = needed(alloc, Ints(&[1, 2]), "x");
+    match read {
+        Some(Ok(items)) => items.len() == 2,
+        _ => false,
+    }
+}
+
+fn reads_map(alloc: Global) -> bool {
+    let read: Option<TeraResult<Map>> = needed(alloc, Pairs(&[("a", 0)]), "x");
+    match read {
+        Some(Ok(all)) => all.len() == 1,
+        _ => false,
+    }
+}
+
+fn reads_value(alloc: Global) -> bool {
+    let read: Option<TeraResult<Value>> = needed(alloc, Ints(&[1, 2]), "x");
+    match read {
+        Some(Ok(value)) => is_value(alloc, &value, "array [1, 2]"),
+        _ => false,
+    }
+}
+
+#[test]
+fn arguments_are_read(rt: HostRuntime) {
+    let alloc = rt.alloc();
+    let right = wrong_are_refused(alloc)
+        && reads_numbers(alloc)
+        && reads_flags(alloc)
+        && reads_text(alloc)
+        && reads_input(alloc)
+        && reads_items(alloc)
+        && reads_map(alloc)
+        && reads_value(alloc);
+    assert!(rt; right);
+}

@@ -1,8 +1,8 @@
 // What is open while a text is read, and the nodes that were read.
-ghost use Rattle.std.specs.Prelude.{◌≡◌, ◌-◌, suc, length, Some, IfOk};
+ghost use Rattle.std.specs.Prelude.{◌≡◌, ◌-◌, suc, length, Some, IfErr};
 ghost use Rattle.tera_syntax.specs.Reader as spec;
 ghost use Rattle.tera_syntax.specs.View.{body_of, frame_of, frames_of, progress_of};
-ghost use Rattle.tera_tokens.specs.Answers.{Answers};
+ghost use Rattle.tera_tokens.specs.Answers.{Answers, IsSyntax};
 ghost use Rattle.tera_tree.specs.View.{expr_of, node_of, nodes_of};
 
 use std::alloc::Global;
@@ -35,7 +35,12 @@ pub(crate) struct Progress {
 }
 
 /// The choice that an end makes of what was read last.
-fn choice(alloc: Global, condition: Box<Expression>, body: Option<Vec<Node>>, found: Vec<Node>) -> Node
+fn choice(
+    alloc: Global,
+    condition: Box<Expression>,
+    body: Option<Vec<Node>>,
+    found: Vec<Node>,
+) -> Node
     ensures { node_of result ≡ spec.choice_by (expr_of condition.value) (body_of body) (nodes_of found.items) }
 {
     match body {
@@ -147,9 +152,11 @@ impl Progress {
         Err(tokens.refuse(Reason::NotOpen))
     }
 
-    /// The nodes, where the text ends here.
+    /// The nodes, where the text ends here. It takes no memory.
     pub fn finish(self, at: usize) -> Result<Vec<Node>, Refusal>
-        ensures { Answers (λ nodes. nodes_of nodes.items) (spec.finished (progress_of self).frames (progress_of self).found) result }
+        ensures value { let meant = spec.finished (progress_of self).frames (progress_of self).found in
+            Answers (λ nodes. nodes_of nodes.items) meant result }
+        ensures told { IfErr result IsSyntax }
     {
         let Progress { frames, found } = self;
         if frames.is_empty() {

@@ -89,11 +89,7 @@ impl Shown {
                 self.expression(target);
                 self.expression(index);
             }
-            Expression::Slice {
-                target,
-                bounds,
-                ..
-            } => {
+            Expression::Slice { target, bounds, .. } => {
                 self.expression(target);
                 self.put_bound(&bounds.start);
                 self.put_bound(&bounds.end);

@@ -52,4 +52,4 @@ returns c =
     let z : length c.loop-rest.rest.now ≡ 0 = (Decides-eqb (length c.loop-rest.rest.now) 0).0 (sym c.is_empty.ensures ∙ c.loop-rest-test.false) in
     let e = c.loop-rest.invariant.so_far
     ∙ ap (spec.run 200 (progress_of c.loop-rest.progress)) (cut_nothing (delimiters_of c.args.delimiters.now) c.loop-rest.trims c.loop-rest.at c.loop-rest.rest.now z) in
-    subst (λ o. Answers (λ found. nodes_of found.items) o c.finish.result) (sym e) c.finish.ensures
+    subst (λ o. Answers (λ found. nodes_of found.items) o c.finish.result) (sym e) c.finish.ensures.value

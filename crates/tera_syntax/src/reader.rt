@@ -23,18 +23,19 @@ fn nodes(alloc: Global, delimiters: &Delimiters, source: &str) -> Result<Vec<Nod
     ensures { Answers (λ found. nodes_of found.items) (spec.nodes 200 (pieces (delimiters_of delimiters.now) source.now)) result }
 {
     let mut progress = Progress::begin(alloc);
+    let mut tokens = Vec::new(alloc);
     let mut rest = source;
     let mut at = 0;
     let mut trims = false;
     while !rest.is_empty() {
-        let piece = match next_piece(alloc, delimiters, rest, at, trims) {
+        let piece = match next_piece(&mut tokens, delimiters, rest, at, trims) {
             Ok(piece) => piece,
             Err(refusal) => return Err(refusal),
         };
         rest = piece.rest;
         at = piece.next;
         trims = piece.trims;
-        progress = match step(progress, alloc, piece.piece) {
+        progress = match step(progress, alloc, piece.piece, tokens.as_slice()) {
             Ok(progress) => progress,
             Err(refusal) => return Err(refusal),
         };

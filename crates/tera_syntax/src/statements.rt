@@ -77,18 +77,24 @@ fn put_words(progress: Progress, alloc: Global, text: &str, span: Span) -> Resul
     progress.put(Node::Content { text, span })
 }
 
-/// What was read, and a piece more.
-pub(crate) fn step(progress: Progress, alloc: Global, piece: Piece<'_>) -> Result<Progress, Refusal>
-    ensures { Answers progress_of (spec.step 200 (progress_of progress) (piece_of piece.entry)) result }
+/// What was read, and a piece more. The tokens are those of a tag.
+pub(crate) fn step(
+    progress: Progress,
+    alloc: Global,
+    piece: Piece<'_>,
+    tokens: &[Token<'_>],
+) -> Result<Progress, Refusal>
+    ensures { let meant = spec.step 200 (progress_of progress) (piece_of tokens.now piece.entry) in
+        Answers progress_of meant result }
 {
     match piece {
         Piece::Words(text, span) => put_words(progress, alloc, text, span),
         Piece::Comment => Ok(progress),
-        Piece::Variable(tokens) => {
-            let mut tokens = Tokens::begin(tokens.as_slice(), false);
+        Piece::Variable => {
+            let mut tokens = Tokens::begin(tokens, false);
             let value = whole(alloc, &mut tokens, progress.room())?;
             progress.put(Node::Print { value })
         }
-        Piece::Block(tokens) => statement(progress, alloc, tokens.as_slice()),
+        Piece::Block => statement(progress, alloc, tokens),
     }
 }

@@ -35,10 +35,10 @@ fn nodes(alloc: Global, delimiters: &Delimiters, source: &str) -> Result<Vec<Nod
         rest = piece.rest;
         at = piece.next;
         trims = piece.trims;
-        progress = match step(progress, alloc, piece.piece, tokens.as_slice()) {
-            Ok(progress) => progress,
+        match step(&mut progress, alloc, piece.piece, tokens.as_slice()) {
+            Ok(()) => {}
             Err(refusal) => return Err(refusal),
-        };
+        }
     }
     progress.finish(at)
 }

@@ -49,7 +49,7 @@ loop-rest-preserved c =
       so_far = c.loop-rest.invariant.so_far
           ∙ ap (spec.run 200 (progress_of c.loop-rest.progress)) s
           ∙ ap (option_and_then (λ t. spec.run 200 t (cut d c.in-Ok.piece.trims 0 c.in-Ok.piece.next _))) c.in-Ok-step.ensures
-          ∙ ap (λ text. spec.run 200 (progress_of c.in-Ok-step.progress) (cut d c.in-Ok.piece.trims 0 c.in-Ok.piece.next text)) (sym f.2);
+          ∙ ap (λ text. spec.run 200 (progress_of c.step.new.progress) (cut d c.in-Ok.piece.trims 0 c.in-Ok.piece.next text)) (sym f.2);
     }
 
 pub returns : goal.returns

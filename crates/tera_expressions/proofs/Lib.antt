@@ -7,3 +7,4 @@ pub mod Extent
 pub mod Forms
 pub mod Turning
 pub mod Complete
+pub mod Inside

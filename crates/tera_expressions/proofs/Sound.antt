@@ -224,15 +224,18 @@ module _ (limit b : ℕ) (part : ℕ → Parser Deep) (sound : Sound b part) whe
       let q = and_then-some (expect k.Colon a) (λ _. λ j. and_then (r.part limit part j) bounded) (y, j) hh in
       let u = expect-some k.Colon a q.1 q.0 q.2 in
       let t = and_then-some (r.part limit part q.1) bounded (y, j) q.3 in
-      let st = and_then-some (r.step limit part t.1) (r.slice_made limit part optional (start p) (deep v) z t.0) (y, j) t.3 in
+      let st = and_then-some (r.step limit part t.1) (made t.0) (y, j) t.3 in
       let m = and_then-some (expect k.RightBracket st.1) (λ _. λ j. node limit (max (depth v) (max z.1 (max t.0.1 st.0.1))) (Slice v z.0 t.0.0 st.0.0 optional (span (start p) j)) j) (y, j) st.3 in
       let n = expect-some k.RightBracket st.1 m.1 m.0 m.2 in
       let to = part-got q.1 t.1 t.0 t.2 in
       let by = step-got t.1 st.1 st.0 st.2 in
       go u.1 u.0 n.1 n.0 t.0 st.0 to.1 by.1 to.0 by.0 m.3
     where
+      made : Optional × ℕ → Optional × ℕ → Parser Deep
+      made q s = r.slice_made limit part optional (start p) (deep v) z.0 q.0 s.0 (max z.1 (max q.1 s.1))
+
       bounded : Optional × ℕ → Parser Deep
-      bounded q j = and_then (r.step limit part j) (r.slice_made limit part optional (start p) (deep v) z q)
+      bounded q j = and_then (r.step limit part j) (made q)
 
       go : {b' c d d' : Input} → b' ≡ next a → kind a ≡ k.Colon → d' ≡ next d → kind d ≡ k.RightBracket → (to by : Optional × ℕ) → to.1 ≡ optional_depth to.0 → by.1 ≡ optional_depth by.0
           → DerivesPart to.0 b' c → DerivesStep by.0 c d

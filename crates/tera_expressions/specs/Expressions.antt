@@ -160,12 +160,14 @@ module _ (limit : ℕ) (sub : ℕ → Parser Deep) where
   index_at optional from x Absent d = refuse
   index_at optional from x (Present y) d = λ i. node limit (max x.depth d) (Index x.expr y optional (span from (next i))) (next i)
 
-  unfoldable pub slice_made : Bool → ℕ → Deep → Optional × ℕ → Optional × ℕ → Optional × ℕ → Parser Deep
-  slice_made optional from x p q r = expect k.RightBracket >>= (λ _. λ j.
-      node limit (max x.depth (max p.1 (max q.1 r.1))) (Slice x.expr p.0 q.0 r.0 optional (span from j)) j)
+  -- a slice of bounds that are this deep at most, from its closing bracket on
+  unfoldable pub slice_made : Bool → ℕ → Deep → Optional → Optional → Optional → ℕ → Parser Deep
+  slice_made optional from x a b c d = expect k.RightBracket >>= (λ _. λ j.
+      node limit (max x.depth d) (Slice x.expr a b c optional (span from j)) j)
 
   unfoldable pub slice : Bool → ℕ → Deep → Optional × ℕ → Parser Deep
-  slice optional from x p = expect k.Colon >>= (λ _. part >>= (λ q. step >>= (λ r. slice_made optional from x p q r)))
+  slice optional from x p = expect k.Colon >>= (λ _. part >>= (λ q. step >>= (λ r.
+      slice_made optional from x p.0 q.0 r.0 (max p.1 (max q.1 r.1)))))
 
   abbrev pub subscript_with : Bool → ℕ → Deep → Optional × ℕ → Parser Deep
   subscript_with optional from x p = λ i. if same k.RightBracket (kind i) then index_at optional from x p.0 p.1 i else slice optional from x p i

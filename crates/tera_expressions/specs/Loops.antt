@@ -4,6 +4,7 @@ use Rattle.tera_errors.specs.Site.{Text, Name}
 use Rattle.tera_tokens.specs.declared.token.Kind.TheVariants as k
 use Rattle.tera_tokens.specs.Input.{Input, kind, text, next, same}
 
+-- the name under which a word behind `loop.` is looked up
 abbrev pub loop_word : Text → Option Name
 loop_word word =
     if bytes_eq word (codes "index") then Some (codes "__tera_loop_index") else (

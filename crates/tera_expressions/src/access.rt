@@ -1,5 +1,4 @@
 // Attributes, indices and slices.
-ghost use Rattle.std.specs.Prelude.{◌≡◌, ℕ, max};
 ghost use Rattle.tera_tree.specs.View.{optional_of};
 ghost use Rattle.tera_tokens.specs.Takes.{Takes, input};
 ghost use Rattle.tera_expressions.specs.Expressions as spec;
@@ -160,7 +159,10 @@ impl<F: Fn(Global, &mut Tokens<'_>, usize, u8) -> Result<Deep, Refusal>> Reader<
         bounds: Box<Bounds>,
         depth: usize,
     ) -> Result<Deep, Refusal>
-        ensures { (p q r : ℕ) → depth ≡ max p (max q r) → Takes deep_of (spec.slice_made self.now.limit (spec.expr self.now.below) optional start (deep_of x) (optional_of bounds.value.start, p) (optional_of bounds.value.end, q) (optional_of bounds.value.step, r) (input tokens.old)) result tokens.new }
+        ensures { let slice = spec.slice_made self.now.limit (spec.expr self.now.below) optional start
+            (deep_of x) (optional_of bounds.value.start) (optional_of bounds.value.end)
+            (optional_of bounds.value.step) depth in
+            Takes deep_of (slice (input tokens.old)) result tokens.new }
     {
         tokens.expect(Kind::RightBracket)?;
         let depth = larger(x.depth, depth);

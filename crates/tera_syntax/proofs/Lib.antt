@@ -3,3 +3,4 @@ pub mod Whole
 pub mod Complete
 pub mod Sound
 pub mod Plain
+pub mod Inside

@@ -3,3 +3,4 @@ pub mod Spells
 pub mod Reads
 pub mod Reader
 pub mod View
+pub mod Laws

@@ -1,17 +1,14 @@
 -- What reading a text may answer.
-use Rattle.std.specs.Prelude.{◌≡◌, ◌≤◌, ℕ, Result, Ok, Err, length, drop, IsTrue}
+use Rattle.std.specs.Prelude.{◌≡◌, ℕ, Result, Ok, Err, length, drop, IsTrue}
 use Rattle.tera_errors.specs.Site.{Text, Name}
 use Rattle.tera_errors.specs.Fault.{Fault, syntax_error}
 use Rattle.tera_errors.specs.declared.span.Span.{Span}
 use Rattle.tera_tokens.specs.Cut.{opens}
 use Rattle.tera_tree.specs.Delimiters.{Delims}
 use Rattle.tera_tree.specs.Depth.{IsWellFormed}
+use Rattle.tera_tree.specs.Inside.{Within}
 use Rattle.tera_syntax.specs.Spells.{Spells}
 use Rattle.tera_tree.specs.Tree.{Tree}
-
--- a stretch of a text of this size
-abbrev pub Within : ℕ → Span → Type 0
-Within size span = (span.start ≤ span.end) × (span.end ≤ size)
 
 -- the text spells no well-formed tree
 abbrev pub SpellsNone : Name → Delims → Text → Type 0

@@ -1,7 +1,9 @@
 -- What is open while a text is read, as plain data.
-use Rattle.std.specs.Prelude.{List, Option, Some, None, Vec, map, reverse}
+use Rattle.std.specs.Prelude.{◌≡◌, List, Option, Some, None, Result, Ok, Err, Vec, map, reverse}
 use Rattle.std.specs.Global.{Global}
 use Rattle.tera_tree.specs.declared.node.Node as declared
+use Rattle.tera_tokens.specs.declared.refusal.Refusal.{Refusal}
+use Rattle.tera_tokens.specs.Answers.{Refuses}
 use Rattle.tera_tree.specs.Tree.{Nodes}
 use Rattle.tera_tree.specs.View.{expr_of, nodes_of}
 use Rattle.tera_syntax.specs.Reader.{Frame, Progress}
@@ -21,3 +23,8 @@ frames_of fs = map frame_of (reverse fs)
 
 abbrev pub progress_of : progress.Progress → Progress
 progress_of s = record { frames = frames_of s.frames.items; found = nodes_of s.found.items }
+
+-- What is read becomes what is meant. After a refusal nothing is said of it.
+abbrev pub Becomes : Option Progress → Result (Unit {0}) Refusal → progress.Progress → Type 0
+Becomes meant (Ok done) new = meant ≡ Some (progress_of new)
+Becomes meant (Err refusal) new = Refuses meant refusal

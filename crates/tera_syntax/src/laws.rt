@@ -1,11 +1,12 @@
 //! What holds of what texts spell.
-ghost use Rattle.std.specs.Prelude.{◌≡◌};
-ghost use Rattle.tera_errors.specs.Site.{Name, Text};
-ghost use Rattle.tera_tree.specs.Delimiters.{Delims};
-ghost use Rattle.tera_syntax.specs.Spells.{Spells};
-ghost use Rattle.tera_tree.specs.Tree.{Tree};
+ghost use Rattle.tera_syntax.specs.Laws.{OneReading, SpansInside};
 
 /// A text spells one tree at most.
 pub fn one_reading()
-    ensures { (name : Name) (d : Delims) (text : Text) (one other : Tree) → Spells name d text one → Spells name d text other → one ≡ other }
+    ensures { OneReading }
+{}
+
+/// All spans of a tree are stretches of the text that spells it.
+pub fn spans_inside()
+    ensures { SpansInside }
 {}

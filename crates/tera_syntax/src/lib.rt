@@ -4,11 +4,7 @@
 pub mod laws;
 mod progress;
 pub mod reader;
-#[cfg(test)]
-mod shown;
 mod statements;
-#[cfg(test)]
-mod tests;
 
 pub use reader::parse;
 pub use tera_tree::{

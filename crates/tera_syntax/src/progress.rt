@@ -1,11 +1,12 @@
 // What is open while a text is read, and the nodes that were read.
-ghost use Rattle.std.specs.Prelude.{◌≡◌, ◌-◌, suc, length, Some, IfOk};
+ghost use Rattle.std.specs.Prelude.{◌≡◌, ◌-◌, suc, length, Some, IfErr};
 ghost use Rattle.tera_syntax.specs.Reader as spec;
-ghost use Rattle.tera_syntax.specs.View.{body_of, frame_of, frames_of, progress_of};
-ghost use Rattle.tera_tokens.specs.Answers.{Answers};
+ghost use Rattle.tera_syntax.specs.View.{Becomes, body_of, frame_of, progress_of};
+ghost use Rattle.tera_tokens.specs.Answers.{Answers, IsSyntax};
 ghost use Rattle.tera_tree.specs.View.{expr_of, node_of, nodes_of};
 
 use std::alloc::Global;
+use std::mem::replace;
 use tera_errors::Span;
 use tera_tokens::input::Tokens;
 use tera_tokens::refusal::{Reason, Refusal};
@@ -35,7 +36,12 @@ pub(crate) struct Progress {
 }
 
 /// The choice that an end makes of what was read last.
-fn choice(alloc: Global, condition: Box<Expression>, body: Option<Vec<Node>>, found: Vec<Node>) -> Node
+fn choice(
+    alloc: Global,
+    condition: Box<Expression>,
+    body: Option<Vec<Node>>,
+    found: Vec<Node>,
+) -> Node
     ensures { node_of result ≡ spec.choice_by (expr_of condition.value) (body_of body) (nodes_of found.items) }
 {
     match body {
@@ -78,78 +84,73 @@ impl Progress {
 
     /// Puts a node behind those that were read.
     #[tactic(auto, using(crate::proofs::Rows::nodes_push))]
-    pub fn put(mut self, node: Node) -> Result<Progress, Refusal>
-        ensures { Answers progress_of (Some (spec.put (progress_of self) (node_of node))) result }
+    pub fn put(&mut self, node: Node) -> Result<(), Refusal>
+        ensures { Becomes (Some (spec.put (progress_of self.old) (node_of node))) result self.new }
     {
         self.found.push(node)?;
-        Ok(self)
+        Ok(())
     }
 
     /// `if` or `elif`
     pub fn open(
-        self,
+        &mut self,
         alloc: Global,
         is_chained: bool,
         condition: Box<Expression>,
-    ) -> Result<Progress, Refusal>
-        ensures { Answers progress_of (spec.opened is_chained (progress_of self) (Some (expr_of condition.value))) result }
+    ) -> Result<(), Refusal>
+        ensures { let meant = Some (expr_of condition.value) in
+            Becomes (spec.opened is_chained (progress_of self.old) meant) result self.new }
     {
-        let Progress { mut frames, found } = self;
-        frames.push(Frame {
-            before: found,
+        let before = replace(&mut self.found, Vec::new(alloc));
+        self.frames.push(Frame {
+            before,
             condition,
             body: None,
             is_chained,
         })?;
-        Ok(Progress {
-            frames,
-            found: Vec::new(alloc),
-        })
+        Ok(())
     }
 
     /// `else`, or the first half of `elif`: what was read is the body.
-    pub fn turn(self, alloc: Global, tokens: &Tokens<'_>) -> Result<Progress, Refusal>
-        ensures { Answers progress_of (spec.turned (progress_of self).frames (progress_of self).found) result }
+    pub fn turn(&mut self, alloc: Global, tokens: &Tokens<'_>) -> Result<(), Refusal>
+        ensures { let s = progress_of self.old in
+            Becomes (spec.turned s.frames s.found) result self.new }
     {
-        let Progress { mut frames, found } = self;
-        let Some(mut frame) = frames.pop() else {
+        let Some(mut frame) = self.frames.pop() else {
             return Err(tokens.refuse(Reason::NotOpen));
         };
         if frame.body.is_some() {
             return Err(tokens.refuse(Reason::NotOpen));
         }
-        frame.body = Some(found);
-        frames.push(frame)?;
-        Ok(Progress {
-            frames,
-            found: Vec::new(alloc),
-        })
+        frame.body = Some(replace(&mut self.found, Vec::new(alloc)));
+        self.frames.push(frame)?;
+        Ok(())
     }
 
     /// `endif`
-    pub fn close(self, alloc: Global, tokens: &Tokens<'_>) -> Result<Progress, Refusal>
-        ensures { Answers progress_of (spec.closed (progress_of self).frames (progress_of self).found) result }
+    pub fn close(&mut self, alloc: Global, tokens: &Tokens<'_>) -> Result<(), Refusal>
+        ensures { let s = progress_of self.old in
+            Becomes (spec.closed s.frames s.found) result self.new }
     {
-        let Progress {
-            mut frames,
-            mut found,
-        } = self;
-        while let Some(frame) = frames.pop() {
+        while let Some(frame) = self.frames.pop() {
             let is_chained = frame.is_chained;
-            found = match row(alloc, frame, found) {
+            let found = replace(&mut self.found, Vec::new(alloc));
+            self.found = match row(alloc, frame, found) {
                 Ok(found) => found,
                 Err(refusal) => return Err(refusal),
             };
             if !is_chained {
-                return Ok(Progress { frames, found });
+                return Ok(());
             }
         }
         Err(tokens.refuse(Reason::NotOpen))
     }
 
-    /// The nodes, where the text ends here.
+    /// The nodes, where the text ends here. It takes no memory.
     pub fn finish(self, at: usize) -> Result<Vec<Node>, Refusal>
-        ensures { Answers (λ nodes. nodes_of nodes.items) (spec.finished (progress_of self).frames (progress_of self).found) result }
+        ensures value { let meant = spec.finished (progress_of self).frames (progress_of self).found in
+            Answers (λ nodes. nodes_of nodes.items) meant result }
+        ensures told { IfErr result IsSyntax }
     {
         let Progress { frames, found } = self;
         if frames.is_empty() {

@@ -1,11 +1,12 @@
 // From a template's text to its tree.
-ghost use Rattle.std.specs.Prelude.{IsTrue};
+ghost use Rattle.std.specs.Prelude.{IfOk, IsTrue, length};
 ghost use Rattle.tera_errors.specs.Answer.{GivesOneOf};
 ghost use Rattle.tera_syntax.specs.Reader as spec;
-ghost use Rattle.tera_syntax.specs.Reads.{Reads, ReadsPlainText, Within};
+ghost use Rattle.tera_syntax.specs.Reads.{Reads, ReadsPlainText};
 ghost use Rattle.tera_tokens.specs.Answers.{Answers};
 ghost use Rattle.tera_tokens.specs.Cut.{pieces};
 ghost use Rattle.tera_tree.specs.Delimiters.{accepted, delimiters_of};
+ghost use Rattle.tera_tree.specs.Inside.{Inside, Within};
 ghost use Rattle.tera_tree.specs.View.{nodes_of, tree_of};
 
 use crate::progress::Progress;
@@ -22,21 +23,22 @@ fn nodes(alloc: Global, delimiters: &Delimiters, source: &str) -> Result<Vec<Nod
     ensures { Answers (λ found. nodes_of found.items) (spec.nodes 200 (pieces (delimiters_of delimiters.now) source.now)) result }
 {
     let mut progress = Progress::begin(alloc);
+    let mut tokens = Vec::new(alloc);
     let mut rest = source;
     let mut at = 0;
     let mut trims = false;
     while !rest.is_empty() {
-        let piece = match next_piece(alloc, delimiters, rest, at, trims) {
+        let piece = match next_piece(&mut tokens, delimiters, rest, at, trims) {
             Ok(piece) => piece,
             Err(refusal) => return Err(refusal),
         };
         rest = piece.rest;
         at = piece.next;
         trims = piece.trims;
-        progress = match step(progress, alloc, piece.piece) {
-            Ok(progress) => progress,
+        match step(&mut progress, alloc, piece.piece, tokens.as_slice()) {
+            Ok(()) => {}
             Err(refusal) => return Err(refusal),
-        };
+        }
     }
     progress.finish(at)
 }
@@ -62,6 +64,7 @@ pub fn parse(
 ) -> TeraResult<ParserOutput>
     requires { IsTrue (accepted (delimiters_of delimiters.now)) }
     ensures reads { GivesOneOf tree_of result (Reads name.now (delimiters_of delimiters.now) source.now) }
+    ensures inside { IfOk result (λ output. Inside (length source.now) (tree_of output)) }
     ensures plain { GivesOneOf tree_of result (ReadsPlainText (delimiters_of delimiters.now) source.now) }
 {
     match nodes(alloc, delimiters, source) {

@@ -1,7 +1,7 @@
 // What a piece of the text adds to what was read.
 ghost use Rattle.std.specs.Prelude.{◌≡◌, Some};
 ghost use Rattle.tera_syntax.specs.Reader as spec;
-ghost use Rattle.tera_syntax.specs.View.{progress_of};
+ghost use Rattle.tera_syntax.specs.View.{Becomes, progress_of};
 ghost use Rattle.tera_tokens.specs.Answers.{Answers};
 ghost use Rattle.tera_tokens.specs.Found.{piece_of};
 ghost use Rattle.tera_tokens.specs.Input.{begin, kind, next};
@@ -34,12 +34,14 @@ fn whole(alloc: Global, tokens: &mut Tokens<'_>, limit: usize) -> Result<Box<Exp
 
 /// `if` or `elif`, behind that word.
 fn opened(
-    progress: Progress,
+    progress: &mut Progress,
     alloc: Global,
     tokens: &mut Tokens<'_>,
     is_chained: bool,
-) -> Result<Progress, Refusal>
-    ensures { Answers progress_of (spec.opened is_chained (progress_of progress) (spec.whole (spec.room 200 (progress_of progress)) (input tokens.old))) result }
+) -> Result<(), Refusal>
+    ensures { let s = progress_of progress.old in
+        let condition = spec.whole (spec.room 200 s) (input tokens.old) in
+        Becomes (spec.opened is_chained s condition) result progress.new }
 {
     let condition = whole(alloc, tokens, progress.room())?;
     progress.open(alloc, is_chained, condition)
@@ -47,8 +49,9 @@ fn opened(
 
 /// A statement, or a tag that belongs to one.
 #[tactic(auto, unfolding(crate::specs::Reader::statement))]
-fn statement(progress: Progress, alloc: Global, tokens: &[Token<'_>]) -> Result<Progress, Refusal>
-    ensures { Answers progress_of (spec.statement 200 (progress_of progress) (tokens_of tokens.now)) result }
+fn statement(progress: &mut Progress, alloc: Global, tokens: &[Token<'_>]) -> Result<(), Refusal>
+    ensures { let meant = spec.statement 200 (progress_of progress.old) (tokens_of tokens.now) in
+        Becomes meant result progress.new }
 {
     let mut ahead = Tokens::begin(tokens, false);
     match ahead.kind() {
@@ -57,7 +60,7 @@ fn statement(progress: Progress, alloc: Global, tokens: &[Token<'_>]) -> Result<
             opened(progress, alloc, &mut ahead, false)
         }
         Kind::Elif => {
-            let progress = progress.turn(alloc, &ahead)?;
+            progress.turn(alloc, &ahead)?;
             ahead.take();
             opened(progress, alloc, &mut ahead, true)
         }
@@ -67,28 +70,35 @@ fn statement(progress: Progress, alloc: Global, tokens: &[Token<'_>]) -> Result<
     }
 }
 
-fn put_words(progress: Progress, alloc: Global, text: &str, span: Span) -> Result<Progress, Refusal>
-    ensures { Answers progress_of (Some (spec.put_words (progress_of progress) text.now span)) result }
+fn put_words(progress: &mut Progress, alloc: Global, text: &str, span: Span) -> Result<(), Refusal>
+    ensures { let meant = Some (spec.put_words (progress_of progress.old) text.now span) in
+        Becomes meant result progress.new }
 {
     if text.is_empty() {
-        return Ok(progress);
+        return Ok(());
     }
     let text = String::from_str(alloc, text)?;
     progress.put(Node::Content { text, span })
 }
 
-/// What was read, and a piece more.
-pub(crate) fn step(progress: Progress, alloc: Global, piece: Piece<'_>) -> Result<Progress, Refusal>
-    ensures { Answers progress_of (spec.step 200 (progress_of progress) (piece_of piece.entry)) result }
+/// Takes a piece more to what was read. The tokens are those of a tag.
+pub(crate) fn step(
+    progress: &mut Progress,
+    alloc: Global,
+    piece: Piece<'_>,
+    tokens: &[Token<'_>],
+) -> Result<(), Refusal>
+    ensures { let meant = spec.step 200 (progress_of progress.old) (piece_of tokens.now piece.entry) in
+        Becomes meant result progress.new }
 {
     match piece {
         Piece::Words(text, span) => put_words(progress, alloc, text, span),
-        Piece::Comment => Ok(progress),
-        Piece::Variable(tokens) => {
-            let mut tokens = Tokens::begin(tokens.as_slice(), false);
+        Piece::Comment => Ok(()),
+        Piece::Variable => {
+            let mut tokens = Tokens::begin(tokens, false);
             let value = whole(alloc, &mut tokens, progress.room())?;
             progress.put(Node::Print { value })
         }
-        Piece::Block(tokens) => statement(progress, alloc, tokens.as_slice()),
+        Piece::Block => statement(progress, alloc, tokens),
     }
 }

@@ -5,3 +5,5 @@ pub mod Insides
 pub mod Openings
 pub mod Cuts
 pub mod Raws
+pub mod Order
+pub mod Stretches

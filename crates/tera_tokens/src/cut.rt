@@ -1,5 +1,5 @@
 // The cut of a text into text, comments and tags.
-ghost use Rattle.std.specs.Prelude.{◌≡◌, ◌<◌, ◌≤◌, ◌+◌, ◌-◌, ◌^◌, ◌≢◌, [], length, drop, IfOk, IfSome, IsTrue, Some, None, string_bytes};
+ghost use Rattle.std.specs.Prelude.{List, ◌≡◌, ◌<◌, ◌≤◌, ◌+◌, ◌-◌, ◌^◌, ◌≢◌, [], length, drop, IfOk, IfSome, IsTrue, Some, None, string_bytes};
 ghost use Rattle.tera_tokens.specs.Answers.{Answers, Follows};
 ghost use Rattle.tera_tokens.specs.Bytes.{place};
 ghost use Rattle.tera_tokens.specs.Cut as spec;
@@ -8,13 +8,13 @@ ghost use Rattle.std.specs.Str.{IsCharBoundary};
 ghost use Rattle.tera_tokens.specs.Found.{found_of, piece_of};
 ghost use Rattle.tera_tokens.specs.Inside.{inside};
 ghost use Rattle.tera_tokens.specs.Token.{tokens_of};
+ghost use Rattle.tera_tokens.specs.declared.token.Token.{Token};
 
 use crate::bytes::{after, before, begins, place as place_of, place_of_byte};
 use crate::inside::{cut_inside, is_hyphen};
 use crate::raw::raw;
 use crate::refusal::{Reason, Refusal};
 use crate::token::Token;
-use std::alloc::Global;
 use tera_errors::Span;
 use tera_tree::Delimiters;
 
@@ -33,17 +33,17 @@ pub(crate) struct Opening {
     pub size: usize,
 }
 
-/// A piece of a text.
-#[derive(Drop)]
+/// A piece of a text. The tokens of a tag are kept beside it.
+#[derive(Clone, Copy)]
 pub enum Piece<'a> {
     /// Text as it is written out, and what it covers. It is empty where trimming leaves nothing.
     Words(&'a str, Span),
     Comment,
-    /// The tokens between the delimiters of a variable.
-    Variable(Vec<Token<'a>>),
-    /// The tokens between the delimiters of a block. The block `raw` is no such piece: it gives words, and takes its
+    /// What stands between the delimiters of a variable.
+    Variable,
+    /// What stands between the delimiters of a block. The block `raw` is no such piece: it gives words, and takes its
     /// `endraw` along.
-    Block(Vec<Token<'a>>),
+    Block,
 }
 
 /// A piece, and what follows it.
@@ -144,7 +144,7 @@ pub(crate) fn trimmed<'a>(
 ) -> Piece<'a>
     requires room { at + length text.now < 2 ^ 64 }
     requires whole { IsCharBoundary text.now n }
-    ensures { piece_of result ≡ spec.words before behind n at text.now }
+    ensures { (tokens : List Token) → piece_of tokens result ≡ spec.words before behind n at text.now }
 {
     let (front, _) = text.split_at(n);
     let front = if before { front.trim_start() } else { front };
@@ -163,7 +163,8 @@ pub(crate) fn trimmed<'a>(
 fn words<'a>(delimiters: &Delimiters, text: &'a str, at: usize, trims: bool) -> Found<'a>
     requires room { at + length text.now < 2 ^ 64 }
     requires usable { IsTrue (accepted (delimiters_of delimiters.now)) }
-    ensures value { spec.piece_by (delimiters_of delimiters.now) trims at text.now None ≡ Some (found_of result) }
+    ensures value { (tokens : List Token) → let meant = spec.piece_by (delimiters_of delimiters.now) trims at text.now None in
+        meant ≡ Some (found_of tokens result) }
     ensures rest { Follows at text.now result.next result.rest.now }
 {
     let n = next_opening(delimiters, text.as_bytes());
@@ -181,7 +182,7 @@ fn words<'a>(delimiters: &Delimiters, text: &'a str, at: usize, trims: bool) -> 
 fn comment<'a>(end: &str, text: &'a str, at: usize) -> Result<Found<'a>, Refusal>
     requires room { at + length text.now < 2 ^ 64 }
     requires some { 0 < length end.now }
-    ensures value { Answers found_of (spec.comment end.now at text.now) result }
+    ensures value { (tokens : List Token) → Answers (found_of tokens) (spec.comment end.now at text.now) result }
     ensures rest { IfOk result (λ x. Follows at text.now x.next x.rest.now) }
 {
     let bytes = text.as_bytes();
@@ -217,22 +218,24 @@ pub fn is_alone(word: &str, tokens: &[Token<'_>]) -> bool
 
 /// What is left of a block behind its start delimiter; `raw` takes the text up to its end along.
 fn block<'a>(
-    alloc: Global,
+    tokens: &mut Vec<Token<'a>>,
     delimiters: &Delimiters,
     text: &'a str,
     at: usize,
 ) -> Result<Found<'a>, Refusal>
     requires room { at + length text.now < 2 ^ 64 }
     requires usable { IsTrue (accepted (delimiters_of delimiters.now)) }
-    ensures value { Answers found_of (spec.block (delimiters_of delimiters.now) at text.now (inside (delimiters_of delimiters.now).block_end 0 0 at text.now)) result }
+    ensures value { let d = delimiters_of delimiters.now in
+        let meant = spec.block d at text.now (inside d.block_end 0 0 at text.now) in
+        Answers (found_of tokens.new.items) meant result }
     ensures rest { IfOk result (λ x. Follows at text.now x.next x.rest.now) }
 {
-    let x = cut_inside(alloc, text, delimiters.block_end.as_str(), at)?;
-    if is_alone("raw", x.tokens.as_slice()) {
+    let x = cut_inside(tokens, text, delimiters.block_end.as_str(), at)?;
+    if is_alone("raw", tokens.as_slice()) {
         return raw(delimiters, x.rest, x.next, x.trims);
     }
     Ok(Found {
-        piece: Piece::Block(x.tokens),
+        piece: Piece::Block,
         next: x.next,
         trims: x.trims,
         rest: x.rest,
@@ -241,7 +244,7 @@ fn block<'a>(
 
 /// What is left of a tag or a comment behind its start delimiter.
 fn behind<'a>(
-    alloc: Global,
+    tokens: &mut Vec<Token<'a>>,
     delimiters: &Delimiters,
     tag: Tag,
     text: &'a str,
@@ -249,29 +252,31 @@ fn behind<'a>(
 ) -> Result<Found<'a>, Refusal>
     requires room { at + length text.now < 2 ^ 64 }
     requires usable { IsTrue (accepted (delimiters_of delimiters.now)) }
-    ensures value { Answers found_of (spec.behind (delimiters_of delimiters.now) tag at text.now) result }
+    ensures value { let meant = spec.behind (delimiters_of delimiters.now) tag at text.now in
+        Answers (found_of tokens.new.items) meant result }
     ensures rest { IfOk result (λ x. Follows at text.now x.next x.rest.now) }
 {
     match tag {
         Tag::Variable => {
-            let x = cut_inside(alloc, text, delimiters.variable_end.as_str(), at)?;
+            let x = cut_inside(tokens, text, delimiters.variable_end.as_str(), at)?;
             Ok(Found {
-                piece: Piece::Variable(x.tokens),
+                piece: Piece::Variable,
                 next: x.next,
                 trims: x.trims,
                 rest: x.rest,
             })
         }
-        Tag::Block => block(alloc, delimiters, text, at),
+        Tag::Block => block(tokens, delimiters, text, at),
         Tag::Comment => comment(delimiters.comment_end.as_str(), text, at),
     }
 }
 
 /// The first piece of a text that stands at the place `at` of the source. A `-` before it trims it where `trims` says so:
-/// that is what the piece before it found, and `false` at the start.
+/// that is what the piece before it found, and `false` at the start. The tokens of a tag take the place of those that were
+/// there, so that one list serves all tags of a text; beside any other piece it holds what it may.
 #[tactic(auto, unfolding(crate::specs::Cut::piece))]
 pub fn next_piece<'a>(
-    alloc: Global,
+    tokens: &mut Vec<Token<'a>>,
     delimiters: &Delimiters,
     text: &'a str,
     at: usize,
@@ -280,7 +285,8 @@ pub fn next_piece<'a>(
     requires room { at + length text.now < 2 ^ 64 }
     requires some { 0 < length text.now }
     requires usable { IsTrue (accepted (delimiters_of delimiters.now)) }
-    ensures value { Answers found_of (spec.piece (delimiters_of delimiters.now) trims at text.now) result }
+    ensures value { let meant = spec.piece (delimiters_of delimiters.now) trims at text.now in
+        Answers (found_of tokens.new.items) meant result }
     ensures rest { IfOk result (λ x. Follows at text.now x.next x.rest.now) }
     ensures moves { IfOk result (λ x. at < x.next) }
 {
@@ -289,7 +295,7 @@ pub fn next_piece<'a>(
         Some(opening) => {
             let size = start_size(opening, text.as_bytes());
             let (_, inner) = text.split_at(size);
-            behind(alloc, delimiters, opening.tag, inner, at + size)
+            behind(tokens, delimiters, opening.tag, inner, at + size)
         }
     }
 }

@@ -8,7 +8,6 @@ ghost use Rattle.tera_tokens.specs.Inside as spec;
 use crate::bytes::{after, begins};
 use crate::refusal::{Reason, Refusal};
 use crate::token::{Kind, Token, is_blank, next_token};
-use std::alloc::Global;
 use tera_errors::Span;
 
 /// The end of a tag: how long it is, and whether a `-` belongs to it.
@@ -18,10 +17,9 @@ pub(crate) struct Ending {
     pub trims: bool,
 }
 
-/// The tokens of a tag, and what follows the tag.
+/// What follows a tag.
 #[derive(Drop)]
 pub(crate) struct Inside<'a> {
-    pub tokens: Vec<Token<'a>>,
     pub next: usize,
     pub trims: bool,
     pub rest: &'a str,
@@ -77,27 +75,26 @@ fn open_after(opened: usize, kind: Kind) -> usize
     }
 }
 
-/// Cuts what stands behind a start delimiter, at a place of the source.
+/// Cuts what stands behind a start delimiter, at a place of the source. Its tokens take the place of those that were there.
 pub(crate) fn cut_inside<'a>(
-    alloc: Global,
+    tokens: &mut Vec<Token<'a>>,
     text: &'a str,
     end: &str,
     at: usize,
 ) -> Result<Inside<'a>, Refusal>
     requires room { at + length text.now < 2 ^ 64 }
     requires some { 0 < length end.now }
-    ensures value { Answers inside_of (spec.inside end.now 0 0 at text.now) result }
+    ensures value { Answers (inside_of tokens.new.items) (spec.inside end.now 0 0 at text.now) result }
     ensures rest { IfOk result (λ x. Follows at text.now x.next x.rest.now) }
 {
     let bytes = text.as_bytes();
-    let mut tokens = Vec::with_capacity(alloc, 16)?;
+    tokens.clear();
     let mut opened = 0;
     let mut i = 0;
     while i < bytes.len() {
         if let Some(ending) = closing_in(opened, end.as_bytes(), after(bytes, i)) {
             let (_, rest) = text.split_at(i + ending.size);
             return Ok(Inside {
-                tokens,
                 next: at + i + ending.size,
                 trims: ending.trims,
                 rest,

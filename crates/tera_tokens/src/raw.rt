@@ -1,5 +1,5 @@
 // The text that `raw` keeps: up to the first tag `endraw`, with nothing in it read.
-ghost use Rattle.std.specs.Prelude.{ℕ, ◌≡◌, ◌<◌, ◌≤◌, ◌+◌, ◌^◌, ◌&&◌, ◌||◌, not, length, drop, get_or, codes, option_map, is_some, true, IfOk, IfSome, IsTrue};
+ghost use Rattle.std.specs.Prelude.{ℕ, List, ◌≡◌, ◌<◌, ◌≤◌, ◌+◌, ◌^◌, ◌&&◌, ◌||◌, not, length, drop, get_or, codes, option_map, is_some, true, IfOk, IfSome, IsTrue};
 ghost use Rattle.std.specs.Str.{IsCharBoundary, IsUtf8};
 ghost use Rattle.tera_tokens.specs.Answers.{Answers, Follows};
 ghost use Rattle.tera_tokens.specs.Bytes as bytes;
@@ -8,6 +8,7 @@ ghost use Rattle.tera_tokens.specs.Cut as spec;
 ghost use Rattle.tera_tokens.specs.Found.{end_of, end_from, found_of};
 ghost use Rattle.tera_tokens.specs.Inside as tag;
 ghost use Rattle.tera_tokens.specs.Token as token;
+ghost use Rattle.tera_tokens.specs.declared.token.Token.{Token};
 ghost use Rattle.tera_tree.specs.Delimiters.{accepted, delimiters_of};
 
 use crate::bytes::{after, begins};
@@ -114,7 +115,8 @@ pub(crate) fn raw<'a>(
 ) -> Result<Found<'a>, Refusal>
     requires room { at + length text.now < 2 ^ 64 }
     requires usable { IsTrue (accepted (delimiters_of delimiters.now)) }
-    ensures value { Answers found_of (spec.raw (delimiters_of delimiters.now) trims at text.now) result }
+    ensures value { (tokens : List Token) → let meant = spec.raw (delimiters_of delimiters.now) trims at text.now in
+        Answers (found_of tokens) meant result }
     ensures rest { IfOk result (λ x. Follows at text.now x.next x.rest.now) }
 {
     let n = next_endraw(delimiters, text.as_bytes());

@@ -1,7 +1,7 @@
 // Why a part of a text is not read.
 use crate::token::Kind;
 use std::alloc::{AllocError, AllocFailed};
-use tera_errors::{Error, Span};
+use tera_errors::Span;
 
 /// What is wrong with a text.
 #[derive(Clone, Copy, PartialEq, Eq, Debug)]
@@ -81,18 +81,6 @@ impl<T: Drop> From<AllocFailed<T>> for Refusal {
     ghost from_gives = { λ _ e. e ≡ OutOfMemory };
 
     fn from(_refused: AllocFailed<T>) -> Refusal {
-        Refusal::OutOfMemory
-    }
-}
-
-/// An error of a call that is refused for want of memory alone.
-impl From<Error> for Refusal {
-    ghost use Rattle.std.specs.Prelude.{◌≡◌};
-    ghost use Rattle.tera_tokens.specs.declared.refusal.Refusal.TheVariants.{OutOfMemory};
-
-    ghost from_gives = { λ _ e. e ≡ OutOfMemory };
-
-    fn from(_refused: Error) -> Refusal {
         Refusal::OutOfMemory
     }
 }

@@ -2,3 +2,4 @@ pub mod Delimiters
 pub mod Tree
 pub mod View
 pub mod Depth
+pub mod Inside

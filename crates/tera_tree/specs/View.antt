@@ -1,8 +1,10 @@
 -- The plain data that a tree in memory stands for.
-use Rattle.std.specs.Prelude.{List, [], ◌∷◌, Option, Some, None, string_bytes, Box, map as map_list}
+use Rattle.std.specs.Prelude.{List, [], ◌∷◌, Bool, Option, Some, None, string_bytes, Box, map as map_list}
 use Rattle.std.specs.Global.{Global}
 use Rattle.tera_tree.specs.declared.expression.Expression.{Expression, Row_of-Item, end_of-Item, more_of-Item, Row_of-Entry, end_of-Entry, more_of-Entry, Held-Bounds-start, Bounds-start-None', Some'}
 use Rattle.tera_tree.specs.declared.expression.Expression.TheVariants as expression
+use Rattle.tera_errors.specs.declared.span.Span.{Span}
+use Rattle.tera_tree.specs.declared.expression.Bounds.{Bounds}
 use Rattle.tera_tree.specs.declared.expression.LiteralKey.{LiteralKey}
 use Rattle.tera_tree.specs.declared.expression.LiteralKey.TheVariants as key
 use Rattle.tera_tree.specs.declared.expression.Item as item
@@ -60,10 +62,9 @@ abbrev pub optional_of : Option (Box Expression Global) → Optional
 optional_of None = Absent
 optional_of (Some b) = Present (expr_of b.value)
 
--- the same of a part that stands in no box
-abbrev pub option_of : Option Expression → Optional
-option_of None = Absent
-option_of (Some e) = Present (expr_of e)
+-- a slice of these bounds
+abbrev pub slice_of : Expression → Bounds → Bool → Span → Expr
+slice_of e b optional span = Slice (expr_of e) (optional_of b.start) (optional_of b.end) (optional_of b.step) optional span
 
 abbrev pub items_of : List item.Item → Items
 items_of [] = NoItems

@@ -22,7 +22,14 @@ pub struct Delimiters {
 // By hand, so that delimiters that go out of scope are one call.
 impl Drop for Delimiters {
     fn drop(self) {
-        let Delimiters { block_start, block_end, variable_start, variable_end, comment_start, comment_end } = self;
+        let Delimiters {
+            block_start,
+            block_end,
+            variable_start,
+            variable_end,
+            comment_start,
+            comment_end,
+        } = self;
         drop(block_start);
         drop(block_end);
         drop(variable_start);

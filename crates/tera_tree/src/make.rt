@@ -1,7 +1,7 @@
 // Trees from their parts.
-ghost use Rattle.std.specs.Prelude.{◌≡◌, Option, string_bytes};
-ghost use Rattle.tera_tree.specs.Tree.{Attribute, Index, Slice, Not, Negate, Binary, And, Or, Ternary, Array, Map, If};
-ghost use Rattle.tera_tree.specs.View.{expr_of, optional_of, items_of, entries_of, node_of, nodes_of};
+ghost use Rattle.std.specs.Prelude.{◌≡◌, string_bytes};
+ghost use Rattle.tera_tree.specs.Tree.{Attribute, Index, Not, Negate, Binary, And, Or, Ternary, Array, Map, If};
+ghost use Rattle.tera_tree.specs.View.{expr_of, slice_of, items_of, entries_of, node_of, nodes_of};
 
 use crate::expression::{BinaryOperator, Bounds, Entry, Expression, Item};
 use crate::node::Node;
@@ -15,7 +15,8 @@ impl Expression {
         optional: bool,
         span: Span,
     ) -> Expression
-        ensures { expr_of result ≡ Attribute (expr_of target.value) (string_bytes name) optional span }
+        ensures { expr_of result ≡ Attribute (expr_of target.value) (string_bytes name)
+            optional span }
     {
         Expression::Attribute {
             target,
@@ -32,7 +33,8 @@ impl Expression {
         optional: bool,
         span: Span,
     ) -> Expression
-        ensures { expr_of result ≡ Index (expr_of target.value) (expr_of index.value) optional span }
+        ensures { expr_of result ≡ Index (expr_of target.value) (expr_of index.value)
+            optional span }
     {
         Expression::Index {
             target,
@@ -49,7 +51,7 @@ impl Expression {
         optional: bool,
         span: Span,
     ) -> Expression
-        ensures { expr_of result ≡ Slice (expr_of target.value) (optional_of bounds.value.start) (optional_of bounds.value.end) (optional_of bounds.value.step) optional span }
+        ensures { expr_of result ≡ slice_of target.value bounds.value optional span }
     {
         Expression::Slice {
             target,
@@ -63,20 +65,14 @@ impl Expression {
     pub fn not(operand: Box<Expression>, span: Span) -> Expression
         ensures { expr_of result ≡ Not (expr_of operand.value) span }
     {
-        Expression::Not {
-            operand,
-            span,
-        }
+        Expression::Not { operand, span }
     }
 
     /// `-operand`
     pub fn negate(operand: Box<Expression>, span: Span) -> Expression
         ensures { expr_of result ≡ Negate (expr_of operand.value) span }
     {
-        Expression::Negate {
-            operand,
-            span,
-        }
+        Expression::Negate { operand, span }
     }
 
     /// The operator between two operands.
@@ -86,7 +82,8 @@ impl Expression {
         right: Box<Expression>,
         span: Span,
     ) -> Expression
-        ensures { expr_of result ≡ Binary operator (expr_of left.value) (expr_of right.value) span }
+        ensures { expr_of result ≡ Binary operator (expr_of left.value) (expr_of right.value)
+            span }
     {
         Expression::Binary {
             operator,
@@ -97,33 +94,17 @@ impl Expression {
     }
 
     /// `left and right`
-    pub fn and(
-        left: Box<Expression>,
-        right: Box<Expression>,
-        span: Span,
-    ) -> Expression
+    pub fn and(left: Box<Expression>, right: Box<Expression>, span: Span) -> Expression
         ensures { expr_of result ≡ And (expr_of left.value) (expr_of right.value) span }
     {
-        Expression::And {
-            left,
-            right,
-            span,
-        }
+        Expression::And { left, right, span }
     }
 
     /// `left or right`
-    pub fn or(
-        left: Box<Expression>,
-        right: Box<Expression>,
-        span: Span,
-    ) -> Expression
+    pub fn or(left: Box<Expression>, right: Box<Expression>, span: Span) -> Expression
         ensures { expr_of result ≡ Or (expr_of left.value) (expr_of right.value) span }
     {
-        Expression::Or {
-            left,
-            right,
-            span,
-        }
+        Expression::Or { left, right, span }
     }
 
     /// `value if condition else other`
@@ -133,7 +114,8 @@ impl Expression {
         other: Box<Expression>,
         span: Span,
     ) -> Expression
-        ensures { expr_of result ≡ Ternary (expr_of value.value) (expr_of condition.value) (expr_of other.value) span }
+        ensures { expr_of result ≡ Ternary (expr_of value.value) (expr_of condition.value)
+            (expr_of other.value) span }
     {
         Expression::Ternary {
             value,
@@ -162,7 +144,8 @@ impl Node {
     /// `{% if condition %}body{% else %}other{% endif %}`
     #[tactic(auto, using(crate::proofs::Views::view_if))]
     pub fn choice(condition: Box<Expression>, body: Vec<Node>, other: Vec<Node>) -> Node
-        ensures { node_of result ≡ If (expr_of condition.value) (nodes_of body.items) (nodes_of other.items) }
+        ensures { node_of result ≡ If (expr_of condition.value) (nodes_of body.items)
+            (nodes_of other.items) }
     {
         Node::If {
             condition,

@@ -1,8 +1,10 @@
-use Rattle.std.proofs.Common.{◌≡◌, ◌-◌, length, ap, sym, ◌∙◌, subst, arith}
+use Rattle.std.proofs.Common.{◌≡◌, ◌-◌, length, List, Option, Some, ap, sym, ◌∙◌, subst, arith}
 use Rattle.std.specs.Prelude.{option_and_then}
 use Rattle.std.proofs.lemmas.List.{length-drop}
 use Rattle.std.proofs.lemmas.Bool.Decides.{Decides-eqb}
-use Rattle.tera_tokens.specs.Cut.{cut}
+use Rattle.tera_tokens.specs.Cut.{cut, Found}
+use Rattle.tera_tokens.specs.declared.cut.Found as found
+use Rattle.tera_tokens.specs.declared.token.Token.{Token}
 use Rattle.tera_tokens.specs.Answers.{Answers}
 use Rattle.tera_tree.specs.Delimiters.{delimiters_of}
 use Rattle.tera_tree.specs.View.{nodes_of}
@@ -13,6 +15,9 @@ use Rattle.tera_tokens.proofs.Cuts.{cut_step, cut_broken, cut_nothing}
 use Rattle.tera_expressions.proofs.Turns.{refused}
 use Rattle.tera_syntax.proofs.Rows.{some_bytes}
 use Rattle.tera_syntax.proofs.reader.nodes.Goals as goal
+
+found_in : (meant : Option Found) (ts us : List Token) (x : found.Found) → ts ≡ us → meant ≡ Some (found_of ts x) → meant ≡ Some (found_of us x)
+found_in meant ts us x e h = h ∙ ap (λ ts. Some (found_of ts x)) e
 
 pub returns-in-Err : goal.returns-in-Err
 returns-in-Err c =
@@ -25,7 +30,7 @@ pub returns-in-Err-step : goal.returns-in-Err-step
 returns-in-Err-step c =
     let d = delimiters_of c.args.delimiters.now in
     let l = some_bytes c.loop-rest.rest.now (sym c.is_empty.ensures ∙ c.loop-rest-test.true) in
-    let s = cut_step d c.loop-rest.trims c.loop-rest.at c.loop-rest.rest.now (found_of c.in-Ok.piece) l c.in-Ok.ensures.value c.in-Ok.ensures.moves in
+    let s = cut_step d c.loop-rest.trims c.loop-rest.at c.loop-rest.rest.now (found_of c.as_slice.result.now c.in-Ok.piece) l (found_in _ _ _ c.in-Ok.piece (sym c.as_slice.ensures.value) c.in-Ok.ensures.value) c.in-Ok.ensures.moves in
     refused c.in-Err-step.refusal (λ n. c.loop-rest.invariant.so_far
     ∙ ap (spec.run 200 (progress_of c.loop-rest.progress)) s
     ∙ ap (option_and_then (λ t. spec.run 200 t (cut d c.in-Ok.piece.trims 0 c.in-Ok.piece.next _))) n)
@@ -35,7 +40,7 @@ pub loop-rest-preserved : goal.loop-rest-preserved
 loop-rest-preserved c =
     let d = delimiters_of c.args.delimiters.now in
     let l = some_bytes c.loop-rest.rest.now (sym c.is_empty.ensures ∙ c.loop-rest-test.true) in
-    let s = cut_step d c.loop-rest.trims c.loop-rest.at c.loop-rest.rest.now (found_of c.in-Ok.piece) l c.in-Ok.ensures.value c.in-Ok.ensures.moves in
+    let s = cut_step d c.loop-rest.trims c.loop-rest.at c.loop-rest.rest.now (found_of c.as_slice.result.now c.in-Ok.piece) l (found_in _ _ _ c.in-Ok.piece (sym c.as_slice.ensures.value) c.in-Ok.ensures.value) c.in-Ok.ensures.moves in
     let f = c.in-Ok.ensures.rest in
     let k = ap length f.2 ∙ length-drop (c.in-Ok.piece.next - c.loop-rest.at) c.loop-rest.rest.now in
     record {
@@ -44,7 +49,7 @@ loop-rest-preserved c =
       so_far = c.loop-rest.invariant.so_far
           ∙ ap (spec.run 200 (progress_of c.loop-rest.progress)) s
           ∙ ap (option_and_then (λ t. spec.run 200 t (cut d c.in-Ok.piece.trims 0 c.in-Ok.piece.next _))) c.in-Ok-step.ensures
-          ∙ ap (λ text. spec.run 200 (progress_of c.in-Ok-step.progress) (cut d c.in-Ok.piece.trims 0 c.in-Ok.piece.next text)) (sym f.2);
+          ∙ ap (λ text. spec.run 200 (progress_of c.step.new.progress) (cut d c.in-Ok.piece.trims 0 c.in-Ok.piece.next text)) (sym f.2);
     }
 
 pub returns : goal.returns
@@ -52,4 +57,4 @@ returns c =
     let z : length c.loop-rest.rest.now ≡ 0 = (Decides-eqb (length c.loop-rest.rest.now) 0).0 (sym c.is_empty.ensures ∙ c.loop-rest-test.false) in
     let e = c.loop-rest.invariant.so_far
     ∙ ap (spec.run 200 (progress_of c.loop-rest.progress)) (cut_nothing (delimiters_of c.args.delimiters.now) c.loop-rest.trims c.loop-rest.at c.loop-rest.rest.now z) in
-    subst (λ o. Answers (λ found. nodes_of found.items) o c.finish.result) (sym e) c.finish.ensures
+    subst (λ o. Answers (λ found. nodes_of found.items) o c.finish.result) (sym e) c.finish.ensures.value

@@ -1,3 +1,4 @@
+use Rattle.std.proofs.Common.{rules}
 use Rattle.tera_tree.specs.Delimiters.{delimiters_of}
 use Rattle.tera_tokens.proofs.Openings.{filled}
 use Rattle.tera_tokens.proofs.cut.behind.Goals as goal
@@ -7,3 +8,6 @@ cut_inside-requires-clause-some c = rw c.as_str.ensures.value (filled (delimiter
 
 pub comment-requires-clause-some : goal.comment-requires-clause-some
 comment-requires-clause-some c = rw c.as_str-in-Comment.ensures.value (filled (delimiters_of c.args.delimiters.now) c.requires.usable).comment_end
+
+pub returns-in-Comment-clause-value : goal.returns-in-Comment-clause-value
+returns-in-Comment-clause-value c = let h = c.comment.ensures.value c.args.tokens.now.items in search rules

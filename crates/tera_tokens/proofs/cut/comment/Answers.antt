@@ -7,7 +7,7 @@ use Rattle.tera_tokens.proofs.Cuts.{no_comment, a_comment}
 use Rattle.tera_tokens.proofs.cut.comment.Goals as goal
 
 pub returns-then-n-bytes-clause-value : goal.returns-then-n-bytes-clause-value
-returns-then-n-bytes-clause-value c =
+returns-then-n-bytes-clause-value c tokens =
     let s = ap length c.as_bytes-bytes.ensures.value in
     let e : c.place-n.result ≡ place (begins c.args.end.now) c.args.text.now = cc in
     no_comment c.args.end.now c.args.at c.args.text.now (omega (arith, s))
@@ -20,7 +20,7 @@ split_at-requires c =
     rw e (boundary_after c.args.end.now c.args.text.now _ c.utf8.text c.utf8.end (place_passes (begins c.args.end.now) c.args.text.now l) c.requires.some)
 
 pub returns-clause-value : goal.returns-clause-value
-returns-clause-value c =
+returns-clause-value c tokens =
     let s = ap length c.as_bytes-bytes.ensures.value in
     let e : c.place-n.result ≡ place (begins c.args.end.now) c.args.text.now = cc in
     let l : c.place-n.result < length c.args.text.now = omega (arith, s) in

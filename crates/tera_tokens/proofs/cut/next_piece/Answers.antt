@@ -1,4 +1,4 @@
-use Rattle.std.proofs.Common.{◌≡◌, ◌<◌, ◌+◌, ap, Some, None, false, is_some, arith}
+use Rattle.std.proofs.Common.{◌≡◌, ◌<◌, ◌+◌, [], ap, Some, None, false, is_some, arith}
 use Rattle.tera_tokens.specs.Cut.{opening_at, opens}
 use Rattle.tera_tree.specs.Delimiters.{delimiters_of}
 use Rattle.tera_tokens.proofs.Openings.{start_of, start_fits, start_boundary, start_size_le}
@@ -22,7 +22,7 @@ returns-in-None-clause-moves c =
     let n0 : opening_at (delimiters_of c.args.delimiters.now) c.args.text.now ≡ None = cc in
     let e : opens (delimiters_of c.args.delimiters.now) c.args.text.now ≡ false = ap is_some n0 in
     let p = place_positive (opens (delimiters_of c.args.delimiters.now)) c.args.text.now c.requires.some e in
-    let n = ap next_of c.words.ensures.value in
+    let n = ap next_of (c.words.ensures.value []) in
     omega (arith, n, p)
 
 pub returns-in-Some-clause-moves : goal.returns-in-Some-clause-moves

@@ -20,7 +20,7 @@ trims_before-behind-requires c =
     rw c.opening_at.ensures (rw (c.as_bytes-3.ensures.value, c.as_bytes-4.ensures.value) (opening_fits c.args.delimiters.now c.split_at.result.1.now c.requires.usable))
 
 pub returns-in_default-clause-value : goal.returns-in_default-clause-value
-returns-in_default-clause-value c =
+returns-in_default-clause-value c tokens =
     let d = delimiters_of c.args.delimiters.now in
     let n = c.next_endraw-n.result in
     let p : n ≡ place (ends_raw d) c.args.text.now = c.next_endraw-n.ensures ∙ ap (place (ends_raw d)) c.as_bytes.ensures.value in
@@ -29,7 +29,7 @@ returns-in_default-clause-value c =
     no_raw d c.args.trims c.args.at c.args.text.now n p (sym e)
 
 pub returns-clause-value : goal.returns-clause-value
-returns-clause-value c =
+returns-clause-value c tokens =
     let d = delimiters_of c.args.delimiters.now in
     let n = c.next_endraw-n.result in
     let p : n ≡ place (ends_raw d) c.args.text.now = c.next_endraw-n.ensures ∙ ap (place (ends_raw d)) c.as_bytes.ensures.value in
@@ -38,6 +38,6 @@ returns-clause-value c =
     let b : c.trims_before-behind.result ≡ trims_before (drop n c.args.text.now) (opening_at d (drop n c.args.text.now)) =
     c.trims_before-behind.ensures ∙ ap (trims_before c.as_bytes-3.result.now) (c.opening_at.ensures ∙ ap (opening_at d) (c.as_bytes-4.ensures.value ∙ c.split_at.ensures.back))
     ∙ ap (λ t. trims_before t (opening_at d (drop n c.args.text.now))) (c.as_bytes-3.ensures.value ∙ c.split_at.ensures.back) in
-    let w : piece_of c.trimmed.result ≡ words c.args.trims (trims_before (drop n c.args.text.now) (opening_at d (drop n c.args.text.now))) n c.args.at c.args.text.now =
-    c.trimmed.ensures ∙ ap (λ t. words c.args.trims t n c.args.at c.args.text.now) b in
-    a_raw d c.args.trims c.args.at c.args.text.now n (piece_of c.trimmed.result) c.in-Some.ending p w (sym e)
+    let w : piece_of tokens c.trimmed.result ≡ words c.args.trims (trims_before (drop n c.args.text.now) (opening_at d (drop n c.args.text.now))) n c.args.at c.args.text.now =
+    c.trimmed.ensures tokens ∙ ap (λ t. words c.args.trims t n c.args.at c.args.text.now) b in
+    a_raw d c.args.trims c.args.at c.args.text.now n (piece_of tokens c.trimmed.result) c.in-Some.ending p w (sym e)

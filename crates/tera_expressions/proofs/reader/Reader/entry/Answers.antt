@@ -15,5 +15,5 @@ returns g c = (
   c.in-Ok-sub.ensures,
   refl,
   ap entries_of c.in_ok-push.ensures.items ∙ entries_of-push c.args.found.now.items _
-  ∙ ap (λ e. join_entries (entries_of c.args.found.now.items) (one_entry (key_option c.in-Ok.key) (expr_of e))) c.into_inner.ensures,
+      ∙ ap (λ e. join_entries (entries_of c.args.found.now.items) (one_entry (key_option c.in-Ok.key) (expr_of e))) c.into_inner.ensures,
 )

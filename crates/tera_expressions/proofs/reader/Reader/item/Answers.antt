@@ -14,5 +14,5 @@ returns g c = (
   ap (expr c.args.self.now.below 0) (sym c.take_dots-is_spread.ensures.rest) ∙ c.in_ok-x.ensures,
   refl,
   ap items_of c.in_ok-push.ensures.items ∙ items_of-push c.args.found.now.items _ ∙ ap (λ s. join_items (items_of c.args.found.now.items) (one_item s (expr_of c.into_inner.result))) c.take_dots-is_spread.ensures.value
-  ∙ ap (λ e. join_items (items_of c.args.found.now.items) (one_item (same k.Spread (kind (input c.args.tokens.now))) (expr_of e))) c.into_inner.ensures,
+      ∙ ap (λ e. join_items (items_of c.args.found.now.items) (one_item (same k.Spread (kind (input c.args.tokens.now))) (expr_of e))) c.into_inner.ensures,
 )

@@ -5,7 +5,7 @@ use Rattle.tera_tree.specs.View.{nodes_of}
 use Rattle.tera_syntax.proofs.progress.Progress.close.Given as goal
 
 abbrev pub invariant-loop-frame : goal.invariant-loop-frame
-invariant-loop-frame l = spec.closed (frames_of l.initial.frames.items) (nodes_of l.initial.found.items) ≡ spec.closed (frames_of l.frames.items) (nodes_of l.found.items)
+invariant-loop-frame l = spec.closed (frames_of l.initial.self.frames.items) (nodes_of l.initial.self.found.items) ≡ spec.closed (frames_of l.self.frames.items) (nodes_of l.self.found.items)
 
 abbrev pub decreases-loop-frame : goal.decreases-loop-frame
-decreases-loop-frame l = vec_len l.frames
+decreases-loop-frame l = vec_len l.self.frames

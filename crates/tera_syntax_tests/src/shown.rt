@@ -1,11 +1,11 @@
 //! Trees in words, for tests: each node with its parts and its span.
 use std::alloc::{AllocError, Global};
 use tera_errors::Span;
-use tera_tree::{Expression, Node};
+use tera_syntax::{Expression, Node};
 
 /// Words that are written one behind another.
 #[derive(Drop)]
-pub(crate) struct Shown {
+pub struct Shown {
     alloc: Global,
     text: String,
     /// Whether memory was wanting, so that words are missing.
@@ -89,11 +89,7 @@ impl Shown {
                 self.expression(target);
                 self.expression(index);
             }
-            Expression::Slice {
-                target,
-                bounds,
-                ..
-            } => {
+            Expression::Slice { target, bounds, .. } => {
                 self.expression(target);
                 self.put_bound(&bounds.start);
                 self.put_bound(&bounds.end);

@@ -1,0 +1,181 @@
+-- All spans of an expression lie inside the text that its tokens stand in.
+use Rattle.std.proofs.Common.{◌≡◌, ℕ, ◌≤◌, Bool, Option, arith}
+use Rattle.tera_errors.specs.declared.span.Span.{Span}
+use Rattle.tera_tree.specs.Tree.{Expr, Optional, Items, Key, Entries}
+use Rattle.tera_tree.specs.Inside.{Within, ExprInside, OptionalInside, ItemsInside, EntriesInside}
+use Rattle.tera_tokens.specs.declared.token.Kind.{Kind}
+use Rattle.tera_tokens.specs.declared.token.Kind.TheVariants as k
+use Rattle.tera_tokens.specs.Input.{Input, kind, start, next, span}
+use Rattle.tera_tokens.proofs.Order.{Orderly, Onward, onward_none, onward_then, onward_next, start_le, in_order-le}
+use Rattle.tera_expressions.specs.Loops.{behind_loop}
+use Rattle.tera_expressions.specs.Grammar.{Operator, or, and, equal, not_equal, less, greater, less_or_equal, greater_or_equal, is_in, concat, add, subtract, multiply, divide, floor_divide, remainder, Derives, quoted, tighter, choice, operation, not, not_in, minus, power, attribute, index, slice, DerivesPart, absent, present, DerivesStep, no_step, step, int, is_true, is_false, nothing, name, of_loop, parentheses, array, map, DerivesEntry, keyed, spread_map, DerivesEntries, no_entries, one_entry, more_entries, DerivesItem, plain, spread, DerivesItems, none, one, more}
+
+-- what was read between two places, in order, lies inside
+pub record Read (size : ℕ) (P : Type 0) (i j : Input) : Type 0 where
+  pub inside : P
+  pub onward : Onward size i j
+
+-- the same of an expression, which begins where the first place does
+pub record Lies (size : ℕ) (x : Expr) (i j : Input) : Type 0 where
+  pub inside : ExprInside size x
+  pub starts : start i ≤ j.last
+  pub onward : Onward size i j
+
+module _ (size : ℕ) where
+  within : (from : ℕ) (j : Input) → from ≤ j.last → Orderly size j → Within size (span from j)
+  within from j l h = (l, in_order-le size j.last j.ahead h)
+
+  -- what goes on from an expression
+  goes_on : {x y : Expr} {i a j : Input} → Lies size x i a → Onward size a j → (Within size (span (start i) j) → ExprInside size y) → Lies size y i j
+  goes_on {i = i} {j = j} p w f =
+      let a = p.starts in let b = w.later in
+      let l : start i ≤ j.last = omega arith in
+      record { inside = f (within (start i) j l w.orderly); starts = l; onward = onward_then p.onward w }
+
+  -- what begins with a token
+  begins : {y : Expr} {j : Input} (s : Kind) (i : Input) → kind i ≡ s → (s ≡ k.End → ⊥) → Orderly size i → Onward size (next i) j → (Within size (span (start i) j) → ExprInside size y) → Lies size y i j
+  begins {j = j} s i e n o w f =
+      let a = start_le size s i e n o in let b = w.later in
+      let l : start i ≤ j.last = omega arith in
+      record { inside = f (within (start i) j l w.orderly); starts = l; onward = onward_then (onward_next size i o) w }
+
+  leaf : {y : Expr} (s : Kind) (i : Input) → kind i ≡ s → (s ≡ k.End → ⊥) → Orderly size i → (Within size (span (start i) (next i)) → ExprInside size y) → Lies size y i (next i)
+  leaf s i e n o f = begins s i e n o (onward_none size (next i) (onward_next size i o).orderly) f
+
+  operated : {s : Kind} {form : Expr → Expr → Span → Expr} {l : ℕ} {place : Span} → Operator s form l → (x y : Expr) → ExprInside size x → ExprInside size y → Within size place → ExprInside size (form x y place)
+  operated or x y a b w = (a, b, w)
+  operated and x y a b w = (a, b, w)
+  operated equal x y a b w = (a, b, w)
+  operated not_equal x y a b w = (a, b, w)
+  operated less x y a b w = (a, b, w)
+  operated greater x y a b w = (a, b, w)
+  operated less_or_equal x y a b w = (a, b, w)
+  operated greater_or_equal x y a b w = (a, b, w)
+  operated is_in x y a b w = (a, b, w)
+  operated concat x y a b w = (a, b, w)
+  operated add x y a b w = (a, b, w)
+  operated subtract x y a b w = (a, b, w)
+  operated multiply x y a b w = (a, b, w)
+  operated divide x y a b w = (a, b, w)
+  operated floor_divide x y a b w = (a, b, w)
+  operated remainder x y a b w = (a, b, w)
+
+  past : (i : Input) → Orderly size i → Onward size i (next i)
+  past i o = onward_next size i o
+
+  mutual
+    pub expr_lies : {l : ℕ} {x : Expr} {i j : Input} → Derives l x i j → Orderly size i → Lies size x i j
+    expr_lies (tighter d) o = expr_lies d o
+    expr_lies (choice {a = a} {b = b} d h f g q) o =
+        let p = expr_lies d o in
+        let n = past a p.onward.orderly in
+        let r = expr_lies f n.orderly in
+        let m = past b r.onward.orderly in
+        let s = expr_lies q m.orderly in
+        goes_on p (onward_then n (onward_then r.onward (onward_then m s.onward))) (λ w. (p.inside, r.inside, s.inside, w))
+    expr_lies (operation {a = a} op d h f) o =
+        let p = expr_lies d o in
+        let n = past a p.onward.orderly in
+        let r = expr_lies f n.orderly in
+        goes_on p (onward_then n r.onward) (λ w. operated op _ _ p.inside r.inside w)
+    expr_lies (not {i = i} h d) o =
+        let p = expr_lies d (past i o).orderly in
+        begins k.Not i h (λ e. cc) o p.onward (λ w. (p.inside, w))
+    expr_lies (not_in {a = a} d h g f) o =
+        let p = expr_lies d o in
+        let n = past a p.onward.orderly in
+        let m = past (next a) n.orderly in
+        let r = expr_lies f m.orderly in
+        goes_on p (onward_then n (onward_then m r.onward)) (λ w. ((p.inside, r.inside, w), w))
+    expr_lies (minus {i = i} h d) o =
+        let p = expr_lies d (past i o).orderly in
+        begins k.Minus i h (λ e. cc) o p.onward (λ w. (p.inside, w))
+    expr_lies (power {a = a} d h f) o =
+        let p = expr_lies d o in
+        let n = past a p.onward.orderly in
+        let r = expr_lies f n.orderly in
+        goes_on p (onward_then n r.onward) (λ w. (p.inside, r.inside, w))
+    expr_lies (attribute {a = a} dot d h g) o =
+        let p = expr_lies d o in
+        let n = past a p.onward.orderly in
+        goes_on p (onward_then n (past (next a) n.orderly)) (λ w. (p.inside, w))
+    expr_lies (index {a = a} {b = b} bracket d h f g) o =
+        let p = expr_lies d o in
+        let n = past a p.onward.orderly in
+        let r = expr_lies f n.orderly in
+        goes_on p (onward_then n (onward_then r.onward (past b r.onward.orderly))) (λ w. (p.inside, r.inside, w))
+    expr_lies (slice {a = a} {b = b} {c = c} {d = e} bracket d h f g q t u) o =
+        let p = expr_lies d o in
+        let n = past a p.onward.orderly in
+        let from = part_lies f n.orderly in
+        let m = past b from.onward.orderly in
+        let to = part_lies q m.orderly in
+        let by = step_lies t to.onward.orderly in
+        goes_on p (onward_then n (onward_then from.onward (onward_then m (onward_then to.onward (onward_then by.onward (past e by.onward.orderly))))))
+        (λ w. (p.inside, from.inside, to.inside, by.inside, w))
+    expr_lies (int {i = i} h e) o = leaf k.Int i h (λ e. cc) o (λ w. w)
+    expr_lies (quoted {i = i} h e) o = leaf k.Text i h (λ e. cc) o (λ w. w)
+    expr_lies (is_true {i = i} h) o = leaf k.True i h (λ e. cc) o (λ w. w)
+    expr_lies (is_false {i = i} h) o = leaf k.False i h (λ e. cc) o (λ w. w)
+    expr_lies (nothing {i = i} h) o = leaf k.Nothing i h (λ e. cc) o (λ w. w)
+    expr_lies (name {i = i} h e) o = leaf k.Name i h (λ e. cc) o (λ w. w)
+    expr_lies (of_loop {i = i} h e) o =
+        let n = past i o in
+        let m = past (next i) n.orderly in
+        begins k.Name i h (λ e. cc) o (onward_then m (past (next (next i)) m.orderly)) (λ w. w)
+    expr_lies (parentheses {i = i} {a = a} h d g) o =
+        let p = expr_lies d (past i o).orderly in
+        begins k.LeftParenthesis i h (λ e. cc) o (onward_then p.onward (past a p.onward.orderly)) (λ w. p.inside)
+    expr_lies (array {i = i} {a = a} h d g) o =
+        let p = items_lie d (past i o).orderly in
+        begins k.LeftBracket i h (λ e. cc) o (onward_then p.onward (past a p.onward.orderly)) (λ w. (p.inside, w))
+    expr_lies (map {i = i} {a = a} h d g) o =
+        let p = entries_lie d (past i o).orderly in
+        begins k.LeftBrace i h (λ e. cc) o (onward_then p.onward (past a p.onward.orderly)) (λ w. (p.inside, w))
+
+    part_lies : {p : Optional} {i j : Input} → DerivesPart p i j → Orderly size i → Read size (OptionalInside size p) i j
+    part_lies (absent {i = i}) o = record { inside = tt; onward = onward_none size i o }
+    part_lies (present d) o = let p = expr_lies d o in record { inside = p.inside; onward = p.onward }
+
+    step_lies : {p : Optional} {i j : Input} → DerivesStep p i j → Orderly size i → Read size (OptionalInside size p) i j
+    step_lies (no_step {i = i}) o = record { inside = tt; onward = onward_none size i o }
+    step_lies (step {i = i} h f) o =
+        let n = past i o in
+        let p = part_lies f n.orderly in
+        record { inside = p.inside; onward = onward_then n p.onward }
+
+    item_lies : {s : Bool} {x : Expr} {i j : Input} → DerivesItem s x i j → Orderly size i → Read size (ExprInside size x) i j
+    item_lies (plain d) o = let p = expr_lies d o in record { inside = p.inside; onward = p.onward }
+    item_lies (spread {i = i} h d) o =
+        let n = past i o in
+        let p = expr_lies d n.orderly in
+        record { inside = p.inside; onward = onward_then n p.onward }
+
+    items_lie : {xs : Items} {i j : Input} → DerivesItems xs i j → Orderly size i → Read size (ItemsInside size xs) i j
+    items_lie (none {i = i}) o = record { inside = tt; onward = onward_none size i o }
+    items_lie (one d) o = let p = item_lies d o in record { inside = (p.inside, tt); onward = p.onward }
+    items_lie (more {a = a} d h q) o =
+        let p = item_lies d o in
+        let n = past a p.onward.orderly in
+        let r = items_lie q n.orderly in
+        record { inside = (p.inside, r.inside); onward = onward_then p.onward (onward_then n r.onward) }
+
+    entry_lies : {key : Option Key} {x : Expr} {i j : Input} → DerivesEntry key x i j → Orderly size i → Read size (ExprInside size x) i j
+    entry_lies (keyed {i = i} h q d) o =
+        let n = past i o in
+        let m = past (next i) n.orderly in
+        let p = expr_lies d m.orderly in
+        record { inside = p.inside; onward = onward_then n (onward_then m p.onward) }
+    entry_lies (spread_map {i = i} h d) o =
+        let n = past i o in
+        let p = expr_lies d n.orderly in
+        record { inside = p.inside; onward = onward_then n p.onward }
+
+    entries_lie : {xs : Entries} {i j : Input} → DerivesEntries xs i j → Orderly size i → Read size (EntriesInside size xs) i j
+    entries_lie (no_entries {i = i}) o = record { inside = tt; onward = onward_none size i o }
+    entries_lie (one_entry d) o = let p = entry_lies d o in record { inside = (p.inside, tt); onward = p.onward }
+    entries_lie (more_entries {a = a} d h q) o =
+        let p = entry_lies d o in
+        let n = past a p.onward.orderly in
+        let r = entries_lie q n.orderly in
+        record { inside = (p.inside, r.inside); onward = onward_then p.onward (onward_then n r.onward) }

@@ -1,0 +1,19 @@
+-- What holds of what texts spell.
+use Rattle.std.specs.Prelude.{◌≡◌, length, IsTrue}
+use Rattle.std.specs.Str.{IsUtf8}
+use Rattle.tera_errors.specs.Site.{Name, Text}
+use Rattle.tera_tree.specs.Delimiters.{Delims, accepted, delimiters_of}
+use Rattle.tera_tree.specs.declared.delimiters.Delimiters.{Delimiters}
+use Rattle.tera_tree.specs.Inside.{Inside}
+use Rattle.tera_tree.specs.Tree.{Tree}
+use Rattle.tera_syntax.specs.Spells.{Spells}
+
+-- A text spells one tree at most.
+abbrev pub OneReading : Type 0
+OneReading = (name : Name) (d : Delims) (text : Text) (one other : Tree)
+    → Spells name d text one → Spells name d text other → one ≡ other
+
+-- All spans of a tree are stretches of the text that spells it.
+abbrev pub SpansInside : Type 0
+SpansInside = (name : Name) (d : Delimiters) (text : Text) (tree : Tree) → IsTrue (accepted (delimiters_of d)) → IsUtf8 text
+    → Spells name (delimiters_of d) text tree → Inside (length text) tree

@@ -1,0 +1,9 @@
+//! Tests of the reader, and nothing else.
+#![tactic(auto)]
+
+#[cfg(test)]
+mod readings;
+#[cfg(test)]
+mod rows;
+#[cfg(test)]
+mod shown;

@@ -1,0 +1,187 @@
+//! Readings of small texts.
+ghost use Rattle.std.specs.Prelude.{IsTrue, IfSome, OnOk};
+ghost use Rattle.tera_tree.specs.Delimiters.{accepted, delimiters_of};
+
+use crate::rows::{NESTS, Nest, OTHERS, Other, REFUSED, Row, TREES, UNUSABLE, Unusable};
+use crate::shown::Shown;
+use std::alloc::Global;
+use tera_errors::ErrorKind;
+use tera_syntax::{Delimiters, Node, parse};
+
+fn are_shown(alloc: Global, nodes: &[Node], want: &str) -> bool {
+    let mut shown = Shown::new(alloc);
+    shown.nodes(nodes);
+    shown.is(want)
+}
+
+fn agrees(alloc: Global, delimiters: &Delimiters, row: Row) -> bool
+    requires { IsTrue (accepted (delimiters_of delimiters.now)) }
+{
+    match parse(alloc, "t", row.0, delimiters) {
+        Ok(output) => are_shown(alloc, output.nodes.as_slice(), row.1),
+        Err(_) => false,
+    }
+}
+
+/// Whether the text is a syntax error, at a stretch of it.
+fn is_refused(alloc: Global, delimiters: &Delimiters, text: &str) -> bool
+    requires { IsTrue (accepted (delimiters_of delimiters.now)) }
+{
+    match parse(alloc, "t", text, delimiters) {
+        Ok(_) => false,
+        Err(error) => match error.kind() {
+            ErrorKind::SyntaxError(report) => report.span().end <= text.len(),
+            _ => false,
+        },
+    }
+}
+
+fn put(all: &mut String, text: &str) -> bool {
+    all.push_str(text).is_ok()
+}
+
+fn put_often(all: &mut String, text: &str, count: usize) -> bool {
+    for _ in 0..count {
+        if !put(all, text) {
+            return false;
+        }
+    }
+    true
+}
+
+fn put_nest(all: &mut String, nest: Nest) -> bool {
+    let Nest([start, before, middle, after, end], count, _) = nest;
+    put(all, start)
+        && put_often(all, before, count)
+        && put(all, middle)
+        && put_often(all, after, count)
+        && put(all, end)
+}
+
+fn is_as_deep(alloc: Global, delimiters: &Delimiters, nest: Nest) -> bool
+    requires { IsTrue (accepted (delimiters_of delimiters.now)) }
+{
+    let mut all = String::new(alloc);
+    put_nest(&mut all, nest) && is_refused(alloc, delimiters, all.as_str()) != nest.2
+}
+
+/// The first tree that is another, or text that is read though it spells none, or nest that is answered otherwise.
+fn first_wrong(alloc: Global, delimiters: &Delimiters) -> Option<&'static str>
+    requires { IsTrue (accepted (delimiters_of delimiters.now)) }
+{
+    for row in &TREES {
+        if !agrees(alloc, delimiters, *row) {
+            return Some(row.0);
+        }
+    }
+    None
+}
+
+fn first_read(alloc: Global, delimiters: &Delimiters) -> Option<&'static str>
+    requires { IsTrue (accepted (delimiters_of delimiters.now)) }
+{
+    for text in &REFUSED {
+        if !is_refused(alloc, delimiters, text.0) {
+            return Some(text.0);
+        }
+    }
+    None
+}
+
+fn first_deep(alloc: Global, delimiters: &Delimiters) -> Option<usize>
+    requires { IsTrue (accepted (delimiters_of delimiters.now)) }
+{
+    for (row, nest) in NESTS.iter().enumerate() {
+        if !is_as_deep(alloc, delimiters, *nest) {
+            return Some(row);
+        }
+    }
+    None
+}
+
+fn standard(alloc: Global) -> Option<Delimiters>
+    ensures { IfSome result (λ d. IsTrue (accepted (delimiters_of d))) }
+{
+    match Delimiters::standard(alloc) {
+        Ok(delimiters) => Some(delimiters),
+        Err(_) => None,
+    }
+}
+
+#[test]
+fn trees(rt: HostRuntime) {
+    let wrong = match standard(rt.alloc()) {
+        Some(delimiters) => first_wrong(rt.alloc(), &delimiters),
+        None => Some("want of memory"),
+    };
+    assert_eq!(rt; wrong, None);
+}
+
+#[test]
+fn refusals(rt: HostRuntime) {
+    let wrong = match standard(rt.alloc()) {
+        Some(delimiters) => first_read(rt.alloc(), &delimiters),
+        None => Some("want of memory"),
+    };
+    assert_eq!(rt; wrong, None);
+}
+
+#[test]
+fn depths(rt: HostRuntime) {
+    let wrong = match standard(rt.alloc()) {
+        Some(delimiters) => first_deep(rt.alloc(), &delimiters),
+        None => Some(NESTS.len()),
+    };
+    assert_eq!(rt; wrong, None);
+}
+
+/// Delimiters of which no text is written yet.
+fn unwritten(alloc: Global) -> Delimiters {
+    Delimiters {
+        block_start: String::new(alloc),
+        block_end: String::new(alloc),
+        variable_start: String::new(alloc),
+        variable_end: String::new(alloc),
+        comment_start: String::new(alloc),
+        comment_end: String::new(alloc),
+    }
+}
+
+fn are_written(delimiters: &mut Delimiters, comment_start: &str, comment_end: &str) -> bool {
+    put(&mut delimiters.block_start, "<%")
+        && put(&mut delimiters.block_end, "%>")
+        && put(&mut delimiters.variable_start, "<<")
+        && put(&mut delimiters.variable_end, ">>")
+        && put(&mut delimiters.comment_start, comment_start)
+        && put(&mut delimiters.comment_end, comment_end)
+}
+
+fn are_usable(alloc: Global, delimiters: &Delimiters) -> bool
+    ensures { IsTrue result → IsTrue (accepted (delimiters_of delimiters.now)) }
+{
+    delimiters.validate(alloc).is_ok()
+}
+
+fn agrees_by(alloc: Global, other: Other) -> bool {
+    let mut delimiters = unwritten(alloc);
+    are_written(&mut delimiters, other.0, other.1)
+        && are_usable(alloc, &delimiters)
+        && agrees(alloc, &delimiters, other.2)
+}
+
+fn are_refused(alloc: Global, unusable: Unusable) -> bool {
+    let mut delimiters = unwritten(alloc);
+    are_written(&mut delimiters, unusable.0, unusable.1) && !are_usable(alloc, &delimiters)
+}
+
+#[test]
+fn other_delimiters(rt: HostRuntime) {
+    let alloc = rt.alloc();
+    let are_read = OTHERS.iter().all(|other| agrees_by(alloc, *other));
+    assert!(rt;
+        are_read
+            && UNUSABLE
+                .iter()
+                .all(|unusable| are_refused(alloc, *unusable))
+    );
+}

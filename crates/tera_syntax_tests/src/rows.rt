@@ -1,0 +1,209 @@
+//! Texts, and what reading them gives.
+
+/// A text, and its tree in words.
+#[derive(Clone, Copy)]
+pub struct Row(pub &'static str, pub &'static str);
+
+/// A text that spells no tree.
+#[derive(Clone, Copy)]
+pub struct Text(pub &'static str);
+
+/// Five texts, of which the second and the fourth stand so many times, and whether all of them are read.
+#[derive(Clone, Copy)]
+pub struct Nest(pub [&'static str; 5], pub usize, pub bool);
+
+/// A start and an end of comments beside `<% %>` and `<< >>`, and a text with its tree.
+#[derive(Clone, Copy)]
+pub struct Other(pub &'static str, pub &'static str, pub Row);
+
+/// A start and an end of comments that can't stand beside these.
+#[derive(Clone, Copy)]
+pub struct Unusable(pub &'static str, pub &'static str);
+
+/// Between the standard delimiters.
+pub const TREES: [Row; 30] = [
+    Row("", ""),
+    Row("Hello {{ name }}!", "(Hello  0-6)(name 9-13)(! 16-17)"),
+    Row("a{# b #}c{# d }} #}", "(a 0-1)(c 8-9)"),
+    Row("a \u{a0}{{- 1 -}} \n b", "(a 0-1)(1 8-9)(b 16-17)"),
+    Row("a {{-1}}", "(a 0-1)(1 5-6)"),
+    Row(" {#- a -#} b {#-#} c", "(b 11-12)( c 18-20)"),
+    Row("{{ -2 ** 2 }}", "(-(Power(2 4-5)(2 9-10) 4-10) 3-10)"),
+    Row("{{ 2 ** -1 }}", "(Power(2 3-4)(-(1 9-10) 8-10) 3-10)"),
+    Row(
+        "{{ 1 < 2 == true }}",
+        "(Equal(Less(1 3-4)(2 7-8) 3-8)(true 12-16) 3-16)",
+    ),
+    Row(
+        "{{ 1 if false else 2 if false else 3 }}",
+        "(if(1 3-4)(false 8-13)(if(2 19-20)(false 24-29)(3 35-36) 19-36) 3-36)",
+    ),
+    Row(
+        "{{ [1, 2][-1:0:-1] }}",
+        "([:](array(1 4-5)(2 7-8) 3-9)(-(1 11-12) 10-12)(0 13-14)(-(1 16-17) 15-17) 3-18)",
+    ),
+    Row("{{ {...m, \"a\": 1,} }}", "(map...(m 7-8):(1 15-16) 3-18)"),
+    Row("{{ x not in y }}", "(not(In(x 3-4)(y 12-13) 3-13) 3-13)"),
+    Row(
+        "{{ a?.if?[b][:] }}",
+        "([:](?[](?.(a 3-4)if 3-8)(b 10-11) 3-12)___ 3-15)",
+    ),
+    Row(
+        "{{ (a or b) and not c ~ 'd\\n\\e' }}",
+        "(and(or(a 4-5)(b 9-10) 4-10)(not(Concat(c 20-21)('d\n\\e' 24-31) 20-31) 16-31) 3-31)",
+    ),
+    Row("{{{\"a\": 1}.a}}", "(.(map:(1 8-9) 2-10)a 2-12)"),
+    Row(
+        "{{ {\"a\": {\"b\": 1}}.a.b }}",
+        "(.(.(map:(map:(1 15-16) 9-17) 3-18)a 3-20)b 3-22)",
+    ),
+    Row(
+        "{% if a %}x{% endif %}",
+        "(if (a 6-7) then (x 10-11) else )",
+    ),
+    Row("{% if a %}{% endif %}", "(if (a 6-7) then  else )"),
+    Row(
+        "{% if a %}x{% else %}y{% endif %}",
+        "(if (a 6-7) then (x 10-11) else (y 21-22))",
+    ),
+    Row(
+        "{% if a %}x{% elif b %}y{% endif %}",
+        "(if (a 6-7) then (x 10-11) else (if (b 19-20) then (y 23-24) else ))",
+    ),
+    Row(
+        "{% if a %}{% elif b %}{% elif c %}{% else %}z{% endif %}",
+        "(if (a 6-7) then  else (if (b 18-19) then  else (if (c 30-31) then  else (z 44-45))))",
+    ),
+    Row(
+        "p{% if a %}q{% if b %}r{% else %}s{% endif %}t{% else %}u{% endif %}v",
+        "(p 0-1)(if (a 7-8) then (q 11-12)(if (b 18-19) then (r 22-23) else (s 33-34))(t 45-46) else (u 56-57))(v 68-69)",
+    ),
+    Row(
+        "{% if a %}{% else %}{% if b %}x{% endif %}y{% endif %}",
+        "(if (a 6-7) then  else (if (b 26-27) then (x 30-31) else )(y 42-43))",
+    ),
+    Row(
+        "{% if a %}{% elif b %}{% if c %}x{% elif d %}y{% endif %}z{% endif %}",
+        "(if (a 6-7) then  else (if (b 18-19) then (if (c 28-29) then (x 32-33) else (if (d 41-42) then (y 45-46) else ))(z 57-58) else ))",
+    ),
+    Row(
+        "a {%- if not b == c -%} d {#- e -#} {%- endif -%} f",
+        "(a 0-1)(if (not(Equal(b 13-14)(c 18-19) 13-19) 9-19) then (d 24-25) else )(f 50-51)",
+    ),
+    Row(
+        "{% if 1 if a else b %}{{ x }}{% endif %}",
+        "(if (if(1 6-7)(a 11-12)(b 18-19) 6-19) then (x 25-26) else )",
+    ),
+    Row(
+        "{{ 170141183460469231731687303715884105727 }}",
+        "(170141183460469231731687303715884105727 3-42)",
+    ),
+    Row(
+        "{{ endif }}{{ a.else }}",
+        "(endif 3-8)(.(a 14-15)else 14-20)",
+    ),
+    Row("{{ loop.index }}", "(.(loop 3-7)index 3-13)"),
+];
+
+pub const REFUSED: [Text; 47] = [
+    Text("{{ }}"),
+    Text("{{ a"),
+    Text("b {# open"),
+    Text("{{ a.0 }}"),
+    Text("{{ 1 2 }}"),
+    Text("{{ a if b }}"),
+    Text("{{ a <b/> }}"),
+    Text("{{ a[] }}"),
+    Text("{{ (a }}"),
+    Text("{{ 'a }}"),
+    Text("{{ 170141183460469231731687303715884105728 }}"),
+    Text("{{ {a: 1} }}"),
+    Text("{{ x is not not in y }}"),
+    Text("{% if %}"),
+    Text("{% if %}x{% endif %}"),
+    Text("{% if a b %}x{% endif %}"),
+    Text("{% if a %}"),
+    Text("{% if a %}x"),
+    Text("{% if a %}x{% else %}y"),
+    Text("{% if a %}x{% elif b %}y"),
+    Text("{% if a %}{% if b %}{% endif %}"),
+    Text("{% if a %}{% endif %}{% endif %}"),
+    Text("{% if a %}{% elif b %}{% endif %}{% endif %}"),
+    Text("{% else %}"),
+    Text("{% elif a %}"),
+    Text("{% elif a %}{% endif %}"),
+    Text("{% endif %}"),
+    Text("{% if a %}{% else %}{% else %}{% endif %}"),
+    Text("{% if a %}{% else %}{% elif b %}{% endif %}"),
+    Text("{% if a %}{% elif %}{% endif %}"),
+    Text("{% if a %}{% endif x %}"),
+    Text("{% if a %}{% else x %}{% endif %}"),
+    Text("{% endif x %}"),
+    Text("{% else x %}"),
+    Text("{% if a %}{% end %}"),
+    Text("{% if a %}{% \"endif\" %}"),
+    Text("{% if a %}{% endif %"),
+    Text("{% %}"),
+    Text("{% a %}"),
+    Text("{% (if a) %}{% endif %}"),
+    Text("{{ if a }}"),
+    Text("{{ elif }}"),
+    Text("{{ x not y }}"),
+    Text("{{ {\"a\": 1 }}"),
+    Text("{{ {\"a\" 1} }}"),
+    Text("{{ a[1:2 }}"),
+    Text("{{ {170141183460469231731687303715884105728: 1} }}"),
+];
+
+const PARENTHESES: [&str; 5] = ["{{ ", "(", "a", ")", " }}"];
+
+const OPEN_PARENTHESES: [&str; 5] = ["{{ ", "(", "a", "", " }}"];
+
+const NOTS: [&str; 5] = ["{{ ", "not ", "a", "", " }}"];
+
+const ARRAYS: [&str; 5] = ["{{ ", "[", "a", "]", " }}"];
+
+const CHOICES: [&str; 5] = ["", "{% if a %}", "x", "{% endif %}", ""];
+
+const ELIFS: [&str; 5] = ["{% if a %}x", "{% elif a %}x", "", "", "{% endif %}"];
+
+const CONDITIONS: [&str; 5] = ["{% if ", "not ", "a", "", " %}x{% endif %}"];
+
+pub const NESTS: [Nest; 12] = [
+    Nest(PARENTHESES, 20_000, true),
+    Nest(OPEN_PARENTHESES, 20_000, false),
+    Nest(NOTS, 198, true),
+    Nest(NOTS, 199, false),
+    Nest(ARRAYS, 198, true),
+    Nest(ARRAYS, 199, false),
+    Nest(CHOICES, 199, true),
+    Nest(CHOICES, 200, false),
+    // the first condition is an `if`
+    Nest(ELIFS, 198, true),
+    Nest(ELIFS, 199, false),
+    Nest(CONDITIONS, 198, true),
+    Nest(CONDITIONS, 199, false),
+];
+
+pub const OTHERS: [Other; 2] = [
+    // one start begins another
+    Other(
+        "<<#",
+        "é",
+        Row(
+            "é<< b < 2>> <<# x >>é- {{ c }}",
+            "(é 0-2)(Less(b 5-6)(2 9-10) 5-10)(  12-13)(- {{ c }} 23-32)",
+        ),
+    ),
+    Other(
+        "<#",
+        "#>",
+        Row(
+            "Hello, <# This is a comment #><% if show %><< name >>!<% endif %>",
+            "(Hello,  0-7)(if (show 36-40) then (name 46-50)(! 53-54) else )",
+        ),
+    ),
+];
+
+/// Two equal starts, and an empty delimiter.
+pub const UNUSABLE: [Unusable; 2] = [Unusable("<%", "#>"), Unusable("", "#>")];

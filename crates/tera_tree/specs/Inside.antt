@@ -1,0 +1,54 @@
+-- Trees of which every span is a stretch of the text.
+use Rattle.std.specs.Prelude.{ℕ, ◌≤◌}
+use Rattle.tera_errors.specs.declared.span.Span.{Span}
+use Rattle.tera_tree.specs.Tree.{Expr, Nothing, Boolean, Integer, Text, Name, Attribute, Index, Slice, Not, Negate, Binary, And, Or, Ternary, Array, Map, Optional, Absent, Present, Items, NoItems, MoreItems, Entries, NoEntries, MoreEntries, Node, Content, Print, If, Nodes, NoNodes, MoreNodes, Tree}
+
+-- a stretch of a text of this size
+abbrev pub Within : ℕ → Span → Type 0
+Within size span = (span.start ≤ span.end) × (span.end ≤ size)
+
+abbrev mutual
+  pub ExprInside : ℕ → Expr → Type 0
+  ExprInside size (Nothing span) = Within size span
+  ExprInside size (Boolean b span) = Within size span
+  ExprInside size (Integer z span) = Within size span
+  ExprInside size (Text t span) = Within size span
+  ExprInside size (Name n span) = Within size span
+  ExprInside size (Attribute e n optional span) = ExprInside size e × Within size span
+  ExprInside size (Index a b optional span) = ExprInside size a × ExprInside size b × Within size span
+  ExprInside size (Slice e a b c optional span) =
+      ExprInside size e × OptionalInside size a × OptionalInside size b × OptionalInside size c × Within size span
+  ExprInside size (Not e span) = ExprInside size e × Within size span
+  ExprInside size (Negate e span) = ExprInside size e × Within size span
+  ExprInside size (Binary op a b span) = ExprInside size a × ExprInside size b × Within size span
+  ExprInside size (And a b span) = ExprInside size a × ExprInside size b × Within size span
+  ExprInside size (Or a b span) = ExprInside size a × ExprInside size b × Within size span
+  ExprInside size (Ternary v c o span) = ExprInside size v × ExprInside size c × ExprInside size o × Within size span
+  ExprInside size (Array all span) = ItemsInside size all × Within size span
+  ExprInside size (Map all span) = EntriesInside size all × Within size span
+
+  pub OptionalInside : ℕ → Optional → Type 0
+  OptionalInside size Absent = Unit {0}
+  OptionalInside size (Present e) = ExprInside size e
+
+  pub ItemsInside : ℕ → Items → Type 0
+  ItemsInside size NoItems = Unit {0}
+  ItemsInside size (MoreItems s e rest) = ExprInside size e × ItemsInside size rest
+
+  pub EntriesInside : ℕ → Entries → Type 0
+  EntriesInside size NoEntries = Unit {0}
+  EntriesInside size (MoreEntries k e rest) = ExprInside size e × EntriesInside size rest
+
+abbrev mutual
+  pub NodeInside : ℕ → Node → Type 0
+  NodeInside size (Content t span) = Within size span
+  NodeInside size (Print e) = ExprInside size e
+  NodeInside size (If c body other) = ExprInside size c × NodesInside size body × NodesInside size other
+
+  pub NodesInside : ℕ → Nodes → Type 0
+  NodesInside size NoNodes = Unit {0}
+  NodesInside size (MoreNodes n rest) = NodeInside size n × NodesInside size rest
+
+-- all spans of the tree are stretches of a text of this size
+abbrev pub Inside : ℕ → Tree → Type 0
+Inside size t = NodesInside size t.nodes

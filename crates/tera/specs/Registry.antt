@@ -1,5 +1,7 @@
 -- What an engine holds, as the definitions see it.
 use Rattle.std.specs.Prelude.{Bool, []}
+use Rattle.tera_values.specs.Val.{Val}
+use Rattle.tera_values.specs.Named.{Named}
 use Rattle.tera_values.specs.Escape.{escape_html}
 use Rattle.tera_tree.specs.Delimiters.{delimiters_of}
 use Rattle.tera_tree.specs.Tree.{Nodes}
@@ -12,6 +14,6 @@ abbrev pub registry_of : Tera → Registry
 registry_of t = record { templates = []; delimiters = delimiters_of t.delimiters; global = t.global_context; engine = record { escape = escape_html } }
 
 -- a text beside the registry, as what a run of the machine is about
-abbrev pub one_off_subject : Registry → Nodes → Bool → Subject
-one_off_subject r nodes autoescape =
-    record { world = alone r; place = one_off_place autoescape; tree = nodes }
+abbrev pub one_off_subject : Registry → Nodes → Named Val → Bool → Subject
+one_off_subject r nodes context autoescape =
+    record { world = alone r; place = one_off_place r context autoescape; tree = nodes }

@@ -56,12 +56,12 @@ impl Tera {
     ) -> TeraResult<String>
         ghost about: { Subject }
         requires ledger { (blank.name ≡ L.name) × (blank.parts ≡ L.parts) × (L.parts ≡ 1) }
-        requires subject { about ≡ one_off_subject (registry_of self.now) (nodes_of nodes.now) autoescape }
+        requires subject { about ≡ one_off_subject (registry_of self.now) (nodes_of nodes.now) context.now autoescape }
         ensures { Gives string_bytes result (text_of (one_off_meaning (registry_of self.now) (record { nodes = nodes_of nodes.now }) context.now autoescape)) }
     {
         let chunk = compiled(self.alloc, nodes)?;
         let machine = VirtualMachine::new_with_autoescape(self.alloc, autoescape);
-        let scopes = Scopes::new(context, Some(&self.global_context));
+        let scopes = Scopes::new(self.alloc, context, Some(&self.global_context));
         let mut configuration = Configuration::new(self.alloc, scopes);
         let mut steps = Steps::<L>::new(blank);
         match machine.run::<L>(&chunk, &mut configuration, &mut steps) {

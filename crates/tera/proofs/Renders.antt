@@ -7,7 +7,7 @@ use Rattle.tera_values.specs.Alphabet.{marking}
 use Rattle.tera_values.specs.Escape.{escape_html}
 use Rattle.tera_values.specs.Val.{Val}
 use Rattle.tera_values.specs.Named.{Named}
-use Rattle.tera_tree.specs.Tree.{Nodes, Tree}
+use Rattle.tera_tree.specs.Tree.{Tree}
 use Rattle.tera_syntax.specs.Reads.{Reads}
 use Rattle.tera_state.specs.Scope.{Variables, nothing_set}
 use Rattle.tera_meaning.specs.Run.{Signal, Answer, Failed, Gave, begun}
@@ -15,18 +15,16 @@ use Rattle.tera_meaning.specs.Registry.{Registry}
 use Rattle.tera_machine.specs.Config.{Config, config_of, starting}
 use Rattle.tera_machine.specs.Subject.{Subject, meant, meant_from, Means}
 use Rattle.tera_machine.specs.declared.configuration.Configuration.{Configuration}
-use Rattle.tera.specs.Registry.{one_off_subject}
 use Rattle.tera.specs.Rendering.{OneOff}
-use Rattle.tera_meaning.specs.Rendering.{text_of, one_off_meaning, render_str, render_str_in, one_off_name}
+use Rattle.tera_meaning.specs.Rendering.{text_of, render_str, render_str_in, one_off_name}
 use Rattle.tera_marks.specs.Origin.{Traces}
 use Rattle.tera_marks.proofs.Traced.{markup_is_traced}
 
--- what the machine does where a rendering begins is what the rendering means
-pub begins-means : (r : Registry) (nodes : Nodes) (context : Named Val) (autoescape : Bool) (about : Subject) (c : Configuration) (v : Variables) → about ≡ one_off_subject r nodes context autoescape → config_of c ≡ starting (begun v) → v ≡ nothing_set → meant_from about c ≡ one_off_meaning r (record { nodes = nodes }) context autoescape
-begins-means r nodes context autoescape about c v same starts empty =
-    ap (λ x. meant about x.run) starts ∙ ap (λ w. meant about (begun w)) empty ∙ ap (λ s. meant s (begun nothing_set)) same
+-- what a body means where nothing was written or set yet
+pub begins-means : (about : Subject) (c : Configuration) (v : Variables) → config_of c ≡ starting (begun v) → v ≡ nothing_set → meant_from about c ≡ meant about (begun nothing_set)
+begins-means about c v starts empty = ap (λ x. meant about x.run) starts ∙ ap (λ w. meant about (begun w)) empty
 
--- and its fault is the answer
+-- the fault that a run ends with is the answer
 pub fault-means : (meant : Answer Signal) (e : Refusal) (before after : Config) → Means meant before (Err e) after → Says e (text_of meant)
 fault-means (Gave signal run n) None before after h = tt
 fault-means (Gave signal run n) (Some fault) before after h = absurd h

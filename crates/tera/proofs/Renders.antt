@@ -1,23 +1,52 @@
 -- A rendering beside the registry, from what the reader answered.
-use Rattle.std.proofs.Common.{Bool, Some, None, Result, Ok, Err, refl, sym}
+use Rattle.std.proofs.Common.{◌≡◌, Bool, IsTrue, Some, None, Result, Ok, Err, refl, sym, ap, ◌∙◌}
 use Rattle.tera_errors.specs.Site.{Text}
-use Rattle.tera_errors.specs.Answer.{Refusal, Gives, GivesOneOf, SaysOneOf}
+use Rattle.tera_errors.specs.Fault.{Fault}
+use Rattle.tera_errors.specs.Answer.{Refusal, Says, Gives, GivesOneOf, SaysOneOf}
+use Rattle.tera_values.specs.Alphabet.{marking}
+use Rattle.tera_values.specs.Escape.{escape_html}
 use Rattle.tera_values.specs.Val.{Val}
 use Rattle.tera_values.specs.Named.{Named}
 use Rattle.tera_tree.specs.Tree.{Tree}
 use Rattle.tera_syntax.specs.Reads.{Reads}
+use Rattle.tera_state.specs.Scope.{Variables, nothing_set}
+use Rattle.tera_meaning.specs.Run.{Signal, Answer, Failed, Gave, begun}
 use Rattle.tera_meaning.specs.Registry.{Registry}
+use Rattle.tera_machine.specs.Config.{Config, config_of, starting}
+use Rattle.tera_machine.specs.Subject.{Subject, meant, meant_from, Means}
+use Rattle.tera_machine.specs.declared.configuration.Configuration.{Configuration}
 use Rattle.tera.specs.Rendering.{OneOff}
-use Rattle.tera_meaning.specs.Rendering.{render_str, one_off_name}
+use Rattle.tera_meaning.specs.Rendering.{text_of, render_str, render_str_in, one_off_name}
+use Rattle.tera_marks.specs.Origin.{Traces}
+use Rattle.tera_marks.proofs.Traced.{markup_is_traced}
 
-module _ (r : Registry) (text : Text) (context : Named Val) (autoescape : Bool) where
+-- what a body means where nothing was written or set yet
+pub begins-means : (about : Subject) (c : Configuration) (v : Variables) → config_of c ≡ starting (begun v) → v ≡ nothing_set → meant_from about c ≡ meant about (begun nothing_set)
+begins-means about c v starts empty = ap (λ x. meant about x.run) starts ∙ ap (λ w. meant about (begun w)) empty
+
+-- the fault that a run ends with is the answer
+pub fault-means : (meant : Answer Signal) (e : Refusal) (before after : Config) → Means meant before (Err e) after → Says e (text_of meant)
+fault-means (Gave signal run n) None before after h = tt
+fault-means (Gave signal run n) (Some fault) before after h = absurd h
+fault-means (Failed meant n) None before after h = tt
+fault-means (Failed meant n) (Some fault) before after h = ap Err (sym h)
+
+module _ (r : Registry) (by_html : r.engine.escape ≡ escape_html) (text : Text) (context : Named Val) where
+  -- the law, where the answer is what the reading means
+  origin-of : (reading : Result Tree Fault) (answer : Result Text Fault) (autoescape : Bool) → answer ≡ render_str r reading context autoescape → IsTrue autoescape → Traces (render_str_in marking r reading context autoescape) answer
+  origin-of reading answer autoescape e on = rw e (rw on (markup_is_traced r reading context by_html))
+
+  means : (reading : Result Tree Fault) (answer : Result Text Fault) (autoescape : Bool) → Reads one_off_name r.delimiters text reading → answer ≡ render_str r reading context autoescape → OneOff r text context autoescape answer
+  means reading answer autoescape h e =
+      record { reading = reading; read = h; is = e; origin = origin-of reading answer autoescape e }
+
   -- the reader's refusal is the answer
-  pub refused : {X : Type 0} (view : X → Text) (e : Refusal) → SaysOneOf e (Reads one_off_name r.delimiters text) → GivesOneOf view (Err e) (OneOff r text context autoescape)
-  refused view None h = tt
-  refused view (Some fault) h = record { reading = Err fault; read = h; is = refl }
+  pub refused : {X : Type 0} (view : X → Text) (autoescape : Bool) (e : Refusal) → SaysOneOf e (Reads one_off_name r.delimiters text) → GivesOneOf view (Err e) (OneOff r text context autoescape)
+  refused view autoescape None h = tt
+  refused view autoescape (Some fault) h = means (Err fault) _ autoescape h refl
 
   -- and so is what its tree renders to
-  pub rendered : {X : Type 0} (view : X → Text) (tree : Tree) (result : Result X Refusal) → Reads one_off_name r.delimiters text (Ok tree) → Gives view result (render_str r (Ok tree) context autoescape) → GivesOneOf view result (OneOff r text context autoescape)
-  rendered view tree (Ok x) h g = record { reading = Ok tree; read = h; is = sym g }
-  rendered view tree (Err None) h g = tt
-  rendered view tree (Err (Some fault)) h g = record { reading = Ok tree; read = h; is = sym g }
+  pub rendered : {X : Type 0} (view : X → Text) (autoescape : Bool) (tree : Tree) (result : Result X Refusal) → Reads one_off_name r.delimiters text (Ok tree) → Gives view result (render_str r (Ok tree) context autoescape) → GivesOneOf view result (OneOff r text context autoescape)
+  rendered view autoescape tree (Ok x) h g = means (Ok tree) _ autoescape h (sym g)
+  rendered view autoescape tree (Err None) h g = tt
+  rendered view autoescape tree (Err (Some fault)) h g = means (Ok tree) _ autoescape h (sym g)

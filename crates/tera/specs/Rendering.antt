@@ -1,20 +1,24 @@
 -- What the rendering calls may answer.
-use Rattle.std.specs.Prelude.{◌≡◌, Bool, ◌++◌, Result, Ok, Err}
+use Rattle.std.specs.Prelude.{◌≡◌, Bool, IsTrue, ◌++◌, Result, Ok, Err}
 use Rattle.tera_errors.specs.Site.{Text}
 use Rattle.tera_errors.specs.Fault.{Fault}
 use Rattle.tera_errors.specs.Answer.{Refusal, SaysOneOf}
+use Rattle.tera_values.specs.Alphabet.{marking}
 use Rattle.tera_values.specs.Val.{Val}
 use Rattle.tera_values.specs.Named.{Named}
 use Rattle.tera_tree.specs.Tree.{Tree}
 use Rattle.tera_syntax.specs.Reads.{Reads}
 use Rattle.tera_meaning.specs.Registry.{Registry}
-use Rattle.tera_meaning.specs.Rendering.{one_off_name, render_str}
+use Rattle.tera_meaning.specs.Rendering.{one_off_name, render_str, render_str_in}
+use Rattle.tera_marks.specs.Origin.{Traces}
 
--- what the rendering of a text beside the registry may answer; only the place of a syntax error is left open
+-- what the rendering of a text beside the registry may answer: what its tree means, and where texts are escaped, no markup
+-- but from template text or a value marked safe. Only the place of a syntax error is left open
 pub record OneOff (r : Registry) (text : Text) (context : Named Val) (autoescape : Bool) (answer : Result Text Fault) : Type 0 where
   pub reading : Result Tree Fault
   pub read : Reads one_off_name r.delimiters text reading
   pub is : answer ≡ render_str r reading context autoescape
+  pub origin : IsTrue autoescape → Traces (render_str_in marking r reading context autoescape) answer
 
 -- how a call ends that appends what it renders to these bytes: they are followed by the text, or are as before
 abbrev pub AppendsOneOf : Result (Unit {0}) Refusal → Text → Text → (Result Text Fault → Type 0) → Type 0

@@ -21,7 +21,11 @@ pub struct Tera {
 // By hand, so that an engine that goes out of scope is one call.
 impl Drop for Tera {
     fn drop(self) {
-        let Tera { alloc: _, delimiters, global_context } = self;
+        let Tera {
+            alloc: _,
+            delimiters,
+            global_context,
+        } = self;
         drop(delimiters);
         drop(global_context);
     }

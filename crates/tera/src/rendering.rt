@@ -5,7 +5,7 @@ ghost use Rattle.std.specs.Prelude.{IfOk, IfErr};
 ghost use Rattle.tera_tree.specs.View.{nodes_of};
 ghost use Rattle.tera_code.specs.Code.{listing_of};
 ghost use Rattle.tera.specs.Rendering.{OneOff};
-ghost use Rattle.tera_meaning.specs.Rendering.{text_of, one_off_meaning, one_off_name};
+ghost use Rattle.tera_meaning.specs.Rendering.{one_off_name};
 ghost use Rattle.tera_machine.specs.Subject.{Subject};
 
 use crate::engine::Tera;
@@ -23,7 +23,7 @@ use tera_values::{Context, TeraResult};
 const ONE_OFF: &str = "__tera_one_off";
 
 impl Tera {
-    ghost use Rattle.tera.specs.Registry.{registry_of, one_off_subject};
+    ghost use Rattle.tera.specs.Registry.{registry_of, subject_of, text_meant};
 
     pub(crate) fn read_and_render(
         &self,
@@ -56,12 +56,12 @@ impl Tera {
     ) -> TeraResult<String>
         ghost about: { Subject }
         requires ledger { (blank.name ≡ L.name) × (blank.parts ≡ L.parts) × (L.parts ≡ 1) }
-        requires subject { about ≡ one_off_subject (registry_of self.now) (nodes_of nodes.now) autoescape }
-        ensures { Gives string_bytes result (text_of (one_off_meaning (registry_of self.now) (record { nodes = nodes_of nodes.now }) context.now autoescape)) }
+        requires subject { about ≡ subject_of self.now (nodes_of nodes.now) context.now autoescape }
+        ensures { Gives string_bytes result (text_meant about) }
     {
         let chunk = compiled(self.alloc, nodes)?;
         let machine = VirtualMachine::new_with_autoescape(self.alloc, autoescape);
-        let scopes = Scopes::new(context, Some(&self.global_context));
+        let scopes = Scopes::new(self.alloc, context, Some(&self.global_context));
         let mut configuration = Configuration::new(self.alloc, scopes);
         let mut steps = Steps::<L>::new(blank);
         match machine.run::<L>(&chunk, &mut configuration, &mut steps) {

@@ -1,0 +1,105 @@
+-- What a name stands for at marked characters stands for what it stands for at bytes.
+use Rattle.std.proofs.Common.{◌≡◌, ℕ, Bool, true, false, cond, List, [], ◌∷◌, refl, Option, Some, None, unwrap_or}
+use Rattle.std.specs.Str.{bytes_eq}
+use Rattle.std.specs.Option.{option_or}
+use Rattle.tera_errors.specs.Site.{Name}
+use Rattle.tera_values.specs.Alphabet.{Marked, names_from_outside}
+use Rattle.tera_values.specs.Val.{Val, ValOf, undefined}
+use Rattle.tera_values.specs.Named.{Named, at_name}
+use Rattle.tera_values.specs.Access.{is_undefined}
+use Rattle.tera_state.specs.Scope.{TurnOf, VariablesOf, Kind, whole, included, called, FrameOf, AroundOf, in_turn, in_turns, in_variables, outermost, defined, handed_down, bound, look, nothing_set, outside}
+use Rattle.tera_marks.proofs.Each.{Each, none, more}
+use Rattle.tera_marks.proofs.Standing.{Stands, undefineds, from_outside-stands, OptionStands, no_value, value}
+use Rattle.tera_marks.proofs.Moving.{undefined-same}
+
+-- a name and its value
+abbrev pub Binds : Name × ValOf Marked → Name × ValOf ℕ → Type 0
+Binds v w = (v.0 ≡ w.0) × Stands v.1 w.1
+
+pub record TurnStands (t : TurnOf Marked) (u : TurnOf ℕ) : Type 0 where
+  pub counters : Each Binds t.counters u.counters
+  pub sets : Each Binds t.sets u.sets
+  pub names : Each Binds t.names u.names
+
+pub record VariablesStand (v : VariablesOf Marked) (w : VariablesOf ℕ) : Type 0 where
+  pub turns : Each TurnStands v.turns w.turns
+  pub sets : Each Binds v.sets w.sets
+
+pub record FrameStands (f : FrameOf Marked) (g : FrameOf ℕ) : Type 0 where
+  pub kind : f.kind ≡ g.kind
+  pub context : Each Binds f.context g.context
+  pub global : Each Binds f.global g.global
+
+-- a frame above, with its variables
+abbrev pub AboveStands : FrameOf Marked × VariablesOf Marked → FrameOf ℕ × VariablesOf ℕ → Type 0
+AboveStands a b = FrameStands a.0 b.0 × VariablesStand a.1 b.1
+
+pub record AroundStands (a : AroundOf Marked) (b : AroundOf ℕ) : Type 0 where
+  pub frame : FrameStands a.frame b.frame
+  pub above : Each AboveStands a.above b.above
+
+option_or-stands : {x x' : Option (ValOf Marked)} {y y' : Option (ValOf ℕ)} → OptionStands Stands x y → OptionStands Stands x' y' → OptionStands Stands (option_or x x') (option_or y y')
+option_or-stands (value s) t = value s
+option_or-stands no_value t = t
+
+unwrap_or-stands : {x : Option (ValOf Marked)} {y : Option (ValOf ℕ)} → OptionStands Stands x y → Stands (unwrap_or x undefined) (unwrap_or y undefined)
+unwrap_or-stands (value s) = s
+unwrap_or-stands no_value = undefineds
+
+at_name-stands : (n : Name) {vs : List (Name × ValOf Marked)} {ws : List (Name × ValOf ℕ)} → Each Binds vs ws → OptionStands Stands (at_name n vs) (at_name n ws)
+at_name-stands n none = no_value
+at_name-stands n (more {x = v} {y = w} {xs = vs} {ys = ws} k ks) = rw k.0 (go (bytes_eq n w.0) (at_name-stands n ks))
+  where
+    go : (b : Bool) → OptionStands Stands (at_name n vs) (at_name n ws) → OptionStands Stands (cond b (Some v.1) (at_name n vs)) (cond b (Some w.1) (at_name n ws))
+    go true rest = value k.1
+    go false rest = rest
+
+in_turn-stands : (n : Name) {t : TurnOf Marked} {u : TurnOf ℕ} → TurnStands t u → OptionStands Stands (in_turn n t) (in_turn n u)
+in_turn-stands n k =
+    option_or-stands (at_name-stands n k.counters) (option_or-stands (at_name-stands n k.sets) (at_name-stands n k.names))
+
+in_turns-stands : (n : Name) {ts : List (TurnOf Marked)} {us : List (TurnOf ℕ)} → Each TurnStands ts us → OptionStands Stands (in_turns n ts) (in_turns n us)
+in_turns-stands n none = no_value
+in_turns-stands n (more k ks) = option_or-stands (in_turn-stands n k) (in_turns-stands n ks)
+
+in_variables-stands : (n : Name) {v : VariablesOf Marked} {w : VariablesOf ℕ} → VariablesStand v w → OptionStands Stands (in_variables n v) (in_variables n w)
+in_variables-stands n k = option_or-stands (in_turns-stands n k.turns) (at_name-stands n k.sets)
+
+outermost-stands : (n : Name) {f : FrameOf Marked} {g : FrameOf ℕ} → FrameStands f g → OptionStands Stands (outermost n f) (outermost n g)
+outermost-stands n k = option_or-stands (at_name-stands n k.context) (at_name-stands n k.global)
+
+defined-stands : {x : Option (ValOf Marked)} {y : Option (ValOf ℕ)} → OptionStands Stands x y → OptionStands Stands (defined x) (defined y)
+defined-stands no_value = no_value
+defined-stands (value {a = v} {b = w} s) = rw (undefined-same s) (go (is_undefined w))
+  where
+    go : (b : Bool) → OptionStands Stands (cond b None (Some v)) (cond b None (Some w))
+    go true = no_value
+    go false = value s
+
+handed_down-stands : (kind : Kind) {x : Option (ValOf Marked)} {y : Option (ValOf ℕ)} → OptionStands Stands x y → OptionStands Stands (handed_down kind x) (handed_down kind y)
+handed_down-stands whole s = no_value
+handed_down-stands included s = defined-stands s
+handed_down-stands called s = no_value
+
+-- recursion on the frames above
+bound-stands : (n : Name) {us : List (FrameOf Marked × VariablesOf Marked)} {ws : List (FrameOf ℕ × VariablesOf ℕ)} → Each AboveStands us ws
+    → {f : FrameOf Marked} {g : FrameOf ℕ} {v : VariablesOf Marked} {w : VariablesOf ℕ} → FrameStands f g → VariablesStand v w → OptionStands Stands (bound n f us v) (bound n g ws w)
+bound-stands n none k vs = option_or-stands (in_variables-stands n vs) (outermost-stands n k)
+bound-stands n (more l ls) {g = g} k vs =
+    option_or-stands (in_variables-stands n vs)
+    (option_or-stands (rw k.kind (handed_down-stands g.kind (bound-stands n ls l.0 l.1))) (outermost-stands n k))
+
+pub look-stands : (n : Name) {a : AroundOf Marked} {b : AroundOf ℕ} {v : VariablesOf Marked} {w : VariablesOf ℕ} → AroundStands a b → VariablesStand v w → Stands (look n a v) (look n b w)
+look-stands n k vs = unwrap_or-stands (bound-stands n k.above k.frame vs)
+
+-- names from outside, and what is around a rendering of them
+pub names-stand : (vs : Named Val) → Each Binds (names_from_outside vs) vs
+names-stand [] = none
+names-stand (v ∷ vs) = more (refl, from_outside-stands v.1) (names-stand vs)
+
+pub outside-stands : (context global : Named Val) → AroundStands (outside (names_from_outside context) (names_from_outside global)) (outside context global)
+outside-stands context global =
+    record { frame = record { kind = refl; context = names-stand context; global = names-stand global }; above = none }
+
+pub nothing-stands : VariablesStand nothing_set nothing_set
+nothing-stands = record { turns = none; sets = none }

@@ -27,14 +27,16 @@ fn nodes(alloc: Global, delimiters: &Delimiters, source: &str) -> Result<Vec<Nod
     let mut rest = source;
     let mut at = 0;
     let mut trims = false;
+    let mut opening = None;
     while !rest.is_empty() {
-        let piece = match next_piece(&mut tokens, delimiters, rest, at, trims) {
+        let piece = match next_piece(&mut tokens, delimiters, rest, at, trims, opening) {
             Ok(piece) => piece,
             Err(refusal) => return Err(refusal),
         };
         rest = piece.rest;
         at = piece.next;
         trims = piece.trims;
+        opening = piece.opening;
         match step(&mut progress, alloc, piece.piece, tokens.as_slice()) {
             Ok(()) => {}
             Err(refusal) => return Err(refusal),

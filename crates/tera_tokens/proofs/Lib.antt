@@ -7,3 +7,4 @@ pub mod Cuts
 pub mod Raws
 pub mod Order
 pub mod Stretches
+pub mod Words

@@ -1,5 +1,6 @@
 -- Where a start delimiter begins.
-use Rattle.std.proofs.Common.{◌≡◌, ℕ, ◌+◌, ◌<◌, ◌≤◌, [], ◌∷◌, Bool, true, false, ◌&&◌, nat_lt, length, drop, get_or, Option, Some, None, is_some, string_bytes, refl, arith, subst, if◌then◌else◌, IsTrue, IfSome}
+use Rattle.std.proofs.Common.{◌≡◌, ℕ, ◌+◌, ◌<◌, ◌≤◌, [], ◌∷◌, Bool, true, false, ◌&&◌, nat_lt, length, drop, get_or, Option, Some, None, is_some, string_bytes, refl, ap, ◌∙◌, arith, subst, if◌then◌else◌, IsTrue, IfSome}
+use Rattle.std.proofs.lemmas.List.{drop_all}
 use Rattle.std.proofs.lemmas.Str.{IsUtf8-string_bytes, IsCharBoundary-end, IsUtf8-from_is_utf8}
 use Rattle.std.specs.Str.{IsUtf8, IsCharBoundary, is_utf8, chars}
 use lib.Utf8.{encode}
@@ -178,3 +179,14 @@ heads_by false false false d text f a b c h = absurd (cc)
 pub opens_heads : (d : Delims) → Filled d → (text : Text) → opens d text ≡ true → heads (first_bytes d) text ≡ true
 unfolding opening_at
 opens_heads d f text h = heads_by (begins d.variable_start text) (begins d.block_start text) (begins d.comment_start text) d text f refl refl refl h
+
+-- nothing opens at the end
+pub nothing_opens : (d : Delims) → Filled d → opening_at d [] ≡ None
+nothing_opens d f = go (opening_at d []) refl
+  where
+    go : (o : Option Opening) → opening_at d [] ≡ o → opening_at d [] ≡ None
+    go None e = e
+    go (Some o) e = let h = opens_heads d f [] (ap is_some e) in absurd (cc)
+
+pub opens_no_more : (d : Delims) → Filled d → (i : ℕ) (text : Text) → length text ≤ i → opening_at d (drop i text) ≡ None
+opens_no_more d f i text l = ap (opening_at d) (drop_all i text l) ∙ nothing_opens d f

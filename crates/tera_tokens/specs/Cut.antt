@@ -1,5 +1,5 @@
 -- How a text is cut: into pieces of text, comments and tags.
-use Rattle.std.specs.Prelude.{ℕ, zero, suc, ◌+◌, ◌-◌, List, [], ◌∷◌, length, take, drop, Bool, false, ◌==◌, nat_lt, is_some, bytes_eq, codes, Option, Some, None, if◌then◌else◌}
+use Rattle.std.specs.Prelude.{◌≡◌, ℕ, zero, suc, ◌+◌, ◌-◌, List, [], ◌∷◌, length, take, drop, Bool, false, ◌==◌, nat_lt, is_some, bytes_eq, codes, Option, Some, None, if◌then◌else◌}
 use Rattle.std.specs.Str.{trim_start, trim_end}
 use Rattle.std.specs.List.{ends_with}
 use Rattle.tera_errors.specs.Site.{Text}
@@ -39,6 +39,11 @@ longer (Some a) (Some b) = if nat_lt a.size b.size then Some b else Some a
 unfoldable pub opening_at : Delims → Text → Option Opening
 opening_at d text = longer (opened_by tag.Variable d.variable_start text)
     (longer (opened_by tag.Block d.block_start text) (opened_by tag.Comment d.comment_start text))
+
+-- the start delimiter that begins a text is this one, if it is known
+abbrev pub Knows : Delims → Text → Option Opening → Type 0
+Knows d text None = Unit {0}
+Knows d text (Some o) = opening_at d text ≡ Some o
 
 abbrev pub opens : Delims → Text → Bool
 opens d text = is_some (opening_at d text)

@@ -21,14 +21,20 @@ pub(crate) fn before(bytes: &[u8], i: usize) -> &[u8]
     bytes.split_at(i).0
 }
 
+/// Whether the bytes begin with the word. It has two bytes mostly, so they are compared one by one.
+#[inline]
 pub(crate) fn begins(word: &[u8], bytes: &[u8]) -> bool
     ensures { result ≡ spec.begins word.now bytes.now }
 {
-    match (word, bytes) {
-        // Most texts differ at once.
-        ([first, ..], [byte, ..]) if first != byte => false,
-        _ => bytes.starts_with(word),
+    for (i, b) in word.iter().enumerate() {
+        if i >= bytes.len() {
+            return false;
+        }
+        if bytes[i] != *b {
+            return false;
+        }
     }
+    true
 }
 
 /// The first place where a word begins, or the end.

@@ -3,6 +3,7 @@ ghost use Rattle.std.specs.Prelude.{List, ◌≡◌, ◌<◌, ◌≤◌, ◌+◌
 ghost use Rattle.tera_tokens.specs.Answers.{Answers, Follows};
 ghost use Rattle.tera_tokens.specs.Bytes.{place};
 ghost use Rattle.tera_tokens.specs.Cut as spec;
+ghost use Rattle.tera_tokens.specs.Cut.{Knows};
 ghost use Rattle.tera_tree.specs.Delimiters.{accepted, delimiters_of};
 ghost use Rattle.std.specs.Str.{IsCharBoundary};
 ghost use Rattle.tera_tokens.specs.Found.{found_of, piece_of};
@@ -20,7 +21,7 @@ use tera_tree::Delimiters;
 
 /// What a start delimiter begins.
 #[derive(Clone, Copy, PartialEq, Eq, Debug)]
-pub(crate) enum Tag {
+pub enum Tag {
     Variable,
     Block,
     Comment,
@@ -28,9 +29,17 @@ pub(crate) enum Tag {
 
 /// A start delimiter in the text.
 #[derive(Clone, Copy, Debug)]
-pub(crate) struct Opening {
+pub struct Opening {
     pub tag: Tag,
+    /// How long it is.
     pub size: usize,
+}
+
+/// Where the next start delimiter begins, and which it is; with none, the end of the text.
+#[derive(Clone, Copy)]
+struct Ahead {
+    at: usize,
+    opening: Option<Opening>,
 }
 
 /// A piece of a text. The tokens of a tag are kept beside it.
@@ -56,6 +65,8 @@ pub struct Found<'a> {
     pub trims: bool,
     /// The text from that place on.
     pub rest: &'a str,
+    /// The start delimiter that begins it, where that is known by now.
+    pub opening: Option<Opening>,
 }
 
 fn opened_by(tag: Tag, start: &[u8], text: &[u8]) -> Option<Opening>
@@ -92,23 +103,49 @@ pub(crate) fn opening_at(delimiters: &Delimiters, text: &[u8]) -> Option<Opening
     longer(variable, longer(block, comment))
 }
 
-/// The first place where a start delimiter begins, or the end. Most of a text is passed over by the first bytes alone.
-pub(crate) fn next_opening(delimiters: &Delimiters, text: &[u8]) -> usize
+/// The start delimiter that begins the text, if that isn't known.
+fn opening_of(delimiters: &Delimiters, text: &[u8], known: Option<Opening>) -> Option<Opening>
+    requires { Knows (delimiters_of delimiters.now) text.now known }
+    ensures { result ≡ spec.opening_at (delimiters_of delimiters.now) text.now }
+{
+    match known {
+        Some(opening) => Some(opening),
+        None => opening_at(delimiters, text),
+    }
+}
+
+/// What comes next in the text. Most of it is passed over by the first bytes alone.
+fn opening_ahead(delimiters: &Delimiters, text: &[u8]) -> Ahead
     requires usable { IsTrue (accepted (delimiters_of delimiters.now)) }
-    ensures value { result ≡ place (spec.opens (delimiters_of delimiters.now)) text.now }
-    ensures within { result ≤ length text.now }
+    ensures value { result.at ≡ place (spec.opens (delimiters_of delimiters.now)) text.now }
+    ensures within { result.at ≤ length text.now }
+    ensures known { let rest = drop result.at text.now in
+        result.opening ≡ spec.opening_at (delimiters_of delimiters.now) rest }
 {
     let variable = delimiters.variable_start.as_bytes()[0];
     let block = delimiters.block_start.as_bytes()[0];
     let comment = delimiters.comment_start.as_bytes()[0];
     let mut i = place_of_byte(variable, block, comment, text);
     while i < text.len() {
-        if opening_at(delimiters, after(text, i)).is_some() {
-            return i;
+        let opening = opening_at(delimiters, after(text, i));
+        if opening.is_some() {
+            return Ahead { at: i, opening };
         }
         i = i + 1 + place_of_byte(variable, block, comment, after(text, i + 1));
     }
-    i
+    Ahead {
+        at: i,
+        opening: None,
+    }
+}
+
+/// The first place where a start delimiter begins, or the end.
+pub(crate) fn next_opening(delimiters: &Delimiters, text: &[u8]) -> usize
+    requires usable { IsTrue (accepted (delimiters_of delimiters.now)) }
+    ensures value { result ≡ place (spec.opens (delimiters_of delimiters.now)) text.now }
+    ensures within { result ≤ length text.now }
+{
+    opening_ahead(delimiters, text).at
 }
 
 /// Whether a start delimiter with a `-` begins the text.
@@ -166,15 +203,18 @@ fn words<'a>(delimiters: &Delimiters, text: &'a str, at: usize, trims: bool) -> 
     ensures value { (tokens : List Token) → let meant = spec.piece_by (delimiters_of delimiters.now) trims at text.now None in
         meant ≡ Some (found_of tokens result) }
     ensures rest { Follows at text.now result.next result.rest.now }
+    ensures known { Knows (delimiters_of delimiters.now) result.rest.now result.opening }
 {
-    let n = next_opening(delimiters, text.as_bytes());
+    let ahead = opening_ahead(delimiters, text.as_bytes());
+    let n = ahead.at;
     let (_, rest) = text.split_at(n);
-    let behind = trims_before(rest.as_bytes(), opening_at(delimiters, rest.as_bytes()));
+    let behind = trims_before(rest.as_bytes(), ahead.opening);
     Found {
         piece: trimmed(text, n, at, trims, behind),
         next: at + n,
         trims: false,
         rest,
+        opening: ahead.opening,
     }
 }
 
@@ -184,6 +224,7 @@ fn comment<'a>(end: &str, text: &'a str, at: usize) -> Result<Found<'a>, Refusal
     requires some { 0 < length end.now }
     ensures value { (tokens : List Token) → Answers (found_of tokens) (spec.comment end.now at text.now) result }
     ensures rest { IfOk result (λ x. Follows at text.now x.next x.rest.now) }
+    ensures unknown { IfOk result (λ x. x.opening ≡ None) }
 {
     let bytes = text.as_bytes();
     let n = place_of(end.as_bytes(), bytes);
@@ -203,6 +244,7 @@ fn comment<'a>(end: &str, text: &'a str, at: usize) -> Result<Found<'a>, Refusal
         next: at + size,
         trims: before(bytes, n).ends_with(b"-"),
         rest,
+        opening: None,
     })
 }
 
@@ -229,6 +271,7 @@ fn block<'a>(
         let meant = spec.block d at text.now (inside d.block_end 0 0 at text.now) in
         Answers (found_of tokens.new.items) meant result }
     ensures rest { IfOk result (λ x. Follows at text.now x.next x.rest.now) }
+    ensures unknown { IfOk result (λ x. x.opening ≡ None) }
 {
     let x = cut_inside(tokens, text, delimiters.block_end.as_str(), at)?;
     if is_alone("raw", tokens.as_slice()) {
@@ -239,6 +282,7 @@ fn block<'a>(
         next: x.next,
         trims: x.trims,
         rest: x.rest,
+        opening: None,
     })
 }
 
@@ -255,6 +299,7 @@ fn behind<'a>(
     ensures value { let meant = spec.behind (delimiters_of delimiters.now) tag at text.now in
         Answers (found_of tokens.new.items) meant result }
     ensures rest { IfOk result (λ x. Follows at text.now x.next x.rest.now) }
+    ensures unknown { IfOk result (λ x. x.opening ≡ None) }
 {
     match tag {
         Tag::Variable => {
@@ -264,6 +309,7 @@ fn behind<'a>(
                 next: x.next,
                 trims: x.trims,
                 rest: x.rest,
+                opening: None,
             })
         }
         Tag::Block => block(tokens, delimiters, text, at),
@@ -273,7 +319,8 @@ fn behind<'a>(
 
 /// The first piece of a text that stands at the place `at` of the source. A `-` before it trims it where `trims` says so:
 /// that is what the piece before it found, and `false` at the start. The tokens of a tag take the place of those that were
-/// there, so that one list serves all tags of a text; beside any other piece it holds what it may.
+/// there, so that one list serves all tags of a text; beside any other piece it holds what it may. The start delimiter that
+/// begins the text may be known: the piece before it tells.
 #[tactic(auto, unfolding(crate::specs::Cut::piece))]
 pub fn next_piece<'a>(
     tokens: &mut Vec<Token<'a>>,
@@ -281,16 +328,20 @@ pub fn next_piece<'a>(
     text: &'a str,
     at: usize,
     trims: bool,
+    known: Option<Opening>,
 ) -> Result<Found<'a>, Refusal>
     requires room { at + length text.now < 2 ^ 64 }
     requires some { 0 < length text.now }
     requires usable { IsTrue (accepted (delimiters_of delimiters.now)) }
+    requires known { Knows (delimiters_of delimiters.now) text.now known }
     ensures value { let meant = spec.piece (delimiters_of delimiters.now) trims at text.now in
         Answers (found_of tokens.new.items) meant result }
     ensures rest { IfOk result (λ x. Follows at text.now x.next x.rest.now) }
     ensures moves { IfOk result (λ x. at < x.next) }
+    ensures known { let d = delimiters_of delimiters.now in
+        IfOk result (λ x. Knows d x.rest.now x.opening) }
 {
-    match opening_at(delimiters, text.as_bytes()) {
+    match opening_of(delimiters, text.as_bytes(), known) {
         None => Ok(words(delimiters, text, at, trims)),
         Some(opening) => {
             let size = start_size(opening, text.as_bytes());

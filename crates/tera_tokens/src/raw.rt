@@ -1,5 +1,5 @@
 // The text that `raw` keeps: up to the first tag `endraw`, with nothing in it read.
-ghost use Rattle.std.specs.Prelude.{ℕ, List, ◌≡◌, ◌<◌, ◌≤◌, ◌+◌, ◌^◌, ◌&&◌, ◌||◌, not, length, drop, get_or, codes, option_map, is_some, true, IfOk, IfSome, IsTrue};
+ghost use Rattle.std.specs.Prelude.{ℕ, List, None, ◌≡◌, ◌<◌, ◌≤◌, ◌+◌, ◌^◌, ◌&&◌, ◌||◌, not, length, drop, get_or, codes, option_map, is_some, true, IfOk, IfSome, IsTrue};
 ghost use Rattle.std.specs.Str.{IsCharBoundary, IsUtf8};
 ghost use Rattle.tera_tokens.specs.Answers.{Answers, Follows};
 ghost use Rattle.tera_tokens.specs.Bytes as bytes;
@@ -118,6 +118,7 @@ pub(crate) fn raw<'a>(
     ensures value { (tokens : List Token) → let meant = spec.raw (delimiters_of delimiters.now) trims at text.now in
         Answers (found_of tokens) meant result }
     ensures rest { IfOk result (λ x. Follows at text.now x.next x.rest.now) }
+    ensures unknown { IfOk result (λ x. x.opening ≡ None) }
 {
     let n = next_endraw(delimiters, text.as_bytes());
     let (_, tag) = text.split_at(n);
@@ -137,5 +138,6 @@ pub(crate) fn raw<'a>(
         next: at + n + ending.size,
         trims: ending.trims,
         rest,
+        opening: None,
     })
 }

@@ -277,9 +277,34 @@ fn measured(text: &[u8]) -> Option<Measure>
     }
 }
 
+/// Whether a reserved word begins so and is this long. Most names are told from them by that.
+#[inline]
+fn may_be_reserved(first: u8, size: usize) -> bool
+    ensures { result ≡ spec.may_be_reserved first size }
+{
+    match size {
+        2 => first == b'i' || first == b'o',
+        3 => first == b'a' || first == b'f' || first == b'n',
+        4 => { first == b'e' || first == b't' || first == b'T' || first == b'n' || first == b'N' }
+        5 => first == b'f' || first == b'F',
+        _ => false,
+    }
+}
+
 /// The kind of a word: those that are reserved have their own.
-#[tactic(auto, unfolding(crate::specs::Token::word_kind))]
 fn word_kind(word: &str) -> Kind
+    ensures { result ≡ spec.word_kind word.now }
+{
+    if may_be_reserved(byte_at(word.as_bytes(), 0), word.len()) {
+        found_kind(word)
+    } else {
+        Kind::Name
+    }
+}
+
+/// The same by comparing the word with each reserved one.
+#[tactic(auto, unfolding(crate::specs::Token::word_kind))]
+fn found_kind(word: &str) -> Kind
     ensures { result ≡ spec.word_kind word.now }
 {
     match word {

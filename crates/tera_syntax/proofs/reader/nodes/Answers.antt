@@ -46,6 +46,7 @@ loop-rest-preserved c =
     record {
       utf8 = f.3;
       place = omega (arith, f.0, f.1, k, c.loop-rest.invariant.place);
+      known = c.in-Ok.ensures.known;
       so_far = c.loop-rest.invariant.so_far
           ∙ ap (spec.run 200 (progress_of c.loop-rest.progress)) s
           ∙ ap (option_and_then (λ t. spec.run 200 t (cut d c.in-Ok.piece.trims 0 c.in-Ok.piece.next _))) c.in-Ok-step.ensures

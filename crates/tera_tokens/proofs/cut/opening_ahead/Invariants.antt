@@ -2,7 +2,7 @@ use Rattle.std.proofs.Common.{◌≡◌, ◌≤◌, ◌+◌, ◌-◌, drop, leng
 use Rattle.tera_tokens.specs.Bytes.{place}
 use Rattle.tera_tokens.specs.Cut.{opens}
 use Rattle.tera_tree.specs.Delimiters.{delimiters_of}
-use Rattle.tera_tokens.proofs.cut.next_opening.Given as goal
+use Rattle.tera_tokens.proofs.cut.opening_ahead.Given as goal
 
 abbrev pub invariant-loop-i : goal.invariant-loop-i
 invariant-loop-i l = record {

@@ -1,10 +1,10 @@
-use Rattle.std.proofs.Common.{◌≡◌, ap, ◌∙◌, arith, drop, true, false}
+use Rattle.std.proofs.Common.{◌≡◌, ap, sym, ◌∙◌, arith, drop, true, false}
 use Rattle.tera_tokens.specs.Bytes.{place, heads}
 use Rattle.tera_tokens.specs.Cut.{opens}
 use Rattle.tera_tree.specs.Delimiters.{delimiters_of}
-use Rattle.tera_tokens.proofs.Openings.{filled, first_bytes, opens_heads}
+use Rattle.tera_tokens.proofs.Openings.{filled, first_bytes, opens_heads, opens_no_more}
 use Rattle.tera_tokens.proofs.Places.{place_here, place_end, place_skips, place_step}
-use Rattle.tera_tokens.proofs.cut.next_opening.Goals as goal
+use Rattle.tera_tokens.proofs.cut.opening_ahead.Goals as goal
 
 pub bounds-as_bytes-0 : goal.bounds-as_bytes-0
 bounds-as_bytes-0 c = rw c.as_bytes.ensures.value (filled (delimiters_of c.args.delimiters.now) c.requires.usable).variable_start
@@ -43,3 +43,8 @@ pub returns-clause-value : goal.returns-clause-value
 returns-clause-value c =
     let e = place_end (opens (delimiters_of c.args.delimiters.now)) c.loop-i.i c.args.text.now c.loop-i-test.false in
     omega (arith, c.loop-i.invariant.so_far)
+
+pub returns-clause-known : goal.returns-clause-known
+returns-clause-known c =
+    let d = delimiters_of c.args.delimiters.now in
+    sym (opens_no_more d (filled d c.requires.usable) c.loop-i.i c.args.text.now c.loop-i-test.false)

@@ -3,5 +3,6 @@ pub mod Fields
 pub mod Bodies
 pub mod Scripts
 pub mod Passages
+pub mod Devices
 pub mod Sessions
 pub mod Programs

@@ -2,6 +2,7 @@ pub mod Lines
 pub mod Words
 pub mod Act
 pub mod Passage
+pub mod Device
 pub mod Reply
 pub mod Script
 pub mod Session

@@ -1,5 +1,5 @@
 // All of an input.
-ghost use Rattle.tera_script.specs.Passage.{ReadsAll};
+ghost use Rattle.tera_script.specs.Device.{Reads};
 
 use crate::stream::Input;
 use std::alloc::Global;
@@ -18,7 +18,7 @@ pub enum ReadError {
 
 /// Reads to the end of the input.
 pub fn read_all<R: Input>(alloc: Global, reader: &mut R) -> Result<Vec<u8>, ReadError>
-    ensures { ReadsAll (R.passed reader.old) (R.passed reader.new) (R.ended reader.new) result }
+    ensures { Reads R.passed R.ended R.remaining reader.old reader.new result }
 {
     let mut bytes = Vec::new(alloc);
     let mut chunk = [0; CHUNK];

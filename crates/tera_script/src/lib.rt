@@ -22,6 +22,3 @@ pub use program::run;
 pub use reply::Reply;
 pub use standard::{ReaderInput, WriterOutput};
 pub use stream::{Failure, Input, Output};
-
-#[cfg(test)]
-mod tests;

@@ -1,5 +1,6 @@
 // What a run comes to.
 ghost use Rattle.std.specs.Prelude.{◌≡◌};
+ghost use Rattle.tera_script.specs.Device.{ToDevice};
 ghost use Rattle.tera_script.specs.Run.{status_of, Complains};
 
 use crate::output::put;
@@ -36,7 +37,8 @@ impl Outcome {
 /// Writes a line for an unreadable command, and nothing for any other outcome. It takes no memory, and a failure of the
 /// writer is ignored.
 pub fn complaint<W: Output>(outcome: &Outcome, writer: &mut W)
-    ensures { Complains (W.passed writer.old) (W.passed writer.new) outcome.now }
+    ensures complains { Complains (W.passed writer.old) (W.passed writer.new) outcome.now }
+    ensures device { ToDevice W.passed W.contents writer.old writer.new }
 {
     if let Outcome::Unreadable(line) = outcome {
         let mut number = Buffer::new();

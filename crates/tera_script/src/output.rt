@@ -1,13 +1,13 @@
 // Whole texts to an output.
 ghost use Rattle.std.specs.Prelude.{◌≡◌};
 ghost use Rattle.std.specs.List.{flat_map};
-ghost use Rattle.tera_script.specs.Passage.{Puts};
+ghost use Rattle.tera_script.specs.Device.{Writes};
 
 use crate::stream::{Failure, Output};
 
 /// Writes all of a piece, unless the output fails.
 fn write_piece<W: Output>(writer: &mut W, piece: &[u8]) -> Result<(), Failure>
-    ensures { Puts (W.passed writer.old) (W.passed writer.new) piece.now result }
+    ensures { Writes W.passed W.contents writer.old writer.new piece.now result }
 {
     let mut rest = piece;
     while !rest.is_empty() {
@@ -19,7 +19,8 @@ fn write_piece<W: Output>(writer: &mut W, piece: &[u8]) -> Result<(), Failure>
 
 /// Writes the pieces in order, unless the output fails.
 pub fn write_pieces<W: Output>(writer: &mut W, pieces: &[&[u8]]) -> Result<(), Failure>
-    ensures { Puts (W.passed writer.old) (W.passed writer.new) (flat_map (λ piece. piece.now) pieces.now) result }
+    ensures { Writes W.passed W.contents writer.old writer.new
+        (flat_map (λ piece. piece.now) pieces.now) result }
 {
     for piece in pieces {
         if let Err(failure) = write_piece(writer, piece) {
@@ -31,7 +32,8 @@ pub fn write_pieces<W: Output>(writer: &mut W, pieces: &[&[u8]]) -> Result<(), F
 
 /// Writes the pieces in order, and has them handed on, unless the output fails.
 pub fn put<W: Output>(writer: &mut W, pieces: &[&[u8]]) -> Result<(), Failure>
-    ensures { Puts (W.passed writer.old) (W.passed writer.new) (flat_map (λ piece. piece.now) pieces.now) result }
+    ensures { Writes W.passed W.contents writer.old writer.new
+        (flat_map (λ piece. piece.now) pieces.now) result }
 {
     match write_pieces(writer, pieces) {
         Ok(()) => writer.flush(),

@@ -2,7 +2,7 @@
 ghost use Rattle.std.specs.Prelude.{◌≡◌, OnOk};
 ghost use Rattle.std.specs.List.{flat_map};
 ghost use Rattle.tera.specs.Registry.{registry_of};
-ghost use Rattle.tera_script.specs.Passage.{Puts};
+ghost use Rattle.tera_script.specs.Device.{FromDevice, HasEnded, ToDevice, Writes};
 ghost use Rattle.tera_script.specs.Reply.{line_of, reply_seen};
 ghost use Rattle.tera_script.specs.Run.{Ran};
 
@@ -23,7 +23,11 @@ pub fn run<R: Input, W: Output>(
     writer: &mut W,
     engine: &mut Tera,
 ) -> Outcome
-    ensures ran { Ran (registry_of engine.old) (R.passed reader.old) (R.passed reader.new) (R.ended reader.new) (W.passed writer.old) (W.passed writer.new) (W.settled writer.new) result }
+    ensures ran { Ran (registry_of engine.old)
+        (R.passed reader.old) (R.passed reader.new) (HasEnded R.ended R.remaining reader.new)
+        (W.passed writer.old) (W.passed writer.new) (W.settled writer.new) result }
+    ensures input { FromDevice R.passed R.remaining reader.old reader.new }
+    ensures output { ToDevice W.passed W.contents writer.old writer.new }
     ensures engine { registry_of engine.new ≡ registry_of engine.old }
 {
     let bytes = match read_all(alloc, reader) {
@@ -50,7 +54,8 @@ pub fn run<R: Input, W: Output>(
 
 /// Writes the replies in order, and has them handed on.
 fn write_replies<W: Output>(writer: &mut W, replies: &[Reply]) -> Result<(), Failure>
-    ensures passed { Puts (W.passed writer.old) (W.passed writer.new) (flat_map (λ reply. line_of (reply_seen reply)) replies.now) result }
+    ensures written { Writes W.passed W.contents writer.old writer.new
+        (flat_map (λ reply. line_of (reply_seen reply)) replies.now) result }
     ensures settled { OnOk result (W.settled writer.new) }
 {
     for reply in replies {

@@ -1,7 +1,7 @@
 // What commands are answered, and how it is written.
 ghost use Rattle.std.specs.Prelude.{◌++◌, codes, decimal, Some};
 ghost use Rattle.tera_errors.specs.Fault.{fault_of};
-ghost use Rattle.tera_script.specs.Passage.{Puts};
+ghost use Rattle.tera_script.specs.Device.{Writes};
 ghost use Rattle.tera_script.specs.Reply.{line_of, reply_seen, fault_line, place};
 
 use crate::output::write_pieces;
@@ -22,7 +22,8 @@ pub enum Reply {
 
 /// Writes the reply: `ok`, its text, or the kind of its fault with the place where it has one; then a line feed.
 pub fn write_reply<W: Output>(writer: &mut W, reply: &Reply) -> Result<(), Failure>
-    ensures { Puts (W.passed writer.old) (W.passed writer.new) (line_of (reply_seen reply.now)) result }
+    ensures { Writes W.passed W.contents writer.old writer.new
+        (line_of (reply_seen reply.now)) result }
 {
     match reply {
         Reply::Done => write_pieces(writer, &[b"ok\n"]),
@@ -32,7 +33,8 @@ pub fn write_reply<W: Output>(writer: &mut W, reply: &Reply) -> Result<(), Failu
 }
 
 fn write_fault<W: Output>(writer: &mut W, kind: &ErrorKind) -> Result<(), Failure>
-    ensures { Puts (W.passed writer.old) (W.passed writer.new) (fault_line (fault_of kind.now) ++ codes "\n") result }
+    ensures { Writes W.passed W.contents writer.old writer.new
+        (fault_line (fault_of kind.now) ++ codes "\n") result }
 {
     match kind {
         ErrorKind::SyntaxError(report) => write_placed(writer, "SyntaxError", report),
@@ -50,13 +52,15 @@ fn write_fault<W: Output>(writer: &mut W, kind: &ErrorKind) -> Result<(), Failur
 }
 
 fn write_kind<W: Output>(writer: &mut W, kind: &str) -> Result<(), Failure>
-    ensures { Puts (W.passed writer.old) (W.passed writer.new) (codes "fault " ++ kind.now ++ codes "\n") result }
+    ensures { Writes W.passed W.contents writer.old writer.new
+        (codes "fault " ++ kind.now ++ codes "\n") result }
 {
     write_pieces(writer, &[b"fault ", kind.as_bytes(), b"\n"])
 }
 
 fn write_placed<W: Output>(writer: &mut W, kind: &str, report: &ReportError) -> Result<(), Failure>
-    ensures { Puts (W.passed writer.old) (W.passed writer.new) (codes "fault " ++ kind.now ++ codes " " ++ place report.now.site ++ codes "\n") result }
+    ensures { Writes W.passed W.contents writer.old writer.new
+        (codes "fault " ++ kind.now ++ codes " " ++ place report.now.site ++ codes "\n") result }
 {
     let span = report.span();
     let mut start = Buffer::new();

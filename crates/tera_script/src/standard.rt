@@ -19,6 +19,7 @@ impl<R: Read> ReaderInput<R> {
     /// Takes the reader where it stands.
     pub fn new(reader: R) -> ReaderInput<R>
         ensures passed { ⟦<ReaderInput<R> as Input>⟧.passed result ≡ unused }
+        ensures device { ⟦<ReaderInput<R> as Input>⟧.remaining result ≡ R.remaining reader }
         ensures reader { reader_inside result ≡ reader }
     {
         ReaderInput {
@@ -36,6 +37,8 @@ impl<R: Read> Input for ReaderInput<R> {
     ghost passed = { λ s. record { bytes = s.trace.bytes; failures = s.trace.failures } };
 
     ghost ended = { λ s. IsTrue s.ended };
+
+    ghost remaining = { λ s. R.remaining s.reader };
 
     fn read(&mut self, buffer: &mut [u8]) -> Result<usize, Failure> {
         for _ in 0..u64::MAX {
@@ -69,6 +72,7 @@ impl<W: Write> WriterOutput<W> {
     /// Takes the writer where it stands.
     pub fn new(writer: W) -> WriterOutput<W>
         ensures passed { ⟦<WriterOutput<W> as Output>⟧.passed result ≡ unused }
+        ensures device { ⟦<WriterOutput<W> as Output>⟧.contents result ≡ W.contents writer }
         ensures writer { writer_inside result ≡ writer }
     {
         WriterOutput {
@@ -80,7 +84,8 @@ impl<W: Write> WriterOutput<W> {
 
     /// The writer, as it stands now.
     pub fn into_inner(self) -> W
-        ensures { result ≡ writer_inside self }
+        ensures writer { result ≡ writer_inside self }
+        ensures device { W.contents result ≡ ⟦<WriterOutput<W> as Output>⟧.contents self }
     {
         let WriterOutput {
             writer,
@@ -98,6 +103,8 @@ impl<W: Write> Output for WriterOutput<W> {
     ghost passed = { λ s. record { bytes = s.trace.bytes; failures = s.trace.failures } };
 
     ghost settled = { λ s. IsTrue s.is_flushed };
+
+    ghost contents = { λ s. W.contents s.writer };
 
     fn write(&mut self, piece: &[u8]) -> Result<usize, Failure> {
         self.is_flushed = false;

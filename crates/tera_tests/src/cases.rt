@@ -1,74 +1,112 @@
-//! Texts that stand beside the registry, and what they render to.
-use self::Want::{Fault, SyntaxError, Text};
+//! Tables of texts that stand beside the registry, and of what they render to.
+//!
+//! A line of a table is `INPUT => TEXT`, where the input renders to the text; `INPUT !! START END`, where it faults with a
+//! `RenderingError` at these bytes; or `INPUT !! syntax`, where it is refused with a `SyntaxError` inside of it. One text
+//! is far cheaper to prove safe than an array of rows.
 use std::alloc::Global;
-use tera::{Context, ErrorKind, Tera, TeraResult, Value};
+use tera::{Context, Error, ErrorKind, ReportError, Tera, TeraResult, Value};
 
-/// What a text renders to: a text, a `RenderingError` at these bytes of it, or a `SyntaxError` inside of it.
-#[derive(Clone, Copy)]
-pub enum Want {
-    Text(&'static str),
-    Fault(usize, usize),
-    SyntaxError,
+/// Puts the value into the context, if there was room for both.
+pub fn put(context: &mut Context, name: &str, value: TeraResult<Value>) -> bool {
+    match value {
+        Ok(value) => context.insert(name, value).is_ok(),
+        Err(_) => false,
+    }
 }
 
-/// A text, and what it renders to.
-#[derive(Clone, Copy)]
-pub struct Case(pub &'static str, pub Want);
-
-/// A context with a text, `text`, the same marked safe, `safe`, and `name`, which is `world`.
-pub fn variables(alloc: Global) -> TeraResult<Context> {
+/// A context with a text, `text`, the same marked safe, `safe`, `html`, `name`, which is `world`, and `hidden`, which is
+/// undefined.
+pub fn variables(alloc: Global) -> Option<Context> {
     let mut context = Context::new(alloc);
-    context.insert("text", Value::string(alloc, "<b>")?)?;
-    context.insert("safe", Value::safe_string(alloc, "<b>")?)?;
-    context.insert("name", Value::string(alloc, "world")?)?;
-    Ok(context)
+    if put(&mut context, "text", Value::string(alloc, "<b>"))
+        && put(&mut context, "safe", Value::safe_string(alloc, "<b>"))
+        && put(&mut context, "html", Value::string(alloc, "<script>"))
+        && put(&mut context, "name", Value::string(alloc, "world"))
+        && put(&mut context, "hidden", Ok(Value::undefined()))
+    {
+        return Some(context);
+    }
+    None
 }
 
-fn is_wanted(answer: TeraResult<String>, want: Want, size: usize) -> bool {
-    match (answer, want) {
-        (Ok(text), Text(wanted)) => text.as_str() == wanted,
-        (Err(error), Fault(start, end)) => match error.kind() {
-            ErrorKind::RenderingError(report) => {
-                report.file() == "__tera_one_off"
-                    && report.span().start == start
-                    && report.span().end == end
-            }
-            _ => false,
-        },
-        (Err(error), SyntaxError) => match error.kind() {
-            ErrorKind::SyntaxError(report) => {
-                report.file() == "__tera_one_off"
-                    && report.span().start <= report.span().end
-                    && report.span().end <= size
-            }
-            _ => false,
-        },
+fn is_place(number: &str, place: usize) -> bool {
+    number.parse::<usize>() == Ok(place)
+}
+
+fn reports_fault(report: &ReportError, want: &str) -> bool {
+    match want.split_once(' ') {
+        Some((start, end)) => {
+            report.file() == "__tera_one_off"
+                && is_place(start, report.span().start)
+                && is_place(end, report.span().end)
+        }
+        None => false,
+    }
+}
+
+fn reports_syntax(report: &ReportError, size: usize) -> bool {
+    report.file() == "__tera_one_off"
+        && report.span().start <= report.span().end
+        && report.span().end <= size
+}
+
+/// Whether a text of this size is refused as the line wants it.
+pub fn is_refused(error: &Error, want: &str, size: usize) -> bool {
+    match error.kind() {
+        ErrorKind::RenderingError(report) => reports_fault(report, want),
+        ErrorKind::SyntaxError(report) => want == "syntax" && reports_syntax(report, size),
         _ => false,
     }
 }
 
-/// Whether the text renders to what is wanted.
-pub fn agrees(engine: &Tera, context: &Context, autoescape: bool, input: &str, want: Want) -> bool {
-    is_wanted(
-        engine.render_str(input, context, autoescape),
-        want,
-        input.len(),
-    )
-}
-
-fn first_wrong(
+/// Whether the input renders to the text.
+pub fn renders(
     engine: &Tera,
     context: &Context,
     autoescape: bool,
-    cases: &[Case],
-) -> Option<usize> {
-    cases.iter().position(|case| !agrees(engine, context, autoescape, case.0, case.1))
+    input: &str,
+    text: &str,
+) -> bool {
+    match engine.render_str(input, context, autoescape) {
+        Ok(rendered) => rendered.as_str() == text,
+        Err(_) => false,
+    }
 }
 
-/// The first text that doesn't render to what is wanted. With no engine to render with, that is the first.
-pub fn wrong(alloc: Global, autoescape: bool, cases: &[Case]) -> Option<usize> {
+/// Whether the input is refused as the line wants it.
+pub fn refuses(
+    engine: &Tera,
+    context: &Context,
+    autoescape: bool,
+    input: &str,
+    want: &str,
+) -> bool {
+    match engine.render_str(input, context, autoescape) {
+        Ok(_) => false,
+        Err(error) => is_refused(&error, want, input.len()),
+    }
+}
+
+/// Whether a line is answered as it wants it.
+fn agrees(engine: &Tera, context: &Context, autoescape: bool, line: &str) -> bool {
+    if let Some((input, text)) = line.split_once(" =>") {
+        let text = text.strip_prefix(' ').unwrap_or(text);
+        return renders(engine, context, autoescape, input, text);
+    }
+    match line.split_once(" !! ") {
+        Some((input, want)) => refuses(engine, context, autoescape, input, want),
+        None => line.is_empty(),
+    }
+}
+
+/// The first line that is answered otherwise. With no engine to render with, that is the first.
+pub fn wrong(alloc: Global, autoescape: bool, lines: &str) -> Option<usize> {
     match (Tera::new(alloc), variables(alloc)) {
-        (Ok(engine), Ok(context)) => first_wrong(&engine, &context, autoescape, cases),
+        (Ok(engine), Some(context)) => {
+            lines
+                .lines()
+                .position(|line| !agrees(&engine, &context, autoescape, line))
+        }
         _ => Some(0),
     }
 }

@@ -1,7 +1,6 @@
 //! Texts that are as deep as a text may be, and deeper.
-use crate::cases::Want::{SyntaxError, Text};
-use crate::cases::{Want, agrees, variables};
-use std::alloc::{AllocError, Global};
+use crate::cases::{refuses, renders, variables};
+use std::alloc::Global;
 use tera::{Context, Tera};
 
 /// Five texts, of which the second and the fourth stand so many times.
@@ -24,51 +23,67 @@ const PARENTHESES: [&str; 5] = ["{{ ", "(", "name", ")", " }}"];
 
 const OPEN_PARENTHESES: [&str; 5] = ["{{ ", "(", "name", "", " }}"];
 
-const DEPTHS: [(Nest, Want); 8] = [
-    (Nest(CHOICES, 199), Text("x")),
-    (Nest(CHOICES, 200), SyntaxError),
+/// Nests, and what they render to; none where that is a `SyntaxError`.
+const DEPTHS: [(Nest, Option<&str>); 8] = [
+    (Nest(CHOICES, 199), Some("x")),
+    (Nest(CHOICES, 200), None),
     // the first condition is an `if`
-    (Nest(CHAINED, 198), Text("x")),
-    (Nest(CHAINED, 199), SyntaxError),
-    (Nest(NOTS, 198), Text("x")),
-    (Nest(NOTS, 199), SyntaxError),
-    (Nest(PARENTHESES, 20_000), Text("world")),
-    (Nest(OPEN_PARENTHESES, 20_000), SyntaxError),
+    (Nest(CHAINED, 198), Some("x")),
+    (Nest(CHAINED, 199), None),
+    (Nest(NOTS, 198), Some("x")),
+    (Nest(NOTS, 199), None),
+    (Nest(PARENTHESES, 20_000), Some("world")),
+    (Nest(OPEN_PARENTHESES, 20_000), None),
 ];
 
-fn put_often(all: &mut String, text: &str, count: usize) -> Result<(), AllocError> {
+fn put_often(all: &mut String, text: &str, count: usize) -> bool {
     for _ in 0..count {
-        all.push_str(text)?;
+        if all.push_str(text).is_err() {
+            return false;
+        }
     }
-    Ok(())
+    true
 }
 
-fn nested(alloc: Global, nest: Nest) -> Result<String, AllocError> {
+fn put_nested(all: &mut String, nest: Nest) -> bool {
     let Nest([start, before, middle, after, end], count) = nest;
-    let mut all = String::from_str(alloc, start)?;
-    put_often(&mut all, before, count)?;
-    all.push_str(middle)?;
-    put_often(&mut all, after, count)?;
-    all.push_str(end)?;
-    Ok(all)
+    put_often(all, start, 1)
+        && put_often(all, before, count)
+        && put_often(all, middle, 1)
+        && put_often(all, after, count)
+        && put_often(all, end, 1)
 }
 
-fn is_as_wanted(alloc: Global, engine: &Tera, context: &Context, nest: Nest, want: Want) -> bool {
-    match nested(alloc, nest) {
-        Ok(text) => agrees(engine, context, true, text.as_str(), want),
-        Err(_) => false,
+fn is_as_wanted(engine: &Tera, context: &Context, text: &str, want: Option<&str>) -> bool {
+    match want {
+        Some(want) => renders(engine, context, true, text, want),
+        None => refuses(engine, context, true, text, "syntax"),
     }
+}
+
+fn is_nested(
+    alloc: Global,
+    engine: &Tera,
+    context: &Context,
+    nest: Nest,
+    want: Option<&str>,
+) -> bool {
+    let mut text = String::new(alloc);
+    put_nested(&mut text, nest) && is_as_wanted(engine, context, text.as_str(), want)
 }
 
 /// The first row that is answered otherwise. With no engine to render with, that is the first.
 fn wrong(alloc: Global) -> Option<usize> {
-    let (Ok(engine), Ok(context)) = (Tera::new(alloc), variables(alloc)) else {
-        return Some(0);
-    };
-    DEPTHS.iter().position(|depth| !is_as_wanted(alloc, &engine, &context, depth.0, depth.1))
+    match (Tera::new(alloc), variables(alloc)) {
+        (Ok(engine), Some(context)) => DEPTHS.iter().position(|depth| !is_nested(
+            alloc, &engine, &context, depth.0, depth.1,
+        )),
+        _ => Some(0),
+    }
 }
 
 #[test]
 fn depths(rt: HostRuntime) {
-    assert_eq!(rt; wrong(rt.alloc()), None);
+    let row = wrong(rt.alloc());
+    assert!(rt; row.is_none(), "at row {row:?}");
 }

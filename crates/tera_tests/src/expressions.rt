@@ -1,71 +1,52 @@
 //! Expressions: what they render to.
-use crate::cases::Want::{SyntaxError, Text};
-use crate::cases::{Case, wrong};
+use crate::cases::wrong;
 
-const CASES: [Case; 41] = [
-    Case("{{ 2 ** 10 ~ \"x\" }}", Text("1024x")),
-    Case("{{ -2 ** 2 }}", Text("-4")),
-    Case("{{ (-2) ** 2 }}", Text("4")),
-    Case("{{ 1 < 2 == true }}", Text("true")),
-    Case("{{ 1 // 0 if false else 2 }}", Text("2")),
-    Case("a {{-1}}", Text("a1")),
-    Case("a {{- 1 -}} b", Text("a1b")),
-    Case("{{ hey or 1 }}", Text("1")),
-    Case("{{ 0 and hey.other }}", Text("0")),
-    Case("{{ 2 and 3 }}", Text("3")),
-    Case("{{ -7 // 2 }} {{ -7 % 2 }}", Text("-4 1")),
-    Case("{{ 1 if false else 2 if false else 3 }}", Text("3")),
-    Case("{{ not 0 }}{{ not not 0 }}", Text("truefalse")),
-    Case(
-        "{{ [1, \"<\", [true, none]] }}",
-        Text("[1, &quot;&lt;&quot;, [true, none]]"),
-    ),
-    Case(
-        "{{ [safe] }}{{ safe }}{{ text }}",
-        Text("[&quot;&lt;b&gt;&quot;]<b>&lt;b&gt;"),
-    ),
-    Case("{{ [1, ...[2, 3], ...[], 4] }}", Text("[1, 2, 3, 4]")),
-    Case("{{ [1, [2, 3]][1][-1] }}", Text("3")),
-    Case("{{ [1, 2][5] or \"none\" }}", Text("none")),
-    Case("{{ hey?.other or 1 }}", Text("1")),
-    Case("{{ 2 in [1, 2] }} {{ 3 not in [1, 2] }}", Text("true true")),
-    Case("{{ 1 + 2 * 3 - 4 }}", Text("3")),
-    Case("{{ \"a\" ~ 1 ~ true }}", Text("a1true")),
-    Case("{{ 'it' == `it` }}", Text("true")),
-    Case("{{ [1, 2, 3][-1:0:-1] }}", Text("[3, 2]")),
-    Case(
-        "{{ [1, 2, 3][1:] }}{{ [1, 2, 3][:-1] }}",
-        Text("[2, 3][1, 2]"),
-    ),
-    Case("{{ none?[1:] or 'x' }}", Text("x")),
-    Case("{{{\"a\": 1}.a}}", Text("1")),
-    Case("{{ {\"a\": {\"b\": 1}}.a.b }}", Text("1")),
-    Case(
-        "{{ {1: 'x', true: 'y'} }}",
-        Text("{1: &quot;x&quot;, true: &quot;y&quot;}"),
-    ),
-    Case("{{ {'a': 1, 'b': 2, 'a': 3}.a }}", Text("3")),
-    Case(
-        "{{ {'a': 1, ...{2: 3}} }}",
-        Text("{2: 3, &quot;a&quot;: 1}"),
-    ),
-    Case(
-        "{{ {2: 1, ...{2: 3}} }}{{ {...{2: 3}, 2: 1,} }}",
-        Text("{2: 3}{2: 1}"),
-    ),
-    Case("{{ 1 2 }}", SyntaxError),
-    Case("{{ a if b }}", SyntaxError),
-    Case("{{ }}", SyntaxError),
-    Case("{{ a.0 }}", SyntaxError),
-    Case("{{ a <b/> }}", SyntaxError),
-    Case("{{ (a }}", SyntaxError),
-    Case("{{ 170141183460469231731687303715884105728 }}", SyntaxError),
-    Case("{{ [1 }}", SyntaxError),
-    Case("{{ 1", SyntaxError),
-];
+const CASES: &str = r#"
+{{ 2 ** 10 ~ "x" }} => 1024x
+{{ -2 ** 2 }} => -4
+{{ (-2) ** 2 }} => 4
+{{ 1 < 2 == true }} => true
+{{ 1 // 0 if false else 2 }} => 2
+a {{-1}} => a1
+a {{- 1 -}} b => a1b
+{{ hey or 1 }} => 1
+{{ 0 and hey.other }} => 0
+{{ 2 and 3 }} => 3
+{{ -7 // 2 }} {{ -7 % 2 }} => -4 1
+{{ 1 if false else 2 if false else 3 }} => 3
+{{ not 0 }}{{ not not 0 }} => truefalse
+{{ [1, "<", [true, none]] }} => [1, &quot;&lt;&quot;, [true, none]]
+{{ [safe] }}{{ safe }}{{ text }} => [&quot;&lt;b&gt;&quot;]<b>&lt;b&gt;
+{{ [1, ...[2, 3], ...[], 4] }} => [1, 2, 3, 4]
+{{ [1, [2, 3]][1][-1] }} => 3
+{{ [1, 2][5] or "none" }} => none
+{{ hey?.other or 1 }} => 1
+{{ 2 in [1, 2] }} {{ 3 not in [1, 2] }} => true true
+{{ 1 + 2 * 3 - 4 }} => 3
+{{ "a" ~ 1 ~ true }} => a1true
+{{ 'it' == `it` }} => true
+{{ [1, 2, 3][-1:0:-1] }} => [3, 2]
+{{ [1, 2, 3][1:] }}{{ [1, 2, 3][:-1] }} => [2, 3][1, 2]
+{{ none?[1:] or 'x' }} => x
+{{{"a": 1}.a}} => 1
+{{ {"a": {"b": 1}}.a.b }} => 1
+{{ {1: 'x', true: 'y'} }} => {1: &quot;x&quot;, true: &quot;y&quot;}
+{{ {'a': 1, 'b': 2, 'a': 3}.a }} => 3
+{{ {'a': 1, ...{2: 3}} }} => {2: 3, &quot;a&quot;: 1}
+{{ {2: 1, ...{2: 3}} }}{{ {...{2: 3}, 2: 1,} }} => {2: 3}{2: 1}
+{{ 1 2 }} !! syntax
+{{ a if b }} !! syntax
+{{ }} !! syntax
+{{ a.0 }} !! syntax
+{{ a <b/> }} !! syntax
+{{ (a }} !! syntax
+{{ 170141183460469231731687303715884105728 }} !! syntax
+{{ [1 }} !! syntax
+{{ 1 !! syntax
+"#;
 
 #[test]
 fn expressions(rt: HostRuntime) {
-    let row = wrong(rt.alloc(), true, &CASES);
-    assert!(rt; row.is_none(), "at row {row:?}");
+    let line = wrong(rt.alloc(), true, CASES);
+    assert!(rt; line.is_none(), "at line {line:?}");
 }

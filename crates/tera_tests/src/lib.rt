@@ -4,11 +4,17 @@
 #[cfg(test)]
 mod cases;
 #[cfg(test)]
+mod commands;
+#[cfg(test)]
 mod depths;
+#[cfg(test)]
+mod devices;
 #[cfg(test)]
 mod errors;
 #[cfg(test)]
 mod expressions;
+#[cfg(test)]
+mod failing_devices;
 #[cfg(test)]
 mod faults;
 #[cfg(test)]
@@ -25,6 +31,8 @@ mod refused_runs;
 mod renderings;
 #[cfg(test)]
 mod scopes;
+#[cfg(test)]
+mod scripts;
 #[cfg(test)]
 mod shared_copies;
 #[cfg(test)]

@@ -36,16 +36,44 @@ pub fn refusals<F: Fn(usize) -> Tried>(call: F) -> Option<usize>
 pub fn with_budget<T, F: FnOnce() -> T>(alloc: Global, budget: usize, call: F) -> Option<T>
     requires { F.IsAlwaysCallable call }
 {
-    let mut taken: Vec<Vec<u8>> = Vec::with_capacity(alloc, 200_000).ok()?;
-    let room = Vec::<u8>::with_capacity(alloc, ROOM).ok()?;
-    take_all(alloc, &mut taken);
-    drop(room);
+    match Vec::with_capacity(alloc, 200_000) {
+        Ok(mut taken) => with_taken(alloc, &mut taken, budget, call),
+        Err(_) => None,
+    }
+}
+
+fn with_taken<T, F: FnOnce() -> T>(
+    alloc: Global,
+    taken: &mut Vec<Vec<u8>>,
+    budget: usize,
+    call: F,
+) -> Option<T>
+    requires { F.IsAlwaysCallable call }
+{
+    if !take_all_but_room(alloc, taken) {
+        return None;
+    }
     // Between this plug and the end of the room lies all that is left.
-    let plug = Vec::<u8>::with_capacity(alloc, ROOM.saturating_sub(budget)).ok()?;
-    let answer = call();
-    drop(plug);
-    drop(taken);
-    Some(answer)
+    match Vec::<u8>::with_capacity(alloc, ROOM.saturating_sub(budget)) {
+        Ok(plug) => {
+            let answer = call();
+            drop(plug);
+            Some(answer)
+        }
+        Err(_) => None,
+    }
+}
+
+/// Takes all the memory that there is, but for the room; false where there is not even that.
+fn take_all_but_room(alloc: Global, taken: &mut Vec<Vec<u8>>) -> bool {
+    match Vec::<u8>::with_capacity(alloc, ROOM) {
+        Ok(room) => {
+            take_all(alloc, taken);
+            drop(room);
+            true
+        }
+        Err(_) => false,
+    }
 }
 
 /// Takes all the memory that there is.

@@ -1,21 +1,32 @@
 //! Engines that are told other delimiters.
+use crate::cases::{put, renders};
 use std::alloc::Global;
 use tera::{Context, Delimiters, ErrorKind, Tera, TeraResult, Value};
 
-/// `<% %>`, `<< >>` and `<# #>`, or with another end of statements and another start of comments.
-fn angled(alloc: Global, block_end: &str, comment_start: &str) -> TeraResult<Delimiters> {
-    Ok(Delimiters {
-        block_start: String::from_str(alloc, "<%")?,
-        block_end: String::from_str(alloc, block_end)?,
-        variable_start: String::from_str(alloc, "<<")?,
-        variable_end: String::from_str(alloc, ">>")?,
-        comment_start: String::from_str(alloc, comment_start)?,
-        comment_end: String::from_str(alloc, "#>")?,
-    })
+fn fill(place: &mut String, text: &str) -> bool {
+    place.push_str(text).is_ok()
 }
 
-fn told(alloc: Global, engine: &mut Tera, block_end: &str, comment_start: &str) -> TeraResult<()> {
-    engine.set_delimiters(angled(alloc, block_end, comment_start)?)
+/// `<% %>`, `<< >>` and `<# #>`, or with another end of statements and another start of comments.
+fn angled(alloc: Global, block_end: &str, comment_start: &str) -> Option<Delimiters> {
+    let mut delimiters = Delimiters {
+        block_start: String::new(alloc),
+        block_end: String::new(alloc),
+        variable_start: String::new(alloc),
+        variable_end: String::new(alloc),
+        comment_start: String::new(alloc),
+        comment_end: String::new(alloc),
+    };
+    if fill(&mut delimiters.block_start, "<%")
+        && fill(&mut delimiters.block_end, block_end)
+        && fill(&mut delimiters.variable_start, "<<")
+        && fill(&mut delimiters.variable_end, ">>")
+        && fill(&mut delimiters.comment_start, comment_start)
+        && fill(&mut delimiters.comment_end, "#>")
+    {
+        return Some(delimiters);
+    }
+    None
 }
 
 fn is_message(answer: TeraResult<()>) -> bool {
@@ -25,32 +36,44 @@ fn is_message(answer: TeraResult<()>) -> bool {
     }
 }
 
-fn renders(engine: &Tera, context: &Context, input: &str, want: &str) -> bool {
-    match engine.render_str(input, context, true) {
-        Ok(text) => text.as_str() == want,
+fn refuses(engine: &mut Tera, delimiters: Option<Delimiters>) -> bool {
+    match delimiters {
+        Some(delimiters) => is_message(engine.set_delimiters(delimiters)),
+        None => false,
+    }
+}
+
+fn accepts(engine: &mut Tera, delimiters: Option<Delimiters>) -> bool {
+    match delimiters {
+        Some(delimiters) => engine.set_delimiters(delimiters).is_ok(),
+        None => false,
+    }
+}
+
+/// Whether the engine goes on as before where it refuses delimiters, and goes by those that it accepts.
+fn goes_by_delimiters(alloc: Global, engine: &mut Tera, context: &Context) -> bool {
+    let own = "Hello {{ name }}!<< name >>";
+    let other = "Hello, <# This is a comment #><< name >>! {{ name }}";
+    refuses(engine, angled(alloc, "", "<#"))
+        && refuses(engine, angled(alloc, "%>", "<<"))
+        && renders(engine, context, true, own, "Hello 7!<< name >>")
+        && accepts(engine, angled(alloc, "%>", "<#"))
+        && renders(engine, context, true, other, "Hello, 7! {{ name }}")
+}
+
+fn goes_by_name(alloc: Global, engine: &mut Tera) -> bool {
+    let mut context = Context::new(alloc);
+    put(&mut context, "name", Ok(Value::from_int(7))) && goes_by_delimiters(alloc, engine, &context)
+}
+
+fn is_obeyed(alloc: Global) -> bool {
+    match Tera::new(alloc) {
+        Ok(mut engine) => goes_by_name(alloc, &mut engine),
         Err(_) => false,
     }
 }
 
 #[test]
 fn other_delimiters(rt: HostRuntime) {
-    let mut context = Context::new(rt.alloc());
-    let name = Value::from_int(7);
-    let (Ok(mut engine), Ok(())) = (Tera::new(rt.alloc()), context.insert("name", name)) else {
-        assert!(rt; false, "no engine");
-        return;
-    };
-    assert!(rt; is_message(told(rt.alloc(), &mut engine, "", "<#")));
-    assert!(rt; is_message(told(rt.alloc(), &mut engine, "%>", "<<")));
-    assert!(rt;
-        renders(
-            &engine,
-            &context,
-            "Hello {{ name }}!<< name >>",
-            "Hello 7!<< name >>"
-        )
-    );
-    assert!(rt; told(rt.alloc(), &mut engine, "%>", "<#").is_ok());
-    let input = "Hello, <# This is a comment #><< name >>! {{ name }}";
-    assert!(rt; renders(&engine, &context, input, "Hello, 7! {{ name }}"));
+    assert!(rt; is_obeyed(rt.alloc()));
 }

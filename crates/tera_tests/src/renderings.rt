@@ -1,117 +1,92 @@
-//! Texts that stand beside the registry: what they render to, and where they are refused.
+//! Texts that stand beside the registry: what they render to, what is appended, and where they are refused.
+use crate::cases::{is_refused, variables, wrong};
 use std::alloc::Global;
-use tera::{Context, Error, ErrorKind, Tera, TeraResult, Value};
+use tera::{Context, Tera};
 
 const BEFORE: &[u8] = b"before ";
 
-fn put(context: &mut Context, name: &str, value: TeraResult<Value>) -> TeraResult<()> {
-    context.insert(name, value?)
+const ESCAPED: &str = r#"
+{{ html }} => &lt;script&gt;
+<i>{{ safe }} => <i><b>
+a{# not this #}b => ab
+{{ nope }} !! 3 7
+{{ hidden }} !! 3 9
+{{ name }}: {{ nope }} !! 15 19
+{{ name !! syntax
+{{ }} !! syntax
+"#;
+
+const PLAIN: &str = r#"
+ =>
+Hello {{ name }}! => Hello world!
+{{name}}{{ name }} => worldworld
+{{ html }} => <script>
+"#;
+
+/// Whether a line is answered as it wants it: its text is appended, or nothing is.
+fn appends(
+    engine: &Tera,
+    context: &Context,
+    autoescape: bool,
+    line: &str,
+    out: &mut Vec<u8>,
+) -> bool {
+    let (input, want) = line
+        .split_once(" =>")
+        .or(line.split_once(" !! "))
+        .unwrap_or((line, ""));
+    match engine.render_str_to(input, context, autoescape, out) {
+        Ok(()) => {
+            out.strip_prefix(BEFORE) == Some(want.strip_prefix(' ').unwrap_or(want).as_bytes())
+        }
+        Err(error) => out.as_slice() == BEFORE && is_refused(&error, want, input.len()),
+    }
 }
 
-fn people(alloc: Global) -> TeraResult<Context> {
-    let mut context = Context::new(alloc);
-    put(&mut context, "name", Value::string(alloc, "world"))?;
-    put(&mut context, "html", Value::string(alloc, "<script>"))?;
-    put(&mut context, "markup", Value::safe_string(alloc, "<b>"))?;
-    put(&mut context, "hidden", Ok(Value::undefined()))?;
-    Ok(context)
-}
-
-fn renders(engine: &Tera, context: &Context, input: &str, autoescape: bool, want: &str) -> bool {
-    match engine.render_str(input, context, autoescape) {
-        Ok(text) => text.as_str() == want,
+fn is_appended(
+    alloc: Global,
+    engine: &Tera,
+    context: &Context,
+    autoescape: bool,
+    line: &str,
+) -> bool {
+    match BEFORE.to_vec(alloc) {
+        Ok(mut out) => appends(engine, context, autoescape, line, &mut out),
         Err(_) => false,
     }
 }
 
-fn appends(
-    alloc: Global,
-    engine: &Tera,
-    context: &Context,
-    input: &str,
-    autoescape: bool,
-    want: &str,
-) -> bool {
-    let Ok(mut out) = BEFORE.to_vec(alloc) else {
-        return false;
-    };
-    let answer = engine.render_str_to(input, context, autoescape, &mut out);
-    answer.is_ok() && out.strip_prefix(BEFORE) == Some(want.as_bytes())
-}
-
-/// Whether this is the fault: its kind, and the place that it reports.
-fn tells(error: &Error, is_syntax: bool, start: usize, end: usize) -> bool {
-    match error.kind() {
-        ErrorKind::SyntaxError(report) => {
-            is_syntax && report.file() == "__tera_one_off" && report.span().end <= end
-        }
-        ErrorKind::RenderingError(report) => {
-            !is_syntax
-                && report.file() == "__tera_one_off"
-                && report.span().start == start
-                && report.span().end == end
+fn are_appended(alloc: Global, autoescape: bool, lines: &str) -> bool {
+    match (Tera::new(alloc), variables(alloc)) {
+        (Ok(engine), Some(context)) => {
+            lines.lines().all(|line| is_appended(alloc, &engine, &context, autoescape, line))
         }
         _ => false,
     }
 }
 
-/// Whether the text is refused with this fault, and nothing is appended.
-fn is_refused(
-    alloc: Global,
-    engine: &Tera,
-    context: &Context,
-    input: &str,
-    is_syntax: bool,
-    start: usize,
-    end: usize,
-) -> bool {
-    let Ok(mut out) = BEFORE.to_vec(alloc) else {
-        return false;
-    };
-    match engine.render_str_to(input, context, true, &mut out) {
-        Ok(()) => false,
-        Err(error) => out.as_slice() == BEFORE && tells(&error, is_syntax, start, end),
+fn is_rendered(alloc: Global, context: &Context) -> bool {
+    match Tera::one_off(alloc, "Hello {{ name }}!", context, true) {
+        Ok(text) => text.as_str() == "Hello world!",
+        Err(_) => false,
+    }
+}
+
+/// Whether a text is rendered with no engine.
+fn renders_alone(alloc: Global) -> bool {
+    match variables(alloc) {
+        Some(context) => is_rendered(alloc, &context),
+        None => false,
     }
 }
 
 #[test]
-fn texts_beside_the_registry(rt: HostRuntime) {
-    let (Ok(engine), Ok(context)) = (Tera::new(rt.alloc()), people(rt.alloc())) else {
-        assert!(rt; false, "no engine");
-        return;
-    };
-    for (input, autoescape, want) in [
-        ("", false, ""),
-        ("Hello {{ name }}!", false, "Hello world!"),
-        ("{{name}}{{ name }}", false, "worldworld"),
-        ("{{ html }}", true, "&lt;script&gt;"),
-        ("{{ html }}", false, "<script>"),
-        ("<i>{{ markup }}", true, "<i><b>"),
-        ("a{# not this #}b", true, "ab"),
-    ] {
-        assert!(rt;
-            renders(&engine, &context, input, autoescape, want),
-            "at {input}"
-        );
-        assert!(rt;
-            appends(rt.alloc(), &engine, &context, input, autoescape, want),
-            "at {input}"
-        );
-    }
-    for (input, is_syntax, start, end) in [
-        ("{{ nope }}", false, 3, 7),
-        ("{{ hidden }}", false, 3, 9),
-        ("{{ name }}: {{ nope }}", false, 15, 19),
-        ("{{ name", true, 0, 7),
-        ("{{ }}", true, 0, 5),
-    ] {
-        assert!(rt;
-            is_refused(rt.alloc(), &engine, &context, input, is_syntax, start, end),
-            "at {input}"
-        );
-    }
-    match Tera::one_off(rt.alloc(), "Hello {{ name }}!", &context, true) {
-        Ok(text) => assert!(rt; text.as_str() == "Hello world!"),
-        Err(_) => assert!(rt; false, "refused"),
-    }
+fn renderings(rt: HostRuntime) {
+    assert!(rt;
+        wrong(rt.alloc(), true, ESCAPED).is_none()
+            && wrong(rt.alloc(), false, PLAIN).is_none()
+            && are_appended(rt.alloc(), true, ESCAPED)
+            && are_appended(rt.alloc(), false, PLAIN)
+            && renders_alone(rt.alloc())
+    );
 }

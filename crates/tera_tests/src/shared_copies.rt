@@ -3,30 +3,56 @@ use crate::memory::with_budget;
 use std::alloc::Global;
 use tera::{TeraResult, Value};
 
-fn numbers(alloc: Global) -> TeraResult<Value> {
-    let mut items = Vec::new(alloc);
+fn put_numbers(items: &mut Vec<Value>) -> bool {
     for number in 0..1_000_u32 {
-        items.push(Value::from_int(i128::from(number)))?;
+        if items.push(Value::from_int(i128::from(number))).is_err() {
+            return false;
+        }
     }
-    Ok(Value::array(items))
+    true
 }
 
-fn shared_numbers(alloc: Global) -> TeraResult<Value> {
-    numbers(alloc)?.shared(alloc)
+fn numbers(alloc: Global) -> Option<Value> {
+    let mut items = Vec::new(alloc);
+    if put_numbers(&mut items) {
+        return Some(Value::array(items));
+    }
+    None
+}
+
+fn shared_numbers(alloc: Global) -> Option<Value> {
+    match numbers(alloc) {
+        Some(numbers) => numbers.shared(alloc).ok(),
+        None => None,
+    }
+}
+
+fn is_same(copy: TeraResult<Value>, value: &Value) -> bool {
+    match copy {
+        Ok(copy) => copy == *value,
+        Err(_) => false,
+    }
 }
 
 /// Whether the value is copied where no memory is left; none where the test itself finds no room.
-fn is_copied(alloc: Global, value: TeraResult<Value>) -> Option<bool> {
-    let value = value.ok()?;
+fn is_copied(alloc: Global, value: &Value) -> Option<bool> {
     match with_budget(alloc, 0, || value.try_clone()) {
-        Some(Ok(copy)) => Some(copy == value),
-        Some(Err(_)) => Some(false),
+        Some(copy) => Some(is_same(copy, value)),
+        None => None,
+    }
+}
+
+fn is_some_copied(alloc: Global, value: Option<Value>) -> Option<bool> {
+    match value {
+        Some(value) => is_copied(alloc, &value),
         None => None,
     }
 }
 
 #[test]
 fn shared_values_are_copied_without_memory(rt: HostRuntime) {
-    assert!(rt; is_copied(rt.alloc(), numbers(rt.alloc())) == Some(false));
-    assert!(rt; is_copied(rt.alloc(), shared_numbers(rt.alloc())) == Some(true));
+    assert!(rt;
+        is_some_copied(rt.alloc(), numbers(rt.alloc())) == Some(false)
+            && is_some_copied(rt.alloc(), shared_numbers(rt.alloc())) == Some(true)
+    );
 }

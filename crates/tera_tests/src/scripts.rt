@@ -1,0 +1,77 @@
+//! Scripts, their replies, and what their runs come to.
+use crate::devices::{Sink, Source, run_between};
+use std::alloc::Global;
+use tera_script::Outcome;
+use tera_script::Outcome::{Done, Unreadable};
+
+/// A script, its replies, and what a run of it comes to.
+#[derive(Clone, Copy)]
+struct Script(&'static [u8], &'static [u8], Outcome);
+
+const SCRIPTS: [Script; 27] = [
+    Script(
+        b"@@ text name\nworld\n@@ end\n@@ str off\nHello {{ name }}!\n@@ end\n",
+        b"ok\nHello world!\n",
+        Done,
+    ),
+    Script(
+        b"@@ text name\n<script>\n@@ end\n\n\n@@ str on\nHello {{ name }}!\n@@ end",
+        b"ok\nHello &lt;script&gt;!\n",
+        Done,
+    ),
+    Script(
+        b"@@ str on\n{{ nope }}\n@@ end\n@@ str off\nx\n@@ end\n",
+        b"fault RenderingError __tera_one_off 3 7\nx\n",
+        Done,
+    ),
+    Script(b"", b"", Done),
+    Script(b"\n\n", b"", Done),
+    Script(b"@@ str off\n@@ end\n", b"\n", Done),
+    Script(b"@@ str off\n\n@@ end\n", b"\n", Done),
+    Script(b"@@ str off\na\n\n\n@@ end", b"a\n\n\n", Done),
+    Script(
+        b"@@ str off\n@@ text x\n @@ end\n@@ end \n@@ end\n",
+        b"@@ text x\n @@ end\n@@ end \n",
+        Done,
+    ),
+    Script(b"hello", b"", Unreadable(1)),
+    Script(b"@@ wrong\n", b"", Unreadable(1)),
+    Script(b"@@ end\n", b"", Unreadable(1)),
+    Script(b"@@\n", b"", Unreadable(1)),
+    Script(b"\n\n@@ text\n@@ end\n", b"", Unreadable(3)),
+    Script(b"@@ text \n@@ end\n", b"", Unreadable(1)),
+    Script(b"@@ text a b\n@@ end\n", b"", Unreadable(1)),
+    Script(b"@@ text  a\n@@ end\n", b"", Unreadable(1)),
+    Script(b"@@ text a \n@@ end\n", b"", Unreadable(1)),
+    Script(b"@@ text a\tb\n@@ end\n", b"", Unreadable(1)),
+    Script(b"@@ text a\xc2\xa0b\n@@ end\n", b"", Unreadable(1)),
+    Script(b"@@ str maybe\n@@ end\n", b"", Unreadable(1)),
+    Script(b"@@ str on\r\n@@ end\n", b"", Unreadable(1)),
+    Script(b" @@ str on\n@@ end\n", b"", Unreadable(1)),
+    Script(b"@@ str on", b"", Unreadable(1)),
+    Script(
+        b"@@ text x\nbody\n@@ end\n@@ str on\nopen\n",
+        b"ok\n",
+        Unreadable(4),
+    ),
+    Script(
+        b"@@ text x\nbody\n@@ end\n\n@@ str off\nx\n@@ end\nhello\n",
+        b"ok\nx\n",
+        Unreadable(8),
+    ),
+    Script(b"@@ text x\nbody\n@@ end\n\xff", b"", Unreadable(1)),
+];
+
+fn is_answered(alloc: Global, script: Script) -> bool {
+    let mut sink = Sink::new();
+    run_between(alloc, Source::new(script.0), &mut sink) == Some(script.2)
+        && sink.written() == script.1
+}
+
+#[test]
+fn scripts(rt: HostRuntime) {
+    let row = SCRIPTS
+        .iter()
+        .position(|script| !is_answered(rt.alloc(), *script));
+    assert!(rt; row.is_none(), "at row {row:?}");
+}

@@ -92,7 +92,8 @@ fn included(alloc: Global, scopes: &mut Scopes<'_>) -> bool {
 }
 
 fn called(alloc: Global, scopes: &mut Scopes<'_>) -> bool {
-    scopes.enter_component(Context::new(alloc)).is_ok()
+    sets(alloc, scopes, "a", 2)
+        && scopes.enter_component(Context::new(alloc)).is_ok()
         && finds(alloc, scopes, "a", None)
         && finds_above(alloc, scopes, "a", Some(2))
 }
@@ -109,10 +110,18 @@ fn what_an_include_sets_ends_with_it(rt: HostRuntime) {
     let alloc = rt.alloc();
     let context = Context::new(alloc);
     let mut scopes = Scopes::new(alloc, &context, None);
-    let inside = included(alloc, &mut scopes) && called(alloc, &mut scopes);
-    while scopes.below.len() > 0 {
+    let inside = included(alloc, &mut scopes);
+    if scopes.below.len() > 0 {
         scopes.leave();
     }
     let holds = inside && finds(alloc, &scopes, "a", Some(1));
     assert!(rt; holds);
+}
+
+#[test]
+fn a_component_asks_above_for_implicit_names(rt: HostRuntime) {
+    let alloc = rt.alloc();
+    let context = Context::new(alloc);
+    let mut scopes = Scopes::new(alloc, &context, None);
+    assert!(rt; called(alloc, &mut scopes));
 }

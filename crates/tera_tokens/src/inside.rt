@@ -34,6 +34,11 @@ pub(crate) fn is_hyphen(text: &[u8]) -> bool
 pub(crate) fn closing(end: &[u8], text: &[u8]) -> Option<Ending>
     ensures { result ≡ spec.closing end.now text.now }
 {
+    // Most places are told by their first byte.
+    match (end, text) {
+        ([first, ..], [byte, ..]) if first != byte && *byte != b'-' => return None,
+        _ => {}
+    }
     if is_hyphen(text) && begins(end, after(text, 1)) {
         return Some(Ending {
             size: end.len() + 1,

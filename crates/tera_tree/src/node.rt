@@ -3,7 +3,6 @@ use crate::expression::Expression;
 use tera_errors::Span;
 
 /// A node of a template: a piece of its text, or a tag with what belongs to it.
-#[derive(Drop)]
 pub enum Node {
     /// Text that is written as it stands. The span is what it covers.
     Content {
@@ -22,8 +21,29 @@ pub enum Node {
     },
 }
 
+// By hand, so that nodes that go out of scope are one call.
+impl Drop for Node {
+    fn drop(self) {
+        match self {
+            Node::Content { text: _, span: _ } => {}
+            Node::Print { value: _ } => {}
+            Node::If {
+                condition: _,
+                body: _,
+                other: _,
+            } => {}
+        }
+    }
+}
+
 /// What the reader makes of a text.
-#[derive(Drop)]
 pub struct ParserOutput {
     pub nodes: Vec<Node>,
+}
+
+impl Drop for ParserOutput {
+    fn drop(self) {
+        let ParserOutput { nodes } = self;
+        drop(nodes);
+    }
 }

@@ -30,7 +30,8 @@ fn without_parts(
     span: Span,
 ) -> TeraResult<Option<Operand>>
     ensures answer { Decides result (part_of file.now optional target.now span) }
-    ensures ready { IsTrue optional → IsTrue (is_missing target.now.value) → IsOkAnd result IsSome }
+    ensures ready { IsTrue optional → IsTrue (is_missing target.now.value) →
+        IsOkAnd result IsSome }
 {
     if optional {
         if is_missing(target.value()) {
@@ -51,8 +52,10 @@ pub fn attribute(
     optional: bool,
     span: Span,
 ) -> TeraResult<Operand>
-    ensures part { Gives (λ o. o) result (attribute_of file.now optional target.now name.now span) }
-    ensures ready { IsOkAnd (attribute_of file.now optional target.now name.now span) (λ o. IsScalar o.value) → IsOk result }
+    ensures part { Gives (λ o. o) result
+        (attribute_of file.now optional target.now name.now span) }
+    ensures ready { IsOkAnd (attribute_of file.now optional target.now name.now span)
+        (λ o. IsScalar o.value) → IsOk result }
 {
     if let Some(answer) = without_parts(alloc, file, target, optional, span)? {
         return Ok(answer);
@@ -73,7 +76,8 @@ pub fn item(
     span: Span,
 ) -> TeraResult<Operand>
     ensures part { Gives (λ o. o) result (item_of file.now optional target.now index.now span) }
-    ensures ready { IsOkAnd (item_of file.now optional target.now index.now span) (λ o. IsScalar o.value) → IsOk result }
+    ensures ready { IsOkAnd (item_of file.now optional target.now index.now span)
+        (λ o. IsScalar o.value) → IsOk result }
 {
     if let Some(answer) = without_parts(alloc, file, target, optional, span)? {
         return Ok(answer);
@@ -110,7 +114,8 @@ pub fn slice(
     optional: bool,
     span: Span,
 ) -> TeraResult<Operand>
-    ensures part { Gives (λ o. o) result (slice_of file.now optional target.now start.now end.now step.now span) }
+    ensures part { Gives (λ o. o) result
+        (slice_of file.now optional target.now start.now end.now step.now span) }
     ensures ready { IsTrue optional → IsTrue (is_missing target.now.value) → IsOk result }
 {
     if let Some(answer) = without_parts(alloc, file, target, optional, span)? {

@@ -52,7 +52,8 @@ fn combined(
     left: &Operand,
     right: &Operand,
 ) -> TeraResult<Operand>
-    ensures value { (meant : Result Val Fault) → Gives (λ v. v) answer meant → Gives (λ o. o) result (combined file.now left.now right.now meant) }
+    ensures value { (meant : Result Val Fault) → Gives (λ v. v) answer meant →
+        Gives (λ o. o) result (combined file.now left.now right.now meant) }
     ensures ready { IsOk answer → IsOk result }
 {
     let span = spanning(left, right);
@@ -70,8 +71,10 @@ pub fn negative(alloc: Global, file: &str, operand: &Operand) -> TeraResult<Oper
 
 /// `left + right`; all faults are at the combined span.
 pub(crate) fn add(alloc: Global, file: &str, left: &Operand, right: &Operand) -> TeraResult<Operand>
-    ensures value { Gives (λ o. o) result (combined file.now left.now right.now (add left.now.value right.now.value)) }
-    ensures ready { IsOk (combined file.now left.now right.now (add left.now.value right.now.value)) → IsOk result }
+    ensures value { Gives (λ o. o) result
+        (combined file.now left.now right.now (add left.now.value right.now.value)) }
+    ensures ready { IsOk (combined file.now left.now right.now (add left.now.value right.now.value)) →
+        IsOk result }
 {
     let answer = number::add(alloc, left.value(), right.value());
     combined(alloc, file, answer, left, right)

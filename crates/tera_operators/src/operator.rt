@@ -23,7 +23,8 @@ pub fn binary(
     span: Span,
 ) -> TeraResult<Operand>
     ensures value { Gives (λ o. o) result (binary_of file.now operator left.now right.now span) }
-    ensures ready { operator ≢ BinaryOperator.Concat → IsOk (binary_of file.now operator left.now right.now span) → IsOk result }
+    ensures ready { operator ≢ BinaryOperator.Concat →
+        IsOk (binary_of file.now operator left.now right.now span) → IsOk result }
 {
     match operator {
         BinaryOperator::Add => add(alloc, file, left, right),

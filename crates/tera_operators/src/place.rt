@@ -38,7 +38,8 @@ pub(crate) fn operand_or_fault(
     fault: Span,
     span: Span,
 ) -> TeraResult<Operand>
-    ensures placed { (meant : Result Val Fault) → Gives (λ v. v) answer meant → Gives (λ o. o) result (then (placed file.now meant fault) (λ v. at_span v span)) }
+    ensures placed { (meant : Result Val Fault) → Gives (λ v. v) answer meant →
+        Gives (λ o. o) result (then (placed file.now meant fault) (λ v. at_span v span)) }
     ensures ready { IsOk answer → IsOk result }
 {
     match answer {

@@ -75,7 +75,8 @@ impl Context {
 
     /// The names, in byte order.
     pub fn names(&self) -> TeraResult<Vec<String>>
-        ensures names { Gives (λ v. map string_bytes v.items) result (Ok (map (λ e. e.0) self.now)) }
+        ensures names { Gives (λ v. map string_bytes v.items) result
+            (Ok (map (λ e. e.0) self.now)) }
         ensures ascending { IsAscending self.now }
     {
         let ordered = self.ordered_names()?;
@@ -84,7 +85,8 @@ impl Context {
     }
 
     fn ordered_names(&self) -> TeraResult<BTreeSet<String>>
-        ensures names { Gives (λ s. map string_bytes s.keys) result (Ok (map (λ e. e.0) self.now)) }
+        ensures names { Gives (λ s. map string_bytes s.keys) result
+            (Ok (map (λ e. e.0) self.now)) }
         ensures ascending { IsAscending self.now }
     {
         let mut ordered = BTreeSet::new(self.alloc);

@@ -50,8 +50,10 @@ impl Kwargs {
 
     /// The argument, or none where it is absent; `InvalidArgument` where it is of a wrong type. Only what is read takes memory.
     pub fn get<T: ArgFromValue>(&self, name: &str) -> TeraResult<Option<T>>
-        ensures read { Gives (λ o. option_map T.stands_for o) result (read T.reading (at_name name.now self.now)) }
-        ensures fault { IsErr (read T.reading (at_name name.now self.now)) → MemorySuffices result }
+        ensures read { Gives (λ o. option_map T.stands_for o) result
+            (read T.reading (at_name name.now self.now)) }
+        ensures fault { IsErr (read T.reading (at_name name.now self.now)) →
+            MemorySuffices result }
         ensures ready { IfSome (at_name name.now self.now) T.is_ready → MemorySuffices result }
     {
         match self.values.get(name) {
@@ -62,8 +64,10 @@ impl Kwargs {
 
     /// The argument; `MissingArgument` where it is absent, `InvalidArgument` where it is of a wrong type.
     pub fn must_get<T: ArgFromValue>(&self, name: &str) -> TeraResult<T>
-        ensures read { Gives T.stands_for result (read_needed T.reading (at_name name.now self.now)) }
-        ensures fault { IsErr (read_needed T.reading (at_name name.now self.now)) → MemorySuffices result }
+        ensures read { Gives T.stands_for result
+            (read_needed T.reading (at_name name.now self.now)) }
+        ensures fault { IsErr (read_needed T.reading (at_name name.now self.now)) →
+            MemorySuffices result }
         ensures ready { IfSome (at_name name.now self.now) T.is_ready → MemorySuffices result }
     {
         match self.values.get(name) {

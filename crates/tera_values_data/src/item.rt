@@ -47,8 +47,10 @@ fn char_value(alloc: Global, character: char) -> TeraResult<Value>
 }
 
 fn item_in(items: &[Value], index: i128) -> TeraResult<Value>
-    ensures value { Gives (λ v. v) result (Ok (item_at (place_of index (length items.now)) items.now)) }
-    ensures ready { IsScalar (item_at (place_of index (length items.now)) items.now) → IsOk result }
+    ensures value { Gives (λ v. v) result
+        (Ok (item_at (place_of index (length items.now)) items.now)) }
+    ensures ready { IsScalar (item_at (place_of index (length items.now)) items.now) →
+        IsOk result }
 {
     match place(index, items.len()) {
         Some(at) => match items.get(at) {
@@ -72,8 +74,10 @@ fn byte_in(bytes: &[u8], index: i128) -> Value
 }
 
 fn char_in(alloc: Global, text: &str, index: i128) -> TeraResult<Value>
-    ensures value { Gives (λ v. v) result (Ok (char_from (place_of index (length (chars text.now))) (chars text.now))) }
-    ensures ready { IsScalar (char_from (place_of index (length (chars text.now))) (chars text.now)) → IsOk result }
+    ensures value { Gives (λ v. v) result
+        (Ok (char_from (place_of index (length (chars text.now))) (chars text.now))) }
+    ensures ready { IsScalar (char_from (place_of index (length (chars text.now))) (chars text.now)) →
+        IsOk result }
 {
     match place(index, char_count(text)) {
         Some(at) => match char_at(text, at) {
@@ -85,8 +89,10 @@ fn char_in(alloc: Global, text: &str, index: i128) -> TeraResult<Value>
 }
 
 fn value_in(all: &Map, wanted: &Wanted<'_>) -> TeraResult<Value>
-    ensures value { Gives (λ v. v) result (Ok (or_undefined (find (wanted_view wanted.now) all.now))) }
-    ensures ready { IsScalar (or_undefined (find (wanted_view wanted.now) all.now)) → IsOk result }
+    ensures value { Gives (λ v. v) result
+        (Ok (or_undefined (find (wanted_view wanted.now) all.now))) }
+    ensures ready { IsScalar (or_undefined (find (wanted_view wanted.now) all.now)) →
+        IsOk result }
 {
     match all.value_at(wanted) {
         Some(value) => value.try_clone(),

@@ -12,7 +12,7 @@ pub returns-in-Map : goal.returns-in-Map
 returns-in-Map c =
     let index = c.args.index.now in
     let meant : found_at (key_of index) c.in-Map.all.now ≡ get_item c.args.self.now index =
-        ap (found_at (key_of index)) (sym (pairs_entries c.in-Map.all.now)) ∙ ap (λ (v : Val). get_item v index) c.in-Map.ensures in
+    ap (found_at (key_of index)) (sym (pairs_entries c.in-Map.all.now)) ∙ ap (λ (v : Val). get_item v index) c.in-Map.ensures in
     record {
       value = subst (λ (m : Result Val Fault). Gives (λ (x : Val). x) c.entry_in.result m) meant c.entry_in.ensures.value;
       ready = subst (λ (m : Result Val Fault). IsOkAnd m IsScalar → IsOk c.entry_in.result) meant c.entry_in.ensures.ready;
@@ -23,7 +23,7 @@ returns-in-Int c =
     let xs = c.in-Array.items.now in
     let at : List Val → Result Val Fault = λ (l : List Val). Ok (item_at (place_of c.in-Int.n (length l)) l) in
     let meant : at xs ≡ get_item c.args.self.now c.args.index.now =
-        ap at (sym (list_vals xs)) ∙ ap (get_item (array (vals xs))) c.in-Int.ensures ∙ ap (λ (v : Val). get_item v c.args.index.now) c.in-Array.ensures in
+    ap at (sym (list_vals xs)) ∙ ap (get_item (array (vals xs))) c.in-Int.ensures ∙ ap (λ (v : Val). get_item v c.args.index.now) c.in-Array.ensures in
     let value : Gives {X = Val} {Y = Val} (λ (x : Val). x) c.item_in.result (at xs) = search rules in
     let ready : IsOkAnd (at xs) IsScalar → IsOk c.item_in.result = search rules in
     record {

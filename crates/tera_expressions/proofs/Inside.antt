@@ -7,7 +7,6 @@ use Rattle.tera_tokens.specs.declared.token.Kind.{Kind}
 use Rattle.tera_tokens.specs.declared.token.Kind.TheVariants as k
 use Rattle.tera_tokens.specs.Input.{Input, kind, start, next, span}
 use Rattle.tera_tokens.proofs.Order.{Orderly, Onward, onward_none, onward_then, onward_next, start_le, in_order-le}
-use Rattle.tera_expressions.specs.Loops.{behind_loop}
 use Rattle.tera_expressions.specs.Grammar.{Operator, or, and, equal, not_equal, less, greater, less_or_equal, greater_or_equal, is_in, concat, add, subtract, multiply, divide, floor_divide, remainder, Derives, quoted, tighter, choice, operation, not, not_in, minus, power, attribute, index, slice, DerivesPart, absent, present, DerivesStep, no_step, step, int, is_true, is_false, nothing, name, of_loop, parentheses, array, map, DerivesEntry, keyed, spread_map, DerivesEntries, no_entries, one_entry, more_entries, DerivesItem, plain, spread, DerivesItems, none, one, more}
 
 -- what was read between two places, in order, lies inside

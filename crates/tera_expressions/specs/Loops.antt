@@ -1,5 +1,5 @@
 -- What a loop tells of itself.
-use Rattle.std.specs.Prelude.{Bool, ◌&&◌, bytes_eq, codes, Option, Some, None, if◌then◌else◌}
+use Rattle.std.specs.Prelude.{◌&&◌, bytes_eq, codes, Option, Some, None, if◌then◌else◌}
 use Rattle.tera_errors.specs.Site.{Text, Name}
 use Rattle.tera_tokens.specs.declared.token.Kind.TheVariants as k
 use Rattle.tera_tokens.specs.Input.{Input, kind, text, next, same}

@@ -1,5 +1,5 @@
 -- Tokens stand one behind another, inside the tag.
-use Rattle.std.proofs.Common.{◌≡◌, ℕ, zero, suc, ◌+◌, ◌-◌, ◌<◌, ◌≤◌, List, [], ◌∷◌, Bool, true, false, length, drop, take, Option, Some, None, option_map, refl, sym, ap, subst, ◌∙◌, arith, if◌then◌else◌}
+use Rattle.std.proofs.Common.{◌≡◌, ℕ, zero, suc, ◌+◌, ◌-◌, ◌≤◌, List, [], ◌∷◌, Bool, true, false, length, drop, take, Option, Some, None, option_map, refl, sym, subst, arith, if◌then◌else◌}
 use Rattle.std.proofs.lemmas.List.{length-take-le}
 use Rattle.tera_errors.specs.Site.{Text}
 use Rattle.tera_tokens.specs.declared.inside.Ending.{Ending}
@@ -7,7 +7,7 @@ use Rattle.tera_tokens.specs.declared.token.Kind.{Kind}
 use Rattle.tera_tokens.specs.declared.token.Kind.TheVariants as k
 use Rattle.tera_tokens.specs.declared.token.Measure.{Measure}
 use Rattle.tera_tokens.specs.Token.{Token, token, measured, next_token, is_blank}
-use Rattle.tera_tokens.specs.Input.{Input, begin, kind, kind_of, start, start_of, next, after}
+use Rattle.tera_tokens.specs.Input.{Input, kind, kind_of, start, start_of, next, after}
 use Rattle.tera_tokens.specs.Inside.{Inside, inside, closing, closing_in, open_after, prefixed, ended, token_then}
 use Rattle.tera_tokens.proofs.Tokens.{measured_sized, token_size}
 use Rattle.tera_tokens.proofs.Insides.{closing_found}

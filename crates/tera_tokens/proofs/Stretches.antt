@@ -1,5 +1,5 @@
 -- The pieces of a text are stretches of it, and so are the tokens of its tags.
-use Rattle.std.proofs.Common.{◌≡◌, ℕ, zero, suc, ◌+◌, ◌-◌, ◌<◌, ◌≤◌, List, [], ◌∷◌, ◌++◌, ◌==◌, ◌&&◌, Bool, true, false, cond, nat_lt, length, take, drop, codes, Option, Some, None, is_some, refl, sym, ap, subst, ◌∙◌, arith, if◌then◌else◌, IsTrue, string_bytes}
+use Rattle.std.proofs.Common.{◌≡◌, ℕ, zero, suc, ◌+◌, ◌-◌, ◌<◌, ◌≤◌, List, [], ◌∷◌, ◌==◌, ◌&&◌, Bool, true, false, cond, nat_lt, length, take, drop, codes, Option, Some, None, is_some, refl, ap, subst, arith, if◌then◌else◌, IsTrue, string_bytes}
 use Rattle.std.proofs.lemmas.List.{length-drop, length-take-le, length-append, drop-drop}
 use Rattle.std.proofs.lemmas.Bool.Decides.{nat_tests}
 use Rattle.std.proofs.lemmas.Str.{encodes-chars, scalars-chars, IsUtf8-take, IsUtf8-drop, IsUtf8-string_bytes}
@@ -8,8 +8,7 @@ use Rattle.std.specs.List.{ends_with}
 use Rattle.std.specs.Char.{is_whitespace}
 use lib.Utf8.{scalar, scalars, encodes, encode}
 use Rattle.tera_errors.specs.Site.{Text}
-use Rattle.tera_errors.specs.declared.span.Span.{Span}
-use Rattle.tera_tree.specs.Delimiters.{Delims, delimiters_of, accepted}
+use Rattle.tera_tree.specs.Delimiters.{delimiters_of, accepted}
 use Rattle.tera_tree.specs.declared.delimiters.Delimiters.{Delimiters}
 use Rattle.tera_tree.specs.Inside.{Within}
 use Rattle.tera_tokens.specs.Bytes.{begins, place}
@@ -21,10 +20,10 @@ use Rattle.tera_tokens.specs.declared.cut.Opening.{Opening}
 use Rattle.tera_tokens.specs.Cut.{Piece, Words, Comment, Variable, Block, Broken, Found, opening_at, opens, trims_before, start_trimmed, end_trimmed, words, comment, tag_of, start_size, is_alone, of_word, endraw, endraw_of, endraw_by, ends_raw, raw, block, behind, piece_by, piece, piece_then, cut, pieces}
 use Rattle.tera_tokens.proofs.Places.{place_le, place_passes, boundary_after, word_fits}
 use Rattle.tera_tokens.proofs.Insides.{ending_fits, ending_boundary}
-use Rattle.tera_tokens.proofs.Openings.{Start, start_of, start_fits, start_boundary, start_size_le, start_size_fits, words_boundary, filled}
+use Rattle.tera_tokens.proofs.Openings.{start_of, start_fits, start_boundary, start_size_le, start_size_fits, words_boundary, filled}
 use Rattle.tera_tokens.proofs.Cuts.{place_positive}
 use Rattle.tera_tokens.proofs.Raws.{raw_boundary}
-use Rattle.tera_tokens.proofs.Order.{InOrder, in_order-le, in_order-wider, inside_cut}
+use Rattle.tera_tokens.proofs.Order.{InOrder, in_order-wider, inside_cut}
 
 -- white space that is dropped makes a text no longer
 and_right : (p q : Bool) → (p && q) ≡ true → q ≡ true

@@ -77,9 +77,7 @@ fn turns_forget_what_was_set(rt: HostRuntime) {
     if scopes.frame.inner.is_some() {
         scopes.close_loop();
     }
-    holds = holds
-        && finds(alloc, &scopes, "x", None)
-        && finds(alloc, &scopes, "outside", Some(8));
+    holds = holds && finds(alloc, &scopes, "x", None) && finds(alloc, &scopes, "outside", Some(8));
     assert!(rt; holds);
 }
 

@@ -49,8 +49,8 @@ fn put_often(all: &mut String, text: &str, count: usize) -> bool {
     true
 }
 
-fn put_nest(all: &mut String, nest: Nest) -> bool {
-    let Nest([start, before, middle, after, end], count, _) = nest;
+fn put_nest(all: &mut String, nest: &Nest) -> bool {
+    let Nest([start, before, middle, after, end], count, _) = *nest;
     put(all, start)
         && put_often(all, before, count)
         && put(all, middle)
@@ -58,7 +58,7 @@ fn put_nest(all: &mut String, nest: Nest) -> bool {
         && put(all, end)
 }
 
-fn is_as_deep(alloc: Global, delimiters: &Delimiters, nest: Nest) -> bool
+fn is_as_deep(alloc: Global, delimiters: &Delimiters, nest: &Nest) -> bool
     requires { IsTrue (accepted (delimiters_of delimiters.now)) }
 {
     let mut all = String::new(alloc);
@@ -92,7 +92,7 @@ fn first_deep(alloc: Global, delimiters: &Delimiters) -> Option<usize>
     requires { IsTrue (accepted (delimiters_of delimiters.now)) }
 {
     for (row, nest) in NESTS.iter().enumerate() {
-        if !is_as_deep(alloc, delimiters, *nest) {
+        if !is_as_deep(alloc, delimiters, nest) {
             return Some(row);
         }
     }

@@ -21,7 +21,7 @@ pub struct Other(pub &'static str, pub &'static str, pub Row);
 pub struct Unusable(pub &'static str, pub &'static str);
 
 /// Between the standard delimiters.
-pub const TREES: [Row; 30] = [
+pub static TREES: [Row; 30] = [
     Row("", ""),
     Row("Hello {{ name }}!", "(Hello  0-6)(name 9-13)(! 16-17)"),
     Row("a{# b #}c{# d }} #}", "(a 0-1)(c 8-9)"),
@@ -105,7 +105,7 @@ pub const TREES: [Row; 30] = [
     Row("{{ loop.index }}", "(.(loop 3-7)index 3-13)"),
 ];
 
-pub const REFUSED: [Text; 47] = [
+pub static REFUSED: [Text; 47] = [
     Text("{{ }}"),
     Text("{{ a"),
     Text("b {# open"),
@@ -169,7 +169,7 @@ const ELIFS: [&str; 5] = ["{% if a %}x", "{% elif a %}x", "", "", "{% endif %}"]
 
 const CONDITIONS: [&str; 5] = ["{% if ", "not ", "a", "", " %}x{% endif %}"];
 
-pub const NESTS: [Nest; 12] = [
+pub static NESTS: [Nest; 12] = [
     Nest(PARENTHESES, 20_000, true),
     Nest(OPEN_PARENTHESES, 20_000, false),
     Nest(NOTS, 198, true),
@@ -185,7 +185,7 @@ pub const NESTS: [Nest; 12] = [
     Nest(CONDITIONS, 199, false),
 ];
 
-pub const OTHERS: [Other; 2] = [
+pub static OTHERS: [Other; 2] = [
     // one start begins another
     Other(
         "<<#",
@@ -206,4 +206,4 @@ pub const OTHERS: [Other; 2] = [
 ];
 
 /// Two equal starts, and an empty delimiter.
-pub const UNUSABLE: [Unusable; 2] = [Unusable("<%", "#>"), Unusable("", "#>")];
+pub static UNUSABLE: [Unusable; 2] = [Unusable("<%", "#>"), Unusable("", "#>")];

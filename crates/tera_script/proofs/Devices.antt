@@ -1,7 +1,7 @@
 -- What devices give and take, part by part.
-use Rattle.std.proofs.Common.{◌≡◌, ℕ, List, [], ◌++◌, Option, None, Some, Result, Ok, Err, sym, ap, ◌∙◌, append_assoc, append-nil, take}
+use Rattle.std.proofs.Common.{ℕ, List, [], ◌++◌, Option, None, Some, Result, Ok, Err, sym, ap, ◌∙◌, append_assoc, append-nil, take}
 use Rattle.std.specs.Io.KnownBytes.{Keeps, Consumes, Appends, ReadConsumes, WriteAppends}
-use Rattle.std.proofs.KnownBytes.{Consumes-nil, Appends-nil, Consumes-trans, Appends-trans, Keeps-trans}
+use Rattle.std.proofs.KnownBytes.{Consumes-nil, Appends-nil, Consumes-trans, Appends-trans}
 use Rattle.tera_script.specs.Device.{FromDevice, ToDevice}
 use Rattle.tera_script.specs.Passage.{Passage, Passes, Flushes}
 use Rattle.tera_script.specs.declared.stream.Failure.{Failure}

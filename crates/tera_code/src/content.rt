@@ -4,59 +4,29 @@ ghost use Rattle.std.specs.Prelude.{◌≡◌, length};
 use std::marker::Model;
 use tera_tree::LiteralKey;
 
-/// A piece of a template's text. A contract sees its bytes.
+/// A piece of a template's text, or a name. A contract sees its bytes.
 #[derive(Drop)]
-pub struct Content<'a> {
+pub struct Text<'a> {
     text: &'a str,
 }
 
-impl<'a> Model for Content<'a> {
-    ghost use Rattle.tera_errors.specs.Site.{Text};
-
-    ghost Value = { Text };
-
-    ghost view = { λ c. c.text.now };
-}
-
-impl<'a> Content<'a> {
-    /// The text itself, which is not copied.
-    pub fn new(text: &'a str) -> Content<'a>
-        ensures { result ≡ text.now }
-    {
-        Content { text }
-    }
-
-    /// The text.
-    pub fn as_str(&self) -> &'a str
-        ensures { result.now ≡ self.now }
-    {
-        self.text
-    }
-}
-
-/// A name. A contract sees its bytes.
-#[derive(Drop)]
-pub struct Title<'a> {
-    text: &'a str,
-}
-
-impl<'a> Model for Title<'a> {
+impl<'a> Model for Text<'a> {
     ghost use Rattle.std.specs.Prelude.{ℕ, List};
 
     ghost Value = { List ℕ };
 
-    ghost view = { λ n. n.text.now };
+    ghost view = { λ c. c.text.now };
 }
 
-impl<'a> Title<'a> {
+impl<'a> Text<'a> {
     /// The text itself, which is not copied.
-    pub fn new(text: &'a str) -> Title<'a>
+    pub fn new(text: &'a str) -> Text<'a>
         ensures { result ≡ text.now }
     {
-        Title { text }
+        Text { text }
     }
 
-    /// The text of the name.
+    /// The text.
     pub fn as_str(&self) -> &'a str
         ensures { result.now ≡ self.now }
     {

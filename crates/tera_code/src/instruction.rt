@@ -1,6 +1,6 @@
 // What the machine can be told.
 use crate::constant::Constant;
-use crate::content::{Content, Keys, Spreads, Title};
+use crate::content::{Keys, Spreads, Text};
 use tera_tree::BinaryOperator;
 use tera_values::Span;
 
@@ -10,18 +10,18 @@ use tera_values::Span;
 #[derive(Drop)]
 pub enum Instruction<'a> {
     /// Puts the text out as it stands.
-    WriteText(Content<'a>),
+    WriteText(Text<'a>),
     /// Takes the topmost operand and puts it out.
     WriteTop,
     /// Puts the value out that the name stands for, where it lies.
-    WriteName(Title<'a>, Span),
+    WriteName(Text<'a>, Span),
     /// Puts the constant on top of the operands.
     LoadConst(Constant<'a>, Span),
     /// Puts the value that the name stands for on top of the operands.
-    LoadName(Title<'a>, Span),
+    LoadName(Text<'a>, Span),
     /// The attribute of the topmost operand in its place.
     LoadAttribute {
-        name: Title<'a>,
+        name: Text<'a>,
         optional: bool,
         span: Span,
     },

@@ -15,6 +15,6 @@ pub mod steps;
 pub use chunk::Chunk;
 pub use compiler::Compiler;
 pub use constant::Constant;
-pub use content::{Content, Keys, Spreads, Title};
+pub use content::{Keys, Spreads, Text};
 pub use instruction::Instruction;
 pub use steps::Steps;

@@ -6,7 +6,7 @@ ghost use Rattle.tera_code.specs.Code.{named, node_code, nodes_code, lengthened}
 ghost use Rattle.tera_tree.specs.View.{expr_of, node_of, nodes_of};
 
 use crate::compiler::Compiler;
-use crate::content::{Content, Title};
+use crate::content::Text;
 use crate::instruction::Instruction;
 use std::alloc::Global;
 use tera_tree::{Expression, Node};
@@ -60,14 +60,14 @@ impl Compiler {
         ensures ok { OnOk result (self.new ≡ lengthened self.old (instruction.WriteText (string_bytes text.now) ∷ [])) }
         ensures lacks { IfErr result Lacks }
     {
-        self.emit(Instruction::WriteText(Content::new(text.as_str())))
+        self.emit(Instruction::WriteText(Text::new(text.as_str())))
     }
 
     fn write_name(&mut self, name: &String, span: Span) -> TeraResult<()>
         ensures ok { OnOk result (self.new ≡ lengthened self.old (instruction.WriteName (string_bytes name.now) span ∷ [])) }
         ensures lacks { IfErr result Lacks }
     {
-        self.emit(Instruction::WriteName(Title::new(name.as_str()), span))
+        self.emit(Instruction::WriteName(Text::new(name.as_str()), span))
     }
 }
 

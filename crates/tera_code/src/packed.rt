@@ -6,7 +6,7 @@ ghost use Rattle.tera_tree.specs.View.{keys_of};
 ghost use Rattle.tera_code.specs.declared.instruction.Instruction.TheVariants as instruction;
 
 use crate::constant::{Constant, Kept};
-use crate::content::{Content, Keys, Spreads, Title};
+use crate::content::{Keys, Spreads, Text};
 use crate::instruction::Instruction;
 use crate::parts::copied;
 use std::alloc::Global;
@@ -199,7 +199,7 @@ impl Tables {
         &mut self,
         alloc: Global,
         seen: &mut [u32; 64],
-        name: &Title<'_>,
+        name: &Text<'_>,
         span: Span,
     ) -> TeraResult<Packed>
         ensures grows { Grows (shelf_of self.old) (shelf_of self.new) }
@@ -215,7 +215,7 @@ impl Tables {
         &mut self,
         alloc: Global,
         seen: &mut [u32; 64],
-        name: &Title<'_>,
+        name: &Text<'_>,
         span: Span,
     ) -> TeraResult<Packed>
         ensures grows { Grows (shelf_of self.old) (shelf_of self.new) }
@@ -231,7 +231,7 @@ impl Tables {
         &mut self,
         alloc: Global,
         seen: &mut [u32; 64],
-        name: &Title<'_>,
+        name: &Text<'_>,
         optional: bool,
         span: Span,
     ) -> TeraResult<Packed>
@@ -323,7 +323,7 @@ impl Tables {
     {
         match packed {
             Packed::WriteText { start, end } => {
-                Instruction::WriteText(Content::new(&self.pool[start as usize..end as usize]))
+                Instruction::WriteText(Text::new(&self.pool[start as usize..end as usize]))
             }
             Packed::WriteTop => Instruction::WriteTop,
             Packed::LoadNone { span } => {
@@ -341,11 +341,11 @@ impl Tables {
             }
             Packed::WriteName { name, span } => {
                 let name = &self.names[name as usize];
-                Instruction::WriteName(Title::new(name.as_str()), self.spans[span as usize])
+                Instruction::WriteName(Text::new(name.as_str()), self.spans[span as usize])
             }
             Packed::LoadName { name, span } => {
                 let name = &self.names[name as usize];
-                Instruction::LoadName(Title::new(name.as_str()), self.spans[span as usize])
+                Instruction::LoadName(Text::new(name.as_str()), self.spans[span as usize])
             }
             Packed::LoadAttribute {
                 name,
@@ -354,7 +354,7 @@ impl Tables {
             } => {
                 let name = &self.names[name as usize];
                 Instruction::LoadAttribute {
-                    name: Title::new(name.as_str()),
+                    name: Text::new(name.as_str()),
                     optional,
                     span: self.spans[span as usize],
                 }

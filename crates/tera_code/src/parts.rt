@@ -10,7 +10,7 @@ ghost use Rattle.tera_tree.specs.View.{items_of, entries_of, key_option, key_of}
 
 use crate::compiler::Compiler;
 use crate::constant::Constant;
-use crate::content::{Keys, Spreads, Title};
+use crate::content::{Keys, Spreads, Text};
 use crate::instruction::Instruction;
 use std::alloc::Global;
 use tera_tree::{Entry, Item, LiteralKey};
@@ -29,7 +29,7 @@ impl Compiler {
         ensures ok { OnOk result (self.new ≡ lengthened self.old (instruction.LoadName (string_bytes name.now) span ∷ [])) }
         ensures lacks { IfErr result Lacks }
     {
-        self.emit(Instruction::LoadName(Title::new(name.as_str()), span))
+        self.emit(Instruction::LoadName(Text::new(name.as_str()), span))
     }
 
     pub(crate) fn attribute(&mut self, name: &String, optional: bool, span: Span) -> TeraResult<()>
@@ -37,7 +37,7 @@ impl Compiler {
         ensures lacks { IfErr result Lacks }
     {
         self.emit(Instruction::LoadAttribute {
-            name: Title::new(name.as_str()),
+            name: Text::new(name.as_str()),
             optional,
             span,
         })

@@ -10,7 +10,7 @@ ghost use Rattle.tera_tree.specs.declared.expression.BinaryOperator.{BinaryOpera
 use crate::configuration::Configuration;
 use crate::machine::{Flow, VirtualMachine};
 use std::alloc::Global;
-use tera_code::{Content, Instruction, Keys, Spreads, Title};
+use tera_code::{Instruction, Keys, Spreads, Text};
 use tera_operators::Operand;
 use tera_state::Found;
 use tera_tree::BinaryOperator;
@@ -22,13 +22,12 @@ impl<'c> Configuration<'c> {
         &mut self,
         machine: &VirtualMachine,
         file: &str,
-        next: usize,
+        _next: usize,
         instruction: &Instruction<'_>,
     ) -> TeraResult<Flow>
-        requires { IsReady (act (here_of machine.now file.now self.old) next instruction.now) self.old }
-        ensures { Does (act (here_of machine.now file.now self.old) next instruction.now) self.old result self.new }
+        requires { IsReady (act (here_of machine.now file.now self.old) _next instruction.now) self.old }
+        ensures { Does (act (here_of machine.now file.now self.old) _next instruction.now) self.old result self.new }
     {
-        let _ = next;
         let alloc = machine.alloc;
         match instruction {
             Instruction::WriteText(text) => self.write_text(text),
@@ -57,7 +56,7 @@ impl<'c> Configuration<'c> {
         }
     }
 
-    fn write_text(&mut self, text: &Content<'_>) -> TeraResult<Flow>
+    fn write_text(&mut self, text: &Text<'_>) -> TeraResult<Flow>
         ensures { Does (text_written text.now) self.old result self.new }
     {
         self.written.append(text.as_str())?;
@@ -84,7 +83,7 @@ impl<'c> Configuration<'c> {
         &mut self,
         machine: &VirtualMachine,
         file: &str,
-        name: &Title<'_>,
+        name: &Text<'_>,
         span: Span,
     ) -> TeraResult<Flow>
         ensures { Does (name_written (here_of machine.now file.now self.old) name.now span) self.old result self.new }
@@ -120,7 +119,7 @@ impl<'c> Configuration<'c> {
         self.put(Operand::new(value, span))
     }
 
-    fn load_name(&mut self, alloc: Global, name: &Title<'_>, span: Span) -> TeraResult<Flow>
+    fn load_name(&mut self, alloc: Global, name: &Text<'_>, span: Span) -> TeraResult<Flow>
         ensures { Does (name_loaded (around_of self.old.scopes) name.now span) self.old result self.new }
     {
         let value = self.scopes.look(name.as_str()).to_value(alloc)?;
@@ -131,7 +130,7 @@ impl<'c> Configuration<'c> {
         &mut self,
         alloc: Global,
         file: &str,
-        name: &Title<'_>,
+        name: &Text<'_>,
         optional: bool,
         span: Span,
     ) -> TeraResult<Flow>

@@ -141,8 +141,14 @@ impl<'c> Configuration<'c> {
         let Some(target) = self.operands.pop() else {
             unreachable!()
         };
-        let operand =
-            tera_operators::attribute(alloc, file, &target, name.as_str(), optional, span)?;
+        let operand = tera_operators::attribute(
+            alloc,
+            file,
+            &target,
+            name.as_str(),
+            optional,
+            span,
+        )?;
         self.put(operand)
     }
 
@@ -182,8 +188,9 @@ impl<'c> Configuration<'c> {
         let Some(target) = self.operands.pop() else {
             unreachable!()
         };
-        let operand =
-            tera_operators::slice(alloc, file, &target, &start, &end, &step, optional, span)?;
+        let operand = tera_operators::slice(
+            alloc, file, &target, &start, &end, &step, optional, span,
+        )?;
         self.put(operand)
     }
 

@@ -29,11 +29,13 @@ pub enum Flow {
 /// What a run stands on, and how high the count of instructions may rise. Contracts alone see it.
 pub trait Limit {
     ghost world: { World };
+
     ghost most: { ℕ };
 }
 
 impl Limit for Brand {
     ghost world = { alone new_registry };
+
     ghost most = { 0 };
 }
 

@@ -3,7 +3,6 @@ use Rattle.std.proofs.Common.{◌≡◌, ◌≢◌, ℕ, ◌+◌, ◌-◌, ◌<�
 use Rattle.std.proofs.lemmas.Bool.{leb-true}
 use Rattle.std.specs.Prelude.{slice_get, Bool, true, false, cond, nat_le, length}
 use Rattle.tera_errors.specs.Site.{Name}
-use Rattle.tera_errors.specs.Fault.{Fault}
 use Rattle.tera_errors.specs.Answer.{Refusal}
 use Rattle.tera_state.specs.Scopes.{around_of}
 use Rattle.tera_meaning.specs.Here.{Here}
@@ -14,10 +13,10 @@ use Rattle.tera_machine.specs.declared.machine.VirtualMachine.{VirtualMachine}
 use Rattle.tera_machine.specs.declared.machine.Flow as declared
 use Rattle.tera_machine.specs.declared.machine.Flow.TheVariants as flow
 use Rattle.tera_machine.specs.Config.{Config}
-use Rattle.tera_machine.specs.Flow.{Flow, On, Skip, flow_of}
+use Rattle.tera_machine.specs.Flow.{On, Skip, flow_of}
 use Rattle.tera_machine.specs.Act.{Goes, Faults, Sticks, act, Acted}
 use Rattle.tera_machine.specs.Exec.{Code, End, Finished, Broken, Stuck, after, exec, Within, Ends, EndsWithin, Ran}
-use Rattle.tera_machine.specs.Progress.{Leads, Progress}
+use Rattle.tera_machine.specs.Progress.{Progress}
 use Rattle.tera_machine.specs.Subject.{engine_of, place_of, here_of}
 use Rattle.tera_machine.proofs.Ends.{after-none, ends_here, step_ends, within_step, further, on_leads, skip_leads}
 

@@ -10,7 +10,7 @@ use Rattle.tera_meaning.specs.Whole.{World, Place, Way, Refuses, Takes, way, lef
 use Rattle.tera_code.specs.declared.instruction.Instruction.{Instruction}
 use Rattle.tera_code.specs.Code.{nodes_code}
 use Rattle.tera_machine.specs.Config.{Config}
-use Rattle.tera_machine.specs.Flow.{Use, Written, Pushed, Flow, On, Skip, To, Out, Ask}
+use Rattle.tera_machine.specs.Flow.{Use, Written, Pushed, On, Skip, To, Out, Ask}
 use Rattle.tera_machine.specs.Act.{Did, Goes, Faults, Sticks, act}
 
 abbrev pub Code : Type 0

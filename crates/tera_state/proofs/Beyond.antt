@@ -1,6 +1,6 @@
 -- What a body reads of those above it.
-use Rattle.std.proofs.Common.{◌≡◌, ℕ, suc, ◌-◌, ◌<◌, ◌≤◌, List, [], ◌∷◌, Bool, true, false, cond, Option, Some, None, length, reverse, refl, sym, ap, ap₂, ◌∙◌, arith, true≢false}
-use Rattle.std.specs.Prelude.{slice_get, unwrap_or}
+use Rattle.std.proofs.Common.{◌≡◌, ℕ, suc, List, [], ◌∷◌, Bool, true, false, cond, Option, Some, None, length, refl, sym, ap, ap₂, ◌∙◌, true≢false}
+use Rattle.std.specs.Prelude.{unwrap_or}
 use Rattle.std.specs.Option.{option_or}
 use Rattle.tera_errors.specs.Site.{Name}
 use Rattle.tera_values.specs.Val.{Val, undefined}
@@ -10,7 +10,7 @@ use Rattle.tera_state.specs.Found.{found_value}
 use Rattle.tera_state.specs.Scope.{Variables, bound, bound_above, defined, handed_down, outermost, in_turn, in_turns, in_variables, Frame as FrameMeant}
 use Rattle.tera_state.specs.Bound.{layer_of}
 use Rattle.tera_state.specs.Opened.{turn_of}
-use Rattle.tera_state.specs.Scopes.{lower, opened, turns_of, context_of, frame_of, above_of, variables_at}
+use Rattle.tera_state.specs.Scopes.{opened, turns_of, context_of, frame_of, above_of, variables_at}
 use Rattle.tera_state.specs.declared.bindings.Binding.{Binding}
 use Rattle.tera_state.specs.declared.loops.ForLoop.{ForLoop}
 use Rattle.tera_state.specs.declared.found.Found.{Found}
@@ -18,7 +18,7 @@ use Rattle.tera_state.specs.declared.found.Found.TheVariants as found
 use Rattle.tera_state.specs.declared.frame.Frame.{Frame}
 use Rattle.tera_state.specs.declared.frame.Standing.{Standing}
 use Rattle.tera_state.specs.declared.frame.Standing.TheVariants as standing
-use Rattle.tera_state.proofs.Finds.{first, lower_at, lower_length}
+use Rattle.tera_state.proofs.Finds.{first}
 
 pub kept_first : (r : Found) (a b : Option Val) → (r ≡ found.Nothing → ⊥) → found_value r ≡ a → found_value r ≡ option_or a b
 kept_first (found.Kept v) a b n e = first _ a b e _ refl

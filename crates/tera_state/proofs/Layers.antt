@@ -1,12 +1,12 @@
 -- Layers of the list of bindings.
-use Rattle.std.proofs.Common.{◌≡◌, ◌≢◌, ◌⊎◌, inl, inr, ℕ, zero, suc, ◌<◌, ◌≤◌, Bool, true, false, cond, List, [], ◌∷◌, length, refl, sym, ap, ap₂, ◌∙◌, arith, true≢false, if◌then◌else◌, Option, Some, None}
+use Rattle.std.proofs.Common.{◌≡◌, ◌≢◌, ◌⊎◌, inl, inr, ℕ, suc, ◌<◌, ◌≤◌, Bool, true, false, cond, List, [], ◌∷◌, length, refl, sym, ap, ap₂, ◌∙◌, arith, true≢false, if◌then◌else◌, Option, Some}
 use Rattle.std.proofs.lemmas.Bool.{eq-eqb, ne_eqb, eqb-true}
-use Rattle.std.specs.Prelude.{nat_eq, ◌&&◌, ◌||◌, not, bytes_eq, filter}
+use Rattle.std.specs.Prelude.{nat_eq, ◌&&◌, ◌||◌, not, bytes_eq}
 use Rattle.tera_errors.specs.Site.{Name}
 use Rattle.tera_values.specs.Val.{Val}
 use Rattle.tera_values.specs.Named.{at_name}
-use Rattle.tera_state.specs.Scope.{Bindings, Turn, Variables, bind, set_variable, set_global, open_turn, close_turn, Frame as FrameMeant}
-use Rattle.tera_state.specs.Bound.{is_for, value_in, layer_of, with_binding, without, without_frame}
+use Rattle.tera_state.specs.Scope.{Bindings, Turn, Variables, bind, set_variable, set_global, open_turn, Frame as FrameMeant}
+use Rattle.tera_state.specs.Bound.{value_in, layer_of, with_binding, without, without_frame}
 use Rattle.tera_state.specs.Opened.{turn_of}
 use Rattle.tera_state.specs.Scopes.{turns_of, variables_at, above_of, frame_of, loops_of}
 use Rattle.tera_state.specs.declared.bindings.Binding.{Binding}

@@ -1,5 +1,5 @@
 -- A name stands at most once in a layer.
-use Rattle.std.proofs.Common.{◌≡◌, ℕ, List, [], ◌∷◌, Bool, true, false, Option, Some, None, refl, sym, ap, ◌∙◌, if◌then◌else◌, cond, true≢false}
+use Rattle.std.proofs.Common.{◌≡◌, ℕ, List, [], ◌∷◌, Bool, true, false, Option, Some, None, refl, sym, ◌∙◌, if◌then◌else◌, cond, true≢false}
 use Rattle.std.specs.Prelude.{nat_eq, ◌&&◌, bytes_eq, filter}
 use Rattle.std.proofs.lemmas.Bool.{eq-eqb, eqb-true}
 use Rattle.std.specs.Cmp.Lexicographic.{bytes_decides}

@@ -1,12 +1,12 @@
 -- How a loop begins.
-use Rattle.std.proofs.Common.{◌≡◌, ℕ, zero, suc, List, [], ◌∷◌, Option, Some, None, Result, Ok, Err, Bool, true, false, cond, length, drop, refl, sym, ap, ◌∙◌, arith}
+use Rattle.std.proofs.Common.{◌≡◌, ℕ, List, [], ◌∷◌, Some, Ok, Err, Bool, false, cond, length, drop, refl, sym, ap, ◌∙◌, arith}
 use Rattle.std.specs.Prelude.{slice_get, ◌&&◌, not}
 use Rattle.std.specs.Option.{is_some}
-use Rattle.tera_errors.specs.Fault.{Fault, message}
+use Rattle.tera_errors.specs.Fault.{message}
 use Rattle.tera_values.specs.Alphabet.{plain}
 use Rattle.tera_values.specs.Val.{Val, ValsOf, EntriesOf, array, bytes, text, vals, map as map_of}
 use Rattle.tera_state.specs.Items.{Item, items_in, unkeyed, clusters_in}
-use Rattle.tera_state.specs.Scope.{Turn, Heading, turns_from, turns_over, is_map, loop_turns, turn, counters}
+use Rattle.tera_state.specs.Scope.{Heading, turns_from, turns_over, is_map, loop_turns, counters}
 use Rattle.tera_state.specs.Opened.{names_of, walked, turn_of, to_come, heading_of, items_of}
 use Rattle.tera_state.specs.declared.loops.ForLoop.{ForLoop}
 use Rattle.tera_state.proofs.Walked.{list_of_vals}

@@ -1,11 +1,11 @@
 -- What the calls do to variables and to what is around.
-use Rattle.std.proofs.Common.{◌≡◌, ◌≢◌, ◌⊎◌, inl, inr, ℕ, zero, suc, ◌<◌, ◌≤◌, Bool, true, false, cond, List, [], ◌∷◌, length, refl, sym, ap, ap₂, ◌∙◌, arith, true≢false, Option, Some, None, Result, Ok, Err, OnOk, OnErr, subst, IsSome}
+use Rattle.std.proofs.Common.{◌≡◌, ℕ, suc, List, [], ◌∷◌, length, sym, ap, ap₂, ◌∙◌, true≢false, Option, Some, None, Result, Ok, Err, OnOk, OnErr, subst, IsSome}
 use Rattle.tera_errors.specs.Site.{Name}
 use Rattle.tera_values.specs.Val.{Val}
-use Rattle.tera_state.specs.Scope.{Bindings, Turn, Variables, Around, bind, set_variable, set_global, open_turn, close_turn, nothing_set, Frame as FrameMeant}
+use Rattle.tera_state.specs.Scope.{Bindings, Turn, Variables, Around, set_variable, set_global, open_turn, close_turn, nothing_set, Frame as FrameMeant}
 use Rattle.tera_state.specs.Bound.{layer_of, with_binding, without, without_frame}
-use Rattle.tera_state.specs.Opened.{turn_of, to_come, GoesOn}
-use Rattle.tera_state.specs.Scopes.{begun, opened, turns_of, variables_at, variables_of, around_of, rest_of, coming, above_of, frame_of, loops_of, tail, TakesTurn}
+use Rattle.tera_state.specs.Opened.{turn_of, to_come}
+use Rattle.tera_state.specs.Scopes.{begun, opened, turns_of, variables_at, variables_of, around_of, rest_of, coming, above_of, frame_of, loops_of, tail}
 use Rattle.tera_state.specs.declared.bindings.Binding.{Binding}
 use Rattle.tera_state.specs.declared.loops.ForLoop.{ForLoop}
 use Rattle.tera_state.specs.declared.frame.Frame.{Frame}

@@ -1,13 +1,13 @@
 -- The items of an open loop, at their places.
-use Rattle.std.proofs.Common.{◌≡◌, ℕ, zero, suc, ◌<◌, ◌≤◌, List, [], ◌∷◌, Option, Some, None, refl, sym, ap, ◌∙◌, arith, map, length, drop, option_map}
+use Rattle.std.proofs.Common.{◌≡◌, ℕ, zero, suc, ◌<◌, ◌≤◌, List, [], ◌∷◌, Some, None, refl, sym, ap, ◌∙◌, arith, map, length, drop, option_map}
 use Rattle.std.specs.Prelude.{slice_get, pos}
 use Rattle.std.proofs.lemmas.List.{length-map}
 use Rattle.tera_values.specs.Val.{Val, KeyVal, array, bytes, int, vals, list_of, map as map_of, entries}
 use Rattle.tera_values.specs.Access.{pairs}
 use Rattle.tera_state.specs.Found.{key_as_value}
 use Rattle.tera_state.specs.Items.{Item, unkeyed}
-use Rattle.tera_state.specs.Scope.{Turn, Heading, turn, turns_from}
-use Rattle.tera_state.specs.Opened.{walked, value_at, key_at, items_of, item_at, turn_of, to_come, heading_of, names_of}
+use Rattle.tera_state.specs.Scope.{Heading, turn, turns_from}
+use Rattle.tera_state.specs.Opened.{walked, value_at, key_at, items_of, turn_of, to_come, heading_of, names_of}
 use Rattle.tera_state.specs.declared.loops.ForLoop.{ForLoop}
 
 pub list_of_vals : (vs : List Val) → list_of (vals vs) ≡ vs

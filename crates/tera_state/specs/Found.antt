@@ -1,5 +1,5 @@
 -- What a look-up hands out.
-use Rattle.std.specs.Prelude.{ℕ, ◌+◌, pos, false, Option, Some, None, map}
+use Rattle.std.specs.Prelude.{◌+◌, pos, false, Option, Some, None}
 use Rattle.tera_values.specs.Alphabet.{Alphabet, plain, made}
 use Rattle.tera_values.specs.Val.{Val, ValOf, KeyVal, kbool, kint, ktext, bool, int, text}
 use Rattle.tera_values.specs.View.{key_view}

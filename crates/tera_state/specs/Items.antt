@@ -2,8 +2,8 @@
 use Rattle.std.specs.Prelude.{ℕ, pos, true, false, List, map, Option, Some, None}
 use Rattle.unicode_segmentation.specs.Grapheme.{graphemes}
 use Rattle.tera_values.specs.Alphabet.{Alphabet, plain, made}
-use Rattle.tera_values.specs.Val.{Val, ValOf, KeyVal, undefined, none, bool, int, text, bytes, array, map as map_of, list_of}
-use Rattle.tera_values.specs.Access.{pairs, key_in}
+use Rattle.tera_values.specs.Val.{Val, ValOf, undefined, none, bool, int, text, bytes, array, map as map_of, list_of}
+use Rattle.tera_values.specs.Access.{pairs}
 use Rattle.tera_state.specs.Found.{key_as_value_in}
 
 -- an item, with its key in a map

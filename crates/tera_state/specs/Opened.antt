@@ -1,10 +1,9 @@
 -- What an open loop stands for.
-use Rattle.std.specs.Prelude.{◌≡◌, ℕ, suc, pos, Bool, true, false, cond, List, [], ◌∷◌, Option, Some, None, Result, Ok, Err, length, drop, slice_get, map}
-use Rattle.tera_errors.specs.Fault.{Fault, message}
+use Rattle.std.specs.Prelude.{◌≡◌, suc, pos, Bool, true, false, cond, List, [], ◌∷◌, Option, Some, None, length, drop, slice_get, map}
 use Rattle.tera_values.specs.Val.{Val, undefined, none, bool, int, text, bytes, array, map as map_of, list_of}
 use Rattle.tera_values.specs.Access.{pairs}
 use Rattle.tera_state.specs.Found.{key_as_value}
-use Rattle.tera_state.specs.Items.{Item, items, unkeyed}
+use Rattle.tera_state.specs.Items.{Item, unkeyed}
 use Rattle.tera_state.specs.Scope.{Bindings, Turn, Heading, counters, named_item, turns_from}
 use Rattle.tera_state.specs.declared.loops.ForLoop.{ForLoop}
 

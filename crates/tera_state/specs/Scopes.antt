@@ -2,7 +2,7 @@
 use Rattle.std.specs.Prelude.{◌≡◌, ◌-◌, drop, ℕ, suc, Bool, true, false, List, [], ◌∷◌, Option, Some, None, length}
 use Rattle.tera_values.specs.Val.{Val}
 use Rattle.tera_values.specs.Named.{Named}
-use Rattle.tera_state.specs.Scope.{open_turn, close_turn, Bindings, Turn, Variables, Around, Kind, whole, included, called, Frame as FrameMeant}
+use Rattle.tera_state.specs.Scope.{open_turn, close_turn, Turn, Variables, Around, Kind, whole, included, called, Frame as FrameMeant}
 use Rattle.tera_state.specs.Bound.{layer_of}
 use Rattle.tera_state.specs.Opened.{turn_of, to_come}
 use Rattle.tera_state.specs.declared.bindings.Binding.{Binding}

@@ -1,4 +1,4 @@
-use Rattle.std.proofs.Common.{◌≡◌, drop, ◌+◌}
+use Rattle.std.proofs.Common.{◌≡◌, drop}
 use Rattle.tera_state.specs.Bound.{place_from}
 use Rattle.tera_state.proofs.bindings.place.Given as goal
 

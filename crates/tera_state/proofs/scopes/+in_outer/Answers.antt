@@ -1,4 +1,4 @@
-use Rattle.std.proofs.Common.{rules, arith, ◌≡◌, ◌∙◌, sym, ap}
+use Rattle.std.proofs.Common.{rules, arith, ◌∙◌, sym, ap}
 use Rattle.tera_state.specs.Scope.{in_turns}
 use Rattle.tera_state.proofs.Finds.{second, missing, turns_step}
 use Rattle.tera_state.proofs.Beyond.{kept_first}

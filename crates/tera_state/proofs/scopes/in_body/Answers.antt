@@ -1,4 +1,4 @@
-use Rattle.std.proofs.Common.{rules, ◌≡◌, ◌+◌, suc, length, ◌∙◌, sym, ap, arith}
+use Rattle.std.proofs.Common.{◌≡◌, ◌+◌, suc, length, ◌∙◌, sym, arith}
 use Rattle.tera_state.proofs.Finds.{second}
 use Rattle.tera_state.proofs.Beyond.{kept_first, body_is}
 use Rattle.tera_state.proofs.scopes.in_body.Goals as goal

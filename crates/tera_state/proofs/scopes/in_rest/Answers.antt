@@ -1,4 +1,4 @@
-use Rattle.std.proofs.Common.{rules, ◌≡◌, ◌∙◌, sym, ap}
+use Rattle.std.proofs.Common.{◌∙◌, ap}
 use Rattle.tera_state.specs.Scope.{in_turns}
 use Rattle.tera_state.specs.Scopes.{lower, turns_of}
 use Rattle.tera_state.proofs.Layers.{value-is}

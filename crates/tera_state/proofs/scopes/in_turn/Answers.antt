@@ -1,7 +1,6 @@
-use Rattle.std.proofs.Common.{◌∙◌, sym, refl, Some, None}
+use Rattle.std.proofs.Common.{◌∙◌, refl}
 use Rattle.tera_values.specs.Named.{at_name}
-use Rattle.tera_state.specs.Bound.{layer_of}
-use Rattle.tera_state.specs.Opened.{counters_of, names_of, heading_of, item_at}
+use Rattle.tera_state.specs.Opened.{names_of, heading_of, item_at}
 use Rattle.tera_state.proofs.Finds.{first, second}
 use Rattle.tera_state.proofs.Layers.{value-is}
 use Rattle.tera_state.proofs.scopes.in_turn.Goals as goal

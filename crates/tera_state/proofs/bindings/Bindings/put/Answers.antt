@@ -1,4 +1,4 @@
-use Rattle.std.proofs.Common.{rules, ◌≡◌, ◌∙◌, ap, sym, subst, Some, None, arith, ◌+◌, ◌<◌, length}
+use Rattle.std.proofs.Common.{rules, ◌≡◌, ◌∙◌, ap, sym, subst, Some, None, arith, ◌+◌}
 use Rattle.tera_state.specs.Bound.{with_binding, place_from, IsOnce}
 use Rattle.tera_state.proofs.Puts.{bind-new, at_place, bind-at}
 use Rattle.tera_state.proofs.Once.{once-with}

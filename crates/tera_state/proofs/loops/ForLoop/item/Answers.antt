@@ -1,7 +1,5 @@
-use Rattle.std.proofs.Common.{rules, ◌≡◌, Some, None, refl, sym, ◌∙◌, ap, option_map, to_z}
-use Rattle.std.specs.Prelude.{pos, ℤ}
-use Rattle.std.specs.Int.{w128}
-use Rattle.std.proofs.lemmas.Int.{to_z_pos}
+use Rattle.std.proofs.Common.{rules, refl, sym, ◌∙◌, ap, option_map}
+use Rattle.std.specs.Prelude.{pos}
 use Rattle.std.proofs.lemmas.Option.{slice_get_read, slice_get_past}
 use Rattle.tera_values.specs.Val.{int}
 use Rattle.tera_state.proofs.Walked.{array_value, map_value, bytes_value}

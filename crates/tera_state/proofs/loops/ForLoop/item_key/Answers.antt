@@ -1,4 +1,4 @@
-use Rattle.std.proofs.Common.{rules, ◌≡◌, Some, None, sym, ◌∙◌, ap, option_map}
+use Rattle.std.proofs.Common.{rules, sym, ◌∙◌, ap, option_map}
 use Rattle.tera_state.specs.Found.{key_as_value}
 use Rattle.tera_state.proofs.Walked.{map_key, array_key, bytes_key}
 use Rattle.tera_state.proofs.loops.ForLoop.item_key.Goals as goal

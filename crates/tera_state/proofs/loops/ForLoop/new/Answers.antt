@@ -1,9 +1,9 @@
-use Rattle.std.proofs.Common.{rules, ◌≡◌, ◌∙◌, sym, refl, ap, Ok, Some, true, false, not, ◌&&◌, length}
+use Rattle.std.proofs.Common.{rules, ◌≡◌, ◌∙◌, refl, ap, Ok, Some, false, not, ◌&&◌}
 use Rattle.std.specs.Option.{is_some}
 use Rattle.tera_values.specs.Alphabet.{plain}
-use Rattle.tera_values.specs.Val.{Val, array, vals, text, bytes, map, entries}
+use Rattle.tera_values.specs.Val.{vals, entries}
 use Rattle.tera_state.specs.Items.{items_in}
-use Rattle.tera_state.specs.Scope.{Heading, is_map, turns_from}
+use Rattle.tera_state.specs.Scope.{Heading, is_map}
 use Rattle.tera_state.specs.Opened.{walked}
 use Rattle.tera_state.specs.declared.loops.ForLoop.{ForLoop}
 use Rattle.tera_state.proofs.Started.{over, text_items, array_items, map_items, bytes_items, no_turns, first_turn}

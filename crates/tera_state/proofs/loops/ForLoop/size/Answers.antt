@@ -1,5 +1,5 @@
 use Rattle.std.proofs.Common.{rules, sym, ◌∙◌}
-use Rattle.tera_state.proofs.Walked.{array_size, map_size, bytes_size}
+use Rattle.tera_state.proofs.Walked.{array_size, map_size}
 use Rattle.tera_state.proofs.loops.ForLoop.size.Goals as goal
 
 pub returns-in-Array : goal.returns-in-Array

@@ -1,7 +1,4 @@
 use Rattle.std.proofs.Common.{rules, ◌≡◌, ◌-◌, ◌≤◌, ◌<◌, ◌∙◌, sym, arith, length, true, false}
-use Rattle.std.specs.Prelude.{unwrap_or}
-use Rattle.tera_values.specs.Val.{undefined}
-use Rattle.tera_values.specs.Access.{is_undefined}
 use Rattle.tera_state.specs.Found.{found_value}
 use Rattle.tera_state.specs.Scopes.{lower, frame_of, above_of, variables_at}
 use Rattle.tera_state.proofs.Finds.{missing, lower_at, lower_length}

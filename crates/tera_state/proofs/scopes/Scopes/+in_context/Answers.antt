@@ -1,4 +1,4 @@
-use Rattle.std.proofs.Common.{rules, ◌≡◌, ◌-◌, ◌∙◌, sym, ap, arith}
+use Rattle.std.proofs.Common.{rules, ◌-◌, ◌∙◌, sym, ap, arith}
 use Rattle.tera_values.specs.Named.{at_name}
 use Rattle.tera_state.specs.Scopes.{lower}
 use Rattle.tera_state.proofs.Finds.{lower_at, missing, whole_context, called_context, included_context}

@@ -1,6 +1,5 @@
-use Rattle.std.proofs.Common.{◌≡◌, ◌∙◌, sym, refl, ap, length, ◌∷◌}
+use Rattle.std.proofs.Common.{◌∙◌, sym, ap, ◌∷◌}
 use Rattle.tera_state.specs.Bound.{without_frame}
-use Rattle.tera_state.specs.Scopes.{above_of}
 use Rattle.tera_state.proofs.Steps.{frames_stay}
 use Rattle.tera_state.proofs.scopes.Scopes.leave.Goals as goal
 

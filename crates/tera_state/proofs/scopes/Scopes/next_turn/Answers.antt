@@ -1,4 +1,4 @@
-use Rattle.std.proofs.Common.{rules, ◌≡◌, Some, refl}
+use Rattle.std.proofs.Common.{rules, Some, refl}
 use Rattle.tera_state.proofs.Steps.{takes_turn, cleared_stays}
 use Rattle.tera_state.proofs.scopes.Scopes.next_turn.Goals as goal
 

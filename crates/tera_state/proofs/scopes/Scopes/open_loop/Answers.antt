@@ -1,4 +1,3 @@
-use Rattle.std.proofs.Common.{rules}
 use Rattle.tera_state.proofs.Steps.{opens, cleared_stays}
 use Rattle.tera_state.proofs.scopes.Scopes.open_loop.Goals as goal
 

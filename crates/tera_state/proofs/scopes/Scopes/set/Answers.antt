@@ -1,4 +1,3 @@
-use Rattle.std.proofs.Common.{rules}
 use Rattle.tera_state.proofs.Steps.{sets, sets_stays}
 use Rattle.tera_state.proofs.scopes.Scopes.set.Goals as goal
 

@@ -1,4 +1,3 @@
-use Rattle.std.proofs.Common.{rules}
 use Rattle.tera_state.proofs.Steps.{sets_global, sets_stays}
 use Rattle.tera_state.proofs.scopes.Scopes.set_global.Goals as goal
 

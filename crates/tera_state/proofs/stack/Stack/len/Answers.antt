@@ -1,4 +1,4 @@
-use Rattle.std.proofs.Common.{rules, arith}
+use Rattle.std.proofs.Common.{rules}
 use Rattle.tera_state.proofs.stack.Stack.len.Goals as goal
 
 pub returns-clause-small : goal.returns-clause-small

@@ -66,7 +66,7 @@ fn finds(state: &State<'_>, look: Look) -> bool {
     }
 }
 
-fn finds_all(alloc: Global, context: &Context, global: &Context) -> bool {
+fn finds_all<'c>(alloc: Global, context: &'c Context, global: &'c Context) -> bool {
     let scopes = Scopes::new(alloc, context, Some(global));
     let state = scopes.state(false);
     !state.autoescaping_enabled() && LOOKS.iter().all(|look| finds(&state, *look))

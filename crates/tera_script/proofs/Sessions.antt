@@ -7,7 +7,7 @@ use Rattle.tera_values.specs.Named.{Named}
 use Rattle.tera_values.specs.Val.{Val}
 use Rattle.tera_script.specs.declared.command.Command.{Command}
 use Rattle.tera_script.specs.declared.reply.Reply.{Reply}
-use Rattle.tera_script.specs.Act.{Act, put_text, render_text, act_of, acts_of}
+use Rattle.tera_script.specs.Act.{Act, put_value, render_text, act_of, acts_of}
 use Rattle.tera_script.specs.Reply.{Replied, done, says, refuses, reply_seen, replies_seen}
 use Rattle.tera_script.specs.Session.{Session, MayAnswer, Replies, after, after_all, fresh, session}
 
@@ -25,9 +25,9 @@ after_all-snoc now (a ∷ acts) [] act reply h = absurd h
 after_all-snoc now (a ∷ acts) (r ∷ replies) act reply h = after_all-snoc (after now a r) acts replies act reply h.1
 
 after-registry : (s : Session) (act : Act) (reply : Replied) → (after s act reply).registry ≡ s.registry
-after-registry s (put_text name body) done = refl
-after-registry s (put_text name body) (says text) = refl
-after-registry s (put_text name body) (refuses refusal) = refl
+after-registry s (put_value name value) done = refl
+after-registry s (put_value name value) (says answer) = refl
+after-registry s (put_value name value) (refuses refusal) = refl
 after-registry s (render_text autoescape body) reply = refl
 
 -- the first so many commands were answered

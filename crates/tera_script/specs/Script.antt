@@ -1,18 +1,27 @@
 -- The commands that a script spells.
-use Rattle.std.specs.Prelude.{ℕ, zero, suc, ◌+◌, Bool, true, false, not, ◌||◌, ◌==◌, codes, List, [], ◌∷◌, length, Option, Some, None, if◌then◌else◌}
-use Rattle.std.specs.Char.{is_whitespace}
+use Rattle.std.specs.Prelude.{ℕ, zero, suc, ◌+◌, ℤ, Bool, true, false, not, ◌||◌, ◌&&◌, ◌==◌, codes, List, [], ◌∷◌, length, drop, Option, Some, None, if◌then◌else◌}
+use Rattle.std.specs.Char.{is_whitespace, is_ascii_digit}
 use Rattle.std.specs.List.{list_all}
 use Rattle.std.specs.Option.{option_map}
 use Rattle.std.specs.Str.{bytes_eq, chars, is_utf8}
+use Rattle.std.specs.Str.Parse.{starts_with_minus, signed_digits_value}
 use Rattle.tera_errors.specs.Site.{Name, Text}
-use Rattle.tera_script.specs.Act.{Act, put_text, render_text}
+use Rattle.tera_values.specs.Number.{in_range}
+use Rattle.tera_values.specs.Val.{int, text}
+use Rattle.tera_script.specs.Act.{Act, put_value, render_text}
 use Rattle.tera_script.specs.Lines.{lines_of, joined}
 use Rattle.tera_script.specs.Words.{words_of}
 
--- what a command line says before its body follows
+-- what a command line says whose body follows
+pub data Opening : Type 0 where
+  text_opening : (name : Name) → Opening
+  safe_opening : (name : Name) → Opening
+  str_opening : (autoescape : Bool) → Opening
+
+-- a command line: a command by itself, or one that opens a body
 pub data Head : Type 0 where
-  text_head : (name : Name) → Head
-  str_head : (autoescape : Bool) → Head
+  alone : (act : Act) → Head
+  opens : (opening : Opening) → Head
 
 -- no white space but spaces
 abbrev pub is_plain : Text → Bool
@@ -33,15 +42,44 @@ only_field (field ∷ next ∷ fields) = None
 abbrev pub switch : Text → Option Bool
 switch field = if bytes_eq field (codes "on") then Some true else if bytes_eq field (codes "off") then Some false else None
 
-abbrev pub str_head_of : Option Text → Option Head
-str_head_of None = None
-str_head_of (Some field) = option_map str_head (switch field)
+abbrev pub str_opening_of : Option Text → Option Opening
+str_opening_of None = None
+str_opening_of (Some field) = option_map str_opening (switch field)
+
+-- one digit or more
+abbrev pub is_digits : Text → Bool
+is_digits [] = false
+is_digits (byte ∷ bytes) = list_all is_ascii_digit (byte ∷ bytes)
+
+-- digits, with a minus sign in front at will
+abbrev pub is_integer : Text → Bool
+is_integer field = is_digits (if starts_with_minus field then drop 1 field else field)
+
+-- the number that they write, where it fits 128 bits
+abbrev pub integer : Text → Option ℤ
+integer field =
+    let number = signed_digits_value 10 field in
+    if is_integer field && in_range number then Some number else None
+
+abbrev pub int_act : Option Text → Option ℤ → Option Act
+int_act None number = None
+int_act (Some name) None = None
+int_act (Some name) (Some number) = Some (put_value name (int number))
+
+-- a name and a number
+abbrev pub int_of : List Text → Option Act
+int_of [] = None
+int_of (name ∷ []) = None
+int_of (name ∷ number ∷ []) = int_act (checked_field name) (integer number)
+int_of (name ∷ number ∷ next ∷ fields) = None
 
 -- each command has its word
 abbrev pub head_named : Text → List Text → Option Head
 head_named word fields =
-    if bytes_eq word (codes "text") then option_map text_head (only_field fields)
-    else if bytes_eq word (codes "str") then str_head_of (only_field fields)
+    if bytes_eq word (codes "text") then option_map (λ name. opens (text_opening name)) (only_field fields)
+    else if bytes_eq word (codes "safe") then option_map (λ name. opens (safe_opening name)) (only_field fields)
+    else if bytes_eq word (codes "int") then option_map alone (int_of fields)
+    else if bytes_eq word (codes "str") then option_map opens (str_opening_of (only_field fields))
     else None
 
 abbrev pub head_of_words : List Text → Option Head
@@ -53,9 +91,10 @@ head_of_words (mark ∷ word ∷ fields) = if bytes_eq mark (codes "@@") then he
 abbrev pub head_of : Text → Option Head
 head_of line = if is_plain line then head_of_words (words_of line) else None
 
-abbrev pub with_body : Head → Text → Act
-with_body (text_head name) body = put_text name body
-with_body (str_head autoescape) body = render_text autoescape body
+abbrev pub with_body : Opening → Text → Act
+with_body (text_opening name) body = put_value name (text body false)
+with_body (safe_opening name) body = put_value name (text body true)
+with_body (str_opening autoescape) body = render_text autoescape body
 
 abbrev pub ends_body : Text → Bool
 ends_body line = bytes_eq line (codes "@@ end")
@@ -77,11 +116,16 @@ before act script = record { acts = act ∷ script.acts; unreadable = script.unr
 abbrev pub stopped : ℕ → Script
 stopped n = record { acts = []; unreadable = Some n }
 
+-- what opens a body, with the lines of that body, if one does follow
+abbrev pub with_opening : ℕ → Opening → Option (List Text) → (ℕ → Script) → Script
+with_opening n opening None rest = stopped n
+with_opening n opening (Some body) rest = before (with_body opening (joined body)) (rest (length body + 1))
+
 -- a command line with the lines that may be its body; the rest of the script is given by how many of them are taken
 abbrev pub with_command : ℕ → Option Head → Option (List Text) → (ℕ → Script) → Script
 with_command n None body rest = stopped n
-with_command n (Some head) None rest = stopped n
-with_command n (Some head) (Some body) rest = before (with_body head (joined body)) (rest (length body + 1))
+with_command n (Some (alone act)) body rest = before act (rest 0)
+with_command n (Some (opens opening)) body rest = with_opening n opening body rest
 
 -- The script of lines, of which the first is line n. So many of them belong to a body that was read before.
 abbrev pub script_of_lines : ℕ → ℕ → List Text → Script

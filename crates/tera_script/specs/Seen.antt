@@ -3,7 +3,9 @@ use Rattle.std.specs.Prelude.{Option}
 use Rattle.std.specs.Borrow.{Bor}
 use Rattle.std.specs.Option.{option_map}
 use Rattle.tera_errors.specs.Site.{Text}
-use Rattle.tera_script.specs.Act.{acts_of}
+use Rattle.tera_script.specs.Act.{act_of, acts_of}
+use Rattle.tera_script.specs.declared.script.Opening.{Opening}
+use Rattle.tera_script.specs.declared.script.Opening.TheVariants as opening
 use Rattle.tera_script.specs.declared.script.Head.{Head}
 use Rattle.tera_script.specs.declared.script.Head.TheVariants as head
 use Rattle.tera_script.specs.declared.script.Script.{Script}
@@ -12,9 +14,14 @@ use Rattle.tera_script.specs.Script as script
 abbrev pub text_seen : Option (Bor Text) → Option Text
 text_seen text = option_map (λ t. t.now) text
 
+abbrev pub plain_opening : Opening → script.Opening
+plain_opening (opening.Text name) = script.text_opening name.now
+plain_opening (opening.Safe name) = script.safe_opening name.now
+plain_opening (opening.Str autoescape) = script.str_opening autoescape
+
 abbrev pub plain_head : Head → script.Head
-plain_head (head.Text name) = script.text_head name.now
-plain_head (head.Str autoescape) = script.str_head autoescape
+plain_head (head.Alone command) = script.alone (act_of command)
+plain_head (head.Opens opened) = script.opens (plain_opening opened)
 
 abbrev pub head_seen : Option Head → Option script.Head
 head_seen found = option_map plain_head found

@@ -1,12 +1,12 @@
 -- What commands may be answered, and what they leave.
-use Rattle.std.specs.Prelude.{◌≡◌, ℕ, List, [], ◌∷◌, Ok, None, false}
+use Rattle.std.specs.Prelude.{◌≡◌, ℕ, List, [], ◌∷◌, Ok, None}
 use Rattle.std.specs.List.{flat_map}
 use Rattle.tera_errors.specs.Answer.{SaysOneOf}
 use Rattle.tera_values.specs.Named.{Named, put}
-use Rattle.tera_values.specs.Val.{Val, text}
+use Rattle.tera_values.specs.Val.{Val}
 use Rattle.tera_meaning.specs.Registry.{Registry}
 use Rattle.tera.specs.Rendering.{OneOff}
-use Rattle.tera_script.specs.Act.{Act, put_text, render_text}
+use Rattle.tera_script.specs.Act.{Act, put_value, render_text}
 use Rattle.tera_script.specs.Reply.{Replied, done, says, refuses, line_of}
 use Rattle.tera_script.specs.Script.{script_of}
 
@@ -24,18 +24,18 @@ fresh registry = session registry []
 
 -- What a command may be answered. Want of memory may always be the answer.
 abbrev pub MayAnswer : Session → Act → Replied → Type 0
-MayAnswer now (put_text name body) done = Unit {0}
-MayAnswer now (put_text name body) (says answer) = ⊥
-MayAnswer now (put_text name body) (refuses refusal) = refusal ≡ None
+MayAnswer now (put_value name value) done = Unit {0}
+MayAnswer now (put_value name value) (says answer) = ⊥
+MayAnswer now (put_value name value) (refuses refusal) = refusal ≡ None
 MayAnswer now (render_text autoescape body) done = ⊥
 MayAnswer now (render_text autoescape body) (says answer) = OneOff now.registry body now.context autoescape (Ok answer)
 MayAnswer now (render_text autoescape body) (refuses refusal) = SaysOneOf refusal (OneOff now.registry body now.context autoescape)
 
 -- A command that is refused changes nothing.
 abbrev pub after : Session → Act → Replied → Session
-after now (put_text name body) done = record now { context = put name (text body false) now.context }
-after now (put_text name body) (says answer) = now
-after now (put_text name body) (refuses refusal) = now
+after now (put_value name value) done = record now { context = put name value now.context }
+after now (put_value name value) (says answer) = now
+after now (put_value name value) (refuses refusal) = now
 after now (render_text autoescape body) reply = now
 
 -- one reply a command, each in the session that the commands before it left

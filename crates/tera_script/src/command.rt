@@ -5,6 +5,10 @@
 pub enum Command<'a> {
     /// Puts a text into the context, under this name.
     Text { name: &'a str, body: &'a str },
+    /// The same, marked safe.
+    Safe { name: &'a str, body: &'a str },
+    /// Puts an integer into the context, under this name.
+    Int { name: &'a str, number: i128 },
     /// Renders a text beside the registry, with the context.
     Str { autoescape: bool, body: &'a str },
 }

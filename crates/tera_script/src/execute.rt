@@ -1,9 +1,9 @@
 // Commands on an engine.
-ghost use Rattle.std.specs.Prelude.{◌≡◌, IfOk, IfErr, OnOk, OnErr, false, ◌<◌, ◌≤◌, ◌+◌, ◌++◌, ◌∷◌, [], vec_len, vec_capacity};
+ghost use Rattle.std.specs.Prelude.{◌≡◌, IfOk, IfErr, OnOk, OnErr, ◌<◌, ◌≤◌, ◌+◌, ◌++◌, ◌∷◌, [], vec_len, vec_capacity};
 ghost use Rattle.tera.specs.Registry.{registry_of};
 ghost use Rattle.tera_errors.specs.Answer.{Lacks};
 ghost use Rattle.tera_script.specs.Act.{act_of, acts_of};
-ghost use Rattle.tera_script.specs.Reply.{reply_seen, replies_seen};
+ghost use Rattle.tera_script.specs.Reply.{reply_seen, replies_seen, put_seen};
 ghost use Rattle.tera_script.specs.Session.{MayAnswer, Replies, after, fresh, session};
 ghost use Rattle.tera_values.specs.Named.{put};
 ghost use Rattle.tera_values.specs.Val.{text};
@@ -51,10 +51,11 @@ fn reply_to(alloc: Global, engine: &Tera, context: &mut Context, command: &Comma
     ensures context { context.new ≡ (after (session (registry_of engine.now) context.old) (act_of command.now) (reply_seen result)).context }
 {
     match *command {
-        Command::Text { name, body } => match put_text(alloc, context, name, body) {
-            Ok(()) => Reply::Done,
-            Err(error) => Reply::Fault(error),
-        },
+        Command::Text { name, body } => put_reply(put_text(alloc, context, name, body, false)),
+        Command::Safe { name, body } => put_reply(put_text(alloc, context, name, body, true)),
+        Command::Int { name, number } => {
+            put_reply(context.insert(name, Value::from_int(number)))
+        }
         Command::Str { autoescape, body } => match engine.render_str(body, context, autoescape) {
             Ok(text) => Reply::Text(text),
             Err(error) => Reply::Fault(error),
@@ -62,11 +63,31 @@ fn reply_to(alloc: Global, engine: &Tera, context: &mut Context, command: &Comma
     }
 }
 
-fn put_text(alloc: Global, context: &mut Context, name: &str, body: &str) -> TeraResult<()>
-    ensures ok { OnOk result (context.new ≡ put name.now (text body.now false) context.old) }
+// The reply to a command that puts a value into the context.
+fn put_reply(answer: TeraResult<()>) -> Reply
+    ensures { reply_seen result ≡ put_seen answer }
+{
+    match answer {
+        Ok(()) => Reply::Done,
+        Err(error) => Reply::Fault(error),
+    }
+}
+
+fn put_text(
+    alloc: Global,
+    context: &mut Context,
+    name: &str,
+    body: &str,
+    is_safe: bool,
+) -> TeraResult<()>
+    ensures ok { OnOk result (context.new ≡ put name.now (text body.now is_safe) context.old) }
     ensures err { IfErr result (λ e. Lacks e) }
     ensures unchanged { OnErr result (context.new ≡ context.old) }
 {
-    let value = Value::string(alloc, body)?;
+    let value = if is_safe {
+        Value::safe_string(alloc, body)?
+    } else {
+        Value::string(alloc, body)?
+    };
     context.insert(name, value)
 }

@@ -1,10 +1,10 @@
 // Commands from the text of a script.
-ghost use Rattle.std.specs.Prelude.{◌≡◌, MatchOption, IfOk};
+ghost use Rattle.std.specs.Prelude.{◌≡◌, MatchOption, IfOk, option_map};
 ghost use Rattle.tera_script.specs.Act.{act_of};
 ghost use Rattle.tera_script.specs.Found.{IsCommand, IsNone};
 ghost use Rattle.tera_script.specs.Lines.{lines_of};
-ghost use Rattle.tera_script.specs.Script.{is_plain, head_of, head_named, only_field, switch, with_body, script_of_lines, script_of};
-ghost use Rattle.tera_script.specs.Seen.{head_seen, plain_head, script_seen, text_seen};
+ghost use Rattle.tera_script.specs.Script.{is_plain, head_of, head_named, only_field, switch, is_integer, integer, int_of, with_body, script_of_lines, script_of};
+ghost use Rattle.tera_script.specs.Seen.{head_seen, plain_opening, script_seen, text_seen};
 ghost use Rattle.tera_script.specs.Words.{words_after};
 
 use crate::body::first_body;
@@ -20,11 +20,19 @@ pub struct Script<'a> {
     pub unreadable: Option<usize>,
 }
 
-/// What a command line says before its body follows.
+/// What a command line says whose body follows.
+#[derive(Clone, Copy)]
+pub enum Opening<'a> {
+    Text(&'a str),
+    Safe(&'a str),
+    Str(bool),
+}
+
+/// What a command line says: a command by itself, or one whose body follows.
 #[derive(Clone, Copy)]
 pub enum Head<'a> {
-    Text(&'a str),
-    Str(bool),
+    Alone(Command<'a>),
+    Opens(Opening<'a>),
 }
 
 fn is_plain(line: &str) -> bool
@@ -54,12 +62,55 @@ fn switch(field: &str) -> Option<bool>
     }
 }
 
+fn is_integer(field: &str) -> bool
+    ensures { result ≡ is_integer field.now }
+{
+    let bytes = field.as_bytes();
+    let digits = match bytes.first() {
+        Some(b'-') => &bytes[1..],
+        _ => bytes,
+    };
+    !digits.is_empty() && digits.iter().all(|b| b.is_ascii_digit())
+}
+
+// A plus sign in front is no part of a number.
+fn integer(field: &str) -> Option<i128>
+    ensures { result ≡ integer field.now }
+{
+    if !is_integer(field) {
+        return None;
+    }
+    match field.parse::<i128>() {
+        Ok(number) => Some(number),
+        Err(_) => None,
+    }
+}
+
+// `int`, with a name and a number.
+fn int_of(fields: Option<&str>) -> Option<Command<'_>>
+    ensures { option_map act_of result ≡ int_of (words_after fields.entry) }
+{
+    let (name, rest) = first_word(fields?);
+    let (number, more) = first_word(rest?);
+    let number = integer(number);
+    match more {
+        None if !name.is_empty() => Some(Command::Int {
+            name,
+            number: number?,
+        }),
+        None => None,
+        Some(_) => None,
+    }
+}
+
 fn head_named<'a>(word: &str, fields: Option<&'a str>) -> Option<Head<'a>>
     ensures { head_seen result ≡ head_named word.now (words_after fields.entry) }
 {
     match word {
-        "text" => Some(Head::Text(only_field(fields)?)),
-        "str" => Some(Head::Str(switch(only_field(fields)?)?)),
+        "text" => Some(Head::Opens(Opening::Text(only_field(fields)?))),
+        "safe" => Some(Head::Opens(Opening::Safe(only_field(fields)?))),
+        "int" => Some(Head::Alone(int_of(fields)?)),
+        "str" => Some(Head::Opens(Opening::Str(switch(only_field(fields)?)?))),
         _ => None,
     }
 }
@@ -78,12 +129,13 @@ fn head_of(line: &str) -> Option<Head<'_>>
     head_named(word, fields)
 }
 
-fn with_body<'a>(head: Head<'a>, body: &'a str) -> Command<'a>
-    ensures { act_of result ≡ with_body (plain_head head.entry) body.now }
+fn with_body<'a>(opening: Opening<'a>, body: &'a str) -> Command<'a>
+    ensures { act_of result ≡ with_body (plain_opening opening.entry) body.now }
 {
-    match head {
-        Head::Text(name) => Command::Text { name, body },
-        Head::Str(autoescape) => Command::Str { autoescape, body },
+    match opening {
+        Opening::Text(name) => Command::Text { name, body },
+        Opening::Safe(name) => Command::Safe { name, body },
+        Opening::Str(autoescape) => Command::Str { autoescape, body },
     }
 }
 
@@ -98,13 +150,21 @@ pub struct Found<'a> {
 fn command_at<'a>(line: &'a str, after: &'a str) -> Option<Found<'a>>
     ensures { MatchOption result (IsNone line.now after.now) (IsCommand line.now after.now) }
 {
-    let head = head_of(line)?;
-    let body = first_body(after)?;
-    Some(Found {
-        command: with_body(head, body.text),
-        lines: body.lines,
-        rest: body.rest,
-    })
+    match head_of(line)? {
+        Head::Alone(command) => Some(Found {
+            command,
+            lines: 0,
+            rest: after,
+        }),
+        Head::Opens(opening) => {
+            let body = first_body(after)?;
+            Some(Found {
+                command: with_body(opening, body.text),
+                lines: body.lines,
+                rest: body.rest,
+            })
+        }
+    }
 }
 
 fn script_of_text(alloc: Global, text: &str) -> Result<Script<'_>, AllocError>

@@ -14,8 +14,8 @@ pub fn put(context: &mut Context, name: &str, value: TeraResult<Value>) -> bool 
     }
 }
 
-/// A context with a text, `text`, the same marked safe, `safe`, `html`, `name`, which is `world`, and `hidden`, which is
-/// undefined.
+/// A context with a text, `text`, the same marked safe, `safe`, `html`, `name`, which is `world`, `hidden`, which is
+/// undefined, and two bytes, `bytes`.
 pub fn variables(alloc: Global) -> Option<Context> {
     let mut context = Context::new(alloc);
     if put(&mut context, "text", Value::string(alloc, "<b>"))
@@ -23,6 +23,7 @@ pub fn variables(alloc: Global) -> Option<Context> {
         && put(&mut context, "html", Value::string(alloc, "<script>"))
         && put(&mut context, "name", Value::string(alloc, "world"))
         && put(&mut context, "hidden", Ok(Value::undefined()))
+        && put(&mut context, "bytes", Value::bytes(alloc, b"\x01\xff"))
     {
         return Some(context);
     }

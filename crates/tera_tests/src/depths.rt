@@ -17,6 +17,8 @@ const CHAINED: [&str; 5] = [
     "",
 ];
 
+const LOOPS: [&str; 5] = ["", "{% for c in \"a\" %}", "x", "{% endfor %}", ""];
+
 const NOTS: [&str; 5] = ["{% if ", "not ", "name %}x{% endif %}", "", ""];
 
 const PARENTHESES: [&str; 5] = ["{{ ", "(", "name", ")", " }}"];
@@ -24,12 +26,14 @@ const PARENTHESES: [&str; 5] = ["{{ ", "(", "name", ")", " }}"];
 const OPEN_PARENTHESES: [&str; 5] = ["{{ ", "(", "name", "", " }}"];
 
 /// Nests, and what they render to; none where that is a `SyntaxError`.
-const DEPTHS: [(Nest, Option<&str>); 8] = [
+const DEPTHS: [(Nest, Option<&str>); 10] = [
     (Nest(CHOICES, 199), Some("x")),
     (Nest(CHOICES, 200), None),
     // the first condition is an `if`
     (Nest(CHAINED, 198), Some("x")),
     (Nest(CHAINED, 199), None),
+    (Nest(LOOPS, 199), Some("x")),
+    (Nest(LOOPS, 200), None),
     (Nest(NOTS, 198), Some("x")),
     (Nest(NOTS, 199), None),
     (Nest(PARENTHESES, 20_000), Some("world")),

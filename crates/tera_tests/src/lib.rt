@@ -6,6 +6,8 @@ mod cases;
 #[cfg(test)]
 mod commands;
 #[cfg(test)]
+mod comprehensions;
+#[cfg(test)]
 mod depths;
 #[cfg(test)]
 mod devices;
@@ -18,7 +20,13 @@ mod failing_devices;
 #[cfg(test)]
 mod faults;
 #[cfg(test)]
+mod global_context;
+#[cfg(test)]
 mod language;
+#[cfg(test)]
+mod loops;
+#[cfg(test)]
+mod many_items;
 #[cfg(test)]
 mod memory;
 #[cfg(test)]
@@ -33,6 +41,8 @@ mod renderings;
 mod scopes;
 #[cfg(test)]
 mod scripts;
+#[cfg(test)]
+mod sets;
 #[cfg(test)]
 mod shared_copies;
 #[cfg(test)]

@@ -1,94 +1,182 @@
 -- What is derived is read.
-use Rattle.std.proofs.Common.{◌≡◌, ℕ, suc, ◌-◌, ◌≤◌, max, List, [], ◌∷◌, Bool, true, false, Some, None, if◌then◌else◌, refl, ap, sym, ◌∙◌, arith, length}
+use Rattle.std.proofs.Common.{◌≡◌, ℕ, suc, ◌-◌, ◌≤◌, ◌<◌, max, nat_lt, List, [], ◌∷◌, Bool, true, false, Option, Some, None, IsTrue, if◌then◌else◌, refl, ap, sym, ◌∙◌, arith, length}
+use Rattle.std.proofs.lemmas.Grind.{common_steps}
 use Rattle.std.specs.Prelude.{option_and_then, codes}
 use Rattle.tera_tokens.specs.declared.token.Kind.TheVariants as k
 use Rattle.tera_tokens.specs.Token.{Token}
-use Rattle.tera_tokens.specs.Input.{begin, next}
 use Rattle.tera_tokens.specs.Cut.{Piece}
-use Rattle.tera_tree.specs.Tree.{Expr, Content, Print, If, Nodes, NoNodes}
-use Rattle.tera_tree.specs.Depth.{depth, nodes_depth}
-use Rattle.tera_syntax.specs.Grammar.{IsWord, Asks, DerivesNodes, empty, content, blank, comment, print, choice, DerivesOther, no_other, otherwise, chained}
-use Rattle.tera_syntax.specs.Reader.{Frame, Progress, join, one, printed, room, opened, turned, closed, statement, statement_by, run, nodes, whole}
-use Rattle.tera_syntax.proofs.Rows.{join-none, join-join, rest-le}
+use Rattle.tera_tree.specs.Tree.{Content, Print, If, Set, Capture, For, Break, Continue, Node, Nodes, NoNodes}
+use Rattle.tera_tree.specs.Depth.{depth, node_depth, nodes_depth}
+use Rattle.tera_syntax.specs.Heads.{Head, IfHead, ForHead, SetHead, make, head_depth, splits, chains, inside, ends}
+use Rattle.tera_syntax.specs.Grammar.{IsWord, Simple, Opens, GoesOn, DerivesNodes, empty, content, blank, comment, print, single, bodied, DerivesRest, ended, split, chained}
+use Rattle.tera_syntax.specs.Reader.{Frame, Progress, Tag, Single, Opening, GoingOn, Turning, Closing, join, one, printed, put, room, opened, closed, around, tag, taken, statement, run, nodes}
+use Rattle.tera_syntax.proofs.Rows.{join-none, join-join}
 use Rattle.tera_syntax.proofs.Whole.{whole_complete}
+use Rattle.tera_syntax.proofs.OneTag.{simple_read, opens_read, goes_on_read, else_read, ends_read}
 
-abbrev pub at : List Frame → Nodes → Progress
-at fs found = record { frames = fs; found = found }
+abbrev pub at : Bool → List Frame → Nodes → Progress
+at q fs found = record { frames = fs; found = found; in_loop = q }
 
--- a choice of which the body is being read
-abbrev pub asking : Nodes → Expr → Bool → Frame
-asking before condition is_chained = record { before = before; condition = condition; body = None; is_chained = is_chained }
+-- a statement of which the body is being read
+abbrev pub asking : Nodes → Head → Bool → Bool → Frame
+asking before head is_chained q = record { before = before; head = head; body = None; is_chained = is_chained; in_loop = q }
 
--- a choice of which the body was read
-abbrev pub halved : Nodes → Expr → Bool → Nodes → Frame
-halved before condition is_chained body = record { before = before; condition = condition; body = Some body; is_chained = is_chained }
+-- a statement of which the body was read
+abbrev pub halved : Nodes → Head → Bool → Bool → Nodes → Frame
+halved before head is_chained q body = record { before = before; head = head; body = Some body; is_chained = is_chained; in_loop = q }
 
-choice-fits : (c b o r limit h : ℕ) → max (suc (max c (max b o))) r ≤ limit - h → (c ≤ limit - suc h) × (b ≤ limit - suc h) × (o ≤ limit - suc h) × (r ≤ limit - h)
-choice-fits c b o r limit h le = (omega arith, omega arith, omega arith, omega arith)
+-- How deep the parts of a statement are
 
-print-fits : (v r limit h : ℕ) → max (suc v) r ≤ limit - h → (v ≤ limit - suc h) × (r ≤ limit - h)
-print-fits v r limit h le = (omega arith, omega arith)
+pub node-some : (n : Node) → 0 < node_depth n
+node-some (Content t s) = omega arith
+node-some (Print e) = omega arith
+node-some (If c b o) = omega arith
+node-some (Set n e g) = omega arith
+node-some (Capture n b g) = omega arith
+node-some (For k n e b o) = omega arith
+node-some Break = omega arith
+node-some Continue = omega arith
 
-if-read : (limit : ℕ) (s : Progress) (tokens : List Token) (c : Expr) → Asks k.If c tokens → depth c ≤ room limit s → statement limit s tokens ≡ opened false s (Some c)
-unfolding statement
-if-read limit s tokens c a le = ap (statement_by limit s tokens) a.0 ∙ ap (opened false s) (whole_complete a.1 (room limit s) le)
+three-fit : (c b o m : ℕ) → suc (max c (max b o)) ≤ suc m → (c ≤ m) × (b ≤ m)
+three-fit c b o m le = (omega arith, omega arith)
 
-elif-read : (limit : ℕ) (s t : Progress) (tokens : List Token) (c : Expr) → turned s.frames s.found ≡ Some t → Asks k.Elif c tokens → depth c ≤ room limit t → statement limit s tokens ≡ opened true t (Some c)
-unfolding statement
-elif-read limit s t tokens c h a le =
-    ap (statement_by limit s tokens) a.0
-    ∙ ap (option_and_then (λ (t : Progress). opened true t (whole (room limit t) (next (begin false tokens))))) h
-    ∙ ap (opened true t) (whole_complete a.1 (room limit t) le)
+third-fits : (c b o m : ℕ) → suc (max c (max b o)) ≤ suc m → o ≤ m
+third-fits c b o m le = omega arith
 
-else-read : (limit : ℕ) (s : Progress) (tokens : List Token) → IsWord k.Else (codes "else") tokens → statement limit s tokens ≡ turned s.frames s.found
-unfolding statement
-else-read limit s tokens w =
-    ap (statement_by limit s tokens) w.0
-    ∙ ap (λ b. if b then turned s.frames s.found else None) w.1
+head-fits : (h : Head) (b o : Nodes) (m : ℕ) → node_depth (make h b o) ≤ suc m → (head_depth h ≤ m) × (nodes_depth b ≤ m)
+head-fits (IfHead c) b o m le = three-fit (depth c) (nodes_depth b) (nodes_depth o) m le
+head-fits (ForHead k n e) b o m le = three-fit (depth e) (nodes_depth b) (nodes_depth o) m le
+head-fits (SetHead n g) b o m le = (omega arith, omega (arith, le))
 
-endif-read : (limit : ℕ) (s : Progress) (tokens : List Token) → IsWord k.Name (codes "endif") tokens → statement limit s tokens ≡ closed s.frames s.found
-unfolding statement
-endif-read limit s tokens w =
-    ap (statement_by limit s tokens) w.0
-    ∙ ap (λ b. if b then closed s.frames s.found else None) w.1
+other-fits : (h : Head) (b o : Nodes) (m : ℕ) → splits h ≡ true → node_depth (make h b o) ≤ suc m → nodes_depth o ≤ m
+other-fits (IfHead c) b o m q le = third-fits (depth c) (nodes_depth b) (nodes_depth o) m le
+other-fits (ForHead k n e) b o m q le = third-fits (depth e) (nodes_depth b) (nodes_depth o) m le
+other-fits (SetHead n g) b o m q le = absurd (cc)
 
-mutual
-  reads : {x : Nodes} {i j : List Piece} → DerivesNodes x i j → (limit : ℕ) (fs : List Frame) (found : Nodes) → nodes_depth x ≤ limit - length fs
-      → run limit (at fs found) i ≡ run limit (at fs (join found x)) j
-  reads {j = j} empty limit fs found le = ap (λ n. run limit (at fs n) j) (sym (join-none found))
-  reads (content {words = []} filled d) limit fs found le = absurd (filled refl)
-  reads {j = j} (content {words = b ∷ bs} {place = place} {rest = rest} filled d) limit fs found le =
-      reads d limit fs (join found (one (Content (b ∷ bs) place))) (rest-le 1 (nodes_depth rest) (limit - length fs) le)
-      ∙ ap (λ n. run limit (at fs n) j) (join-join found (one (Content (b ∷ bs) place)) rest)
-  reads (blank d) limit fs found le = reads d limit fs found le
-  reads (comment d) limit fs found le = reads d limit fs found le
-  reads {j = j} (print {value = value} {rest = rest} {i = i} v d) limit fs found le =
-      let s = print-fits (depth value) (nodes_depth rest) limit (length fs) le in
-      ap (λ o. option_and_then (λ t. run limit t i) (printed (at fs found) o)) (whole_complete v (room limit (at fs found)) s.0)
-      ∙ reads d limit fs (join found (one (Print value))) s.1
-      ∙ ap (λ n. run limit (at fs n) j) (join-join found (one (Print value)) rest)
-  reads {j = j} (choice {condition = c} {tokens = tokens} {body = body} {other = other} {rest = rest} {i = i} a b o d) limit fs found le =
-      let s = choice-fits (depth c) (nodes_depth body) (nodes_depth other) (nodes_depth rest) limit (length fs) le in
-      ap (option_and_then (λ t. run limit t i)) (if-read limit (at fs found) tokens c a s.0)
-      ∙ reads b limit (asking found c false ∷ fs) NoNodes s.1
-      ∙ ends o limit found c false fs body s.2
-      ∙ reads d limit fs (join found (one (If c body other))) s.3
-      ∙ ap (λ n. run limit (at fs n) j) (join-join found (one (If c body other)) rest)
+chains-split : (h : Head) → chains h ≡ true → splits h ≡ true
+chains-split (IfHead c) q = refl
+chains-split (ForHead k n e) q = refl
+chains-split (SetHead n g) q = absurd (cc)
 
-  ends : {x : Nodes} {i j : List Piece} → DerivesOther x i j → (limit : ℕ) (before : Nodes) (c : Expr) (q : Bool) (fs : List Frame) (body : Nodes) → nodes_depth x ≤ limit - suc (length fs)
-      → run limit (at (asking before c q ∷ fs) body) i ≡ option_and_then (λ t. run limit t j) (closed (halved before c q body ∷ fs) x)
-  ends (no_other {tokens = tokens} {i = i} w) limit before c q fs body le =
-      ap (option_and_then (λ t. run limit t i)) (endif-read limit (at (asking before c q ∷ fs) body) tokens w)
-  ends (otherwise {tokens = tokens} {last = last} {body = x} {i = i} {j = j} a d w) limit before c q fs body le =
-      ap (option_and_then (λ t. run limit t i)) (else-read limit (at (asking before c q ∷ fs) body) tokens a)
-      ∙ reads d limit (halved before c q body ∷ fs) NoNodes le
-      ∙ ap (option_and_then (λ t. run limit t j)) (endif-read limit (at (halved before c q body ∷ fs) x) last w)
-  ends (chained {condition = v} {tokens = tokens} {body = x} {other = y} {i = i} a b o) limit before c q fs body le =
-      let s = choice-fits (depth v) (nodes_depth x) (nodes_depth y) 0 limit (suc (length fs)) le in
-      let half = halved before c q body ∷ fs in
-      ap (option_and_then (λ t. run limit t i)) (elif-read limit (at (asking before c q ∷ fs) body) (at half NoNodes) tokens v refl a s.0)
-      ∙ reads b limit (asking NoNodes v true ∷ half) NoNodes s.1
-      ∙ ends o limit NoNodes v true half x s.2
+rest-fits : {q : Bool} {h : Head} {o : Nodes} {i j : List Piece} → DerivesRest q h o i j → (b : Nodes) (m : ℕ) → node_depth (make h b o) ≤ suc m → nodes_depth o ≤ m
+rest-fits (ended e) b m le = omega arith
+rest-fits {h = h} {o = o} (split s w d e) b m le = other-fits h b o m s le
+rest-fits {h = h} (chained {further = f} {body = x} {other = y} s g d o) b m le = other-fits h b (one (make f x y)) m (chains-split h s) le
 
-pub complete_nodes : (limit : ℕ) (x : Nodes) (i : List Piece) → DerivesNodes x i [] → nodes_depth x ≤ limit → nodes limit i ≡ Some x
-complete_nodes limit x i d le = reads d limit [] NoNodes (omega arith)
+first-fits : (n r limit h : ℕ) → 0 < n → max n r ≤ limit - h → (h < limit) × (n ≤ suc (limit - suc h)) × (r ≤ limit - h)
+first-fits n r limit h p le = (omega arith, omega arith, omega arith)
+
+print-fits : (v limit h : ℕ) → h < limit → suc v ≤ suc (limit - suc h) → v ≤ limit - suc h
+print-fits v limit h lt le = omega arith
+
+-- What is read
+
+module _ (limit : ℕ) where
+  has-room : (fs : List Frame) (A : Option Progress) → length fs < limit → (if nat_lt (length fs) limit then A else None) ≡ A
+  has-room fs A lt =
+      let t : nat_lt (length fs) limit ≡ true = grind (arith, common_steps) in
+      ap (λ (b : Bool). if b then A else None) t
+
+  statement-by : (s : Progress) (tokens : List Token) (t : Tag) → tag (room limit s) s.in_loop (around s.frames) tokens ≡ Some t → statement limit s tokens ≡ taken limit s tokens t
+  unfolding statement
+  statement-by s tokens t e = ap (option_and_then (taken limit s tokens)) e
+
+  put-read : (q : Bool) (fs : List Frame) (found : Nodes) (n : Node) → length fs < limit → put limit (at q fs found) n ≡ Some (at q fs (join found (one n)))
+  put-read q fs found n lt = has-room fs (Some (at q fs (join found (one n)))) lt
+
+  opened-read : (q c : Bool) (fs : List Frame) (found : Nodes) (h : Head) → length fs < limit → opened limit c (at q fs found) h ≡ Some (at (inside h q) (asking found h c q ∷ fs) NoNodes)
+  opened-read q c fs found h lt = has-room fs (Some (at (inside h q) (asking found h c q ∷ fs) NoNodes)) lt
+
+  single-read : {q : Bool} {n : Node} {tokens : List Token} → Simple q n tokens → (fs : List Frame) (found : Nodes) → length fs < limit → node_depth n ≤ suc (limit - suc (length fs))
+      → statement limit (at q fs found) tokens ≡ Some (at q fs (join found (one n)))
+  single-read {q = q} {n = n} {tokens = tokens} a fs found lt le =
+      statement-by (at q fs found) tokens (Single n) (simple_read (room limit (at q fs found)) q (around fs) tokens a le) ∙ put-read q fs found n lt
+
+  bodied-read : {q : Bool} {h : Head} {tokens : List Token} → Opens q h tokens → (fs : List Frame) (found : Nodes) → length fs < limit → head_depth h ≤ limit - suc (length fs)
+      → statement limit (at q fs found) tokens ≡ Some (at (inside h q) (asking found h false q ∷ fs) NoNodes)
+  bodied-read {q = q} {h = h} {tokens = tokens} a fs found lt le =
+      statement-by (at q fs found) tokens (Opening h) (opens_read (room limit (at q fs found)) q (around fs) tokens a le) ∙ opened-read q false fs found h lt
+
+  may-turn : (b : Bool) (A : Option Progress) → b ≡ true → (if b then A else None) ≡ A
+  may-turn b A e = ap (λ (b : Bool). if b then A else None) e
+
+  module _ (p q c : Bool) (before : Nodes) (h : Head) (fs : List Frame) (body : Nodes) (tokens : List Token) where
+    abbrev here : Progress
+    here = at p (asking before h c q ∷ fs) body
+
+    ended-read : IsTrue (ends h tokens) → statement limit here tokens ≡ closed (asking before h c q ∷ fs) body
+    ended-read e =
+        statement-by here tokens Closing (ends_read (room limit here) p q tokens h e)
+        ∙ may-turn (ends h tokens) (closed (asking before h c q ∷ fs) body) e
+
+    else-turns : splits h ≡ true → IsWord k.Else (codes "else") tokens → statement limit here tokens ≡ Some (at q (halved before h c q body ∷ fs) NoNodes)
+    else-turns s w =
+        statement-by here tokens Turning (else_read (room limit here) p q tokens w)
+        ∙ may-turn (splits h) (Some (at q (halved before h c q body ∷ fs) NoNodes)) s
+
+    goes-on : (f : Head) → chains h ≡ true → GoesOn q f tokens → suc (length fs) < limit → head_depth f ≤ limit - suc (suc (length fs))
+        → statement limit here tokens ≡ Some (at (inside f q) (asking NoNodes f true q ∷ halved before h c q body ∷ fs) NoNodes)
+    goes-on f s g lt le =
+        let half = at q (halved before h c q body ∷ fs) NoNodes in
+        statement-by here tokens (GoingOn f) (goes_on_read (room limit here) p q tokens g le)
+        ∙ ap (option_and_then (λ (t : Progress). opened limit true t f)) (may-turn (chains h) (Some half) s)
+        ∙ opened-read q true (halved before h c q body ∷ fs) NoNodes f lt
+
+    half-ended-read : (other : Nodes) → IsTrue (ends h tokens) → statement limit (at p (halved before h c q body ∷ fs) other) tokens ≡ closed (halved before h c q body ∷ fs) other
+    half-ended-read other e =
+        statement-by (at p (halved before h c q body ∷ fs) other) tokens Closing (ends_read (room limit here) p q tokens h e)
+        ∙ may-turn (ends h tokens) (closed (halved before h c q body ∷ fs) other) e
+
+  mutual
+    reads : {q : Bool} {x : Nodes} {i j : List Piece} → DerivesNodes q x i j → (fs : List Frame) (found : Nodes) → nodes_depth x ≤ limit - length fs
+        → run limit (at q fs found) i ≡ run limit (at q fs (join found x)) j
+    reads {q = q} {j = j} empty fs found le = ap (λ n. run limit (at q fs n) j) (sym (join-none found))
+    reads (content {words = []} filled d) fs found le = absurd (filled refl)
+    reads {q = q} {j = j} (content {words = b ∷ bs} {place = place} {rest = rest} {i = i} filled d) fs found le =
+        let n = Content (b ∷ bs) place in
+        let s = first-fits 1 (nodes_depth rest) limit (length fs) (omega arith) le in
+        ap (option_and_then (λ t. run limit t i)) (put-read q fs found n s.0)
+        ∙ reads d fs (join found (one n)) s.2
+        ∙ ap (λ n. run limit (at q fs n) j) (join-join found (one n) rest)
+    reads (blank d) fs found le = reads d fs found le
+    reads (comment d) fs found le = reads d fs found le
+    reads {q = q} {j = j} (print {value = value} {tokens = tokens} {rest = rest} {i = i} v d) fs found le =
+        let s = first-fits (suc (depth value)) (nodes_depth rest) limit (length fs) (omega arith) le in
+        ap (λ o. option_and_then (λ t. run limit t i) (printed limit (at q fs found) o)) (whole_complete v (room limit (at q fs found)) (print-fits (depth value) limit (length fs) s.0 s.1))
+        ∙ ap (option_and_then (λ t. run limit t i)) (put-read q fs found (Print value) s.0)
+        ∙ reads d fs (join found (one (Print value))) s.2
+        ∙ ap (λ n. run limit (at q fs n) j) (join-join found (one (Print value)) rest)
+    reads {q = q} {j = j} (single {node = n} {rest = rest} {i = i} a d) fs found le =
+        let s = first-fits (node_depth n) (nodes_depth rest) limit (length fs) (node-some n) le in
+        ap (option_and_then (λ t. run limit t i)) (single-read a fs found s.0 s.1)
+        ∙ reads d fs (join found (one n)) s.2
+        ∙ ap (λ n. run limit (at q fs n) j) (join-join found (one n) rest)
+    reads {q = q} {j = j} (bodied {head = h} {body = body} {other = other} {rest = rest} {i = i} a b o d) fs found le =
+        let n = make h body other in
+        let s = first-fits (node_depth n) (nodes_depth rest) limit (length fs) (node-some n) le in
+        let f = head-fits h body other (limit - suc (length fs)) s.1 in
+        ap (option_and_then (λ t. run limit t i)) (bodied-read a fs found s.0 f.0)
+        ∙ reads b (asking found h false q ∷ fs) NoNodes f.1
+        ∙ rests o (inside h q) found false fs body (rest-fits o body (limit - suc (length fs)) s.1)
+        ∙ reads d fs (join found (one n)) s.2
+        ∙ ap (λ n. run limit (at q fs n) j) (join-join found (one n) rest)
+
+    rests : {q : Bool} {h : Head} {x : Nodes} {i j : List Piece} → DerivesRest q h x i j → (p : Bool) (before : Nodes) (c : Bool) (fs : List Frame) (body : Nodes) → nodes_depth x ≤ limit - suc (length fs)
+        → run limit (at p (asking before h c q ∷ fs) body) i ≡ option_and_then (λ t. run limit t j) (closed (halved before h c q body ∷ fs) x)
+    rests {q = q} {h = h} (ended {tokens = tokens} {i = i} e) p before c fs body le =
+        ap (option_and_then (λ t. run limit t i)) (ended-read p q c before h fs body tokens e)
+    rests {q = q} {h = h} (split {tokens = tokens} {last = last} {body = x} {i = i} {j = j} s w d e) p before c fs body le =
+        ap (option_and_then (λ t. run limit t i)) (else-turns p q c before h fs body tokens s w)
+        ∙ reads d (halved before h c q body ∷ fs) NoNodes le
+        ∙ ap (option_and_then (λ t. run limit t j)) (half-ended-read q q c before h fs body last x e)
+    rests {q = q} {h = h} (chained {further = f} {tokens = tokens} {body = x} {other = y} {i = i} s g b o) p before c fs body le =
+        let n = make f x y in
+        let z = first-fits (node_depth n) 0 limit (suc (length fs)) (node-some n) le in
+        let v = head-fits f x y (limit - suc (suc (length fs))) z.1 in
+        let half = halved before h c q body ∷ fs in
+        ap (option_and_then (λ t. run limit t i)) (goes-on p q c before h fs body tokens f s g z.0 v.0)
+        ∙ reads b (asking NoNodes f true q ∷ half) NoNodes v.1
+        ∙ rests o (inside f q) NoNodes true half x (rest-fits o x (limit - suc (suc (length fs))) z.1)
+
+pub complete_nodes : (limit : ℕ) (x : Nodes) (i : List Piece) → DerivesNodes false x i [] → nodes_depth x ≤ limit → nodes limit i ≡ Some x
+complete_nodes limit x i d le = reads limit d [] NoNodes (omega arith)

@@ -1,18 +1,19 @@
 -- All spans of a tree lie inside the text that spells it.
-use Rattle.std.proofs.Common.{ℕ, List, false, length, IsTrue}
+use Rattle.std.proofs.Common.{ℕ, List, Bool, Option, length, IsTrue}
 use Rattle.std.specs.Str.{IsUtf8}
 use Rattle.tera_errors.specs.Site.{Name, Text}
 use Rattle.tera_tree.specs.Delimiters.{delimiters_of, accepted}
 use Rattle.tera_tree.specs.declared.delimiters.Delimiters.{Delimiters}
-use Rattle.tera_tree.specs.Tree.{Expr, Nodes, Tree}
-use Rattle.tera_tree.specs.Inside.{ExprInside, NodesInside, Inside}
+use Rattle.tera_tree.specs.Tree.{Expr, Node, Nodes, Tree}
+use Rattle.tera_tree.specs.Inside.{ExprInside, NodeInside, NodesInside, Inside}
 use Rattle.tera_tokens.specs.Token.{Token}
 use Rattle.tera_tokens.specs.Input.{Input, begin, next}
 use Rattle.tera_tokens.specs.Cut.{Piece}
 use Rattle.tera_tokens.proofs.Order.{InOrder, Orderly, onward_next}
 use Rattle.tera_tokens.proofs.Stretches.{PiecesInside, pieces_inside}
 use Rattle.tera_expressions.proofs.Inside.{expr_lies}
-use Rattle.tera_syntax.specs.Grammar.{DerivesWhole, whole, DerivesNodes, empty, content, blank, comment, print, choice, DerivesOther, no_other, otherwise, chained}
+use Rattle.tera_syntax.specs.Heads.{Head, IfHead, ForHead, SetHead, make}
+use Rattle.tera_syntax.specs.Grammar.{DerivesWhole, whole, Calls, value, key_and_value, Simple, set, breaks, continues, Opens, choice, loop, capture, GoesOn, elif, DerivesNodes, empty, content, blank, comment, print, single, bodied, DerivesRest, ended, split, chained}
 use Rattle.tera_syntax.specs.Spells.{Spells}
 
 -- nodes that were read between two places lie inside, and so do the pieces that are left
@@ -23,29 +24,61 @@ pub record Lie (size : ℕ) (nodes : Nodes) (j : List Piece) : Type 0 where
 whole_inside : (size : ℕ) {x : Expr} {i : Input} → DerivesWhole x i → Orderly size i → ExprInside size x
 whole_inside size (whole d e) o = (expr_lies size d o).inside
 
-condition_inside : (size : ℕ) {x : Expr} (tokens : List Token) → DerivesWhole x (next (begin false tokens)) → InOrder size 0 tokens → ExprInside size x
-condition_inside size tokens d o = whole_inside size d (onward_next size (begin false tokens) o).orderly
+behind : (size : ℕ) (i : Input) → Orderly size i → Orderly size (next i)
+behind size i o = (onward_next size i o).orderly
+
+behind_two : (size : ℕ) (i : Input) → Orderly size i → Orderly size (next (next i))
+behind_two size i o = behind size (next i) (behind size i o)
+
+calls_lie : (size : ℕ) {key : Option Name} {name : Name} {i j : Input} → Calls key name i j → Orderly size i → Orderly size j
+calls_lie size {i = i} (value n) o = behind_two size i o
+calls_lie size {i = i} (key_and_value n m) o = behind_two size (next (next i)) (behind_two size i o)
+
+simple_inside : (size : ℕ) {q : Bool} {node : Node} {tokens : List Token} → Simple q node tokens → InOrder size 0 tokens → NodeInside size node
+simple_inside size {q = q} {tokens = tokens} (set b n w) o = whole_inside size w (behind_two size (next (begin q tokens)) (behind size (begin q tokens) o))
+simple_inside size (breaks l w) o = tt
+simple_inside size (continues l w) o = tt
+
+-- the expressions of a head lie inside
+abbrev HeadInside : ℕ → Head → Type 0
+HeadInside size (IfHead c) = ExprInside size c
+HeadInside size (ForHead key n e) = ExprInside size e
+HeadInside size (SetHead n is_global) = Unit {0}
+
+opens_inside : (size : ℕ) {q : Bool} {head : Head} {tokens : List Token} → Opens q head tokens → InOrder size 0 tokens → HeadInside size head
+opens_inside size {q = q} {tokens = tokens} (choice e w) o = whole_inside size w (behind size (begin q tokens) o)
+opens_inside size {q = q} {tokens = tokens} (loop e c w) o = whole_inside size w (calls_lie size c (behind size (begin q tokens) o))
+opens_inside size (capture b n) o = tt
+
+goes_on_inside : (size : ℕ) {q : Bool} {head : Head} {tokens : List Token} → GoesOn q head tokens → InOrder size 0 tokens → HeadInside size head
+goes_on_inside size {q = q} {tokens = tokens} (elif e w) o = whole_inside size w (behind size (begin q tokens) o)
+
+made_inside : (size : ℕ) (head : Head) (body other : Nodes) → HeadInside size head → NodesInside size body → NodesInside size other → NodeInside size (make head body other)
+made_inside size (IfHead c) body other h b o = (h, b, o)
+made_inside size (ForHead key n e) body other h b o = (h, b, o)
+made_inside size (SetHead n is_global) body other h b o = b
 
 mutual
-  nodes_lie : (size : ℕ) {nodes : Nodes} {i j : List Piece} → DerivesNodes nodes i j → PiecesInside size i → Lie size nodes j
+  nodes_lie : (size : ℕ) {q : Bool} {nodes : Nodes} {i j : List Piece} → DerivesNodes q nodes i j → PiecesInside size i → Lie size nodes j
   nodes_lie size empty h = record { inside = tt; rest = h }
   nodes_lie size (content n d) h = let p = nodes_lie size d h.1 in record { inside = (h.0, p.inside); rest = p.rest }
   nodes_lie size (blank d) h = nodes_lie size d h.1
   nodes_lie size (comment d) h = nodes_lie size d h.1
   nodes_lie size (print w d) h = let p = nodes_lie size d h.1 in record { inside = (whole_inside size w h.0, p.inside); rest = p.rest }
-  nodes_lie size (choice {tokens = tokens} a d o r) h =
-      let body = nodes_lie size d h.1 in
-      let other = other_lie size o body.rest in
-      let rest = nodes_lie size r other.rest in
-      record { inside = ((condition_inside size tokens a.1 h.0, body.inside, other.inside), rest.inside); rest = rest.rest }
+  nodes_lie size (single a d) h = let p = nodes_lie size d h.1 in record { inside = (simple_inside size a h.0, p.inside); rest = p.rest }
+  nodes_lie size (bodied {head = head} {body = body} {other = other} a d o r) h =
+      let b = nodes_lie size d h.1 in
+      let e = rest_lie size o b.rest in
+      let rest = nodes_lie size r e.rest in
+      record { inside = (made_inside size head body other (opens_inside size a h.0) b.inside e.inside, rest.inside); rest = rest.rest }
 
-  other_lie : (size : ℕ) {nodes : Nodes} {i j : List Piece} → DerivesOther nodes i j → PiecesInside size i → Lie size nodes j
-  other_lie size (no_other w) h = record { inside = tt; rest = h.1 }
-  other_lie size (otherwise w d e) h = let p = nodes_lie size d h.1 in record { inside = p.inside; rest = p.rest.1 }
-  other_lie size (chained {tokens = tokens} a d o) h =
-      let body = nodes_lie size d h.1 in
-      let other = other_lie size o body.rest in
-      record { inside = ((condition_inside size tokens a.1 h.0, body.inside, other.inside), tt); rest = other.rest }
+  rest_lie : (size : ℕ) {q : Bool} {head : Head} {nodes : Nodes} {i j : List Piece} → DerivesRest q head nodes i j → PiecesInside size i → Lie size nodes j
+  rest_lie size (ended e) h = record { inside = tt; rest = h.1 }
+  rest_lie size (split s w d e) h = let p = nodes_lie size d h.1 in record { inside = p.inside; rest = p.rest.1 }
+  rest_lie size (chained {further = further} {body = body} {other = other} s g d o) h =
+      let b = nodes_lie size d h.1 in
+      let e = rest_lie size o b.rest in
+      record { inside = (made_inside size further body other (goes_on_inside size g h.0) b.inside e.inside, tt); rest = e.rest }
 
 pub tree_inside : (name : Name) (d : Delimiters) (text : Text) (tree : Tree) → IsTrue (accepted (delimiters_of d)) → IsUtf8 text → Spells name (delimiters_of d) text tree → Inside (length text) tree
 tree_inside name d text tree usable u spelled = (nodes_lie (length text) spelled (pieces_inside d usable text u)).inside

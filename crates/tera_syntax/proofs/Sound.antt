@@ -1,181 +1,206 @@
 -- What is read is derived.
-use Rattle.std.proofs.Common.{◌≡◌, ℕ, suc, ◌-◌, ◌≤◌, ◌<◌, max, List, [], ◌∷◌, Bool, true, false, Option, Some, None, if◌then◌else◌, refl, sym, ◌∙◌, subst, arith, length}
+use Rattle.std.proofs.Common.{◌≡◌, ℕ, suc, ◌-◌, ◌≤◌, ◌<◌, max, nat_lt, List, [], ◌∷◌, Bool, true, false, Option, Some, None, IsTrue, if◌then◌else◌, refl, sym, ◌∙◌, subst, arith, length}
+use Rattle.std.proofs.lemmas.Grind.{common_steps}
 use Rattle.std.specs.Prelude.{option_and_then, codes}
-use Rattle.tera_tokens.specs.declared.token.Kind.{Kind}
 use Rattle.tera_tokens.specs.declared.token.Kind.TheVariants as k
 use Rattle.tera_tokens.specs.Token.{Token}
-use Rattle.tera_tokens.specs.Input.{begin, kind, next}
-use Rattle.tera_tokens.specs.Cut.{Piece, Words, Comment, Variable, Block, Broken, is_alone}
-use Rattle.tera_tree.specs.Tree.{Expr, Content, Print, If, Nodes, NoNodes}
-use Rattle.tera_tree.specs.Depth.{depth, nodes_depth}
-use Rattle.tera_syntax.specs.Grammar.{IsWord, Asks, DerivesNodes, empty, content, blank, comment, print, choice, DerivesOther, no_other, otherwise, chained}
-use Rattle.tera_syntax.specs.Reader.{Frame, Progress, join, one, printed, put, room, choice_by, row, opened, turned, turned_by, closed, statement, statement_by, run, nodes, whole}
+use Rattle.tera_tokens.specs.Input.{begin}
+use Rattle.tera_tokens.specs.Cut.{Piece, Words, Comment, Variable, Block, Broken}
+use Rattle.tera_tree.specs.Tree.{Expr, Content, Print, Node, Nodes, NoNodes}
+use Rattle.tera_tree.specs.Depth.{depth, node_depth, nodes_depth}
+use Rattle.tera_syntax.specs.Heads.{Head, IfHead, ForHead, SetHead, make, head_depth, splits, chains, inside, ends}
+use Rattle.tera_syntax.specs.Grammar.{IsWord, Opens, GoesOn, DerivesNodes, empty, content, blank, comment, print, single, bodied, DerivesRest, ended, split, chained}
+use Rattle.tera_syntax.specs.Reader.{Frame, Progress, Tag, Single, Opening, GoingOn, Turning, Closing, join, one, printed, put, room, made, row, opened, turned, turned_by, closed, shut, around, tag, taken, statement, run, nodes, whole}
 use Rattle.tera_syntax.proofs.Rows.{join-none, join-join, deep}
-use Rattle.tera_syntax.proofs.Whole.{whole_sound, whole_room}
+use Rattle.tera_syntax.proofs.Whole.{whole_sound}
+use Rattle.tera_syntax.proofs.OneTag.{Meant, tag_sound}
 use Rattle.tera_syntax.proofs.Complete.{at, asking, halved}
 
 mutual
   -- From what is open and was read, the pieces lead to the nodes: so much more of the innermost body, then what ends it.
-  data Goes : ℕ → List Frame → Nodes → List Piece → Nodes → Type 0 where
-    done : {limit : ℕ} {found y x : Nodes} {i : List Piece} → DerivesNodes y i [] → nodes_depth y ≤ limit → join found y ≡ x → Goes limit [] found i x
-    in_body : {limit : ℕ} {f : Frame} {fs : List Frame} {found y o x : Nodes} {i m l : List Piece} → f.body ≡ None → DerivesNodes y i m → nodes_depth y ≤ limit - suc (length fs)
-        → DerivesOther o m l → nodes_depth o ≤ limit - suc (length fs) → Closes limit f.is_chained fs (join f.before (one (If f.condition (join found y) o))) l x → Goes limit (f ∷ fs) found i x
-    in_other : {limit : ℕ} {f : Frame} {fs : List Frame} {found body y x : Nodes} {tokens : List Token} {i l : List Piece} → f.body ≡ Some body → DerivesNodes y i (Block tokens ∷ l)
-        → nodes_depth y ≤ limit - suc (length fs) → IsWord k.Name (codes "endif") tokens → Closes limit f.is_chained fs (join f.before (one (If f.condition body (join found y)))) l x
-        → Goes limit (f ∷ fs) found i x
+  data Goes : ℕ → Bool → List Frame → Nodes → List Piece → Nodes → Type 0 where
+    done : {limit : ℕ} {q : Bool} {found y x : Nodes} {i : List Piece} → DerivesNodes q y i [] → nodes_depth y ≤ limit → join found y ≡ x → Goes limit q [] found i x
+    in_body : {limit : ℕ} {q : Bool} {f : Frame} {fs : List Frame} {found y o x : Nodes} {i m l : List Piece} → f.body ≡ None → DerivesNodes q y i m → nodes_depth y ≤ limit - suc (length fs)
+        → DerivesRest f.in_loop f.head o m l → nodes_depth o ≤ limit - suc (length fs) → Closes limit f.is_chained f.in_loop fs (join f.before (one (make f.head (join found y) o))) l x
+        → Goes limit q (f ∷ fs) found i x
+    in_other : {limit : ℕ} {q : Bool} {f : Frame} {fs : List Frame} {found body y x : Nodes} {tokens : List Token} {i l : List Piece} → f.body ≡ Some body → DerivesNodes q y i (Block tokens ∷ l)
+        → nodes_depth y ≤ limit - suc (length fs) → IsTrue (ends f.head tokens) → Closes limit f.is_chained f.in_loop fs (join f.before (one (make f.head body (join found y)))) l x
+        → Goes limit q (f ∷ fs) found i x
 
-  -- The same behind a choice that was ended; the flag says whether it ends the choice around it too.
-  data Closes : ℕ → Bool → List Frame → Nodes → List Piece → Nodes → Type 0 where
-    here : {limit : ℕ} {fs : List Frame} {found x : Nodes} {i : List Piece} → Goes limit fs found i x → Closes limit false fs found i x
-    around : {limit : ℕ} {f : Frame} {fs : List Frame} {found x : Nodes} {i : List Piece} → Closes limit f.is_chained fs (row f found) i x → Closes limit true (f ∷ fs) found i x
+  -- The same behind a statement that was ended; the first flag says whether that ends the statement around it too.
+  data Closes : ℕ → Bool → Bool → List Frame → Nodes → List Piece → Nodes → Type 0 where
+    here : {limit : ℕ} {q : Bool} {fs : List Frame} {found x : Nodes} {i : List Piece} → Goes limit q fs found i x → Closes limit false q fs found i x
+    around_it : {limit : ℕ} {q : Bool} {f : Frame} {fs : List Frame} {found x : Nodes} {i : List Piece} → Closes limit f.is_chained f.in_loop fs (row f found) i x → Closes limit true q (f ∷ fs) found i x
 
 -- what stands in front is read first
-in_front : (limit : ℕ) (fs : List Frame) (found a : Nodes) (i j : List Piece) (x : Nodes) → ((y : Nodes) (m : List Piece) → DerivesNodes y j m → DerivesNodes (join a y) i m)
-    → nodes_depth a ≤ limit - length fs → Goes limit fs (join found a) j x → Goes limit fs found i x
-in_front limit fs found a i j x build le (done {y = y} d small e) = done (build y [] d) (deep a y limit (omega arith) small) (sym (join-join found a y) ∙ e)
-in_front limit fs found a i j x build le (in_body {f = f} {fs = gs} {y = y} {o = o} {m = m} {l = l} n d small w less c) =
+in_front : (limit : ℕ) (q : Bool) (fs : List Frame) (found a : Nodes) (i j : List Piece) (x : Nodes) → ((y : Nodes) (m : List Piece) → DerivesNodes q y j m → DerivesNodes q (join a y) i m)
+    → nodes_depth a ≤ limit - length fs → Goes limit q fs (join found a) j x → Goes limit q fs found i x
+in_front limit q fs found a i j x build le (done {y = y} d small e) = done (build y [] d) (deep a y limit (omega arith) small) (sym (join-join found a y) ∙ e)
+in_front limit q fs found a i j x build le (in_body {f = f} {fs = gs} {y = y} {o = o} {m = m} {l = l} n d small w less c) =
     in_body n (build y m d) (deep a y (limit - suc (length gs)) le small) w less
-    (subst (λ r. Closes limit f.is_chained gs (join f.before (one (If f.condition r o))) l x) (join-join found a y) c)
-in_front limit fs found a i j x build le (in_other {f = f} {fs = gs} {body = body} {y = y} {tokens = tokens} {l = l} n d small w c) =
+    (subst (λ r. Closes limit f.is_chained f.in_loop gs (join f.before (one (make f.head r o))) l x) (join-join found a y) c)
+in_front limit q fs found a i j x build le (in_other {f = f} {fs = gs} {body = body} {y = y} {tokens = tokens} {l = l} n d small w c) =
     in_other n (build y (Block tokens ∷ l) d) (deep a y (limit - suc (length gs)) le small) w
-    (subst (λ r. Closes limit f.is_chained gs (join f.before (one (If f.condition body r))) l x) (join-join found a y) c)
+    (subst (λ r. Closes limit f.is_chained f.in_loop gs (join f.before (one (make f.head body r))) l x) (join-join found a y) c)
 
-print-small : (v limit h : ℕ) → h < limit → v ≤ limit - suc h → max (suc v) 0 ≤ limit - h
-print-small v limit h lt le = omega arith
+one-small : (n limit h : ℕ) → h < limit → n ≤ suc (limit - suc h) → max n 0 ≤ limit - h
+one-small n limit h lt le = omega arith
 
-choice-small : (c b o limit h : ℕ) → h < limit → c ≤ limit - suc h → b ≤ limit - suc h → o ≤ limit - suc h → max (suc (max c (max b o))) 0 ≤ limit - h
-choice-small c b o limit h lt p q r = omega arith
+three-small : (c b o m : ℕ) → c ≤ m → b ≤ m → o ≤ m → suc (max c (max b o)) ≤ suc m
+three-small c b o m p q r = omega arith
 
-room-below : (limit h : ℕ) → 0 < limit - suc h → suc h < limit
-room-below limit h lt = omega arith
+-- how deep a statement is, by its parts
+made-small : (h : Head) (b o : Nodes) (m : ℕ) → head_depth h ≤ m → nodes_depth b ≤ m → nodes_depth o ≤ m → node_depth (make h b o) ≤ suc m
+made-small (IfHead c) b o m p q r = three-small (depth c) (nodes_depth b) (nodes_depth o) m p q r
+made-small (ForHead k n e) b o m p q r = three-small (depth e) (nodes_depth b) (nodes_depth o) m p q r
+made-small (SetHead n g) b o m p q r = omega (arith, q)
 
 -- what a step that was taken says
 if_then : {A B : Type 0} (b : Bool) (f : A → Option B) (o : Option A) (y : B) → option_and_then f (if b then o else None) ≡ Some y → (b ≡ true) × (option_and_then f o ≡ Some y)
 if_then true f o y h = (refl, h)
 if_then false f o y h = absurd (cc)
 
-opened_then : (q : Bool) (s : Progress) (f : Progress → Option Nodes) (o : Option Expr) (x : Nodes) → option_and_then f (opened q s o) ≡ Some x
-    → (c : Expr) × (o ≡ Some c) × (f (at (asking s.found c q ∷ s.frames) NoNodes) ≡ Some x)
-opened_then q s f None x h = absurd (cc)
-opened_then q s f (Some c) x h = (c, refl, h)
+and_then-both : {A B C : Type 0} (f : B → Option C) (g : A → Option B) (o : Option A) (y : C) → option_and_then f (option_and_then g o) ≡ Some y
+    → (x : A) × (o ≡ Some x) × (option_and_then f (g x) ≡ Some y)
+and_then-both f g None y h = absurd (cc)
+and_then-both f g (Some x) y h = (x, refl, h)
 
-printed_then : (s : Progress) (f : Progress → Option Nodes) (o : Option Expr) (x : Nodes) → option_and_then f (printed s o) ≡ Some x → (v : Expr) × (o ≡ Some v) × (f (put s (Print v)) ≡ Some x)
-printed_then s f None x h = absurd (cc)
-printed_then s f (Some v) x h = (v, refl, h)
+has-room : (a b : ℕ) → nat_lt a b ≡ true → a < b
+has-room a b h = grind (arith, common_steps)
+
+printed-then : (limit : ℕ) (s : Progress) (f : Progress → Option Nodes) (o : Option Expr) (x : Nodes) → option_and_then f (printed limit s o) ≡ Some x
+    → (v : Expr) × (o ≡ Some v) × (option_and_then f (put limit s (Print v)) ≡ Some x)
+printed-then limit s f None x h = absurd (cc)
+printed-then limit s f (Some v) x h = (v, refl, h)
 
 -- a frame whose body was read
 abbrev half : Frame → Nodes → Frame
-half f body = halved f.before f.condition f.is_chained body
+half f body = halved f.before f.head f.is_chained f.in_loop body
 
-module _ (limit : ℕ) (tokens : List Token) (i : List Piece) (x : Nodes) where
-  if-got : (fs : List Frame) (found : Nodes) (c : Expr) → Asks k.If c tokens → length fs < limit → depth c ≤ limit - suc (length fs)
-      → Goes limit (asking found c false ∷ fs) NoNodes i x → Goes limit fs found (Block tokens ∷ i) x
-  if-got fs found c a lt le (in_body {y = y} {o = o} {l = l} n d small w less (here g)) =
-      in_front limit fs found (one (If c y o)) (Block tokens ∷ i) l x (λ z m r. choice a d w r)
-      (choice-small (depth c) (nodes_depth y) (nodes_depth o) limit (length fs) lt le small less) g
-  if-got fs found c a lt le (in_other n d small w r) = absurd (cc)
-
-  elif-got : (f : Frame) (fs : List Frame) (found : Nodes) (c : Expr) → f.body ≡ None → Asks k.Elif c tokens → suc (length fs) < limit → depth c ≤ limit - suc (suc (length fs))
-      → Goes limit (asking NoNodes c true ∷ half f found ∷ fs) NoNodes i x → Goes limit (f ∷ fs) found (Block tokens ∷ i) x
-  elif-got f fs found c e a lt le (in_body {y = y} {o = o} {l = l} n d small w less (around g)) =
-      in_body e empty (omega arith) (chained a d w) (choice-small (depth c) (nodes_depth y) (nodes_depth o) limit (suc (length fs)) lt le small less)
-      (subst (λ r. Closes limit f.is_chained fs (join f.before (one (If f.condition r (one (If c y o))))) l x) (sym (join-none found)) g)
-  elif-got f fs found c e a lt le (in_other n d small w r) = absurd (cc)
-
-  else-got : (f : Frame) (fs : List Frame) (found : Nodes) → f.body ≡ None → IsWord k.Else (codes "else") tokens → Goes limit (half f found ∷ fs) NoNodes i x → Goes limit (f ∷ fs) found (Block tokens ∷ i) x
-  else-got f fs found e a (in_body n d small w less r) = absurd (cc)
-  else-got f fs found e a (in_other {body = body} {y = y} {l = l} n d small w g) =
-      let p : body ≡ join found NoNodes = sym (join-none found ∙ (let q : found ≡ body = cc in q)) in
-      in_body e empty (omega arith) (otherwise a d w) small (subst (λ r. Closes limit f.is_chained fs (join f.before (one (If f.condition r y))) l x) p g)
-
-  endif-got : (f : Frame) (fs : List Frame) (found : Nodes) (b : Option Nodes) → f.body ≡ b → IsWord k.Name (codes "endif") tokens
-      → Closes limit f.is_chained fs (join f.before (one (choice_by f.condition b found))) i x → Goes limit (f ∷ fs) found (Block tokens ∷ i) x
-  endif-got f fs found None e w g =
-      in_body e empty (omega arith) (no_other w) (omega arith) (subst (λ r. Closes limit f.is_chained fs (join f.before (one (If f.condition r NoNodes))) i x) (sym (join-none found)) g)
-  endif-got f fs found (Some body) e w g =
-      in_other e empty (omega arith) w (subst (λ r. Closes limit f.is_chained fs (join f.before (one (If f.condition body r))) i x) (sym (join-none found)) g)
-
+module _ (limit : ℕ) (i : List Piece) (x : Nodes) where
   -- what holds of the pieces behind the tag
   abbrev Again : Type 0
-  Again = (fs : List Frame) (found : Nodes) → length fs < limit → run limit (at fs found) i ≡ Some x → Goes limit fs found i x
+  Again = (q : Bool) (fs : List Frame) (found : Nodes) → run limit (at q fs found) i ≡ Some x → Goes limit q fs found i x
 
-  closes : Again → (fs : List Frame) (q : Bool) (found : Nodes) → length fs < limit → option_and_then (λ t. run limit t i) (if q then closed fs found else Some (at fs found)) ≡ Some x
-      → Closes limit q fs found i x
-  closes again fs false found lt h = here (again fs found lt h)
-  closes again [] true found lt h = absurd (cc)
-  closes again (f ∷ fs) true found lt h = around (closes again fs f.is_chained (row f found) (omega arith) h)
+  -- one node more
+  one-got : (q : Bool) (fs : List Frame) (found : Nodes) (n : Node) (p : Piece) → ((y : Nodes) (m : List Piece) → DerivesNodes q y i m → DerivesNodes q (join (one n) y) (p ∷ i) m)
+      → node_depth n ≤ suc (limit - suc (length fs)) → Again → option_and_then (λ t. run limit t i) (put limit (at q fs found) n) ≡ Some x → Goes limit q fs found (p ∷ i) x
+  one-got q fs found n p build le again h =
+      let g = if_then (nat_lt (length fs) limit) (λ t. run limit t i) (Some (at q fs (join found (one n)))) x h in
+      in_front limit q fs found (one n) (p ∷ i) i x build (one-small (node_depth n) limit (length fs) (has-room (length fs) limit g.0) le) (again q fs (join found (one n)) g.1)
 
-  if-by : Again → (fs : List Frame) (found : Nodes) → length fs < limit → kind (begin false tokens) ≡ k.If
-      → option_and_then (λ t. run limit t i) (statement_by limit (at fs found) tokens k.If) ≡ Some x → Goes limit fs found (Block tokens ∷ i) x
-  if-by again fs found lt e h =
-      let p = opened_then false (at fs found) (λ t. run limit t i) (whole (room limit (at fs found)) (next (begin false tokens))) x h in
-      let w = whole_sound (room limit (at fs found)) (next (begin false tokens)) p.0 p.1 in
-      let b = room-below limit (length fs) (whole_room (room limit (at fs found)) (next (begin false tokens)) p.0 p.1) in
-      if-got fs found p.0 (e, w.0) lt w.1 (again (asking found p.0 false ∷ fs) NoNodes b p.2)
+  module _ (tokens : List Token) where
+    open-got : (q : Bool) (fs : List Frame) (found : Nodes) (h : Head) → Opens q h tokens → length fs < limit → head_depth h ≤ limit - suc (length fs)
+        → Goes limit (inside h q) (asking found h false q ∷ fs) NoNodes i x → Goes limit q fs found (Block tokens ∷ i) x
+    open-got q fs found h a lt le (in_body {y = y} {o = o} {l = l} n d small w less (here g)) =
+        in_front limit q fs found (one (make h y o)) (Block tokens ∷ i) l x (λ z m r. bodied a d w r)
+        (one-small (node_depth (make h y o)) limit (length fs) lt (made-small h y o (limit - suc (length fs)) le small less)) g
+    open-got q fs found h a lt le (in_other n d small w r) = absurd (cc)
 
-  elif-turned : Again → (f : Frame) (fs : List Frame) (found : Nodes) (b : Option Nodes) → f.body ≡ b → suc (length fs) < limit → kind (begin false tokens) ≡ k.Elif
-      → option_and_then (λ t. run limit t i) (option_and_then (λ (t : Progress). opened true t (whole (room limit t) (next (begin false tokens)))) (turned_by f b fs found)) ≡ Some x → Goes limit (f ∷ fs) found (Block tokens ∷ i) x
-  elif-turned again f fs found (Some body) n lt e h = absurd (cc)
-  elif-turned again f fs found None n lt e h =
-      let s = at (half f found ∷ fs) NoNodes in
-      let p = opened_then true s (λ t. run limit t i) (whole (room limit s) (next (begin false tokens))) x h in
-      let w = whole_sound (room limit s) (next (begin false tokens)) p.0 p.1 in
-      let b = room-below limit (suc (length fs)) (whole_room (room limit s) (next (begin false tokens)) p.0 p.1) in
-      elif-got f fs found p.0 n (e, w.0) lt w.1 (again (asking NoNodes p.0 true ∷ half f found ∷ fs) NoNodes b p.2)
+    goes-on-got : (q : Bool) (f : Frame) (fs : List Frame) (found : Nodes) (h : Head) → f.body ≡ None → IsTrue (chains f.head) → GoesOn f.in_loop h tokens → suc (length fs) < limit
+        → head_depth h ≤ limit - suc (suc (length fs)) → Goes limit (inside h f.in_loop) (asking NoNodes h true f.in_loop ∷ half f found ∷ fs) NoNodes i x → Goes limit q (f ∷ fs) found (Block tokens ∷ i) x
+    goes-on-got q f fs found h e s a lt le (in_body {y = y} {o = o} {l = l} n d small w less (around_it g)) =
+        in_body e empty (omega arith) (chained s a d w) (one-small (node_depth (make h y o)) limit (suc (length fs)) lt (made-small h y o (limit - suc (suc (length fs))) le small less))
+        (subst (λ r. Closes limit f.is_chained f.in_loop fs (join f.before (one (make f.head r (one (make h y o))))) l x) (sym (join-none found)) g)
+    goes-on-got q f fs found h e s a lt le (in_other n d small w r) = absurd (cc)
 
-  elif-by : Again → (fs : List Frame) (found : Nodes) → length fs < limit → kind (begin false tokens) ≡ k.Elif
-      → option_and_then (λ t. run limit t i) (statement_by limit (at fs found) tokens k.Elif) ≡ Some x → Goes limit fs found (Block tokens ∷ i) x
-  elif-by again [] found lt e h = absurd (cc)
-  elif-by again (f ∷ fs) found lt e h = elif-turned again f fs found f.body refl lt e h
+    else-got : (q : Bool) (f : Frame) (fs : List Frame) (found : Nodes) → f.body ≡ None → IsTrue (splits f.head) → IsWord k.Else (codes "else") tokens
+        → Goes limit f.in_loop (half f found ∷ fs) NoNodes i x → Goes limit q (f ∷ fs) found (Block tokens ∷ i) x
+    else-got q f fs found e s a (in_body n d small w less r) = absurd (cc)
+    else-got q f fs found e s a (in_other {body = body} {y = y} {l = l} n d small w g) =
+        let p : body ≡ join found NoNodes = sym (join-none found ∙ (let q : found ≡ body = cc in q)) in
+        in_body e empty (omega arith) (split s a d w) small (subst (λ r. Closes limit f.is_chained f.in_loop fs (join f.before (one (make f.head r y))) l x) p g)
 
-  else-turned : Again → (f : Frame) (fs : List Frame) (found : Nodes) (b : Option Nodes) → f.body ≡ b → suc (length fs) < limit → IsWord k.Else (codes "else") tokens
-      → option_and_then (λ t. run limit t i) (turned_by f b fs found) ≡ Some x → Goes limit (f ∷ fs) found (Block tokens ∷ i) x
-  else-turned again f fs found (Some body) n lt a h = absurd (cc)
-  else-turned again f fs found None n lt a h = else-got f fs found n a (again (half f found ∷ fs) NoNodes lt h)
+    end-got : (q : Bool) (f : Frame) (fs : List Frame) (found : Nodes) (b : Option Nodes) → f.body ≡ b → IsTrue (ends f.head tokens)
+        → Closes limit f.is_chained f.in_loop fs (join f.before (one (made f.head b found))) i x → Goes limit q (f ∷ fs) found (Block tokens ∷ i) x
+    end-got q f fs found None e w g =
+        in_body e empty (omega arith) (ended w) (omega arith) (subst (λ r. Closes limit f.is_chained f.in_loop fs (join f.before (one (make f.head r NoNodes))) i x) (sym (join-none found)) g)
+    end-got q f fs found (Some body) e w g =
+        in_other e empty (omega arith) w (subst (λ r. Closes limit f.is_chained f.in_loop fs (join f.before (one (make f.head body r))) i x) (sym (join-none found)) g)
 
-  else-by : Again → (fs : List Frame) (found : Nodes) → length fs < limit → IsWord k.Else (codes "else") tokens → option_and_then (λ t. run limit t i) (turned fs found) ≡ Some x → Goes limit fs found (Block tokens ∷ i) x
-  else-by again [] found lt a h = absurd (cc)
-  else-by again (f ∷ fs) found lt a h = else-turned again f fs found f.body refl lt a h
+    closes : Again → (fs : List Frame) (c q : Bool) (found : Nodes) → option_and_then (λ t. run limit t i) (if c then closed fs found else Some (at q fs found)) ≡ Some x
+        → Closes limit c q fs found i x
+    closes again fs false q found h = here (again q fs found h)
+    closes again [] true q found h = absurd (cc)
+    closes again (f ∷ fs) true q found h = around_it (closes again fs f.is_chained f.in_loop (row f found) h)
 
-  endif-by : Again → (fs : List Frame) (found : Nodes) → length fs < limit → IsWord k.Name (codes "endif") tokens → option_and_then (λ t. run limit t i) (closed fs found) ≡ Some x → Goes limit fs found (Block tokens ∷ i) x
-  endif-by again [] found lt w h = absurd (cc)
-  endif-by again (f ∷ fs) found lt w h = endif-got f fs found f.body refl w (closes again fs f.is_chained (row f found) (omega arith) h)
+    opened-by : Again → (q : Bool) (fs : List Frame) (found : Nodes) (h : Head) → Opens q h tokens → head_depth h ≤ limit - suc (length fs)
+        → option_and_then (λ t. run limit t i) (opened limit false (at q fs found) h) ≡ Some x → Goes limit q fs found (Block tokens ∷ i) x
+    opened-by again q fs found h a le e =
+        let g = if_then (nat_lt (length fs) limit) (λ t. run limit t i) (Some (at (inside h q) (asking found h false q ∷ fs) NoNodes)) x e in
+        open-got q fs found h a (has-room (length fs) limit g.0) le (again (inside h q) (asking found h false q ∷ fs) NoNodes g.1)
 
-  block-by : Again → (fs : List Frame) (found : Nodes) → length fs < limit → (s : Kind) → kind (begin false tokens) ≡ s
-      → option_and_then (λ t. run limit t i) (statement_by limit (at fs found) tokens s) ≡ Some x → Goes limit fs found (Block tokens ∷ i) x
-  block-by again fs found lt k.If e h = if-by again fs found lt e h
-  block-by again fs found lt k.Elif e h = elif-by again fs found lt e h
-  block-by again fs found lt k.Else e h =
-      let g = if_then (is_alone (codes "else") tokens) (λ t. run limit t i) (turned fs found) x h in
-      else-by again fs found lt (e, g.0) g.1
-  block-by again fs found lt k.Name e h =
-      let g = if_then (is_alone (codes "endif") tokens) (λ t. run limit t i) (closed fs found) x h in
-      endif-by again fs found lt (e, g.0) g.1
-  block-by again fs found lt _ e h = absurd (cc)
+    goes-on-turned : Again → (q : Bool) (f : Frame) (fs : List Frame) (found : Nodes) (h : Head) → IsTrue (chains f.head) → GoesOn f.in_loop h tokens → head_depth h ≤ limit - suc (suc (length fs))
+        → (b : Option Nodes) → f.body ≡ b → option_and_then (λ t. run limit t i) (option_and_then (λ t. opened limit true t h) (turned_by f b fs found)) ≡ Some x → Goes limit q (f ∷ fs) found (Block tokens ∷ i) x
+    goes-on-turned again q f fs found h s a le (Some body) n e = absurd (cc)
+    goes-on-turned again q f fs found h s a le None n e =
+        let to = half f found ∷ fs in
+        let g = if_then (nat_lt (length to) limit) (λ t. run limit t i) (Some (at (inside h f.in_loop) (asking NoNodes h true f.in_loop ∷ to) NoNodes)) x e in
+        goes-on-got q f fs found h n s a (has-room (suc (length fs)) limit g.0) le (again (inside h f.in_loop) (asking NoNodes h true f.in_loop ∷ to) NoNodes g.1)
 
-  block : Again → (fs : List Frame) (found : Nodes) → length fs < limit → option_and_then (λ t. run limit t i) (statement limit (at fs found) tokens) ≡ Some x → Goes limit fs found (Block tokens ∷ i) x
-  unfolding statement
-  block again fs found lt h = block-by again fs found lt (kind (begin false tokens)) refl h
+    goes-on-if : (b : Bool) (f : Progress → Option Nodes) (g : Progress → Option Progress) (o : Option Progress) → option_and_then f (option_and_then g (if b then o else None)) ≡ Some x
+        → (b ≡ true) × (option_and_then f (option_and_then g o) ≡ Some x)
+    goes-on-if true f g o h = (refl, h)
+    goes-on-if false f g o h = absurd (cc)
 
-goes : (limit : ℕ) (i : List Piece) (fs : List Frame) (found x : Nodes) → length fs < limit → run limit (at fs found) i ≡ Some x → Goes limit fs found i x
-goes limit [] [] found x lt h = done empty (omega arith) (join-none found ∙ (let q : found ≡ x = cc in q))
-goes limit [] (f ∷ fs) found x lt h = absurd (cc)
-goes limit (Words [] place ∷ i) fs found x lt h =
-    in_front limit fs found NoNodes (Words [] place ∷ i) i x (λ y m d. blank d) (omega arith) (subst (λ n. Goes limit fs n i x) (sym (join-none found)) (goes limit i fs found x lt h))
-goes limit (Words (b ∷ bs) place ∷ i) fs found x lt h =
-    let n = Content (b ∷ bs) place in
-    in_front limit fs found (one n) (Words (b ∷ bs) place ∷ i) i x (λ y m d. content (λ q. cc) d) (print-small 0 limit (length fs) lt (omega arith)) (goes limit i fs (join found (one n)) x lt h)
-goes limit (Comment ∷ i) fs found x lt h =
-    in_front limit fs found NoNodes (Comment ∷ i) i x (λ y m d. comment d) (omega arith) (subst (λ n. Goes limit fs n i x) (sym (join-none found)) (goes limit i fs found x lt h))
-goes limit (Variable tokens ∷ i) fs found x lt h =
-    let p = printed_then (at fs found) (λ t. run limit t i) (whole (room limit (at fs found)) (begin false tokens)) x h in
-    let w = whole_sound (room limit (at fs found)) (begin false tokens) p.0 p.1 in
-    in_front limit fs found (one (Print p.0)) (Variable tokens ∷ i) i x (λ y m d. print w.0 d) (print-small (depth p.0) limit (length fs) lt w.1) (goes limit i fs (join found (one (Print p.0))) x lt p.2)
-goes limit (Block tokens ∷ i) fs found x lt h = block limit tokens i x (λ fs found lt h. goes limit i fs found x lt h) fs found lt h
-goes limit (Broken ∷ i) fs found x lt h = absurd (cc)
+    goes-on-by : Again → (q : Bool) (fs : List Frame) (found : Nodes) (h : Head) → GoesOn (around fs) h tokens → head_depth h ≤ limit - suc (length fs)
+        → option_and_then (λ t. run limit t i) (option_and_then (λ t. opened limit true t h) (turned chains fs found)) ≡ Some x → Goes limit q fs found (Block tokens ∷ i) x
+    goes-on-by again q [] found h a le e = absurd (cc)
+    goes-on-by again q (f ∷ fs) found h a le e =
+        let g = goes-on-if (chains f.head) (λ t. run limit t i) (λ t. opened limit true t h) (turned_by f f.body fs found) e in
+        goes-on-turned again q f fs found h g.0 a le f.body refl g.1
 
-all-of : (limit : ℕ) (i : List Piece) (x : Nodes) → Goes limit [] NoNodes i x → DerivesNodes x i [] × (nodes_depth x ≤ limit)
-all-of limit i x (done {y = y} d small e) = (subst (λ n. DerivesNodes n i []) e d, subst (λ n. nodes_depth n ≤ limit) e small)
+    else-turned : Again → (q : Bool) (f : Frame) (fs : List Frame) (found : Nodes) → IsTrue (splits f.head) → IsWord k.Else (codes "else") tokens
+        → (b : Option Nodes) → f.body ≡ b → option_and_then (λ t. run limit t i) (turned_by f b fs found) ≡ Some x → Goes limit q (f ∷ fs) found (Block tokens ∷ i) x
+    else-turned again q f fs found s a (Some body) n e = absurd (cc)
+    else-turned again q f fs found s a None n e = else-got q f fs found n s a (again f.in_loop (half f found ∷ fs) NoNodes e)
 
-pub sound : (limit : ℕ) (i : List Piece) (x : Nodes) → 0 < limit → nodes limit i ≡ Some x → DerivesNodes x i [] × (nodes_depth x ≤ limit)
-sound limit i x lt h = all-of limit i x (goes limit i [] NoNodes x lt h)
+    else-by : Again → (q : Bool) (fs : List Frame) (found : Nodes) → IsWord k.Else (codes "else") tokens → option_and_then (λ t. run limit t i) (turned splits fs found) ≡ Some x → Goes limit q fs found (Block tokens ∷ i) x
+    else-by again q [] found a e = absurd (cc)
+    else-by again q (f ∷ fs) found a e =
+        let g = if_then (splits f.head) (λ t. run limit t i) (turned_by f f.body fs found) x e in
+        else-turned again q f fs found g.0 a f.body refl g.1
+
+    end-by : Again → (q : Bool) (fs : List Frame) (found : Nodes) → option_and_then (λ t. run limit t i) (shut tokens fs found) ≡ Some x → Goes limit q fs found (Block tokens ∷ i) x
+    end-by again q [] found e = absurd (cc)
+    end-by again q (f ∷ fs) found e =
+        let g = if_then (ends f.head tokens) (λ t. run limit t i) (closed (f ∷ fs) found) x e in
+        end-got q f fs found f.body refl g.0 (closes again fs f.is_chained f.in_loop (row f found) g.1)
+
+    taken-by : Again → (q : Bool) (fs : List Frame) (found : Nodes) (t : Tag) → Meant (limit - suc (length fs)) q (around fs) tokens t
+        → option_and_then (λ t. run limit t i) (taken limit (at q fs found) tokens t) ≡ Some x → Goes limit q fs found (Block tokens ∷ i) x
+    taken-by again q fs found (Single n) m e = one-got q fs found n (Block tokens) (λ y l d. single m.0 d) m.1 again e
+    taken-by again q fs found (Opening h) m e = opened-by again q fs found h m.0 m.1 e
+    taken-by again q fs found (GoingOn h) m e = goes-on-by again q fs found h m.0 m.1 e
+    taken-by again q fs found Turning m e = else-by again q fs found m e
+    taken-by again q fs found Closing m e = end-by again q fs found e
+
+    block : Again → (q : Bool) (fs : List Frame) (found : Nodes) → option_and_then (λ t. run limit t i) (statement limit (at q fs found) tokens) ≡ Some x → Goes limit q fs found (Block tokens ∷ i) x
+    unfolding statement
+    block again q fs found e =
+        let s = at q fs found in
+        let p = and_then-both (λ t. run limit t i) (taken limit s tokens) (tag (room limit s) q (around fs) tokens) x e in
+        taken-by again q fs found p.0 (tag_sound (room limit s) q (around fs) tokens p.0 p.1) p.2
+
+goes : (limit : ℕ) (i : List Piece) (q : Bool) (fs : List Frame) (found x : Nodes) → run limit (at q fs found) i ≡ Some x → Goes limit q fs found i x
+goes limit [] q [] found x h = done empty (omega arith) (join-none found ∙ (let q : found ≡ x = cc in q))
+goes limit [] q (f ∷ fs) found x h = absurd (cc)
+goes limit (Words [] place ∷ i) q fs found x h =
+    in_front limit q fs found NoNodes (Words [] place ∷ i) i x (λ y m d. blank d) (omega arith) (subst (λ n. Goes limit q fs n i x) (sym (join-none found)) (goes limit i q fs found x h))
+goes limit (Words (b ∷ bs) place ∷ i) q fs found x h =
+    one-got limit i x q fs found (Content (b ∷ bs) place) (Words (b ∷ bs) place) (λ y m d. content (λ q. cc) d) (omega arith) (λ q fs found h. goes limit i q fs found x h) h
+goes limit (Comment ∷ i) q fs found x h =
+    in_front limit q fs found NoNodes (Comment ∷ i) i x (λ y m d. comment d) (omega arith) (subst (λ n. Goes limit q fs n i x) (sym (join-none found)) (goes limit i q fs found x h))
+goes limit (Variable tokens ∷ i) q fs found x h =
+    let s = at q fs found in
+    let p = printed-then limit s (λ t. run limit t i) (whole (room limit s) (begin q tokens)) x h in
+    let w = whole_sound (room limit s) (begin q tokens) p.0 p.1 in
+    one-got limit i x q fs found (Print p.0) (Variable tokens) (λ y m d. print w.0 d) (omega (arith, w.1)) (λ q fs found h. goes limit i q fs found x h) p.2
+goes limit (Block tokens ∷ i) q fs found x h = block limit i x tokens (λ q fs found h. goes limit i q fs found x h) q fs found h
+goes limit (Broken ∷ i) q fs found x h = absurd (cc)
+
+all-of : (limit : ℕ) (q : Bool) (i : List Piece) (x : Nodes) → Goes limit q [] NoNodes i x → DerivesNodes q x i [] × (nodes_depth x ≤ limit)
+all-of limit q i x (done {y = y} d small e) = (subst (λ n. DerivesNodes q n i []) e d, subst (λ n. nodes_depth n ≤ limit) e small)
+
+pub sound : (limit : ℕ) (i : List Piece) (x : Nodes) → nodes limit i ≡ Some x → DerivesNodes false x i [] × (nodes_depth x ≤ limit)
+sound limit i x h = all-of limit false i x (goes limit i false [] NoNodes x h)

@@ -1,5 +1,5 @@
 -- An expression that is all from here to the end of a tag.
-use Rattle.std.proofs.Common.{◌≡◌, ℕ, zero, suc, ◌≤◌, ◌<◌, Bool, true, false, Some, None, if◌then◌else◌, refl, ap, ◌∙◌, subst, arith}
+use Rattle.std.proofs.Common.{◌≡◌, ℕ, ◌≤◌, Bool, true, false, Some, None, if◌then◌else◌, refl, ap, ◌∙◌, subst}
 use Rattle.tera_tokens.specs.declared.token.Kind.TheVariants as k
 use Rattle.tera_tokens.specs.Input.{Input, Outcome, kind, same}
 use Rattle.tera_expressions.specs.Expressions.{Deep, expr}
@@ -34,9 +34,3 @@ unfolding r.whole
 whole_complete (whole {x = x} {i = i} {end = j} d e) limit le =
     let q : same k.End (kind j) ≡ true = ap (same k.End) e ∙ same-refl k.End in
     rw (complete x i j d e limit le, q) refl
-
--- where one is read, the limit is not 0
-pub whole_room : (limit : ℕ) (i : Input) (x : Expr) → r.whole limit i ≡ Some x → 0 < limit
-unfolding r.whole expr
-whole_room zero i x h = absurd (cc)
-whole_room (suc n) i x h = omega arith

@@ -1,14 +1,15 @@
 -- What pieces derive: nodes.
-use Rattle.std.specs.Prelude.{◌≡◌, ◌≢◌, List, [], ◌∷◌, codes, IsTrue, false}
+use Rattle.std.specs.Prelude.{◌≡◌, ◌≢◌, List, [], ◌∷◌, Bool, true, false, Option, Some, None, codes, IsTrue}
 use Rattle.tera_errors.specs.Site as site
 use Rattle.tera_errors.specs.declared.span.Span.{Span}
-use Rattle.tera_tree.specs.Tree.{Expr, Content, Print, If, Nodes, NoNodes, MoreNodes}
+use Rattle.tera_tree.specs.Tree.{Expr, Content, Print, Set, Break, Continue, Node, Nodes, NoNodes, MoreNodes}
 use Rattle.tera_tokens.specs.declared.token.Kind.{Kind}
 use Rattle.tera_tokens.specs.declared.token.Kind.TheVariants as k
 use Rattle.tera_tokens.specs.Token.{Token}
-use Rattle.tera_tokens.specs.Input.{Input, begin, kind, next}
+use Rattle.tera_tokens.specs.Input.{Input, begin, kind, text, next}
 use Rattle.tera_tokens.specs.Cut.{Piece, Words, Comment, Variable, Block, is_alone}
 use Rattle.tera_expressions.specs.Grammar.{Derives}
+use Rattle.tera_syntax.specs.Heads.{Head, IfHead, ForHead, SetHead, make, splits, chains, inside, first, ends}
 
 -- The tokens from here to the end of the tag are the expression.
 pub data DerivesWhole : Expr → Input → Type 0 where
@@ -16,30 +17,65 @@ pub data DerivesWhole : Expr → Input → Type 0 where
 
 -- the tag is this word alone, which is of this kind
 abbrev pub IsWord : Kind → site.Text → List Token → Type 0
-IsWord s word tokens = (kind (begin false tokens) ≡ s) × IsTrue (is_alone word tokens)
+IsWord s word tokens = (first tokens ≡ s) × IsTrue (is_alone word tokens)
 
--- the tag is a word of this kind, and behind it the condition
-abbrev pub Asks : Kind → Expr → List Token → Type 0
-Asks s condition tokens = (kind (begin false tokens) ≡ s) × DerivesWhole condition (next (begin false tokens))
+-- the tag begins with this word, which is not reserved
+abbrev pub Begins : site.Text → List Token → Type 0
+Begins word tokens = (first tokens ≡ k.Name) × (text (begin false tokens) ≡ word)
+
+-- a name stands here, and behind it a token of this kind
+abbrev pub Names : Input → Kind → Type 0
+Names i s = (kind i ≡ k.Name) × (kind (next i) ≡ s)
+
+-- The tokens from the first place to the second are what a loop calls its items, and the word `in`: the key may be left out.
+pub data Calls : Option site.Name → site.Name → Input → Input → Type 0 where
+  value : {i : Input} → Names i k.In → Calls None (text i) i (next (next i))
+  key_and_value : {i : Input} → Names i k.Comma → Names (next (next i)) k.In → Calls (Some (text i)) (text (next (next i))) i (next (next (next (next i))))
+
+-- the word that binds a name, in all turns or in this one
+abbrev pub set_word : Bool → site.Text
+set_word true = codes "set_global"
+set_word false = codes "set"
+
+-- A tag that is a statement; the flag says whether it stands in a loop's body.
+pub data Simple : Bool → Node → List Token → Type 0 where
+  set : {q is_global : Bool} {e : Expr} {tokens : List Token} → Begins (set_word is_global) tokens → Names (next (begin q tokens)) k.Assign → DerivesWhole e (next (next (next (begin q tokens))))
+      → Simple q (Set (text (next (begin q tokens))) e is_global) tokens
+  breaks : {q : Bool} {tokens : List Token} → IsTrue q → IsWord k.Name (codes "break") tokens → Simple q Break tokens
+  continues : {q : Bool} {tokens : List Token} → IsTrue q → IsWord k.Name (codes "continue") tokens → Simple q Continue tokens
+
+-- The first tag of a statement with a body.
+pub data Opens : Bool → Head → List Token → Type 0 where
+  choice : {q : Bool} {c : Expr} {tokens : List Token} → first tokens ≡ k.If → DerivesWhole c (next (begin q tokens)) → Opens q (IfHead c) tokens
+  loop : {q : Bool} {key : Option site.Name} {name : site.Name} {e : Expr} {i : Input} {tokens : List Token} → first tokens ≡ k.For → Calls key name (next (begin q tokens)) i → DerivesWhole e i
+      → Opens q (ForHead key name e) tokens
+  capture : {q is_global : Bool} {tokens : List Token} → Begins (set_word is_global) tokens → Names (next (begin q tokens)) k.End
+      → Opens q (SetHead (text (next (begin q tokens))) is_global) tokens
+
+-- A tag that goes on with a statement: what follows is a statement that stands alone in the other body.
+pub data GoesOn : Bool → Head → List Token → Type 0 where
+  elif : {q : Bool} {c : Expr} {tokens : List Token} → first tokens ≡ k.Elif → DerivesWhole c (next (begin q tokens)) → GoesOn q (IfHead c) tokens
 
 mutual
-  -- The pieces from the first place to the second are nodes.
-  pub data DerivesNodes : Nodes → List Piece → List Piece → Type 0 where
-    empty : {i : List Piece} → DerivesNodes NoNodes i i
-    content : {words : site.Text} {place : Span} {rest : Nodes} {i j : List Piece} → words ≢ [] → DerivesNodes rest i j
-        → DerivesNodes (MoreNodes (Content words place) rest) (Words words place ∷ i) j
+  -- The pieces from the first place to the second are nodes; the flag says whether they stand in a loop's body.
+  pub data DerivesNodes : Bool → Nodes → List Piece → List Piece → Type 0 where
+    empty : {q : Bool} {i : List Piece} → DerivesNodes q NoNodes i i
+    content : {q : Bool} {words : site.Text} {place : Span} {rest : Nodes} {i j : List Piece} → words ≢ [] → DerivesNodes q rest i j
+        → DerivesNodes q (MoreNodes (Content words place) rest) (Words words place ∷ i) j
     -- text of which trimming leaves nothing is no node
-    blank : {place : Span} {nodes : Nodes} {i j : List Piece} → DerivesNodes nodes i j → DerivesNodes nodes (Words [] place ∷ i) j
-    comment : {nodes : Nodes} {i j : List Piece} → DerivesNodes nodes i j → DerivesNodes nodes (Comment ∷ i) j
-    print : {value : Expr} {tokens : List Token} {rest : Nodes} {i j : List Piece} → DerivesWhole value (begin false tokens) → DerivesNodes rest i j
-        → DerivesNodes (MoreNodes (Print value) rest) (Variable tokens ∷ i) j
-    choice : {condition : Expr} {tokens : List Token} {body other rest : Nodes} {i m l j : List Piece} → Asks k.If condition tokens → DerivesNodes body i m → DerivesOther other m l
-        → DerivesNodes rest l j → DerivesNodes (MoreNodes (If condition body other) rest) (Block tokens ∷ i) j
+    blank : {q : Bool} {place : Span} {nodes : Nodes} {i j : List Piece} → DerivesNodes q nodes i j → DerivesNodes q nodes (Words [] place ∷ i) j
+    comment : {q : Bool} {nodes : Nodes} {i j : List Piece} → DerivesNodes q nodes i j → DerivesNodes q nodes (Comment ∷ i) j
+    print : {q : Bool} {value : Expr} {tokens : List Token} {rest : Nodes} {i j : List Piece} → DerivesWhole value (begin q tokens) → DerivesNodes q rest i j
+        → DerivesNodes q (MoreNodes (Print value) rest) (Variable tokens ∷ i) j
+    single : {q : Bool} {node : Node} {tokens : List Token} {rest : Nodes} {i j : List Piece} → Simple q node tokens → DerivesNodes q rest i j
+        → DerivesNodes q (MoreNodes node rest) (Block tokens ∷ i) j
+    bodied : {q : Bool} {head : Head} {tokens : List Token} {body other rest : Nodes} {i m l j : List Piece} → Opens q head tokens → DerivesNodes (inside head q) body i m
+        → DerivesRest q head other m l → DerivesNodes q rest l j → DerivesNodes q (MoreNodes (make head body other) rest) (Block tokens ∷ i) j
 
-  -- what follows the body of a choice, up to its `endif`: an `elif` is a choice that stands alone in the other body
-  pub data DerivesOther : Nodes → List Piece → List Piece → Type 0 where
-    no_other : {tokens : List Token} {i : List Piece} → IsWord k.Name (codes "endif") tokens → DerivesOther NoNodes (Block tokens ∷ i) i
-    otherwise : {tokens last : List Token} {body : Nodes} {i j : List Piece} → IsWord k.Else (codes "else") tokens → DerivesNodes body i (Block last ∷ j) → IsWord k.Name (codes "endif") last
-        → DerivesOther body (Block tokens ∷ i) j
-    chained : {condition : Expr} {tokens : List Token} {body other : Nodes} {i m j : List Piece} → Asks k.Elif condition tokens → DerivesNodes body i m → DerivesOther other m j
-        → DerivesOther (MoreNodes (If condition body other) NoNodes) (Block tokens ∷ i) j
+  -- What follows the body of a statement with this head, up to its end.
+  pub data DerivesRest : Bool → Head → Nodes → List Piece → List Piece → Type 0 where
+    ended : {q : Bool} {head : Head} {tokens : List Token} {i : List Piece} → IsTrue (ends head tokens) → DerivesRest q head NoNodes (Block tokens ∷ i) i
+    split : {q : Bool} {head : Head} {tokens last : List Token} {body : Nodes} {i j : List Piece} → IsTrue (splits head) → IsWord k.Else (codes "else") tokens
+        → DerivesNodes q body i (Block last ∷ j) → IsTrue (ends head last) → DerivesRest q head body (Block tokens ∷ i) j
+    chained : {q : Bool} {head further : Head} {tokens : List Token} {body other : Nodes} {i m j : List Piece} → IsTrue (chains head) → GoesOn q further tokens
+        → DerivesNodes (inside further q) body i m → DerivesRest q further other m j → DerivesRest q head (MoreNodes (make further body other) NoNodes) (Block tokens ∷ i) j

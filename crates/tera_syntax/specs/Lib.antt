@@ -1,3 +1,4 @@
+pub mod Heads
 pub mod Grammar
 pub mod Spells
 pub mod Reads

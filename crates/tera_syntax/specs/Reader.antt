@@ -1,14 +1,15 @@
 -- The reader, as a function: it goes over the pieces once, with the statements that are open on a stack.
-use Rattle.std.specs.Prelude.{ℕ, suc, ◌-◌, length, List, [], ◌∷◌, Bool, true, false, Option, Some, None, option_and_then, codes, if◌then◌else◌}
-use Rattle.tera_errors.specs.Site.{Text}
+use Rattle.std.specs.Prelude.{ℕ, suc, nat_lt, ◌-◌, length, List, [], ◌∷◌, Bool, true, false, Option, Some, None, option_map, option_and_then, bytes_eq, codes, if◌then◌else◌}
+use Rattle.tera_errors.specs.Site.{Text, Name}
 use Rattle.tera_errors.specs.declared.span.Span.{Span}
 use Rattle.tera_tokens.specs.declared.token.Kind.{Kind}
 use Rattle.tera_tokens.specs.declared.token.Kind.TheVariants as k
 use Rattle.tera_tokens.specs.Token.{Token}
-use Rattle.tera_tokens.specs.Input.{Input, Outcome, begin, kind, next, same}
+use Rattle.tera_tokens.specs.Input.{Input, Outcome, begin, kind, text, next, same}
 use Rattle.tera_expressions.specs.Expressions.{Deep, expr}
 use Rattle.tera_tokens.specs.Cut.{Piece, Words, Comment, Variable, Block, Broken, is_alone}
-use Rattle.tera_tree.specs.Tree.{Expr, Content, Print, If, Node, Nodes, NoNodes, MoreNodes}
+use Rattle.tera_tree.specs.Tree.{Expr, Content, Print, Set, Break, Continue, Node, Nodes, NoNodes, MoreNodes}
+use Rattle.tera_syntax.specs.Heads.{Head, IfHead, ForHead, SetHead, make, splits, chains, inside, first, ends}
 
 abbrev pub ended : Outcome Deep → Option Expr
 ended None = None
@@ -25,82 +26,170 @@ join (MoreNodes node rest) more = MoreNodes node (join rest more)
 abbrev pub one : Node → Nodes
 one node = MoreNodes node NoNodes
 
--- A choice whose `endif` is not read yet: what stands in front of it, and its body, once `else` or `elif` ends that. An
--- `elif` is chained: what ends it ends the choice around it too.
+-- What is open: a statement whose end is not read yet.
 pub record Frame : Type 0 where
+  -- what stands in front of it
   pub before : Nodes
-  pub condition : Expr
+  pub head : Head
+  -- its body, once another tag of it ended that
   pub body : Option Nodes
+  -- what ends it ends the statement around it too
   pub is_chained : Bool
+  -- whether it stands in a loop's body
+  pub in_loop : Bool
 
--- how far the reading is: what is open, from the innermost on, and the nodes that were read in it
+-- how far the reading is: what is open, from the innermost on, the nodes that were read in it, and whether these stand in a loop's body
 pub record Progress : Type 0 where
   pub frames : List Frame
   pub found : Nodes
+  pub in_loop : Bool
 
 abbrev pub begun : Progress
-begun = record { frames = []; found = NoNodes }
+begun = record { frames = []; found = NoNodes; in_loop = false }
 
-abbrev pub put : Progress → Node → Progress
-put s node = record { frames = s.frames; found = join s.found (one node) }
+-- a node more, where nodes may be as deep as the limit at the top
+abbrev pub put : ℕ → Progress → Node → Option Progress
+put limit s node = if nat_lt (length s.frames) limit then Some (record { frames = s.frames; found = join s.found (one node); in_loop = s.in_loop }) else None
 
--- how deep an expression of a tag may be here, where nodes may be as deep as the limit at the top
+-- how deep an expression of a tag may be here
 abbrev pub room : ℕ → Progress → ℕ
 room limit s = limit - suc (length s.frames)
 
--- the choice that an end makes of what was read last
-abbrev pub choice_by : Expr → Option Nodes → Nodes → Node
-choice_by condition None found = If condition found NoNodes
-choice_by condition (Some body) found = If condition body found
+-- what the end of a statement makes of what was read last
+abbrev pub made : Head → Option Nodes → Nodes → Node
+made head None found = make head found NoNodes
+made head (Some body) found = make head body found
 
--- what stands in front of a choice, and the choice
+-- what stands in front of a statement, and the statement
 abbrev pub row : Frame → Nodes → Nodes
-row f found = join f.before (one (choice_by f.condition f.body found))
+row f found = join f.before (one (made f.head f.body found))
 
--- `if` or `elif`
-abbrev pub opened : Bool → Progress → Option Expr → Option Progress
-opened is_chained s None = None
-opened is_chained s (Some condition) = Some (record { frames = record { before = s.found; condition = condition; body = None; is_chained = is_chained } ∷ s.frames; found = NoNodes })
+-- a statement with a body begins
+abbrev pub opened : ℕ → Bool → Progress → Head → Option Progress
+opened limit is_chained s head =
+    if nat_lt (length s.frames) limit then Some (record {
+      frames = record { before = s.found; head = head; body = None; is_chained = is_chained; in_loop = s.in_loop } ∷ s.frames;
+      found = NoNodes;
+      in_loop = inside head s.in_loop;
+    }) else None
 
 abbrev pub turned_by : Frame → Option Nodes → List Frame → Nodes → Option Progress
 turned_by f (Some body) fs found = None
-turned_by f None fs found = Some (record { frames = record { before = f.before; condition = f.condition; body = Some found; is_chained = f.is_chained } ∷ fs; found = NoNodes })
+turned_by f None fs found =
+    Some (record { frames = record { before = f.before; head = f.head; body = Some found; is_chained = f.is_chained; in_loop = f.in_loop } ∷ fs; found = NoNodes; in_loop = f.in_loop })
 
--- `else`, or the first half of `elif`: what was read is the body
-abbrev pub turned : List Frame → Nodes → Option Progress
-turned [] found = None
-turned (f ∷ fs) found = turned_by f f.body fs found
+-- `else`, or the first half of a tag that goes on, at a head that may have it: what was read is the body
+abbrev pub turned : (Head → Bool) → List Frame → Nodes → Option Progress
+turned may [] found = None
+turned may (f ∷ fs) found = if may f.head then turned_by f f.body fs found else None
 
--- `endif`
 abbrev pub closed : List Frame → Nodes → Option Progress
 closed [] found = None
-closed (f ∷ fs) found = if f.is_chained then closed fs (row f found) else Some (record { frames = fs; found = row f found })
+closed (f ∷ fs) found = if f.is_chained then closed fs (row f found) else Some (record { frames = fs; found = row f found; in_loop = f.in_loop })
 
-abbrev pub statement_by : ℕ → Progress → List Token → Kind → Option Progress
-statement_by limit s tokens k.If = opened false s (whole (room limit s) (next (begin false tokens)))
-statement_by limit s tokens k.Elif = option_and_then (λ t. opened true t (whole (room limit t) (next (begin false tokens)))) (turned s.frames s.found)
-statement_by limit s tokens k.Else = if is_alone (codes "else") tokens then turned s.frames s.found else None
-statement_by limit s tokens k.Name = if is_alone (codes "endif") tokens then closed s.frames s.found else None
-statement_by limit s tokens _ = None
+-- the end of what is open
+abbrev pub shut : List Token → List Frame → Nodes → Option Progress
+shut tokens [] found = None
+shut tokens (f ∷ fs) found = if ends f.head tokens then closed (f ∷ fs) found else None
+
+-- whether what is open stands in a loop's body
+abbrev pub around : List Frame → Bool
+around [] = false
+around (f ∷ fs) = f.in_loop
+
+-- what a tag is
+pub data Tag : Type 0 where
+  Single : (node : Node) → Tag
+  Opening : (head : Head) → Tag
+  -- it goes on with a statement
+  GoingOn : (head : Head) → Tag
+  -- `else`
+  Turning : Tag
+  -- any other, which may be an end
+  Closing : Tag
+
+abbrev pub looped : ℕ → Option Name → Name → Input → Option Tag
+looped limit key name i = option_map (λ e. Opening (ForHead key name e)) (whole limit i)
+
+abbrev pub keyed_by : ℕ → Name → Name → Input → Kind → Option Tag
+keyed_by limit key name i k.In = looped limit (Some key) name (next i)
+keyed_by limit key name i _ = None
+
+-- behind the key of a loop and its comma
+abbrev pub keyed : ℕ → Name → Input → Option Tag
+keyed limit key i = if same k.Name (kind i) then keyed_by limit key (text i) (next i) (kind (next i)) else None
+
+abbrev pub looping_by : ℕ → Name → Input → Kind → Option Tag
+looping_by limit name i k.In = looped limit None name (next i)
+looping_by limit name i k.Comma = keyed limit name (next i)
+looping_by limit name i _ = None
+
+-- behind `for`
+abbrev pub looping : ℕ → Input → Option Tag
+looping limit i = if same k.Name (kind i) then looping_by limit (text i) (next i) (kind (next i)) else None
+
+abbrev pub setting_by : ℕ → Bool → Name → Input → Kind → Option Tag
+setting_by limit is_global name i k.Assign = option_map (λ e. Single (Set name e is_global)) (whole limit (next i))
+setting_by limit is_global name i k.End = Some (Opening (SetHead name is_global))
+setting_by limit is_global name i _ = None
+
+-- behind `set` or `set_global`
+abbrev pub setting : ℕ → Bool → Input → Option Tag
+setting limit is_global i = if same k.Name (kind i) then setting_by limit is_global (text i) (next i) (kind (next i)) else None
+
+-- a tag that is one word
+abbrev pub alone : Text → List Token → Tag → Option Tag
+alone word tokens tag = if is_alone word tokens then Some tag else None
+
+-- a tag that is one word, in a loop's body
+abbrev pub leaving : Bool → Text → List Token → Tag → Option Tag
+leaving q word tokens tag = if q then alone word tokens tag else None
+
+-- a tag that begins with this word, which is not reserved
+unfoldable pub named : ℕ → Bool → List Token → Text → Option Tag
+named limit q tokens word =
+    if bytes_eq word (codes "set") then setting limit false (next (begin q tokens)) else (
+    if bytes_eq word (codes "set_global") then setting limit true (next (begin q tokens)) else (
+    if bytes_eq word (codes "break") then leaving q (codes "break") tokens (Single Break) else (
+    if bytes_eq word (codes "continue") then leaving q (codes "continue") tokens (Single Continue) else Some Closing)))
+
+abbrev pub tag_by : ℕ → Bool → Bool → List Token → Kind → Option Tag
+tag_by limit q outer tokens k.If = option_map (λ c. Opening (IfHead c)) (whole limit (next (begin q tokens)))
+tag_by limit q outer tokens k.For = looping limit (next (begin q tokens))
+tag_by limit q outer tokens k.Elif = option_map (λ c. GoingOn (IfHead c)) (whole limit (next (begin outer tokens)))
+tag_by limit q outer tokens k.Else = alone (codes "else") tokens Turning
+tag_by limit q outer tokens k.Name = named limit q tokens (text (begin false tokens))
+tag_by limit q outer tokens _ = None
+
+-- A tag with expressions no deeper than this; the flags say whether it, and what is open, stand in a loop's body.
+unfoldable pub tag : ℕ → Bool → Bool → List Token → Option Tag
+tag limit q outer tokens = tag_by limit q outer tokens (first tokens)
+
+abbrev pub taken : ℕ → Progress → List Token → Tag → Option Progress
+taken limit s tokens (Single node) = put limit s node
+taken limit s tokens (Opening head) = opened limit false s head
+taken limit s tokens (GoingOn head) = option_and_then (λ t. opened limit true t head) (turned chains s.frames s.found)
+taken limit s tokens Turning = turned splits s.frames s.found
+taken limit s tokens Closing = shut tokens s.frames s.found
 
 -- a statement, or a tag that belongs to one
 unfoldable pub statement : ℕ → Progress → List Token → Option Progress
-statement limit s tokens = statement_by limit s tokens (kind (begin false tokens))
+statement limit s tokens = option_and_then (taken limit s tokens) (tag (room limit s) s.in_loop (around s.frames) tokens)
 
-abbrev pub printed : Progress → Option Expr → Option Progress
-printed s None = None
-printed s (Some value) = Some (put s (Print value))
+abbrev pub printed : ℕ → Progress → Option Expr → Option Progress
+printed limit s None = None
+printed limit s (Some value) = put limit s (Print value)
 
 -- text of which trimming leaves nothing is no node
-abbrev pub put_words : Progress → Text → Span → Progress
-put_words s [] place = s
-put_words s (b ∷ bs) place = put s (Content (b ∷ bs) place)
+abbrev pub put_words : ℕ → Progress → Text → Span → Option Progress
+put_words limit s [] place = Some s
+put_words limit s (b ∷ bs) place = put limit s (Content (b ∷ bs) place)
 
 -- a piece more, where nodes are no deeper than this
 abbrev pub step : ℕ → Progress → Piece → Option Progress
-step limit s (Words words place) = Some (put_words s words place)
+step limit s (Words words place) = put_words limit s words place
 step limit s Comment = Some s
-step limit s (Variable tokens) = printed s (whole (room limit s) (begin false tokens))
+step limit s (Variable tokens) = printed limit s (whole (room limit s) (begin s.in_loop tokens))
 step limit s (Block tokens) = statement limit s tokens
 step limit s Broken = None
 

@@ -1,12 +1,14 @@
 //! The reader: from a template's text to its tree.
 #![tactic(auto)]
 
+mod heads;
 pub mod laws;
 mod progress;
 pub mod reader;
 mod statements;
+mod tags;
 
 pub use reader::parse;
 pub use tera_tree::{
-    BinaryOperator, Delimiters, Entry, Expression, Item, LiteralKey, Node, ParserOutput,
+    BinaryOperator, Delimiters, Entry, Expression, Heading, Item, LiteralKey, Node, ParserOutput,
 };

@@ -1,30 +1,35 @@
 // What is open while a text is read, and the nodes that were read.
-ghost use Rattle.std.specs.Prelude.{◌≡◌, ◌-◌, suc, length, Some, IfErr};
+ghost use Rattle.std.specs.Prelude.{◌≡◌, ◌-◌, suc, length, true, Some, IfErr};
+ghost use Rattle.tera_syntax.specs.Heads as heads;
 ghost use Rattle.tera_syntax.specs.Reader as spec;
-ghost use Rattle.tera_syntax.specs.View.{Becomes, body_of, frame_of, progress_of};
+ghost use Rattle.tera_syntax.specs.View.{Becomes, body_of, frame_of, head_of, progress_of};
 ghost use Rattle.tera_tokens.specs.Answers.{Answers, IsSyntax};
-ghost use Rattle.tera_tree.specs.View.{expr_of, node_of, nodes_of};
+ghost use Rattle.tera_tokens.specs.Token.{tokens_of};
+ghost use Rattle.tera_tree.specs.View.{node_of, nodes_of};
 
+use crate::heads::Head;
 use std::alloc::Global;
 use std::mem::replace;
 use tera_errors::Span;
-use tera_tokens::input::Tokens;
 use tera_tokens::refusal::{Reason, Refusal};
-use tera_tree::{Expression, Node};
+use tera_tokens::token::Token;
+use tera_tree::Node;
 
 /// How deep a tree may be.
 const MAX_DEPTH: usize = 200;
 
-/// A choice whose `endif` is not read yet.
+/// A statement whose end is not read yet.
 #[derive(Drop)]
 pub(crate) struct Frame {
     /// What stands in front of it.
     before: Vec<Node>,
-    condition: Box<Expression>,
-    /// Its body, once `else` or `elif` ends that.
+    head: Head,
+    /// Its body, once another tag of it ended that.
     body: Option<Vec<Node>>,
-    /// What ends an `elif` ends the choice around it too.
+    /// What ends it ends the statement around it too.
     is_chained: bool,
+    /// Whether it stands in a loop's body.
+    in_loop: bool,
 }
 
 /// How far the reading is: what is open, and the nodes that were read in it.
@@ -33,35 +38,42 @@ pub(crate) struct Progress {
     /// The innermost last.
     frames: Vec<Frame>,
     found: Vec<Node>,
+    /// Whether these nodes stand in a loop's body.
+    pub in_loop: bool,
 }
 
-/// The choice that an end makes of what was read last.
-fn choice(
-    alloc: Global,
-    condition: Box<Expression>,
-    body: Option<Vec<Node>>,
-    found: Vec<Node>,
-) -> Node
-    ensures { node_of result ≡ spec.choice_by (expr_of condition.value) (body_of body) (nodes_of found.items) }
+/// What the end of a statement makes of what was read last.
+fn made(alloc: Global, head: Head, body: Option<Vec<Node>>, found: Vec<Node>) -> Node
+    ensures { node_of result ≡ spec.made (head_of head) (body_of body) (nodes_of found.items) }
 {
     match body {
-        None => Node::choice(condition, found, Vec::new(alloc)),
-        Some(body) => Node::choice(condition, body, found),
+        None => head.make(found, Vec::new(alloc)),
+        Some(body) => head.make(body, found),
     }
 }
 
-/// What stands in front of a choice, and the choice.
+/// Puts a node behind others.
 #[tactic(auto, using(crate::proofs::Rows::nodes_push))]
+fn push(nodes: &mut Vec<Node>, node: Node) -> Result<(), Refusal>
+    ensures { let meant = spec.join (nodes_of nodes.old.items) (spec.one (node_of node)) in
+        Answers (λ done. nodes_of nodes.new.items) (Some meant) result }
+{
+    nodes.push(node)?;
+    Ok(())
+}
+
+/// What stands in front of a statement, and the statement.
 fn row(alloc: Global, frame: Frame, found: Vec<Node>) -> Result<Vec<Node>, Refusal>
-    ensures { Answers (λ nodes. nodes_of nodes.items) (Some (spec.row (frame_of frame) (nodes_of found.items))) result }
+    ensures { let meant = spec.row (frame_of frame) (nodes_of found.items) in
+        Answers (λ nodes. nodes_of nodes.items) (Some meant) result }
 {
     let Frame {
         mut before,
-        condition,
+        head,
         body,
         ..
     } = frame;
-    before.push(choice(alloc, condition, body, found))?;
+    push(&mut before, made(alloc, head, body, found))?;
     Ok(before)
 }
 
@@ -72,6 +84,7 @@ impl Progress {
         Progress {
             frames: Vec::new(alloc),
             found: Vec::new(alloc),
+            in_loop: false,
         }
     }
 
@@ -82,58 +95,109 @@ impl Progress {
         MAX_DEPTH.saturating_sub(self.frames.len() + 1)
     }
 
-    /// Puts a node behind those that were read.
-    #[tactic(auto, using(crate::proofs::Rows::nodes_push))]
-    pub fn put(&mut self, node: Node) -> Result<(), Refusal>
-        ensures { Becomes (Some (spec.put (progress_of self.old) (node_of node))) result self.new }
+    /// Whether what is open stands in a loop's body.
+    pub fn around(&self) -> bool
+        ensures { result ≡ spec.around (progress_of self.now).frames }
     {
-        self.found.push(node)?;
-        Ok(())
+        match self.frames.last() {
+            Some(frame) => frame.in_loop,
+            None => false,
+        }
     }
 
-    /// `if` or `elif`
+    /// Puts a node behind those that were read. It begins at `at`.
+    pub fn put(&mut self, node: Node, at: Span) -> Result<(), Refusal>
+        ensures { Becomes (spec.put 200 (progress_of self.old) (node_of node)) result self.new }
+    {
+        if self.frames.len() >= MAX_DEPTH {
+            return Err(Refusal::Syntax(Reason::TooDeep, at));
+        }
+        push(&mut self.found, node)
+    }
+
+    /// A statement with a body begins.
     pub fn open(
         &mut self,
         alloc: Global,
         is_chained: bool,
-        condition: Box<Expression>,
+        head: Head,
+        at: Span,
     ) -> Result<(), Refusal>
-        ensures { let meant = Some (expr_of condition.value) in
-            Becomes (spec.opened is_chained (progress_of self.old) meant) result self.new }
+        ensures { let meant = spec.opened 200 is_chained (progress_of self.old) (head_of head) in
+            Becomes meant result self.new }
     {
+        if self.frames.len() >= MAX_DEPTH {
+            return Err(Refusal::Syntax(Reason::TooDeep, at));
+        }
+        let inside = head.inside(self.in_loop);
         let before = replace(&mut self.found, Vec::new(alloc));
         self.frames.push(Frame {
             before,
-            condition,
+            head,
             body: None,
             is_chained,
+            in_loop: self.in_loop,
         })?;
+        self.in_loop = inside;
         Ok(())
     }
 
-    /// `else`, or the first half of `elif`: what was read is the body.
-    pub fn turn(&mut self, alloc: Global, tokens: &Tokens<'_>) -> Result<(), Refusal>
+    /// `else`: what was read is the body.
+    pub fn split(&mut self, alloc: Global, at: Span) -> Result<(), Refusal>
         ensures { let s = progress_of self.old in
-            Becomes (spec.turned s.frames s.found) result self.new }
+            Becomes (spec.turned heads.splits s.frames s.found) result self.new }
+    {
+        match self.frames.last() {
+            Some(frame) if frame.head.splits() => self.turn(alloc, at),
+            _ => Err(Refusal::Syntax(Reason::NotOpen, at)),
+        }
+    }
+
+    /// The first half of a tag that goes on with a statement: what was read is the body.
+    pub fn go_on(&mut self, alloc: Global, at: Span) -> Result<(), Refusal>
+        ensures { let s = progress_of self.old in
+            Becomes (spec.turned heads.chains s.frames s.found) result self.new }
+    {
+        match self.frames.last() {
+            Some(frame) if frame.head.chains() => self.turn(alloc, at),
+            _ => Err(Refusal::Syntax(Reason::NotOpen, at)),
+        }
+    }
+
+    fn turn(&mut self, alloc: Global, at: Span) -> Result<(), Refusal>
+        ensures { let s = progress_of self.old in
+            Becomes (spec.turned (λ head. true) s.frames s.found) result self.new }
     {
         let Some(mut frame) = self.frames.pop() else {
-            return Err(tokens.refuse(Reason::NotOpen));
+            return Err(Refusal::Syntax(Reason::NotOpen, at));
         };
         if frame.body.is_some() {
-            return Err(tokens.refuse(Reason::NotOpen));
+            return Err(Refusal::Syntax(Reason::NotOpen, at));
         }
+        self.in_loop = frame.in_loop;
         frame.body = Some(replace(&mut self.found, Vec::new(alloc)));
         self.frames.push(frame)?;
         Ok(())
     }
 
-    /// `endif`
-    pub fn close(&mut self, alloc: Global, tokens: &Tokens<'_>) -> Result<(), Refusal>
+    /// The end of what is open.
+    pub fn shut(&mut self, alloc: Global, tokens: &[Token<'_>], at: Span) -> Result<(), Refusal>
+        ensures { let s = progress_of self.old in
+            Becomes (spec.shut (tokens_of tokens.now) s.frames s.found) result self.new }
+    {
+        match self.frames.last() {
+            Some(frame) if frame.head.is_ended_by(tokens) => self.close(alloc, at),
+            _ => Err(Refusal::Syntax(Reason::NoStatement, at)),
+        }
+    }
+
+    fn close(&mut self, alloc: Global, at: Span) -> Result<(), Refusal>
         ensures { let s = progress_of self.old in
             Becomes (spec.closed s.frames s.found) result self.new }
     {
         while let Some(frame) = self.frames.pop() {
             let is_chained = frame.is_chained;
+            self.in_loop = frame.in_loop;
             let found = replace(&mut self.found, Vec::new(alloc));
             self.found = match row(alloc, frame, found) {
                 Ok(found) => found,
@@ -143,7 +207,7 @@ impl Progress {
                 return Ok(());
             }
         }
-        Err(tokens.refuse(Reason::NotOpen))
+        Err(Refusal::Syntax(Reason::NotOpen, at))
     }
 
     /// The nodes, where the text ends here. It takes no memory.
@@ -152,7 +216,7 @@ impl Progress {
             Answers (λ nodes. nodes_of nodes.items) meant result }
         ensures told { IfErr result IsSyntax }
     {
-        let Progress { frames, found } = self;
+        let Progress { frames, found, .. } = self;
         if frames.is_empty() {
             Ok(found)
         } else {

@@ -1,50 +1,49 @@
 // What a piece of the text adds to what was read.
-ghost use Rattle.std.specs.Prelude.{◌≡◌, Some};
 ghost use Rattle.tera_syntax.specs.Reader as spec;
-ghost use Rattle.tera_syntax.specs.View.{Becomes, progress_of};
-ghost use Rattle.tera_tokens.specs.Answers.{Answers};
+ghost use Rattle.tera_syntax.specs.View.{Becomes, progress_of, tag_of};
 ghost use Rattle.tera_tokens.specs.Found.{piece_of};
-ghost use Rattle.tera_tokens.specs.Input.{begin, kind, next};
-ghost use Rattle.tera_tokens.specs.Takes.{input};
 ghost use Rattle.tera_tokens.specs.Token.{tokens_of};
-ghost use Rattle.tera_tree.specs.View.{expr_of};
 
 use crate::progress::Progress;
+use crate::tags::{Tag, read_tag, whole};
 use std::alloc::Global;
 use tera_errors::Span;
-use tera_expressions::expressions::expr;
-use tera_tokens::cut::{Piece, is_alone};
-use tera_tokens::input::{Tokens, same};
-use tera_tokens::refusal::{Reason, Refusal};
-use tera_tokens::token::{Kind, Token};
-use tera_tree::{Expression, Node};
+use tera_tokens::cut::Piece;
+use tera_tokens::input::Tokens;
+use tera_tokens::refusal::Refusal;
+use tera_tokens::token::Token;
+use tera_tree::Node;
 
-/// An expression that is all from here to the end of the tag.
-#[tactic(auto, unfolding(crate::specs::Reader::whole))]
-fn whole(alloc: Global, tokens: &mut Tokens<'_>, limit: usize) -> Result<Box<Expression>, Refusal>
-    ensures { Answers (λ b. expr_of b.value) (spec.whole limit (input tokens.old)) result }
-{
-    let value = expr(alloc, tokens, limit, 0)?;
-    if same(Kind::End, tokens.kind()) {
-        Ok(value.expression)
-    } else {
-        Err(tokens.refuse(Reason::TagGoesOn))
+/// Where the tag's first token stands.
+fn place(tokens: &[Token<'_>]) -> Span {
+    match tokens.first() {
+        Some(token) => token.span,
+        None => Span { start: 0, end: 0 },
     }
 }
 
-/// `if` or `elif`, behind that word.
-fn opened(
+/// What a tag adds.
+fn take(
     progress: &mut Progress,
     alloc: Global,
-    tokens: &mut Tokens<'_>,
-    is_chained: bool,
+    tokens: &[Token<'_>],
+    tag: Tag,
 ) -> Result<(), Refusal>
     ensures { let s = progress_of progress.old in
-        let condition = spec.whole (spec.room 200 s) (input tokens.old) in
-        Becomes (spec.opened is_chained s condition) result progress.new }
+        let meant = spec.taken 200 s (tokens_of tokens.now) (tag_of tag) in
+        Becomes meant result progress.new }
 {
-    let condition = whole(alloc, tokens, progress.room())?;
-    progress.open(alloc, is_chained, condition)
+    let at = place(tokens);
+    match tag {
+        Tag::Single(node) => progress.put(node, at),
+        Tag::Opening(head) => progress.open(alloc, false, head, at),
+        Tag::GoingOn(head) => {
+            progress.go_on(alloc, at)?;
+            progress.open(alloc, true, head, at)
+        }
+        Tag::Turning => progress.split(alloc, at),
+        Tag::Closing => progress.shut(alloc, tokens, at),
+    }
 }
 
 /// A statement, or a tag that belongs to one.
@@ -53,32 +52,20 @@ fn statement(progress: &mut Progress, alloc: Global, tokens: &[Token<'_>]) -> Re
     ensures { let meant = spec.statement 200 (progress_of progress.old) (tokens_of tokens.now) in
         Becomes meant result progress.new }
 {
-    let mut ahead = Tokens::begin(tokens, false);
-    match ahead.kind() {
-        Kind::If => {
-            ahead.take();
-            opened(progress, alloc, &mut ahead, false)
-        }
-        Kind::Elif => {
-            progress.turn(alloc, &ahead)?;
-            ahead.take();
-            opened(progress, alloc, &mut ahead, true)
-        }
-        Kind::Else if is_alone("else", tokens) => progress.turn(alloc, &ahead),
-        Kind::Name if is_alone("endif", tokens) => progress.close(alloc, &ahead),
-        _ => Err(ahead.refuse(Reason::NoStatement)),
-    }
+    let room = progress.room();
+    let tag = read_tag(alloc, tokens, room, progress.in_loop, progress.around())?;
+    take(progress, alloc, tokens, tag)
 }
 
 fn put_words(progress: &mut Progress, alloc: Global, text: &str, span: Span) -> Result<(), Refusal>
-    ensures { let meant = Some (spec.put_words (progress_of progress.old) text.now span) in
+    ensures { let meant = spec.put_words 200 (progress_of progress.old) text.now span in
         Becomes meant result progress.new }
 {
     if text.is_empty() {
         return Ok(());
     }
     let text = String::from_str(alloc, text)?;
-    progress.put(Node::Content { text, span })
+    progress.put(Node::Content { text, span }, span)
 }
 
 /// Takes a piece more to what was read. The tokens are those of a tag.
@@ -95,9 +82,9 @@ pub(crate) fn step(
         Piece::Words(text, span) => put_words(progress, alloc, text, span),
         Piece::Comment => Ok(()),
         Piece::Variable => {
-            let mut tokens = Tokens::begin(tokens, false);
-            let value = whole(alloc, &mut tokens, progress.room())?;
-            progress.put(Node::Print { value })
+            let mut ahead = Tokens::begin(tokens, progress.in_loop);
+            let value = whole(alloc, &mut ahead, progress.room())?;
+            progress.put(Node::Print { value }, place(tokens))
         }
         Piece::Block => statement(progress, alloc, tokens),
     }

@@ -21,7 +21,7 @@ pub struct Other(pub &'static str, pub &'static str, pub Row);
 pub struct Unusable(pub &'static str, pub &'static str);
 
 /// Between the standard delimiters.
-pub static TREES: [Row; 30] = [
+pub static TREES: [Row; 47] = [
     Row("", ""),
     Row("Hello {{ name }}!", "(Hello  0-6)(name 9-13)(! 16-17)"),
     Row("a{# b #}c{# d }} #}", "(a 0-1)(c 8-9)"),
@@ -103,9 +103,59 @@ pub static TREES: [Row; 30] = [
         "(endif 3-8)(.(a 14-15)else 14-20)",
     ),
     Row("{{ loop.index }}", "(.(loop 3-7)index 3-13)"),
+    Row("{% set a = 1 %}b", "(set a(1 11-12))(b 15-16)"),
+    Row("{% set set = set %}", "(set set(set 13-16))"),
+    Row("{% set_global a = b ~ c %}", "(set_global a(Concat(b 18-19)(c 22-23) 18-23))"),
+    Row(
+        "{% set a %}x{% set b = a %}y{% endset %}z",
+        "(set a to (x 11-12)(set b(a 23-24))(y 27-28))(z 40-41)",
+    ),
+    Row(
+        "{% set_global a %}x{% endset_global %}{% set_global b %}{% endset %}",
+        "(set_global a to (x 18-19))(set_global b to )",
+    ),
+    Row("{% for v in e %}x{% endfor %}", "(for v in (e 12-13) do (x 16-17) else )"),
+    Row(
+        "{% for v in e %}x{% else %}y{% endfor %}z",
+        "(for v in (e 12-13) do (x 16-17) else (y 27-28))(z 40-41)",
+    ),
+    Row("{% for k, v in e %}{{ k }}{% endfor %}", "(for k, v in (e 15-16) do (k 22-23) else )"),
+    Row(
+        "{% for v in a if b else c %}{% endfor %}",
+        "(for v in (if(a 12-13)(b 17-18)(c 24-25) 12-25) do  else )",
+    ),
+    Row(
+        "{%- for v in e -%} x {%- else -%} y {%- endfor -%} z",
+        "(for v in (e 13-14) do (x 19-20) else (y 34-35))(z 51-52)",
+    ),
+    Row(
+        "{% for v in e %}{% if a %}{% break %}{% elif b %}{% continue %}{% endif %}{% endfor %}",
+        "(for v in (e 12-13) do (if (a 22-23) then (break) else (if (b 45-46) then (continue) else )) else )",
+    ),
+    Row(
+        "{% for v in e %}{% for w in f %}{% continue %}{% else %}{% break %}{% endfor %}{% break %}{% endfor %}",
+        "(for v in (e 12-13) do (for w in (f 28-29) do (continue) else (break))(break) else )",
+    ),
+    Row(
+        "{% for v in e %}{% set a %}{% break %}{{ loop.first }}{% endset %}{% set b = loop.first %}{% endfor %}",
+        "(for v in (e 12-13) do (set a to (break)(__tera_loop_first 41-51))(set b(__tera_loop_first 77-87)) else )",
+    ),
+    Row(
+        "{% for v in loop.last %}{{ loop.last }}{% else %}{{ loop.last }}{% endfor %}",
+        "(for v in (.(loop 12-16)last 12-21) do (__tera_loop_last 27-36) else (.(loop 52-56)last 52-61))",
+    ),
+    Row(
+        "{% for v in e %}{% if loop.first %}{% elif loop.last %}{{ loop.index }}{% else %}{{ loop.index0 }}{% endif %}{% endfor %}",
+        "(for v in (e 12-13) do (if (__tera_loop_first 22-32) then  else (if (__tera_loop_last 43-52) then (__tera_loop_index 58-68) else (__tera_loop_index0 84-95))) else )",
+    ),
+    Row(
+        "{% for v in e %}{% for w in loop.index %}{% else %}{{ loop.length }}{% endfor %}{% endfor %}{{ loop.index }}",
+        "(for v in (e 12-13) do (for w in (__tera_loop_index 28-38) do  else (__tera_loop_length 54-65)) else )(.(loop 95-99)index 95-105)",
+    ),
+    Row("{{ break }}{{ endfor }}{{ set }}", "(break 3-8)(endfor 14-20)(set 26-29)"),
 ];
 
-pub static REFUSED: [Text; 47] = [
+pub static REFUSED: [Text; 101] = [
     Text("{{ }}"),
     Text("{{ a"),
     Text("b {# open"),
@@ -153,6 +203,60 @@ pub static REFUSED: [Text; 47] = [
     Text("{{ {\"a\" 1} }}"),
     Text("{{ a[1:2 }}"),
     Text("{{ {170141183460469231731687303715884105728: 1} }}"),
+    Text("{% set %}"),
+    Text("{% set a = %}"),
+    Text("{% set a 1 %}"),
+    Text("{% set a = 1 b %}"),
+    Text("{% set if = 1 %}"),
+    Text("{% set 1 = 2 %}"),
+    Text("{% set a.b = 1 %}"),
+    Text("{% set a, b = 1 %}"),
+    Text("{% set a %}"),
+    Text("{% set a %}{% endset a %}"),
+    Text("{% set a %}{% else %}{% endset %}"),
+    Text("{% set a %}{% elif b %}{% endset %}"),
+    Text("{% set a %}{% endif %}"),
+    Text("{% set a %}{% endfor %}"),
+    Text("{% set a %}{% endset_global %}"),
+    Text("{% endset %}"),
+    Text("{% endset_global %}"),
+    Text("{% set_global a %}"),
+    Text("{% set_global 1 = 2 %}"),
+    Text("{% set_global a %}{% endset_global a %}"),
+    Text("{% for %}{% endfor %}"),
+    Text("{% for v %}{% endfor %}"),
+    Text("{% for in x %}{% endfor %}"),
+    Text("{% for x of y %}{% endfor %}"),
+    Text("{% for v in %}{% endfor %}"),
+    Text("{% for v in e %}"),
+    Text("{% for v in e %}{% else %}"),
+    Text("{% for v in e %}{% endif %}"),
+    Text("{% for v in e %}{% endset %}"),
+    Text("{% for v in e f %}{% endfor %}"),
+    Text("{% for 1 in e %}{% endfor %}"),
+    Text("{% for if in e %}{% endfor %}"),
+    Text("{% for k v in e %}{% endfor %}"),
+    Text("{% for k, in e %}{% endfor %}"),
+    Text("{% for k, 1 in e %}{% endfor %}"),
+    Text("{% for k, v, w in e %}{% endfor %}"),
+    Text("{% for v in e %}{% elif a %}{% endfor %}"),
+    Text("{% for v in e %}{% else %}{% else %}{% endfor %}"),
+    Text("{% for v in e %}{% endfor v %}"),
+    Text("{% for v in e %}{% if a %}{% endfor %}{% endif %}"),
+    Text("{% if a %}{% for v in e %}{% endif %}{% endfor %}"),
+    Text("{% endfor %}"),
+    Text("{% break %}"),
+    Text("{% continue %}"),
+    Text("{% if a %}{% break %}{% endif %}"),
+    Text("{% set a %}{% continue %}{% endset %}"),
+    Text("{% for v in e %}{% endfor %}{% continue %}"),
+    Text("{% for v in e %}{% else %}{% break %}{% endfor %}"),
+    Text("{% for v in e %}{% else %}{% if a %}{% continue %}{% endif %}{% endfor %}"),
+    Text("{% for v in e %}{% for w in f %}{% endfor %}{% else %}{% set a %}{% break %}{% endset %}{% endfor %}"),
+    Text("{% for v in e %}{% break a %}{% endfor %}"),
+    Text("{% for v in e %}{% continue 1 %}{% endfor %}"),
+    Text("{{ set a }}"),
+    Text("{{ for v in e }}"),
 ];
 
 const PARENTHESES: [&str; 5] = ["{{ ", "(", "a", ")", " }}"];
@@ -167,9 +271,19 @@ const CHOICES: [&str; 5] = ["", "{% if a %}", "x", "{% endif %}", ""];
 
 const ELIFS: [&str; 5] = ["{% if a %}x", "{% elif a %}x", "", "", "{% endif %}"];
 
+const LOOPS: [&str; 5] = ["", "{% for v in e %}", "x", "{% endfor %}", ""];
+
+const EMPTY_LOOPS: [&str; 5] = ["", "{% for v in e %}", "", "{% endfor %}", ""];
+
+const LEFT_LOOPS: [&str; 5] = ["", "{% for v in e %}", "{% break %}", "{% endfor %}", ""];
+
+const CAPTURES: [&str; 5] = ["", "{% set a %}", "x", "{% endset %}", ""];
+
+const EMPTY_CAPTURES: [&str; 5] = ["", "{% set a %}", "", "{% endset %}", ""];
+
 const CONDITIONS: [&str; 5] = ["{% if ", "not ", "a", "", " %}x{% endif %}"];
 
-pub static NESTS: [Nest; 12] = [
+pub static NESTS: [Nest; 22] = [
     Nest(PARENTHESES, 20_000, true),
     Nest(OPEN_PARENTHESES, 20_000, false),
     Nest(NOTS, 198, true),
@@ -183,6 +297,17 @@ pub static NESTS: [Nest; 12] = [
     Nest(ELIFS, 199, false),
     Nest(CONDITIONS, 198, true),
     Nest(CONDITIONS, 199, false),
+    Nest(LOOPS, 199, true),
+    Nest(LOOPS, 200, false),
+    Nest(EMPTY_LOOPS, 199, true),
+    Nest(EMPTY_LOOPS, 200, false),
+    Nest(LEFT_LOOPS, 199, true),
+    Nest(LEFT_LOOPS, 200, false),
+    Nest(CAPTURES, 199, true),
+    Nest(CAPTURES, 200, false),
+    // a statement without an expression may stand at the limit
+    Nest(EMPTY_CAPTURES, 200, true),
+    Nest(EMPTY_CAPTURES, 201, false),
 ];
 
 pub static OTHERS: [Other; 2] = [

@@ -1,7 +1,7 @@
 //! Trees in words, for tests: each node with its parts and its span.
 use std::alloc::{AllocError, Global};
 use tera_errors::Span;
-use tera_syntax::{Expression, Node};
+use tera_syntax::{Expression, Heading, Node};
 
 /// Words that are written one behind another.
 #[derive(Drop)]
@@ -65,6 +65,18 @@ impl Shown {
         }
     }
 
+    /// What a loop calls its items and what it goes over.
+    #[cycle(expression)]
+    fn heading(&mut self, heading: &Heading) {
+        if let Some(key) = &heading.key {
+            self.put(key.as_str());
+            self.put(", ");
+        }
+        self.put(heading.name.as_str());
+        self.put(" in ");
+        self.expression(&heading.target);
+    }
+
     /// An expression: its word, its parts and its span.
     #[cycle(expression)]
     pub fn expression(&mut self, expression: &Expression) {
@@ -117,9 +129,27 @@ impl Shown {
                     self.expression(&entry.value);
                 }
             }
+            Expression::Comprehension {
+                value,
+                heading,
+                condition,
+                ..
+            } => {
+                self.expression(value);
+                self.put(" for ");
+                self.heading(heading);
+                self.put(" if ");
+                self.put_bound(condition);
+            }
             _ => {}
         }
         self.put_span(span_of(expression));
+    }
+
+    /// What begins a statement that binds this name.
+    fn put_set(&mut self, name: &str, is_global: bool) {
+        self.put(if is_global { "(set_global " } else { "(set " });
+        self.put(name);
     }
 
     /// Nodes, one behind another.
@@ -145,6 +175,40 @@ impl Shown {
                     self.nodes(other);
                     self.put(")");
                 }
+                Node::Set {
+                    name,
+                    value,
+                    is_global,
+                } => {
+                    self.put_set(name.as_str(), *is_global);
+                    self.expression(value);
+                    self.put(")");
+                }
+                Node::Capture {
+                    name,
+                    body,
+                    is_global,
+                } => {
+                    self.put_set(name.as_str(), *is_global);
+                    self.put(" to ");
+                    self.nodes(body);
+                    self.put(")");
+                }
+                Node::For {
+                    heading,
+                    body,
+                    other,
+                } => {
+                    self.put("(for ");
+                    self.heading(heading);
+                    self.put(" do ");
+                    self.nodes(body);
+                    self.put(" else ");
+                    self.nodes(other);
+                    self.put(")");
+                }
+                Node::Break => self.put("(break)"),
+                Node::Continue => self.put("(continue)"),
             }
         }
     }
@@ -167,7 +231,8 @@ fn span_of(expression: &Expression) -> Span {
         | Expression::Or { span, .. }
         | Expression::Ternary { span, .. }
         | Expression::Array { span, .. }
-        | Expression::Map { span, .. } => *span
+        | Expression::Map { span, .. }
+        | Expression::Comprehension { span, .. } => *span
     }
 }
 
@@ -185,6 +250,7 @@ fn word(expression: &Expression) -> &'static str {
         Expression::Ternary { .. } => "if",
         Expression::Array { .. } => "array",
         Expression::Map { .. } => "map",
+        Expression::Comprehension { .. } => "each",
         _ => "",
     }
 }

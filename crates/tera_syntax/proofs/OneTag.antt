@@ -1,0 +1,265 @@
+-- One tag: what is read is what it may be, and the other way round.
+use Rattle.std.proofs.Common.{◌≡◌, ℕ, suc, ◌≤◌, List, [], ◌∷◌, Bool, true, false, ◌&&◌, ◌||◌, Option, Some, None, IsTrue, if◌then◌else◌, bytes_eq, codes, refl, ap, ◌∙◌, subst, arith}
+use Rattle.std.specs.Prelude.{option_map}
+use Rattle.std.proofs.lemmas.Slice.Eq.{bytes_eq-Decides}
+use Rattle.tera_errors.specs.Site.{Text, Name}
+use Rattle.tera_tokens.specs.declared.token.Kind.{Kind}
+use Rattle.tera_tokens.specs.declared.token.Kind.TheVariants as k
+use Rattle.tera_tokens.specs.Token.{Token}
+use Rattle.tera_tokens.specs.Input.{Input, begin, kind, text, next, same}
+use Rattle.tera_tokens.specs.Cut.{is_alone}
+use Rattle.tera_tree.specs.Tree.{Expr, Node, Set, Break, Continue}
+use Rattle.tera_tree.specs.Depth.{depth, node_depth}
+use Rattle.tera_expressions.proofs.Steps.{guard, same-is, same-refl}
+use Rattle.tera_syntax.specs.Heads.{Head, IfHead, ForHead, SetHead, head_depth, is_end, first, ends}
+use Rattle.tera_syntax.specs.Grammar.{DerivesWhole, IsWord, Begins, Names, Calls, value, key_and_value, set_word, Simple, set, breaks, continues, Opens, choice, loop, capture, GoesOn, elif}
+use Rattle.tera_syntax.specs.Reader.{Tag, Single, Opening, GoingOn, Turning, Closing, looped, keyed, keyed_by, looping, looping_by, setting, setting_by, alone, leaving, named, tag_by, tag, whole}
+use Rattle.tera_syntax.proofs.Whole.{whole_sound, whole_complete}
+
+-- what is said of a tag with expressions no deeper than this, where it was read
+abbrev pub Meant : ℕ → Bool → Bool → List Token → Tag → Type 0
+Meant limit q outer tokens (Single node) = Simple q node tokens × (node_depth node ≤ suc limit)
+Meant limit q outer tokens (Opening head) = Opens q head tokens × (head_depth head ≤ limit)
+Meant limit q outer tokens (GoingOn head) = GoesOn outer head tokens × (head_depth head ≤ limit)
+Meant limit q outer tokens Turning = IsWord k.Else (codes "else") tokens
+Meant limit q outer tokens Closing = Unit {0}
+
+mapped : {A B : Type 0} (f : A → B) (o : Option A) (y : B) → option_map f o ≡ Some y → (x : A) × (o ≡ Some x) × (f x ≡ y)
+mapped f None y h = absurd (cc)
+mapped f (Some x) y h = (x, refl, cc)
+
+some-is : {A : Type 0} (x y : A) → Some x ≡ Some y → x ≡ y
+some-is x y h = cc
+
+is-word : (word w : Text) → bytes_eq word w ≡ true → word ≡ w
+is-word word w h = (bytes_eq-Decides word w).0 h
+
+both : (a b : Bool) → (a && b) ≡ true → (a ≡ true) × (b ≡ true)
+both true b h = (refl, h)
+both false b h = absurd (cc)
+
+alone-text : (word : Text) (tokens : List Token) → is_alone word tokens ≡ true → text (begin false tokens) ≡ word
+unfolding text
+alone-text word [] h = absurd (cc)
+alone-text word (t ∷ []) h = is-word t.text word h
+alone-text word (t ∷ u ∷ ts) h = absurd (cc)
+
+-- Soundness, a form at a time
+
+module _ (limit : ℕ) (q outer : Bool) (tokens : List Token) (t : Tag) where
+  abbrev Says : Type 0
+  Says = Meant limit q outer tokens t
+
+  said : (u : Tag) → Meant limit q outer tokens u → u ≡ t → Says
+  said u m e = subst (Meant limit q outer tokens) e m
+
+  if-got : first tokens ≡ k.If → option_map (λ c. Opening (IfHead c)) (whole limit (next (begin q tokens))) ≡ Some t → Says
+  if-got e h =
+      let p = mapped (λ c. Opening (IfHead c)) (whole limit (next (begin q tokens))) t h in
+      let w = whole_sound limit (next (begin q tokens)) p.0 p.1 in
+      said (Opening (IfHead p.0)) (choice e w.0, w.1) p.2
+
+  elif-got : first tokens ≡ k.Elif → option_map (λ c. GoingOn (IfHead c)) (whole limit (next (begin outer tokens))) ≡ Some t → Says
+  elif-got e h =
+      let p = mapped (λ c. GoingOn (IfHead c)) (whole limit (next (begin outer tokens))) t h in
+      let w = whole_sound limit (next (begin outer tokens)) p.0 p.1 in
+      said (GoingOn (IfHead p.0)) (elif e w.0, w.1) p.2
+
+  looped-got : (key : Option Name) (name : Name) (i : Input) → first tokens ≡ k.For → Calls key name (next (begin q tokens)) i → looped limit key name i ≡ Some t → Says
+  looped-got key name i e c h =
+      let make : Expr → Tag = λ e. Opening (ForHead key name e) in
+      let p = mapped make (whole limit i) t h in
+      let w = whole_sound limit i p.0 p.1 in
+      said (make p.0) (loop e c w.0, w.1) p.2
+
+  keyed-by-got : first tokens ≡ k.For → Names (next (begin q tokens)) k.Comma → kind (next (next (next (begin q tokens)))) ≡ k.Name
+      → (s : Kind) → kind (next (next (next (next (begin q tokens))))) ≡ s
+      → keyed_by limit (text (next (begin q tokens))) (text (next (next (next (begin q tokens))))) (next (next (next (next (begin q tokens))))) s ≡ Some t → Says
+  keyed-by-got e n m k.In f h = looped-got (Some (text (next (begin q tokens)))) (text (next (next (next (begin q tokens))))) (next (next (next (next (next (begin q tokens)))))) e (key_and_value n (m, f)) h
+  keyed-by-got e n m _ f h = absurd (cc)
+
+  keyed-got : first tokens ≡ k.For → Names (next (begin q tokens)) k.Comma → keyed limit (text (next (begin q tokens))) (next (next (next (begin q tokens)))) ≡ Some t → Says
+  keyed-got e n h =
+      let i = next (next (next (begin q tokens))) in
+      let g = guard (same k.Name (kind i)) (keyed_by limit (text (next (begin q tokens))) (text i) (next i) (kind (next i))) t h in
+      keyed-by-got e n (same-is k.Name (kind i) g.0) (kind (next i)) refl g.1
+
+  looping-by-got : first tokens ≡ k.For → kind (next (begin q tokens)) ≡ k.Name → (s : Kind) → kind (next (next (begin q tokens))) ≡ s
+      → looping_by limit (text (next (begin q tokens))) (next (next (begin q tokens))) s ≡ Some t → Says
+  looping-by-got e n k.In f h = looped-got None (text (next (begin q tokens))) (next (next (next (begin q tokens)))) e (value (n, f)) h
+  looping-by-got e n k.Comma f h = keyed-got e (n, f) h
+  looping-by-got e n _ f h = absurd (cc)
+
+  for-got : first tokens ≡ k.For → looping limit (next (begin q tokens)) ≡ Some t → Says
+  for-got e h =
+      let i = next (begin q tokens) in
+      let g = guard (same k.Name (kind i)) (looping_by limit (text i) (next i) (kind (next i))) t h in
+      looping-by-got e (same-is k.Name (kind i) g.0) (kind (next i)) refl g.1
+
+  set-by-got : (is_global : Bool) → Begins (set_word is_global) tokens → kind (next (begin q tokens)) ≡ k.Name → (s : Kind) → kind (next (next (begin q tokens))) ≡ s
+      → setting_by limit is_global (text (next (begin q tokens))) (next (next (begin q tokens))) s ≡ Some t → Says
+  set-by-got is_global b n k.Assign f h =
+      let i = next (begin q tokens) in
+      let make : Expr → Tag = λ e. Single (Set (text i) e is_global) in
+      let p = mapped make (whole limit (next (next i))) t h in
+      let w = whole_sound limit (next (next i)) p.0 p.1 in
+      said (make p.0) (set b (n, f) w.0, omega (arith, w.1)) p.2
+  set-by-got is_global b n k.End f h = said (Opening (SetHead (text (next (begin q tokens))) is_global)) (capture b (n, f), omega arith) (some-is _ _ h)
+  set-by-got is_global b n _ f h = absurd (cc)
+
+  set-got : (is_global : Bool) → Begins (set_word is_global) tokens → setting limit is_global (next (begin q tokens)) ≡ Some t → Says
+  set-got is_global b h =
+      let i = next (begin q tokens) in
+      let g = guard (same k.Name (kind i)) (setting_by limit is_global (text i) (next i) (kind (next i))) t h in
+      set-by-got is_global b (same-is k.Name (kind i) g.0) (kind (next i)) refl g.1
+
+  alone-got : (s : Kind) (word : Text) (u : Tag) → first tokens ≡ s → (IsWord s word tokens → Meant limit q outer tokens u) → alone word tokens u ≡ Some t → Says
+  alone-got s word u e m h =
+      let g = guard (is_alone word tokens) (Some u) t h in
+      said u (m (e, g.0)) (some-is u t g.1)
+
+  leaving-got : (word : Text) (u : Tag) → first tokens ≡ k.Name → (IsTrue q → IsWord k.Name word tokens → Meant limit q outer tokens u) → leaving q word tokens u ≡ Some t → Says
+  leaving-got word u e m h =
+      let g = guard q (alone word tokens u) t h in
+      alone-got k.Name word u e (m g.0) g.1
+
+  abbrev by-continue : Text → Option Tag
+  by-continue word = if bytes_eq word (codes "continue") then leaving q (codes "continue") tokens (Single Continue) else Some Closing
+
+  abbrev by-break : Text → Option Tag
+  by-break word = if bytes_eq word (codes "break") then leaving q (codes "break") tokens (Single Break) else by-continue word
+
+  abbrev by-set_global : Text → Option Tag
+  by-set_global word = if bytes_eq word (codes "set_global") then setting limit true (next (begin q tokens)) else by-break word
+
+  continue-by : first tokens ≡ k.Name → (b : Bool) → (if b then leaving q (codes "continue") tokens (Single Continue) else Some Closing) ≡ Some t → Says
+  continue-by e true h = leaving-got (codes "continue") (Single Continue) e (λ l w. (continues l w, omega arith)) h
+  continue-by e false h = said Closing tt (some-is Closing t h)
+
+  break-by : first tokens ≡ k.Name → (word : Text) → (b : Bool) → (if b then leaving q (codes "break") tokens (Single Break) else by-continue word) ≡ Some t → Says
+  break-by e word true h = leaving-got (codes "break") (Single Break) e (λ l w. (breaks l w, omega arith)) h
+  break-by e word false h = continue-by e (bytes_eq word (codes "continue")) h
+
+  set_global-by : first tokens ≡ k.Name → (word : Text) → text (begin false tokens) ≡ word → (b : Bool) → bytes_eq word (codes "set_global") ≡ b
+      → (if b then setting limit true (next (begin q tokens)) else by-break word) ≡ Some t → Says
+  set_global-by e word f true w h = set-got true (e, f ∙ is-word word (codes "set_global") w) h
+  set_global-by e word f false w h = break-by e word (bytes_eq word (codes "break")) h
+
+  set-by : first tokens ≡ k.Name → (word : Text) → text (begin false tokens) ≡ word → (b : Bool) → bytes_eq word (codes "set") ≡ b
+      → (if b then setting limit false (next (begin q tokens)) else by-set_global word) ≡ Some t → Says
+  set-by e word f true w h = set-got false (e, f ∙ is-word word (codes "set") w) h
+  set-by e word f false w h = set_global-by e word f (bytes_eq word (codes "set_global")) refl h
+
+  named-got : first tokens ≡ k.Name → named limit q tokens (text (begin false tokens)) ≡ Some t → Says
+  unfolding named
+  named-got e h = set-by e (text (begin false tokens)) refl (bytes_eq (text (begin false tokens)) (codes "set")) refl h
+
+  tag-by-got : (s : Kind) → first tokens ≡ s → tag_by limit q outer tokens s ≡ Some t → Says
+  tag-by-got k.If e h = if-got e h
+  tag-by-got k.Elif e h = elif-got e h
+  tag-by-got k.For e h = for-got e h
+  tag-by-got k.Else e h = alone-got k.Else (codes "else") Turning e (λ w. w) h
+  tag-by-got k.Name e h = named-got e h
+  tag-by-got _ e h = absurd (cc)
+
+pub tag_sound : (limit : ℕ) (q outer : Bool) (tokens : List Token) (t : Tag) → tag limit q outer tokens ≡ Some t → Meant limit q outer tokens t
+unfolding tag
+tag_sound limit q outer tokens t h = tag-by-got limit q outer tokens t (first tokens) refl h
+
+-- Completeness, a form at a time
+
+module _ (limit : ℕ) (q outer : Bool) (tokens : List Token) where
+  -- the reading of a tag by its first kind, and by its first word
+  by-kind : (s : Kind) → first tokens ≡ s → tag limit q outer tokens ≡ tag_by limit q outer tokens s
+  unfolding tag
+  by-kind s e = ap (tag_by limit q outer tokens) e
+
+  by-word : (word : Text) → Begins word tokens → tag limit q outer tokens ≡ named limit q tokens word
+  by-word word b = by-kind k.Name b.0 ∙ ap (named limit q tokens) b.1
+
+  name-stands : (i : Input) → kind i ≡ k.Name → (A : Option Tag) → (if same k.Name (kind i) then A else None) ≡ A
+  name-stands i e A = ap (λ (b : Bool). if b then A else None) (ap (same k.Name) e ∙ same-refl k.Name)
+
+  set-named : (is_global : Bool) → named limit q tokens (set_word is_global) ≡ setting limit is_global (next (begin q tokens))
+  unfolding named
+  set-named true = refl
+  set-named false = refl
+
+  break-named : named limit q tokens (codes "break") ≡ leaving q (codes "break") tokens (Single Break)
+  unfolding named
+  break-named = refl
+
+  continue-named : named limit q tokens (codes "continue") ≡ leaving q (codes "continue") tokens (Single Continue)
+  unfolding named
+  continue-named = refl
+
+  set-read : {is_global : Bool} (e : Expr) → Begins (set_word is_global) tokens → Names (next (begin q tokens)) k.Assign → DerivesWhole e (next (next (next (begin q tokens)))) → depth e ≤ limit
+      → tag limit q outer tokens ≡ Some (Single (Set (text (next (begin q tokens))) e is_global))
+  set-read {is_global = is_global} e b n w le =
+      let i = next (begin q tokens) in
+      by-word (set_word is_global) b
+      ∙ set-named is_global
+      ∙ name-stands i n.0 (setting_by limit is_global (text i) (next i) (kind (next i)))
+      ∙ ap (setting_by limit is_global (text i) (next i)) n.1
+      ∙ ap (option_map (λ e. Single (Set (text i) e is_global))) (whole_complete w limit le)
+
+  capture-read : {is_global : Bool} → Begins (set_word is_global) tokens → Names (next (begin q tokens)) k.End → tag limit q outer tokens ≡ Some (Opening (SetHead (text (next (begin q tokens))) is_global))
+  capture-read {is_global = is_global} b n =
+      let i = next (begin q tokens) in
+      by-word (set_word is_global) b
+      ∙ set-named is_global
+      ∙ name-stands i n.0 (setting_by limit is_global (text i) (next i) (kind (next i)))
+      ∙ ap (setting_by limit is_global (text i) (next i)) n.1
+
+  looping-read : {key : Option Name} {name : Name} {i j : Input} → Calls key name i j → looping limit i ≡ looped limit key name j
+  looping-read {i = i} (value n) =
+      name-stands i n.0 (looping_by limit (text i) (next i) (kind (next i)))
+      ∙ ap (looping_by limit (text i) (next i)) n.1
+  looping-read {i = i} (key_and_value n m) =
+      let l = next (next i) in
+      name-stands i n.0 (looping_by limit (text i) (next i) (kind (next i)))
+      ∙ ap (looping_by limit (text i) (next i)) n.1
+      ∙ name-stands l m.0 (keyed_by limit (text i) (text l) (next l) (kind (next l)))
+      ∙ ap (keyed_by limit (text i) (text l) (next l)) m.1
+
+  alone-is : (word : Text) (u : Tag) → IsTrue (is_alone word tokens) → alone word tokens u ≡ Some u
+  alone-is word u h = ap (λ (b : Bool). if b then Some u else None) h
+
+  leaving-is : (word : Text) (u : Tag) → IsTrue q → IsTrue (is_alone word tokens) → leaving q word tokens u ≡ Some u
+  leaving-is word u l h = ap (λ (b : Bool). if b then alone word tokens u else None) l ∙ alone-is word u h
+
+  pub simple_read : {node : Node} → Simple q node tokens → node_depth node ≤ suc limit → tag limit q outer tokens ≡ Some (Single node)
+  simple_read (set {e = e} b n w) le = set-read e b n w (omega (arith, le))
+  simple_read (breaks l w) le = by-word (codes "break") (w.0, alone-text (codes "break") tokens w.1) ∙ break-named ∙ leaving-is (codes "break") (Single Break) l w.1
+  simple_read (continues l w) le = by-word (codes "continue") (w.0, alone-text (codes "continue") tokens w.1) ∙ continue-named ∙ leaving-is (codes "continue") (Single Continue) l w.1
+
+  pub opens_read : {head : Head} → Opens q head tokens → head_depth head ≤ limit → tag limit q outer tokens ≡ Some (Opening head)
+  opens_read (choice e w) le = by-kind k.If e ∙ ap (option_map (λ c. Opening (IfHead c))) (whole_complete w limit le)
+  opens_read (loop {key = key} {name = name} f c w) le = by-kind k.For f ∙ looping-read c ∙ ap (option_map (λ e. Opening (ForHead key name e))) (whole_complete w limit le)
+  opens_read (capture b n) le = capture-read b n
+
+  pub goes_on_read : {head : Head} → GoesOn outer head tokens → head_depth head ≤ limit → tag limit q outer tokens ≡ Some (GoingOn head)
+  goes_on_read (elif e w) le = by-kind k.Elif e ∙ ap (option_map (λ c. GoingOn (IfHead c))) (whole_complete w limit le)
+
+  pub else_read : IsWord k.Else (codes "else") tokens → tag limit q outer tokens ≡ Some Turning
+  else_read w = by-kind k.Else w.0 ∙ alone-is (codes "else") Turning w.1
+
+  -- the word of an end is no other statement's
+  by-end : first tokens ≡ k.Name → (word : Text) → named limit q tokens word ≡ Some Closing → is_alone word tokens ≡ true → tag limit q outer tokens ≡ Some Closing
+  by-end e word free h = by-word word (e, alone-text word tokens h) ∙ free
+
+  set-end : first tokens ≡ k.Name → (is_global b : Bool) → is_alone (codes "endset") tokens ≡ b → (b || (is_global && is_alone (codes "endset_global") tokens)) ≡ true → tag limit q outer tokens ≡ Some Closing
+  unfolding named
+  set-end e is_global true f h = by-end e (codes "endset") refl f
+  set-end e is_global false f h = by-end e (codes "endset_global") refl (both is_global (is_alone (codes "endset_global") tokens) h).1
+
+  end-read : (head : Head) → first tokens ≡ k.Name → is_end head tokens ≡ true → tag limit q outer tokens ≡ Some Closing
+  unfolding named
+  end-read (IfHead c) e h = by-end e (codes "endif") refl h
+  end-read (ForHead key n c) e h = by-end e (codes "endfor") refl h
+  end-read (SetHead n is_global) e h = set-end e is_global (is_alone (codes "endset") tokens) refl h
+
+  pub ends_read : (head : Head) → IsTrue (ends head tokens) → tag limit q outer tokens ≡ Some Closing
+  ends_read head h =
+      let p = both (same k.Name (first tokens)) (is_end head tokens) h in
+      end-read head (same-is k.Name (first tokens) p.0) p.1

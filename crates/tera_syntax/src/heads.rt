@@ -1,0 +1,93 @@
+// Statements with a body, as their first tag tells them.
+ghost use Rattle.std.specs.Prelude.{◌≡◌};
+ghost use Rattle.tera_syntax.specs.Heads as spec;
+ghost use Rattle.tera_syntax.specs.View.{head_of};
+ghost use Rattle.tera_tokens.specs.Token.{tokens_of};
+ghost use Rattle.tera_tree.specs.View.{node_of, nodes_of};
+
+use tera_tokens::cut::is_alone;
+use tera_tokens::input::{Tokens, same};
+use tera_tokens::token::{Kind, Token};
+use tera_tree::{Expression, Heading, Node};
+
+/// What begins a statement with a body.
+#[derive(Drop)]
+pub(crate) enum Head {
+    /// `if condition`, or `elif condition`
+    If(Box<Expression>),
+    /// `for name in target`
+    For(Box<Heading>),
+    /// `set name`, or `set_global name` where it is global.
+    Set(String, bool),
+}
+
+impl Head {
+    /// The statement with this body, and what stands behind its `else`.
+    pub fn make(self, body: Vec<Node>, other: Vec<Node>) -> Node
+        ensures { let all = nodes_of body.items in
+            node_of result ≡ spec.make (head_of self) all (nodes_of other.items) }
+    {
+        match self {
+            Head::If(condition) => Node::choice(condition, body, other),
+            Head::For(heading) => Node::each(heading, body, other),
+            Head::Set(name, is_global) => Node::capture(name, body, is_global),
+        }
+    }
+
+    /// Whether it may have an `else`.
+    pub fn splits(&self) -> bool
+        ensures { result ≡ spec.splits (head_of self.now) }
+    {
+        match self {
+            Head::If(_) | Head::For(_) => true,
+            Head::Set(_, _) => false,
+        }
+    }
+
+    /// Whether it may have an `elif`.
+    pub fn chains(&self) -> bool
+        ensures { result ≡ spec.chains (head_of self.now) }
+    {
+        match self {
+            Head::If(_) => true,
+            Head::For(_) | Head::Set(_, _) => false,
+        }
+    }
+
+    /// Whether its body stands in a loop's body.
+    pub fn inside(&self, in_loop: bool) -> bool
+        ensures { result ≡ spec.inside (head_of self.now) in_loop }
+    {
+        match self {
+            Head::If(_) | Head::Set(_, _) => in_loop,
+            Head::For(_) => true,
+        }
+    }
+
+    /// Whether the tokens are the word of its end.
+    fn is_end(&self, tokens: &[Token<'_>]) -> bool
+        ensures { result ≡ spec.is_end (head_of self.now) (tokens_of tokens.now) }
+    {
+        match self {
+            Head::If(_) => is_alone("endif", tokens),
+            Head::For(_) => is_alone("endfor", tokens),
+            Head::Set(_, is_global) => {
+                is_alone("endset", tokens) || *is_global && is_alone("endset_global", tokens)
+            }
+        }
+    }
+
+    /// Whether the tag ends it.
+    pub fn is_ended_by(&self, tokens: &[Token<'_>]) -> bool
+        ensures { result ≡ spec.ends (head_of self.now) (tokens_of tokens.now) }
+    {
+        same(Kind::Name, first(tokens)) && self.is_end(tokens)
+    }
+}
+
+/// The kind of the first token.
+pub(crate) fn first(tokens: &[Token<'_>]) -> Kind
+    ensures { result ≡ spec.first (tokens_of tokens.now) }
+{
+    Tokens::begin(tokens, false).kind()
+}

@@ -1,5 +1,5 @@
 -- The reader, as a function: it goes over the pieces once, with the statements that are open on a stack.
-use Rattle.std.specs.Prelude.{ℕ, suc, nat_lt, ◌-◌, length, List, [], ◌∷◌, Bool, true, false, Option, Some, None, option_map, option_and_then, bytes_eq, codes, if◌then◌else◌}
+use Rattle.std.specs.Prelude.{ℕ, suc, nat_lt, ◌-◌, ◌==◌, length, List, [], ◌∷◌, Bool, true, false, Option, Some, None, option_map, option_and_then, bytes_eq, codes, if◌then◌else◌}
 use Rattle.tera_errors.specs.Site.{Text, Name}
 use Rattle.tera_errors.specs.declared.span.Span.{Span}
 use Rattle.tera_tokens.specs.declared.token.Kind.{Kind}
@@ -152,6 +152,14 @@ named limit q tokens word =
     if bytes_eq word (codes "set_global") then setting limit true (next (begin q tokens)) else (
     if bytes_eq word (codes "break") then leaving q (codes "break") tokens (Single Break) else (
     if bytes_eq word (codes "continue") then leaving q (codes "continue") tokens (Single Continue) else Some Closing)))
+
+-- whether a word that begins a statement begins with this byte and is this long
+abbrev pub may_begin : ℕ → ℕ → Bool
+may_begin first size =
+    if size == 3 then first == 115 else (
+    if size == 5 then first == 98 else (
+    if size == 8 then first == 99 else (
+    if size == 10 then first == 115 else false)))
 
 abbrev pub tag_by : ℕ → Bool → Bool → List Token → Kind → Option Tag
 tag_by limit q outer tokens k.If = option_map (λ c. Opening (IfHead c)) (whole limit (next (begin q tokens)))

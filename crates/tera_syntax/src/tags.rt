@@ -1,5 +1,5 @@
 // What the tag of a statement is.
-ghost use Rattle.std.specs.Prelude.{◌≡◌, Option, option_map, string_bytes};
+ghost use Rattle.std.specs.Prelude.{◌≡◌, get_or, string_bytes};
 ghost use Rattle.tera_syntax.specs.Reader as spec;
 ghost use Rattle.tera_syntax.specs.View.{tag_of};
 ghost use Rattle.tera_tokens.specs.Answers.{Answers};
@@ -152,8 +152,31 @@ fn leaving(in_loop: bool, word: &str, tokens: &[Token<'_>], node: Node) -> Resul
     }
 }
 
+/// Whether a word that begins a statement begins so and is this long. Most ends are told from them by that.
+#[inline]
+fn may_begin(first: u8, size: usize) -> bool
+    ensures { result ≡ spec.may_begin first size }
+{
+    match size {
+        3 => first == b's',
+        5 => first == b'b',
+        8 => first == b'c',
+        10 => first == b's',
+        _ => false,
+    }
+}
+
+/// The first byte of a text: 0 where it is empty.
+fn first_byte(text: &str) -> u8
+    ensures { result ≡ get_or text.now 0 0 }
+{
+    match text.as_bytes().first() {
+        Some(b) => *b,
+        None => 0,
+    }
+}
+
 /// A tag that begins with a word which is not reserved.
-#[tactic(auto, unfolding(crate::specs::Reader::named))]
 fn named(
     alloc: Global,
     tokens: &[Token<'_>],
@@ -163,23 +186,34 @@ fn named(
 ) -> Result<Tag, Refusal>
     ensures { Answers tag_of (spec.named limit in_loop (tokens_of tokens.now) word.now) result }
 {
-    if word == "set" {
-        let mut ahead = Tokens::begin(tokens, in_loop);
-        ahead.take();
-        return setting(alloc, &mut ahead, limit, false);
+    if may_begin(first_byte(word), word.len()) {
+        begun(alloc, tokens, limit, in_loop, word)
+    } else {
+        Ok(Tag::Closing)
     }
-    if word == "set_global" {
-        let mut ahead = Tokens::begin(tokens, in_loop);
-        ahead.take();
-        return setting(alloc, &mut ahead, limit, true);
+}
+
+/// The same by comparing the word with each that begins a statement.
+#[tactic(auto, unfolding(crate::specs::Reader::named))]
+fn begun(
+    alloc: Global,
+    tokens: &[Token<'_>],
+    limit: usize,
+    in_loop: bool,
+    word: &str,
+) -> Result<Tag, Refusal>
+    ensures { Answers tag_of (spec.named limit in_loop (tokens_of tokens.now) word.now) result }
+{
+    match word {
+        "set" | "set_global" => {
+            let mut ahead = Tokens::begin(tokens, in_loop);
+            ahead.take();
+            setting(alloc, &mut ahead, limit, word != "set")
+        }
+        "break" => leaving(in_loop, "break", tokens, Node::Break),
+        "continue" => leaving(in_loop, "continue", tokens, Node::Continue),
+        _ => Ok(Tag::Closing),
     }
-    if word == "break" {
-        return leaving(in_loop, "break", tokens, Node::Break);
-    }
-    if word == "continue" {
-        return leaving(in_loop, "continue", tokens, Node::Continue);
-    }
-    Ok(Tag::Closing)
 }
 
 /// A tag with expressions no deeper than `limit`. The flags say whether it, and what is open, stand in a loop's body.

@@ -1,3 +1,4 @@
 pub mod Registry
 pub mod Rendering
 pub mod Configuring
+pub mod Lending

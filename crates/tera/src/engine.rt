@@ -1,5 +1,6 @@
 // An engine, and what it renders.
 ghost use Rattle.std.specs.Prelude.{◌≡◌, Ok, IsTrue, string_bytes};
+ghost use Rattle.std.specs.Borrow.{sem};
 ghost use Rattle.tera_errors.specs.Answer.{Gives, GivesOneOf};
 ghost use Rattle.tera_tree.specs.Delimiters.{delimiters_of, accepted};
 ghost use Rattle.tera_meaning.specs.Registry.{new_registry};
@@ -33,6 +34,7 @@ impl Drop for Tera {
 
 impl Tera {
     ghost use Rattle.tera.specs.Registry.{registry_of};
+    ghost use Rattle.tera.specs.Lending.{LendsGlobal};
 
     /// An engine without templates, with Tera's own delimiters and an empty global context.
     pub fn new(alloc: Global) -> TeraResult<Tera>
@@ -43,6 +45,15 @@ impl Tera {
             delimiters: Delimiters::standard(alloc)?,
             global_context: Context::new(alloc),
         })
+    }
+
+    /// What every rendering of this engine reads where neither the template nor the caller's context binds a name. What is written to
+    /// it is the engine's global context from then on. Takes no memory.
+    pub fn global_context(&mut self) -> &mut Context
+        ensures* writes_back { sem 𝓛 (LendsGlobal self.entry result) }
+        ensures value { result.now ≡ (registry_of self.old).global }
+    {
+        &mut self.global_context
     }
 
     /// Tags are told from text by these delimiters from now on. Refused with a message once a template is there, and

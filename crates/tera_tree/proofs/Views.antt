@@ -1,7 +1,8 @@
 -- Views of what holds a Vec, by the Vec's items.
-use Rattle.std.proofs.Common.{◌≡◌, Vec, Box, Global, refl, ap, ap₂, ◌∙◌}
+use Rattle.std.proofs.Common.{◌≡◌, Vec, Box, Bool, Global, String, string_bytes, refl, ap, ap₂, ◌∙◌}
 use mathlib.Core.Former.{Count}
 use Rattle.tera_errors.specs.declared.span.Span.{Span}
+use Rattle.tera_tree.specs.declared.expression.Heading.{Heading}
 use Rattle.tera_tree.specs.declared.expression.Item as item
 use Rattle.tera_tree.specs.declared.expression.Entry as entry
 use Rattle.tera_tree.specs.declared.expression.Expression.{Expression, Row_of-Item, end_of-Item, more_of-Item, items-the_row-Item, items_hidden-the_row-Item-0, Row_of-Entry, end_of-Entry, more_of-Entry, items-the_row-Entry, items_hidden-the_row-Entry-1}
@@ -9,8 +10,8 @@ use Rattle.tera_tree.specs.declared.expression.Expression.TheVariants as express
 use Rattle.tera_tree.specs.declared.node.Node.{Row_of-Node, end_of-Node, more_of-Node, items-the_row-Node, items_hidden-the_row-Node-0}
 use Rattle.tera_tree.specs.declared.node.Node as declared
 use Rattle.tera_tree.specs.declared.node.Node.TheVariants as variant
-use Rattle.tera_tree.specs.Tree.{Array, Map, MoreItems, MoreEntries, If, MoreNodes}
-use Rattle.tera_tree.specs.View.{key_option, expr_of, row_items, items_of, row_entries, entries_of, node_of, row_nodes, nodes_of}
+use Rattle.tera_tree.specs.Tree.{Array, Map, MoreItems, MoreEntries, If, Capture, For, MoreNodes}
+use Rattle.tera_tree.specs.View.{key_option, name_option, expr_of, row_items, items_of, row_entries, entries_of, node_of, row_nodes, nodes_of, for_of}
 
 pub items_row : (m : _) (row : Row_of-Item m) → row_items row ≡ items_of (items-the_row-Item m row)
 items_row m end_of-Item = refl
@@ -34,10 +35,13 @@ entries_in _ = (_, end_of-Entry)
 
 abbrev body_in : declared.Node → (n : Count) × Row_of-Node n
 body_in (variant.If' _ _ row _ _) = (_, row)
+body_in (variant.Capture' _ _ row _) = (_, row)
+body_in (variant.For' _ _ row _ _) = (_, row)
 body_in _ = (_, end_of-Node)
 
 abbrev other_in : declared.Node → (n : Count) × Row_of-Node n
 other_in (variant.If' _ _ _ _ row) = (_, row)
+other_in (variant.For' _ _ _ _ row) = (_, row)
 other_in _ = (_, end_of-Node)
 
 nodes_is : (r : (n : Count) × Row_of-Node n) (all : Vec declared.Node Global) → items-the_row-Node r.0 r.1 ≡ all.items → row_nodes r.1 ≡ nodes_of all.items
@@ -56,3 +60,10 @@ view_map all span =
 pub view_if : (c : Box Expression Global) (body other : Vec declared.Node Global) → node_of (variant.If c body other) ≡ If (expr_of c.value) (nodes_of body.items) (nodes_of other.items)
 view_if c body other =
     ap₂ (λ x y. If (expr_of c.value) x y) (nodes_is (body_in (variant.If c body other)) body (items_hidden-the_row-Node-0 body)) (nodes_is (other_in (variant.If c body other)) other (items_hidden-the_row-Node-0 other))
+
+pub view_capture : (t : String Global) (body : Vec declared.Node Global) (is_global : Bool) → node_of (variant.Capture t body is_global) ≡ Capture (string_bytes t) (nodes_of body.items) is_global
+view_capture t body is_global = ap (λ x. Capture (string_bytes t) x is_global) (nodes_is (body_in (variant.Capture t body is_global)) body (items_hidden-the_row-Node-0 body))
+
+pub view_for : (h : Box Heading Global) (body other : Vec declared.Node Global) → node_of (variant.For h body other) ≡ for_of h.value body.items other.items
+view_for h body other =
+    ap₂ (λ x y. For (name_option h.value.key) (string_bytes h.value.name) (expr_of h.value.target) x y) (nodes_is (body_in (variant.For h body other)) body (items_hidden-the_row-Node-0 body)) (nodes_is (other_in (variant.For h body other)) other (items_hidden-the_row-Node-0 other))

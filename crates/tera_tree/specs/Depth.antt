@@ -1,6 +1,7 @@
 -- How deep trees are.
-use Rattle.std.specs.Prelude.{ℕ, suc, max, ◌≤◌}
-use Rattle.tera_tree.specs.Tree.{Expr, Nothing, Boolean, Integer, Text, Name, Attribute, Index, Slice, Not, Negate, Binary, And, Or, Ternary, Array, Map, Optional, Absent, Present, Items, NoItems, MoreItems, Entries, NoEntries, MoreEntries, Node, Content, Print, If, Nodes, NoNodes, MoreNodes, Tree}
+use Rattle.std.specs.Prelude.{ℕ, suc, max, ◌≤◌, false, IsTrue}
+use Rattle.tera_tree.specs.Tree.{Expr, Nothing, Boolean, Integer, Text, Name, Attribute, Index, Slice, Not, Negate, Binary, And, Or, Ternary, Array, Map, Comprehension, Optional, Absent, Present, Items, NoItems, MoreItems, Entries, NoEntries, MoreEntries, Node, Content, Print, If, Set, Capture, For, Break, Continue, Nodes, NoNodes, MoreNodes, Tree}
+use Rattle.tera_tree.specs.Places.{in_place}
 
 -- a leaf has depth 1, and anything else one more than its deepest part
 abbrev mutual
@@ -22,6 +23,7 @@ abbrev mutual
   depth (Ternary v c o span) = suc (max (depth v) (max (depth c) (depth o)))
   depth (Array all span) = suc (items_depth all)
   depth (Map all span) = suc (entries_depth all)
+  depth (Comprehension v key n e c span) = suc (max (depth v) (max (depth e) (optional_depth c)))
 
   pub optional_depth : Optional → ℕ
   optional_depth Absent = 0
@@ -40,11 +42,16 @@ abbrev mutual
   node_depth (Content t span) = 1
   node_depth (Print e) = suc (depth e)
   node_depth (If c body other) = suc (max (depth c) (max (nodes_depth body) (nodes_depth other)))
+  node_depth (Set n e is_global) = suc (depth e)
+  node_depth (Capture n body is_global) = suc (nodes_depth body)
+  node_depth (For key n e body other) = suc (max (depth e) (max (nodes_depth body) (nodes_depth other)))
+  node_depth Break = 1
+  node_depth Continue = 1
 
   pub nodes_depth : Nodes → ℕ
   nodes_depth NoNodes = 0
   nodes_depth (MoreNodes n rest) = max (node_depth n) (nodes_depth rest)
 
--- what the grammar allows: at most 200 deep
+-- what the grammar allows: at most 200 deep, and nothing out of its place
 abbrev pub IsWellFormed : Tree → Type 0
-IsWellFormed t = nodes_depth t.nodes ≤ 200
+IsWellFormed t = (nodes_depth t.nodes ≤ 200) × IsTrue (in_place false t.nodes)

@@ -1,7 +1,7 @@
 -- Trees of which every span is a stretch of the text.
 use Rattle.std.specs.Prelude.{ℕ, ◌≤◌}
 use Rattle.tera_errors.specs.declared.span.Span.{Span}
-use Rattle.tera_tree.specs.Tree.{Expr, Nothing, Boolean, Integer, Text, Name, Attribute, Index, Slice, Not, Negate, Binary, And, Or, Ternary, Array, Map, Optional, Absent, Present, Items, NoItems, MoreItems, Entries, NoEntries, MoreEntries, Node, Content, Print, If, Nodes, NoNodes, MoreNodes, Tree}
+use Rattle.tera_tree.specs.Tree.{Expr, Nothing, Boolean, Integer, Text, Name, Attribute, Index, Slice, Not, Negate, Binary, And, Or, Ternary, Array, Map, Comprehension, Optional, Absent, Present, Items, NoItems, MoreItems, Entries, NoEntries, MoreEntries, Node, Content, Print, If, Set, Capture, For, Break, Continue, Nodes, NoNodes, MoreNodes, Tree}
 
 -- a stretch of a text of this size
 abbrev pub Within : ℕ → Span → Type 0
@@ -26,6 +26,7 @@ abbrev mutual
   ExprInside size (Ternary v c o span) = ExprInside size v × ExprInside size c × ExprInside size o × Within size span
   ExprInside size (Array all span) = ItemsInside size all × Within size span
   ExprInside size (Map all span) = EntriesInside size all × Within size span
+  ExprInside size (Comprehension v key n e c span) = ExprInside size v × ExprInside size e × OptionalInside size c × Within size span
 
   pub OptionalInside : ℕ → Optional → Type 0
   OptionalInside size Absent = Unit {0}
@@ -44,6 +45,11 @@ abbrev mutual
   NodeInside size (Content t span) = Within size span
   NodeInside size (Print e) = ExprInside size e
   NodeInside size (If c body other) = ExprInside size c × NodesInside size body × NodesInside size other
+  NodeInside size (Set n e is_global) = ExprInside size e
+  NodeInside size (Capture n body is_global) = NodesInside size body
+  NodeInside size (For key n e body other) = ExprInside size e × NodesInside size body × NodesInside size other
+  NodeInside size Break = Unit {0}
+  NodeInside size Continue = Unit {0}
 
   pub NodesInside : ℕ → Nodes → Type 0
   NodesInside size NoNodes = Unit {0}

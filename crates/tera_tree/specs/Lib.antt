@@ -1,5 +1,6 @@
 pub mod Delimiters
 pub mod Tree
 pub mod View
+pub mod Places
 pub mod Depth
 pub mod Inside

@@ -28,6 +28,7 @@ mutual
     Ternary : (value : Expr) (condition : Expr) (other : Expr) (span : Span) → Expr
     Array : (items : Items) (span : Span) → Expr
     Map : (entries : Entries) (span : Span) → Expr
+    Comprehension : (value : Expr) (key : Option site.Name) (name : site.Name) (target : Expr) (condition : Optional) (span : Span) → Expr
 
   pub data Optional : Type 0 where
     Absent : Optional
@@ -47,6 +48,11 @@ mutual
     Content : (text : site.Text) (span : Span) → Node
     Print : (value : Expr) → Node
     If : (condition : Expr) (body : Nodes) (other : Nodes) → Node
+    Set : (name : site.Name) (value : Expr) (is_global : Bool) → Node
+    Capture : (name : site.Name) (body : Nodes) (is_global : Bool) → Node
+    For : (key : Option site.Name) (name : site.Name) (target : Expr) (body : Nodes) (other : Nodes) → Node
+    Break : Node
+    Continue : Node
 
   pub data Nodes : Type 0 where
     NoNodes : Nodes

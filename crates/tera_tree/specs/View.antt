@@ -1,10 +1,12 @@
 -- The plain data that a tree in memory stands for.
-use Rattle.std.specs.Prelude.{List, [], ◌∷◌, Bool, Option, Some, None, string_bytes, Box, map as map_list}
+use Rattle.std.specs.Prelude.{List, [], ◌∷◌, Bool, Option, Some, None, String, string_bytes, Box, map as map_list}
 use Rattle.std.specs.Global.{Global}
-use Rattle.tera_tree.specs.declared.expression.Expression.{Expression, Row_of-Item, end_of-Item, more_of-Item, Row_of-Entry, end_of-Entry, more_of-Entry, Held-Bounds-start, Bounds-start-None', Some'}
+use Rattle.tera_tree.specs.declared.expression.Expression.{Expression, Row_of-Item, end_of-Item, more_of-Item, Row_of-Entry, end_of-Entry, more_of-Entry, Held-Expression-Comprehension-2, Expression-Comprehension-2-None', Some'}
 use Rattle.tera_tree.specs.declared.expression.Expression.TheVariants as expression
+use Rattle.tera_errors.specs.Site as site
 use Rattle.tera_errors.specs.declared.span.Span.{Span}
 use Rattle.tera_tree.specs.declared.expression.Bounds.{Bounds}
+use Rattle.tera_tree.specs.declared.expression.Heading.{Heading}
 use Rattle.tera_tree.specs.declared.expression.LiteralKey.{LiteralKey}
 use Rattle.tera_tree.specs.declared.expression.LiteralKey.TheVariants as key
 use Rattle.tera_tree.specs.declared.expression.Item as item
@@ -13,7 +15,7 @@ use Rattle.tera_tree.specs.declared.node.Node.{Row_of-Node, end_of-Node, more_of
 use Rattle.tera_tree.specs.declared.node.Node as declared
 use Rattle.tera_tree.specs.declared.node.Node.TheVariants as variant
 use Rattle.tera_tree.specs.declared.node.ParserOutput.{ParserOutput}
-use Rattle.tera_tree.specs.Tree.{Key, BoolKey, IntKey, TextKey, Expr, Nothing, Boolean, Integer, Text, Name, Attribute, Index, Slice, Not, Negate, Binary, And, Or, Ternary, Array, Map, Optional, Absent, Present, Items, NoItems, MoreItems, Entries, NoEntries, MoreEntries, Node, Content, Print, If, Nodes, NoNodes, MoreNodes, Tree}
+use Rattle.tera_tree.specs.Tree.{Key, BoolKey, IntKey, TextKey, Expr, Nothing, Boolean, Integer, Text, Name, Attribute, Index, Slice, Not, Negate, Binary, And, Or, Ternary, Array, Map, Comprehension, Optional, Absent, Present, Items, NoItems, MoreItems, Entries, NoEntries, MoreEntries, Node, Content, Print, If, Set, Capture, For, Break, Continue, Nodes, NoNodes, MoreNodes, Tree}
 
 abbrev pub key_of : LiteralKey → Key
 key_of (key.Bool b) = BoolKey b
@@ -26,6 +28,10 @@ key_option (Some k) = Some (key_of k)
 
 abbrev pub keys_of : List (Option LiteralKey) → List (Option Key)
 keys_of = map_list key_option
+
+abbrev pub name_option : Option (String Global) → Option site.Name
+name_option None = None
+name_option (Some t) = Some (string_bytes t)
 
 abbrev mutual
   pub expr_of : Expression → Expr
@@ -45,9 +51,10 @@ abbrev mutual
   expr_of (expression.Ternary' p v q c r o span) = Ternary (expr_of v) (expr_of c) (expr_of o) span
   expr_of (expression.Array' m all span) = Array (row_items all) span
   expr_of (expression.Map' m all span) = Map (row_entries all) span
+  expr_of (expression.Comprehension' p v q key n e c span) = Comprehension (expr_of v) (name_option key) (string_bytes n) (expr_of e) (held_of c) span
 
-  pub held_of : Held-Bounds-start → Optional
-  held_of Bounds-start-None' = Absent
+  pub held_of : Held-Expression-Comprehension-2 → Optional
+  held_of Expression-Comprehension-2-None' = Absent
   held_of (Some' p e) = Present (expr_of e)
 
   pub row_items : {m : _} → Row_of-Item m → Items
@@ -61,6 +68,10 @@ abbrev mutual
 abbrev pub optional_of : Option (Box Expression Global) → Optional
 optional_of None = Absent
 optional_of (Some b) = Present (expr_of b.value)
+
+-- what a comprehension keeps, with this heading
+abbrev pub comprehension_of : Expression → Heading → Option (Box Expression Global) → Span → Expr
+comprehension_of v h c span = Comprehension (expr_of v) (name_option h.key) (string_bytes h.name) (expr_of h.target) (optional_of c) span
 
 -- a slice of these bounds
 abbrev pub slice_of : Expression → Bounds → Bool → Span → Expr
@@ -79,6 +90,11 @@ abbrev mutual
   node_of (variant.Content t span) = Content (string_bytes t) span
   node_of (variant.Print e) = Print (expr_of e.value)
   node_of (variant.If' c m body n other) = If (expr_of c.value) (row_nodes body) (row_nodes other)
+  node_of (variant.Set t e is_global) = Set (string_bytes t) (expr_of e.value) is_global
+  node_of (variant.Capture' t m body is_global) = Capture (string_bytes t) (row_nodes body) is_global
+  node_of (variant.For' h m body n other) = For (name_option h.value.key) (string_bytes h.value.name) (expr_of h.value.target) (row_nodes body) (row_nodes other)
+  node_of variant.Break = Break
+  node_of variant.Continue = Continue
 
   pub row_nodes : {m : _} → Row_of-Node m → Nodes
   row_nodes end_of-Node = NoNodes
@@ -87,6 +103,10 @@ abbrev mutual
 abbrev pub nodes_of : List declared.Node → Nodes
 nodes_of [] = NoNodes
 nodes_of (n ∷ ns) = MoreNodes (node_of n) (nodes_of ns)
+
+-- a loop with this heading
+abbrev pub for_of : Heading → List declared.Node → List declared.Node → Node
+for_of h body other = For (name_option h.key) (string_bytes h.name) (expr_of h.target) (nodes_of body) (nodes_of other)
 
 abbrev pub tree_of : ParserOutput → Tree
 tree_of output = record { nodes = nodes_of output.nodes.items }

@@ -113,6 +113,13 @@ pub enum Expression {
         entries: Vec<Entry>,
         span: Span,
     },
+    /// `[value for name in target if condition]`
+    Comprehension {
+        value: Box<Expression>,
+        heading: Box<Heading>,
+        condition: Option<Box<Expression>>,
+        span: Span,
+    },
 }
 
 // By hand, so that a tree that goes out of scope is one call and not a match on every form.
@@ -178,6 +185,12 @@ impl Drop for Expression {
                 entries: _,
                 span: _,
             } => {}
+            Expression::Comprehension {
+                value: _,
+                heading: _,
+                condition: _,
+                span: _,
+            } => {}
         }
     }
 }
@@ -205,4 +218,23 @@ pub struct Bounds {
     pub start: Option<Box<Expression>>,
     pub end: Option<Box<Expression>>,
     pub step: Option<Box<Expression>>,
+}
+
+/// What a loop calls its items and what it goes over: `name in target`, or `key, name in target`.
+#[cycle(expression)]
+pub struct Heading {
+    pub key: Option<String>,
+    pub name: String,
+    pub target: Expression,
+}
+
+// By hand, so that headings that go out of scope are one call.
+impl Drop for Heading {
+    #[cycle(dropping)]
+    fn drop(self) {
+        let Heading { key, name, target } = self;
+        drop(key);
+        drop(name);
+        drop(target);
+    }
 }

@@ -7,5 +7,5 @@ pub mod make;
 pub mod node;
 
 pub use delimiters::Delimiters;
-pub use expression::{BinaryOperator, Bounds, Entry, Expression, Item, LiteralKey};
+pub use expression::{BinaryOperator, Bounds, Entry, Expression, Heading, Item, LiteralKey};
 pub use node::{Node, ParserOutput};

@@ -1,9 +1,9 @@
 // Trees from their parts.
 ghost use Rattle.std.specs.Prelude.{◌≡◌, string_bytes};
-ghost use Rattle.tera_tree.specs.Tree.{Attribute, Index, Not, Negate, Binary, And, Or, Ternary, Array, Map, If};
-ghost use Rattle.tera_tree.specs.View.{expr_of, slice_of, items_of, entries_of, node_of, nodes_of};
+ghost use Rattle.tera_tree.specs.Tree.{Attribute, Index, Not, Negate, Binary, And, Or, Ternary, Array, Map, If, Set, Capture};
+ghost use Rattle.tera_tree.specs.View.{expr_of, slice_of, comprehension_of, items_of, entries_of, node_of, nodes_of, for_of};
 
-use crate::expression::{BinaryOperator, Bounds, Entry, Expression, Item};
+use crate::expression::{BinaryOperator, Bounds, Entry, Expression, Heading, Item};
 use crate::node::Node;
 use tera_errors::Span;
 
@@ -138,6 +138,23 @@ impl Expression {
     {
         Expression::Map { entries, span }
     }
+
+    /// `[value for heading if condition]`
+    pub fn comprehension(
+        value: Box<Expression>,
+        heading: Box<Heading>,
+        condition: Option<Box<Expression>>,
+        span: Span,
+    ) -> Expression
+        ensures { expr_of result ≡ comprehension_of value.value heading.value condition span }
+    {
+        Expression::Comprehension {
+            value,
+            heading,
+            condition,
+            span,
+        }
+    }
 }
 
 impl Node {
@@ -149,6 +166,40 @@ impl Node {
     {
         Node::If {
             condition,
+            body,
+            other,
+        }
+    }
+
+    /// `{% set name = value %}`, or `{% set_global name = value %}` where it is global.
+    pub fn set(name: String, value: Box<Expression>, is_global: bool) -> Node
+        ensures { node_of result ≡ Set (string_bytes name) (expr_of value.value) is_global }
+    {
+        Node::Set {
+            name,
+            value,
+            is_global,
+        }
+    }
+
+    /// `{% set name %}body{% endset %}`, or the same with `set_global` where it is global.
+    pub fn capture(name: String, body: Vec<Node>, is_global: bool) -> Node
+        ensures { node_of result ≡ Capture (string_bytes name) (nodes_of body.items) is_global }
+    {
+        Node::Capture {
+            name,
+            body,
+            is_global,
+        }
+    }
+
+    /// `{% for heading %}body{% else %}other{% endfor %}`
+    #[tactic(auto, using(crate::proofs::Views::view_for))]
+    pub fn each(heading: Box<Heading>, body: Vec<Node>, other: Vec<Node>) -> Node
+        ensures { node_of result ≡ for_of heading.value body.items other.items }
+    {
+        Node::For {
+            heading,
             body,
             other,
         }

@@ -1,5 +1,5 @@
 // Nodes of a template.
-use crate::expression::Expression;
+use crate::expression::{Expression, Heading};
 use tera_errors::Span;
 
 /// A node of a template: a piece of its text, or a tag with what belongs to it.
@@ -19,6 +19,28 @@ pub enum Node {
         body: Vec<Node>,
         other: Vec<Node>,
     },
+    /// `{% set name = value %}`, or `{% set_global name = value %}` where it is global.
+    Set {
+        name: String,
+        value: Box<Expression>,
+        is_global: bool,
+    },
+    /// `{% set name %}body{% endset %}`, or the same with `set_global` where it is global.
+    Capture {
+        name: String,
+        body: Vec<Node>,
+        is_global: bool,
+    },
+    /// `{% for name in target %}body{% else %}other{% endfor %}`
+    For {
+        heading: Box<Heading>,
+        body: Vec<Node>,
+        other: Vec<Node>,
+    },
+    /// `{% break %}`
+    Break,
+    /// `{% continue %}`
+    Continue,
 }
 
 // By hand, so that nodes that go out of scope are one call.
@@ -32,6 +54,23 @@ impl Drop for Node {
                 body: _,
                 other: _,
             } => {}
+            Node::Set {
+                name: _,
+                value: _,
+                is_global: _,
+            } => {}
+            Node::Capture {
+                name: _,
+                body: _,
+                is_global: _,
+            } => {}
+            Node::For {
+                heading: _,
+                body: _,
+                other: _,
+            } => {}
+            Node::Break => {}
+            Node::Continue => {}
         }
     }
 }

@@ -1,5 +1,5 @@
 -- Kinds of expressions.
-use Rattle.tera_tree.specs.Tree.{Expr, Nothing, Boolean, Integer, Text, Name, Attribute, Index, Slice, Not, Negate, Binary, And, Or, Ternary, Array, Map}
+use Rattle.tera_tree.specs.Tree.{Expr, Nothing, Boolean, Integer, Text, Name, Attribute, Index, Slice, Not, Negate, Binary, And, Or, Ternary, Array, Map, Comprehension}
 
 pub data Group : Type 0 where
   -- has no parts
@@ -10,7 +10,7 @@ pub data Group : Type 0 where
   Operation : Group
   -- may leave a part out
   Branch : Group
-  -- is written out item by item
+  -- makes an array or a map
   Collection : Group
 
 abbrev pub group : Expr → Group
@@ -30,3 +30,4 @@ group (Or left right span) = Branch
 group (Ternary value condition other span) = Branch
 group (Array all span) = Collection
 group (Map all span) = Collection
+group (Comprehension value key name target condition span) = Collection

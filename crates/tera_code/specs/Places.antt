@@ -5,16 +5,16 @@ use Rattle.tera_code.specs.declared.instruction.Instruction.TheVariants as instr
 use Rattle.tera_code.specs.Listing.{Listing}
 use Rattle.tera_code.specs.Code.{lengthened}
 
--- with a jump at the place that was kept for it
+-- with an instruction at the place that was kept for it
 abbrev pub filled : ℕ → Instruction → Listing → Listing
-filled place jump l = record l { code = set l.code place jump }
+filled place i l = record l { code = set l.code place i }
 
 -- how many instructions stand behind a place
 abbrev pub behind : ℕ → Listing → ℕ
 behind place l = length l.code - suc place
 
 -- a place is kept behind the first of two parts, and the place before that part jumps behind both
-abbrev pub turned : ℕ → Listing → Listing
-turned place l =
+abbrev pub divided : ℕ → Listing → Listing
+divided place l =
     let next = lengthened l (instruction.Jump 0 ∷ []) in
     filled place (instruction.PopJumpIfFalse (behind place next)) next

@@ -33,7 +33,9 @@ impl Compiler {
             Expression::And { .. } | Expression::Or { .. } | Expression::Ternary { .. } => {
                 self.branch(expression)
             }
-            Expression::Array { .. } | Expression::Map { .. } => self.collection(expression),
+            Expression::Array { .. } | Expression::Map { .. } | Expression::Comprehension { .. } => {
+                self.collection(expression)
+            }
         }
     }
 
@@ -128,15 +130,13 @@ impl Compiler {
                 self.expression(left)?;
                 let place = self.keep_place()?;
                 self.expression(right)?;
-                self.fill(place, Instruction::JumpIfFalseOrPop(self.behind(place)));
-                Ok(())
+                self.fill(place, Instruction::JumpIfFalseOrPop(self.behind(place)))
             }
             Expression::Or { left, right, .. } => {
                 self.expression(left)?;
                 let place = self.keep_place()?;
                 self.expression(right)?;
-                self.fill(place, Instruction::JumpIfTrueOrPop(self.behind(place)));
-                Ok(())
+                self.fill(place, Instruction::JumpIfTrueOrPop(self.behind(place)))
             }
             Expression::Ternary {
                 value,
@@ -147,16 +147,15 @@ impl Compiler {
                 self.expression(condition)?;
                 let place = self.keep_place()?;
                 self.expression(value)?;
-                let place = self.turn(place)?;
+                let place = self.divide(place)?;
                 self.expression(other)?;
-                self.fill(place, Instruction::Jump(self.behind(place)));
-                Ok(())
+                self.fill(place, Instruction::Jump(self.behind(place)))
             }
             _ => unreachable!(),
         }
     }
 
-    // What is written out item by item.
+    // What makes an array or a map.
     #[cycle(expressions)]
     fn collection(&mut self, expression: &Expression) -> TeraResult<()>
         requires { group (expr_of expression.now) ≡ Collection }
@@ -172,6 +171,12 @@ impl Compiler {
                 self.entries(entries.as_slice())?;
                 self.make_map(entries.as_slice(), *span)
             }
+            Expression::Comprehension {
+                value,
+                heading,
+                condition,
+                span,
+            } => self.comprehension(value, heading, condition, *span),
             _ => unreachable!(),
         }
     }

@@ -1,13 +1,15 @@
 -- Jumps whose lengths are known once what they pass is written.
-use Rattle.std.proofs.Common.{◌≡◌, ℕ, ◌+◌, Bool, true, [], ◌∷◌, ◌++◌, length, Option, refl, sym, ap, ap₂, ◌∙◌, append_assoc, arith}
+use Rattle.std.proofs.Common.{◌≡◌, ℕ, ◌+◌, Bool, true, false, [], ◌∷◌, ◌++◌, length, string_bytes, refl, sym, ap, ap₂, ◌∙◌, append_assoc, arith}
 use Rattle.std.proofs.lemmas.List.{length-append}
 use Rattle.std.proofs.Math.Seq.{set-append_seam}
-use Rattle.tera_errors.specs.Site.{Name}
+use Rattle.tera_errors.specs.declared.span.Span.{Span}
+use Rattle.tera_tree.specs.declared.expression.Heading.{Heading}
+use Rattle.tera_tree.specs.View.{name_option}
 use Rattle.tera_code.specs.declared.instruction.Instruction.{Instruction}
 use Rattle.tera_code.specs.declared.instruction.Instruction.TheVariants as instruction
 use Rattle.tera_code.specs.Listing.{Listing}
-use Rattle.tera_code.specs.Code.{Code, lengthened, choice_tail, loop_tail, keep_tail}
-use Rattle.tera_code.specs.Places.{filled, behind, divided}
+use Rattle.tera_code.specs.Code.{Code, lengthened, choice_tail, keep_tail, loop_tail, comprehension_tail}
+use Rattle.tera_code.specs.Places.{filled, behind, divided, start_loop, looped}
 use Rattle.tera_code.proofs.Lengthened.{lengthened-lengthened}
 
 -- what stands at a place that is kept
@@ -70,19 +72,30 @@ keep_written l m n o p front value place count e at g h w is =
     ∙ ap (λ count. lengthened l (front ++ instruction.PopJumpIfFalse count ∷ (value ++ instruction.Keep ∷ []))) (length-append value (instruction.Keep ∷ []))
 
 -- the turns of a loop are written behind the front
-pub turns_written : (l m n o p q : Listing) (front turn : Code) (place size : ℕ) (key : Option Name) (name : Name) (counts : Bool) → m ≡ lengthened l front → place ≡ length m.code → n ≡ lengthened m kept → o ≡ lengthened n turn → size ≡ behind place o
-    → p ≡ filled place (instruction.StartLoop key name counts size) o → q ≡ lengthened p (instruction.NextTurn ∷ []) → q ≡ lengthened l (front ++ instruction.StartLoop key name counts (length turn) ∷ (turn ++ instruction.NextTurn ∷ []))
-turns_written l m n o p q front turn place size key name counts e at g h is put w =
-    w
-    ∙ ap (λ k. lengthened k (instruction.NextTurn ∷ [])) (put ∙ jump_written l m n o front turn place size (λ size. instruction.StartLoop key name counts size) e at g h is)
-    ∙ lengthened-lengthened l (front ++ instruction.StartLoop key name counts (length turn) ∷ turn) (instruction.NextTurn ∷ [])
-    ∙ ap (lengthened l) (append_assoc front (instruction.StartLoop key name counts (length turn) ∷ turn) (instruction.NextTurn ∷ []))
+pub looped_written : (l m n o : Listing) (front turn : Code) (place : ℕ) (h : Heading) (counts : Bool) → m ≡ lengthened l front → place ≡ length m.code → n ≡ lengthened m kept → o ≡ lengthened n turn
+    → looped place h counts o ≡ lengthened l (front ++ start_loop h counts (length turn) ∷ (turn ++ instruction.NextTurn ∷ []))
+looped_written l m n o front turn place h counts e at g w =
+    let start = start_loop h counts (length turn) in
+    ap (λ k. lengthened k (instruction.NextTurn ∷ [])) (jump_written l m n o front turn place (behind place o) (start_loop h counts) e at g w refl)
+    ∙ lengthened-lengthened l (front ++ start ∷ turn) (instruction.NextTurn ∷ [])
+    ∙ ap (lengthened l) (append_assoc front (start ∷ turn) (instruction.NextTurn ∷ []))
 
--- and what goes where there is no item
-pub loop_written : (l q r t : Listing) (front body other : Code) (leave count : ℕ) (key : Option Name) (name : Name) → q ≡ lengthened l (front ++ instruction.StartLoop key name true (length body) ∷ (body ++ instruction.NextTurn ∷ []))
-    → leave ≡ length q.code → r ≡ lengthened q kept → t ≡ lengthened r other → count ≡ behind leave t → filled leave (instruction.EndLoop count) t ≡ lengthened l (front ++ loop_tail key name body other)
-loop_written l q r t front body other leave count key name e at g h is =
-    let start = instruction.StartLoop key name true (length body) in
+-- the turns of a loop and what goes where there is no item are written behind the front
+pub loop_written : (l m n o p q r : Listing) (front body other : Code) (place leave count : ℕ) (h : Heading) → m ≡ lengthened l front → place ≡ length m.code → n ≡ lengthened m kept → o ≡ lengthened n body
+    → p ≡ looped place h true o → leave ≡ length p.code → q ≡ lengthened p kept → r ≡ lengthened q other → count ≡ behind leave r
+    → filled leave (instruction.EndLoop count) r ≡ lengthened l (front ++ loop_tail (name_option h.key) (string_bytes h.name) body other)
+loop_written l m n o p q r front body other place leave count h e at g w t left k v is =
+    let start = start_loop h true (length body) in
     let end = instruction.EndLoop (length other) ∷ other in
-    jump_written l q r t (front ++ start ∷ (body ++ instruction.NextTurn ∷ [])) other leave count (λ skip. instruction.EndLoop skip) e at g h is
+    jump_written l p q r (front ++ start ∷ (body ++ instruction.NextTurn ∷ [])) other leave count (λ skip. instruction.EndLoop skip) (t ∙ looped_written l m n o front body place h true e at g w) left k v is
     ∙ ap (lengthened l) (append_assoc front (start ∷ (body ++ instruction.NextTurn ∷ [])) end ∙ ap (λ code. front ++ start ∷ code) (append_assoc body (instruction.NextTurn ∷ []) end))
+
+-- the turns of a comprehension are written behind the front
+pub comprehension_written : (l m n o : Listing) (front turn : Code) (place : ℕ) (h : Heading) (span : Span) → m ≡ lengthened l front → place ≡ length m.code → n ≡ lengthened m kept → o ≡ lengthened n turn
+    → lengthened (looped place h false o) (instruction.EndComprehension span ∷ instruction.MakeArray [] span ∷ []) ≡ lengthened l (front ++ comprehension_tail (name_option h.key) (string_bytes h.name) turn span)
+comprehension_written l m n o front turn place h span e at g w =
+    let start = start_loop h false (length turn) in
+    let end = instruction.EndComprehension span ∷ instruction.MakeArray [] span ∷ [] in
+    ap (λ k. lengthened k end) (looped_written l m n o front turn place h false e at g w)
+    ∙ lengthened-lengthened l (front ++ start ∷ (turn ++ instruction.NextTurn ∷ [])) end
+    ∙ ap (lengthened l) (append_assoc front (start ∷ (turn ++ instruction.NextTurn ∷ [])) end ∙ ap (λ code. front ++ start ∷ code) (append_assoc turn (instruction.NextTurn ∷ []) end))

@@ -107,7 +107,7 @@ module _ (s t : Shelf) (u : IsUtf8 s.pool) (v : IsUtf8 t.pool) (g : Grows s t) w
   within_stays (packed.MakeArray spreads span) w = (below_longer s.spreads t.spreads spreads g.1.1.1.0 w.0, below_span span w.1)
   within_stays (packed.MakeMap keys span) w = (below_longer s.keys t.keys keys g.1.1.1.1.0 w.0, below_span span w.1)
   within_stays (packed.Store name is_global) w = below_name name w
-  within_stays (packed.StartLoop names counts size) w = below_longer s.loops t.loops names g.1.1.1.1.1.1 w
+  within_stays (packed.StartLoop counts names size) w = below_longer s.loops t.loops names g.1.1.1.1.1.1 w
   within_stays packed.NextTurn w = tt
   within_stays (packed.EndLoop skip) w = tt
   within_stays packed.Keep w = tt
@@ -140,7 +140,7 @@ module _ (s t : Shelf) (u : IsUtf8 s.pool) (v : IsUtf8 t.pool) (g : Grows s t) w
   unpacked_stays (packed.MakeArray spreads span) w = ap₂ (λ x y. instruction.MakeArray x y) (at_longer s.spreads t.spreads spreads _ g.1.1.1.0 w.0) (span_same span w.1)
   unpacked_stays (packed.MakeMap keys span) w = ap₂ (λ x y. instruction.MakeMap x y) (at_longer s.keys t.keys keys _ g.1.1.1.1.0 w.0) (span_same span w.1)
   unpacked_stays (packed.Store name is_global) w = ap (λ x. instruction.Store x is_global) (name_same name w)
-  unpacked_stays (packed.StartLoop names counts size) w =
+  unpacked_stays (packed.StartLoop counts names size) w =
       ap (λ (n : LoopNames). instruction.StartLoop n.key n.name counts size) (at_longer s.loops t.loops names _ g.1.1.1.1.1.1 w)
   unpacked_stays packed.NextTurn w = refl
   unpacked_stays (packed.EndLoop skip) w = refl

@@ -10,8 +10,10 @@ pub data Group : Type 0 where
   Operation : Group
   -- may leave a part out
   Branch : Group
-  -- makes an array or a map
+  -- is written out item by item
   Collection : Group
+  -- goes over items
+  Loop : Group
 
 abbrev pub group : Expr → Group
 group (Nothing span) = Leaf
@@ -30,4 +32,4 @@ group (Or left right span) = Branch
 group (Ternary value condition other span) = Branch
 group (Array all span) = Collection
 group (Map all span) = Collection
-group (Comprehension value key name target condition span) = Collection
+group (Comprehension value key name target condition span) = Loop

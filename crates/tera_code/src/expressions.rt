@@ -2,7 +2,7 @@
 ghost use Rattle.std.specs.Prelude.{◌≡◌, OnOk, IfErr};
 ghost use Rattle.tera_errors.specs.Answer.{Lacks};
 ghost use Rattle.tera_code.specs.Code.{expr_code, bound_code, items_code, entries_code, lengthened};
-ghost use Rattle.tera_code.specs.Group.{group, Access, Operation, Branch, Collection};
+ghost use Rattle.tera_code.specs.Group.{group, Access, Operation, Branch, Collection, Loop};
 ghost use Rattle.tera_tree.specs.View.{expr_of, optional_of, items_of, entries_of};
 
 use crate::compiler::Compiler;
@@ -33,9 +33,8 @@ impl Compiler {
             Expression::And { .. } | Expression::Or { .. } | Expression::Ternary { .. } => {
                 self.branch(expression)
             }
-            Expression::Array { .. } | Expression::Map { .. } | Expression::Comprehension { .. } => {
-                self.collection(expression)
-            }
+            Expression::Array { .. } | Expression::Map { .. } => self.collection(expression),
+            Expression::Comprehension { .. } => self.comprehension(expression),
         }
     }
 
@@ -155,7 +154,7 @@ impl Compiler {
         }
     }
 
-    // What makes an array or a map.
+    // What is written out item by item.
     #[cycle(expressions)]
     fn collection(&mut self, expression: &Expression) -> TeraResult<()>
         requires { group (expr_of expression.now) ≡ Collection }
@@ -171,12 +170,6 @@ impl Compiler {
                 self.entries(entries.as_slice())?;
                 self.make_map(entries.as_slice(), *span)
             }
-            Expression::Comprehension {
-                value,
-                heading,
-                condition,
-                span,
-            } => self.comprehension(value, heading, condition, *span),
             _ => unreachable!(),
         }
     }

@@ -70,7 +70,7 @@ pub enum Instruction<'a> {
     EndComprehension(Span),
     /// Begins a capture: what is put out from here on is kept apart.
     StartCapture,
-    /// Ends the innermost capture and puts its text on top of the operands.
+    /// Ends the innermost capture and puts its text on top of the operands, safe where autoescape is on.
     EndCapture,
     /// Drops so many captures and goes to the end of the innermost loop, where it is closed.
     LeaveLoop(usize),

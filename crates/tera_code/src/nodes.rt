@@ -2,7 +2,8 @@
 ghost use Rattle.std.specs.Prelude.{◌≡◌, [], ◌∷◌, OnOk, IfErr, MatchOption, Some, None, string_bytes};
 ghost use Rattle.tera_errors.specs.Answer.{Lacks};
 ghost use Rattle.tera_code.specs.declared.instruction.Instruction.TheVariants as instruction;
-ghost use Rattle.tera_code.specs.Code.{expr_code, named, print_code, choice_code, node_code, nodes_code, lengthened};
+ghost use Rattle.tera_code.specs.Code.{named, node_code, nodes_code, lengthened};
+ghost use Rattle.tera_tree.specs.Tree.{Print};
 ghost use Rattle.tera_tree.specs.View.{expr_of, node_of, nodes_of};
 
 use crate::compiler::Compiler;
@@ -66,10 +67,7 @@ impl Compiler {
                 name,
                 value,
                 is_global,
-            } => {
-                self.expression(value)?;
-                self.store(name, *is_global)
-            }
+            } => self.set(name, value, *is_global),
             Node::Capture {
                 name,
                 body,
@@ -79,7 +77,15 @@ impl Compiler {
                 heading,
                 body,
                 other,
-            } => self.for_loop(heading, body.as_slice(), other.as_slice(), drops),
+            } => {
+                self.expression(&heading.target)?;
+                let place = self.keep_place()?;
+                self.nodes(body.as_slice(), 0)?;
+                self.end_turns(place, heading, true)?;
+                let place = self.keep_place()?;
+                self.nodes(other.as_slice(), drops)?;
+                self.fill(place, Instruction::EndLoop(self.behind(place)))
+            }
             Node::Break => self.emit(Instruction::LeaveLoop(drops)),
             Node::Continue => self.emit(Instruction::LeaveTurn(drops)),
         }
@@ -93,7 +99,7 @@ impl Compiler {
     }
 
     fn print(&mut self, value: &Expression) -> TeraResult<()>
-        ensures ok { OnOk result (self.new ≡ lengthened self.old (print_code (named (expr_of value.now)) (expr_code (expr_of value.now)))) }
+        ensures ok { OnOk result (self.new ≡ lengthened self.old (node_code (Print (expr_of value.now)) 0)) }
         ensures lacks { IfErr result Lacks }
     {
         match named(value) {

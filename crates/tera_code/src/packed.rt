@@ -80,8 +80,8 @@ pub(crate) enum Packed {
         is_global: bool,
     },
     StartLoop {
-        names: u32,
         counts: bool,
+        names: u32,
         size: usize,
     },
     NextTurn,
@@ -99,6 +99,9 @@ pub(crate) enum Packed {
     JumpIfFalseOrPop(usize),
     JumpIfTrueOrPop(usize),
 }
+
+// The layout follows the order of the fields.
+const _: () = prove!(size_of::<Packed>() == 16);
 
 /// What a loop calls its items.
 #[derive(Drop)]
@@ -293,8 +296,8 @@ impl Tables {
         };
         let names = number(&mut self.loops, names)?;
         Ok(Packed::StartLoop {
-            names,
             counts,
+            names,
             size,
         })
     }
@@ -454,8 +457,8 @@ impl Tables {
                 is_global,
             },
             Packed::StartLoop {
-                names,
                 counts,
+                names,
                 size,
             } => {
                 let names = &self.loops[names as usize];

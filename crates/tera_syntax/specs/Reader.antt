@@ -7,6 +7,7 @@ use Rattle.tera_tokens.specs.declared.token.Kind.TheVariants as k
 use Rattle.tera_tokens.specs.Token.{Token}
 use Rattle.tera_tokens.specs.Input.{Input, Outcome, begin, kind, text, next, same}
 use Rattle.tera_expressions.specs.Expressions.{Deep, expr}
+use Rattle.tera_expressions.specs.Headings.{calls}
 use Rattle.tera_tokens.specs.Cut.{Piece, Words, Comment, Variable, Block, Broken, is_alone}
 use Rattle.tera_tree.specs.Tree.{Expr, Content, Print, Set, Break, Continue, Node, Nodes, NoNodes, MoreNodes}
 use Rattle.tera_syntax.specs.Heads.{Head, IfHead, ForHead, SetHead, make, splits, chains, inside, first, ends}
@@ -108,25 +109,13 @@ pub data Tag : Type 0 where
   -- any other, which may be an end
   Closing : Tag
 
-abbrev pub looped : ℕ → Option Name → Name → Input → Option Tag
-looped limit key name i = option_map (λ e. Opening (ForHead key name e)) (whole limit i)
-
-abbrev pub keyed_by : ℕ → Name → Name → Input → Kind → Option Tag
-keyed_by limit key name i k.In = looped limit (Some key) name (next i)
-keyed_by limit key name i _ = None
-
--- behind the key of a loop and its comma
-abbrev pub keyed : ℕ → Name → Input → Option Tag
-keyed limit key i = if same k.Name (kind i) then keyed_by limit key (text i) (next i) (kind (next i)) else None
-
-abbrev pub looping_by : ℕ → Name → Input → Kind → Option Tag
-looping_by limit name i k.In = looped limit None name (next i)
-looping_by limit name i k.Comma = keyed limit name (next i)
-looping_by limit name i _ = None
+abbrev pub looping_by : ℕ → Outcome (Option Name × Name) → Option Tag
+looping_by limit None = None
+looping_by limit (Some p) = option_map (λ e. Opening (ForHead p.0.0 p.0.1 e)) (whole limit p.1)
 
 -- behind `for`
 abbrev pub looping : ℕ → Input → Option Tag
-looping limit i = if same k.Name (kind i) then looping_by limit (text i) (next i) (kind (next i)) else None
+looping limit i = looping_by limit (calls i)
 
 abbrev pub setting_by : ℕ → Bool → Name → Input → Kind → Option Tag
 setting_by limit is_global name i k.Assign = option_map (λ e. Single (Set name e is_global)) (whole limit (next i))

@@ -1,15 +1,16 @@
 // What the tag of a statement is.
-ghost use Rattle.std.specs.Prelude.{◌≡◌, get_or, string_bytes};
+ghost use Rattle.std.specs.Prelude.{◌≡◌, get_or};
 ghost use Rattle.tera_syntax.specs.Reader as spec;
 ghost use Rattle.tera_syntax.specs.View.{tag_of};
 ghost use Rattle.tera_tokens.specs.Answers.{Answers};
 ghost use Rattle.tera_tokens.specs.Takes.{input};
 ghost use Rattle.tera_tokens.specs.Token.{tokens_of};
-ghost use Rattle.tera_tree.specs.View.{expr_of, name_option};
+ghost use Rattle.tera_tree.specs.View.{expr_of};
 
 use crate::heads::{Head, first};
 use std::alloc::Global;
 use tera_expressions::expressions::expr;
+use tera_expressions::headings::{LoopNames, names};
 use tera_tokens::cut::is_alone;
 use tera_tokens::input::{Tokens, same};
 use tera_tokens::refusal::{Reason, Refusal};
@@ -47,61 +48,14 @@ pub(crate) fn whole(
     }
 }
 
-/// Behind the `in` of a loop.
-fn looped(
-    alloc: Global,
-    tokens: &mut Tokens<'_>,
-    limit: usize,
-    key: Option<String>,
-    name: String,
-) -> Result<Tag, Refusal>
-    ensures { let meant = spec.looped limit (name_option key) (string_bytes name) (input tokens.old) in
-        Answers tag_of meant result }
-{
-    let target = Box::into_inner(whole(alloc, tokens, limit)?);
-    let heading = Heading { key, name, target };
-    Ok(Tag::Opening(Head::For(Box::new(alloc, heading)?)))
-}
-
-/// Behind the key of a loop and its comma.
-fn keyed(alloc: Global, tokens: &mut Tokens<'_>, limit: usize, key: String) -> Result<Tag, Refusal>
-    ensures { let meant = spec.keyed limit (string_bytes key) (input tokens.old) in
-        Answers tag_of meant result }
-{
-    if !same(Kind::Name, tokens.kind()) {
-        return Err(tokens.refuse(Reason::Expected(Kind::Name)));
-    }
-    let name = String::from_str(alloc, tokens.text())?;
-    tokens.take();
-    match tokens.kind() {
-        Kind::In => {
-            tokens.take();
-            looped(alloc, tokens, limit, Some(key), name)
-        }
-        _ => Err(tokens.refuse(Reason::Expected(Kind::In))),
-    }
-}
-
 /// Behind `for`.
 fn looping(alloc: Global, tokens: &mut Tokens<'_>, limit: usize) -> Result<Tag, Refusal>
     ensures { Answers tag_of (spec.looping limit (input tokens.old)) result }
 {
-    if !same(Kind::Name, tokens.kind()) {
-        return Err(tokens.refuse(Reason::Expected(Kind::Name)));
-    }
-    let name = String::from_str(alloc, tokens.text())?;
-    tokens.take();
-    match tokens.kind() {
-        Kind::In => {
-            tokens.take();
-            looped(alloc, tokens, limit, None, name)
-        }
-        Kind::Comma => {
-            tokens.take();
-            keyed(alloc, tokens, limit, name)
-        }
-        _ => Err(tokens.refuse(Reason::Expected(Kind::In))),
-    }
+    let LoopNames { key, name } = names(alloc, tokens)?;
+    let target = Box::into_inner(whole(alloc, tokens, limit)?);
+    let heading = Heading { key, name, target };
+    Ok(Tag::Opening(Head::For(Box::new(alloc, heading)?)))
 }
 
 /// Behind `set` or `set_global`.

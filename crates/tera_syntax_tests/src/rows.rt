@@ -21,7 +21,7 @@ pub struct Other(pub &'static str, pub &'static str, pub Row);
 pub struct Unusable(pub &'static str, pub &'static str);
 
 /// Between the standard delimiters.
-pub static TREES: [Row; 47] = [
+pub static TREES: [Row; 49] = [
     Row("", ""),
     Row("Hello {{ name }}!", "(Hello  0-6)(name 9-13)(! 16-17)"),
     Row("a{# b #}c{# d }} #}", "(a 0-1)(c 8-9)"),
@@ -105,7 +105,10 @@ pub static TREES: [Row; 47] = [
     Row("{{ loop.index }}", "(.(loop 3-7)index 3-13)"),
     Row("{% set a = 1 %}b", "(set a(1 11-12))(b 15-16)"),
     Row("{% set set = set %}", "(set set(set 13-16))"),
-    Row("{% set_global a = b ~ c %}", "(set_global a(Concat(b 18-19)(c 22-23) 18-23))"),
+    Row(
+        "{% set_global a = b ~ c %}",
+        "(set_global a(Concat(b 18-19)(c 22-23) 18-23))",
+    ),
     Row(
         "{% set a %}x{% set b = a %}y{% endset %}z",
         "(set a to (x 11-12)(set b(a 23-24))(y 27-28))(z 40-41)",
@@ -114,12 +117,18 @@ pub static TREES: [Row; 47] = [
         "{% set_global a %}x{% endset_global %}{% set_global b %}{% endset %}",
         "(set_global a to (x 18-19))(set_global b to )",
     ),
-    Row("{% for v in e %}x{% endfor %}", "(for v in (e 12-13) do (x 16-17) else )"),
+    Row(
+        "{% for v in e %}x{% endfor %}",
+        "(for v in (e 12-13) do (x 16-17) else )",
+    ),
     Row(
         "{% for v in e %}x{% else %}y{% endfor %}z",
         "(for v in (e 12-13) do (x 16-17) else (y 27-28))(z 40-41)",
     ),
-    Row("{% for k, v in e %}{{ k }}{% endfor %}", "(for k, v in (e 15-16) do (k 22-23) else )"),
+    Row(
+        "{% for k, v in e %}{{ k }}{% endfor %}",
+        "(for k, v in (e 15-16) do (k 22-23) else )",
+    ),
     Row(
         "{% for v in a if b else c %}{% endfor %}",
         "(for v in (if(a 12-13)(b 17-18)(c 24-25) 12-25) do  else )",
@@ -152,10 +161,21 @@ pub static TREES: [Row; 47] = [
         "{% for v in e %}{% for w in loop.index %}{% else %}{{ loop.length }}{% endfor %}{% endfor %}{{ loop.index }}",
         "(for v in (e 12-13) do (for w in (__tera_loop_index 28-38) do  else (__tera_loop_length 54-65)) else )(.(loop 95-99)index 95-105)",
     ),
-    Row("{{ break }}{{ endfor }}{{ set }}", "(break 3-8)(endfor 14-20)(set 26-29)"),
+    Row(
+        "{{ break }}{{ endfor }}{{ set }}",
+        "(break 3-8)(endfor 14-20)(set 26-29)",
+    ),
+    Row(
+        "{{ [x * 2 for x in e if x > 1] }}",
+        "(each(Multiply(x 4-5)(2 8-9) 4-9) for x in (e 19-20) if (Greater(x 24-25)(1 28-29) 24-29) 3-30)",
+    ),
+    Row(
+        "{% for v in [w for k, w in e] %}{{ [loop.last for x in loop.first] }}{% endfor %}",
+        "(for v in (each(w 13-14) for k, w in (e 27-28) if _ 12-29) do (each(__tera_loop_last 36-45) for x in (__tera_loop_first 55-65) if _ 35-66) else )",
+    ),
 ];
 
-pub static REFUSED: [Text; 101] = [
+pub static REFUSED: [Text; 107] = [
     Text("{{ }}"),
     Text("{{ a"),
     Text("b {# open"),
@@ -252,9 +272,17 @@ pub static REFUSED: [Text; 101] = [
     Text("{% for v in e %}{% endfor %}{% continue %}"),
     Text("{% for v in e %}{% else %}{% break %}{% endfor %}"),
     Text("{% for v in e %}{% else %}{% if a %}{% continue %}{% endif %}{% endfor %}"),
-    Text("{% for v in e %}{% for w in f %}{% endfor %}{% else %}{% set a %}{% break %}{% endset %}{% endfor %}"),
+    Text(
+        "{% for v in e %}{% for w in f %}{% endfor %}{% else %}{% set a %}{% break %}{% endset %}{% endfor %}",
+    ),
     Text("{% for v in e %}{% break a %}{% endfor %}"),
     Text("{% for v in e %}{% continue 1 %}{% endfor %}"),
+    Text("{{ [x for x in a if b else c] }}"),
+    Text("{{ [x for in e] }}"),
+    Text("{{ [x for x of e] }}"),
+    Text("{{ [x, y for x in e] }}"),
+    Text("{{ [...x for x in e] }}"),
+    Text("{{ [x for x in e }}"),
     Text("{{ set a }}"),
     Text("{{ for v in e }}"),
 ];

@@ -123,7 +123,7 @@ impl Value {
             Shape::Text(content, _) => append_quoted(content, out),
             Shape::Bytes(content) => append_quoted_bytes(content, out),
             Shape::Array(items) => append_items(items, out),
-            Shape::Map(all) => append_entries(all.all.as_slice(), out),
+            Shape::Map(all) => append_entries(all.entries(), out),
         }
     }
 }

@@ -56,12 +56,7 @@ impl Value {
                 _ => self.rank().cmp(&other.rank()),
             },
             Shape::Map(a) => match other.shape() {
-                Shape::Map(b) => compare_entries(
-                    a.entries(),
-                    a.by_key(),
-                    b.entries(),
-                    b.by_key(),
-                ),
+                Shape::Map(b) => compare_entries(a.entries(), a.by_key(), b.entries(), b.by_key()),
                 _ => self.rank().cmp(&other.rank()),
             },
             _ => self.rank().cmp(&other.rank()),

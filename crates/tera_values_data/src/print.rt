@@ -102,6 +102,7 @@ impl Value {
         match self.shape() {
             Shape::Undefined => append("", out),
             Shape::None => append("", out),
+            Shape::Int(number) => append_integer(number, out),
             Shape::Text(content, _) => append(content, out),
             Shape::Bytes(content) => append_bytes(content, out),
             _ => self.append_inside(out),

@@ -1,4 +1,5 @@
 pub mod Runs
+pub mod Lanes
 pub mod Keys
 pub mod Places
 pub mod Entries

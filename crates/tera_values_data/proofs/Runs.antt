@@ -1,10 +1,11 @@
 -- Runs of bytes that stand for themselves, and the bytes between them.
-use Rattle.std.proofs.Common.{◌≡◌, ℕ, ◌+◌, ◌-◌, ◌<◌, ◌≤◌, List, [], ◌∷◌, ◌++◌, length, take, drop, get_or, sym, ap, ◌∙◌, arith, append_assoc, IsUtf8, length-append}
+use Rattle.std.proofs.Common.{◌≡◌, ℕ, zero, suc, ◌+◌, ◌-◌, ◌<◌, ◌≤◌, Bool, true, false, ◌||◌, cond, refl, List, [], ◌∷◌, ◌++◌, length, take, drop, get_or, sym, ap, ◌∙◌, arith, append_assoc, IsUtf8, length-append}
 use Rattle.std.proofs.lemmas.Str.{IsCharBoundary-from_take}
 use Rattle.std.proofs.Math.Seq.{take-append_seam}
 use Rattle.std.specs.String.Boundary.{IsSplitPoint}
 use Rattle.std.proofs.lemmas.List.{append-nil, take_more, drop_more, get_or-drop, length-drop}
-use Rattle.tera_values_data.specs.Growth.{Keeps, by_byte}
+use mathlib.Core.Bool.{true≢false}
+use Rattle.tera_values_data.specs.Growth.{Keeps, IsPlain, by_byte}
 
 pub keeps_all : (t : List ℕ) → Keeps t t
 keeps_all t = record { more = []; is = sym (append-nil t) }
@@ -49,3 +50,26 @@ split_point old new u v h =
     let within : length old ≤ length new = omega (arith, length-append old h.more, ap length h.is) in
     let at = IsCharBoundary-from_take new (length old) v within (rw same u) in
     (within, λ _ more. at.1 more)
+
+-- bytes that stand for themselves lengthen the run from s to p up to q
+pub run_on : (f : ℕ → List ℕ) (t : List ℕ) (s p n : ℕ) → s ≤ p → p + n ≤ length t → IsPlain f t p (p + n) → take (p - s) (drop s t) ++ by_byte f (drop p t) ≡ take (p + n - s) (drop s t) ++ by_byte f (drop (p + n) t)
+run_on f t s p zero o h plain = let same : p ≡ p + zero = omega arith in ap (λ (q : ℕ). take (q - s) (drop s t) ++ by_byte f (drop q t)) same
+run_on f t s p (suc n) o h plain =
+    let one = run_more f t s p o (omega arith) (plain p (omega arith) (omega arith)) in
+    let rest = run_on f t s (p + 1) n (omega arith) (omega arith) (λ k low high. plain k (omega arith) (omega arith)) in
+    let same : p + 1 + n ≡ p + suc n = omega arith in
+    one ∙ rest ∙ ap (λ (q : ℕ). take (q - s) (drop s t) ++ by_byte f (drop q t)) same
+
+pub run_to : (f : ℕ → List ℕ) (t : List ℕ) (s p q : ℕ) → s ≤ p → p ≤ q → q ≤ length t → IsPlain f t p q → take (p - s) (drop s t) ++ by_byte f (drop p t) ≡ take (q - s) (drop s t) ++ by_byte f (drop q t)
+run_to f t s p q o le h plain =
+    let same : p + (q - p) ≡ q = omega arith in
+    run_on f t s p (q - p) o (omega arith) (λ k low high. plain k low (omega arith)) ∙ ap (λ (r : ℕ). take (r - s) (drop s t) ++ by_byte f (drop r t)) same
+
+-- none of five is a byte of its own form, so the form is the byte
+pub last_form : (a b c d e : Bool) (p q r s t u : List ℕ) → ((((a || b) || c) || d) || e) ≡ false → cond a p (cond b q (cond c r (cond d s (cond e t u)))) ≡ u
+last_form false false false false false p q r s t u h = refl
+last_form true b c d e p q r s t u h = absurd (true≢false h)
+last_form false true c d e p q r s t u h = absurd (true≢false h)
+last_form false false true d e p q r s t u h = absurd (true≢false h)
+last_form false false false true e p q r s t u h = absurd (true≢false h)
+last_form false false false false true p q r s t u h = absurd (true≢false h)

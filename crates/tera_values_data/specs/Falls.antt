@@ -1,13 +1,14 @@
 -- Each item of an array is smaller than the array.
-use Rattle.std.specs.Prelude.{◌+◌, ◌≤◌, max, List, [], ◌∷◌}
+use Rattle.std.specs.Prelude.{◌+◌, ◌≤◌, max, List, [], ◌∷◌, Option, Some, None, Box}
+use Rattle.std.specs.Global.{Global}
 use Rattle.std.proofs.Common.{arith}
 use denote.Param.Weighed.{most}
-use Rattle.tera_values_data.specs.Val.{Val, vals, entries, val_size, vals_size, entries_size}
-use Rattle.tera_values_data.specs.View.{node_view, entry_views}
+use Rattle.tera_values_data.specs.Val.{Val, KeyVal, vals, entries, val_size, vals_size, entries_size}
+use Rattle.tera_values_data.specs.View.{node_view, entry_views, boxed_entries}
 use Rattle.tera_values_data.specs.declared.value.Entry.{Entry}
 use Rattle.tera_values_data.specs.declared.value.Node.{Node}
 use Rattle.tera_values_data.specs.declared.value.Node.TheVariants as node
-use Rattle.tera_values_data.specs.declared.value.Map.TheDeep.{deep-Node, deep-Entry}
+use Rattle.tera_values_data.specs.declared.value.Map.TheDeep.{deep-Node, deep-Entry, deep-Map}
 
 pub most_le : (vs : List Val) → most (λ v. val_size v + 1) vs ≤ vals_size (vals vs) + 1
 most_le [] = omega arith
@@ -31,3 +32,7 @@ entries_below (e ∷ es) = omega (arith, entries_below es)
 
 pub entries_fall : (es : List Entry) → max (most deep-Entry es) 0 ≤ entries_size (entries (entry_views es))
 entries_fall es = omega (arith, entries_below es)
+
+pub table_falls : (alloc : Global) (table : Option (Box (List (KeyVal × Val)) Global)) → deep-Map (record { alloc = alloc; table = table }) ≤ entries_size (entries (boxed_entries table)) + 1
+table_falls alloc None = omega arith
+table_falls alloc (Some table) = omega arith

@@ -1,5 +1,5 @@
 -- Texts that only grow, and texts in which bytes stand in other forms.
-use Rattle.std.specs.Prelude.{◌≡◌, ℕ, List, [], ◌∷◌, ◌++◌, Option, Some, None}
+use Rattle.std.specs.Prelude.{◌≡◌, ℕ, ◌<◌, ◌≤◌, Bool, false, ◌||◌, nat_eq, List, [], ◌∷◌, ◌++◌, Option, Some, None, slice_index_or}
 
 -- what was there is still there, with more after it
 pub record Keeps (old new : List ℕ) : Type 0 where
@@ -15,3 +15,14 @@ by_byte form (b ∷ bs) = form b ++ by_byte form bs
 abbrev pub form_or_byte : ℕ → Option (List ℕ) → List ℕ
 form_or_byte b None = b ∷ []
 form_or_byte b (Some form) = form
+
+-- the bytes from place i up to place j stand for themselves
+abbrev pub IsPlain : (ℕ → List ℕ) → List ℕ → ℕ → ℕ → Type 0
+IsPlain form bs i j = (k : ℕ) → i ≤ k → k < j → form (slice_index_or bs k 0) ≡ slice_index_or bs k 0 ∷ []
+
+-- the test fails at every byte from place i up to place j
+abbrev pub IsNever : (ℕ → Bool) → List ℕ → ℕ → ℕ → Type 0
+IsNever test bs i j = (k : ℕ) → i ≤ k → k < j → test (slice_index_or bs k 0) ≡ false
+
+abbrev pub is_one_of : (a b c d e x : ℕ) → Bool
+is_one_of a b c d e x = (((nat_eq x a || nat_eq x b) || nat_eq x c) || nat_eq x d) || nat_eq x e

@@ -1,5 +1,6 @@
 -- What the parts of a value in memory stand for.
-use Rattle.std.specs.Prelude.{List, string_bytes}
+use Rattle.std.specs.Prelude.{List, [], Option, Some, None, Box, string_bytes}
+use Rattle.std.specs.Global.{Global}
 use Rattle.std.proofs.Common.{map as map_list}
 use Rattle.tera_values_data.specs.Val.{Val, KeyVal, kbool, kint, ktext, undefined, none, bool, int, text, bytes, array, map, vals, entries}
 use Rattle.std.specs.Rc.{rc_str_bytes}
@@ -38,3 +39,8 @@ entry_view e = (key_view e.key, e.value)
 
 abbrev pub entry_views : List Entry → List (KeyVal × Val)
 entry_views es = map_list entry_view es
+
+-- the entries of a table that may not be there yet
+abbrev pub boxed_entries : Option (Box (List (KeyVal × Val)) Global) → List (KeyVal × Val)
+boxed_entries None = []
+boxed_entries (Some table) = table.value

@@ -4,7 +4,7 @@ ghost use Rattle.tera_errors.specs.Answer.{Gives, Lacks};
 ghost use Rattle.tera_values_data.specs.Access.{IsScalar, IsFlat};
 ghost use Rattle.tera_values_data.specs.View.{entry_views};
 
-use crate::value::{Entry, Map, Node, Value};
+use crate::value::{Entry, Map, Node, Table, Value};
 use std::alloc::Global;
 use std::mem::replace;
 use std::rc::Rc;
@@ -40,16 +40,9 @@ impl Value {
             Node::Shared(items) => Ok(Value {
                 node: Node::Shared(items.clone()?),
             }),
-            Node::Map(all) => {
-                let by_key = all.by_key.clone()?;
-                let copies = copy_entries(*all.all.allocator(), all.all.as_slice())?;
-                Ok(Value {
-                    node: Node::Map(Map {
-                        all: copies,
-                        by_key,
-                    }),
-                })
-            }
+            Node::Map(all) => Ok(Value {
+                node: Node::Map(all.try_clone()?),
+            }),
             Node::SharedMap(all) => Ok(Value {
                 node: Node::SharedMap(all.clone()?),
             }),
@@ -83,12 +76,21 @@ fn copy_entries(alloc: Global, all: &[Entry]) -> TeraResult<Vec<Entry>>
 
 impl Map {
     /// The same entries, keys and values copied one by one.
+    #[cycle(copying)]
     pub fn try_clone(&self) -> TeraResult<Map>
         ensures { Gives (λ m. m) result (Ok self.now) }
     {
-        let by_key = self.by_key.clone()?;
-        let all = copy_entries(*self.all.allocator(), self.all.as_slice())?;
-        Ok(Map { all, by_key })
+        match &self.table {
+            Some(table) => {
+                let by_key = table.by_key.clone()?;
+                let all = copy_entries(self.alloc, table.all.as_slice())?;
+                Ok(Map {
+                    alloc: self.alloc,
+                    table: Some(Box::new(self.alloc, Table { all, by_key })?),
+                })
+            }
+            None => Ok(Map::new(self.alloc)),
+        }
     }
 }
 
@@ -107,14 +109,9 @@ impl Value {
                     node: Node::Shared(Rc::new(alloc, items)?),
                 })
             }
-            Node::Map(all) => {
-                let Map { all, by_key } = all;
-                let mut all = all;
-                share_entries(alloc, all.as_mut_slice())?;
-                Ok(Value {
-                    node: Node::SharedMap(Rc::new(alloc, Map { all, by_key })?),
-                })
-            }
+            Node::Map(all) => Ok(Value {
+                node: Node::SharedMap(Rc::new(alloc, share_map(alloc, all)?)?),
+            }),
             node => Ok(Value { node }),
         }
     }
@@ -132,6 +129,31 @@ fn share_items(alloc: Global, items: &mut [Value]) -> TeraResult<()>
         drop(hole);
     }
     Ok(())
+}
+
+#[cycle(sharing)]
+fn share_map(alloc: Global, all: Map) -> TeraResult<Map>
+    ensures { Gives (λ m. m) result (Ok all) }
+{
+    let Map {
+        alloc: kept_by,
+        table,
+    } = all;
+    match table {
+        Some(table) => {
+            let mut table = table;
+            let Table { all, by_key } = replace(&mut *table, Table::new(kept_by));
+            let mut all = all;
+            share_entries(alloc, all.as_mut_slice())?;
+            let empty = replace(&mut *table, Table { all, by_key });
+            drop(empty);
+            Ok(Map {
+                alloc: kept_by,
+                table: Some(table),
+            })
+        }
+        None => Ok(Map::new(kept_by)),
+    }
 }
 
 #[cycle(sharing)]

@@ -1,10 +1,11 @@
 // Texts in which some bytes stand in another form: markup, and quoted texts.
-ghost use Rattle.std.specs.Prelude.{◌≡◌, ◌++◌, ◌∷◌, [], ◌<◌, ℕ, List, IsSome, OnOk, OnErr, IfErr, string_bytes, option_map};
+ghost use Rattle.std.specs.Prelude.{◌≡◌, ◌++◌, ◌∷◌, [], ◌+◌, ◌<◌, ◌≤◌, ℕ, List, length, IsSome, OnOk, OnErr, IfErr, string_bytes, option_map};
 ghost use Rattle.tera_errors.specs.Answer.{Lacks};
 ghost use Rattle.tera_values_data.specs.Escape.{escape_byte, escape_html};
 ghost use Rattle.tera_values_data.specs.Printed.{quoted, quoted_byte, escaped};
-ghost use Rattle.tera_values_data.specs.Growth.{Keeps, by_byte, form_or_byte};
+ghost use Rattle.tera_values_data.specs.Growth.{Keeps, IsPlain, IsNever, by_byte, form_or_byte, is_one_of};
 
+use std::simd::prelude::*;
 use tera_errors::TeraResult;
 
 /// Appends the text; what was there stays whatever comes.
@@ -19,6 +20,20 @@ pub(crate) fn append(text: &str, out: &mut String) -> TeraResult<()>
     Ok(())
 }
 
+/// The same of a text that is often empty.
+#[inline]
+fn append_run(run: &str, out: &mut String) -> TeraResult<()>
+    ensures ok { OnOk result (string_bytes out.new ≡ string_bytes out.old ++ run.now) }
+    ensures keeps { Keeps (string_bytes out.old) (string_bytes out.new) }
+    ensures lacks { IfErr result Lacks }
+{
+    if run.is_empty() {
+        Ok(())
+    } else {
+        append(run, out)
+    }
+}
+
 /// Which bytes stand in another form.
 trait Forms {
     ghost spelled: { ℕ → List ℕ };
@@ -27,6 +42,33 @@ trait Forms {
     fn form(byte: u8) -> Option<&'static str>
         ensures form { form_or_byte byte (option_map (λ form. form.now) result) ≡ spelled byte }
         ensures ascii { IsSome result → byte < 128 };
+
+    /// How many of the sixteen bytes from a place on stand for themselves, before one that may not.
+    fn plain_lanes(bytes: &[u8], from: usize) -> usize
+        requires { from + 16 ≤ length bytes.now }
+        ensures room { result ≤ 16 }
+        ensures plain { IsPlain spelled bytes.now from (from + result) };
+}
+
+/// How many of the sixteen bytes from a place on stand before the first that is one of five.
+#[inline(always)]
+fn lanes_before(bytes: &[u8], from: usize, a: u8, b: u8, c: u8, d: u8, e: u8) -> usize
+    requires { from + 16 ≤ length bytes.now }
+    ensures room { result ≤ 16 }
+    ensures others { IsNever (is_one_of a b c d e) bytes.now from (from + result) }
+{
+    let lanes = u8x16::from_slice(&bytes[from..]);
+    let found = lanes.simd_eq(u8x16::splat(a))
+        | lanes.simd_eq(u8x16::splat(b))
+        | lanes.simd_eq(u8x16::splat(c))
+        | lanes.simd_eq(u8x16::splat(d))
+        | lanes.simd_eq(u8x16::splat(e));
+    let mask = found.to_bitmask();
+    if mask == 0 {
+        16
+    } else {
+        mask.trailing_zeros() as usize
+    }
 }
 
 /// Text as it stands in markup.
@@ -45,6 +87,11 @@ impl Forms for Markup {
             b'\'' => Some("&#x27;"),
             _ => None,
         }
+    }
+
+    #[inline]
+    fn plain_lanes(bytes: &[u8], from: usize) -> usize {
+        lanes_before(bytes, from, b'&', b'<', b'>', b'"', b'\'')
     }
 }
 
@@ -65,6 +112,61 @@ impl Forms for Quotes {
             _ => None,
         }
     }
+
+    #[inline]
+    fn plain_lanes(bytes: &[u8], from: usize) -> usize {
+        lanes_before(bytes, from, b'\\', b'"', b'\n', b'\r', b'\t')
+    }
+}
+
+/// Past the bytes that stand for themselves, sixteen at a time: a place of one that may not, or of the last few.
+#[inline]
+fn plain_run<F: Forms>(bytes: &[u8], from: usize) -> usize
+    requires { from ≤ length bytes.now }
+    ensures low { from ≤ result }
+    ensures high { result ≤ length bytes.now }
+    ensures plain { IsPlain F.spelled bytes.now from result }
+{
+    let mut place = from;
+    while bytes.len() - place >= 16 {
+        let count = F::plain_lanes(bytes, place);
+        place += count;
+        if count < 16 {
+            return place;
+        }
+    }
+    place
+}
+
+/// Past the bytes that stand for themselves, to the next that has a form of its own, or to the end. It is not inlined, so that
+/// what it compares with takes no registers of the loop that writes.
+#[inline(never)]
+fn next_form<F: Forms>(bytes: &[u8], from: usize) -> usize
+    requires { from ≤ length bytes.now }
+    ensures low { from ≤ result }
+    ensures high { result ≤ length bytes.now }
+    ensures plain { IsPlain F.spelled bytes.now from result }
+{
+    let mut place = plain_run::<F>(bytes, from);
+    while place < bytes.len() && F::form(bytes[place]).is_none() {
+        place += 1;
+    }
+    place
+}
+
+/// The same from the fifth byte of a run on, since the next form is often near; up to there the place itself.
+#[inline]
+fn next_of_run<F: Forms>(bytes: &[u8], run: usize, from: usize) -> usize
+    requires { from ≤ length bytes.now }
+    ensures low { from ≤ result }
+    ensures high { result ≤ length bytes.now }
+    ensures plain { IsPlain F.spelled bytes.now from result }
+{
+    if run < 4 {
+        from
+    } else {
+        next_form::<F>(bytes, from)
+    }
 }
 
 /// Appends the text, run by run between the bytes that have a form of their own.
@@ -75,14 +177,14 @@ fn append_forms<F: Forms>(text: &str, out: &mut String) -> TeraResult<()>
 {
     let bytes = text.as_bytes();
     let mut start = 0;
-    let mut place = 0;
+    let mut place = next_form::<F>(bytes, 0);
     while place < bytes.len() {
         if let Some(form) = F::form(bytes[place]) {
-            append(&text[start..place], out)?;
+            append_run(&text[start..place], out)?;
             append(form, out)?;
             start = place + 1;
         }
-        place += 1;
+        place = next_of_run::<F>(bytes, place + 1 - start, place + 1);
     }
     append(&text[start..], out)
 }

@@ -14,6 +14,7 @@ pub mod path;
 pub mod print;
 pub mod shape;
 pub mod slice;
+pub mod table;
 pub mod value;
 
 pub use escape::escape_html;

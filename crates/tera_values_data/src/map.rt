@@ -1,45 +1,41 @@
-// Maps: entries in order of insertion, found by key.
-ghost use Rattle.std.specs.Prelude.{◌≡◌, [], IfOk, IfErr, OnOk, OnErr, IsSome, IsOk, length, option_copied, option_map, slice_get};
+// Maps: a table, from the first entry on.
+ghost use Rattle.std.specs.Prelude.{◌≡◌, [], OnOk, OnErr, IfErr, IsSome, IsOk, length, option_copied, option_map, slice_get};
 ghost use Rattle.tera_errors.specs.Answer.{Lacks};
 ghost use Rattle.tera_values_data.specs.Val.{ktext};
 ghost use Rattle.tera_values_data.specs.View.{key_view, wanted_view, entry_views};
-ghost use Rattle.tera_values_data.specs.Index.{IsIndex, IsAt, IsGapFor, IsDistinct};
+ghost use Rattle.tera_values_data.specs.Index.{IsIndex, IsDistinct};
 ghost use Rattle.tera_values_data.specs.Access.{find, insert_pair};
 
-use crate::key::{Key, Wanted, compare_key};
-use crate::value::{Entry, Map, Value};
+use crate::key::{Key, Wanted};
+use crate::value::{Entry, Map, Table, Value};
 use std::alloc::Global;
-use std::cmp::Ordering;
-use std::mem::replace;
 use tera_errors::TeraResult;
 
-/// Where the key stands in the order, or where it would stand.
-fn search(all: &[Entry], by_key: &[usize], wanted: &Wanted<'_>) -> Result<usize, usize>
-    requires { IsIndex by_key.now (entry_views all.now) }
-    ensures found { IfOk result (IsAt by_key.now (entry_views all.now) (wanted_view wanted.now)) }
-    ensures absent { IfErr result (IsGapFor by_key.now (entry_views all.now) (wanted_view wanted.now)) }
-{
-    let mut low = 0;
-    let mut high = by_key.len();
-    while low < high {
-        let middle = low + (high - low) / 2;
-        match compare_key(&all[by_key[middle]].key, wanted) {
-            Ordering::Less => low = middle + 1,
-            Ordering::Equal => return Ok(middle),
-            Ordering::Greater => high = middle,
-        }
-    }
-    Err(low)
-}
-
 impl Map {
-    /// A map of no entries.
+    /// A map of no entries. Takes no memory.
     pub fn new(alloc: Global) -> Map
         ensures { result ≡ [] }
     {
-        Map {
-            all: Vec::new(alloc),
-            by_key: Vec::new(alloc),
+        Map { alloc, table: None }
+    }
+
+    /// The entries in memory, in the order of insertion.
+    pub(crate) fn entries(&self) -> &[Entry]
+        ensures { entry_views result.now ≡ self.now }
+    {
+        match &self.table {
+            Some(table) => table.all.as_slice(),
+            None => &[],
+        }
+    }
+
+    /// The places of the entries, sorted by key.
+    pub(crate) fn by_key(&self) -> &[usize]
+        ensures { IsIndex result.now self.now }
+    {
+        match &self.table {
+            Some(table) => table.by_key.as_slice(),
+            None => &[],
         }
     }
 
@@ -48,15 +44,18 @@ impl Map {
         ensures count { result ≡ length self.now }
         ensures distinct { IsDistinct self.now }
     {
-        self.all.len()
+        match &self.table {
+            Some(table) => table.len(),
+            None => 0,
+        }
     }
 
     /// The entry at a place, in the order of insertion.
     pub fn entry_at(&self, place: usize) -> Option<(&Key, &Value)>
         ensures { option_map (λ e. (key_view e.0.now, e.1.now)) result ≡ slice_get self.now place }
     {
-        match self.all.get(place) {
-            Some(entry) => Some((&entry.key, &entry.value)),
+        match &self.table {
+            Some(table) => table.entry_at(place),
             None => None,
         }
     }
@@ -78,9 +77,9 @@ impl Map {
     pub(crate) fn value_at(&self, wanted: &Wanted<'_>) -> Option<&Value>
         ensures { option_copied result ≡ find (wanted_view wanted.now) self.now }
     {
-        match search(self.all.as_slice(), self.by_key.as_slice(), wanted) {
-            Ok(at) => Some(&self.all[self.by_key[at]].value),
-            Err(_) => None,
+        match &self.table {
+            Some(table) => table.value_at(wanted),
+            None => None,
         }
     }
 
@@ -92,24 +91,13 @@ impl Map {
         ensures there { IsSome (find (key_view key) self.old) → IsOk result }
         ensures lacks { IfErr result Lacks }
     {
-        match search(self.all.as_slice(), self.by_key.as_slice(), &key.wanted()) {
-            Ok(at) => {
-                let place = self.by_key[at];
-                let old = replace(&mut self.all[place].value, value);
-                drop(old);
-                drop(key);
+        match &mut self.table {
+            Some(table) => table.insert(key, value),
+            None => {
+                let mut table = Table::new(self.alloc);
+                table.insert(key, value)?;
+                self.table = Some(Box::new(self.alloc, table)?);
                 Ok(())
-            }
-            Err(at) => {
-                let place = self.all.len();
-                self.all.push(Entry { key, value })?;
-                match self.by_key.insert(at, place) {
-                    Ok(()) => Ok(()),
-                    Err(error) => {
-                        self.all.pop();
-                        Err(error.into())
-                    }
-                }
             }
         }
     }

@@ -56,12 +56,7 @@ impl Value {
                 _ => self.rank().cmp(&other.rank()),
             },
             Shape::Map(a) => match other.shape() {
-                Shape::Map(b) => compare_entries(
-                    a.all.as_slice(),
-                    a.by_key.as_slice(),
-                    b.all.as_slice(),
-                    b.by_key.as_slice(),
-                ),
+                Shape::Map(b) => compare_entries(a.entries(), a.by_key(), b.entries(), b.by_key()),
                 _ => self.rank().cmp(&other.rank()),
             },
             _ => self.rank().cmp(&other.rank()),
@@ -169,10 +164,10 @@ impl Map {
         ensures { IsSameMap result self.now other.now }
     {
         let answer = compare_entries(
-            self.all.as_slice(),
-            self.by_key.as_slice(),
-            other.all.as_slice(),
-            other.by_key.as_slice(),
+            self.entries(),
+            self.by_key(),
+            other.entries(),
+            other.by_key(),
         );
         answer.is_eq()
     }

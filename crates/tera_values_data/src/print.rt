@@ -102,6 +102,7 @@ impl Value {
         match self.shape() {
             Shape::Undefined => append("", out),
             Shape::None => append("", out),
+            Shape::Int(number) => append_integer(number, out),
             Shape::Text(content, _) => append(content, out),
             Shape::Bytes(content) => append_bytes(content, out),
             _ => self.append_inside(out),
@@ -123,7 +124,7 @@ impl Value {
             Shape::Text(content, _) => append_quoted(content, out),
             Shape::Bytes(content) => append_quoted_bytes(content, out),
             Shape::Array(items) => append_items(items, out),
-            Shape::Map(all) => append_entries(all.all.as_slice(), out),
+            Shape::Map(all) => append_entries(all.entries(), out),
         }
     }
 }

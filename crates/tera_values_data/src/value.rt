@@ -62,12 +62,21 @@ pub(crate) struct Entry {
     pub(crate) value: Value,
 }
 
-/// Values at keys, in order of insertion. The places of the entries stand beside them, sorted by key.
+/// Entries in order of insertion, and beside them their places, sorted by key.
+#[cycle(value)]
+#[derive(Drop)]
+pub(crate) struct Table {
+    pub(crate) all: Vec<Entry>,
+    pub(crate) by_key: Vec<usize>,
+}
+
+/// Values at keys, in order of insertion. Its table is in a box, taken by the first entry, so that a map, and so every
+/// value, is small, and a map without entries takes no memory.
 #[cycle(value)]
 #[derive(Drop)]
 pub struct Map {
-    pub(crate) all: Vec<Entry>,
-    pub(crate) by_key: Vec<usize>,
+    pub(crate) alloc: Global,
+    pub(crate) table: Option<Box<Table>>,
 }
 
 impl Model for Value {
@@ -89,7 +98,7 @@ impl Model for Value {
     ghost size_decreases = { λ v h. falls v.node };
 }
 
-impl Model for Map {
+impl Model for Table {
     ghost use Rattle.std.specs.Prelude.{List};
     ghost use Rattle.tera_values_data.specs.Val.{Val, KeyVal, entries, entries_size};
     ghost use Rattle.tera_values_data.specs.Code.{entries_code};
@@ -100,17 +109,39 @@ impl Model for Map {
 
     ghost use Rattle.tera_values_data.specs.View.{entry_views};
 
-    ghost view = { λ m. entry_views m.all.items };
+    ghost view = { λ t. entry_views t.all.items };
 
     ghost use Rattle.tera_values_data.specs.Index.{IsIndex};
 
-    ghost invariant = { λ m. IsIndex m.by_key.items (entry_views m.all.items) };
+    ghost invariant = { λ t. IsIndex t.by_key.items (entry_views t.all.items) };
 
     ghost size = { λ es. entries_size (entries es) };
 
     ghost use Rattle.tera_values_data.specs.Falls.{entries_fall};
 
-    ghost size_decreases = { λ m h. entries_fall m.all.items };
+    ghost size_decreases = { λ t h. entries_fall t.all.items };
+}
+
+impl Model for Map {
+    ghost use Rattle.std.specs.Prelude.{List};
+    ghost use Rattle.tera_values_data.specs.Val.{Val, KeyVal, entries, entries_size};
+    ghost use Rattle.tera_values_data.specs.Code.{entries_code};
+
+    ghost Value = { List (KeyVal × Val) };
+
+    ghost coded = { entries_code };
+
+    ghost use Rattle.tera_values_data.specs.View.{boxed_entries};
+
+    ghost view = { λ m. boxed_entries m.table };
+
+    ghost use Rattle.std.specs.Prelude.{◌+◌};
+
+    ghost size = { λ es. entries_size (entries es) + 1 };
+
+    ghost use Rattle.tera_values_data.specs.Falls.{table_falls};
+
+    ghost size_decreases = { λ m h. table_falls m.alloc m.table };
 }
 
 impl Value {

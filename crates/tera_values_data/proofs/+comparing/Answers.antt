@@ -1,10 +1,10 @@
-use Rattle.std.proofs.Common.{◌≡◌, ◌⊎◌, inl, inr, suc, ◌≤◌, length, drop, sym, ap, ◌∙◌, arith, true, false, add-one}
+use Rattle.std.proofs.Common.{◌≡◌, ◌⊎◌, inl, inr, suc, ◌≤◌, length, drop, sym, ap, subst, ◌∙◌, arith, true, false, add-one}
 use Rattle.std.specs.Ordering.{is_ne, ordering_then}
 use Rattle.std.specs.Cmp.Lexicographic.{slice_cmp}
 use Rattle.tera_values_data.specs.Val.{array, map, vals, entries}
 use Rattle.tera_values_data.specs.Keys.{key_cmp}
 use Rattle.tera_values_data.specs.View.{key_view, entry_views}
-use Rattle.tera_values_data.specs.Index.{picked}
+use Rattle.tera_values_data.specs.Index.{picked, IsIndex}
 use Rattle.tera_values_data.specs.Order.{order, pair_order}
 use Rattle.tera_values_data.proofs.Compared.{as_items, as_entries, ne_then, eq_then, pairs_step, pairs_end, entry_below}
 use Rattle.tera_values_data.proofs.Entries.{place_below}
@@ -21,14 +21,15 @@ value::Value::compare-returns-in-Array-shape t c =
 
 pub value::Value::compare-returns-in-Map-shape : goal.value::Value::compare-returns-in-Map-shape
 value::Value::compare-returns-in-Map-shape t c =
-    let a = c.a.inside.all.items in
-    let ka = c.a.inside.by_key.items in
-    let b = c.b.inside.all.items in
-    let kb = c.b.inside.by_key.items in
-    let ea : map (entries (entry_views a)) ≡ c.args.self.now = ap (λ m. map (entries m)) c.a.view_is ∙ c.in-Map.ensures in
-    let eb : map (entries (entry_views b)) ≡ c.args.other.now = ap (λ m. map (entries m)) c.b.view_is ∙ c.in-Map-shape.ensures in
-    let e : c.compare_entries.result ≡ slice_cmp pair_order (picked ka (entry_views a)) (picked kb (entry_views b)) = rw (c.as_slice.ensures.value, c.as_slice-in-Map-shape.ensures.value, c.as_slice-in-Map-shape-2.ensures.value, c.as_slice-in-Map-shape-3.ensures.value) at c.compare_entries.ensures in
-    e ∙ as_entries ka kb (entry_views a) (entry_views b) c.a.invariant c.b.invariant ∙ ap (λ v. order v (map (entries (entry_views b)))) ea ∙ ap (order c.args.self.now) eb
+    let a = c.entries.result.now in
+    let ka = c.by_key.result.now in
+    let b = c.entries-in-Map-shape.result.now in
+    let kb = c.by_key-in-Map-shape.result.now in
+    let ea : map (entries (entry_views a)) ≡ c.args.self.now = ap (λ es. map (entries es)) c.entries.ensures ∙ c.in-Map.ensures in
+    let eb : map (entries (entry_views b)) ≡ c.args.other.now = ap (λ es. map (entries es)) c.entries-in-Map-shape.ensures ∙ c.in-Map-shape.ensures in
+    let ia : IsIndex ka (entry_views a) = subst (IsIndex ka) (sym c.entries.ensures) c.by_key.ensures in
+    let ib : IsIndex kb (entry_views b) = subst (IsIndex kb) (sym c.entries-in-Map-shape.ensures) c.by_key-in-Map-shape.ensures in
+    c.compare_entries.ensures ∙ as_entries ka kb (entry_views a) (entry_views b) ia ib ∙ ap (λ v. order v (map (entries (entry_views b)))) ea ∙ ap (order c.args.self.now) eb
 
 pub order::compare_entries-returns-then-is_ne : goal.order::compare_entries-returns-then-is_ne
 order::compare_entries-returns-then-is_ne t c =

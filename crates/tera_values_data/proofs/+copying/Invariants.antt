@@ -1,4 +1,4 @@
-use Rattle.std.proofs.Common.{◌≡◌, take}
+use Rattle.std.proofs.Common.{◌≡◌, ◌+◌, take}
 use Rattle.tera_values_data.specs.Val.{vals, entries, val_size, vals_size, entries_size}
 use Rattle.tera_values_data.specs.View.{entry_views}
 use Rattle.tera_values_data.proofs.+copying.Given as goal
@@ -17,3 +17,6 @@ invariant-copy::copy_items-loop-item l = l.copies.items ≡ take l.item-index l.
 
 abbrev pub invariant-copy::copy_entries-loop-item : goal.invariant-copy::copy_entries-loop-item
 invariant-copy::copy_entries-loop-item l = entry_views l.copies.items ≡ take l.item-index (entry_views l.all)
+
+abbrev pub decreases-value::Map::try_clone : goal.decreases-value::Map::try_clone
+decreases-value::Map::try_clone a = entries_size (entries a.self.now) + 1

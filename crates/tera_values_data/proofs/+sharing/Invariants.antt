@@ -1,4 +1,4 @@
-use Rattle.std.proofs.Common.{◌≡◌}
+use Rattle.std.proofs.Common.{◌≡◌, ◌+◌}
 use Rattle.tera_values_data.specs.Val.{vals, entries, val_size, vals_size, entries_size}
 use Rattle.tera_values_data.specs.View.{entry_views}
 use Rattle.tera_values_data.proofs.+sharing.Given as goal
@@ -17,3 +17,6 @@ invariant-copy::share_items-loop-item l = l.items ≡ l.initial.items
 
 abbrev pub invariant-copy::share_entries-loop-entry : goal.invariant-copy::share_entries-loop-entry
 invariant-copy::share_entries-loop-entry l = entry_views l.all ≡ entry_views l.initial.all
+
+abbrev pub decreases-copy::share_map : goal.decreases-copy::share_map
+decreases-copy::share_map a = entries_size (entries a.all) + 1

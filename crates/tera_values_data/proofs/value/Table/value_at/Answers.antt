@@ -4,7 +4,7 @@ use Rattle.tera_values_data.specs.View.{wanted_view, entry_views}
 use Rattle.tera_values_data.specs.Index.{IsAt, IsGapFor}
 use Rattle.tera_values_data.proofs.Places.{found, not_found}
 use Rattle.tera_values_data.proofs.Entries.{value_of, place_below}
-use Rattle.tera_values_data.proofs.value.Map.value_at.Goals as goal
+use Rattle.tera_values_data.proofs.value.Table.value_at.Goals as goal
 
 pub returns-in-Ok : goal.returns-in-Ok
 returns-in-Ok c =

@@ -10,7 +10,7 @@ use Rattle.tera_values_data.specs.Index.{IsAt, IsGapFor, key_at}
 use Rattle.tera_values_data.specs.declared.value.Entry.{Entry}
 use Rattle.tera_values_data.proofs.Places.{not_found, kept, grown, written, pushed}
 use Rattle.tera_values_data.proofs.Entries.{views_length, place_below, write_views, push_views}
-use Rattle.tera_values_data.proofs.value.Map.insert.Goals as goal
+use Rattle.tera_values_data.proofs.value.Table.insert.Goals as goal
 
 pub invariant_of-self : goal.invariant_of-self
 invariant_of-self c =

@@ -5,7 +5,7 @@ use Rattle.tera_values_data.specs.Index.{nth_key}
 use Rattle.tera_values_data.proofs.Keys.{key_exact}
 use Rattle.tera_values_data.proofs.Places.{less_before, greater_from}
 use Rattle.tera_values_data.proofs.Entries.{nth_key_of}
-use Rattle.tera_values_data.proofs.map.search.Goals as goal
+use Rattle.tera_values_data.proofs.table.search.Goals as goal
 
 pub loop-low-preserved-in-Less : goal.loop-low-preserved-in-Less
 loop-low-preserved-in-Less c =

@@ -5,7 +5,7 @@ use Rattle.tera_values_data.specs.Index.{IsDistinct, key_at}
 use Rattle.tera_values_data.proofs.Keys.{key_tied}
 use Rattle.tera_values_data.proofs.Places.{distinct}
 use Rattle.tera_values_data.proofs.Entries.{views_length}
-use Rattle.tera_values_data.proofs.value.Map.len.Goals as goal
+use Rattle.tera_values_data.proofs.value.Table.len.Goals as goal
 
 pub returns-clause-count : goal.returns-clause-count
 returns-clause-count c = rw (← c.self.view_is) (grind (arith, common_steps, views_length c.self.inside.all.items))

@@ -1,7 +1,7 @@
 use Rattle.std.proofs.Common.{sym, ap, ◌∙◌, refl, option_map}
 use Rattle.std.proofs.lemmas.Option.{slice_get-map, slice_get_read, slice_get_past}
 use Rattle.tera_values_data.specs.View.{entry_view}
-use Rattle.tera_values_data.proofs.value.Map.entry_at.Goals as goal
+use Rattle.tera_values_data.proofs.value.Table.entry_at.Goals as goal
 
 pub returns-in-Some : goal.returns-in-Some
 returns-in-Some c = rw (← c.self.view_is, ← c.deref.ensures.value) (sym (slice_get-map entry_view c.deref.result.now c.args.place ∙ ap (option_map entry_view) (slice_get_read c.deref.result.now _ c.args.place c.in-Some.entry.now refl c.in-Some.ensures.lookup.3.0 c.in-Some.ensures.lookup.1)))

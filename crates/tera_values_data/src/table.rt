@@ -1,0 +1,96 @@
+// The table of a map: entries in order of insertion, found by key.
+ghost use Rattle.std.specs.Prelude.{◌≡◌, [], IfOk, IfErr, OnOk, OnErr, IsSome, IsOk, length, option_copied, option_map, slice_get};
+ghost use Rattle.tera_errors.specs.Answer.{Lacks};
+ghost use Rattle.tera_values_data.specs.View.{key_view, wanted_view, entry_views};
+ghost use Rattle.tera_values_data.specs.Index.{IsIndex, IsAt, IsGapFor, IsDistinct};
+ghost use Rattle.tera_values_data.specs.Access.{find, insert_pair};
+
+use crate::key::{Key, Wanted, compare_key};
+use crate::value::{Entry, Table, Value};
+use std::alloc::Global;
+use std::cmp::Ordering;
+use std::mem::replace;
+use tera_errors::TeraResult;
+
+/// Where the key stands in the order, or where it would stand.
+fn search(all: &[Entry], by_key: &[usize], wanted: &Wanted<'_>) -> Result<usize, usize>
+    requires { IsIndex by_key.now (entry_views all.now) }
+    ensures found { IfOk result (IsAt by_key.now (entry_views all.now) (wanted_view wanted.now)) }
+    ensures absent { IfErr result (IsGapFor by_key.now (entry_views all.now) (wanted_view wanted.now)) }
+{
+    let mut low = 0;
+    let mut high = by_key.len();
+    while low < high {
+        let middle = low + (high - low) / 2;
+        match compare_key(&all[by_key[middle]].key, wanted) {
+            Ordering::Less => low = middle + 1,
+            Ordering::Equal => return Ok(middle),
+            Ordering::Greater => high = middle,
+        }
+    }
+    Err(low)
+}
+
+impl Table {
+    pub(crate) fn new(alloc: Global) -> Table
+        ensures { result ≡ [] }
+    {
+        Table {
+            all: Vec::new(alloc),
+            by_key: Vec::new(alloc),
+        }
+    }
+
+    pub(crate) fn len(&self) -> usize
+        ensures count { result ≡ length self.now }
+        ensures distinct { IsDistinct self.now }
+    {
+        self.all.len()
+    }
+
+    pub(crate) fn entry_at(&self, place: usize) -> Option<(&Key, &Value)>
+        ensures { option_map (λ e. (key_view e.0.now, e.1.now)) result ≡ slice_get self.now place }
+    {
+        match self.all.get(place) {
+            Some(entry) => Some((&entry.key, &entry.value)),
+            None => None,
+        }
+    }
+
+    pub(crate) fn value_at(&self, wanted: &Wanted<'_>) -> Option<&Value>
+        ensures { option_copied result ≡ find (wanted_view wanted.now) self.now }
+    {
+        match search(self.all.as_slice(), self.by_key.as_slice(), wanted) {
+            Ok(at) => Some(&self.all[self.by_key[at]].value),
+            Err(_) => None,
+        }
+    }
+
+    pub(crate) fn insert(&mut self, key: Key, value: Value) -> TeraResult<()>
+        ensures ok { OnOk result (self.new ≡ insert_pair self.old (key_view key) value) }
+        ensures err { OnErr result (self.new ≡ self.old) }
+        ensures there { IsSome (find (key_view key) self.old) → IsOk result }
+        ensures lacks { IfErr result Lacks }
+    {
+        match search(self.all.as_slice(), self.by_key.as_slice(), &key.wanted()) {
+            Ok(at) => {
+                let place = self.by_key[at];
+                let old = replace(&mut self.all[place].value, value);
+                drop(old);
+                drop(key);
+                Ok(())
+            }
+            Err(at) => {
+                let place = self.all.len();
+                self.all.push(Entry { key, value })?;
+                match self.by_key.insert(at, place) {
+                    Ok(()) => Ok(()),
+                    Err(error) => {
+                        self.all.pop();
+                        Err(error.into())
+                    }
+                }
+            }
+        }
+    }
+}

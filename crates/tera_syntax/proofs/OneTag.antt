@@ -97,26 +97,26 @@ module _ (limit : ℕ) (q outer : Bool) (tokens : List Token) (t : Tag) where
       let g = guard (is_alone word tokens) (Some u) t h in
       said u (m (e, g.0)) (some-is u t g.1)
 
-  leaving-got : (word : Text) (u : Tag) → first tokens ≡ k.Name → (IsTrue q → IsWord k.Name word tokens → Meant limit q outer tokens u) → leaving q word tokens u ≡ Some t → Says
-  leaving-got word u e m h =
-      let g = guard q (alone word tokens u) t h in
-      alone-got k.Name word u e (m g.0) g.1
+  leaving-got : (word : Text) (n : Node) → first tokens ≡ k.Name → (IsTrue q → IsWord k.Name word tokens → Meant limit q outer tokens (Single n)) → leaving q word tokens n ≡ Some t → Says
+  leaving-got word n e m h =
+      let g = guard q (alone word tokens (Single n)) t h in
+      alone-got k.Name word (Single n) e (m g.0) g.1
 
   abbrev by-continue : Text → Option Tag
-  by-continue word = if bytes_eq word (codes "continue") then leaving q (codes "continue") tokens (Single Continue) else Some Closing
+  by-continue word = if bytes_eq word (codes "continue") then leaving q (codes "continue") tokens Continue else Some Closing
 
   abbrev by-break : Text → Option Tag
-  by-break word = if bytes_eq word (codes "break") then leaving q (codes "break") tokens (Single Break) else by-continue word
+  by-break word = if bytes_eq word (codes "break") then leaving q (codes "break") tokens Break else by-continue word
 
   abbrev by-set_global : Text → Option Tag
   by-set_global word = if bytes_eq word (codes "set_global") then setting limit true (next (begin q tokens)) else by-break word
 
-  continue-by : first tokens ≡ k.Name → (b : Bool) → (if b then leaving q (codes "continue") tokens (Single Continue) else Some Closing) ≡ Some t → Says
-  continue-by e true h = leaving-got (codes "continue") (Single Continue) e (λ l w. (continues l w, omega arith)) h
+  continue-by : first tokens ≡ k.Name → (b : Bool) → (if b then leaving q (codes "continue") tokens Continue else Some Closing) ≡ Some t → Says
+  continue-by e true h = leaving-got (codes "continue") Continue e (λ l w. (continues l w, omega arith)) h
   continue-by e false h = said Closing tt (some-is Closing t h)
 
-  break-by : first tokens ≡ k.Name → (word : Text) → (b : Bool) → (if b then leaving q (codes "break") tokens (Single Break) else by-continue word) ≡ Some t → Says
-  break-by e word true h = leaving-got (codes "break") (Single Break) e (λ l w. (breaks l w, omega arith)) h
+  break-by : first tokens ≡ k.Name → (word : Text) → (b : Bool) → (if b then leaving q (codes "break") tokens Break else by-continue word) ≡ Some t → Says
+  break-by e word true h = leaving-got (codes "break") Break e (λ l w. (breaks l w, omega arith)) h
   break-by e word false h = continue-by e (bytes_eq word (codes "continue")) h
 
   set_global-by : first tokens ≡ k.Name → (word : Text) → text (begin false tokens) ≡ word → (b : Bool) → bytes_eq word (codes "set_global") ≡ b
@@ -164,11 +164,11 @@ module _ (limit : ℕ) (q outer : Bool) (tokens : List Token) where
   set-named true = refl
   set-named false = refl
 
-  break-named : named limit q tokens (codes "break") ≡ leaving q (codes "break") tokens (Single Break)
+  break-named : named limit q tokens (codes "break") ≡ leaving q (codes "break") tokens Break
   unfolding named
   break-named = refl
 
-  continue-named : named limit q tokens (codes "continue") ≡ leaving q (codes "continue") tokens (Single Continue)
+  continue-named : named limit q tokens (codes "continue") ≡ leaving q (codes "continue") tokens Continue
   unfolding named
   continue-named = refl
 
@@ -193,13 +193,13 @@ module _ (limit : ℕ) (q outer : Bool) (tokens : List Token) where
   alone-is : (word : Text) (u : Tag) → IsTrue (is_alone word tokens) → alone word tokens u ≡ Some u
   alone-is word u h = ap (λ (b : Bool). if b then Some u else None) h
 
-  leaving-is : (word : Text) (u : Tag) → IsTrue q → IsTrue (is_alone word tokens) → leaving q word tokens u ≡ Some u
-  leaving-is word u l h = ap (λ (b : Bool). if b then alone word tokens u else None) l ∙ alone-is word u h
+  leaving-is : (word : Text) (n : Node) → IsTrue q → IsTrue (is_alone word tokens) → leaving q word tokens n ≡ Some (Single n)
+  leaving-is word n l h = ap (λ (b : Bool). if b then alone word tokens (Single n) else None) l ∙ alone-is word (Single n) h
 
   pub simple_read : {node : Node} → Simple q node tokens → node_depth node ≤ suc limit → tag limit q outer tokens ≡ Some (Single node)
   simple_read (set {e = e} b n w) le = set-read e b n w (omega (arith, le))
-  simple_read (breaks l w) le = by-word (codes "break") (w.0, alone-text (codes "break") tokens w.1) ∙ break-named ∙ leaving-is (codes "break") (Single Break) l w.1
-  simple_read (continues l w) le = by-word (codes "continue") (w.0, alone-text (codes "continue") tokens w.1) ∙ continue-named ∙ leaving-is (codes "continue") (Single Continue) l w.1
+  simple_read (breaks l w) le = by-word (codes "break") (w.0, alone-text (codes "break") tokens w.1) ∙ break-named ∙ leaving-is (codes "break") Break l w.1
+  simple_read (continues l w) le = by-word (codes "continue") (w.0, alone-text (codes "continue") tokens w.1) ∙ continue-named ∙ leaving-is (codes "continue") Continue l w.1
 
   pub opens_read : {head : Head} → Opens q head tokens → head_depth head ≤ limit → tag limit q outer tokens ≡ Some (Opening head)
   opens_read (choice e w) le = by-kind k.If e ∙ ap (option_map (λ c. Opening (IfHead c))) (whole_complete w limit le)

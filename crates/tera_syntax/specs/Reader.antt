@@ -130,17 +130,17 @@ setting limit is_global i = if same k.Name (kind i) then setting_by limit is_glo
 abbrev pub alone : Text → List Token → Tag → Option Tag
 alone word tokens tag = if is_alone word tokens then Some tag else None
 
--- a tag that is one word, in a loop's body
-abbrev pub leaving : Bool → Text → List Token → Tag → Option Tag
-leaving q word tokens tag = if q then alone word tokens tag else None
+-- a tag that is one word and leaves a turn of the loop that it stands in
+abbrev pub leaving : Bool → Text → List Token → Node → Option Tag
+leaving q word tokens node = if q then alone word tokens (Single node) else None
 
 -- a tag that begins with this word, which is not reserved
 unfoldable pub named : ℕ → Bool → List Token → Text → Option Tag
 named limit q tokens word =
     if bytes_eq word (codes "set") then setting limit false (next (begin q tokens)) else (
     if bytes_eq word (codes "set_global") then setting limit true (next (begin q tokens)) else (
-    if bytes_eq word (codes "break") then leaving q (codes "break") tokens (Single Break) else (
-    if bytes_eq word (codes "continue") then leaving q (codes "continue") tokens (Single Continue) else Some Closing)))
+    if bytes_eq word (codes "break") then leaving q (codes "break") tokens Break else (
+    if bytes_eq word (codes "continue") then leaving q (codes "continue") tokens Continue else Some Closing)))
 
 -- whether a word that begins a statement begins with this byte and is this long
 abbrev pub may_begin : ℕ → ℕ → Bool

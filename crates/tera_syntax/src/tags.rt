@@ -5,7 +5,7 @@ ghost use Rattle.tera_syntax.specs.View.{tag_of};
 ghost use Rattle.tera_tokens.specs.Answers.{Answers};
 ghost use Rattle.tera_tokens.specs.Takes.{input};
 ghost use Rattle.tera_tokens.specs.Token.{tokens_of};
-ghost use Rattle.tera_tree.specs.View.{expr_of};
+ghost use Rattle.tera_tree.specs.View.{expr_of, node_of};
 
 use crate::heads::{Head, first};
 use std::alloc::Global;
@@ -17,6 +17,7 @@ use tera_tokens::refusal::{Reason, Refusal};
 use tera_tokens::token::{Kind, Token};
 use tera_tree::{Expression, Heading, Node};
 
+/// What the tag of a statement is.
 #[derive(Drop)]
 pub(crate) enum Tag {
     /// A statement.
@@ -79,7 +80,7 @@ fn setting(
             Ok(Tag::Single(Node::set(name, value, is_global)))
         }
         Kind::End => Ok(Tag::Opening(Head::Set(name, is_global))),
-        _ => Err(tokens.refuse(Reason::NoOperation)),
+        _ => Err(tokens.refuse(Reason::Expected(Kind::Assign))),
     }
 }
 
@@ -94,9 +95,9 @@ fn alone(word: &str, tokens: &[Token<'_>], tag: Tag) -> Result<Tag, Refusal>
     }
 }
 
-/// A tag that is one word, in a loop's body.
+/// A tag that is one word and leaves a turn of the loop that it stands in.
 fn leaving(in_loop: bool, word: &str, tokens: &[Token<'_>], node: Node) -> Result<Tag, Refusal>
-    ensures { let meant = spec.leaving in_loop word.now (tokens_of tokens.now) (tag_of (Tag.Single node)) in
+    ensures { let meant = spec.leaving in_loop word.now (tokens_of tokens.now) (node_of node) in
         Answers tag_of meant result }
 {
     if in_loop {
@@ -106,7 +107,7 @@ fn leaving(in_loop: bool, word: &str, tokens: &[Token<'_>], node: Node) -> Resul
     }
 }
 
-/// Whether a word that begins a statement begins so and is this long. Most ends are told from them by that.
+/// Whether a word that begins a statement begins so and is this long. Ends are told from these by that.
 #[inline]
 fn may_begin(first: u8, size: usize) -> bool
     ensures { result ≡ spec.may_begin first size }
@@ -170,7 +171,8 @@ fn begun(
     }
 }
 
-/// A tag with expressions no deeper than `limit`. The flags say whether it, and what is open, stand in a loop's body.
+/// A tag with expressions no deeper than `limit`. The flags say whether it, and what is open, stand in
+/// a loop's body.
 #[tactic(auto, unfolding(crate::specs::Reader::tag))]
 pub(crate) fn read_tag(
     alloc: Global,

@@ -1,19 +1,19 @@
 -- What is derived is read.
 use Rattle.std.proofs.Common.{◌≡◌, ℕ, zero, suc, ◌≤◌, ◌⊎◌, inl, inr, max, ◌∷◌, Bool, true, false, Option, Some, refl, ◌∙◌, ap, arith}
 use Rattle.tera_tree.specs.declared.expression.BinaryOperator.TheVariants as binary
-use Rattle.tera_tree.specs.Tree.{Expr, Nothing, Boolean, Integer, Text, Name, Attribute, Index, Slice, Optional, Not, Negate, Binary, Ternary, Array, Items, NoItems, MoreItems, Map, Key, Entries, NoEntries, MoreEntries}
+use Rattle.tera_tree.specs.Tree.{Expr, Nothing, Boolean, Integer, Text, Name, Attribute, Index, Slice, Optional, Not, Negate, Binary, Ternary, Array, Items, NoItems, MoreItems, Map, Comprehension, Key, Entries, NoEntries, MoreEntries}
 use Rattle.tera_tree.specs.Depth.{depth, items_depth, entries_depth, optional_depth}
 use Rattle.tera_tokens.specs.declared.token.Kind.TheVariants as k
 use Rattle.tera_tokens.specs.Input.{Input, kind, start, text, next, left, span}
-use Rattle.tera_expressions.specs.Grammar.{Derives, quoted, tighter, choice, operation, not, not_in, minus, power, attribute, index, slice, DerivesPart, absent, present, DerivesStep, no_step, step, int, is_true, is_false, nothing, name, of_loop, parentheses, array, map, DerivesEntry, keyed, spread_map, DerivesEntries, no_entries, one_entry, more_entries, DerivesItem, plain, spread, DerivesItems, none, one, more}
+use Rattle.tera_expressions.specs.Grammar.{Derives, quoted, tighter, choice, operation, not, not_in, minus, power, attribute, index, slice, DerivesPart, absent, present, DerivesStep, no_step, step, int, is_true, is_false, nothing, name, of_loop, parentheses, array, map, DerivesEntry, keyed, spread_map, DerivesEntries, no_entries, one_entry, more_entries, DerivesItem, plain, spread, DerivesItems, none, one, more, comprehension, DerivesCondition, no_condition, condition}
 use Rattle.tera_expressions.specs.Expressions as r
 use Rattle.tera_expressions.specs.Loops.{behind_loop}
 use Rattle.tera_expressions.specs.Expressions.{deep, needs, expr, behind_dots, join_items, one_item, join_entries}
 use Rattle.tera_expressions.proofs.Steps.{differ, unlike, alike}
-use Rattle.tera_expressions.proofs.Precedence.{operator-depth, is-no-end, operator-needs, dot-needs, bracket-needs, needs-some, not-three, not-eight, stops-up, ends-up, ends, eight-of-nine, if-kind, not-kind, power-kind, closing-kinds, needs-at, gives-at, begin-kinds, ends-bound, at-most}
-use Rattle.tera_expressions.proofs.Extent.{next-left, token, word-left, shorter, shorter-entry, shorter-entries, shorter-part, shorter-step, shorter-item, shorter-all, starts-so, item-starts, entry-starts, step-begins}
-use Rattle.tera_expressions.proofs.Rows.{list-nil, list-one, list-more, list-start, row-nil, row-one, row-more, row-start}
-use Rattle.tera_expressions.proofs.Forms.{deep-node, some-depth, infixed-is, operator-is, power-is, not_in-is, choice-is, attribute-is, index-is, slice-is, prefixed-is, item-none, item-one, item-more, array-is, key-is, dots-is, entry-none, entry-one, entry-more, map-is, int-is, quoted-is, part-colon, part-bracket, part-some, step-none, step-some}
+use Rattle.tera_expressions.proofs.Precedence.{operator-depth, is-no-end, operator-needs, dot-needs, bracket-needs, needs-some, not-three, not-eight, stops-up, ends-up, ends, eight-of-nine, if-kind, not-kind, power-kind, closing-kinds, needs-at, gives-at, begin-kinds, ends-bound, ends-target, at-most}
+use Rattle.tera_expressions.proofs.Extent.{next-left, token, word-left, shorter, shorter-entry, shorter-entries, shorter-part, shorter-step, shorter-item, shorter-all, starts-so, item-starts, entry-starts, step-begins, condition-begins}
+use Rattle.tera_expressions.proofs.Rows.{list-nil, list-one, list-more, list-only, row-nil, row-one, row-more, row-start}
+use Rattle.tera_expressions.proofs.Forms.{deep-node, some-depth, infixed-is, operator-is, power-is, not_in-is, choice-is, attribute-is, index-is, slice-is, prefixed-is, item-none, item-one, item-more, behind-last, behind-comma, empty-is, array-is, no-condition-is, condition-is, comprehension-is, key-is, dots-is, entry-none, entry-one, entry-more, map-is, int-is, quoted-is, part-colon, part-bracket, part-some, step-none, step-some}
 use Rattle.tera_expressions.proofs.Turning.{close, lower, reading-open, Goes, whole, part-read, goes-on, goes-first, head-is, goes-leaf}
 
 mutual
@@ -109,7 +109,17 @@ mutual
   goes (array {xs = xs} {i = i} {a = a} h d g) b m n floor os y dep fl st fu c =
       let t1 = token k.LeftBracket i h (λ e. cc) in let t2 = token k.RightBracket a g (λ e. cc) in let s1 = shorter-all d in
       goes-first b m n floor 11 os k.LeftBracket (Array xs (span (start i) (next a))) i (next a) y h (λ e. cc) begin-kinds.4 fl (omega arith)
-      (head-is (suc b) (expr b) i k.LeftBracket h ∙ array-is (suc b) (expr b) xs i a (goes-all d g b (left (next i)) NoItems 0 (omega arith) (omega arith) ∙ list-start xs (items_depth xs) (next a)) dep) c
+      (head-is (suc b) (expr b) i k.LeftBracket h ∙ goes-array d g b (start i) dep) c
+  goes (comprehension {x = x} {target = z} {key = key} {called = word} {only = p} {i = i} {a = a} {b = v} {c = u} {d = e} h d f w t q g) b m n floor os y dep fl st fu c =
+      let n1 = needs-at (kind a) k.For 12 f closing-kinds.7 in
+      let en = ends-target (kind u) (condition-begins q g) in
+      let be = starts-so d in
+      let px : part-read b 0 x (next i) a = whole 0 x (next i) a (goes d) (inr (omega arith)) (inr (omega arith)) (some-depth x) b (omega arith) in
+      let pz : part-read b 1 z v u = whole 1 z v u (goes t) en.0 en.1 (some-depth z) b (omega arith) in
+      let s1 = shorter (comprehension h d f w t q g) in
+      goes-first b m n floor 11 os k.LeftBracket (Comprehension x key word z p (span (start i) (next e))) i (next e) y h (λ e. cc) begin-kinds.4 fl (omega arith)
+      (head-is (suc b) (expr b) i k.LeftBracket h
+      ∙ comprehension-is (suc b) (expr b) x z key word p i a v u e be.0 (unlike k.Spread (kind (next i)) be.1) px f w pz (goes-condition q g (suc b) b (omega arith)) g dep) c
   goes (map {xs = xs} {i = i} {a = a} h d g) b m n floor os y dep fl st fu c =
       let t1 = token k.LeftBrace i h (λ e. cc) in let t2 = token k.RightBrace a g (λ e. cc) in let s1 = shorter-entries d in
       goes-first b m n floor 11 os k.LeftBrace (Map xs (span (start i) (next a))) i (next a) y h (λ e. cc) begin-kinds.9 fl (omega arith)
@@ -160,6 +170,26 @@ mutual
   goes-item (spread {x = x} {i = i} {j = a} q d) h b le =
       let e : behind_dots i ≡ next i = rw (alike k.Spread (kind i) q) refl in
       ap (expr b 0) e ∙ whole 0 x (next i) a (goes d) (inr (omega arith)) (inr (omega arith)) (some-depth x) b le
+
+  goes-condition : {o : Optional} {i a : Input} → DerivesCondition o i a → kind a ≡ k.RightBracket → (limit b : ℕ) → optional_depth o ≤ b → r.condition limit (expr b) i ≡ Some ((o, optional_depth o), a)
+  goes-condition (no_condition {i = i}) h limit b le = no-condition-is limit (expr b) i h
+  goes-condition (condition {x = x} {i = i} {j = a} q d) h limit b le =
+      let en = ends-target (kind a) (inr h) in
+      condition-is limit (expr b) x i a q (whole 1 x (next i) a (goes d) en.0 en.1 (some-depth x) b le)
+
+  goes-array : {xs : Items} {i a : Input} → DerivesItems xs i a → kind a ≡ k.RightBracket → (b from : ℕ) → depth (Array xs (span from (next a))) ≤ suc b
+      → r.bracketed (suc b) (expr b) from i ≡ Some (deep (Array xs (span from (next a))), next a)
+  goes-array (none {i = i}) g b from le = empty-is (suc b) (expr b) from i g (omega arith)
+  goes-array (one {s = s} {x = x} {i = i} {j = a} q) g b from le =
+      let n1 = needs-at (kind a) k.RightBracket 12 g closing-kinds.2 in
+      let w = item-starts q in
+      array-is (suc b) (expr b) from s x (MoreItems s x NoItems) i a (next a) w.0 w.1 (goes-item q n1 b (omega arith)) (differ k.For k.RightBracket (kind a) g (λ e. cc))
+      (behind-last (suc b) (expr b) (one_item s x) (depth x) a g ∙ list-only s x (next a)) le
+  goes-array (more {s = s} {x = x} {xs = xs} {i = i} {a = v} {j = a} q h t) g b from le =
+      let n1 = needs-at (kind v) k.Comma 12 h closing-kinds.3 in
+      let w = item-starts q in
+      array-is (suc b) (expr b) from s x (MoreItems s x xs) i v (next a) w.0 w.1 (goes-item q n1 b (omega arith)) (differ k.For k.Comma (kind v) h (λ e. cc))
+      (behind-comma (suc b) (expr b) (one_item s x) (depth x) v h ∙ goes-all t g b (left (next v)) (one_item s x) (depth x) (omega arith) (omega arith)) le
 
   goes-all : {xs : Items} {i a : Input} → DerivesItems xs i a → kind a ≡ k.RightBracket → (b n : ℕ) (found : Items) (d : ℕ) → items_depth xs ≤ b → left i ≤ n
       → r.items_from (suc b) (expr b) n found d i ≡ Some ((join_items found xs, max d (items_depth xs)), next a)

@@ -6,7 +6,9 @@ use Rattle.tera_tokens.specs.declared.token.Kind.TheVariants as k
 use Rattle.tera_tokens.specs.Token.{Token}
 use Rattle.tera_tokens.specs.Input.{Input, same, kind, kind_of, text, next, after, left, is_word}
 use Rattle.tera_expressions.specs.Keys.{key_at, key_by}
-use Rattle.tera_expressions.specs.Grammar.{Derives, quoted, tighter, choice, operation, not, not_in, minus, power, attribute, index, slice, DerivesPart, absent, present, DerivesStep, no_step, step, int, is_true, is_false, nothing, name, of_loop, parentheses, array, map, DerivesEntry, keyed, spread_map, DerivesEntries, no_entries, one_entry, more_entries, DerivesItem, plain, spread, DerivesItems, none, one, more}
+use Rattle.tera_expressions.specs.Grammar.{Derives, quoted, tighter, choice, operation, not, not_in, minus, power, attribute, index, slice, DerivesPart, absent, present, DerivesStep, no_step, step, int, is_true, is_false, nothing, name, of_loop, parentheses, array, map, DerivesEntry, keyed, spread_map, DerivesEntries, no_entries, one_entry, more_entries, DerivesItem, plain, spread, DerivesItems, none, one, more, comprehension, DerivesCondition, no_condition, condition}
+use Rattle.tera_expressions.specs.Headings.{Calls, value, key_and_value}
+use Rattle.tera_errors.specs.Site as site
 use Rattle.tera_expressions.proofs.Steps.{unlike, alike}
 use Rattle.tera_expressions.proofs.Precedence.{is-no-end, dot-needs, bracket-needs}
 
@@ -43,6 +45,12 @@ key-kind s i key h e q = let f : key_by (kind i) (text i) ≡ None = ap (λ s. k
 pub key-left : (i : Input) (key : Key) → key_at i ≡ Some key → left (next i) < left i
 key-left i key h = token (kind i) i refl (key-kind k.End i key h refl)
 
+pub shorter-calls : {key : Option site.Name} {called : site.Name} {i j : Input} → Calls key called i j → left j < left i
+shorter-calls (value {i = i} h) = let t1 = token k.Name i h.0 (λ e. cc) in let t2 = token k.In (next i) h.1 (λ e. cc) in omega arith
+shorter-calls (key_and_value {i = i} h g) =
+    let t1 = token k.Name i h.0 (λ e. cc) in let t2 = token k.Comma (next i) h.1 (λ e. cc) in
+    let t3 = token k.Name (next (next i)) g.0 (λ e. cc) in let t4 = token k.In (next (next (next i))) g.1 (λ e. cc) in omega arith
+
 mutual
   pub shorter : {l : ℕ} {x : Expr} {i j : Input} → Derives l x i j → left j < left i
   shorter (tighter d) = shorter d
@@ -67,6 +75,13 @@ mutual
   shorter (parentheses {i = i} {a = a} h d g) = let p1 = shorter d in let t1 = token k.LeftParenthesis i h (λ e. cc) in let t2 = token k.RightParenthesis a g (λ e. cc) in omega arith
   shorter (array {i = i} {a = a} h d g) = let p1 = shorter-all d in let t1 = token k.LeftBracket i h (λ e. cc) in let t2 = token k.RightBracket a g (λ e. cc) in omega arith
   shorter (map {i = i} {a = a} h d g) = let p1 = shorter-entries d in let t1 = token k.LeftBrace i h (λ e. cc) in let t2 = token k.RightBrace a g (λ e. cc) in omega arith
+  shorter (comprehension {i = i} {a = a} {d = e} h d f c t o g) =
+      let p1 = shorter d in let p2 = shorter-calls c in let p3 = shorter t in let p4 = shorter-condition o in
+      let t1 = token k.LeftBracket i h (λ e. cc) in let t2 = token k.For a f (λ e. cc) in let t3 = token k.RightBracket e g (λ e. cc) in omega arith
+
+  pub shorter-condition : {o : Optional} {i j : Input} → DerivesCondition o i j → left j ≤ left i
+  shorter-condition no_condition = omega arith
+  shorter-condition (condition {i = i} h d) = let p1 = shorter d in let t1 = token k.If i h (λ e. cc) in omega arith
 
   pub shorter-entry : {key : Option Key} {x : Expr} {i j : Input} → DerivesEntry key x i j → left j < left i
   shorter-entry (keyed {key = key} {i = i} h q d) = let p1 = shorter d in let t1 = key-left i key h in let t2 = token k.Colon (next i) q (λ e. cc) in omega arith
@@ -119,6 +134,7 @@ starts-so (name h e) = (λ e. cc, λ e. cc, λ e. cc)
 starts-so (of_loop h e) = (λ e. cc, λ e. cc, λ e. cc)
 starts-so (parentheses h d g) = (λ e. cc, λ e. cc, λ e. cc)
 starts-so (array h d g) = (λ e. cc, λ e. cc, λ e. cc)
+starts-so (comprehension h d f c t o g) = (λ e. cc, λ e. cc, λ e. cc)
 
 pub item-starts : {s : Bool} {x : Expr} {i j : Input} → DerivesItem s x i j → (kind i ≡ k.RightBracket → ⊥) × (same k.Spread (kind i) ≡ s)
 item-starts (plain {i = i} d) = let b = starts-so d in (b.0, unlike k.Spread (kind i) b.1)
@@ -131,3 +147,7 @@ entry-starts (spread_map h d) = λ e. cc
 pub step-begins : {o : Optional} {i a : Input} → DerivesStep o i a → kind a ≡ k.RightBracket → (kind i ≡ k.Colon) ⊎ (kind i ≡ k.RightBracket)
 step-begins no_step h = inr h
 step-begins (step q f) h = inl q
+
+pub condition-begins : {o : Optional} {i a : Input} → DerivesCondition o i a → kind a ≡ k.RightBracket → (kind i ≡ k.If) ⊎ (kind i ≡ k.RightBracket)
+condition-begins no_condition h = inr h
+condition-begins (condition q d) h = inl q

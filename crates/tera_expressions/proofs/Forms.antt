@@ -1,10 +1,10 @@
 -- What each form is read to.
-use Rattle.std.proofs.Common.{◌≡◌, ℕ, suc, ◌+◌, ◌<◌, ◌≤◌, max, ℤ, Bool, true, false, nat_lt, Option, Some, None, option_map, refl, ◌∙◌, ap, arith}
+use Rattle.std.proofs.Common.{◌≡◌, ℕ, suc, ◌+◌, ◌<◌, ◌≤◌, max, ℤ, Bool, true, false, not, nat_lt, Option, Some, None, option_map, refl, ◌∙◌, ap, arith}
 use Rattle.std.proofs.lemmas.Grind.{common_steps}
 use Rattle.tera_errors.specs.Site as site
 use Rattle.tera_errors.specs.declared.span.Span.{Span}
 use Rattle.tera_tree.specs.declared.expression.BinaryOperator.TheVariants as binary
-use Rattle.tera_tree.specs.Tree.{Expr, Nothing, Integer, Text, Attribute, Index, Slice, Optional, Absent, Present, Not, Binary, Ternary, Array, Items, NoItems, Map, Key, Entries, NoEntries}
+use Rattle.tera_tree.specs.Tree.{Expr, Nothing, Integer, Text, Attribute, Index, Slice, Optional, Absent, Present, Not, Binary, Ternary, Array, Items, NoItems, Map, Comprehension, Key, Entries, NoEntries}
 use Rattle.tera_tree.specs.Depth.{depth, items_depth, entries_depth, optional_depth}
 use Rattle.tera_tokens.specs.declared.token.Kind.{Kind}
 use Rattle.tera_tokens.specs.declared.token.Kind.TheVariants as k
@@ -12,11 +12,14 @@ use Rattle.tera_tokens.specs.Input.{Input, Parser, same, kind, start, text, next
 use Rattle.tera_tokens.specs.Literal.{integer, literal}
 use Rattle.tera_expressions.specs.Keys.{key_at}
 use Rattle.tera_expressions.specs.Grammar.{Operator, or, and, equal, not_equal, less, greater, less_or_equal, greater_or_equal, is_in, concat, add, subtract, multiply, divide, floor_divide, remainder, Dot, dot, optional_dot, Bracket, bracket, optional_bracket}
+use Rattle.tera_expressions.specs.Headings.{Calls, value, key_and_value, calls, calls_behind, called}
+use Rattle.tera_expressions.specs.Headings as headings
 use Rattle.tera_expressions.specs.Expressions as r
 use Rattle.tera_expressions.specs.Expressions.{Deep, deep, expr, node, prefixed, infixed, applied, behind_dots, join_items, one_item, join_entries}
 use Rattle.tera_expressions.proofs.Steps as steps
 use Rattle.tera_expressions.proofs.Steps.{differ, unlike, alike}
 use Rattle.tera_expressions.proofs.Extent.{key-kind}
+use Rattle.tera_expressions.proofs.Precedence.{and-false}
 
 pub deep-node : (limit d : ℕ) (x : Expr) (j : Input) → suc d ≤ limit → depth x ≡ suc d → node limit d x j ≡ Some (deep x, j)
 unfolding node
@@ -127,17 +130,54 @@ module _ (limit : ℕ) (part : ℕ → Parser Deep) where
   pub item-one : (n : ℕ) (found : Items) (d : ℕ) (s : Bool) (x : Expr) (i a : Input) → (kind i ≡ k.RightBracket → ⊥) → same k.Spread (kind i) ≡ s → part 0 (behind_dots i) ≡ Some (deep x, a) → kind a ≡ k.RightBracket
       → r.items_from limit part (suc n) found d i ≡ Some ((join_items found (one_item s x), max d (depth x)), next a)
   unfolding r.items_from
-  item-one n found d s x i a h e p g = rw (unlike k.RightBracket (kind i) h, p, differ k.Comma k.RightBracket (kind a) g (λ e. cc), alike k.RightBracket (kind a) g, e) refl
+  item-one n found d s x i a h e p g = rw (unlike k.RightBracket (kind i) h, p, differ k.Comma k.RightBracket (kind a) g (λ e. cc), expects limit part k.RightBracket a g, e) refl
 
   pub item-more : (n : ℕ) (found : Items) (d : ℕ) (s : Bool) (x : Expr) (i a : Input) (y : Option ((Items × ℕ) × Input)) → (kind i ≡ k.RightBracket → ⊥) → same k.Spread (kind i) ≡ s → part 0 (behind_dots i) ≡ Some (deep x, a)
       → kind a ≡ k.Comma → r.items_from limit part n (join_items found (one_item s x)) (max d (depth x)) (next a) ≡ y → r.items_from limit part (suc n) found d i ≡ y
   unfolding r.items_from
   item-more n found d s x i a y h e p g q = rw (unlike k.RightBracket (kind i) h, p, alike k.Comma (kind a) g, e) q
 
-  pub array-is : (xs : Items) (i a : Input) → r.items_from limit part (left (next i)) NoItems 0 (next i) ≡ Some ((xs, items_depth xs), next a)
-      → depth (Array xs (span (start i) (next a))) ≤ limit → r.array limit part i ≡ Some (deep (Array xs (span (start i) (next a))), next a)
-  unfolding r.array
-  array-is xs i a h le = rw h (deep-node limit (items_depth xs) (Array xs (span (start i) (next a))) (next a) (omega arith) refl)
+  pub behind-last : (found : Items) (d : ℕ) (a : Input) → kind a ≡ k.RightBracket → r.items_behind limit part found d a ≡ Some ((found, d), next a)
+  unfolding r.items_behind
+  behind-last found d a g = rw (differ k.Comma k.RightBracket (kind a) g (λ e. cc), expects limit part k.RightBracket a g) refl
+
+  pub behind-comma : (found : Items) (d : ℕ) (a : Input) → kind a ≡ k.Comma → r.items_behind limit part found d a ≡ r.items_from limit part (left (next a)) found d (next a)
+  unfolding r.items_behind
+  behind-comma found d a g = rw (alike k.Comma (kind a) g) refl
+
+  pub empty-is : (from : ℕ) (i : Input) → kind i ≡ k.RightBracket → 1 ≤ limit → r.bracketed limit part from i ≡ Some (deep (Array NoItems (span from (next i))), next i)
+  unfolding r.bracketed
+  empty-is from i h le = rw (alike k.RightBracket (kind i) h) (deep-node limit 0 (Array NoItems (span from (next i))) (next i) le refl)
+
+  pub array-is : (from : ℕ) (s : Bool) (x : Expr) (xs : Items) (i a j : Input) → (kind i ≡ k.RightBracket → ⊥) → same k.Spread (kind i) ≡ s → part 0 (behind_dots i) ≡ Some (deep x, a) → same k.For (kind a) ≡ false
+      → r.items_behind limit part (one_item s x) (depth x) a ≡ Some ((xs, items_depth xs), j) → depth (Array xs (span from j)) ≤ limit
+      → r.bracketed limit part from i ≡ Some (deep (Array xs (span from j)), j)
+  unfolding r.bracketed r.array
+  array-is from s x xs i a j h e p f q le =
+      rw (unlike k.RightBracket (kind i) h, p, f, and-false (not (same k.Spread (kind i))), e, q) (deep-node limit (items_depth xs) (Array xs (span from j)) j (omega arith) refl)
+
+  pub no-condition-is : (i : Input) → kind i ≡ k.RightBracket → r.condition limit part i ≡ Some ((Absent, 0), i)
+  unfolding r.condition
+  no-condition-is i h = rw (differ k.If k.RightBracket (kind i) h (λ e. cc)) refl
+
+  pub condition-is : (x : Expr) (i a : Input) → kind i ≡ k.If → part 1 (next i) ≡ Some (deep x, a) → r.condition limit part i ≡ Some ((Present x, depth x), a)
+  unfolding r.condition
+  condition-is x i a h e = rw (alike k.If (kind i) h, e) refl
+
+  pub calls-is : {key : Option site.Name} {name : site.Name} {i j : Input} → Calls key name i j → calls i ≡ Some ((key, name), j)
+  unfolding calls headings.name calls_behind called
+  calls-is (value {i = i} h) = rw (alike k.Name (kind i) h.0, differ k.Comma k.In (kind (next i)) h.1 (λ e. cc), expects limit part k.In (next i) h.1) refl
+  calls-is (key_and_value {i = i} h g) =
+      rw (alike k.Name (kind i) h.0, alike k.Comma (kind (next i)) h.1, alike k.Name (kind (next (next i))) g.0, expects limit part k.In (next (next (next i))) g.1) refl
+
+  pub comprehension-is : (x y : Expr) (key : Option site.Name) (name : site.Name) (o : Optional) (i a b c d : Input) → (kind (next i) ≡ k.RightBracket → ⊥) → same k.Spread (kind (next i)) ≡ false
+      → part 0 (next i) ≡ Some (deep x, a) → kind a ≡ k.For → Calls key name (next a) b → part 1 b ≡ Some (deep y, c) → r.condition limit part c ≡ Some ((o, optional_depth o), d) → kind d ≡ k.RightBracket
+      → depth (Comprehension x key name y o (span (start i) (next d))) ≤ limit
+      → r.bracketed limit part (start i) (next i) ≡ Some (deep (Comprehension x key name y o (span (start i) (next d))), next d)
+  unfolding r.bracketed r.comprehension r.comprehension_made
+  comprehension-is x y key name o i a b c d h e p f w q t g le =
+      rw (unlike k.RightBracket (kind (next i)) h, e, p, alike k.For (kind a) f, calls-is w, q, t, expects limit part k.RightBracket d g)
+      (deep-node limit (max (depth x) (max (depth y) (optional_depth o))) (Comprehension x key name y o (span (start i) (next d))) (next d) (omega arith) refl)
 
   pub key-is : (key : Key) (i : Input) → key_at i ≡ Some key → kind (next i) ≡ k.Colon → r.entry_key i ≡ Some (Some key, next (next i))
   unfolding r.entry_key

@@ -7,7 +7,7 @@ use Rattle.tera_tree.specs.Depth.{depth}
 use Rattle.tera_tokens.specs.declared.token.Kind.{Kind}
 use Rattle.tera_tokens.specs.declared.token.Kind.TheVariants as k
 use Rattle.tera_tokens.specs.Input.{Input}
-use Rattle.tera_expressions.specs.Grammar.{Operator, or, and, equal, not_equal, less, greater, less_or_equal, greater_or_equal, is_in, concat, add, subtract, multiply, divide, floor_divide, remainder, Dot, dot, optional_dot, Bracket, bracket, optional_bracket, Derives, quoted, tighter, choice, operation, not, not_in, minus, power, attribute, index, slice, int, is_true, is_false, nothing, name, of_loop, parentheses, array, map}
+use Rattle.tera_expressions.specs.Grammar.{Operator, or, and, equal, not_equal, less, greater, less_or_equal, greater_or_equal, is_in, concat, add, subtract, multiply, divide, floor_divide, remainder, Dot, dot, optional_dot, Bracket, bracket, optional_bracket, Derives, quoted, tighter, choice, operation, not, not_in, minus, power, attribute, index, slice, int, is_true, is_false, nothing, name, of_loop, parentheses, array, map, comprehension}
 use Rattle.tera_expressions.specs.Expressions.{needs, gives, begins, goes_on}
 
 -- No operator in this place binds more tightly than the level.
@@ -164,9 +164,9 @@ pub power-kind : (needs k.Power ≡ 10) × (gives k.Power ≡ 9)
 unfolding needs gives
 power-kind = (refl, refl)
 
-pub closing-kinds : (needs k.Else ≡ 12) × (needs k.RightParenthesis ≡ 12) × (needs k.RightBracket ≡ 12) × (needs k.Comma ≡ 12) × (needs k.End ≡ 12) × (needs k.Colon ≡ 12) × (needs k.RightBrace ≡ 12)
+pub closing-kinds : (needs k.Else ≡ 12) × (needs k.RightParenthesis ≡ 12) × (needs k.RightBracket ≡ 12) × (needs k.Comma ≡ 12) × (needs k.End ≡ 12) × (needs k.Colon ≡ 12) × (needs k.RightBrace ≡ 12) × (needs k.For ≡ 12)
 unfolding needs
-closing-kinds = (refl, refl, refl, refl, refl, refl, refl)
+closing-kinds = (refl, refl, refl, refl, refl, refl, refl, refl)
 
 pub needs-at : (s t : Kind) (n : ℕ) → s ≡ t → needs t ≡ n → needs s ≡ n
 needs-at s t n h e = ap needs h ∙ e
@@ -184,6 +184,11 @@ begin-kinds = (refl, refl, refl, refl, refl, refl, refl, refl, refl, refl)
 pub ends-bound : (s : Kind) → (s ≡ k.Colon) ⊎ (s ≡ k.RightBracket) → needs s ≡ 12
 ends-bound s (inl h) = needs-at s k.Colon 12 h closing-kinds.5
 ends-bound s (inr h) = needs-at s k.RightBracket 12 h closing-kinds.2
+
+-- A condition or a bracket ends what a comprehension goes over.
+pub ends-target : (s : Kind) → (s ≡ k.If) ⊎ (s ≡ k.RightBracket) → Stops 1 s × ((gives s < 1) ⊎ (1 < needs s))
+ends-target s (inl h) = let n = needs-at s k.If 1 h if-kind.0 in let g = gives-at s k.If 0 h if-kind.1 in (inl (omega arith), inl (omega arith))
+ends-target s (inr h) = let n = needs-at s k.RightBracket 12 h closing-kinds.2 in (inr (omega arith), inr (omega arith))
 
 pub at-most : {l : ℕ} {x : Expr} {i j : Input} → Derives l x i j → l ≤ 11
 at-most (tighter d) = let p = at-most d in omega arith
@@ -206,3 +211,4 @@ at-most (name h e) = omega arith
 at-most (of_loop h e) = omega arith
 at-most (parentheses h d g) = omega arith
 at-most (array h d g) = omega arith
+at-most (comprehension h d f c t o g) = omega arith

@@ -28,8 +28,8 @@ pub list-more : (found : Items) (s : Bool) (x : Expr) (xs : Items) (d : ℕ) (j 
 list-more found s x xs d j =
     let f : max (max d (depth x)) (items_depth xs) ≡ max d (max (depth x) (items_depth xs)) = omega arith in rw (join-join found (one_item s x) xs, f) refl
 
-pub list-start : (xs : Items) (d : ℕ) (j : Input) → got (join_items NoItems xs) (max 0 d) j ≡ got xs d j
-list-start xs d j = let f : max 0 d ≡ d = omega arith in rw f refl
+pub list-only : (s : Bool) (x : Expr) (j : Input) → got (one_item s x) (depth x) j ≡ got (MoreItems s x NoItems) (items_depth (MoreItems s x NoItems)) j
+list-only s x j = let f : max (depth x) 0 ≡ depth x = omega arith in rw f refl
 
 pub join-no-entries : (xs : Entries) → join_entries xs NoEntries ≡ xs
 join-no-entries NoEntries = refl

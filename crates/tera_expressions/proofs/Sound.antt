@@ -1,11 +1,11 @@
 -- What is read is derived.
-use Rattle.std.proofs.Common.{◌≡◌, ℕ, zero, suc, ◌≤◌, max, ℤ, List, [], ◌∷◌, Bool, true, false, nat_le, Option, Some, None, option_map, if◌then◌else◌, refl, sym, ◌∙◌, subst, arith}
+use Rattle.std.proofs.Common.{◌≡◌, ℕ, zero, suc, ◌≤◌, max, ℤ, List, [], ◌∷◌, Bool, true, false, nat_le, Option, Some, None, option_map, if◌then◌else◌, refl, sym, ◌∙◌, ap, subst, arith}
 use Rattle.std.proofs.lemmas.Grind.{common_steps}
 use Rattle.tera_errors.specs.Site as site
 use Rattle.tera_errors.specs.declared.span.Span.{Span}
 use Rattle.tera_tree.specs.declared.expression.BinaryOperator.{BinaryOperator}
 use Rattle.tera_tree.specs.declared.expression.BinaryOperator.TheVariants as binary
-use Rattle.tera_tree.specs.Tree.{Expr, Nothing, Boolean, Integer, Text, Name, Attribute, Index, Slice, Optional, Absent, Present, Not, Negate, Binary, Ternary, Array, Items, NoItems, Map, Key, Entries, NoEntries}
+use Rattle.tera_tree.specs.Tree.{Expr, Nothing, Boolean, Integer, Text, Name, Attribute, Index, Slice, Optional, Absent, Present, Not, Negate, Binary, Ternary, Array, Items, NoItems, Map, Comprehension, Key, Entries, NoEntries}
 use Rattle.tera_tree.specs.Depth.{depth, items_depth, entries_depth, optional_depth}
 use Rattle.tera_tokens.specs.declared.token.Kind.{Kind}
 use Rattle.tera_tokens.specs.declared.token.Kind.TheVariants as k
@@ -13,7 +13,9 @@ use Rattle.tera_tokens.specs.Input.{Input, Parser, and_then, same, kind, start, 
 use Rattle.tera_tokens.specs.Literal.{integer, literal}
 use Rattle.tera_expressions.specs.Keys.{key_at}
 use Rattle.tera_expressions.specs.Loops.{loop_name, behind_loop}
-use Rattle.tera_expressions.specs.Grammar.{Operator, or, and, equal, not_equal, less, greater, less_or_equal, greater_or_equal, is_in, concat, add, subtract, multiply, divide, floor_divide, remainder, Dot, dot, optional_dot, Bracket, bracket, optional_bracket, Derives, quoted, tighter, choice, operation, not, not_in, minus, power, attribute, index, slice, DerivesPart, absent, present, DerivesStep, no_step, step, int, is_true, is_false, nothing, name, of_loop, parentheses, array, map, DerivesEntry, keyed, spread_map, DerivesEntries, no_entries, one_entry, more_entries, DerivesItem, plain, spread, DerivesItems, none, one, more}
+use Rattle.tera_expressions.specs.Grammar.{Operator, or, and, equal, not_equal, less, greater, less_or_equal, greater_or_equal, is_in, concat, add, subtract, multiply, divide, floor_divide, remainder, Dot, dot, optional_dot, Bracket, bracket, optional_bracket, Derives, quoted, tighter, choice, operation, not, not_in, minus, power, attribute, index, slice, DerivesPart, absent, present, DerivesStep, no_step, step, int, is_true, is_false, nothing, name, of_loop, parentheses, array, map, DerivesEntry, keyed, spread_map, DerivesEntries, no_entries, one_entry, more_entries, DerivesItem, plain, spread, DerivesItems, none, one, more, comprehension, DerivesCondition, no_condition, condition}
+use Rattle.tera_expressions.specs.Headings.{Calls, value, key_and_value, calls, calls_behind, called}
+use Rattle.tera_expressions.specs.Headings as headings
 use Rattle.tera_expressions.specs.Expressions as r
 use Rattle.tera_expressions.specs.Expressions.{Deep, deep, needs, gives, begins, goes_on, floor_in, opened, climb, level, level_with, expr, head, node, prefixed, infixed, applied, behind_dots, join_items, one_item, join_entries}
 use Rattle.tera_expressions.proofs.Precedence.{gives-below, on-means, operator-depth}
@@ -66,12 +68,12 @@ same-items found d i y z a j h p = let q = some-pair (y, a) (z, j) h in subst (�
 no-items : (found : Items) (d : ℕ) (i : Input) → kind i ≡ k.RightBracket → GotItems found d i (found, d) (next i)
 no-items found d i h = got_items none h (sym (join-none found)) (omega arith)
 
-one-item : (found : Items) (s : Bool) (x : Expr) (d : ℕ) (i a : Input) → DerivesItem s x i a → kind a ≡ k.RightBracket → GotItems found d i (join_items found (one_item s x), max d (depth x)) (next a)
-one-item found s x d i a p h = got_items (one p) h refl (omega arith)
+one-item : (found f : Items) (s : Bool) (x : Expr) (d m : ℕ) (i a : Input) → f ≡ join_items found (one_item s x) → m ≡ max d (depth x) → DerivesItem s x i a → kind a ≡ k.RightBracket → GotItems found d i (f, m) (next a)
+one-item found f s x d m i a ef em p h = got_items (one p) h ef (omega arith)
 
-more-items : (found : Items) (s : Bool) (x : Expr) (d : ℕ) (i a j : Input) (z : Items × ℕ) → DerivesItem s x i a → kind a ≡ k.Comma → GotItems (join_items found (one_item s x)) (max d (depth x)) (next a) z j
+more-items : (found f : Items) (s : Bool) (x : Expr) (d m : ℕ) (i a j : Input) (z : Items × ℕ) → f ≡ join_items found (one_item s x) → m ≡ max d (depth x) → DerivesItem s x i a → kind a ≡ k.Comma → GotItems f m (next a) z j
     → GotItems found d i z j
-more-items found s x d i a j z p h (got_items {xs = xs} q g e f) = got_items (more p h q) g (e ∙ join-join found (one_item s x) xs) (omega arith)
+more-items found f s x d m i a j z ef em p h (got_items {xs = xs} q g e dz) = got_items (more p h q) g (e ∙ ap (λ f. join_items f xs) ef ∙ join-join found (one_item s x) xs) (omega arith)
 
 -- the entries of a map
 data GotEntries : Entries → ℕ → Input → Entries × ℕ → Input → Type 0 where
@@ -92,6 +94,9 @@ last-entry found s x d i a p h = got_entries (one_entry p) h refl (omega arith)
 an-entry-more : (found : Entries) (s : Option Key) (x : Expr) (d : ℕ) (i a j : Input) (z : Entries × ℕ) → DerivesEntry s x i a → kind a ≡ k.Comma → GotEntries (join_entries found (r.one_entry s x)) (max d (depth x)) (next a) z j
     → GotEntries found d i z j
 an-entry-more found s x d i a j z p h (got_entries {xs = xs} q g e f) = got_entries (more_entries p h q) g (e ∙ join-entries found (r.one_entry s x) xs) (omega arith)
+
+abbrev at-names : Option site.Name × site.Name → Input → Option ((Option site.Name × site.Name) × Input)
+at-names names i = Some (names, i)
 
 abbrev at-key : Option Key → Input → Option (Option Key × Input)
 at-key key i = Some (key, i)
@@ -120,6 +125,38 @@ entry_key-got i m key h =
 item-at : (t : Bool) (x : Expr) (i a : Input) → same k.Spread (kind i) ≡ t → Derives 0 x (if t then next i else i) a → DerivesItem t x i a
 item-at true x i a e d = spread (same-is k.Spread (kind i) e) d
 item-at false x i a e d = plain d
+
+called-got : (key : Option site.Name) (n : site.Name) (i j : Input) (z : Option site.Name × site.Name) → called key n i ≡ Some (z, j) → (kind i ≡ k.In) × (key ≡ z.0) × (n ≡ z.1) × (next i ≡ j)
+unfolding called
+called-got key n i j z h =
+    let q = and_then-some (expect k.In i) (λ _. λ j. at-names (key, n) j) (z, j) h in
+    let u = expect-some k.In i q.1 q.0 q.2 in
+    let e = some-pair ((key, n), q.1) (z, j) q.3 in
+    (u.0, ap (λ p. p.0) e.0, ap (λ p. p.1) e.0, sym u.1 ∙ e.1)
+
+calls-got : (i j : Input) (z : Option site.Name × site.Name) → calls i ≡ Some (z, j) → Calls z.0 z.1 i j
+unfolding calls headings.name calls_behind
+calls-got i j z h =
+    let g = guard (same k.Name (kind i)) (calls_behind (text i) (next i)) (z, j) (go (same k.Name (kind i)) h) in
+    let ni = same-is k.Name (kind i) g.0 in
+    either (chosen (same k.Comma (kind (next i))) (and_then (headings.name (next (next i))) (called (Some (text i)))) (called None (text i) (next i)) (Some (z, j)) g.1)
+    (λ q. let w = guard (same k.Name (kind (next (next i)))) (called (Some (text i)) (text (next (next i))) (next (next (next i)))) (z, j)
+    (two (same k.Name (kind (next (next i)))) q.1) in
+    let c = called-got (Some (text i)) (text (next (next i))) (next (next (next i))) j z w.1 in
+    put c.1 c.2 c.3 (key_and_value (ni, same-is k.Comma (kind (next i)) q.0) (same-is k.Name (kind (next (next i))) w.0, c.0)))
+    (λ q. let c = called-got None (text i) (next i) j z q.1 in put c.1 c.2 c.3 (value (ni, c.0)))
+  where
+    go : (t : Bool) → and_then (if t then Some (text i, next i) else None) calls_behind ≡ Some (z, j) → (if t then calls_behind (text i) (next i) else None) ≡ Some (z, j)
+    go true h = h
+    go false h = cc
+
+    two : (t : Bool) → and_then (if t then Some (text (next (next i)), next (next (next i))) else None) (called (Some (text i))) ≡ Some (z, j)
+        → (if t then called (Some (text i)) (text (next (next i))) (next (next (next i))) else None) ≡ Some (z, j)
+    two true h = h
+    two false h = cc
+
+    put : {key : Option site.Name} {n : site.Name} {a : Input} → key ≡ z.0 → n ≡ z.1 → a ≡ j → Calls key n i a → Calls z.0 z.1 i j
+    put {key} {n} {a} e f g w = subst (λ j. Calls z.0 z.1 i j) g (subst (λ n. Calls z.0 n i a) f (subst (λ key. Calls key n i a) e w))
 
 abbrev some-part : Optional × ℕ → Input → Option ((Optional × ℕ) × Input)
 some-part z i = Some (z, i)
@@ -335,43 +372,111 @@ module _ (limit b : ℕ) (part : ℕ → Parser Deep) (sound : Sound b part) whe
       closed : (have : ℕ) (x : Deep) (v i : Input) → kind v ≡ k.LeftParenthesis → kind i ≡ k.RightParenthesis → Got limit have x (next v) i → Got limit 11 x v (next i)
       closed have x v i a b (got ok d) = got ok (parentheses a (down have 0 (omega arith) d) b)
 
+  -- an item, and what stands behind it
+  rest-got : (further : Items → ℕ → Parser (Items × ℕ)) (found f : Items) (s : Bool) (x : Expr) (d m : ℕ) (i a j : Input) (z : Items × ℕ) → f ≡ join_items found (one_item s x) → m ≡ max d (depth x)
+      → DerivesItem s x i a → (further f m (next a) ≡ Some (z, j) → GotItems f m (next a) z j) → r.behind_item limit part further f m a ≡ Some (z, j) → GotItems found d i z j
+  rest-got further found f s x d m i a j z ef em w again hh =
+      either (chosen (same k.Comma (kind a)) (further f m (next a)) (and_then (expect k.RightBracket a) (λ _. λ o. taken (f, m) o)) (Some (z, j)) hh)
+      (λ q. more-items found f s x d m i a j z ef em w (same-is k.Comma (kind a) q.0) (again q.1))
+      (λ q. let g = and_then-some (expect k.RightBracket a) (λ _. λ o. taken (f, m) o) (z, j) q.1 in
+      let u = expect-some k.RightBracket a g.1 g.0 g.2 in
+      let P : Input → Type 0 = λ o. GotItems found d i (f, m) o in
+      same-items found d i (f, m) z g.1 j g.3 (subst P (sym u.1) (one-item found f s x d m i a ef em w u.0)))
+
   items-got : (n : ℕ) (found : Items) (d : ℕ) (i j : Input) (z : Items × ℕ) → r.items_from limit part n found d i ≡ Some (z, j) → GotItems found d i z j
   unfolding r.items_from
   items-got zero found d i j z hh = cc
   items-got (suc n) found d i j z hh =
-      either (chosen (same k.RightBracket (kind i)) (Some ((found, d), next i)) (and_then (part 0 (behind_dots i)) (r_rest n found d (same k.Spread (kind i)))) (Some (z, j)) hh)
+      either (chosen (same k.RightBracket (kind i)) (Some ((found, d), next i)) (and_then (part 0 (behind_dots i)) (behind n found d (same k.Spread (kind i)))) (Some (z, j)) hh)
       (λ q. same-items found d i (found, d) z (next i) j q.1 (no-items found d i (same-is k.RightBracket (kind i) q.0)))
-      (λ q. let t = and_then-some (part 0 (behind_dots i)) (r_rest n found d (same k.Spread (kind i))) (z, j) q.1 in
+      (λ q. let t = and_then-some (part 0 (behind_dots i)) (behind n found d (same k.Spread (kind i))) (z, j) q.1 in
       go (λ found d i. items-got n found d i j z) (sound 0 (behind_dots i) t.1 t.0 (omega arith) t.2) t.3)
     where
-      r_rest : ℕ → Items → ℕ → Bool → Deep → Parser (Items × ℕ)
-      r_rest n found d s x j = if same k.Comma (kind j) then r.items_from limit part n (join_items found (one_item s x.expr)) (max d x.depth) (next j)
-          else (if same k.RightBracket (kind j) then Some ((join_items found (one_item s x.expr), max d x.depth), next j) else None)
+      behind : ℕ → Items → ℕ → Bool → Deep → Parser (Items × ℕ)
+      behind n found d s x = r.behind_item limit part (r.items_from limit part n) (join_items found (one_item s x.expr)) (max d x.depth)
 
       go : ((found : Items) (d : ℕ) (i : Input) → r.items_from limit part n found d i ≡ Some (z, j) → GotItems found d i z j) → {x : Deep} {a : Input} → Got b 0 x (behind_dots i) a
-          → r_rest n found d (same k.Spread (kind i)) x a ≡ Some (z, j) → GotItems found d i z j
+          → behind n found d (same k.Spread (kind i)) x a ≡ Some (z, j) → GotItems found d i z j
       go again (got {x = v} {j = a} _ p) h =
           let s = same k.Spread (kind i) in
-          let w = item-at s v i a refl p in
-          either (chosen (same k.Comma (kind a)) (r.items_from limit part n (join_items found (one_item s v)) (max d (depth v)) (next a))
-          (if same k.RightBracket (kind a) then Some ((join_items found (one_item s v), max d (depth v)), next a) else None) (Some (z, j)) h)
-          (λ q. more-items found s v d i a j z w (same-is k.Comma (kind a) q.0) (again (join_items found (one_item s v)) (max d (depth v)) (next a) q.1))
-          (λ q. let g = guard (same k.RightBracket (kind a)) (Some ((join_items found (one_item s v), max d (depth v)), next a)) (z, j) q.1 in
-          same-items found d i (join_items found (one_item s v), max d (depth v)) z (next a) j g.1 (one-item found s v d i a w (same-is k.RightBracket (kind a) g.0)))
+          rest-got (r.items_from limit part n) found (join_items found (one_item s v)) s v d (max d (depth v)) i a j z refl refl (item-at s v i a refl p)
+          (again (join_items found (one_item s v)) (max d (depth v)) (next a)) h
 
-  array-got : (i j : Input) (y : Deep) → kind i ≡ k.LeftBracket → r.array limit part i ≡ Some (y, j) → Got limit 11 y i j
-  unfolding r.array
-  array-got i j y h hh =
-      let q = and_then-some (r.items limit part (next i)) (λ xs. λ j. node limit xs.1 (Array xs.0 (span (start i) j)) j) (y, j) hh in
-      go (items-got (left (next i)) NoItems 0 (next i) q.1 q.0 q.2) q.3
+  array-of-got : (i c j : Input) (y : Deep) (z : Items × ℕ) → kind i ≡ k.LeftBracket → GotItems NoItems 0 (next i) z c → r.array_of limit part (start i) z c ≡ Some (y, j) → Got limit 11 y i j
+  array-of-got i c j y z h (got_items {xs = xs} {a = a} q g p f) n =
+      let f2 : z.1 ≡ items_depth xs = omega arith in
+      let P : Items → Type 0 = λ v. node limit z.1 (Array v (span (start i) (next a))) (next a) ≡ Some (y, j) in
+      let Q : ℕ → Type 0 = λ m. node limit m (Array xs (span (start i) (next a))) (next a) ≡ Some (y, j) in
+      node-got (λ y j. Got limit 11 y i j) limit (items_depth xs) (Array xs (span (start i) (next a))) (next a) j y (subst Q f2 (subst P p n)) refl
+      (λ ok. got ok (array h q g))
+
+  array-got : (i a j : Input) (y : Deep) (s : Bool) (x : Expr) → kind i ≡ k.LeftBracket → DerivesItem s x (next i) a → r.array limit part (start i) s (deep x) a ≡ Some (y, j) → Got limit 11 y i j
+  unfolding r.array r.items_behind
+  array-got i a j y s x h w hh =
+      let q = and_then-some (r.items_behind limit part (one_item s x) (depth x) a) (r.array_of limit part (start i)) (y, j) hh in
+      array-of-got i q.1 j y q.0 h
+      (rest-got (λ found d i. r.items_from limit part (left i) found d i) NoItems (one_item s x) s x 0 (depth x) (next i) a q.1 q.0 refl (omega arith) w
+      (items-got (left (next a)) (one_item s x) (depth x) (next a) q.1 q.0) q.2) q.3
+
+  condition-got : (i j : Input) (z : Optional × ℕ) → r.condition limit part i ≡ Some (z, j) → DerivesCondition z.0 i j × (z.1 ≡ optional_depth z.0)
+  unfolding r.condition
+  condition-got i j z hh =
+      either (chosen (same k.If (kind i)) (and_then (part 1 (next i)) written) (some-part (Absent, 0) i) (Some (z, j)) hh)
+      (λ q. let t = and_then-some (part 1 (next i)) written (z, j) q.1 in go (same-is k.If (kind i) q.0) (sound 1 (next i) t.1 t.0 (omega arith) t.2) t.3)
+      (λ q. let e = some-pair ((Absent, 0), i) (z, j) q.1 in subst (λ w. P w j) e.0 (subst (λ w. P (Absent, 0) w) e.1 (no_condition, refl)))
     where
-      go : {z : Items × ℕ} {c : Input} → GotItems NoItems 0 (next i) z c → node limit z.1 (Array z.0 (span (start i) c)) c ≡ Some (y, j) → Got limit 11 y i j
-      go {z = z} (got_items {xs = xs} {a = a} q g p f) n =
-          let f2 : z.1 ≡ items_depth xs = omega arith in
-          let P : Items → Type 0 = λ v. node limit z.1 (Array v (span (start i) (next a))) (next a) ≡ Some (y, j) in
-          let Q : ℕ → Type 0 = λ m. node limit m (Array xs (span (start i) (next a))) (next a) ≡ Some (y, j) in
-          node-got (λ y j. Got limit 11 y i j) limit (items_depth xs) (Array xs (span (start i) (next a))) (next a) j y (subst Q f2 (subst P p n)) refl
-          (λ ok. got ok (array h q g))
+      written : Deep → Parser (Optional × ℕ)
+      written x j = Some ((Present x.expr, x.depth), j)
+
+      P : Optional × ℕ → Input → Type 0
+      P z j = DerivesCondition z.0 i j × (z.1 ≡ optional_depth z.0)
+
+      go : kind i ≡ k.If → {x : Deep} {a : Input} → Got b 1 x (next i) a → written x a ≡ Some (z, j) → P z j
+      go e (got {x = v} {j = a} _ d) h = let q = some-pair ((Present v, depth v), a) (z, j) h in subst (λ w. P w j) q.0 (subst (λ w. P (Present v, depth v) w) q.1 (condition e d, refl))
+
+  comprehension-got : (i a j : Input) (y : Deep) (v : Expr) → kind i ≡ k.LeftBracket → Derives 0 v (next i) a → kind a ≡ k.For → r.comprehension limit part (start i) (deep v) a ≡ Some (y, j) → Got limit 11 y i j
+  unfolding r.comprehension r.comprehension_made
+  comprehension-got i a j y v h d f hh =
+      let q = and_then-some (calls (next a)) named (y, j) hh in
+      let t = and_then-some (part 1 q.1) (over q.0) (y, j) q.3 in
+      let o = and_then-some (r.condition limit part t.1) (r.comprehension_made limit part (start i) (deep v) q.0 t.0) (y, j) t.3 in
+      go q.0 o.0 o.1 (calls-got (next a) q.1 q.0 q.2) (sound 1 q.1 t.1 t.0 (omega arith) t.2) (condition-got t.1 o.1 o.0 o.2) o.3
+    where
+      over : Option site.Name × site.Name → Deep → Parser Deep
+      over n y j = and_then (r.condition limit part j) (r.comprehension_made limit part (start i) (deep v) n y)
+
+      named : Option site.Name × site.Name → Parser Deep
+      named n j = and_then (part 1 j) (over n)
+
+      go : (n : Option site.Name × site.Name) (z : Optional × ℕ) (e : Input) {w : Deep} {m c : Input} → Calls n.0 n.1 (next a) m → Got b 1 w m c → DerivesCondition z.0 c e × (z.1 ≡ optional_depth z.0)
+          → r.comprehension_made limit part (start i) (deep v) n w z e ≡ Some (y, j) → Got limit 11 y i j
+      go n z e w (got {x = t} _ g) o nn =
+          let made : Input → Expr = λ j. Comprehension v n.0 n.1 t z.0 (span (start i) j) in
+          let m = and_then-some (expect k.RightBracket e) (λ _. λ j. node limit (max (depth v) (max (depth t) z.1)) (made j) j) (y, j) nn in
+          let u = expect-some k.RightBracket e m.1 m.0 m.2 in
+          let od = o.1 in
+          let P : Input → Type 0 = λ j. depth (made j) ≤ limit → Got limit 11 (deep (made j)) i j in
+          node-got (λ y j. Got limit 11 y i j) limit (max (depth v) (max (depth t) z.1)) (made m.1) m.1 j y m.3 (omega (arith, od))
+          (λ ok. subst P (sym u.1) (λ ok. got ok (comprehension h d f w g o.0 u.0)) ok)
+
+  bracketed-got : (i j : Input) (y : Deep) → kind i ≡ k.LeftBracket → r.bracketed limit part (start i) (next i) ≡ Some (y, j) → Got limit 11 y i j
+  unfolding r.bracketed
+  bracketed-got i j y h hh =
+      either (chosen (same k.RightBracket (kind (next i))) (r.array_of limit part (start i) (NoItems, 0) (next (next i)))
+      (and_then (part 0 (behind_dots (next i))) (r.bracketed_by limit part (start i) (same k.Spread (kind (next i))))) (Some (y, j)) hh)
+      (λ q. array-of-got i (next (next i)) j y (NoItems, 0) h (no-items NoItems 0 (next i) (same-is k.RightBracket (kind (next i)) q.0)) q.1)
+      (λ q. let t = and_then-some (part 0 (behind_dots (next i))) (r.bracketed_by limit part (start i) (same k.Spread (kind (next i)))) (y, j) q.1 in
+      go (sound 0 (behind_dots (next i)) t.1 t.0 (omega arith) t.2) t.3)
+    where
+      by : (s : Bool) (v : Expr) (a : Input) → same k.Spread (kind (next i)) ≡ s → Derives 0 v (if s then next (next i) else next i) a → r.bracketed_by limit part (start i) s (deep v) a ≡ Some (y, j) → Got limit 11 y i j
+      by true v a e d n = array-got i a j y true v h (item-at true v (next i) a e d) n
+      by false v a e d n =
+          either (chosen (same k.For (kind a)) (r.comprehension limit part (start i) (deep v) a) (r.array limit part (start i) false (deep v) a) (Some (y, j)) n)
+          (λ q. comprehension-got i a j y v h d (same-is k.For (kind a) q.0) q.1)
+          (λ q. array-got i a j y false v h (item-at false v (next i) a e d) q.1)
+
+      go : {x : Deep} {a : Input} → Got b 0 x (behind_dots (next i)) a → r.bracketed_by limit part (start i) (same k.Spread (kind (next i))) x a ≡ Some (y, j) → Got limit 11 y i j
+      go (got {x = v} {j = a} _ p) n = by (same k.Spread (kind (next i))) v a refl p n
 
   entries-got : (n : ℕ) (found : Entries) (d : ℕ) (i j : Input) (z : Entries × ℕ) → r.entries_from limit part n found d i ≡ Some (z, j) → GotEntries found d i z j
   unfolding r.entries_from
@@ -439,7 +544,7 @@ module _ (limit b : ℕ) (part : ℕ → Parser Deep) (sound : Sound b part) whe
   head-by-got k.False i j y h hh = leaf-got i j y (Boolean false (span (start i) (next i))) refl (is_false h) hh
   head-by-got k.Nothing i j y h hh = leaf-got i j y (Nothing (span (start i) (next i))) refl (nothing h) hh
   head-by-got k.Name i j y h hh = name-got (loop_name i) i j y refl h hh
-  head-by-got k.LeftBracket i j y h hh = array-got i j y h hh
+  head-by-got k.LeftBracket i j y h hh = bracketed-got i j y h hh
   head-by-got k.LeftBrace i j y h hh = map-got i j y h hh
   head-by-got _ i j y h hh = cc
 

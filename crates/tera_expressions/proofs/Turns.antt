@@ -11,7 +11,7 @@ use Rattle.tera_tree.specs.declared.expression.Entry as entry
 use Rattle.tera_tokens.specs.Token.{Token}
 use Rattle.tera_tokens.specs.declared.token.Kind.TheVariants.{LeftParenthesis, RightParenthesis, RightBracket, RightBrace, Comma, Spread}
 use Rattle.tera_tokens.specs.Input.{Input, Outcome, Parser, and_then, kind, next, after, same, start, starts, start_of, expect}
-use Rattle.tera_expressions.specs.Expressions.{Deep, join_items, one_item, join_entries, one_entry, entry_key, entry_rest, entries_from, behind_dots, items_from, expr, level, climb, goes_on, gives, operation, floor_in, opened}
+use Rattle.tera_expressions.specs.Expressions.{Deep, join_items, one_item, join_entries, one_entry, entry_key, entry_rest, entries_from, behind_dots, behind_item, items_from, expr, level, climb, goes_on, gives, operation, floor_in, opened}
 
 pub one_more : {X : Type 0} {x : X} (f : ℕ → X) (n at : ℕ) → at < n → x ≡ f (n - at) → x ≡ f (suc (n - (at + 1)))
 one_more f n at below e = let turn : n - at ≡ suc (n - (at + 1)) = omega arith in e ∙ ap f turn
@@ -80,8 +80,7 @@ module _ (limit : ℕ) (sub : ℕ → Parser Deep) where
   items_end n found d i h = rw h refl
 
   abbrev pub item_rest : ℕ → Items → ℕ → Bool → Deep → Parser (Items × ℕ)
-  item_rest n found d s x j = if same Comma (kind j) then items_from limit sub n (join_items found (one_item s x.expr)) (max d x.depth) (next j)
-      else (if same RightBracket (kind j) then Some ((join_items found (one_item s x.expr), max d x.depth), next j) else None)
+  item_rest n found d s x = behind_item limit sub (items_from limit sub n) (join_items found (one_item s x.expr)) (max d x.depth)
 
   pub items_item : (n : ℕ) (found : Items) (d : ℕ) (i : Input) → same RightBracket (kind i) ≡ false
       → items_from limit sub (suc n) found d i ≡ and_then (sub 0 (behind_dots i)) (item_rest n found d (same Spread (kind i)))
@@ -102,14 +101,9 @@ module _ (limit : ℕ) (sub : ℕ → Parser Deep) where
   abbrev pub shut : Items → ℕ → Unit {0} → Parser (Items × ℕ)
   shut f m done k = Some ((f, m), k)
 
-  shut_by : (q : Bool) (f : Items) (m : ℕ) (j : Input) → (if q then Some ((f, m), next j) else None) ≡ and_then (if q then Some (tt, next j) else None) (shut f m)
-  shut_by true f m j = refl
-  shut_by false f m j = refl
-
   pub items_shut : (n : ℕ) (found : Items) (d : ℕ) (s : Bool) (x : Deep) (j : Input) → same Comma (kind j) ≡ false
       → item_rest n found d s x j ≡ and_then (expect RightBracket j) (shut (join_items found (one_item s x.expr)) (max d x.depth))
-  unfolding expect
-  items_shut n found d s x j h = rw h (shut_by (same RightBracket (kind j)) (join_items found (one_item s x.expr)) (max d x.depth) j)
+  items_shut n found d s x j h = rw h refl
 
 -- a refusal of a part is one of the whole
 pub refused : {Y Z : Type 0} {part : Option Y} {meant : Option Z} (r : Refusal) → (part ≡ None → meant ≡ None) → Refuses part r → Refuses meant r

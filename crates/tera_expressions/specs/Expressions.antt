@@ -1,9 +1,9 @@
 -- The reader of expressions, as a function.
-use Rattle.std.specs.Prelude.{ℕ, zero, suc, ◌+◌, max, List, [], ◌∷◌, Bool, true, false, ◌&&◌, nat_le, nat_lt, Option, Some, None, option_map, if◌then◌else◌}
+use Rattle.std.specs.Prelude.{ℕ, zero, suc, ◌+◌, max, List, [], ◌∷◌, Bool, true, false, not, ◌&&◌, nat_le, nat_lt, Option, Some, None, option_map, if◌then◌else◌}
 use Rattle.tera_errors.specs.declared.span.Span.{Span}
 use Rattle.tera_tree.specs.declared.expression.BinaryOperator.{BinaryOperator}
 use Rattle.tera_tree.specs.declared.expression.BinaryOperator.TheVariants as binary
-use Rattle.tera_tree.specs.Tree.{Expr, Nothing, Boolean, Integer, Text, Name, Attribute, Index, Slice, Optional, Absent, Present, Not, Negate, Binary, And, Or, Ternary, Array, Items, NoItems, MoreItems, Map, Key, Entries, NoEntries, MoreEntries}
+use Rattle.tera_tree.specs.Tree.{Expr, Nothing, Boolean, Integer, Text, Name, Attribute, Index, Slice, Optional, Absent, Present, Not, Negate, Binary, And, Or, Ternary, Array, Items, NoItems, MoreItems, Map, Comprehension, Key, Entries, NoEntries, MoreEntries}
 use Rattle.tera_tree.specs.Depth.{depth}
 use Rattle.tera_tokens.specs.declared.token.Kind.{Kind}
 use Rattle.tera_tokens.specs.declared.token.Kind.TheVariants as k
@@ -11,6 +11,7 @@ use Rattle.tera_tokens.specs.Input.{Input, Parser, and_then, ◌>>=◌, refuse, 
 use Rattle.tera_tokens.specs.Literal.{integer, literal}
 use Rattle.tera_expressions.specs.Keys.{key_at}
 use Rattle.tera_expressions.specs.Loops.{loop_name, behind_loop}
+use Rattle.tera_expressions.specs.Headings.{calls}
 use Rattle.tera_errors.specs.Site as site
 
 -- an expression, and how deep it is
@@ -204,19 +205,48 @@ module _ (limit : ℕ) (sub : ℕ → Parser Deep) where
   unfoldable pub operation : ℕ → Deep → Parser Deep
   operation from x = λ i. operation_by from x (kind i) i
 
+  -- behind an item stands a comma and more, or the bracket that closes
+  abbrev pub behind_item : (Items → ℕ → Parser (Items × ℕ)) → Items → ℕ → Parser (Items × ℕ)
+  behind_item more found d = λ j. if same k.Comma (kind j) then more found d (next j) else and_then (expect k.RightBracket j) (λ _. λ a. Some ((found, d), a))
+
   -- items with commas between, up to a bracket
   unfoldable pub items_from : ℕ → Items → ℕ → Parser (Items × ℕ)
   items_from zero found d = refuse
   items_from (suc n) found d = λ i. if same k.RightBracket (kind i) then Some ((found, d), next i) else
-      and_then (sub 0 (behind_dots i)) (λ x. λ j.
-      if same k.Comma (kind j) then items_from n (join_items found (one_item (same k.Spread (kind i)) x.expr)) (max d x.depth) (next j)
-      else (if same k.RightBracket (kind j) then Some ((join_items found (one_item (same k.Spread (kind i)) x.expr), max d x.depth), next j) else None))
+      and_then (sub 0 (behind_dots i)) (λ x. behind_item (items_from n) (join_items found (one_item (same k.Spread (kind i)) x.expr)) (max d x.depth))
 
-  abbrev pub items : Parser (Items × ℕ)
-  items = λ i. items_from (left i) NoItems 0 i
+  -- from behind the first
+  unfoldable pub items_behind : Items → ℕ → Parser (Items × ℕ)
+  items_behind = behind_item (λ found d. λ i. items_from (left i) found d i)
 
-  unfoldable pub array : Parser Deep
-  array = λ i. (items >>= (λ xs. λ j. node limit xs.1 (Array xs.0 (span (start i) j)) j)) (next i)
+  abbrev pub array_of : ℕ → Items × ℕ → Parser Deep
+  array_of from xs = λ j. node limit xs.1 (Array xs.0 (span from j)) j
+
+  -- an array, from behind its first item
+  unfoldable pub array : ℕ → Bool → Deep → Parser Deep
+  array from s x = items_behind (one_item s x.expr) x.depth >>= array_of from
+
+  -- the condition of a comprehension, if it is written, and how deep it is
+  unfoldable pub condition : Parser (Optional × ℕ)
+  condition = λ i. if same k.If (kind i) then and_then (sub 1 (next i)) (λ x. λ j. Some ((Present x.expr, x.depth), j)) else Some ((Absent, 0), i)
+
+  -- a comprehension of these parts, from its closing bracket on
+  unfoldable pub comprehension_made : ℕ → Deep → Option site.Name × site.Name → Deep → Optional × ℕ → Parser Deep
+  comprehension_made from x names y c = expect k.RightBracket >>= (λ _. λ j.
+      node limit (max x.depth (max y.depth c.1)) (Comprehension x.expr names.0 names.1 y.expr c.0 (span from j)) j)
+
+  -- a comprehension of this value, from `for` on
+  unfoldable pub comprehension : ℕ → Deep → Parser Deep
+  comprehension from x = λ i. (calls >>= (λ names. sub 1 >>= (λ y. condition >>= comprehension_made from x names y))) (next i)
+
+  -- `for` behind the first expression makes a comprehension of it, unless it is spread
+  abbrev pub bracketed_by : ℕ → Bool → Deep → Parser Deep
+  bracketed_by from s x = λ j. if not s && same k.For (kind j) then comprehension from x j else array from s x j
+
+  -- what stands behind a bracket: an array or a comprehension
+  unfoldable pub bracketed : ℕ → Parser Deep
+  bracketed from = λ i. if same k.RightBracket (kind i) then array_of from (NoItems, 0) (next i)
+      else and_then (sub 0 (behind_dots i)) (bracketed_by from (same k.Spread (kind i)))
 
   abbrev pub entry_rest : (Entries → ℕ → Parser (Entries × ℕ)) → Entries → ℕ → Option Key → Deep → Parser (Entries × ℕ)
   entry_rest more found d key x = λ j. if same k.Comma (kind j) then more (join_entries found (one_entry key x.expr)) (max d x.depth) (next j)
@@ -248,7 +278,7 @@ module _ (limit : ℕ) (sub : ℕ → Parser Deep) where
   head_by k.False = λ i. node limit 0 (Boolean false (span (start i) (next i))) (next i)
   head_by k.Nothing = λ i. node limit 0 (Nothing (span (start i) (next i))) (next i)
   head_by k.Name = λ i. name_by (loop_name i) i
-  head_by k.LeftBracket = array
+  head_by k.LeftBracket = λ i. bracketed (start i) (next i)
   head_by k.LeftBrace = map
   head_by _ = refuse
 

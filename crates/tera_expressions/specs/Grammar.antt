@@ -3,13 +3,14 @@ use Rattle.std.specs.Prelude.{◌≡◌, ℕ, suc, ℤ, Bool, true, false, Optio
 use Rattle.tera_errors.specs.Site as site
 use Rattle.tera_errors.specs.declared.span.Span.{Span}
 use Rattle.tera_tree.specs.declared.expression.BinaryOperator.TheVariants as binary
-use Rattle.tera_tree.specs.Tree.{Expr, Nothing, Boolean, Integer, Text, Name, Attribute, Index, Slice, Optional, Absent, Present, Not, Negate, Binary, And, Or, Ternary, Array, Items, NoItems, MoreItems, Map, Key, Entries, NoEntries, MoreEntries}
+use Rattle.tera_tree.specs.Tree.{Expr, Nothing, Boolean, Integer, Text, Name, Attribute, Index, Slice, Optional, Absent, Present, Not, Negate, Binary, And, Or, Ternary, Array, Items, NoItems, MoreItems, Map, Comprehension, Key, Entries, NoEntries, MoreEntries}
 use Rattle.tera_tokens.specs.declared.token.Kind.{Kind}
 use Rattle.tera_tokens.specs.declared.token.Kind.TheVariants as k
 use Rattle.tera_tokens.specs.Input.{Input, kind, text, start, next, span, is_word}
 use Rattle.tera_tokens.specs.Literal.{integer, literal}
 use Rattle.tera_expressions.specs.Keys.{key_at}
 use Rattle.tera_expressions.specs.Loops.{loop_name, behind_loop}
+use Rattle.tera_expressions.specs.Headings.{Calls}
 
 -- the operators that group to the left: a sign, the form that it makes of its operands, and a level
 pub data Operator : Kind → (Expr → Expr → Span → Expr) → ℕ → Type 0 where
@@ -74,6 +75,9 @@ mutual
         → Derives 11 (Array xs (span (start i) (next a))) i (next a)
     map : {xs : Entries} {i a : Input} → kind i ≡ k.LeftBrace → DerivesEntries xs (next i) a → kind a ≡ k.RightBrace
         → Derives 11 (Map xs (span (start i) (next a))) i (next a)
+    comprehension : {x target : Expr} {key : Option site.Name} {called : site.Name} {only : Optional} {i a b c d : Input} → kind i ≡ k.LeftBracket → Derives 0 x (next i) a → kind a ≡ k.For
+        → Calls key called (next a) b → Derives 1 target b c → DerivesCondition only c d → kind d ≡ k.RightBracket
+        → Derives 11 (Comprehension x key called target only (span (start i) (next d))) i (next d)
 
   -- a bound of a slice, if it is written
   pub data DerivesPart : Optional → Input → Input → Type 0 where
@@ -84,6 +88,11 @@ mutual
   pub data DerivesStep : Optional → Input → Input → Type 0 where
     no_step : {i : Input} → DerivesStep Absent i i
     step : {by : Optional} {i j : Input} → kind i ≡ k.Colon → DerivesPart by (next i) j → DerivesStep by i j
+
+  -- the condition of a comprehension, if it is written
+  pub data DerivesCondition : Optional → Input → Input → Type 0 where
+    no_condition : {i : Input} → DerivesCondition Absent i i
+    condition : {x : Expr} {i j : Input} → kind i ≡ k.If → Derives 1 x (next i) j → DerivesCondition (Present x) i j
 
   -- an item, or an array that is spread
   pub data DerivesItem : Bool → Expr → Input → Input → Type 0 where

@@ -1,5 +1,6 @@
 pub mod Keys
 pub mod Loops
+pub mod Headings
 pub mod Expressions
 pub mod Grammar
 pub mod Parts

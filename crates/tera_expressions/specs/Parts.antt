@@ -1,13 +1,14 @@
 -- How the reader's parts of expressions stand to their definitions.
-use Rattle.std.specs.Prelude.{◌≡◌, ℕ, List, Bool, Option, Some, Result, Ok, Err}
+use Rattle.std.specs.Prelude.{◌≡◌, ℕ, List, Bool, Option, Some, Result, Ok, Err, string_bytes}
 use Rattle.std.specs.declared.alloc.Global.{Global}
 use denote.Ref.{MutBor}
+use Rattle.tera_errors.specs.Site.{Name}
 use Rattle.tera_errors.specs.declared.span.Span.{Span}
 use Rattle.tera_tree.specs.declared.expression.Expression.{Expression}
 use Rattle.tera_tree.specs.declared.expression.Item as item
 use Rattle.tera_tree.specs.declared.expression.Entry as entry
 use Rattle.tera_tree.specs.Tree.{Expr, Key, Optional, And, Or, Binary}
-use Rattle.tera_tree.specs.View.{expr_of, optional_of, items_of, entries_of}
+use Rattle.tera_tree.specs.View.{expr_of, optional_of, items_of, entries_of, name_option}
 use Rattle.tera_tokens.specs.declared.refusal.Refusal.{Refusal}
 use Rattle.tera_tokens.specs.declared.refusal.Refusal.TheVariants.{Syntax, OutOfMemory}
 use Rattle.tera_tokens.specs.declared.input.Tokens.{Tokens}
@@ -15,6 +16,7 @@ use Rattle.tera_tokens.specs.Answers.{Refuses}
 use Rattle.tera_tokens.specs.Input.{Input, Outcome, Parser, and_then}
 use Rattle.tera_tokens.specs.Takes.{Takes, input}
 use Rattle.tera_expressions.specs.declared.expressions.Deep as declared
+use Rattle.tera_expressions.specs.declared.headings.LoopNames.{LoopNames}
 use Rattle.tera_expressions.specs.declared.reader.Part.{Part}
 use Rattle.tera_expressions.specs.declared.operators.Infix.{Infix}
 use Rattle.tera_expressions.specs.declared.operators.Infix.TheVariants as form
@@ -25,6 +27,9 @@ deep_of x = record { expr = expr_of x.expression.value; depth = x.depth }
 
 abbrev pub part_of : Part → Optional × ℕ
 part_of p = (optional_of p.expression, p.depth)
+
+abbrev pub names_of : LoopNames → Option Name × Name
+names_of n = (name_option n.key, string_bytes n.name)
 
 abbrev pub infix_of : Infix → Expr → Expr → Span → Expr
 infix_of form.And = And

@@ -1,6 +1,6 @@
 // Arrays and maps.
 ghost use Rattle.std.specs.Prelude.{◌≡◌, IfOk};
-ghost use Rattle.tera_tree.specs.Tree.{NoItems, NoEntries};
+ghost use Rattle.tera_tree.specs.Tree.{NoEntries};
 ghost use Rattle.tera_tree.specs.View.{items_of, entries_of, key_option};
 ghost use Rattle.tera_tokens.specs.Input.{kind, left, same};
 ghost use Rattle.tera_tokens.specs.Takes.{Takes, input};
@@ -18,27 +18,84 @@ use tera_tokens::token::Kind;
 use tera_tree::{Entry, Expression, Item, LiteralKey};
 
 impl<F: Fn(Global, &mut Tokens<'_>, usize, u8) -> Result<Deep, Refusal>> Reader<F> {
-    /// `[x, ..]`
-    #[tactic(auto, unfolding(crate::specs::Expressions::array))]
-    pub(crate) fn array(&self, tokens: &mut Tokens<'_>) -> Result<Deep, Refusal>
+    /// What stands behind a bracket: an array, or a comprehension where `for` follows the first expression.
+    #[tactic(auto, unfolding(crate::specs::Expressions::bracketed))]
+    pub(crate) fn bracketed(&self, tokens: &mut Tokens<'_>, start: usize) -> Result<Deep, Refusal>
         requires { Nests self.now.below (F.pre self.now.expr) (F.post self.now.expr) }
-        ensures { Takes deep_of (spec.array self.now.limit (spec.expr self.now.below) (input tokens.old)) result tokens.new }
+        ensures { let meant = spec.bracketed self.now.limit (spec.expr self.now.below) start in
+            Takes deep_of (meant (input tokens.old)) result tokens.new }
     {
-        let start = tokens.start();
-        tokens.take();
-        let (items, depth) = self.items(tokens)?;
+        if same(Kind::RightBracket, tokens.kind()) {
+            tokens.take();
+            let expression = Expression::array(Vec::new(self.alloc), tokens.span(start));
+            return self.node(tokens, 0, expression);
+        }
+        let is_spread = take_dots(tokens);
+        let x = self.sub(tokens, 0)?;
+        if !is_spread && same(Kind::For, tokens.kind()) {
+            self.comprehension(tokens, start, x)
+        } else {
+            self.array(tokens, start, is_spread, x)
+        }
+    }
+
+    /// `[x, ..]`, from behind the first item.
+    #[tactic(auto, unfolding(crate::specs::Expressions::array))]
+    pub(crate) fn array(
+        &self,
+        tokens: &mut Tokens<'_>,
+        start: usize,
+        is_spread: bool,
+        x: Deep,
+    ) -> Result<Deep, Refusal>
+        requires { Nests self.now.below (F.pre self.now.expr) (F.post self.now.expr) }
+        ensures { let meant = spec.array self.now.limit (spec.expr self.now.below) start is_spread
+            (deep_of x) in Takes deep_of (meant (input tokens.old)) result tokens.new }
+    {
+        let mut found = Vec::new(self.alloc);
+        found.push(Item {
+            is_spread,
+            value: Box::into_inner(x.expression),
+        })?;
+        let (items, depth) = self.items_behind(tokens, found, x.depth)?;
         let expression = Expression::array(items, tokens.span(start));
         self.node(tokens, depth, expression)
     }
 
-    /// Items with commas between, up to a bracket, and the greatest depth.
-    #[tactic(auto, unfolding(crate::specs::Expressions::items_from))]
-    pub(crate) fn items(&self, tokens: &mut Tokens<'_>) -> Result<(Vec<Item>, usize), Refusal>
+    /// All items, from behind the first, and the greatest depth.
+    #[tactic(auto, unfolding(crate::specs::Expressions::items_behind))]
+    pub(crate) fn items_behind(
+        &self,
+        tokens: &mut Tokens<'_>,
+        found: Vec<Item>,
+        depth: usize,
+    ) -> Result<(Vec<Item>, usize), Refusal>
         requires { Nests self.now.below (F.pre self.now.expr) (F.post self.now.expr) }
-        ensures { Takes (λ p. (items_of p.0.items, p.1)) (spec.items_from self.now.limit (spec.expr self.now.below) (left (input tokens.old)) NoItems 0 (input tokens.old)) result tokens.new }
+        ensures { let meant = spec.items_behind self.now.limit (spec.expr self.now.below)
+            (items_of found.items) depth in
+            Takes (λ p. (items_of p.0.items, p.1)) (meant (input tokens.old)) result tokens.new }
     {
-        let mut found = Vec::new(self.alloc);
-        let mut depth = 0usize;
+        if same(Kind::Comma, tokens.kind()) {
+            tokens.take();
+            return self.items(tokens, found, depth);
+        }
+        tokens.expect(Kind::RightBracket)?;
+        Ok((found, depth))
+    }
+
+    /// Items with commas between, up to a bracket, behind those that were read.
+    #[tactic(auto, unfolding(crate::specs::Expressions::items_from))]
+    pub(crate) fn items(
+        &self,
+        tokens: &mut Tokens<'_>,
+        mut found: Vec<Item>,
+        mut depth: usize,
+    ) -> Result<(Vec<Item>, usize), Refusal>
+        requires { Nests self.now.below (F.pre self.now.expr) (F.post self.now.expr) }
+        ensures { let meant = spec.items_from self.now.limit (spec.expr self.now.below)
+            (left (input tokens.old)) (items_of found.items) depth in
+            Takes (λ p. (items_of p.0.items, p.1)) (meant (input tokens.old)) result tokens.new }
+    {
         for _turn in 0..tokens.left() {
             if same(Kind::RightBracket, tokens.kind()) {
                 tokens.take();

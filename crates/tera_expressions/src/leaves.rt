@@ -37,7 +37,11 @@ impl<F: Fn(Global, &mut Tokens<'_>, usize, u8) -> Result<Deep, Refusal>> Reader<
                 self.node(tokens, 0, Expression::None { span })
             }
             Kind::Name => self.name(tokens),
-            Kind::LeftBracket => self.array(tokens),
+            Kind::LeftBracket => {
+                let start = tokens.start();
+                tokens.take();
+                self.bracketed(tokens, start)
+            }
             Kind::LeftBrace => self.map(tokens),
             _ => Err(tokens.refuse(Reason::NoExpression)),
         }

@@ -4,8 +4,11 @@
 mod access;
 mod climb;
 mod collections;
+mod comprehensions;
 /// Expressions, to a greatest depth.
 pub mod expressions;
+/// What loops call their items.
+pub mod headings;
 mod leaves;
 mod levels;
 mod operators;

@@ -8,6 +8,8 @@ pub mod node;
 pub mod quoted;
 
 pub use delimiters::Delimiters;
-pub use expression::{BinaryOperator, Bounds, Entry, Expression, Heading, Item, LiteralKey, OwnedKey};
+pub use expression::{
+    BinaryOperator, Bounds, Entry, Expression, Heading, Item, LiteralKey, OwnedKey,
+};
 pub use node::{Node, ParserOutput};
 pub use quoted::Quoted;

@@ -160,7 +160,11 @@ impl<'s> Expression<'s> {
 impl<'s> Node<'s> {
     /// `{% if condition %}body{% else %}other{% endif %}`
     #[tactic(auto, using(crate::proofs::Views::view_if))]
-    pub fn choice(condition: Box<Expression<'s>>, body: Vec<Node<'s>>, other: Vec<Node<'s>>) -> Node<'s>
+    pub fn choice(
+        condition: Box<Expression<'s>>,
+        body: Vec<Node<'s>>,
+        other: Vec<Node<'s>>,
+    ) -> Node<'s>
         ensures { node_of result ≡ If (expr_of condition.entry.value) (nodes_of body.entry.items)
             (nodes_of other.entry.items) }
     {

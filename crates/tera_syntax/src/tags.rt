@@ -1,11 +1,11 @@
 // What the tag of a statement is.
-ghost use Rattle.std.specs.Prelude.{◌≡◌, Option, option_map, string_bytes};
+ghost use Rattle.std.specs.Prelude.{◌≡◌, Option, option_copied, option_map};
 ghost use Rattle.tera_syntax.specs.Reader as spec;
 ghost use Rattle.tera_syntax.specs.View.{tag_of};
 ghost use Rattle.tera_tokens.specs.Answers.{Answers};
 ghost use Rattle.tera_tokens.specs.Takes.{input};
 ghost use Rattle.tera_tokens.specs.Token.{tokens_of};
-ghost use Rattle.tera_tree.specs.View.{expr_of, name_option};
+ghost use Rattle.tera_tree.specs.View.{expr_of};
 
 use crate::heads::{Head, first};
 use std::alloc::Global;
@@ -17,13 +17,13 @@ use tera_tokens::token::{Kind, Token};
 use tera_tree::{Expression, Heading, Node};
 
 #[derive(Drop)]
-pub(crate) enum Tag {
+pub(crate) enum Tag<'s> {
     /// A statement.
-    Single(Node),
+    Single(Node<'s>),
     /// The first tag of a statement with a body.
-    Opening(Head),
+    Opening(Head<'s>),
     /// It goes on with a statement.
-    GoingOn(Head),
+    GoingOn(Head<'s>),
     /// `else`
     Turning,
     /// Any other, which may be an end.
@@ -32,11 +32,11 @@ pub(crate) enum Tag {
 
 /// An expression that is all from here to the end of the tag.
 #[tactic(auto, unfolding(crate::specs::Reader::whole))]
-pub(crate) fn whole(
+pub(crate) fn whole<'s>(
     alloc: Global,
-    tokens: &mut Tokens<'_>,
+    tokens: &mut Tokens<'_, 's>,
     limit: usize,
-) -> Result<Box<Expression>, Refusal>
+) -> Result<Box<Expression<'s>>, Refusal>
     ensures { Answers (λ b. expr_of b.value) (spec.whole limit (input tokens.old)) result }
 {
     let value = expr(alloc, tokens, limit, 0)?;
@@ -48,14 +48,14 @@ pub(crate) fn whole(
 }
 
 /// Behind the `in` of a loop.
-fn looped(
+fn looped<'s>(
     alloc: Global,
-    tokens: &mut Tokens<'_>,
+    tokens: &mut Tokens<'_, 's>,
     limit: usize,
-    key: Option<String>,
-    name: String,
-) -> Result<Tag, Refusal>
-    ensures { let meant = spec.looped limit (name_option key) (string_bytes name) (input tokens.old) in
+    key: Option<&'s str>,
+    name: &'s str,
+) -> Result<Tag<'s>, Refusal>
+    ensures { let meant = spec.looped limit (option_copied key.entry) name.now (input tokens.old) in
         Answers tag_of meant result }
 {
     let target = Box::into_inner(whole(alloc, tokens, limit)?);
@@ -64,14 +64,19 @@ fn looped(
 }
 
 /// Behind the key of a loop and its comma.
-fn keyed(alloc: Global, tokens: &mut Tokens<'_>, limit: usize, key: String) -> Result<Tag, Refusal>
-    ensures { let meant = spec.keyed limit (string_bytes key) (input tokens.old) in
+fn keyed<'s>(
+    alloc: Global,
+    tokens: &mut Tokens<'_, 's>,
+    limit: usize,
+    key: &'s str,
+) -> Result<Tag<'s>, Refusal>
+    ensures { let meant = spec.keyed limit key.now (input tokens.old) in
         Answers tag_of meant result }
 {
     if !same(Kind::Name, tokens.kind()) {
         return Err(tokens.refuse(Reason::Expected(Kind::Name)));
     }
-    let name = String::from_str(alloc, tokens.text())?;
+    let name = tokens.text();
     tokens.take();
     match tokens.kind() {
         Kind::In => {
@@ -83,13 +88,13 @@ fn keyed(alloc: Global, tokens: &mut Tokens<'_>, limit: usize, key: String) -> R
 }
 
 /// Behind `for`.
-fn looping(alloc: Global, tokens: &mut Tokens<'_>, limit: usize) -> Result<Tag, Refusal>
+fn looping<'s>(alloc: Global, tokens: &mut Tokens<'_, 's>, limit: usize) -> Result<Tag<'s>, Refusal>
     ensures { Answers tag_of (spec.looping limit (input tokens.old)) result }
 {
     if !same(Kind::Name, tokens.kind()) {
         return Err(tokens.refuse(Reason::Expected(Kind::Name)));
     }
-    let name = String::from_str(alloc, tokens.text())?;
+    let name = tokens.text();
     tokens.take();
     match tokens.kind() {
         Kind::In => {
@@ -105,18 +110,18 @@ fn looping(alloc: Global, tokens: &mut Tokens<'_>, limit: usize) -> Result<Tag, 
 }
 
 /// Behind `set` or `set_global`.
-fn setting(
+fn setting<'s>(
     alloc: Global,
-    tokens: &mut Tokens<'_>,
+    tokens: &mut Tokens<'_, 's>,
     limit: usize,
     is_global: bool,
-) -> Result<Tag, Refusal>
+) -> Result<Tag<'s>, Refusal>
     ensures { Answers tag_of (spec.setting limit is_global (input tokens.old)) result }
 {
     if !same(Kind::Name, tokens.kind()) {
         return Err(tokens.refuse(Reason::Expected(Kind::Name)));
     }
-    let name = String::from_str(alloc, tokens.text())?;
+    let name = tokens.text();
     tokens.take();
     match tokens.kind() {
         Kind::Assign => {
@@ -130,8 +135,8 @@ fn setting(
 }
 
 /// A tag that is one word.
-fn alone(word: &str, tokens: &[Token<'_>], tag: Tag) -> Result<Tag, Refusal>
-    ensures { Answers tag_of (spec.alone word.now (tokens_of tokens.now) (tag_of tag)) result }
+fn alone<'s>(word: &str, tokens: &[Token<'_>], tag: Tag<'s>) -> Result<Tag<'s>, Refusal>
+    ensures { Answers tag_of (spec.alone word.now (tokens_of tokens.now) (tag_of tag.entry)) result }
 {
     if is_alone(word, tokens) {
         Ok(tag)
@@ -141,8 +146,13 @@ fn alone(word: &str, tokens: &[Token<'_>], tag: Tag) -> Result<Tag, Refusal>
 }
 
 /// A tag that is one word, in a loop's body.
-fn leaving(in_loop: bool, word: &str, tokens: &[Token<'_>], node: Node) -> Result<Tag, Refusal>
-    ensures { let meant = spec.leaving in_loop word.now (tokens_of tokens.now) (tag_of (Tag.Single node)) in
+fn leaving<'s>(
+    in_loop: bool,
+    word: &str,
+    tokens: &[Token<'_>],
+    node: Node<'s>,
+) -> Result<Tag<'s>, Refusal>
+    ensures { let meant = spec.leaving in_loop word.now (tokens_of tokens.now) (tag_of (Tag.Single node.entry)) in
         Answers tag_of meant result }
 {
     if in_loop {
@@ -154,13 +164,13 @@ fn leaving(in_loop: bool, word: &str, tokens: &[Token<'_>], node: Node) -> Resul
 
 /// A tag that begins with a word which is not reserved.
 #[tactic(auto, unfolding(crate::specs::Reader::named))]
-fn named(
+fn named<'s>(
     alloc: Global,
-    tokens: &[Token<'_>],
+    tokens: &[Token<'s>],
     limit: usize,
     in_loop: bool,
     word: &str,
-) -> Result<Tag, Refusal>
+) -> Result<Tag<'s>, Refusal>
     ensures { Answers tag_of (spec.named limit in_loop (tokens_of tokens.now) word.now) result }
 {
     if word == "set" {
@@ -184,13 +194,13 @@ fn named(
 
 /// A tag with expressions no deeper than `limit`. The flags say whether it, and what is open, stand in a loop's body.
 #[tactic(auto, unfolding(crate::specs::Reader::tag))]
-pub(crate) fn read_tag(
+pub(crate) fn read_tag<'s>(
     alloc: Global,
-    tokens: &[Token<'_>],
+    tokens: &[Token<'s>],
     limit: usize,
     in_loop: bool,
     outer: bool,
-) -> Result<Tag, Refusal>
+) -> Result<Tag<'s>, Refusal>
     ensures { let meant = spec.tag limit in_loop outer (tokens_of tokens.now) in
         Answers tag_of meant result }
 {

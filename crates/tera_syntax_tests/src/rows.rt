@@ -105,7 +105,10 @@ pub static TREES: [Row; 47] = [
     Row("{{ loop.index }}", "(.(loop 3-7)index 3-13)"),
     Row("{% set a = 1 %}b", "(set a(1 11-12))(b 15-16)"),
     Row("{% set set = set %}", "(set set(set 13-16))"),
-    Row("{% set_global a = b ~ c %}", "(set_global a(Concat(b 18-19)(c 22-23) 18-23))"),
+    Row(
+        "{% set_global a = b ~ c %}",
+        "(set_global a(Concat(b 18-19)(c 22-23) 18-23))",
+    ),
     Row(
         "{% set a %}x{% set b = a %}y{% endset %}z",
         "(set a to (x 11-12)(set b(a 23-24))(y 27-28))(z 40-41)",
@@ -114,12 +117,18 @@ pub static TREES: [Row; 47] = [
         "{% set_global a %}x{% endset_global %}{% set_global b %}{% endset %}",
         "(set_global a to (x 18-19))(set_global b to )",
     ),
-    Row("{% for v in e %}x{% endfor %}", "(for v in (e 12-13) do (x 16-17) else )"),
+    Row(
+        "{% for v in e %}x{% endfor %}",
+        "(for v in (e 12-13) do (x 16-17) else )",
+    ),
     Row(
         "{% for v in e %}x{% else %}y{% endfor %}z",
         "(for v in (e 12-13) do (x 16-17) else (y 27-28))(z 40-41)",
     ),
-    Row("{% for k, v in e %}{{ k }}{% endfor %}", "(for k, v in (e 15-16) do (k 22-23) else )"),
+    Row(
+        "{% for k, v in e %}{{ k }}{% endfor %}",
+        "(for k, v in (e 15-16) do (k 22-23) else )",
+    ),
     Row(
         "{% for v in a if b else c %}{% endfor %}",
         "(for v in (if(a 12-13)(b 17-18)(c 24-25) 12-25) do  else )",
@@ -152,7 +161,10 @@ pub static TREES: [Row; 47] = [
         "{% for v in e %}{% for w in loop.index %}{% else %}{{ loop.length }}{% endfor %}{% endfor %}{{ loop.index }}",
         "(for v in (e 12-13) do (for w in (__tera_loop_index 28-38) do  else (__tera_loop_length 54-65)) else )(.(loop 95-99)index 95-105)",
     ),
-    Row("{{ break }}{{ endfor }}{{ set }}", "(break 3-8)(endfor 14-20)(set 26-29)"),
+    Row(
+        "{{ break }}{{ endfor }}{{ set }}",
+        "(break 3-8)(endfor 14-20)(set 26-29)",
+    ),
 ];
 
 pub static REFUSED: [Text; 101] = [
@@ -252,7 +264,9 @@ pub static REFUSED: [Text; 101] = [
     Text("{% for v in e %}{% endfor %}{% continue %}"),
     Text("{% for v in e %}{% else %}{% break %}{% endfor %}"),
     Text("{% for v in e %}{% else %}{% if a %}{% continue %}{% endif %}{% endfor %}"),
-    Text("{% for v in e %}{% for w in f %}{% endfor %}{% else %}{% set a %}{% break %}{% endset %}{% endfor %}"),
+    Text(
+        "{% for v in e %}{% for w in f %}{% endfor %}{% else %}{% set a %}{% break %}{% endset %}{% endfor %}",
+    ),
     Text("{% for v in e %}{% break a %}{% endfor %}"),
     Text("{% for v in e %}{% continue 1 %}{% endfor %}"),
     Text("{{ set a }}"),

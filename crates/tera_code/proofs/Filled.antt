@@ -1,10 +1,9 @@
 -- Jumps whose lengths are known once what they pass is written.
-use Rattle.std.proofs.Common.{◌≡◌, ℕ, ◌+◌, Bool, true, false, [], ◌∷◌, ◌++◌, length, string_bytes, refl, sym, ap, ap₂, ◌∙◌, append_assoc, arith}
+use Rattle.std.proofs.Common.{◌≡◌, ℕ, ◌+◌, Bool, true, false, [], ◌∷◌, ◌++◌, length, option_copied, refl, sym, ap, ap₂, ◌∙◌, append_assoc, arith}
 use Rattle.std.proofs.lemmas.List.{length-append}
 use Rattle.std.proofs.Math.Seq.{set-append_seam}
 use Rattle.tera_errors.specs.declared.span.Span.{Span}
 use Rattle.tera_tree.specs.declared.expression.Heading.{Heading}
-use Rattle.tera_tree.specs.View.{name_option}
 use Rattle.tera_code.specs.declared.instruction.Instruction.{Instruction}
 use Rattle.tera_code.specs.declared.instruction.Instruction.TheVariants as instruction
 use Rattle.tera_code.specs.Listing.{Listing}
@@ -83,7 +82,7 @@ looped_written l m n o front turn place h counts e at g w =
 -- the turns of a loop and what goes where there is no item are written behind the front
 pub loop_written : (l m n o p q r : Listing) (front body other : Code) (place leave count : ℕ) (h : Heading) → m ≡ lengthened l front → place ≡ length m.code → n ≡ lengthened m kept → o ≡ lengthened n body
     → p ≡ looped place h true o → leave ≡ length p.code → q ≡ lengthened p kept → r ≡ lengthened q other → count ≡ behind leave r
-    → filled leave (instruction.EndLoop count) r ≡ lengthened l (front ++ loop_tail (name_option h.key) (string_bytes h.name) body other)
+    → filled leave (instruction.EndLoop count) r ≡ lengthened l (front ++ loop_tail (option_copied h.key) h.name.now body other)
 loop_written l m n o p q r front body other place leave count h e at g w t left k v is =
     let start = start_loop h true (length body) in
     let end = instruction.EndLoop (length other) ∷ other in
@@ -92,7 +91,7 @@ loop_written l m n o p q r front body other place leave count h e at g w t left 
 
 -- the turns of a comprehension are written behind the front
 pub comprehension_written : (l m n o : Listing) (front turn : Code) (place : ℕ) (h : Heading) (span : Span) → m ≡ lengthened l front → place ≡ length m.code → n ≡ lengthened m kept → o ≡ lengthened n turn
-    → lengthened (looped place h false o) (instruction.EndComprehension span ∷ instruction.MakeArray [] span ∷ []) ≡ lengthened l (front ++ comprehension_tail (name_option h.key) (string_bytes h.name) turn span)
+    → lengthened (looped place h false o) (instruction.EndComprehension span ∷ instruction.MakeArray [] span ∷ []) ≡ lengthened l (front ++ comprehension_tail (option_copied h.key) h.name.now turn span)
 comprehension_written l m n o front turn place h span e at g w =
     let start = start_loop h false (length turn) in
     let end = instruction.EndComprehension span ∷ instruction.MakeArray [] span ∷ [] in

@@ -9,7 +9,7 @@ use Rattle.std.specs.List.{All}
 use Rattle.std.specs.Str.{IsUtf8, IsCharBoundary}
 use Rattle.tera_errors.specs.Site.{Text}
 use Rattle.tera_values.specs.Val as val
-use Rattle.tera_tree.specs.declared.expression.LiteralKey.{LiteralKey}
+use Rattle.tera_tree.specs.declared.expression.OwnedKey.{OwnedKey}
 use Rattle.tera_tree.specs.Tree.{Key}
 use Rattle.tera_tree.specs.View.{key_option, keys_of}
 use Rattle.tera_code.specs.declared.instruction.Instruction.{Instruction}
@@ -50,7 +50,7 @@ text_there bs ds cs i j u v e g h =
     )
 
 -- one key more is copied
-pub copies_more : (ks js : List (Option LiteralKey)) (k e : Option LiteralKey) (before rest : List (Option LiteralKey)) (all : List (Option Key)) → js ≡ ks ++ k ∷ [] → fine (key_option e) ≡ fine (key_option k) → before ≡ e ∷ rest → keys_of ks ++ keys_of before ≡ all → keys_of js ++ keys_of rest ≡ all
+pub copies_more : (ks js : List (Option OwnedKey)) (k e : Option OwnedKey) (before rest : List (Option OwnedKey)) (all : List (Option Key)) → js ≡ ks ++ k ∷ [] → fine (key_option e) ≡ fine (key_option k) → before ≡ e ∷ rest → keys_of ks ++ keys_of before ≡ all → keys_of js ++ keys_of rest ≡ all
 copies_more ks js k e before rest all h same b is =
     ap (λ x. keys_of x ++ keys_of rest) h
     ∙ ap (λ x. x ++ keys_of rest) (keys_of-append ks k)

@@ -1,18 +1,18 @@
 -- Forms whose parts stand in a Vec.
-use Rattle.std.proofs.Common.{◌≡◌, ℕ, suc, Bool, false, String, string_bytes, length, List, [], ◌∷◌, ◌++◌, Vec, Box, Global, Result, Ok, Err, OnOk, Option, None, Some, refl, sym, ap, ap₂, ◌∙◌, append_assoc}
+use Rattle.std.proofs.Common.{◌≡◌, ℕ, suc, Bool, false, Bor, option_copied, length, List, [], ◌∷◌, ◌++◌, Vec, Box, Global, Result, Ok, Err, OnOk, Option, None, Some, refl, sym, ap, ap₂, ◌∙◌, append_assoc}
 use Rattle.tera_errors.specs.declared.span.Span.{Span}
 use Rattle.tera_errors.specs.Fault.{Fault}
 use Rattle.tera_errors.specs.Answer.{Refusal}
 use Rattle.tera_tree.specs.declared.expression.Item.{Item}
 use Rattle.tera_tree.specs.declared.expression.Entry.{Entry}
-use Rattle.tera_tree.specs.declared.expression.LiteralKey.{LiteralKey}
+use Rattle.tera_tree.specs.declared.expression.OwnedKey.{OwnedKey}
 use Rattle.tera_tree.specs.declared.expression.Heading.{Heading}
 use Rattle.tera_tree.specs.declared.expression.Expression.{Expression}
 use Rattle.tera_tree.specs.declared.expression.Expression.TheVariants as expression
 use Rattle.tera_tree.specs.declared.node.Node.{Node}
 use Rattle.tera_tree.specs.declared.node.Node.TheVariants as variant
 use Rattle.tera_tree.specs.Tree.{Key, Capture}
-use Rattle.tera_tree.specs.View.{key_option, name_option, comprehension_of, optional_of, expr_of, items_of, entries_of, node_of, nodes_of}
+use Rattle.tera_tree.specs.View.{key_option, literal_option, comprehension_of, optional_of, expr_of, items_of, entries_of, node_of, nodes_of}
 use Rattle.tera_tree.proofs.Views.{view_array, view_map, view_if, view_capture, view_for}
 use Rattle.tera_code.specs.declared.instruction.Instruction.TheVariants as instruction
 use Rattle.tera_code.specs.Listing.{Listing}
@@ -22,11 +22,11 @@ use Rattle.tera_code.specs.Places.{filled, behind, looped}
 use Rattle.tera_code.proofs.Lengthened.{lengthened-lengthened}
 use Rattle.tera_code.proofs.Filled.{keep_written, comprehension_written}
 
-pub length_keys : (ks : List (Option LiteralKey)) → length (keys_of ks) ≡ length ks
+pub length_keys : (ks : List (Option OwnedKey)) → length (keys_of ks) ≡ length ks
 length_keys [] = refl
 length_keys (k ∷ ks) = ap (λ n. suc n) (length_keys ks)
 
-pub keys_of-append : (ks : List (Option LiteralKey)) (k : Option LiteralKey) → keys_of (ks ++ k ∷ []) ≡ keys_of ks ++ key_option k ∷ []
+pub keys_of-append : (ks : List (Option OwnedKey)) (k : Option OwnedKey) → keys_of (ks ++ k ∷ []) ≡ keys_of ks ++ key_option k ∷ []
 keys_of-append [] k = refl
 keys_of-append (j ∷ ks) k = ap (λ all. key_option j ∷ all) (keys_of-append ks k)
 
@@ -38,7 +38,7 @@ pub same_ok : {A : Type 0} (a b : A) → fine a ≡ fine b → a ≡ b
 same_ok a b e = cc
 
 -- one key more is copied
-pub keys_more : (ks js : List (Option LiteralKey)) (k : Option LiteralKey) (e : Entry) (before rest : List Entry) (all : List (Option Key)) → js ≡ ks ++ k ∷ [] → fine (key_option e.key) ≡ fine (key_option k) → before ≡ e ∷ rest → keys_of ks ++ keys_in (entries_of before) ≡ all → keys_of js ++ keys_in (entries_of rest) ≡ all
+pub keys_more : (ks js : List (Option OwnedKey)) (k : Option OwnedKey) (e : Entry) (before rest : List Entry) (all : List (Option Key)) → js ≡ ks ++ k ∷ [] → fine (literal_option e.key) ≡ fine (key_option k) → before ≡ e ∷ rest → keys_of ks ++ keys_in (entries_of before) ≡ all → keys_of js ++ keys_in (entries_of rest) ≡ all
 keys_more ks js k e before rest all h same b is =
     ap (λ x. keys_of x ++ keys_in (entries_of rest)) h
     ∙ ap (λ x. x ++ keys_in (entries_of rest)) (keys_of-append ks k)
@@ -81,18 +81,18 @@ if_written l m node drops condition body other xs ys is a b h =
     ∙ ap (λ t. lengthened l (node_code (node_of t) drops)) (sym is)
 
 pub for_written : (l m : Listing) (node : Node) (drops : ℕ) (heading : Box Heading Global) (body other : Vec Node Global) (xs ys : List Node) → node ≡ variant.For heading body other → xs ≡ body.items → ys ≡ other.items
-    → m ≡ lengthened l (expr_code (expr_of heading.value.target) ++ loop_tail (name_option heading.value.key) (string_bytes heading.value.name) (nodes_code (nodes_of xs) 0) (nodes_code (nodes_of ys) drops)) → m ≡ lengthened l (node_code (node_of node) drops)
+    → m ≡ lengthened l (expr_code (expr_of heading.value.target) ++ loop_tail (option_copied heading.value.key) heading.value.name.now (nodes_code (nodes_of xs) 0) (nodes_code (nodes_of ys) drops)) → m ≡ lengthened l (node_code (node_of node) drops)
 for_written l m node drops heading body other xs ys is a b h =
-    let loop = λ (x y : List Node). expr_code (expr_of heading.value.target) ++ loop_tail (name_option heading.value.key) (string_bytes heading.value.name) (nodes_code (nodes_of x) 0) (nodes_code (nodes_of y) drops) in
+    let loop = λ (x y : List Node). expr_code (expr_of heading.value.target) ++ loop_tail (option_copied heading.value.key) heading.value.name.now (nodes_code (nodes_of x) 0) (nodes_code (nodes_of y) drops) in
     h
     ∙ ap₂ (λ x y. lengthened l (loop x y)) a b
     ∙ ap (λ t. lengthened l (node_code t drops)) (sym (view_for heading body other))
     ∙ ap (λ t. lengthened l (node_code (node_of t) drops)) (sym is)
 
-pub capture_written : (l m : Listing) (node : Node) (drops : ℕ) (name : String Global) (body : Vec Node Global) (is_global : Bool) (xs : List Node) (r : Result (Unit {0}) Refusal) → node ≡ variant.Capture name body is_global → xs ≡ body.items
-    → OnOk r (m ≡ lengthened l (node_code (Capture (string_bytes name) (nodes_of xs) is_global) drops)) → OnOk r (m ≡ lengthened l (node_code (node_of node) drops))
+pub capture_written : (l m : Listing) (node : Node) (drops : ℕ) (name : Bor (List ℕ)) (body : Vec Node Global) (is_global : Bool) (xs : List Node) (r : Result (Unit {0}) Refusal) → node ≡ variant.Capture name body is_global → xs ≡ body.items
+    → OnOk r (m ≡ lengthened l (node_code (Capture name.now (nodes_of xs) is_global) drops)) → OnOk r (m ≡ lengthened l (node_code (node_of node) drops))
 capture_written l m node drops name body is_global xs r is a h =
-    on_ok_by r m _ _ (ap (λ x. lengthened l (node_code (Capture (string_bytes name) (nodes_of x) is_global) drops)) a
+    on_ok_by r m _ _ (ap (λ x. lengthened l (node_code (Capture name.now (nodes_of x) is_global) drops)) a
     ∙ ap (λ t. lengthened l (node_code t drops)) (sym (view_capture name body is_global))
     ∙ ap (λ t. lengthened l (node_code (node_of t) drops)) (sym is)) h
 

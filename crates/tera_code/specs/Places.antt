@@ -1,14 +1,13 @@
 -- Places that are kept for jumps while what they pass is written. No public contract speaks of them.
-use Rattle.std.specs.Prelude.{ℕ, suc, ◌-◌, Bool, [], ◌∷◌, length, set, string_bytes}
+use Rattle.std.specs.Prelude.{ℕ, suc, ◌-◌, Bool, [], ◌∷◌, length, set, option_copied}
 use Rattle.tera_tree.specs.declared.expression.Heading.{Heading}
-use Rattle.tera_tree.specs.View.{name_option}
 use Rattle.tera_code.specs.declared.instruction.Instruction.{Instruction}
 use Rattle.tera_code.specs.declared.instruction.Instruction.TheVariants as instruction
 use Rattle.tera_code.specs.Listing.{Listing}
 use Rattle.tera_code.specs.Code.{lengthened}
 
 abbrev pub start_loop : Heading → Bool → ℕ → Instruction
-start_loop h counts size = instruction.StartLoop (name_option h.key) (string_bytes h.name) counts size
+start_loop h counts size = instruction.StartLoop (option_copied h.key) h.name.now counts size
 
 -- with an instruction at the place that was kept for it
 abbrev pub filled : ℕ → Instruction → Listing → Listing

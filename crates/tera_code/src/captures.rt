@@ -1,5 +1,5 @@
 // Names that are bound, and texts that are captured for them.
-ghost use Rattle.std.specs.Prelude.{◌≡◌, [], ◌∷◌, suc, OnOk, IfOk, IfErr, string_bytes};
+ghost use Rattle.std.specs.Prelude.{◌≡◌, [], ◌∷◌, suc, OnOk, IfOk, IfErr};
 ghost use Rattle.tera_errors.specs.Answer.{Lacks};
 ghost use Rattle.tera_code.specs.declared.instruction.Instruction.TheVariants as instruction;
 ghost use Rattle.tera_code.specs.Code.{node_code, lengthened};
@@ -16,13 +16,8 @@ use tera_values::{Name, TeraResult};
 
 impl Compiler {
     // The value becomes that of the name.
-    pub(crate) fn set(
-        &mut self,
-        name: &String,
-        value: &Expression,
-        is_global: bool,
-    ) -> TeraResult<()>
-        ensures ok { OnOk result (self.new ≡ lengthened self.old (node_code (Set (string_bytes name.now) (expr_of value.now) is_global) 0)) }
+    pub(crate) fn set(&mut self, name: &str, value: &Expression, is_global: bool) -> TeraResult<()>
+        ensures ok { OnOk result (self.new ≡ lengthened self.old (node_code (Set name.now (expr_of value.now) is_global) 0)) }
         ensures lacks { IfErr result Lacks }
     {
         self.expression(value)?;
@@ -33,12 +28,12 @@ impl Compiler {
     #[cycle(nodes)]
     pub(crate) fn capture(
         &mut self,
-        name: &String,
+        name: &str,
         body: &[Node],
         is_global: bool,
         drops: usize,
     ) -> TeraResult<()>
-        ensures ok { OnOk result (self.new ≡ lengthened self.old (node_code (Capture (string_bytes name.now) (nodes_of body.now) is_global) drops)) }
+        ensures ok { OnOk result (self.new ≡ lengthened self.old (node_code (Capture name.now (nodes_of body.now) is_global) drops)) }
         ensures lacks { IfErr result Lacks }
     {
         self.emit(Instruction::StartCapture)?;
@@ -48,11 +43,11 @@ impl Compiler {
     }
 
     // The operand on top becomes the value of the name.
-    pub(crate) fn store(&mut self, name: &String, is_global: bool) -> TeraResult<()>
-        ensures ok { OnOk result (self.new ≡ lengthened self.old (instruction.Store (string_bytes name.now) is_global ∷ [])) }
+    pub(crate) fn store(&mut self, name: &str, is_global: bool) -> TeraResult<()>
+        ensures ok { OnOk result (self.new ≡ lengthened self.old (instruction.Store name.now is_global ∷ [])) }
         ensures lacks { IfErr result Lacks }
     {
-        let name = Name::new(self.alloc(), name.as_str())?;
+        let name = Name::new(self.alloc(), name)?;
         self.emit(Instruction::Store {
             name: LentName::new(&name),
             is_global,

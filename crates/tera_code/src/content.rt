@@ -3,7 +3,7 @@ ghost use Rattle.std.specs.Prelude.{◌≡◌, Ok, length};
 ghost use Rattle.tera_errors.specs.Answer.{Gives};
 
 use std::marker::Model;
-use tera_tree::LiteralKey;
+use tera_tree::OwnedKey;
 use tera_values::{Name, TeraResult};
 
 /// A piece of a template's text, or a name that is read. A contract sees its bytes.
@@ -119,7 +119,7 @@ impl<'a> Spreads<'a> {
 /// The keys of a map literal, from left to right; what has none is spread.
 #[derive(Drop)]
 pub struct Keys<'a> {
-    keys: &'a [Option<LiteralKey>],
+    keys: &'a [Option<OwnedKey>],
 }
 
 impl<'a> Model for Keys<'a> {
@@ -136,7 +136,7 @@ impl<'a> Keys<'a> {
     ghost use Rattle.tera_tree.specs.View.{keys_of};
 
     /// A key, or none, for each entry.
-    pub fn new(keys: &'a [Option<LiteralKey>]) -> Keys<'a>
+    pub fn new(keys: &'a [Option<OwnedKey>]) -> Keys<'a>
         ensures { result ≡ keys_of keys.now }
     {
         Keys { keys }
@@ -144,7 +144,7 @@ impl<'a> Keys<'a> {
 
     /// The keys.
     #[tactic(auto, using(crate::proofs::Written::length_keys))]
-    pub fn as_slice(&self) -> &'a [Option<LiteralKey>]
+    pub fn as_slice(&self) -> &'a [Option<OwnedKey>]
         ensures keys { keys_of result.now ≡ self.now }
         ensures len { length result.now ≡ length self.now }
     {

@@ -9,7 +9,7 @@ use crate::compiler::Compiler;
 use crate::constant::Constant;
 use crate::instruction::Instruction;
 use std::alloc::Global;
-use tera_tree::{Entry, Expression, Item, LiteralKey};
+use tera_tree::{Entry, Expression, Item};
 use tera_values::{Span, TeraResult};
 
 impl Compiler {
@@ -22,7 +22,7 @@ impl Compiler {
             Expression::None { span } => self.constant(Constant::none(), *span),
             Expression::Bool { value, span } => self.constant(Constant::from_bool(*value), *span),
             Expression::Int { value, span } => self.integer(*value, *span),
-            Expression::Text { text, span } => self.text(text, *span),
+            Expression::Text { text, span } => self.text(text.as_str(), *span),
             Expression::Name { name, span } => self.load(name, *span),
             Expression::Attribute { .. } | Expression::Index { .. } | Expression::Slice { .. } => {
                 self.access(expression)

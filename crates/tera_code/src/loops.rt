@@ -1,11 +1,11 @@
 // Loops and comprehensions.
-ghost use Rattle.std.specs.Prelude.{◌≡◌, ◌<◌, ◌∷◌, [], Ok, OnOk, IfErr, length, true, false};
+ghost use Rattle.std.specs.Prelude.{◌≡◌, ◌<◌, ◌∷◌, [], Ok, OnOk, IfErr, length, option_copied, true, false};
 ghost use Rattle.tera_errors.specs.Answer.{Gives, Lacks};
 ghost use Rattle.tera_code.specs.declared.instruction.Instruction.TheVariants as instruction;
 ghost use Rattle.tera_code.specs.Code.{expr_code, lengthened};
 ghost use Rattle.tera_code.specs.Group.{group, Loop};
 ghost use Rattle.tera_code.specs.Places.{looped};
-ghost use Rattle.tera_tree.specs.View.{name_option, expr_of};
+ghost use Rattle.tera_tree.specs.View.{expr_of};
 
 use crate::compiler::Compiler;
 use crate::content::{LentName, Spreads};
@@ -73,7 +73,7 @@ impl Compiler {
         ensures lacks { IfErr result Lacks }
     {
         let key = key_name(self.alloc(), &heading.key)?;
-        let name = Name::new(self.alloc(), heading.name.as_str())?;
+        let name = Name::new(self.alloc(), heading.name)?;
         let size = self.behind(start);
         self.fill(
             start,
@@ -88,11 +88,11 @@ impl Compiler {
     }
 }
 
-fn key_name(alloc: Global, key: &Option<String>) -> TeraResult<Option<Name>>
-    ensures { Gives (λ k. k) result (Ok (name_option key.now)) }
+fn key_name(alloc: Global, key: &Option<&str>) -> TeraResult<Option<Name>>
+    ensures { Gives (λ k. k) result (Ok (option_copied key.now)) }
 {
     match key {
         None => Ok(None),
-        Some(key) => Ok(Some(Name::new(alloc, key.as_str())?)),
+        Some(key) => Ok(Some(Name::new(alloc, key)?)),
     }
 }

@@ -1,5 +1,5 @@
 // Nodes.
-ghost use Rattle.std.specs.Prelude.{◌≡◌, [], ◌∷◌, OnOk, IfErr, MatchOption, Some, None, string_bytes};
+ghost use Rattle.std.specs.Prelude.{◌≡◌, [], ◌∷◌, OnOk, IfErr, MatchOption, Some, None};
 ghost use Rattle.tera_errors.specs.Answer.{Lacks};
 ghost use Rattle.tera_code.specs.declared.instruction.Instruction.TheVariants as instruction;
 ghost use Rattle.tera_code.specs.Code.{named, node_code, nodes_code, lengthened};
@@ -91,11 +91,11 @@ impl Compiler {
         }
     }
 
-    fn content(&mut self, text: &String) -> TeraResult<()>
-        ensures ok { OnOk result (self.new ≡ lengthened self.old (instruction.WriteText (string_bytes text.now) ∷ [])) }
+    fn content(&mut self, text: &str) -> TeraResult<()>
+        ensures ok { OnOk result (self.new ≡ lengthened self.old (instruction.WriteText text.now ∷ [])) }
         ensures lacks { IfErr result Lacks }
     {
-        self.emit(Instruction::WriteText(Text::new(text.as_str())))
+        self.emit(Instruction::WriteText(Text::new(text)))
     }
 
     fn print(&mut self, value: &Expression) -> TeraResult<()>
@@ -103,7 +103,7 @@ impl Compiler {
         ensures lacks { IfErr result Lacks }
     {
         match named(value) {
-            Some((name, span)) => self.emit(Instruction::WriteName(Text::new(name.as_str()), span)),
+            Some((name, span)) => self.emit(Instruction::WriteName(Text::new(name), span)),
             None => {
                 self.expression(value)?;
                 self.emit(Instruction::WriteTop)
@@ -113,8 +113,8 @@ impl Compiler {
 }
 
 // The name that an expression is, if it is one that is looked up.
-fn named(expression: &Expression) -> Option<(&String, Span)>
-    ensures { MatchOption result (named (expr_of expression.now) ≡ None) (λ p. named (expr_of expression.now) ≡ Some (string_bytes p.0.now, p.1)) }
+fn named<'s>(expression: &Expression<'s>) -> Option<(&'s str, Span)>
+    ensures { MatchOption result (named (expr_of expression.now) ≡ None) (λ p. named (expr_of expression.now) ≡ Some (p.0.now, p.1)) }
 {
     match expression {
         Expression::Name { name, span } => {

@@ -11,7 +11,7 @@ use crate::instruction::Instruction;
 use crate::parts::copied;
 use std::alloc::Global;
 use tera_errors::Error;
-use tera_tree::{BinaryOperator, LiteralKey};
+use tera_tree::{BinaryOperator, OwnedKey};
 use tera_values::{Name, Span, TeraResult, Value};
 
 /// An instruction that names by number what it needs.
@@ -117,7 +117,7 @@ pub(crate) struct Tables {
     names: Vec<Name>,
     constants: Vec<Value>,
     spreads: Vec<Vec<bool>>,
-    keys: Vec<Vec<Option<LiteralKey>>>,
+    keys: Vec<Vec<Option<OwnedKey>>>,
     spans: Vec<Span>,
     loops: Vec<LoopNames>,
 }
@@ -485,7 +485,7 @@ impl Tables {
     }
 }
 
-fn copies(alloc: Global, keys: &[Option<LiteralKey>]) -> TeraResult<Vec<Option<LiteralKey>>>
+fn copies(alloc: Global, keys: &[Option<OwnedKey>]) -> TeraResult<Vec<Option<OwnedKey>>>
     ensures { Gives (λ k. keys_of k.items) result (Ok (keys_of keys.now)) }
 {
     let mut all = Vec::new(alloc);

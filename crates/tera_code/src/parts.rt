@@ -1,47 +1,47 @@
 // Instructions of single forms.
-ghost use Rattle.std.specs.Prelude.{◌≡◌, ◌<◌, [], ◌∷◌, ◌++◌, Ok, OnOk, IfOk, IfErr, length, string_bytes, false};
+ghost use Rattle.std.specs.Prelude.{◌≡◌, ◌<◌, [], ◌∷◌, ◌++◌, Ok, OnOk, IfOk, IfErr, length, false};
 ghost use Rattle.tera_errors.specs.Answer.{Gives, Lacks};
 ghost use Rattle.tera_values.specs.Val as val;
 ghost use Rattle.tera_code.specs.declared.instruction.Instruction.TheVariants as instruction;
 ghost use Rattle.tera_code.specs.Code.{lengthened, is_context, name_code, spreads_of, keys_in};
 ghost use Rattle.tera_code.specs.Places.{divided};
 ghost use Rattle.tera_tree.specs.View.{keys_of};
-ghost use Rattle.tera_tree.specs.View.{items_of, entries_of, key_option, key_of};
+ghost use Rattle.tera_tree.specs.View.{items_of, entries_of, key_option, key_of, literal_option, literal_of, quoted_of};
 
 use crate::compiler::Compiler;
 use crate::constant::Constant;
 use crate::content::{Keys, Spreads, Text};
 use crate::instruction::Instruction;
 use std::alloc::Global;
-use tera_tree::{Entry, Item, LiteralKey};
+use tera_tree::{Entry, Item, LiteralKey, OwnedKey};
 use tera_values::{Span, TeraResult, Value};
 
 impl Compiler {
-    pub(crate) fn text(&mut self, text: &String, span: Span) -> TeraResult<()>
-        ensures ok { OnOk result (self.new ≡ lengthened self.old (instruction.LoadConst (val.text (string_bytes text.now) false) span ∷ [])) }
+    pub(crate) fn text(&mut self, text: &str, span: Span) -> TeraResult<()>
+        ensures ok { OnOk result (self.new ≡ lengthened self.old (instruction.LoadConst (val.text text.now false) span ∷ [])) }
         ensures lacks { IfErr result Lacks }
     {
-        let value = Value::string(self.alloc(), text.as_str())?.shared(self.alloc())?;
+        let value = Value::string(self.alloc(), text)?.shared(self.alloc())?;
         self.constant(Constant::shared(&value), span)
     }
 
-    pub(crate) fn load(&mut self, name: &String, span: Span) -> TeraResult<()>
-        ensures ok { OnOk result (self.new ≡ lengthened self.old (name_code (string_bytes name.now) span)) }
+    pub(crate) fn load(&mut self, name: &str, span: Span) -> TeraResult<()>
+        ensures ok { OnOk result (self.new ≡ lengthened self.old (name_code name.now span)) }
         ensures lacks { IfErr result Lacks }
     {
         if is_context(name) {
             self.emit(Instruction::LoadContext(span))
         } else {
-            self.emit(Instruction::LoadName(Text::new(name.as_str()), span))
+            self.emit(Instruction::LoadName(Text::new(name), span))
         }
     }
 
-    pub(crate) fn attribute(&mut self, name: &String, optional: bool, span: Span) -> TeraResult<()>
-        ensures ok { OnOk result (self.new ≡ lengthened self.old (instruction.LoadAttribute (string_bytes name.now) optional span ∷ [])) }
+    pub(crate) fn attribute(&mut self, name: &str, optional: bool, span: Span) -> TeraResult<()>
+        ensures ok { OnOk result (self.new ≡ lengthened self.old (instruction.LoadAttribute name.now optional span ∷ [])) }
         ensures lacks { IfErr result Lacks }
     {
         self.emit(Instruction::LoadAttribute {
-            name: Text::new(name.as_str()),
+            name: Text::new(name),
             optional,
             span,
         })
@@ -77,10 +77,10 @@ impl Compiler {
 }
 
 // The map of all that is bound has this name.
-pub(crate) fn is_context(name: &String) -> bool
-    ensures { result ≡ is_context (string_bytes name.now) }
+pub(crate) fn is_context(name: &str) -> bool
+    ensures { result ≡ is_context name.now }
 {
-    name.as_str() == "__tera_context"
+    name == "__tera_context"
 }
 
 fn spreads(alloc: Global, items: &[Item]) -> TeraResult<Vec<bool>>
@@ -93,26 +93,41 @@ fn spreads(alloc: Global, items: &[Item]) -> TeraResult<Vec<bool>>
     Ok(flags)
 }
 
-fn keys(alloc: Global, entries: &[Entry]) -> TeraResult<Vec<Option<LiteralKey>>>
+fn keys(alloc: Global, entries: &[Entry]) -> TeraResult<Vec<Option<OwnedKey>>>
     ensures { Gives (λ k. keys_of k.items) result (Ok (keys_in (entries_of entries.now))) }
 {
     let mut keys = Vec::new(alloc);
     for entry in entries {
-        keys.push(copied(alloc, &entry.key)?)?;
+        keys.push(owned(alloc, &entry.key)?)?;
     }
     Ok(keys)
 }
 
-pub(crate) fn copied(alloc: Global, key: &Option<LiteralKey>) -> TeraResult<Option<LiteralKey>>
+// The key with a text of its own.
+fn owned(alloc: Global, key: &Option<LiteralKey<'_>>) -> TeraResult<Option<OwnedKey>>
+    ensures { Gives key_option result (Ok (literal_option key.now)) }
+{
+    match key {
+        None => Ok(None),
+        Some(LiteralKey::Bool(flag)) => Ok(Some(OwnedKey::Bool(*flag))),
+        Some(LiteralKey::Int(number)) => Ok(Some(OwnedKey::Int(*number))),
+        Some(LiteralKey::Text(text)) => {
+            let text = String::from_str(alloc, text.as_str())?;
+            Ok(Some(OwnedKey::Text(text)))
+        }
+    }
+}
+
+pub(crate) fn copied(alloc: Global, key: &Option<OwnedKey>) -> TeraResult<Option<OwnedKey>>
     ensures { Gives key_option result (Ok (key_option key.now)) }
 {
     match key {
         None => Ok(None),
-        Some(LiteralKey::Bool(flag)) => Ok(Some(LiteralKey::Bool(*flag))),
-        Some(LiteralKey::Int(number)) => Ok(Some(LiteralKey::Int(*number))),
-        Some(LiteralKey::Text(text)) => {
+        Some(OwnedKey::Bool(flag)) => Ok(Some(OwnedKey::Bool(*flag))),
+        Some(OwnedKey::Int(number)) => Ok(Some(OwnedKey::Int(*number))),
+        Some(OwnedKey::Text(text)) => {
             let text = String::from_str(alloc, text.as_str())?;
-            Ok(Some(LiteralKey::Text(text)))
+            Ok(Some(OwnedKey::Text(text)))
         }
     }
 }

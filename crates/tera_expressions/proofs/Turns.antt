@@ -5,7 +5,7 @@ use Rattle.tera_tokens.specs.declared.refusal.Refusal.{Refusal}
 use Rattle.tera_tokens.specs.declared.refusal.Refusal.TheVariants.{Syntax, OutOfMemory}
 use Rattle.tera_tokens.specs.Answers.{Refuses, IsSyntax}
 use Rattle.tera_tree.specs.Tree.{Items, MoreItems, Key, Entries, MoreEntries}
-use Rattle.tera_tree.specs.View.{items_of, entries_of, key_option, expr_of}
+use Rattle.tera_tree.specs.View.{items_of, entries_of, literal_option, expr_of}
 use Rattle.tera_tree.specs.declared.expression.Item as item
 use Rattle.tera_tree.specs.declared.expression.Entry as entry
 use Rattle.tera_tokens.specs.Token.{Token}
@@ -111,9 +111,9 @@ refused (Syntax why place) f h = f h
 refused OutOfMemory f h = tt
 
 -- rows of entries
-pub entries_of-push : (all : List entry.Entry) (i : entry.Entry) → entries_of (all ++ i ∷ []) ≡ join_entries (entries_of all) (one_entry (key_option i.key) (expr_of i.value))
+pub entries_of-push : (all : List entry.Entry) (i : entry.Entry) → entries_of (all ++ i ∷ []) ≡ join_entries (entries_of all) (one_entry (literal_option i.key) (expr_of i.value))
 entries_of-push [] i = refl
-entries_of-push (j ∷ all) i = ap (MoreEntries (key_option j.key) (expr_of j.value)) (entries_of-push all i)
+entries_of-push (j ∷ all) i = ap (MoreEntries (literal_option j.key) (expr_of j.value)) (entries_of-push all i)
 
 module _ (limit : ℕ) (sub : ℕ → Parser Deep) where
   pub entries_end : (n : ℕ) (found : Entries) (d : ℕ) (i : Input) → same RightBrace (kind i) ≡ true → entries_from limit sub (suc n) found d i ≡ Some ((found, d), next i)

@@ -1,5 +1,5 @@
 -- How the reader's parts of expressions stand to their definitions.
-use Rattle.std.specs.Prelude.{◌≡◌, ℕ, List, Bool, Option, Some, Result, Ok, Err, string_bytes}
+use Rattle.std.specs.Prelude.{◌≡◌, ℕ, List, Bool, Option, Some, Result, Ok, Err, option_copied}
 use Rattle.std.specs.declared.alloc.Global.{Global}
 use denote.Ref.{MutBor}
 use Rattle.tera_errors.specs.Site.{Name}
@@ -8,7 +8,7 @@ use Rattle.tera_tree.specs.declared.expression.Expression.{Expression}
 use Rattle.tera_tree.specs.declared.expression.Item as item
 use Rattle.tera_tree.specs.declared.expression.Entry as entry
 use Rattle.tera_tree.specs.Tree.{Expr, Key, Optional, And, Or, Binary}
-use Rattle.tera_tree.specs.View.{expr_of, optional_of, items_of, entries_of, name_option}
+use Rattle.tera_tree.specs.View.{expr_of, optional_of, items_of, entries_of}
 use Rattle.tera_tokens.specs.declared.refusal.Refusal.{Refusal}
 use Rattle.tera_tokens.specs.declared.refusal.Refusal.TheVariants.{Syntax, OutOfMemory}
 use Rattle.tera_tokens.specs.declared.input.Tokens.{Tokens}
@@ -29,7 +29,7 @@ abbrev pub part_of : Part → Optional × ℕ
 part_of p = (optional_of p.expression, p.depth)
 
 abbrev pub names_of : LoopNames → Option Name × Name
-names_of n = (name_option n.key, string_bytes n.name)
+names_of n = (option_copied n.key, n.name.now)
 
 abbrev pub infix_of : Infix → Expr → Expr → Span → Expr
 infix_of form.And = And

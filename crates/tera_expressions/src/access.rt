@@ -12,45 +12,47 @@ use tera_tokens::refusal::{Reason, Refusal};
 use tera_tokens::token::Kind;
 use tera_tree::{Bounds, Expression};
 
-impl<F: Fn(Global, &mut Tokens<'_>, usize, u8) -> Result<Deep, Refusal>> Reader<F> {
+impl<'s, F: Fn(Global, &mut Tokens<'_, 's>, usize, u8) -> Result<Deep<'s>, Refusal>> Reader<F> {
     /// `x.name`, from the dot on.
     #[tactic(auto, unfolding(crate::specs::Expressions::attribute))]
     pub(crate) fn attribute(
         &self,
-        tokens: &mut Tokens<'_>,
+        tokens: &mut Tokens<'_, 's>,
         optional: bool,
         start: usize,
-        x: Deep,
-    ) -> Result<Deep, Refusal>
-        ensures { Takes deep_of (spec.attribute self.now.limit (spec.expr self.now.below) optional start (deep_of x) (input tokens.old)) result tokens.new }
+        x: Deep<'s>,
+    ) -> Result<Deep<'s>, Refusal>
+        ensures { Takes deep_of (spec.attribute self.now.limit (spec.expr self.now.below) optional start (deep_of x.entry) (input tokens.old)) result tokens.new }
     {
         tokens.take();
         if !is_word(tokens.kind()) {
             return Err(tokens.refuse(Reason::Expected(Kind::Name)));
         }
-        let name = String::from_str(self.alloc, tokens.text())?;
+        let name = tokens.text();
         tokens.take();
         let span = tokens.span(start);
+        let depth = x.depth;
         let expression = Expression::attribute(x.expression, name, optional, span);
-        self.node(tokens, x.depth, expression)
+        self.node(tokens, depth, expression)
     }
 
     /// `x[y]` or a slice, from the bracket on.
     #[tactic(auto, unfolding(crate::specs::Expressions::subscript))]
     pub(crate) fn subscript(
         &self,
-        tokens: &mut Tokens<'_>,
+        tokens: &mut Tokens<'_, 's>,
         optional: bool,
         start: usize,
-        x: Deep,
-    ) -> Result<Deep, Refusal>
+        x: Deep<'s>,
+    ) -> Result<Deep<'s>, Refusal>
         requires { Nests self.now.below (F.pre self.now.expr) (F.post self.now.expr) }
-        ensures { Takes deep_of (spec.subscript self.now.limit (spec.expr self.now.below) optional start (deep_of x) (input tokens.old)) result tokens.new }
+        ensures { Takes deep_of (spec.subscript self.now.limit (spec.expr self.now.below) optional start (deep_of x.entry) (input tokens.old)) result tokens.new }
     {
         tokens.take();
         let p = self.part(tokens)?;
         if same(Kind::RightBracket, tokens.kind()) {
-            self.index_at(tokens, optional, start, x, p.expression, p.depth)
+            let depth = p.depth;
+            self.index_at(tokens, optional, start, x, p.expression, depth)
         } else {
             self.slice(tokens, optional, start, x, p)
         }
@@ -58,7 +60,7 @@ impl<F: Fn(Global, &mut Tokens<'_>, usize, u8) -> Result<Deep, Refusal>> Reader<
 
     /// A bound of a slice, if it is written, and how deep it is.
     #[tactic(auto, unfolding(crate::specs::Expressions::part))]
-    pub(crate) fn part(&self, tokens: &mut Tokens<'_>) -> Result<Part, Refusal>
+    pub(crate) fn part(&self, tokens: &mut Tokens<'_, 's>) -> Result<Part<'s>, Refusal>
         requires { Nests self.now.below (F.pre self.now.expr) (F.post self.now.expr) }
         ensures { Takes part_of (spec.part self.now.limit (spec.expr self.now.below) (input tokens.old)) result tokens.new }
     {
@@ -83,7 +85,7 @@ impl<F: Fn(Global, &mut Tokens<'_>, usize, u8) -> Result<Deep, Refusal>> Reader<
 
     /// The step of a slice, if it is written, and how deep it is.
     #[tactic(auto, unfolding(crate::specs::Expressions::step))]
-    pub(crate) fn step(&self, tokens: &mut Tokens<'_>) -> Result<Part, Refusal>
+    pub(crate) fn step(&self, tokens: &mut Tokens<'_, 's>) -> Result<Part<'s>, Refusal>
         requires { Nests self.now.below (F.pre self.now.expr) (F.post self.now.expr) }
         ensures { Takes part_of (spec.step self.now.limit (spec.expr self.now.below) (input tokens.old)) result tokens.new }
     {
@@ -101,20 +103,21 @@ impl<F: Fn(Global, &mut Tokens<'_>, usize, u8) -> Result<Deep, Refusal>> Reader<
     #[tactic(auto, unfolding(crate::specs::Expressions::index_at))]
     pub(crate) fn index_at(
         &self,
-        tokens: &mut Tokens<'_>,
+        tokens: &mut Tokens<'_, 's>,
         optional: bool,
         start: usize,
-        x: Deep,
-        y: Option<Box<Expression>>,
+        x: Deep<'s>,
+        y: Option<Box<Expression<'s>>>,
         depth: usize,
-    ) -> Result<Deep, Refusal>
-        ensures { Takes deep_of (spec.index_at self.now.limit (spec.expr self.now.below) optional start (deep_of x) (optional_of y) depth (input tokens.old)) result tokens.new }
+    ) -> Result<Deep<'s>, Refusal>
+        ensures { Takes deep_of (spec.index_at self.now.limit (spec.expr self.now.below) optional start (deep_of x.entry) (optional_of y.entry) depth (input tokens.old)) result tokens.new }
     {
         match y {
             None => Err(tokens.refuse(Reason::NoExpression)),
             Some(index) => {
                 tokens.take();
-                let depth = larger(x.depth, depth);
+                let a = x.depth;
+                let depth = larger(a, depth);
                 let span = tokens.span(start);
                 let expression = Expression::index(x.expression, index, optional, span);
                 self.node(tokens, depth, expression)
@@ -126,19 +129,20 @@ impl<F: Fn(Global, &mut Tokens<'_>, usize, u8) -> Result<Deep, Refusal>> Reader<
     #[tactic(auto, unfolding(crate::specs::Expressions::slice))]
     pub(crate) fn slice(
         &self,
-        tokens: &mut Tokens<'_>,
+        tokens: &mut Tokens<'_, 's>,
         optional: bool,
         start: usize,
-        x: Deep,
-        p: Part,
-    ) -> Result<Deep, Refusal>
+        x: Deep<'s>,
+        p: Part<'s>,
+    ) -> Result<Deep<'s>, Refusal>
         requires { Nests self.now.below (F.pre self.now.expr) (F.post self.now.expr) }
-        ensures { Takes deep_of (spec.slice self.now.limit (spec.expr self.now.below) optional start (deep_of x) (part_of p) (input tokens.old)) result tokens.new }
+        ensures { Takes deep_of (spec.slice self.now.limit (spec.expr self.now.below) optional start (deep_of x.entry) (part_of p.entry) (input tokens.old)) result tokens.new }
     {
         tokens.expect(Kind::Colon)?;
         let q = self.part(tokens)?;
         let r = self.step(tokens)?;
-        let depth = larger(p.depth, larger(q.depth, r.depth));
+        let (a, b, c) = (p.depth, q.depth, r.depth);
+        let depth = larger(a, larger(b, c));
         let bounds = Bounds {
             start: p.expression,
             end: q.expression,
@@ -152,20 +156,21 @@ impl<F: Fn(Global, &mut Tokens<'_>, usize, u8) -> Result<Deep, Refusal>> Reader<
     #[tactic(auto, unfolding(crate::specs::Expressions::slice_made))]
     pub(crate) fn slice_made(
         &self,
-        tokens: &mut Tokens<'_>,
+        tokens: &mut Tokens<'_, 's>,
         optional: bool,
         start: usize,
-        x: Deep,
-        bounds: Box<Bounds>,
+        x: Deep<'s>,
+        bounds: Box<Bounds<'s>>,
         depth: usize,
-    ) -> Result<Deep, Refusal>
+    ) -> Result<Deep<'s>, Refusal>
         ensures { let slice = spec.slice_made self.now.limit (spec.expr self.now.below) optional start
-            (deep_of x) (optional_of bounds.value.start) (optional_of bounds.value.end)
-            (optional_of bounds.value.step) depth in
+            (deep_of x.entry) (optional_of bounds.entry.value.start) (optional_of bounds.entry.value.end)
+            (optional_of bounds.entry.value.step) depth in
             Takes deep_of (slice (input tokens.old)) result tokens.new }
     {
         tokens.expect(Kind::RightBracket)?;
-        let depth = larger(x.depth, depth);
+        let a = x.depth;
+        let depth = larger(a, depth);
         let span = tokens.span(start);
         let expression = Expression::slice(x.expression, bounds, optional, span);
         self.node(tokens, depth, expression)

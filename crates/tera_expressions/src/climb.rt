@@ -16,10 +16,10 @@ use tera_tokens::refusal::{Reason, Refusal};
 use tera_tokens::token::{Kind, Token};
 use tera_tree::BinaryOperator;
 
-impl<F: Fn(Global, &mut Tokens<'_>, usize, u8) -> Result<Deep, Refusal>> Reader<F> {
+impl<'s, F: Fn(Global, &mut Tokens<'_, 's>, usize, u8) -> Result<Deep<'s>, Refusal>> Reader<F> {
     /// An expression of this level or above.
     #[tactic(auto, unfolding(crate::specs::Expressions::level, crate::specs::Expressions::level_with))]
-    pub(crate) fn level(&self, tokens: &mut Tokens<'_>, floor: u8) -> Result<Deep, Refusal>
+    pub(crate) fn level(&self, tokens: &mut Tokens<'_, 's>, floor: u8) -> Result<Deep<'s>, Refusal>
         requires { Nests self.now.below (F.pre self.now.expr) (F.post self.now.expr) }
         ensures { Takes deep_of (spec.level self.now.limit (spec.expr self.now.below) floor (input tokens.old)) result tokens.new }
     {
@@ -39,17 +39,17 @@ impl<F: Fn(Global, &mut Tokens<'_>, usize, u8) -> Result<Deep, Refusal>> Reader<
     #[tactic(auto, unfolding(crate::specs::Expressions::climb))]
     pub(crate) fn climb(
         &self,
-        tokens: &mut Tokens<'_>,
+        tokens: &mut Tokens<'_, 's>,
         run: &[Token<'_>],
         mut opens: usize,
         turns: usize,
         floor: u8,
         mut have: u8,
         mut start: usize,
-        mut x: Deep,
-    ) -> Result<Deep, Refusal>
+        mut x: Deep<'s>,
+    ) -> Result<Deep<'s>, Refusal>
         requires { Nests self.now.below (F.pre self.now.expr) (F.post self.now.expr) }
-        ensures { Takes deep_of (spec.climb self.now.limit (spec.expr self.now.below) turns (starts (tokens_of run.now) opens) floor have start (deep_of x) (input tokens.old)) result tokens.new }
+        ensures { Takes deep_of (spec.climb self.now.limit (spec.expr self.now.below) turns (starts (tokens_of run.now) opens) floor have start (deep_of x.entry) (input tokens.old)) result tokens.new }
     {
         for _turn in 0..turns {
             let kind = tokens.kind();
@@ -76,12 +76,12 @@ impl<F: Fn(Global, &mut Tokens<'_>, usize, u8) -> Result<Deep, Refusal>> Reader<
     #[tactic(auto, unfolding(crate::specs::Expressions::operation))]
     pub(crate) fn operation(
         &self,
-        tokens: &mut Tokens<'_>,
+        tokens: &mut Tokens<'_, 's>,
         start: usize,
-        x: Deep,
-    ) -> Result<Deep, Refusal>
+        x: Deep<'s>,
+    ) -> Result<Deep<'s>, Refusal>
         requires { Nests self.now.below (F.pre self.now.expr) (F.post self.now.expr) }
-        ensures { Takes deep_of (spec.operation self.now.limit (spec.expr self.now.below) start (deep_of x) (input tokens.old)) result tokens.new }
+        ensures { Takes deep_of (spec.operation self.now.limit (spec.expr self.now.below) start (deep_of x.entry) (input tokens.old)) result tokens.new }
     {
         match tokens.kind() {
             Kind::If => self.choice(tokens, start, x),
@@ -116,7 +116,7 @@ impl<F: Fn(Global, &mut Tokens<'_>, usize, u8) -> Result<Deep, Refusal>> Reader<
 
 /// How many parentheses open here. They are taken.
 #[tactic(auto, unfolding(crate::specs::Expressions::opened))]
-pub(crate) fn opened(tokens: &mut Tokens<'_>) -> usize
+pub(crate) fn opened(tokens: &mut Tokens<'_, '_>) -> usize
     ensures { spec.opened (left (input tokens.old)) [] (input tokens.old) ≡ Some (starts (tokens_of tokens.old.ahead.now) result, input tokens.new) }
 {
     let mut count = 0usize;

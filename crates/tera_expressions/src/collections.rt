@@ -1,7 +1,7 @@
 // Arrays and maps.
 ghost use Rattle.std.specs.Prelude.{◌≡◌, IfOk};
 ghost use Rattle.tera_tree.specs.Tree.{NoEntries};
-ghost use Rattle.tera_tree.specs.View.{items_of, entries_of, key_option};
+ghost use Rattle.tera_tree.specs.View.{items_of, entries_of, literal_option};
 ghost use Rattle.tera_tokens.specs.Input.{kind, left, same};
 ghost use Rattle.tera_tokens.specs.Takes.{Takes, input};
 ghost use Rattle.tera_expressions.specs.Expressions as spec;
@@ -17,10 +17,14 @@ use tera_tokens::refusal::{Reason, Refusal};
 use tera_tokens::token::Kind;
 use tera_tree::{Entry, Expression, Item, LiteralKey};
 
-impl<F: Fn(Global, &mut Tokens<'_>, usize, u8) -> Result<Deep, Refusal>> Reader<F> {
+impl<'s, F: Fn(Global, &mut Tokens<'_, 's>, usize, u8) -> Result<Deep<'s>, Refusal>> Reader<F> {
     /// What stands behind a bracket: an array, or a comprehension where `for` follows the first expression.
     #[tactic(auto, unfolding(crate::specs::Expressions::bracketed))]
-    pub(crate) fn bracketed(&self, tokens: &mut Tokens<'_>, start: usize) -> Result<Deep, Refusal>
+    pub(crate) fn bracketed(
+        &self,
+        tokens: &mut Tokens<'_, 's>,
+        start: usize,
+    ) -> Result<Deep<'s>, Refusal>
         requires { Nests self.now.below (F.pre self.now.expr) (F.post self.now.expr) }
         ensures { let meant = spec.bracketed self.now.limit (spec.expr self.now.below) start in
             Takes deep_of (meant (input tokens.old)) result tokens.new }
@@ -43,21 +47,22 @@ impl<F: Fn(Global, &mut Tokens<'_>, usize, u8) -> Result<Deep, Refusal>> Reader<
     #[tactic(auto, unfolding(crate::specs::Expressions::array))]
     pub(crate) fn array(
         &self,
-        tokens: &mut Tokens<'_>,
+        tokens: &mut Tokens<'_, 's>,
         start: usize,
         is_spread: bool,
-        x: Deep,
-    ) -> Result<Deep, Refusal>
+        x: Deep<'s>,
+    ) -> Result<Deep<'s>, Refusal>
         requires { Nests self.now.below (F.pre self.now.expr) (F.post self.now.expr) }
         ensures { let meant = spec.array self.now.limit (spec.expr self.now.below) start is_spread
-            (deep_of x) in Takes deep_of (meant (input tokens.old)) result tokens.new }
+            (deep_of x.entry) in Takes deep_of (meant (input tokens.old)) result tokens.new }
     {
         let mut found = Vec::new(self.alloc);
+        let depth = x.depth;
         found.push(Item {
             is_spread,
             value: Box::into_inner(x.expression),
         })?;
-        let (items, depth) = self.items_behind(tokens, found, x.depth)?;
+        let (items, depth) = self.items_behind(tokens, found, depth)?;
         let expression = Expression::array(items, tokens.span(start));
         self.node(tokens, depth, expression)
     }
@@ -66,13 +71,13 @@ impl<F: Fn(Global, &mut Tokens<'_>, usize, u8) -> Result<Deep, Refusal>> Reader<
     #[tactic(auto, unfolding(crate::specs::Expressions::items_behind))]
     pub(crate) fn items_behind(
         &self,
-        tokens: &mut Tokens<'_>,
-        found: Vec<Item>,
+        tokens: &mut Tokens<'_, 's>,
+        found: Vec<Item<'s>>,
         depth: usize,
-    ) -> Result<(Vec<Item>, usize), Refusal>
+    ) -> Result<(Vec<Item<'s>>, usize), Refusal>
         requires { Nests self.now.below (F.pre self.now.expr) (F.post self.now.expr) }
         ensures { let meant = spec.items_behind self.now.limit (spec.expr self.now.below)
-            (items_of found.items) depth in
+            (items_of found.entry.items) depth in
             Takes (λ p. (items_of p.0.items, p.1)) (meant (input tokens.old)) result tokens.new }
     {
         if same(Kind::Comma, tokens.kind()) {
@@ -87,13 +92,13 @@ impl<F: Fn(Global, &mut Tokens<'_>, usize, u8) -> Result<Deep, Refusal>> Reader<
     #[tactic(auto, unfolding(crate::specs::Expressions::items_from))]
     pub(crate) fn items(
         &self,
-        tokens: &mut Tokens<'_>,
-        mut found: Vec<Item>,
+        tokens: &mut Tokens<'_, 's>,
+        mut found: Vec<Item<'s>>,
         mut depth: usize,
-    ) -> Result<(Vec<Item>, usize), Refusal>
+    ) -> Result<(Vec<Item<'s>>, usize), Refusal>
         requires { Nests self.now.below (F.pre self.now.expr) (F.post self.now.expr) }
         ensures { let meant = spec.items_from self.now.limit (spec.expr self.now.below)
-            (left (input tokens.old)) (items_of found.items) depth in
+            (left (input tokens.old)) (items_of found.entry.items) depth in
             Takes (λ p. (items_of p.0.items, p.1)) (meant (input tokens.old)) result tokens.new }
     {
         for _turn in 0..tokens.left() {
@@ -107,10 +112,10 @@ impl<F: Fn(Global, &mut Tokens<'_>, usize, u8) -> Result<Deep, Refusal>> Reader<
             };
             depth = larger(depth, x);
             if !same(Kind::Comma, tokens.kind()) {
-                return match tokens.expect(Kind::RightBracket) {
-                    Ok(()) => Ok((found, depth)),
-                    Err(refusal) => Err(refusal),
-                };
+                match tokens.expect(Kind::RightBracket) {
+                    Ok(()) => return Ok((found, depth)),
+                    Err(refusal) => return Err(refusal),
+                }
             }
             tokens.take();
         }
@@ -120,8 +125,8 @@ impl<F: Fn(Global, &mut Tokens<'_>, usize, u8) -> Result<Deep, Refusal>> Reader<
     /// An item, behind those that were read, and its depth.
     pub(crate) fn item(
         &self,
-        tokens: &mut Tokens<'_>,
-        found: &mut Vec<Item>,
+        tokens: &mut Tokens<'_, 's>,
+        found: &mut Vec<Item<'s>>,
     ) -> Result<usize, Refusal>
         requires { Nests self.now.below (F.pre self.now.expr) (F.post self.now.expr) }
         ensures { TakesItem (spec.expr self.now.below 0 (spec.behind_dots (input tokens.old))) (same Kind.Spread (kind (input tokens.old))) found.old.items found.new.items result tokens.new }
@@ -137,7 +142,7 @@ impl<F: Fn(Global, &mut Tokens<'_>, usize, u8) -> Result<Deep, Refusal>> Reader<
 
     /// `{"key": x, ..}`
     #[tactic(auto, unfolding(crate::specs::Expressions::map))]
-    pub(crate) fn map(&self, tokens: &mut Tokens<'_>) -> Result<Deep, Refusal>
+    pub(crate) fn map(&self, tokens: &mut Tokens<'_, 's>) -> Result<Deep<'s>, Refusal>
         requires { Nests self.now.below (F.pre self.now.expr) (F.post self.now.expr) }
         ensures { Takes deep_of (spec.map self.now.limit (spec.expr self.now.below) (input tokens.old)) result tokens.new }
     {
@@ -150,7 +155,10 @@ impl<F: Fn(Global, &mut Tokens<'_>, usize, u8) -> Result<Deep, Refusal>> Reader<
 
     /// Entries with commas between, up to a brace, and the greatest depth.
     #[tactic(auto, unfolding(crate::specs::Expressions::entries_from))]
-    pub(crate) fn entries(&self, tokens: &mut Tokens<'_>) -> Result<(Vec<Entry>, usize), Refusal>
+    pub(crate) fn entries(
+        &self,
+        tokens: &mut Tokens<'_, 's>,
+    ) -> Result<(Vec<Entry<'s>>, usize), Refusal>
         requires { Nests self.now.below (F.pre self.now.expr) (F.post self.now.expr) }
         ensures { Takes (λ p. (entries_of p.0.items, p.1)) (spec.entries_from self.now.limit (spec.expr self.now.below) (left (input tokens.old)) NoEntries 0 (input tokens.old)) result tokens.new }
     {
@@ -167,10 +175,10 @@ impl<F: Fn(Global, &mut Tokens<'_>, usize, u8) -> Result<Deep, Refusal>> Reader<
             };
             depth = larger(depth, x);
             if !same(Kind::Comma, tokens.kind()) {
-                return match tokens.expect(Kind::RightBrace) {
-                    Ok(()) => Ok((found, depth)),
-                    Err(refusal) => Err(refusal),
-                };
+                match tokens.expect(Kind::RightBrace) {
+                    Ok(()) => return Ok((found, depth)),
+                    Err(refusal) => return Err(refusal),
+                }
             }
             tokens.take();
         }
@@ -180,8 +188,8 @@ impl<F: Fn(Global, &mut Tokens<'_>, usize, u8) -> Result<Deep, Refusal>> Reader<
     /// An entry, behind those that were read, and its depth.
     pub(crate) fn entry(
         &self,
-        tokens: &mut Tokens<'_>,
-        found: &mut Vec<Entry>,
+        tokens: &mut Tokens<'_, 's>,
+        found: &mut Vec<Entry<'s>>,
     ) -> Result<usize, Refusal>
         requires { Nests self.now.below (F.pre self.now.expr) (F.post self.now.expr) }
         ensures { TakesEntry (spec.entry_key (input tokens.old)) (spec.expr self.now.below 0) found.old.items found.new.items result tokens.new }
@@ -204,11 +212,11 @@ impl<F: Fn(Global, &mut Tokens<'_>, usize, u8) -> Result<Deep, Refusal>> Reader<
 
 /// Takes the key of an entry and its colon, or the dots of a map that is spread.
 #[tactic(auto, unfolding(crate::specs::Expressions::entry_key))]
-pub(crate) fn entry_key(
+pub(crate) fn entry_key<'s>(
     alloc: Global,
-    tokens: &mut Tokens<'_>,
-) -> Result<Option<LiteralKey>, Refusal>
-    ensures { Takes key_option (spec.entry_key (input tokens.old)) result tokens.new }
+    tokens: &mut Tokens<'_, 's>,
+) -> Result<Option<LiteralKey<'s>>, Refusal>
+    ensures { Takes literal_option (spec.entry_key (input tokens.old)) result tokens.new }
 {
     if same(Kind::Spread, tokens.kind()) {
         tokens.take();
@@ -226,8 +234,11 @@ pub(crate) fn entry_key(
 
 /// The key that the next token is: a text, an integer, true or false.
 #[tactic(auto, unfolding(crate::specs::Keys::key_at))]
-pub(crate) fn key_at(alloc: Global, tokens: &Tokens<'_>) -> Result<Option<LiteralKey>, AllocError>
-    ensures { IfOk result (λ o. key_option o ≡ key_at (input tokens.now)) }
+pub(crate) fn key_at<'s>(
+    alloc: Global,
+    tokens: &Tokens<'_, 's>,
+) -> Result<Option<LiteralKey<'s>>, AllocError>
+    ensures { IfOk result (λ o. literal_option o ≡ key_at (input tokens.now)) }
 {
     match tokens.kind() {
         Kind::Text => match literal(alloc, tokens.text())? {
@@ -245,7 +256,7 @@ pub(crate) fn key_at(alloc: Global, tokens: &Tokens<'_>) -> Result<Option<Litera
 }
 
 /// Takes the dots of an item that is spread.
-pub(crate) fn take_dots(tokens: &mut Tokens<'_>) -> bool
+pub(crate) fn take_dots(tokens: &mut Tokens<'_, '_>) -> bool
     ensures value { result ≡ same Kind.Spread (kind (input tokens.old)) }
     ensures rest { input tokens.new ≡ spec.behind_dots (input tokens.old) }
 {

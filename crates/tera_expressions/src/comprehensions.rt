@@ -1,6 +1,6 @@
 // Comprehensions.
-ghost use Rattle.std.specs.Prelude.{◌≡◌, IfOk, string_bytes};
-ghost use Rattle.tera_tree.specs.View.{expr_of, name_option};
+ghost use Rattle.std.specs.Prelude.{◌≡◌, IfOk, option_copied};
+ghost use Rattle.tera_tree.specs.View.{expr_of};
 ghost use Rattle.tera_tokens.specs.Takes.{Takes, input};
 ghost use Rattle.tera_expressions.specs.Expressions as spec;
 ghost use Rattle.tera_expressions.specs.Parts.{Nests, deep_of, names_of, part_of};
@@ -14,21 +14,21 @@ use tera_tokens::refusal::Refusal;
 use tera_tokens::token::Kind;
 use tera_tree::{Expression, Heading};
 
-impl<F: Fn(Global, &mut Tokens<'_>, usize, u8) -> Result<Deep, Refusal>> Reader<F> {
+impl<'s, F: Fn(Global, &mut Tokens<'_, 's>, usize, u8) -> Result<Deep<'s>, Refusal>> Reader<F> {
     /// `[x for name in y]`, from `for` on.
     #[tactic(auto, unfolding(crate::specs::Expressions::comprehension))]
     pub(crate) fn comprehension(
         &self,
-        tokens: &mut Tokens<'_>,
+        tokens: &mut Tokens<'_, 's>,
         start: usize,
-        x: Deep,
-    ) -> Result<Deep, Refusal>
+        x: Deep<'s>,
+    ) -> Result<Deep<'s>, Refusal>
         requires { Nests self.now.below (F.pre self.now.expr) (F.post self.now.expr) }
         ensures { let meant = spec.comprehension self.now.limit (spec.expr self.now.below) start
-            (deep_of x) in Takes deep_of (meant (input tokens.old)) result tokens.new }
+            (deep_of x.entry) in Takes deep_of (meant (input tokens.old)) result tokens.new }
     {
         tokens.take();
-        let names = names(self.alloc, tokens)?;
+        let names = names(tokens)?;
         let target = self.sub(tokens, 1)?;
         let only = self.condition(tokens)?;
         self.comprehension_made(tokens, start, x, names, target, only)
@@ -36,7 +36,7 @@ impl<F: Fn(Global, &mut Tokens<'_>, usize, u8) -> Result<Deep, Refusal>> Reader<
 
     /// The condition of a comprehension, if it is written, and how deep it is.
     #[tactic(auto, unfolding(crate::specs::Expressions::condition))]
-    pub(crate) fn condition(&self, tokens: &mut Tokens<'_>) -> Result<Part, Refusal>
+    pub(crate) fn condition(&self, tokens: &mut Tokens<'_, 's>) -> Result<Part<'s>, Refusal>
         requires { Nests self.now.below (F.pre self.now.expr) (F.post self.now.expr) }
         ensures { let meant = spec.condition self.now.limit (spec.expr self.now.below) in
             Takes part_of (meant (input tokens.old)) result tokens.new }
@@ -59,19 +59,20 @@ impl<F: Fn(Global, &mut Tokens<'_>, usize, u8) -> Result<Deep, Refusal>> Reader<
     #[tactic(auto, unfolding(crate::specs::Expressions::comprehension_made))]
     pub(crate) fn comprehension_made(
         &self,
-        tokens: &mut Tokens<'_>,
+        tokens: &mut Tokens<'_, 's>,
         start: usize,
-        x: Deep,
-        names: LoopNames,
-        target: Deep,
-        only: Part,
-    ) -> Result<Deep, Refusal>
+        x: Deep<'s>,
+        names: LoopNames<'s>,
+        target: Deep<'s>,
+        only: Part<'s>,
+    ) -> Result<Deep<'s>, Refusal>
         ensures { let meant = spec.comprehension_made self.now.limit (spec.expr self.now.below)
-            start (deep_of x) (names_of names) (deep_of target) (part_of only) in
+            start (deep_of x.entry) (names_of names.entry) (deep_of target.entry) (part_of only.entry) in
             Takes deep_of (meant (input tokens.old)) result tokens.new }
     {
         tokens.expect(Kind::RightBracket)?;
-        let depth = larger(x.depth, larger(target.depth, only.depth));
+        let (a, b, c) = (x.depth, target.depth, only.depth);
+        let depth = larger(a, larger(b, c));
         let heading = heading(self.alloc, names, target.expression)?;
         let span = tokens.span(start);
         let expression = Expression::comprehension(x.expression, heading, only.expression, span);
@@ -80,14 +81,14 @@ impl<F: Fn(Global, &mut Tokens<'_>, usize, u8) -> Result<Deep, Refusal>> Reader<
 }
 
 /// The names of a loop and what it goes over, in one.
-fn heading(
+fn heading<'s>(
     alloc: Global,
-    names: LoopNames,
-    target: Box<Expression>,
-) -> Result<Box<Heading>, AllocError>
-    ensures key { IfOk result (λ h. name_option h.value.key ≡ name_option names.key) }
-    ensures name { IfOk result (λ h. string_bytes h.value.name ≡ string_bytes names.name) }
-    ensures target { IfOk result (λ h. expr_of h.value.target ≡ expr_of target.value) }
+    names: LoopNames<'s>,
+    target: Box<Expression<'s>>,
+) -> Result<Box<Heading<'s>>, AllocError>
+    ensures key { IfOk result (λ h. option_copied h.value.key ≡ option_copied names.entry.key) }
+    ensures name { IfOk result (λ h. h.value.name.now ≡ names.entry.name.now) }
+    ensures target { IfOk result (λ h. expr_of h.value.target ≡ expr_of target.entry.value) }
 {
     let heading = Heading {
         key: names.key,

@@ -11,20 +11,20 @@ use tera_tree::Expression;
 
 /// An expression, and how deep it is.
 #[derive(Drop)]
-pub struct Deep {
+pub struct Deep<'s> {
     /// The expression.
-    pub expression: Box<Expression>,
+    pub expression: Box<Expression<'s>>,
     /// How deep it is: a leaf is 1 deep.
     pub depth: usize,
 }
 
 /// An expression of this level or above, no deeper than `limit`.
-pub fn expr(
+pub fn expr<'s>(
     alloc: Global,
-    tokens: &mut Tokens<'_>,
+    tokens: &mut Tokens<'_, 's>,
     limit: usize,
     floor: u8,
-) -> Result<Deep, Refusal>
+) -> Result<Deep<'s>, Refusal>
     ensures { Takes deep_of (spec.expr limit floor (input tokens.old)) result tokens.new }
 {
     if limit == 0 {

@@ -16,10 +16,10 @@ use tera_tokens::refusal::{Reason, Refusal};
 use tera_tokens::token::Kind;
 use tera_tree::Expression;
 
-impl<F: Fn(Global, &mut Tokens<'_>, usize, u8) -> Result<Deep, Refusal>> Reader<F> {
+impl<'s, F: Fn(Global, &mut Tokens<'_, 's>, usize, u8) -> Result<Deep<'s>, Refusal>> Reader<F> {
     /// What stands before the first operator.
     #[tactic(auto, unfolding(crate::specs::Expressions::head))]
-    pub(crate) fn head(&self, tokens: &mut Tokens<'_>) -> Result<Deep, Refusal>
+    pub(crate) fn head(&self, tokens: &mut Tokens<'_, 's>) -> Result<Deep<'s>, Refusal>
         requires { Nests self.now.below (F.pre self.now.expr) (F.post self.now.expr) }
         ensures { Takes deep_of (spec.head self.now.limit (spec.expr self.now.below) (input tokens.old)) result tokens.new }
     {
@@ -48,7 +48,7 @@ impl<F: Fn(Global, &mut Tokens<'_>, usize, u8) -> Result<Deep, Refusal>> Reader<
     }
 
     /// An integer.
-    pub(crate) fn int(&self, tokens: &mut Tokens<'_>) -> Result<Deep, Refusal>
+    pub(crate) fn int(&self, tokens: &mut Tokens<'_, 's>) -> Result<Deep<'s>, Refusal>
         ensures { Takes deep_of (spec.head_by self.now.limit (spec.expr self.now.below) Kind.Int (input tokens.old)) result tokens.new }
     {
         let start = tokens.start();
@@ -63,7 +63,7 @@ impl<F: Fn(Global, &mut Tokens<'_>, usize, u8) -> Result<Deep, Refusal>> Reader<
     }
 
     /// A text in quotes.
-    pub(crate) fn text(&self, tokens: &mut Tokens<'_>) -> Result<Deep, Refusal>
+    pub(crate) fn text(&self, tokens: &mut Tokens<'_, 's>) -> Result<Deep<'s>, Refusal>
         ensures { Takes deep_of (spec.head_by self.now.limit (spec.expr self.now.below) Kind.Text (input tokens.old)) result tokens.new }
     {
         let start = tokens.start();
@@ -78,26 +78,29 @@ impl<F: Fn(Global, &mut Tokens<'_>, usize, u8) -> Result<Deep, Refusal>> Reader<
     }
 
     /// A name.
-    pub(crate) fn name(&self, tokens: &mut Tokens<'_>) -> Result<Deep, Refusal>
+    pub(crate) fn name(&self, tokens: &mut Tokens<'_, 's>) -> Result<Deep<'s>, Refusal>
         ensures { Takes deep_of (spec.head_by self.now.limit (spec.expr self.now.below) Kind.Name (input tokens.old)) result tokens.new }
     {
         let start = tokens.start();
-        if let Some(word) = loop_name(tokens) {
-            let name = String::from_str(self.alloc, word)?;
+        if let Some(name) = loop_name(tokens) {
             tokens.take();
             tokens.take();
             tokens.take();
             let span = tokens.span(start);
             return self.node(tokens, 0, Expression::Name { name, span });
         }
-        let name = String::from_str(self.alloc, tokens.text())?;
+        let name = tokens.text();
         tokens.take();
         let span = tokens.span(start);
         self.node(tokens, 0, Expression::Name { name, span })
     }
 
     /// `true` or `false`.
-    pub(crate) fn constant(&self, tokens: &mut Tokens<'_>, value: bool) -> Result<Deep, Refusal>
+    pub(crate) fn constant(
+        &self,
+        tokens: &mut Tokens<'_, 's>,
+        value: bool,
+    ) -> Result<Deep<'s>, Refusal>
         ensures { Takes deep_of (spec.node self.now.limit 0 (Boolean value (span (start (input tokens.old)) (next (input tokens.old)))) (next (input tokens.old))) result tokens.new }
     {
         let start = tokens.start();
@@ -109,7 +112,7 @@ impl<F: Fn(Global, &mut Tokens<'_>, usize, u8) -> Result<Deep, Refusal>> Reader<
 
 /// The name that a loop gives to the next three tokens, if these are one.
 #[tactic(auto, unfolding(crate::specs::Loops::loop_name))]
-fn loop_name(tokens: &Tokens<'_>) -> Option<&'static str>
+fn loop_name(tokens: &Tokens<'_, '_>) -> Option<&'static str>
     ensures { option_map (λ s. s.now) result ≡ loops.loop_name (input tokens.now) }
 {
     if !tokens.in_loop || tokens.text() != "loop" {

@@ -13,8 +13,8 @@ use tera_tree::Expression;
 
 /// A bound of a slice, if it is written, and how deep it is.
 #[derive(Drop)]
-pub(crate) struct Part {
-    pub(crate) expression: Option<Box<Expression>>,
+pub(crate) struct Part<'s> {
+    pub(crate) expression: Option<Box<Expression<'s>>>,
     pub(crate) depth: usize,
 }
 
@@ -30,9 +30,9 @@ pub(crate) struct Reader<F> {
     pub(crate) expr: F,
 }
 
-impl<F: Fn(Global, &mut Tokens<'_>, usize, u8) -> Result<Deep, Refusal>> Reader<F> {
+impl<'s, F: Fn(Global, &mut Tokens<'_, 's>, usize, u8) -> Result<Deep<'s>, Refusal>> Reader<F> {
     /// A part, of this level or above.
-    pub(crate) fn sub(&self, tokens: &mut Tokens<'_>, floor: u8) -> Result<Deep, Refusal>
+    pub(crate) fn sub(&self, tokens: &mut Tokens<'_, 's>, floor: u8) -> Result<Deep<'s>, Refusal>
         requires { Nests self.now.below (F.pre self.now.expr) (F.post self.now.expr) }
         ensures { Takes deep_of (spec.expr self.now.below floor (input tokens.old)) result tokens.new }
     {
@@ -43,11 +43,11 @@ impl<F: Fn(Global, &mut Tokens<'_>, usize, u8) -> Result<Deep, Refusal>> Reader<
     #[tactic(auto, unfolding(crate::specs::Expressions::node))]
     pub(crate) fn node(
         &self,
-        tokens: &mut Tokens<'_>,
+        tokens: &mut Tokens<'_, 's>,
         depth: usize,
-        expression: Expression,
-    ) -> Result<Deep, Refusal>
-        ensures { Takes deep_of (spec.node self.now.limit depth (expr_of expression) (input tokens.old)) result tokens.new }
+        expression: Expression<'s>,
+    ) -> Result<Deep<'s>, Refusal>
+        ensures { Takes deep_of (spec.node self.now.limit depth (expr_of expression.entry) (input tokens.old)) result tokens.new }
     {
         if depth >= self.limit {
             return Err(tokens.refuse(Reason::TooDeep));

@@ -5,7 +5,7 @@ use Rattle.std.proofs.lemmas.List.{drop_more, length-map, get_or-map}
 use Rattle.std.proofs.lemmas.Option.{slice_get_within, get_or_from_slice_get}
 use Rattle.tera_errors.specs.Answer.{Refusal, Tells, Says}
 use Rattle.tera_tree.specs.View.{key_option}
-use Rattle.tera_tree.specs.declared.expression.LiteralKey.{LiteralKey}
+use Rattle.tera_tree.specs.declared.expression.OwnedKey.{OwnedKey}
 use Rattle.tera_errors.specs.Site.{Name}
 use Rattle.tera_errors.specs.Fault.{Fault}
 use Rattle.tera_tree.specs.Tree.{Key}
@@ -50,7 +50,7 @@ zip_last (x ∷ xs) [] y d h = ap (λ (ps : List _). (x, y) ∷ ps) (zip_none xs
 zip_last (x ∷ xs) (z ∷ ys) y d h = ap (λ (ps : List _). (x, z) ∷ ps) (zip_last xs ys y d (omega (arith, h)))
 
 -- the operand on the right, taken off
-pub onto_popped : (file : Name) (keys : List (Option LiteralKey)) (old new : List Evaluated) (x : Evaluated) (key : Option LiteralKey) (all : List (KeyVal × Val)) →
+pub onto_popped : (file : Name) (keys : List (Option OwnedKey)) (old new : List Evaluated) (x : Evaluated) (key : Option OwnedKey) (all : List (KeyVal × Val)) →
     old ≡ new ++ x ∷ [] → length old ≤ length keys → key ≡ get_or keys (length new) key →
     onto file (zip (map_list key_option keys) old) (Ok all) ≡ onto file (zip (map_list key_option keys) new) (entry_after file (key_option key) x all)
 onto_popped file keys old new x key all e n k =
@@ -76,7 +76,7 @@ kept_next all more i e is =
     ap (kept all) (drop_more more i e (slice_get_within more i e (sym is)) ∙ ap (λ (x : KeyVal × Val). x ∷ drop (i + 1) more) (get_or_from_slice_get more i e e (sym is)))
 
 -- a key is absent where an entry is spread
-pub spread_keys : (keys : List (Option LiteralKey)) (xs : List Evaluated) → length keys ≡ length xs → list_any (λ (e : Option Key × Evaluated). is_none e.0) (zip (map_list key_option keys) xs) ≡ list_any is_none keys
+pub spread_keys : (keys : List (Option OwnedKey)) (xs : List Evaluated) → length keys ≡ length xs → list_any (λ (e : Option Key × Evaluated). is_none e.0) (zip (map_list key_option keys) xs) ≡ list_any is_none keys
 spread_keys [] xs n = refl
 spread_keys (k ∷ keys) [] n = absurd (omega (arith, n))
 spread_keys (None ∷ keys) (x ∷ xs) n = refl
@@ -90,13 +90,13 @@ pub says_onto : (told : Refusal) (file : Name) (es : List (Option Key × Evaluat
 says_onto None file es r meant e h = tt
 says_onto (Some f) file es r meant e h = e ∙ ap (onto file es) h ∙ onto_fault file es f
 
-pub with_spread : (file : Name) (keys : List (Option LiteralKey)) (xs : List Evaluated) → length keys ≡ length xs → list_any is_none keys ≡ true →
+pub with_spread : (file : Name) (keys : List (Option OwnedKey)) (xs : List Evaluated) → length keys ≡ length xs → list_any is_none keys ≡ true →
     map_entries file (zip (map_list key_option keys) xs) ≡ from_right file (zip (map_list key_option keys) xs)
 with_spread file keys xs n h =
     let es = zip (map_list key_option keys) xs in
     ap (λ (b : Bool). cond b (from_right file es) (Ok (from_left [] es))) (spread_keys keys xs n ∙ h)
 
-pub without_spread : (file : Name) (keys : List (Option LiteralKey)) (xs : List Evaluated) → length keys ≡ length xs → list_any is_none keys ≡ false →
+pub without_spread : (file : Name) (keys : List (Option OwnedKey)) (xs : List Evaluated) → length keys ≡ length xs → list_any is_none keys ≡ false →
     map_entries file (zip (map_list key_option keys) xs) ≡ Ok (from_left [] (zip (map_list key_option keys) xs))
 without_spread file keys xs n h =
     let es = zip (map_list key_option keys) xs in

@@ -8,17 +8,17 @@ ghost use Rattle.tera_operators.specs.Literals.{key_val, pairs_of, kept, entry_a
 
 use crate::operand::Operand;
 use std::alloc::Global;
-use tera_tree::LiteralKey;
+use tera_tree::OwnedKey;
 use tera_values::{Error, Key, Map, Shape, Span, TeraResult, Value};
 
 /// The key of a map that is written out as this one.
-fn key_from(alloc: Global, key: &LiteralKey) -> TeraResult<Key>
+fn key_from(alloc: Global, key: &OwnedKey) -> TeraResult<Key>
     ensures { Gives key_view result (Ok (key_val (key_of key.now))) }
 {
     match key {
-        LiteralKey::Bool(flag) => Ok(Key::Bool(*flag)),
-        LiteralKey::Int(number) => Ok(Key::Int(*number)),
-        LiteralKey::Text(text) => Ok(Key::Text(String::from_str(alloc, text.as_str())?)),
+        OwnedKey::Bool(flag) => Ok(Key::Bool(*flag)),
+        OwnedKey::Int(number) => Ok(Key::Int(*number)),
+        OwnedKey::Text(text) => Ok(Key::Text(String::from_str(alloc, text.as_str())?)),
     }
 }
 
@@ -74,7 +74,7 @@ fn keep_all(all: &mut Map, more: &Map) -> TeraResult<()>
 }
 
 /// The entries from left to right; a key that is there takes the later value.
-fn from_left(alloc: Global, keys: &[Option<LiteralKey>], operands: Vec<Operand>) -> TeraResult<Map>
+fn from_left(alloc: Global, keys: &[Option<OwnedKey>], operands: Vec<Operand>) -> TeraResult<Map>
     requires { length keys.now ≡ length operands.items }
     ensures { Gives (λ m. m) result (Ok (from_left [] (zip (map_list key_option keys.now) operands.items))) }
 {
@@ -102,7 +102,7 @@ fn spread_after(alloc: Global, file: &str, operand: &Operand, all: &mut Map) -> 
 fn put_after(
     alloc: Global,
     file: &str,
-    key: &Option<LiteralKey>,
+    key: &Option<OwnedKey>,
     operand: Operand,
     all: &mut Map,
 ) -> TeraResult<()>
@@ -122,7 +122,7 @@ fn put_after(
 fn from_right(
     alloc: Global,
     file: &str,
-    keys: &[Option<LiteralKey>],
+    keys: &[Option<OwnedKey>],
     operands: Vec<Operand>,
 ) -> TeraResult<Map>
     requires { length keys.now ≡ length operands.items }
@@ -137,7 +137,7 @@ fn from_right(
 }
 
 /// Whether an entry has no key.
-fn has_spread(keys: &[Option<LiteralKey>]) -> bool
+fn has_spread(keys: &[Option<OwnedKey>]) -> bool
     ensures { result ≡ list_any is_none keys.now }
 {
     keys.iter().any(|key| key.is_none())
@@ -148,7 +148,7 @@ fn has_spread(keys: &[Option<LiteralKey>]) -> bool
 fn entries(
     alloc: Global,
     file: &str,
-    keys: &[Option<LiteralKey>],
+    keys: &[Option<OwnedKey>],
     operands: Vec<Operand>,
 ) -> TeraResult<Map>
     requires { length keys.now ≡ length operands.items }
@@ -167,7 +167,7 @@ fn entries(
 pub fn map(
     alloc: Global,
     file: &str,
-    keys: &[Option<LiteralKey>],
+    keys: &[Option<OwnedKey>],
     operands: Vec<Operand>,
     span: Span,
 ) -> TeraResult<Operand>

@@ -1,13 +1,17 @@
 -- Rows of nodes, and what is open around them.
-use Rattle.std.proofs.Common.{◌≡◌, ℕ, ◌≤◌, ◌<◌, max, List, [], ◌∷◌, false, ◌==◌, refl, ap, arith, length, ◌++◌, map}
+use Rattle.std.proofs.Common.{◌≡◌, ℕ, ◌-◌, ◌≤◌, ◌<◌, max, List, [], ◌∷◌, Bool, true, false, ◌==◌, Some, refl, sym, ap, ◌∙◌, arith, length, drop, get_or, reverse, ◌++◌, map}
 use Rattle.tera_errors.specs.Site.{Text}
-use Rattle.std.proofs.lemmas.List.{reverse-append}
+use Rattle.std.proofs.lemmas.List.{drop_more, get_or-reverse, length-reverse, reverse-append}
+use Rattle.std.proofs.lemmas.Option.{get_or_from_slice_get, slice_get_within}
+use Rattle.std.specs.List.{slice_get}
+use Rattle.tera_tokens.specs.Token.{Token}
 use Rattle.tera_tree.specs.Tree.{Nodes, NoNodes, MoreNodes}
 use Rattle.tera_tree.specs.Depth.{node_depth, nodes_depth}
 use Rattle.tera_tree.specs.declared.node.Node as declared
 use Rattle.tera_tree.specs.View.{node_of, nodes_of}
-use Rattle.tera_syntax.specs.Reader.{join, one}
-use Rattle.tera_syntax.specs.View.{frame_of, frames_of}
+use Rattle.tera_syntax.specs.Heads.{Head, ends}
+use Rattle.tera_syntax.specs.Reader.{Frame, closed, join, one, shut, turned}
+use Rattle.tera_syntax.specs.View.{frame_of, frames_of, head_of}
 use Rattle.tera_syntax.specs.declared.progress.Frame as frame
 
 pub join-none : (m : Nodes) → join m NoNodes ≡ m
@@ -24,6 +28,27 @@ nodes_push (m ∷ all) n = ap (MoreNodes (node_of m)) (nodes_push all n)
 
 pub frames_push : (all : List frame.Frame) (f : frame.Frame) → frames_of (all ++ f ∷ []) ≡ frame_of f ∷ frames_of all
 frames_push all f = ap (map frame_of) (reverse-append all (f ∷ []))
+
+-- what is open innermost stands last in memory
+innermost : (fs : List frame.Frame) (f : frame.Frame) → Some f ≡ slice_get fs (length fs - 1) → (rest : List Frame) × (frames_of fs ≡ frame_of f ∷ rest)
+innermost fs f e =
+    let w = slice_get_within fs (length fs - 1) f (sym e) in
+    let z : length fs - 1 - 0 ≡ length fs - 1 = omega arith in
+    let r : get_or (reverse fs) 0 f ≡ f = get_or-reverse fs 0 f (omega arith) ∙ ap (λ k. get_or fs k f) z ∙ get_or_from_slice_get fs (length fs - 1) f f (sym e) in
+    let d : reverse fs ≡ get_or (reverse fs) 0 f ∷ drop 1 (reverse fs) = drop_more (reverse fs) 0 f (omega (arith, length-reverse fs)) in
+    (map frame_of (drop 1 (reverse fs)), ap (map frame_of) (d ∙ ap (λ x. x ∷ drop 1 (reverse fs)) r))
+
+pub turned_innermost : (may : Head → Bool) (fs : List frame.Frame) (f : frame.Frame) (found : Nodes) → Some f ≡ slice_get fs (length fs - 1) → may (head_of f.head) ≡ true → turned (λ head. true) (frames_of fs) found ≡ turned may (frames_of fs) found
+turned_innermost may fs f found e h =
+    let t = innermost fs f e in
+    let s : turned (λ head. true) (frame_of f ∷ t.0) found ≡ turned may (frame_of f ∷ t.0) found = rw h refl in
+    ap (λ fs. turned (λ head. true) fs found) t.1 ∙ s ∙ sym (ap (λ fs. turned may fs found) t.1)
+
+pub shut_innermost : (tokens : List Token) (fs : List frame.Frame) (f : frame.Frame) (found : Nodes) → Some f ≡ slice_get fs (length fs - 1) → ends (head_of f.head) tokens ≡ true → closed (frames_of fs) found ≡ shut tokens (frames_of fs) found
+shut_innermost tokens fs f found e h =
+    let t = innermost fs f e in
+    let s : closed (frame_of f ∷ t.0) found ≡ shut tokens (frame_of f ∷ t.0) found = rw h refl in
+    ap (λ fs. closed fs found) t.1 ∙ s ∙ sym (ap (λ fs. shut tokens fs found) t.1)
 
 -- how deep rows are
 deepest : (limit a b : ℕ) → a ≤ limit → b ≤ limit → max a b ≤ limit

@@ -1,11 +1,11 @@
 -- What is open while a text is read, as plain data.
-use Rattle.std.specs.Prelude.{◌≡◌, List, Option, Some, None, Result, Ok, Err, Vec, map, reverse, string_bytes}
+use Rattle.std.specs.Prelude.{◌≡◌, List, Option, Some, None, Result, Ok, Err, Vec, map, option_copied, reverse}
 use Rattle.std.specs.Global.{Global}
 use Rattle.tera_tree.specs.declared.node.Node as declared
 use Rattle.tera_tokens.specs.declared.refusal.Refusal.{Refusal}
 use Rattle.tera_tokens.specs.Answers.{Refuses}
 use Rattle.tera_tree.specs.Tree.{Nodes}
-use Rattle.tera_tree.specs.View.{expr_of, name_option, node_of, nodes_of}
+use Rattle.tera_tree.specs.View.{expr_of, node_of, nodes_of}
 use Rattle.tera_syntax.specs.Heads.{Head, IfHead, ForHead, SetHead}
 use Rattle.tera_syntax.specs.Reader.{Frame, Progress, Tag, Single, Opening, GoingOn, Turning, Closing}
 use Rattle.tera_syntax.specs.declared.heads.Head as head
@@ -17,8 +17,8 @@ use Rattle.tera_syntax.specs.declared.progress.Progress as progress
 
 abbrev pub head_of : head.Head → Head
 head_of (head_variant.If c) = IfHead (expr_of c.value)
-head_of (head_variant.For h) = ForHead (name_option h.value.key) (string_bytes h.value.name) (expr_of h.value.target)
-head_of (head_variant.Set t is_global) = SetHead (string_bytes t) is_global
+head_of (head_variant.For h) = ForHead (option_copied h.value.key) h.value.name.now (expr_of h.value.target)
+head_of (head_variant.Set t is_global) = SetHead t.now is_global
 
 abbrev pub tag_of : tag.Tag → Tag
 tag_of (tag_variant.Single node) = Single (node_of node)

@@ -12,20 +12,20 @@ use tera_tree::{Expression, Heading, Node};
 
 /// What begins a statement with a body.
 #[derive(Drop)]
-pub(crate) enum Head {
+pub(crate) enum Head<'s> {
     /// `if condition`, or `elif condition`
-    If(Box<Expression>),
+    If(Box<Expression<'s>>),
     /// `for name in target`
-    For(Box<Heading>),
+    For(Box<Heading<'s>>),
     /// `set name`, or `set_global name` where it is global.
-    Set(String, bool),
+    Set(&'s str, bool),
 }
 
-impl Head {
+impl<'s> Head<'s> {
     /// The statement with this body, and what stands behind its `else`.
-    pub fn make(self, body: Vec<Node>, other: Vec<Node>) -> Node
-        ensures { let all = nodes_of body.items in
-            node_of result ≡ spec.make (head_of self) all (nodes_of other.items) }
+    pub fn make(self, body: Vec<Node<'s>>, other: Vec<Node<'s>>) -> Node<'s>
+        ensures { let all = nodes_of body.entry.items in
+            node_of result ≡ spec.make (head_of self.entry) all (nodes_of other.entry.items) }
     {
         match self {
             Head::If(condition) => Node::choice(condition, body, other),

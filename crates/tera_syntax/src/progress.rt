@@ -20,12 +20,12 @@ const MAX_DEPTH: usize = 200;
 
 /// A statement whose end is not read yet.
 #[derive(Drop)]
-pub(crate) struct Frame {
+pub(crate) struct Frame<'s> {
     /// What stands in front of it.
-    before: Vec<Node>,
-    head: Head,
+    before: Vec<Node<'s>>,
+    head: Head<'s>,
     /// Its body, once another tag of it ended that.
-    body: Option<Vec<Node>>,
+    body: Option<Vec<Node<'s>>>,
     /// What ends it ends the statement around it too.
     is_chained: bool,
     /// Whether it stands in a loop's body.
@@ -34,17 +34,22 @@ pub(crate) struct Frame {
 
 /// How far the reading is: what is open, and the nodes that were read in it.
 #[derive(Drop)]
-pub(crate) struct Progress {
+pub(crate) struct Progress<'s> {
     /// The innermost last.
-    frames: Vec<Frame>,
-    found: Vec<Node>,
+    frames: Vec<Frame<'s>>,
+    found: Vec<Node<'s>>,
     /// Whether these nodes stand in a loop's body.
     pub in_loop: bool,
 }
 
 /// What the end of a statement makes of what was read last.
-fn made(alloc: Global, head: Head, body: Option<Vec<Node>>, found: Vec<Node>) -> Node
-    ensures { node_of result ≡ spec.made (head_of head) (body_of body) (nodes_of found.items) }
+fn made<'s>(
+    alloc: Global,
+    head: Head<'s>,
+    body: Option<Vec<Node<'s>>>,
+    found: Vec<Node<'s>>,
+) -> Node<'s>
+    ensures { node_of result ≡ spec.made (head_of head.entry) (body_of body.entry) (nodes_of found.entry.items) }
 {
     match body {
         None => head.make(found, Vec::new(alloc)),
@@ -54,8 +59,8 @@ fn made(alloc: Global, head: Head, body: Option<Vec<Node>>, found: Vec<Node>) ->
 
 /// Puts a node behind others.
 #[tactic(auto, using(crate::proofs::Rows::nodes_push))]
-fn push(nodes: &mut Vec<Node>, node: Node) -> Result<(), Refusal>
-    ensures { let meant = spec.join (nodes_of nodes.old.items) (spec.one (node_of node)) in
+fn push<'s>(nodes: &mut Vec<Node<'s>>, node: Node<'s>) -> Result<(), Refusal>
+    ensures { let meant = spec.join (nodes_of nodes.old.items) (spec.one (node_of node.entry)) in
         Answers (λ done. nodes_of nodes.new.items) (Some meant) result }
 {
     nodes.push(node)?;
@@ -63,8 +68,8 @@ fn push(nodes: &mut Vec<Node>, node: Node) -> Result<(), Refusal>
 }
 
 /// What stands in front of a statement, and the statement.
-fn row(alloc: Global, frame: Frame, found: Vec<Node>) -> Result<Vec<Node>, Refusal>
-    ensures { let meant = spec.row (frame_of frame) (nodes_of found.items) in
+fn row<'s>(alloc: Global, frame: Frame<'s>, found: Vec<Node<'s>>) -> Result<Vec<Node<'s>>, Refusal>
+    ensures { let meant = spec.row (frame_of frame.entry) (nodes_of found.entry.items) in
         Answers (λ nodes. nodes_of nodes.items) (Some meant) result }
 {
     let Frame {
@@ -77,8 +82,8 @@ fn row(alloc: Global, frame: Frame, found: Vec<Node>) -> Result<Vec<Node>, Refus
     Ok(before)
 }
 
-impl Progress {
-    pub fn begin(alloc: Global) -> Progress
+impl<'s> Progress<'s> {
+    pub fn begin(alloc: Global) -> Progress<'s>
         ensures { progress_of result ≡ spec.begun }
     {
         Progress {
@@ -106,8 +111,8 @@ impl Progress {
     }
 
     /// Puts a node behind those that were read. It begins at `at`.
-    pub fn put(&mut self, node: Node, at: Span) -> Result<(), Refusal>
-        ensures { Becomes (spec.put 200 (progress_of self.old) (node_of node)) result self.new }
+    pub fn put(&mut self, node: Node<'s>, at: Span) -> Result<(), Refusal>
+        ensures { Becomes (spec.put 200 (progress_of self.old) (node_of node.entry)) result self.new }
     {
         if self.frames.len() >= MAX_DEPTH {
             return Err(Refusal::Syntax(Reason::TooDeep, at));
@@ -120,10 +125,10 @@ impl Progress {
         &mut self,
         alloc: Global,
         is_chained: bool,
-        head: Head,
+        head: Head<'s>,
         at: Span,
     ) -> Result<(), Refusal>
-        ensures { let meant = spec.opened 200 is_chained (progress_of self.old) (head_of head) in
+        ensures { let meant = spec.opened 200 is_chained (progress_of self.old) (head_of head.entry) in
             Becomes meant result self.new }
     {
         if self.frames.len() >= MAX_DEPTH {
@@ -211,8 +216,8 @@ impl Progress {
     }
 
     /// The nodes, where the text ends here. It takes no memory.
-    pub fn finish(self, at: usize) -> Result<Vec<Node>, Refusal>
-        ensures value { let meant = spec.finished (progress_of self).frames (progress_of self).found in
+    pub fn finish(self, at: usize) -> Result<Vec<Node<'s>>, Refusal>
+        ensures value { let meant = spec.finished (progress_of self.entry).frames (progress_of self.entry).found in
             Answers (λ nodes. nodes_of nodes.items) meant result }
         ensures told { IfErr result IsSyntax }
     {

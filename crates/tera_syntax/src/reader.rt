@@ -18,7 +18,11 @@ use tera_tokens::refusal::Refusal;
 use tera_tree::{Delimiters, Node, ParserOutput};
 
 /// The nodes of a text.
-fn nodes(alloc: Global, delimiters: &Delimiters, source: &str) -> Result<Vec<Node>, Refusal>
+fn nodes<'s>(
+    alloc: Global,
+    delimiters: &Delimiters,
+    source: &'s str,
+) -> Result<Vec<Node<'s>>, Refusal>
     requires { IsTrue (accepted (delimiters_of delimiters.now)) }
     ensures { Answers (λ found. nodes_of found.items) (spec.nodes 200 (pieces (delimiters_of delimiters.now) source.now)) result }
 {
@@ -54,16 +58,16 @@ fn clipped(span: Span, size: usize) -> Span
     Span { start, end }
 }
 
-/// Reads the text of a template.
+/// Reads the text of a template. The tree borrows its names and texts from it.
 ///
 /// A text that spells no tree is a `SyntaxError` with the template's name and the stretch of the text where reading
 /// stopped; its message says what was due there.
-pub fn parse(
+pub fn parse<'s>(
     alloc: Global,
     name: &str,
-    source: &str,
+    source: &'s str,
     delimiters: &Delimiters,
-) -> TeraResult<ParserOutput>
+) -> TeraResult<ParserOutput<'s>>
     requires { IsTrue (accepted (delimiters_of delimiters.now)) }
     ensures reads { GivesOneOf tree_of result (Reads name.now (delimiters_of delimiters.now) source.now) }
     ensures inside { IfOk result (λ output. Inside (length source.now) (tree_of output)) }

@@ -23,14 +23,14 @@ fn place(tokens: &[Token<'_>]) -> Span {
 }
 
 /// What a tag adds.
-fn take(
-    progress: &mut Progress,
+fn take<'s>(
+    progress: &mut Progress<'s>,
     alloc: Global,
-    tokens: &[Token<'_>],
-    tag: Tag,
+    tokens: &[Token<'s>],
+    tag: Tag<'s>,
 ) -> Result<(), Refusal>
     ensures { let s = progress_of progress.old in
-        let meant = spec.taken 200 s (tokens_of tokens.now) (tag_of tag) in
+        let meant = spec.taken 200 s (tokens_of tokens.now) (tag_of tag.entry) in
         Becomes meant result progress.new }
 {
     let at = place(tokens);
@@ -48,7 +48,11 @@ fn take(
 
 /// A statement, or a tag that belongs to one.
 #[tactic(auto, unfolding(crate::specs::Reader::statement))]
-fn statement(progress: &mut Progress, alloc: Global, tokens: &[Token<'_>]) -> Result<(), Refusal>
+fn statement<'s>(
+    progress: &mut Progress<'s>,
+    alloc: Global,
+    tokens: &[Token<'s>],
+) -> Result<(), Refusal>
     ensures { let meant = spec.statement 200 (progress_of progress.old) (tokens_of tokens.now) in
         Becomes meant result progress.new }
 {
@@ -57,29 +61,28 @@ fn statement(progress: &mut Progress, alloc: Global, tokens: &[Token<'_>]) -> Re
     take(progress, alloc, tokens, tag)
 }
 
-fn put_words(progress: &mut Progress, alloc: Global, text: &str, span: Span) -> Result<(), Refusal>
+fn put_words<'s>(progress: &mut Progress<'s>, text: &'s str, span: Span) -> Result<(), Refusal>
     ensures { let meant = spec.put_words 200 (progress_of progress.old) text.now span in
         Becomes meant result progress.new }
 {
     if text.is_empty() {
         return Ok(());
     }
-    let text = String::from_str(alloc, text)?;
     progress.put(Node::Content { text, span }, span)
 }
 
 /// Takes a piece more to what was read. The tokens are those of a tag.
-pub(crate) fn step(
-    progress: &mut Progress,
+pub(crate) fn step<'s>(
+    progress: &mut Progress<'s>,
     alloc: Global,
-    piece: Piece<'_>,
-    tokens: &[Token<'_>],
+    piece: Piece<'s>,
+    tokens: &[Token<'s>],
 ) -> Result<(), Refusal>
     ensures { let meant = spec.step 200 (progress_of progress.old) (piece_of tokens.now piece.entry) in
         Becomes meant result progress.new }
 {
     match piece {
-        Piece::Words(text, span) => put_words(progress, alloc, text, span),
+        Piece::Words(text, span) => put_words(progress, text, span),
         Piece::Comment => Ok(()),
         Piece::Variable => {
             let mut ahead = Tokens::begin(tokens, progress.in_loop);

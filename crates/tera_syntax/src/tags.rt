@@ -19,13 +19,13 @@ use tera_tree::{Expression, Heading, Node};
 
 /// What the tag of a statement is.
 #[derive(Drop)]
-pub(crate) enum Tag {
+pub(crate) enum Tag<'s> {
     /// A statement.
-    Single(Node),
+    Single(Node<'s>),
     /// The first tag of a statement with a body.
-    Opening(Head),
+    Opening(Head<'s>),
     /// It goes on with a statement.
-    GoingOn(Head),
+    GoingOn(Head<'s>),
     /// `else`
     Turning,
     /// Any other, which may be an end.
@@ -34,11 +34,11 @@ pub(crate) enum Tag {
 
 /// An expression that is all from here to the end of the tag.
 #[tactic(auto, unfolding(crate::specs::Reader::whole))]
-pub(crate) fn whole(
+pub(crate) fn whole<'s>(
     alloc: Global,
-    tokens: &mut Tokens<'_>,
+    tokens: &mut Tokens<'_, 's>,
     limit: usize,
-) -> Result<Box<Expression>, Refusal>
+) -> Result<Box<Expression<'s>>, Refusal>
     ensures { Answers (λ b. expr_of b.value) (spec.whole limit (input tokens.old)) result }
 {
     let value = expr(alloc, tokens, limit, 0)?;
@@ -50,28 +50,32 @@ pub(crate) fn whole(
 }
 
 /// Behind `for`.
-fn looping(alloc: Global, tokens: &mut Tokens<'_>, limit: usize) -> Result<Tag, Refusal>
+fn looping<'s>(
+    alloc: Global,
+    tokens: &mut Tokens<'_, 's>,
+    limit: usize,
+) -> Result<Tag<'s>, Refusal>
     ensures { Answers tag_of (spec.looping limit (input tokens.old)) result }
 {
-    let LoopNames { key, name } = names(alloc, tokens)?;
+    let LoopNames { key, name } = names(tokens)?;
     let target = Box::into_inner(whole(alloc, tokens, limit)?);
     let heading = Heading { key, name, target };
     Ok(Tag::Opening(Head::For(Box::new(alloc, heading)?)))
 }
 
 /// Behind `set` or `set_global`.
-fn setting(
+fn setting<'s>(
     alloc: Global,
-    tokens: &mut Tokens<'_>,
+    tokens: &mut Tokens<'_, 's>,
     limit: usize,
     is_global: bool,
-) -> Result<Tag, Refusal>
+) -> Result<Tag<'s>, Refusal>
     ensures { Answers tag_of (spec.setting limit is_global (input tokens.old)) result }
 {
     if !same(Kind::Name, tokens.kind()) {
         return Err(tokens.refuse(Reason::Expected(Kind::Name)));
     }
-    let name = String::from_str(alloc, tokens.text())?;
+    let name = tokens.text();
     tokens.take();
     match tokens.kind() {
         Kind::Assign => {
@@ -85,8 +89,8 @@ fn setting(
 }
 
 /// A tag that is one word.
-fn alone(word: &str, tokens: &[Token<'_>], tag: Tag) -> Result<Tag, Refusal>
-    ensures { Answers tag_of (spec.alone word.now (tokens_of tokens.now) (tag_of tag)) result }
+fn alone<'s>(word: &str, tokens: &[Token<'_>], tag: Tag<'s>) -> Result<Tag<'s>, Refusal>
+    ensures { Answers tag_of (spec.alone word.now (tokens_of tokens.now) (tag_of tag.entry)) result }
 {
     if is_alone(word, tokens) {
         Ok(tag)
@@ -96,8 +100,13 @@ fn alone(word: &str, tokens: &[Token<'_>], tag: Tag) -> Result<Tag, Refusal>
 }
 
 /// A tag that is one word and leaves a turn of the loop that it stands in.
-fn leaving(in_loop: bool, word: &str, tokens: &[Token<'_>], node: Node) -> Result<Tag, Refusal>
-    ensures { let meant = spec.leaving in_loop word.now (tokens_of tokens.now) (node_of node) in
+fn leaving<'s>(
+    in_loop: bool,
+    word: &str,
+    tokens: &[Token<'_>],
+    node: Node<'s>,
+) -> Result<Tag<'s>, Refusal>
+    ensures { let meant = spec.leaving in_loop word.now (tokens_of tokens.now) (node_of node.entry) in
         Answers tag_of meant result }
 {
     if in_loop {
@@ -132,13 +141,13 @@ fn first_byte(text: &str) -> u8
 }
 
 /// A tag that begins with a word which is not reserved.
-fn named(
+fn named<'s>(
     alloc: Global,
-    tokens: &[Token<'_>],
+    tokens: &[Token<'s>],
     limit: usize,
     in_loop: bool,
     word: &str,
-) -> Result<Tag, Refusal>
+) -> Result<Tag<'s>, Refusal>
     ensures { Answers tag_of (spec.named limit in_loop (tokens_of tokens.now) word.now) result }
 {
     if may_begin(first_byte(word), word.len()) {
@@ -150,13 +159,13 @@ fn named(
 
 /// The same by comparing the word with each that begins a statement.
 #[tactic(auto, unfolding(crate::specs::Reader::named))]
-fn begun(
+fn begun<'s>(
     alloc: Global,
-    tokens: &[Token<'_>],
+    tokens: &[Token<'s>],
     limit: usize,
     in_loop: bool,
     word: &str,
-) -> Result<Tag, Refusal>
+) -> Result<Tag<'s>, Refusal>
     ensures { Answers tag_of (spec.named limit in_loop (tokens_of tokens.now) word.now) result }
 {
     match word {
@@ -174,13 +183,13 @@ fn begun(
 /// A tag with expressions no deeper than `limit`. The flags say whether it, and what is open, stand in
 /// a loop's body.
 #[tactic(auto, unfolding(crate::specs::Reader::tag))]
-pub(crate) fn read_tag(
+pub(crate) fn read_tag<'s>(
     alloc: Global,
-    tokens: &[Token<'_>],
+    tokens: &[Token<'s>],
     limit: usize,
     in_loop: bool,
     outer: bool,
-) -> Result<Tag, Refusal>
+) -> Result<Tag<'s>, Refusal>
     ensures { let meant = spec.tag limit in_loop outer (tokens_of tokens.now) in
         Answers tag_of meant result }
 {

@@ -48,8 +48,11 @@ impl Shown {
         match expression {
             Expression::Bool { value, .. } => self.put_made(format!(in self.alloc; "{value}")),
             Expression::Int { value, .. } => self.put_made(format!(in self.alloc; "{value}")),
-            Expression::Text { text, .. } => self.put_made(format!(in self.alloc; "'{text}'")),
-            Expression::Name { name, .. } => self.put(name.as_str()),
+            Expression::Text { text, .. } => {
+                let text = text.as_str();
+                self.put_made(format!(in self.alloc; "'{text}'"));
+            }
+            Expression::Name { name, .. } => self.put(name),
             Expression::Binary { operator, .. } => {
                 self.put_made(format!(in self.alloc; "{operator:?}"));
             }
@@ -69,10 +72,10 @@ impl Shown {
     #[cycle(expression)]
     fn heading(&mut self, heading: &Heading) {
         if let Some(key) = &heading.key {
-            self.put(key.as_str());
+            self.put(key);
             self.put(", ");
         }
-        self.put(heading.name.as_str());
+        self.put(heading.name);
         self.put(" in ");
         self.expression(&heading.target);
     }
@@ -95,7 +98,7 @@ impl Shown {
             }
             Expression::Attribute { target, name, .. } => {
                 self.expression(target);
-                self.put(name.as_str());
+                self.put(name);
             }
             Expression::Index { target, index, .. } => {
                 self.expression(target);
@@ -158,7 +161,7 @@ impl Shown {
             match node {
                 Node::Content { text, span } => {
                     self.put("(");
-                    self.put(text.as_str());
+                    self.put(text);
                     self.put_span(*span);
                 }
                 Node::Print { value } => self.expression(value),
@@ -180,7 +183,7 @@ impl Shown {
                     value,
                     is_global,
                 } => {
-                    self.put_set(name.as_str(), *is_global);
+                    self.put_set(name, *is_global);
                     self.expression(value);
                     self.put(")");
                 }
@@ -189,7 +192,7 @@ impl Shown {
                     body,
                     is_global,
                 } => {
-                    self.put_set(name.as_str(), *is_global);
+                    self.put_set(name, *is_global);
                     self.put(" to ");
                     self.nodes(body);
                     self.put(")");

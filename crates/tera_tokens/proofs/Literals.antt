@@ -1,7 +1,7 @@
 -- What literals stand for, and where tokens start.
-use Rattle.std.proofs.Common.{◌≡◌, ℕ, ◌+◌, ◌-◌, ◌*◌, ◌^◌, ◌<◌, ◌≤◌, List, [], ◌∷◌, Bool, true, false, not, ◌||◌, ◌==◌, ◌++◌, suc, nat_lt, length, take, drop, map, get_or, append_assoc, append-nil, lit<, Some, None, refl, ap, sym, ◌∙◌, arith, if◌then◌else◌}
+use Rattle.std.proofs.Common.{◌≡◌, ℕ, ◌+◌, ◌-◌, ◌*◌, ◌^◌, ◌<◌, ◌≤◌, List, [], ◌∷◌, Bool, true, false, not, ◌||◌, ◌==◌, ◌++◌, suc, nat_lt, length, take, drop, map, get_or, append_assoc, append-nil, lit<, Some, None, refl, ap, ap₂, sym, ◌∙◌, arith, if◌then◌else◌}
 use Rattle.std.proofs.lemmas.Bool.Decides.{nat_tests, Decides-eqb}
-use Rattle.std.proofs.lemmas.List.{drop_more, drop_all, drop-map, drop-drop, get_or-drop, length-drop}
+use Rattle.std.proofs.lemmas.List.{drop_more, drop_all, drop-map, drop-drop, get_or-drop, length-drop, take_all}
 use Rattle.std.proofs.lemmas.Str.{IsCharBoundary-before_ascii, IsCharBoundary-end}
 use Rattle.std.specs.Str.{IsCharBoundary}
 use Rattle.tera_tokens.proofs.Places.{by_order}
@@ -49,6 +49,13 @@ free : (text : Text) → unescaped false text ≡ take (run is_plain text) text 
 unfolding unescaped run
 free [] = refl
 free (b ∷ bs) = free_by (b == 92) b bs refl (free bs)
+
+pub all_plain : (text : Text) → run is_plain text ≡ length text → text ≡ unescaped false text
+unfolding unescaped
+all_plain text e =
+    let d : unescaped false (drop (run is_plain text) text) ≡ [] = rw (e, drop_all (length text) text (omega arith)) refl in
+    let t : take (run is_plain text) text ≡ text = rw e (take_all (length text) text (omega arith)) in
+    sym (free text ∙ ap₂ (λ a b. a ++ b) t d ∙ append-nil text)
 
 stops_by : (q : Bool) (b : ℕ) (bs : Text) → (b == 92) ≡ q → (run is_plain bs < length bs → get_or bs (run is_plain bs) 0 ≡ 92)
     → (if not q then suc (run is_plain bs) else 0) < length (b ∷ bs) → get_or (b ∷ bs) (if not q then suc (run is_plain bs) else 0) 0 ≡ 92

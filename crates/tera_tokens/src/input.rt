@@ -11,17 +11,17 @@ use tera_errors::Span;
 
 /// A place among the tokens of a tag. Past the last token stands one of the kind `End`, with no text, at the place 0.
 #[derive(Drop)]
-pub struct Tokens<'a> {
-    pub ahead: &'a [Token<'a>],
+pub struct Tokens<'t, 's> {
+    pub ahead: &'t [Token<'s>],
     /// Where the token before them ends: 0 before the first.
     pub last: usize,
     /// Whether the tag stands inside a loop's body, where `loop.index` and its like are names.
     pub in_loop: bool,
 }
 
-impl<'a> Tokens<'a> {
+impl<'t, 's> Tokens<'t, 's> {
     /// The place before all of them.
-    pub fn begin(tokens: &'a [Token<'a>], in_loop: bool) -> Tokens<'a>
+    pub fn begin(tokens: &'t [Token<'s>], in_loop: bool) -> Tokens<'t, 's>
         ensures { input result ≡ spec.begin in_loop (tokens_of tokens.now) }
     {
         Tokens {
@@ -42,9 +42,9 @@ impl<'a> Tokens<'a> {
         }
     }
 
-    /// The next token as it is written.
+    /// The next token as it is written. The source lends it.
     #[tactic(auto, unfolding(crate::specs::Input::text))]
-    pub fn text(&self) -> &'a str
+    pub fn text(&self) -> &'s str
         ensures { result.now ≡ spec.text (input self.now) }
     {
         match self.ahead.first() {

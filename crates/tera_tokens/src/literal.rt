@@ -1,11 +1,13 @@
 // What literals stand for.
 ghost use Rattle.std.specs.Prelude.{◌≡◌, ◌<◌, ◌≤◌, ◌+◌, ◌-◌, drop, length, false, Some, IfOk, IfSome, string_bytes, get_or, option_map, IsTrue};
+ghost use Rattle.tera_tree.specs.View.{quoted_of};
 ghost use Rattle.tera_tokens.specs.Bytes.{run};
 ghost use Rattle.tera_tokens.specs.Literal as spec;
 
 use crate::bytes::after;
 use crate::token::is_quote;
 use std::alloc::{AllocError, Global};
+use tera_tree::Quoted;
 
 /// The number that digits stand for, if it is below 2^127. It does not look for other bytes: a token has none.
 pub fn integer(digits: &str) -> Option<i128>
@@ -102,14 +104,25 @@ fn is_quoted(text: &[u8]) -> bool
     text.len() >= 2 && is_quote(text[0]) && is_quote(text[text.len() - 1])
 }
 
-/// What a quoted text stands for; none where the text is not quoted.
+/// What is written between quotes, as it stands there or without its backslashes.
+#[tactic(auto, using(crate::proofs::Literals::all_plain))]
+fn between<'s>(alloc: Global, text: &'s str) -> Result<Quoted<'s>, AllocError>
+    ensures { IfOk result (λ q. quoted_of q ≡ spec.unescaped false text.now) }
+{
+    if plain_len(text.as_bytes()) == text.len() {
+        return Ok(Quoted::Lent(text));
+    }
+    Ok(Quoted::Made(unescape(alloc, text)?))
+}
+
+/// What a quoted text stands for; none where the text is not quoted. It takes memory only for a text with a backslash.
 #[tactic(auto, unfolding(crate::specs::Literal::literal))]
-pub fn literal(alloc: Global, text: &str) -> Result<Option<String>, AllocError>
-    ensures { IfOk result (λ o. option_map (λ s. string_bytes s) o ≡ spec.literal text.now) }
+pub fn literal<'s>(alloc: Global, text: &'s str) -> Result<Option<Quoted<'s>>, AllocError>
+    ensures { IfOk result (λ o. option_map quoted_of o ≡ spec.literal text.now) }
 {
     if !is_quoted(text.as_bytes()) {
         return Ok(None);
     }
     let inner = &text[1..text.len() - 1];
-    Ok(Some(unescape(alloc, inner)?))
+    Ok(Some(between(alloc, inner)?))
 }

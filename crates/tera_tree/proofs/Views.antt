@@ -1,6 +1,7 @@
 -- Views of what holds a Vec, by the Vec's items.
-use Rattle.std.proofs.Common.{◌≡◌, Vec, Box, Bool, Global, String, string_bytes, refl, ap, ap₂, ◌∙◌}
+use Rattle.std.proofs.Common.{◌≡◌, Vec, Box, Bool, Bor, Global, option_copied, refl, ap, ap₂, ◌∙◌}
 use mathlib.Core.Former.{Count}
+use Rattle.tera_errors.specs.Site.{Text}
 use Rattle.tera_errors.specs.declared.span.Span.{Span}
 use Rattle.tera_tree.specs.declared.expression.Heading.{Heading}
 use Rattle.tera_tree.specs.declared.expression.Item as item
@@ -11,7 +12,7 @@ use Rattle.tera_tree.specs.declared.node.Node.{Row_of-Node, end_of-Node, more_of
 use Rattle.tera_tree.specs.declared.node.Node as declared
 use Rattle.tera_tree.specs.declared.node.Node.TheVariants as variant
 use Rattle.tera_tree.specs.Tree.{Array, Map, MoreItems, MoreEntries, If, Capture, For, MoreNodes}
-use Rattle.tera_tree.specs.View.{key_option, name_option, expr_of, row_items, items_of, row_entries, entries_of, node_of, row_nodes, nodes_of, for_of}
+use Rattle.tera_tree.specs.View.{literal_option, expr_of, row_items, items_of, row_entries, entries_of, node_of, row_nodes, nodes_of, for_of}
 
 pub items_row : (m : _) (row : Row_of-Item m) → row_items row ≡ items_of (items-the_row-Item m row)
 items_row m end_of-Item = refl
@@ -19,7 +20,7 @@ items_row m (more_of-Item s e rest) = ap (λ r. MoreItems s (expr_of e) r) (item
 
 pub entries_row : (m : _) (row : Row_of-Entry m) → row_entries row ≡ entries_of (items-the_row-Entry m row)
 entries_row m end_of-Entry = refl
-entries_row m (more_of-Entry k e rest) = ap (λ r. MoreEntries (key_option k) (expr_of e) r) (entries_row _ rest)
+entries_row m (more_of-Entry k e rest) = ap (λ r. MoreEntries (literal_option k) (expr_of e) r) (entries_row _ rest)
 
 pub nodes_row : (m : _) (row : Row_of-Node m) → row_nodes row ≡ nodes_of (items-the_row-Node m row)
 nodes_row m end_of-Node = refl
@@ -61,9 +62,9 @@ pub view_if : (c : Box Expression Global) (body other : Vec declared.Node Global
 view_if c body other =
     ap₂ (λ x y. If (expr_of c.value) x y) (nodes_is (body_in (variant.If c body other)) body (items_hidden-the_row-Node-0 body)) (nodes_is (other_in (variant.If c body other)) other (items_hidden-the_row-Node-0 other))
 
-pub view_capture : (t : String Global) (body : Vec declared.Node Global) (is_global : Bool) → node_of (variant.Capture t body is_global) ≡ Capture (string_bytes t) (nodes_of body.items) is_global
-view_capture t body is_global = ap (λ x. Capture (string_bytes t) x is_global) (nodes_is (body_in (variant.Capture t body is_global)) body (items_hidden-the_row-Node-0 body))
+pub view_capture : (t : Bor Text) (body : Vec declared.Node Global) (is_global : Bool) → node_of (variant.Capture t body is_global) ≡ Capture t.now (nodes_of body.items) is_global
+view_capture t body is_global = ap (λ x. Capture t.now x is_global) (nodes_is (body_in (variant.Capture t body is_global)) body (items_hidden-the_row-Node-0 body))
 
 pub view_for : (h : Box Heading Global) (body other : Vec declared.Node Global) → node_of (variant.For h body other) ≡ for_of h.value body.items other.items
 view_for h body other =
-    ap₂ (λ x y. For (name_option h.value.key) (string_bytes h.value.name) (expr_of h.value.target) x y) (nodes_is (body_in (variant.For h body other)) body (items_hidden-the_row-Node-0 body)) (nodes_is (other_in (variant.For h body other)) other (items_hidden-the_row-Node-0 other))
+    ap₂ (λ x y. For (option_copied h.value.key) h.value.name.now (expr_of h.value.target) x y) (nodes_is (body_in (variant.For h body other)) body (items_hidden-the_row-Node-0 body)) (nodes_is (other_in (variant.For h body other)) other (items_hidden-the_row-Node-0 other))

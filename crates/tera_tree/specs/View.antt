@@ -1,5 +1,5 @@
 -- The plain data that a tree in memory stands for.
-use Rattle.std.specs.Prelude.{List, [], ◌∷◌, Bool, Option, Some, None, String, string_bytes, Box, map as map_list}
+use Rattle.std.specs.Prelude.{List, [], ◌∷◌, Bool, Option, Some, None, string_bytes, option_copied, Box, map as map_list}
 use Rattle.std.specs.Global.{Global}
 use Rattle.tera_tree.specs.declared.expression.Expression.{Expression, Row_of-Item, end_of-Item, more_of-Item, Row_of-Entry, end_of-Entry, more_of-Entry, Held-Expression-Comprehension-2, Expression-Comprehension-2-None', Some'}
 use Rattle.tera_tree.specs.declared.expression.Expression.TheVariants as expression
@@ -9,6 +9,10 @@ use Rattle.tera_tree.specs.declared.expression.Bounds.{Bounds}
 use Rattle.tera_tree.specs.declared.expression.Heading.{Heading}
 use Rattle.tera_tree.specs.declared.expression.LiteralKey.{LiteralKey}
 use Rattle.tera_tree.specs.declared.expression.LiteralKey.TheVariants as key
+use Rattle.tera_tree.specs.declared.expression.OwnedKey.{OwnedKey}
+use Rattle.tera_tree.specs.declared.expression.OwnedKey.TheVariants as owned
+use Rattle.tera_tree.specs.declared.quoted.Quoted.{Quoted}
+use Rattle.tera_tree.specs.declared.quoted.Quoted.TheVariants as quoted
 use Rattle.tera_tree.specs.declared.expression.Item as item
 use Rattle.tera_tree.specs.declared.expression.Entry as entry
 use Rattle.tera_tree.specs.declared.node.Node.{Row_of-Node, end_of-Node, more_of-Node}
@@ -17,30 +21,39 @@ use Rattle.tera_tree.specs.declared.node.Node.TheVariants as variant
 use Rattle.tera_tree.specs.declared.node.ParserOutput.{ParserOutput}
 use Rattle.tera_tree.specs.Tree.{Key, BoolKey, IntKey, TextKey, Expr, Nothing, Boolean, Integer, Text, Name, Attribute, Index, Slice, Not, Negate, Binary, And, Or, Ternary, Array, Map, Comprehension, Optional, Absent, Present, Items, NoItems, MoreItems, Entries, NoEntries, MoreEntries, Node, Content, Print, If, Set, Capture, For, Break, Continue, Nodes, NoNodes, MoreNodes, Tree}
 
-abbrev pub key_of : LiteralKey → Key
-key_of (key.Bool b) = BoolKey b
-key_of (key.Int z) = IntKey z
-key_of (key.Text t) = TextKey (string_bytes t)
+abbrev pub quoted_of : Quoted → site.Text
+quoted_of (quoted.Lent t) = t.now
+quoted_of (quoted.Made t) = string_bytes t
 
-abbrev pub key_option : Option LiteralKey → Option Key
+abbrev pub literal_of : LiteralKey → Key
+literal_of (key.Bool b) = BoolKey b
+literal_of (key.Int z) = IntKey z
+literal_of (key.Text t) = TextKey (quoted_of t)
+
+abbrev pub literal_option : Option LiteralKey → Option Key
+literal_option None = None
+literal_option (Some k) = Some (literal_of k)
+
+abbrev pub key_of : OwnedKey → Key
+key_of (owned.Bool b) = BoolKey b
+key_of (owned.Int z) = IntKey z
+key_of (owned.Text t) = TextKey (string_bytes t)
+
+abbrev pub key_option : Option OwnedKey → Option Key
 key_option None = None
 key_option (Some k) = Some (key_of k)
 
-abbrev pub keys_of : List (Option LiteralKey) → List (Option Key)
+abbrev pub keys_of : List (Option OwnedKey) → List (Option Key)
 keys_of = map_list key_option
-
-abbrev pub name_option : Option (String Global) → Option site.Name
-name_option None = None
-name_option (Some t) = Some (string_bytes t)
 
 abbrev mutual
   pub expr_of : Expression → Expr
   expr_of (expression.None span) = Nothing span
   expr_of (expression.Bool b span) = Boolean b span
   expr_of (expression.Int z span) = Integer z span
-  expr_of (expression.Text t span) = Text (string_bytes t) span
-  expr_of (expression.Name t span) = Name (string_bytes t) span
-  expr_of (expression.Attribute' p e t optional span) = Attribute (expr_of e) (string_bytes t) optional span
+  expr_of (expression.Text t span) = Text (quoted_of t) span
+  expr_of (expression.Name t span) = Name t.now span
+  expr_of (expression.Attribute' p e t optional span) = Attribute (expr_of e) t.now optional span
   expr_of (expression.Index' p a q b optional span) = Index (expr_of a) (expr_of b) optional span
   expr_of (expression.Slice' p e q a b c optional span) = Slice (expr_of e) (held_of a) (held_of b) (held_of c) optional span
   expr_of (expression.Not' p e span) = Not (expr_of e) span
@@ -51,7 +64,7 @@ abbrev mutual
   expr_of (expression.Ternary' p v q c r o span) = Ternary (expr_of v) (expr_of c) (expr_of o) span
   expr_of (expression.Array' m all span) = Array (row_items all) span
   expr_of (expression.Map' m all span) = Map (row_entries all) span
-  expr_of (expression.Comprehension' p v q key n e c span) = Comprehension (expr_of v) (name_option key) (string_bytes n) (expr_of e) (held_of c) span
+  expr_of (expression.Comprehension' p v q key n e c span) = Comprehension (expr_of v) (option_copied key) n.now (expr_of e) (held_of c) span
 
   pub held_of : Held-Expression-Comprehension-2 → Optional
   held_of Expression-Comprehension-2-None' = Absent
@@ -63,7 +76,7 @@ abbrev mutual
 
   pub row_entries : {m : _} → Row_of-Entry m → Entries
   row_entries end_of-Entry = NoEntries
-  row_entries (more_of-Entry k e rest) = MoreEntries (key_option k) (expr_of e) (row_entries rest)
+  row_entries (more_of-Entry k e rest) = MoreEntries (literal_option k) (expr_of e) (row_entries rest)
 
 abbrev pub optional_of : Option (Box Expression Global) → Optional
 optional_of None = Absent
@@ -71,7 +84,7 @@ optional_of (Some b) = Present (expr_of b.value)
 
 -- what a comprehension keeps, with this heading
 abbrev pub comprehension_of : Expression → Heading → Option (Box Expression Global) → Span → Expr
-comprehension_of v h c span = Comprehension (expr_of v) (name_option h.key) (string_bytes h.name) (expr_of h.target) (optional_of c) span
+comprehension_of v h c span = Comprehension (expr_of v) (option_copied h.key) h.name.now (expr_of h.target) (optional_of c) span
 
 -- a slice of these bounds
 abbrev pub slice_of : Expression → Bounds → Bool → Span → Expr
@@ -83,16 +96,16 @@ items_of (a ∷ rest) = MoreItems a.is_spread (expr_of a.value) (items_of rest)
 
 abbrev pub entries_of : List entry.Entry → Entries
 entries_of [] = NoEntries
-entries_of (a ∷ rest) = MoreEntries (key_option a.key) (expr_of a.value) (entries_of rest)
+entries_of (a ∷ rest) = MoreEntries (literal_option a.key) (expr_of a.value) (entries_of rest)
 
 abbrev mutual
   pub node_of : declared.Node → Node
-  node_of (variant.Content t span) = Content (string_bytes t) span
+  node_of (variant.Content t span) = Content t.now span
   node_of (variant.Print e) = Print (expr_of e.value)
   node_of (variant.If' c m body n other) = If (expr_of c.value) (row_nodes body) (row_nodes other)
-  node_of (variant.Set t e is_global) = Set (string_bytes t) (expr_of e.value) is_global
-  node_of (variant.Capture' t m body is_global) = Capture (string_bytes t) (row_nodes body) is_global
-  node_of (variant.For' h m body n other) = For (name_option h.value.key) (string_bytes h.value.name) (expr_of h.value.target) (row_nodes body) (row_nodes other)
+  node_of (variant.Set t e is_global) = Set t.now (expr_of e.value) is_global
+  node_of (variant.Capture' t m body is_global) = Capture t.now (row_nodes body) is_global
+  node_of (variant.For' h m body n other) = For (option_copied h.value.key) h.value.name.now (expr_of h.value.target) (row_nodes body) (row_nodes other)
   node_of variant.Break = Break
   node_of variant.Continue = Continue
 
@@ -106,7 +119,7 @@ nodes_of (n ∷ ns) = MoreNodes (node_of n) (nodes_of ns)
 
 -- a loop with this heading
 abbrev pub for_of : Heading → List declared.Node → List declared.Node → Node
-for_of h body other = For (name_option h.key) (string_bytes h.name) (expr_of h.target) (nodes_of body) (nodes_of other)
+for_of h body other = For (option_copied h.key) h.name.now (expr_of h.target) (nodes_of body) (nodes_of other)
 
 abbrev pub tree_of : ParserOutput → Tree
 tree_of output = record { nodes = nodes_of output.nodes.items }

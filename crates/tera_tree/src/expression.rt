@@ -1,4 +1,5 @@
-// Expressions.
+// Expressions. They borrow names and texts from the template's source.
+use crate::quoted::Quoted;
 use tera_errors::Span;
 
 /// A sign between two operands that are both evaluated.
@@ -24,7 +25,15 @@ pub enum BinaryOperator {
 
 /// A key that is written out in a map.
 #[derive(Drop)]
-pub enum LiteralKey {
+pub enum LiteralKey<'s> {
+    Bool(bool),
+    Int(i128),
+    Text(Quoted<'s>),
+}
+
+/// The same with a text of its own, for what outlives the source.
+#[derive(Drop)]
+pub enum OwnedKey {
     Bool(bool),
     Int(i128),
     Text(String),
@@ -32,7 +41,7 @@ pub enum LiteralKey {
 
 /// An expression. Its span runs from the first token's start to the last one's end; parentheses around it are no part of it.
 #[cycle(expression)]
-pub enum Expression {
+pub enum Expression<'s> {
     None {
         span: Span,
     },
@@ -45,85 +54,85 @@ pub enum Expression {
         span: Span,
     },
     Text {
-        text: String,
+        text: Quoted<'s>,
         span: Span,
     },
     /// A name, looked up where the template is rendered.
     Name {
-        name: String,
+        name: &'s str,
         span: Span,
     },
     /// `target.name`, or `target?.name` where it is optional.
     Attribute {
-        target: Box<Expression>,
-        name: String,
+        target: Box<Expression<'s>>,
+        name: &'s str,
         optional: bool,
         span: Span,
     },
     /// `target[index]`, or `target?[index]` where it is optional.
     Index {
-        target: Box<Expression>,
-        index: Box<Expression>,
+        target: Box<Expression<'s>>,
+        index: Box<Expression<'s>>,
         optional: bool,
         span: Span,
     },
     /// `target[start:end:step]`, or the same with `?[` where it is optional.
     Slice {
-        target: Box<Expression>,
-        bounds: Box<Bounds>,
+        target: Box<Expression<'s>>,
+        bounds: Box<Bounds<'s>>,
         optional: bool,
         span: Span,
     },
     Not {
-        operand: Box<Expression>,
+        operand: Box<Expression<'s>>,
         span: Span,
     },
     Negate {
-        operand: Box<Expression>,
+        operand: Box<Expression<'s>>,
         span: Span,
     },
     Binary {
         operator: BinaryOperator,
-        left: Box<Expression>,
-        right: Box<Expression>,
+        left: Box<Expression<'s>>,
+        right: Box<Expression<'s>>,
         span: Span,
     },
     And {
-        left: Box<Expression>,
-        right: Box<Expression>,
+        left: Box<Expression<'s>>,
+        right: Box<Expression<'s>>,
         span: Span,
     },
     Or {
-        left: Box<Expression>,
-        right: Box<Expression>,
+        left: Box<Expression<'s>>,
+        right: Box<Expression<'s>>,
         span: Span,
     },
     /// `value if condition else other`
     Ternary {
-        value: Box<Expression>,
-        condition: Box<Expression>,
-        other: Box<Expression>,
+        value: Box<Expression<'s>>,
+        condition: Box<Expression<'s>>,
+        other: Box<Expression<'s>>,
         span: Span,
     },
     Array {
-        items: Vec<Item>,
+        items: Vec<Item<'s>>,
         span: Span,
     },
     Map {
-        entries: Vec<Entry>,
+        entries: Vec<Entry<'s>>,
         span: Span,
     },
     /// `[value for name in target if condition]`
     Comprehension {
-        value: Box<Expression>,
-        heading: Box<Heading>,
-        condition: Option<Box<Expression>>,
+        value: Box<Expression<'s>>,
+        heading: Box<Heading<'s>>,
+        condition: Option<Box<Expression<'s>>>,
         span: Span,
     },
 }
 
 // By hand, so that a tree that goes out of scope is one call and not a match on every form.
-impl Drop for Expression {
+impl<'s> Drop for Expression<'s> {
     #[cycle(dropping)]
     fn drop(self) {
         match self {
@@ -198,38 +207,38 @@ impl Drop for Expression {
 /// An item of an array, or an array whose items are spread into it.
 #[derive(Drop)]
 #[cycle(expression)]
-pub struct Item {
+pub struct Item<'s> {
     pub is_spread: bool,
-    pub value: Expression,
+    pub value: Expression<'s>,
 }
 
 /// An entry of a map; without a key, a map whose entries are spread into it.
 #[derive(Drop)]
 #[cycle(expression)]
-pub struct Entry {
-    pub key: Option<LiteralKey>,
-    pub value: Expression,
+pub struct Entry<'s> {
+    pub key: Option<LiteralKey<'s>>,
+    pub value: Expression<'s>,
 }
 
 /// The bounds of a slice, as far as they are written.
 #[derive(Drop)]
 #[cycle(expression)]
-pub struct Bounds {
-    pub start: Option<Box<Expression>>,
-    pub end: Option<Box<Expression>>,
-    pub step: Option<Box<Expression>>,
+pub struct Bounds<'s> {
+    pub start: Option<Box<Expression<'s>>>,
+    pub end: Option<Box<Expression<'s>>>,
+    pub step: Option<Box<Expression<'s>>>,
 }
 
 /// What a loop calls its items and what it goes over: `name in target`, or `key, name in target`.
 #[cycle(expression)]
-pub struct Heading {
-    pub key: Option<String>,
-    pub name: String,
-    pub target: Expression,
+pub struct Heading<'s> {
+    pub key: Option<&'s str>,
+    pub name: &'s str,
+    pub target: Expression<'s>,
 }
 
 // By hand, so that headings that go out of scope are one call.
-impl Drop for Heading {
+impl<'s> Drop for Heading<'s> {
     #[cycle(dropping)]
     fn drop(self) {
         let Heading { key, name, target } = self;

@@ -5,7 +5,11 @@ pub mod delimiters;
 pub mod expression;
 pub mod make;
 pub mod node;
+pub mod quoted;
 
 pub use delimiters::Delimiters;
-pub use expression::{BinaryOperator, Bounds, Entry, Expression, Heading, Item, LiteralKey};
+pub use expression::{
+    BinaryOperator, Bounds, Entry, Expression, Heading, Item, LiteralKey, OwnedKey,
+};
 pub use node::{Node, ParserOutput};
+pub use quoted::Quoted;

@@ -1,5 +1,5 @@
 // Trees from their parts.
-ghost use Rattle.std.specs.Prelude.{◌≡◌, string_bytes};
+ghost use Rattle.std.specs.Prelude.{◌≡◌};
 ghost use Rattle.tera_tree.specs.Tree.{Attribute, Index, Not, Negate, Binary, And, Or, Ternary, Array, Map, If, Set, Capture};
 ghost use Rattle.tera_tree.specs.View.{expr_of, slice_of, comprehension_of, items_of, entries_of, node_of, nodes_of, for_of};
 
@@ -7,15 +7,15 @@ use crate::expression::{BinaryOperator, Bounds, Entry, Expression, Heading, Item
 use crate::node::Node;
 use tera_errors::Span;
 
-impl Expression {
+impl<'s> Expression<'s> {
     /// `target.name`, or `target?.name` where it is optional.
     pub fn attribute(
-        target: Box<Expression>,
-        name: String,
+        target: Box<Expression<'s>>,
+        name: &'s str,
         optional: bool,
         span: Span,
-    ) -> Expression
-        ensures { expr_of result ≡ Attribute (expr_of target.value) (string_bytes name)
+    ) -> Expression<'s>
+        ensures { expr_of result ≡ Attribute (expr_of target.entry.value) name.now
             optional span }
     {
         Expression::Attribute {
@@ -28,12 +28,12 @@ impl Expression {
 
     /// `target[index]`, or `target?[index]` where it is optional.
     pub fn index(
-        target: Box<Expression>,
-        index: Box<Expression>,
+        target: Box<Expression<'s>>,
+        index: Box<Expression<'s>>,
         optional: bool,
         span: Span,
-    ) -> Expression
-        ensures { expr_of result ≡ Index (expr_of target.value) (expr_of index.value)
+    ) -> Expression<'s>
+        ensures { expr_of result ≡ Index (expr_of target.entry.value) (expr_of index.entry.value)
             optional span }
     {
         Expression::Index {
@@ -46,12 +46,12 @@ impl Expression {
 
     /// The bounds are those that are written, each in its place.
     pub fn slice(
-        target: Box<Expression>,
-        bounds: Box<Bounds>,
+        target: Box<Expression<'s>>,
+        bounds: Box<Bounds<'s>>,
         optional: bool,
         span: Span,
-    ) -> Expression
-        ensures { expr_of result ≡ slice_of target.value bounds.value optional span }
+    ) -> Expression<'s>
+        ensures { expr_of result ≡ slice_of target.entry.value bounds.entry.value optional span }
     {
         Expression::Slice {
             target,
@@ -62,15 +62,15 @@ impl Expression {
     }
 
     /// `not operand`
-    pub fn not(operand: Box<Expression>, span: Span) -> Expression
-        ensures { expr_of result ≡ Not (expr_of operand.value) span }
+    pub fn not(operand: Box<Expression<'s>>, span: Span) -> Expression<'s>
+        ensures { expr_of result ≡ Not (expr_of operand.entry.value) span }
     {
         Expression::Not { operand, span }
     }
 
     /// `-operand`
-    pub fn negate(operand: Box<Expression>, span: Span) -> Expression
-        ensures { expr_of result ≡ Negate (expr_of operand.value) span }
+    pub fn negate(operand: Box<Expression<'s>>, span: Span) -> Expression<'s>
+        ensures { expr_of result ≡ Negate (expr_of operand.entry.value) span }
     {
         Expression::Negate { operand, span }
     }
@@ -78,11 +78,11 @@ impl Expression {
     /// The operator between two operands.
     pub fn binary(
         operator: BinaryOperator,
-        left: Box<Expression>,
-        right: Box<Expression>,
+        left: Box<Expression<'s>>,
+        right: Box<Expression<'s>>,
         span: Span,
-    ) -> Expression
-        ensures { expr_of result ≡ Binary operator (expr_of left.value) (expr_of right.value)
+    ) -> Expression<'s>
+        ensures { expr_of result ≡ Binary operator (expr_of left.entry.value) (expr_of right.entry.value)
             span }
     {
         Expression::Binary {
@@ -94,28 +94,28 @@ impl Expression {
     }
 
     /// `left and right`
-    pub fn and(left: Box<Expression>, right: Box<Expression>, span: Span) -> Expression
-        ensures { expr_of result ≡ And (expr_of left.value) (expr_of right.value) span }
+    pub fn and(left: Box<Expression<'s>>, right: Box<Expression<'s>>, span: Span) -> Expression<'s>
+        ensures { expr_of result ≡ And (expr_of left.entry.value) (expr_of right.entry.value) span }
     {
         Expression::And { left, right, span }
     }
 
     /// `left or right`
-    pub fn or(left: Box<Expression>, right: Box<Expression>, span: Span) -> Expression
-        ensures { expr_of result ≡ Or (expr_of left.value) (expr_of right.value) span }
+    pub fn or(left: Box<Expression<'s>>, right: Box<Expression<'s>>, span: Span) -> Expression<'s>
+        ensures { expr_of result ≡ Or (expr_of left.entry.value) (expr_of right.entry.value) span }
     {
         Expression::Or { left, right, span }
     }
 
     /// `value if condition else other`
     pub fn ternary(
-        value: Box<Expression>,
-        condition: Box<Expression>,
-        other: Box<Expression>,
+        value: Box<Expression<'s>>,
+        condition: Box<Expression<'s>>,
+        other: Box<Expression<'s>>,
         span: Span,
-    ) -> Expression
-        ensures { expr_of result ≡ Ternary (expr_of value.value) (expr_of condition.value)
-            (expr_of other.value) span }
+    ) -> Expression<'s>
+        ensures { expr_of result ≡ Ternary (expr_of value.entry.value) (expr_of condition.entry.value)
+            (expr_of other.entry.value) span }
     {
         Expression::Ternary {
             value,
@@ -126,27 +126,27 @@ impl Expression {
     }
 
     /// `[item, ..]`
-    pub fn array(items: Vec<Item>, span: Span) -> Expression
-        ensures { expr_of result ≡ Array (items_of items.items) span }
+    pub fn array(items: Vec<Item<'s>>, span: Span) -> Expression<'s>
+        ensures { expr_of result ≡ Array (items_of items.entry.items) span }
     {
         Expression::Array { items, span }
     }
 
     /// `{key: value, ..}`
-    pub fn map(entries: Vec<Entry>, span: Span) -> Expression
-        ensures { expr_of result ≡ Map (entries_of entries.items) span }
+    pub fn map(entries: Vec<Entry<'s>>, span: Span) -> Expression<'s>
+        ensures { expr_of result ≡ Map (entries_of entries.entry.items) span }
     {
         Expression::Map { entries, span }
     }
 
     /// `[value for heading if condition]`
     pub fn comprehension(
-        value: Box<Expression>,
-        heading: Box<Heading>,
-        condition: Option<Box<Expression>>,
+        value: Box<Expression<'s>>,
+        heading: Box<Heading<'s>>,
+        condition: Option<Box<Expression<'s>>>,
         span: Span,
-    ) -> Expression
-        ensures { expr_of result ≡ comprehension_of value.value heading.value condition span }
+    ) -> Expression<'s>
+        ensures { expr_of result ≡ comprehension_of value.entry.value heading.entry.value condition.entry span }
     {
         Expression::Comprehension {
             value,
@@ -157,12 +157,16 @@ impl Expression {
     }
 }
 
-impl Node {
+impl<'s> Node<'s> {
     /// `{% if condition %}body{% else %}other{% endif %}`
     #[tactic(auto, using(crate::proofs::Views::view_if))]
-    pub fn choice(condition: Box<Expression>, body: Vec<Node>, other: Vec<Node>) -> Node
-        ensures { node_of result ≡ If (expr_of condition.value) (nodes_of body.items)
-            (nodes_of other.items) }
+    pub fn choice(
+        condition: Box<Expression<'s>>,
+        body: Vec<Node<'s>>,
+        other: Vec<Node<'s>>,
+    ) -> Node<'s>
+        ensures { node_of result ≡ If (expr_of condition.entry.value) (nodes_of body.entry.items)
+            (nodes_of other.entry.items) }
     {
         Node::If {
             condition,
@@ -172,8 +176,8 @@ impl Node {
     }
 
     /// `{% set name = value %}`, or `{% set_global name = value %}` where it is global.
-    pub fn set(name: String, value: Box<Expression>, is_global: bool) -> Node
-        ensures { node_of result ≡ Set (string_bytes name) (expr_of value.value) is_global }
+    pub fn set(name: &'s str, value: Box<Expression<'s>>, is_global: bool) -> Node<'s>
+        ensures { node_of result ≡ Set name.now (expr_of value.entry.value) is_global }
     {
         Node::Set {
             name,
@@ -183,8 +187,8 @@ impl Node {
     }
 
     /// `{% set name %}body{% endset %}`, or the same with `set_global` where it is global.
-    pub fn capture(name: String, body: Vec<Node>, is_global: bool) -> Node
-        ensures { node_of result ≡ Capture (string_bytes name) (nodes_of body.items) is_global }
+    pub fn capture(name: &'s str, body: Vec<Node<'s>>, is_global: bool) -> Node<'s>
+        ensures { node_of result ≡ Capture name.now (nodes_of body.entry.items) is_global }
     {
         Node::Capture {
             name,
@@ -195,8 +199,8 @@ impl Node {
 
     /// `{% for heading %}body{% else %}other{% endfor %}`
     #[tactic(auto, using(crate::proofs::Views::view_for))]
-    pub fn each(heading: Box<Heading>, body: Vec<Node>, other: Vec<Node>) -> Node
-        ensures { node_of result ≡ for_of heading.value body.items other.items }
+    pub fn each(heading: Box<Heading<'s>>, body: Vec<Node<'s>>, other: Vec<Node<'s>>) -> Node<'s>
+        ensures { node_of result ≡ for_of heading.entry.value body.entry.items other.entry.items }
     {
         Node::For {
             heading,

@@ -1,41 +1,41 @@
-// Nodes of a template.
+// Nodes of a template. They borrow names and texts from its source.
 use crate::expression::{Expression, Heading};
 use tera_errors::Span;
 
 /// A node of a template: a piece of its text, or a tag with what belongs to it.
-pub enum Node {
+pub enum Node<'s> {
     /// Text that is written as it stands. The span is what it covers.
     Content {
-        text: String,
+        text: &'s str,
         span: Span,
     },
     /// `{{ value }}`
     Print {
-        value: Box<Expression>,
+        value: Box<Expression<'s>>,
     },
     /// `{% if condition %}body{% else %}other{% endif %}`; an `elif` is an `if` in the other body.
     If {
-        condition: Box<Expression>,
-        body: Vec<Node>,
-        other: Vec<Node>,
+        condition: Box<Expression<'s>>,
+        body: Vec<Node<'s>>,
+        other: Vec<Node<'s>>,
     },
     /// `{% set name = value %}`, or `{% set_global name = value %}` where it is global.
     Set {
-        name: String,
-        value: Box<Expression>,
+        name: &'s str,
+        value: Box<Expression<'s>>,
         is_global: bool,
     },
     /// `{% set name %}body{% endset %}`, or the same with `set_global` where it is global.
     Capture {
-        name: String,
-        body: Vec<Node>,
+        name: &'s str,
+        body: Vec<Node<'s>>,
         is_global: bool,
     },
     /// `{% for name in target %}body{% else %}other{% endfor %}`
     For {
-        heading: Box<Heading>,
-        body: Vec<Node>,
-        other: Vec<Node>,
+        heading: Box<Heading<'s>>,
+        body: Vec<Node<'s>>,
+        other: Vec<Node<'s>>,
     },
     /// `{% break %}`
     Break,
@@ -44,7 +44,7 @@ pub enum Node {
 }
 
 // By hand, so that nodes that go out of scope are one call.
-impl Drop for Node {
+impl<'s> Drop for Node<'s> {
     fn drop(self) {
         match self {
             Node::Content { text: _, span: _ } => {}
@@ -75,12 +75,12 @@ impl Drop for Node {
     }
 }
 
-/// What the reader makes of a text.
-pub struct ParserOutput {
-    pub nodes: Vec<Node>,
+/// What the reader makes of a text, from which it borrows.
+pub struct ParserOutput<'s> {
+    pub nodes: Vec<Node<'s>>,
 }
 
-impl Drop for ParserOutput {
+impl<'s> Drop for ParserOutput<'s> {
     fn drop(self) {
         let ParserOutput { nodes } = self;
         drop(nodes);

@@ -5,7 +5,7 @@ use crate::sample::Sample::{Int, Ints, Nothing, Pairs, Safe, Text, Truth, Undefi
 use crate::sample::{Sample, value};
 use std::alloc::Global;
 use tera_operators::{Operand, array, attribute, binary, item, map, negative, not, slice};
-use tera_tree::{BinaryOperator as Op, LiteralKey};
+use tera_tree::{BinaryOperator as Op, OwnedKey};
 use tera_values::{Error, ErrorKind, Shape, Span, TeraResult};
 
 const NODE: Span = Span { start: 1, end: 99 };
@@ -334,19 +334,19 @@ fn spells_array(
     }
 }
 
-fn push_key(keys: &mut Vec<Option<LiteralKey>>, alloc: Global, name: &str) -> bool {
+fn push_key(keys: &mut Vec<Option<OwnedKey>>, alloc: Global, name: &str) -> bool {
     if name.is_empty() {
         return keys.push(None).is_ok();
     }
     match String::from_str(alloc, name) {
-        Ok(name) => keys.push(Some(LiteralKey::Text(name))).is_ok(),
+        Ok(name) => keys.push(Some(OwnedKey::Text(name))).is_ok(),
         Err(_) => false,
     }
 }
 
 fn maps_to(
     alloc: Global,
-    keys: &[Option<LiteralKey>],
+    keys: &[Option<OwnedKey>],
     operands: Option<Vec<Operand>>,
     want: &str,
 ) -> bool {

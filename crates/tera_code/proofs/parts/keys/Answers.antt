@@ -4,4 +4,4 @@ use Rattle.tera_code.proofs.parts.keys.Goals as goal
 
 pub loop-entry-preserved : goal.loop-entry-preserved
 loop-entry-preserved c =
-    keys_more _ _ c.in_ok-copied.field-0 c.entry-item.result _ _ _ c.in_ok-push.ensures.items c.in_ok-copied.ensures (drop-here c.args.entries.now c.loop-entry.entry-index c.entry-item.result c.loop-entry-test.true c.entry-item.is) c.loop-entry.invariant
+    keys_more _ _ c.in_ok-owned.field-0 c.entry-item.result _ _ _ c.in_ok-push.ensures.items c.in_ok-owned.ensures (drop-here c.args.entries.now c.loop-entry.entry-index c.entry-item.result c.loop-entry-test.true c.entry-item.is) c.loop-entry.invariant

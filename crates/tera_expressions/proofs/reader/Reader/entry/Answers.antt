@@ -1,5 +1,5 @@
 use Rattle.std.proofs.Common.{ap, ◌∙◌, refl}
-use Rattle.tera_tree.specs.View.{entries_of, key_option, expr_of}
+use Rattle.tera_tree.specs.View.{entries_of, literal_option, expr_of}
 use Rattle.tera_tokens.specs.Takes.{input}
 use Rattle.tera_expressions.specs.Expressions.{join_entries, one_entry}
 use Rattle.tera_expressions.specs.Parts.{deep_of}
@@ -8,12 +8,12 @@ use Rattle.tera_expressions.proofs.reader.Reader.entry.Goals as goal
 
 pub returns : goal.returns
 returns g c = (
-  key_option c.in-Ok.key,
+  literal_option c.in-Ok.key,
   input c.entry_key.new.tokens,
   deep_of c.in-Ok-sub.x,
   c.in-Ok.ensures,
   c.in-Ok-sub.ensures,
   refl,
   ap entries_of c.in_ok-push.ensures.items ∙ entries_of-push c.args.found.now.items _
-      ∙ ap (λ e. join_entries (entries_of c.args.found.now.items) (one_entry (key_option c.in-Ok.key) (expr_of e))) c.into_inner.ensures,
+      ∙ ap (λ e. join_entries (entries_of c.args.found.now.items) (one_entry (literal_option c.in-Ok.key) (expr_of e))) c.into_inner.ensures,
 )

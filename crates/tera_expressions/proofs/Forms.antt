@@ -12,13 +12,13 @@ use Rattle.tera_tokens.specs.Input.{Input, Parser, same, kind, start, text, next
 use Rattle.tera_tokens.specs.Literal.{integer, literal}
 use Rattle.tera_expressions.specs.Keys.{key_at}
 use Rattle.tera_expressions.specs.Grammar.{Operator, or, and, equal, not_equal, less, greater, less_or_equal, greater_or_equal, is_in, concat, add, subtract, multiply, divide, floor_divide, remainder, Dot, dot, optional_dot, Bracket, bracket, optional_bracket}
-use Rattle.tera_expressions.specs.Headings.{Calls, value, key_and_value, calls, calls_behind, called}
-use Rattle.tera_expressions.specs.Headings as headings
+use Rattle.tera_expressions.specs.Headings.{Calls}
 use Rattle.tera_expressions.specs.Expressions as r
 use Rattle.tera_expressions.specs.Expressions.{Deep, deep, expr, node, prefixed, infixed, applied, behind_dots, join_items, one_item, join_entries}
 use Rattle.tera_expressions.proofs.Steps as steps
 use Rattle.tera_expressions.proofs.Steps.{differ, unlike, alike}
 use Rattle.tera_expressions.proofs.Extent.{key-kind}
+use Rattle.tera_expressions.proofs.Calls.{calls-is}
 use Rattle.tera_expressions.proofs.Precedence.{and-false}
 
 pub deep-node : (limit d : ℕ) (x : Expr) (j : Input) → suc d ≤ limit → depth x ≡ suc d → node limit d x j ≡ Some (deep x, j)
@@ -163,12 +163,6 @@ module _ (limit : ℕ) (part : ℕ → Parser Deep) where
   pub condition-is : (x : Expr) (i a : Input) → kind i ≡ k.If → part 1 (next i) ≡ Some (deep x, a) → r.condition limit part i ≡ Some ((Present x, depth x), a)
   unfolding r.condition
   condition-is x i a h e = rw (alike k.If (kind i) h, e) refl
-
-  pub calls-is : {key : Option site.Name} {name : site.Name} {i j : Input} → Calls key name i j → calls i ≡ Some ((key, name), j)
-  unfolding calls headings.name calls_behind called
-  calls-is (value {i = i} h) = rw (alike k.Name (kind i) h.0, differ k.Comma k.In (kind (next i)) h.1 (λ e. cc), expects limit part k.In (next i) h.1) refl
-  calls-is (key_and_value {i = i} h g) =
-      rw (alike k.Name (kind i) h.0, alike k.Comma (kind (next i)) h.1, alike k.Name (kind (next (next i))) g.0, expects limit part k.In (next (next (next i))) g.1) refl
 
   pub comprehension-is : (x y : Expr) (key : Option site.Name) (name : site.Name) (o : Optional) (i a b c d : Input) → (kind (next i) ≡ k.RightBracket → ⊥) → same k.Spread (kind (next i)) ≡ false
       → part 0 (next i) ≡ Some (deep x, a) → kind a ≡ k.For → Calls key name (next a) b → part 1 b ≡ Some (deep y, c) → r.condition limit part c ≡ Some ((o, optional_depth o), d) → kind d ≡ k.RightBracket

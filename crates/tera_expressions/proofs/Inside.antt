@@ -8,8 +8,7 @@ use Rattle.tera_tokens.specs.declared.token.Kind.TheVariants as k
 use Rattle.tera_tokens.specs.Input.{Input, kind, start, next, span}
 use Rattle.tera_tokens.proofs.Order.{Orderly, Onward, onward_none, onward_then, onward_next, start_le, in_order-le}
 use Rattle.tera_expressions.specs.Grammar.{Operator, or, and, equal, not_equal, less, greater, less_or_equal, greater_or_equal, is_in, concat, add, subtract, multiply, divide, floor_divide, remainder, Derives, quoted, tighter, choice, operation, not, not_in, minus, power, attribute, index, slice, DerivesPart, absent, present, DerivesStep, no_step, step, int, is_true, is_false, nothing, name, of_loop, parentheses, array, map, DerivesEntry, keyed, spread_map, DerivesEntries, no_entries, one_entry, more_entries, DerivesItem, plain, spread, DerivesItems, none, one, more, comprehension, DerivesCondition, no_condition, condition}
-use Rattle.tera_expressions.specs.Headings.{Calls, value, key_and_value}
-use Rattle.tera_errors.specs.Site as site
+use Rattle.tera_expressions.proofs.Calls.{calls_lie}
 
 -- what was read between two places, in order, lies inside
 pub record Read (size : ℕ) (P : Type 0) (i j : Input) : Type 0 where
@@ -63,14 +62,6 @@ module _ (size : ℕ) where
 
   past : (i : Input) → Orderly size i → Onward size i (next i)
   past i o = onward_next size i o
-
-  called : {key : Option site.Name} {name : site.Name} {i j : Input} → Calls key name i j → Orderly size i → Onward size i j
-  called (value {i = i} h) o = let n = past i o in onward_then n (past (next i) n.orderly)
-  called (key_and_value {i = i} h g) o =
-      let n = past i o in
-      let m = past (next i) n.orderly in
-      let p = past (next (next i)) m.orderly in
-      onward_then n (onward_then m (onward_then p (past (next (next (next i))) p.orderly)))
 
   mutual
     pub expr_lies : {l : ℕ} {x : Expr} {i j : Input} → Derives l x i j → Orderly size i → Lies size x i j
@@ -144,7 +135,7 @@ module _ (size : ℕ) where
     expr_lies (comprehension {i = i} {a = a} {d = e} h d f c t q g) o =
         let p = expr_lies d (past i o).orderly in
         let n = past a p.onward.orderly in
-        let m = called c n.orderly in
+        let m = calls_lie size c n.orderly in
         let r = expr_lies t m.orderly in
         let s = condition_lies q r.onward.orderly in
         begins k.LeftBracket i h (λ e. cc) o (onward_then p.onward (onward_then n (onward_then m (onward_then r.onward (onward_then s.onward (past e s.onward.orderly))))))

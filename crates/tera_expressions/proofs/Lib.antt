@@ -2,6 +2,7 @@ pub mod Turns
 pub mod Steps
 pub mod Precedence
 pub mod Rows
+pub mod Calls
 pub mod Sound
 pub mod Extent
 pub mod Forms

@@ -14,11 +14,11 @@ use Rattle.tera_tokens.specs.Literal.{integer, literal}
 use Rattle.tera_expressions.specs.Keys.{key_at}
 use Rattle.tera_expressions.specs.Loops.{loop_name, behind_loop}
 use Rattle.tera_expressions.specs.Grammar.{Operator, or, and, equal, not_equal, less, greater, less_or_equal, greater_or_equal, is_in, concat, add, subtract, multiply, divide, floor_divide, remainder, Dot, dot, optional_dot, Bracket, bracket, optional_bracket, Derives, quoted, tighter, choice, operation, not, not_in, minus, power, attribute, index, slice, DerivesPart, absent, present, DerivesStep, no_step, step, int, is_true, is_false, nothing, name, of_loop, parentheses, array, map, DerivesEntry, keyed, spread_map, DerivesEntries, no_entries, one_entry, more_entries, DerivesItem, plain, spread, DerivesItems, none, one, more, comprehension, DerivesCondition, no_condition, condition}
-use Rattle.tera_expressions.specs.Headings.{Calls, value, key_and_value, calls, calls_behind, called}
-use Rattle.tera_expressions.specs.Headings as headings
+use Rattle.tera_expressions.specs.Headings.{Calls, calls}
 use Rattle.tera_expressions.specs.Expressions as r
 use Rattle.tera_expressions.specs.Expressions.{Deep, deep, needs, gives, begins, goes_on, floor_in, opened, climb, level, level_with, expr, head, node, prefixed, infixed, applied, behind_dots, join_items, one_item, join_entries}
 use Rattle.tera_expressions.proofs.Precedence.{gives-below, on-means, operator-depth}
+use Rattle.tera_expressions.proofs.Calls.{calls-got}
 use Rattle.tera_expressions.proofs.Rows.{join-none, join-join, join-no-entries, join-entries}
 use Rattle.tera_expressions.proofs.Steps.{and_then-some, guard, chosen, same-is, expect-some, some-pair, either, same-value, node-got}
 
@@ -95,9 +95,6 @@ an-entry-more : (found : Entries) (s : Option Key) (x : Expr) (d : ℕ) (i a j :
     → GotEntries found d i z j
 an-entry-more found s x d i a j z p h (got_entries {xs = xs} q g e f) = got_entries (more_entries p h q) g (e ∙ join-entries found (r.one_entry s x) xs) (omega arith)
 
-abbrev at-names : Option site.Name × site.Name → Input → Option ((Option site.Name × site.Name) × Input)
-at-names names i = Some (names, i)
-
 abbrev at-key : Option Key → Input → Option (Option Key × Input)
 at-key key i = Some (key, i)
 
@@ -125,38 +122,6 @@ entry_key-got i m key h =
 item-at : (t : Bool) (x : Expr) (i a : Input) → same k.Spread (kind i) ≡ t → Derives 0 x (if t then next i else i) a → DerivesItem t x i a
 item-at true x i a e d = spread (same-is k.Spread (kind i) e) d
 item-at false x i a e d = plain d
-
-called-got : (key : Option site.Name) (n : site.Name) (i j : Input) (z : Option site.Name × site.Name) → called key n i ≡ Some (z, j) → (kind i ≡ k.In) × (key ≡ z.0) × (n ≡ z.1) × (next i ≡ j)
-unfolding called
-called-got key n i j z h =
-    let q = and_then-some (expect k.In i) (λ _. λ j. at-names (key, n) j) (z, j) h in
-    let u = expect-some k.In i q.1 q.0 q.2 in
-    let e = some-pair ((key, n), q.1) (z, j) q.3 in
-    (u.0, ap (λ p. p.0) e.0, ap (λ p. p.1) e.0, sym u.1 ∙ e.1)
-
-calls-got : (i j : Input) (z : Option site.Name × site.Name) → calls i ≡ Some (z, j) → Calls z.0 z.1 i j
-unfolding calls headings.name calls_behind
-calls-got i j z h =
-    let g = guard (same k.Name (kind i)) (calls_behind (text i) (next i)) (z, j) (go (same k.Name (kind i)) h) in
-    let ni = same-is k.Name (kind i) g.0 in
-    either (chosen (same k.Comma (kind (next i))) (and_then (headings.name (next (next i))) (called (Some (text i)))) (called None (text i) (next i)) (Some (z, j)) g.1)
-    (λ q. let w = guard (same k.Name (kind (next (next i)))) (called (Some (text i)) (text (next (next i))) (next (next (next i)))) (z, j)
-    (two (same k.Name (kind (next (next i)))) q.1) in
-    let c = called-got (Some (text i)) (text (next (next i))) (next (next (next i))) j z w.1 in
-    put c.1 c.2 c.3 (key_and_value (ni, same-is k.Comma (kind (next i)) q.0) (same-is k.Name (kind (next (next i))) w.0, c.0)))
-    (λ q. let c = called-got None (text i) (next i) j z q.1 in put c.1 c.2 c.3 (value (ni, c.0)))
-  where
-    go : (t : Bool) → and_then (if t then Some (text i, next i) else None) calls_behind ≡ Some (z, j) → (if t then calls_behind (text i) (next i) else None) ≡ Some (z, j)
-    go true h = h
-    go false h = cc
-
-    two : (t : Bool) → and_then (if t then Some (text (next (next i)), next (next (next i))) else None) (called (Some (text i))) ≡ Some (z, j)
-        → (if t then called (Some (text i)) (text (next (next i))) (next (next (next i))) else None) ≡ Some (z, j)
-    two true h = h
-    two false h = cc
-
-    put : {key : Option site.Name} {n : site.Name} {a : Input} → key ≡ z.0 → n ≡ z.1 → a ≡ j → Calls key n i a → Calls z.0 z.1 i j
-    put {key} {n} {a} e f g w = subst (λ j. Calls z.0 z.1 i j) g (subst (λ n. Calls z.0 n i a) f (subst (λ key. Calls key n i a) e w))
 
 abbrev some-part : Optional × ℕ → Input → Option ((Optional × ℕ) × Input)
 some-part z i = Some (z, i)

@@ -1,5 +1,5 @@
 -- All spans of a tree lie inside the text that spells it.
-use Rattle.std.proofs.Common.{ℕ, List, Bool, Option, length, IsTrue}
+use Rattle.std.proofs.Common.{ℕ, List, Bool, length, IsTrue}
 use Rattle.std.specs.Str.{IsUtf8}
 use Rattle.tera_errors.specs.Site.{Name, Text}
 use Rattle.tera_tree.specs.Delimiters.{delimiters_of, accepted}
@@ -11,9 +11,10 @@ use Rattle.tera_tokens.specs.Input.{Input, begin, next}
 use Rattle.tera_tokens.specs.Cut.{Piece}
 use Rattle.tera_tokens.proofs.Order.{InOrder, Orderly, onward_next}
 use Rattle.tera_tokens.proofs.Stretches.{PiecesInside, pieces_inside}
+use Rattle.tera_expressions.proofs.Calls.{calls_lie}
 use Rattle.tera_expressions.proofs.Inside.{expr_lies}
 use Rattle.tera_syntax.specs.Heads.{Head, IfHead, ForHead, SetHead, make}
-use Rattle.tera_syntax.specs.Grammar.{DerivesWhole, whole, Calls, value, key_and_value, Simple, set, breaks, continues, Opens, choice, loop, capture, GoesOn, elif, DerivesNodes, empty, content, blank, comment, print, single, bodied, DerivesRest, ended, split, chained}
+use Rattle.tera_syntax.specs.Grammar.{DerivesWhole, whole, Simple, set, breaks, continues, Opens, choice, loop, capture, GoesOn, elif, DerivesNodes, empty, content, blank, comment, print, single, bodied, DerivesRest, ended, split, chained}
 use Rattle.tera_syntax.specs.Spells.{Spells}
 
 -- nodes that were read between two places lie inside, and so do the pieces that are left
@@ -30,10 +31,6 @@ behind size i o = (onward_next size i o).orderly
 behind_two : (size : ℕ) (i : Input) → Orderly size i → Orderly size (next (next i))
 behind_two size i o = behind size (next i) (behind size i o)
 
-calls_lie : (size : ℕ) {key : Option Name} {name : Name} {i j : Input} → Calls key name i j → Orderly size i → Orderly size j
-calls_lie size {i = i} (value n) o = behind_two size i o
-calls_lie size {i = i} (key_and_value n m) o = behind_two size (next (next i)) (behind_two size i o)
-
 simple_inside : (size : ℕ) {q : Bool} {node : Node} {tokens : List Token} → Simple q node tokens → InOrder size 0 tokens → NodeInside size node
 simple_inside size {q = q} {tokens = tokens} (set b n w) o = whole_inside size w (behind_two size (next (begin q tokens)) (behind size (begin q tokens) o))
 simple_inside size (breaks l w) o = tt
@@ -47,7 +44,7 @@ HeadInside size (SetHead n is_global) = Unit {0}
 
 opens_inside : (size : ℕ) {q : Bool} {head : Head} {tokens : List Token} → Opens q head tokens → InOrder size 0 tokens → HeadInside size head
 opens_inside size {q = q} {tokens = tokens} (choice e w) o = whole_inside size w (behind size (begin q tokens) o)
-opens_inside size {q = q} {tokens = tokens} (loop e c w) o = whole_inside size w (calls_lie size c (behind size (begin q tokens) o))
+opens_inside size {q = q} {tokens = tokens} (loop e c w) o = let n = calls_lie size c (behind size (begin q tokens) o) in whole_inside size w n.orderly
 opens_inside size (capture b n) o = tt
 
 goes_on_inside : (size : ℕ) {q : Bool} {head : Head} {tokens : List Token} → GoesOn q head tokens → InOrder size 0 tokens → HeadInside size head

@@ -1,5 +1,6 @@
 pub mod Rows
 pub mod Whole
+pub mod Words
 pub mod OneTag
 pub mod Complete
 pub mod Sound

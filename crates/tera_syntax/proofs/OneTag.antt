@@ -6,14 +6,16 @@ use Rattle.tera_errors.specs.Site.{Text, Name}
 use Rattle.tera_tokens.specs.declared.token.Kind.{Kind}
 use Rattle.tera_tokens.specs.declared.token.Kind.TheVariants as k
 use Rattle.tera_tokens.specs.Token.{Token}
-use Rattle.tera_tokens.specs.Input.{Input, begin, kind, text, next, same}
+use Rattle.tera_tokens.specs.Input.{Input, Outcome, begin, kind, text, next, same}
 use Rattle.tera_tokens.specs.Cut.{is_alone}
 use Rattle.tera_tree.specs.Tree.{Expr, Node, Set, Break, Continue}
 use Rattle.tera_tree.specs.Depth.{depth, node_depth}
+use Rattle.tera_expressions.specs.Headings.{Names, calls}
+use Rattle.tera_expressions.proofs.Calls.{calls-got, calls-is}
 use Rattle.tera_expressions.proofs.Steps.{guard, same-is, same-refl}
 use Rattle.tera_syntax.specs.Heads.{Head, IfHead, ForHead, SetHead, head_depth, is_end, first, ends}
-use Rattle.tera_syntax.specs.Grammar.{DerivesWhole, IsWord, Begins, Names, Calls, value, key_and_value, set_word, Simple, set, breaks, continues, Opens, choice, loop, capture, GoesOn, elif}
-use Rattle.tera_syntax.specs.Reader.{Tag, Single, Opening, GoingOn, Turning, Closing, looped, keyed, keyed_by, looping, looping_by, setting, setting_by, alone, leaving, named, tag_by, tag, whole}
+use Rattle.tera_syntax.specs.Grammar.{DerivesWhole, IsWord, Begins, set_word, Simple, set, breaks, continues, Opens, choice, loop, capture, GoesOn, elif}
+use Rattle.tera_syntax.specs.Reader.{Tag, Single, Opening, GoingOn, Turning, Closing, looping_by, setting, setting_by, alone, leaving, named, tag_by, tag, whole}
 use Rattle.tera_syntax.proofs.Whole.{whole_sound, whole_complete}
 
 -- what is said of a tag with expressions no deeper than this, where it was read
@@ -65,36 +67,13 @@ module _ (limit : ℕ) (q outer : Bool) (tokens : List Token) (t : Tag) where
       let w = whole_sound limit (next (begin outer tokens)) p.0 p.1 in
       said (GoingOn (IfHead p.0)) (elif e w.0, w.1) p.2
 
-  looped-got : (key : Option Name) (name : Name) (i : Input) → first tokens ≡ k.For → Calls key name (next (begin q tokens)) i → looped limit key name i ≡ Some t → Says
-  looped-got key name i e c h =
-      let make : Expr → Tag = λ e. Opening (ForHead key name e) in
-      let p = mapped make (whole limit i) t h in
-      let w = whole_sound limit i p.0 p.1 in
-      said (make p.0) (loop e c w.0, w.1) p.2
-
-  keyed-by-got : first tokens ≡ k.For → Names (next (begin q tokens)) k.Comma → kind (next (next (next (begin q tokens)))) ≡ k.Name
-      → (s : Kind) → kind (next (next (next (next (begin q tokens))))) ≡ s
-      → keyed_by limit (text (next (begin q tokens))) (text (next (next (next (begin q tokens))))) (next (next (next (next (begin q tokens))))) s ≡ Some t → Says
-  keyed-by-got e n m k.In f h = looped-got (Some (text (next (begin q tokens)))) (text (next (next (next (begin q tokens))))) (next (next (next (next (next (begin q tokens)))))) e (key_and_value n (m, f)) h
-  keyed-by-got e n m _ f h = absurd (cc)
-
-  keyed-got : first tokens ≡ k.For → Names (next (begin q tokens)) k.Comma → keyed limit (text (next (begin q tokens))) (next (next (next (begin q tokens)))) ≡ Some t → Says
-  keyed-got e n h =
-      let i = next (next (next (begin q tokens))) in
-      let g = guard (same k.Name (kind i)) (keyed_by limit (text (next (begin q tokens))) (text i) (next i) (kind (next i))) t h in
-      keyed-by-got e n (same-is k.Name (kind i) g.0) (kind (next i)) refl g.1
-
-  looping-by-got : first tokens ≡ k.For → kind (next (begin q tokens)) ≡ k.Name → (s : Kind) → kind (next (next (begin q tokens))) ≡ s
-      → looping_by limit (text (next (begin q tokens))) (next (next (begin q tokens))) s ≡ Some t → Says
-  looping-by-got e n k.In f h = looped-got None (text (next (begin q tokens))) (next (next (next (begin q tokens)))) e (value (n, f)) h
-  looping-by-got e n k.Comma f h = keyed-got e (n, f) h
-  looping-by-got e n _ f h = absurd (cc)
-
-  for-got : first tokens ≡ k.For → looping limit (next (begin q tokens)) ≡ Some t → Says
-  for-got e h =
-      let i = next (begin q tokens) in
-      let g = guard (same k.Name (kind i)) (looping_by limit (text i) (next i) (kind (next i))) t h in
-      looping-by-got e (same-is k.Name (kind i) g.0) (kind (next i)) refl g.1
+  for-got : first tokens ≡ k.For → (o : Outcome (Option Name × Name)) → calls (next (begin q tokens)) ≡ o → looping_by limit o ≡ Some t → Says
+  for-got e None c h = absurd (cc)
+  for-got e (Some n) c h =
+      let make : Expr → Tag = λ e. Opening (ForHead n.0.0 n.0.1 e) in
+      let p = mapped make (whole limit n.1) t h in
+      let w = whole_sound limit n.1 p.0 p.1 in
+      said (make p.0) (loop e (calls-got (next (begin q tokens)) n.1 n.0 c) w.0, w.1) p.2
 
   set-by-got : (is_global : Bool) → Begins (set_word is_global) tokens → kind (next (begin q tokens)) ≡ k.Name → (s : Kind) → kind (next (next (begin q tokens))) ≡ s
       → setting_by limit is_global (text (next (begin q tokens))) (next (next (begin q tokens))) s ≡ Some t → Says
@@ -118,26 +97,26 @@ module _ (limit : ℕ) (q outer : Bool) (tokens : List Token) (t : Tag) where
       let g = guard (is_alone word tokens) (Some u) t h in
       said u (m (e, g.0)) (some-is u t g.1)
 
-  leaving-got : (word : Text) (u : Tag) → first tokens ≡ k.Name → (IsTrue q → IsWord k.Name word tokens → Meant limit q outer tokens u) → leaving q word tokens u ≡ Some t → Says
-  leaving-got word u e m h =
-      let g = guard q (alone word tokens u) t h in
-      alone-got k.Name word u e (m g.0) g.1
+  leaving-got : (word : Text) (n : Node) → first tokens ≡ k.Name → (IsTrue q → IsWord k.Name word tokens → Meant limit q outer tokens (Single n)) → leaving q word tokens n ≡ Some t → Says
+  leaving-got word n e m h =
+      let g = guard q (alone word tokens (Single n)) t h in
+      alone-got k.Name word (Single n) e (m g.0) g.1
 
   abbrev by-continue : Text → Option Tag
-  by-continue word = if bytes_eq word (codes "continue") then leaving q (codes "continue") tokens (Single Continue) else Some Closing
+  by-continue word = if bytes_eq word (codes "continue") then leaving q (codes "continue") tokens Continue else Some Closing
 
   abbrev by-break : Text → Option Tag
-  by-break word = if bytes_eq word (codes "break") then leaving q (codes "break") tokens (Single Break) else by-continue word
+  by-break word = if bytes_eq word (codes "break") then leaving q (codes "break") tokens Break else by-continue word
 
   abbrev by-set_global : Text → Option Tag
   by-set_global word = if bytes_eq word (codes "set_global") then setting limit true (next (begin q tokens)) else by-break word
 
-  continue-by : first tokens ≡ k.Name → (b : Bool) → (if b then leaving q (codes "continue") tokens (Single Continue) else Some Closing) ≡ Some t → Says
-  continue-by e true h = leaving-got (codes "continue") (Single Continue) e (λ l w. (continues l w, omega arith)) h
+  continue-by : first tokens ≡ k.Name → (b : Bool) → (if b then leaving q (codes "continue") tokens Continue else Some Closing) ≡ Some t → Says
+  continue-by e true h = leaving-got (codes "continue") Continue e (λ l w. (continues l w, omega arith)) h
   continue-by e false h = said Closing tt (some-is Closing t h)
 
-  break-by : first tokens ≡ k.Name → (word : Text) → (b : Bool) → (if b then leaving q (codes "break") tokens (Single Break) else by-continue word) ≡ Some t → Says
-  break-by e word true h = leaving-got (codes "break") (Single Break) e (λ l w. (breaks l w, omega arith)) h
+  break-by : first tokens ≡ k.Name → (word : Text) → (b : Bool) → (if b then leaving q (codes "break") tokens Break else by-continue word) ≡ Some t → Says
+  break-by e word true h = leaving-got (codes "break") Break e (λ l w. (breaks l w, omega arith)) h
   break-by e word false h = continue-by e (bytes_eq word (codes "continue")) h
 
   set_global-by : first tokens ≡ k.Name → (word : Text) → text (begin false tokens) ≡ word → (b : Bool) → bytes_eq word (codes "set_global") ≡ b
@@ -157,7 +136,7 @@ module _ (limit : ℕ) (q outer : Bool) (tokens : List Token) (t : Tag) where
   tag-by-got : (s : Kind) → first tokens ≡ s → tag_by limit q outer tokens s ≡ Some t → Says
   tag-by-got k.If e h = if-got e h
   tag-by-got k.Elif e h = elif-got e h
-  tag-by-got k.For e h = for-got e h
+  tag-by-got k.For e h = for-got e (calls (next (begin q tokens))) refl h
   tag-by-got k.Else e h = alone-got k.Else (codes "else") Turning e (λ w. w) h
   tag-by-got k.Name e h = named-got e h
   tag-by-got _ e h = absurd (cc)
@@ -185,11 +164,11 @@ module _ (limit : ℕ) (q outer : Bool) (tokens : List Token) where
   set-named true = refl
   set-named false = refl
 
-  break-named : named limit q tokens (codes "break") ≡ leaving q (codes "break") tokens (Single Break)
+  break-named : named limit q tokens (codes "break") ≡ leaving q (codes "break") tokens Break
   unfolding named
   break-named = refl
 
-  continue-named : named limit q tokens (codes "continue") ≡ leaving q (codes "continue") tokens (Single Continue)
+  continue-named : named limit q tokens (codes "continue") ≡ leaving q (codes "continue") tokens Continue
   unfolding named
   continue-named = refl
 
@@ -211,31 +190,20 @@ module _ (limit : ℕ) (q outer : Bool) (tokens : List Token) where
       ∙ name-stands i n.0 (setting_by limit is_global (text i) (next i) (kind (next i)))
       ∙ ap (setting_by limit is_global (text i) (next i)) n.1
 
-  looping-read : {key : Option Name} {name : Name} {i j : Input} → Calls key name i j → looping limit i ≡ looped limit key name j
-  looping-read {i = i} (value n) =
-      name-stands i n.0 (looping_by limit (text i) (next i) (kind (next i)))
-      ∙ ap (looping_by limit (text i) (next i)) n.1
-  looping-read {i = i} (key_and_value n m) =
-      let l = next (next i) in
-      name-stands i n.0 (looping_by limit (text i) (next i) (kind (next i)))
-      ∙ ap (looping_by limit (text i) (next i)) n.1
-      ∙ name-stands l m.0 (keyed_by limit (text i) (text l) (next l) (kind (next l)))
-      ∙ ap (keyed_by limit (text i) (text l) (next l)) m.1
-
   alone-is : (word : Text) (u : Tag) → IsTrue (is_alone word tokens) → alone word tokens u ≡ Some u
   alone-is word u h = ap (λ (b : Bool). if b then Some u else None) h
 
-  leaving-is : (word : Text) (u : Tag) → IsTrue q → IsTrue (is_alone word tokens) → leaving q word tokens u ≡ Some u
-  leaving-is word u l h = ap (λ (b : Bool). if b then alone word tokens u else None) l ∙ alone-is word u h
+  leaving-is : (word : Text) (n : Node) → IsTrue q → IsTrue (is_alone word tokens) → leaving q word tokens n ≡ Some (Single n)
+  leaving-is word n l h = ap (λ (b : Bool). if b then alone word tokens (Single n) else None) l ∙ alone-is word (Single n) h
 
   pub simple_read : {node : Node} → Simple q node tokens → node_depth node ≤ suc limit → tag limit q outer tokens ≡ Some (Single node)
   simple_read (set {e = e} b n w) le = set-read e b n w (omega (arith, le))
-  simple_read (breaks l w) le = by-word (codes "break") (w.0, alone-text (codes "break") tokens w.1) ∙ break-named ∙ leaving-is (codes "break") (Single Break) l w.1
-  simple_read (continues l w) le = by-word (codes "continue") (w.0, alone-text (codes "continue") tokens w.1) ∙ continue-named ∙ leaving-is (codes "continue") (Single Continue) l w.1
+  simple_read (breaks l w) le = by-word (codes "break") (w.0, alone-text (codes "break") tokens w.1) ∙ break-named ∙ leaving-is (codes "break") Break l w.1
+  simple_read (continues l w) le = by-word (codes "continue") (w.0, alone-text (codes "continue") tokens w.1) ∙ continue-named ∙ leaving-is (codes "continue") Continue l w.1
 
   pub opens_read : {head : Head} → Opens q head tokens → head_depth head ≤ limit → tag limit q outer tokens ≡ Some (Opening head)
   opens_read (choice e w) le = by-kind k.If e ∙ ap (option_map (λ c. Opening (IfHead c))) (whole_complete w limit le)
-  opens_read (loop {key = key} {name = name} f c w) le = by-kind k.For f ∙ looping-read c ∙ ap (option_map (λ e. Opening (ForHead key name e))) (whole_complete w limit le)
+  opens_read (loop {key = key} {name = name} f c w) le = by-kind k.For f ∙ ap (looping_by limit) (calls-is c) ∙ ap (option_map (λ e. Opening (ForHead key name e))) (whole_complete w limit le)
   opens_read (capture b n) le = capture-read b n
 
   pub goes_on_read : {head : Head} → GoesOn outer head tokens → head_depth head ≤ limit → tag limit q outer tokens ≡ Some (GoingOn head)

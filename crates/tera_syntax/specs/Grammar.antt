@@ -1,5 +1,5 @@
 -- What pieces derive: nodes.
-use Rattle.std.specs.Prelude.{◌≡◌, ◌≢◌, List, [], ◌∷◌, Bool, true, false, Option, Some, None, codes, IsTrue}
+use Rattle.std.specs.Prelude.{◌≡◌, ◌≢◌, List, [], ◌∷◌, Bool, true, false, Option, codes, IsTrue}
 use Rattle.tera_errors.specs.Site as site
 use Rattle.tera_errors.specs.declared.span.Span.{Span}
 use Rattle.tera_tree.specs.Tree.{Expr, Content, Print, Set, Break, Continue, Node, Nodes, NoNodes, MoreNodes}
@@ -9,6 +9,7 @@ use Rattle.tera_tokens.specs.Token.{Token}
 use Rattle.tera_tokens.specs.Input.{Input, begin, kind, text, next}
 use Rattle.tera_tokens.specs.Cut.{Piece, Words, Comment, Variable, Block, is_alone}
 use Rattle.tera_expressions.specs.Grammar.{Derives}
+use Rattle.tera_expressions.specs.Headings.{Names, Calls}
 use Rattle.tera_syntax.specs.Heads.{Head, IfHead, ForHead, SetHead, make, splits, chains, inside, first, ends}
 
 -- The tokens from here to the end of the tag are the expression.
@@ -22,15 +23,6 @@ IsWord s word tokens = (first tokens ≡ s) × IsTrue (is_alone word tokens)
 -- the tag begins with this word, which is not reserved
 abbrev pub Begins : site.Text → List Token → Type 0
 Begins word tokens = (first tokens ≡ k.Name) × (text (begin false tokens) ≡ word)
-
--- a name stands here, and behind it a token of this kind
-abbrev pub Names : Input → Kind → Type 0
-Names i s = (kind i ≡ k.Name) × (kind (next i) ≡ s)
-
--- The tokens from the first place to the second are what a loop calls its items, and the word `in`: the key may be left out.
-pub data Calls : Option site.Name → site.Name → Input → Input → Type 0 where
-  value : {i : Input} → Names i k.In → Calls None (text i) i (next (next i))
-  key_and_value : {i : Input} → Names i k.Comma → Names (next (next i)) k.In → Calls (Some (text i)) (text (next (next i))) i (next (next (next (next i))))
 
 -- the word that binds a name, in all turns or in this one
 abbrev pub set_word : Bool → site.Text

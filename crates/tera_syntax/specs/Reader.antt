@@ -1,5 +1,5 @@
 -- The reader, as a function: it goes over the pieces once, with the statements that are open on a stack.
-use Rattle.std.specs.Prelude.{ℕ, suc, nat_lt, ◌-◌, length, List, [], ◌∷◌, Bool, true, false, Option, Some, None, option_map, option_and_then, bytes_eq, codes, if◌then◌else◌}
+use Rattle.std.specs.Prelude.{ℕ, suc, nat_lt, ◌-◌, ◌==◌, length, List, [], ◌∷◌, Bool, true, false, Option, Some, None, option_map, option_and_then, bytes_eq, codes, if◌then◌else◌}
 use Rattle.tera_errors.specs.Site.{Text, Name}
 use Rattle.tera_errors.specs.declared.span.Span.{Span}
 use Rattle.tera_tokens.specs.declared.token.Kind.{Kind}
@@ -7,6 +7,7 @@ use Rattle.tera_tokens.specs.declared.token.Kind.TheVariants as k
 use Rattle.tera_tokens.specs.Token.{Token}
 use Rattle.tera_tokens.specs.Input.{Input, Outcome, begin, kind, text, next, same}
 use Rattle.tera_expressions.specs.Expressions.{Deep, expr}
+use Rattle.tera_expressions.specs.Headings.{calls}
 use Rattle.tera_tokens.specs.Cut.{Piece, Words, Comment, Variable, Block, Broken, is_alone}
 use Rattle.tera_tree.specs.Tree.{Expr, Content, Print, Set, Break, Continue, Node, Nodes, NoNodes, MoreNodes}
 use Rattle.tera_syntax.specs.Heads.{Head, IfHead, ForHead, SetHead, make, splits, chains, inside, first, ends}
@@ -108,25 +109,13 @@ pub data Tag : Type 0 where
   -- any other, which may be an end
   Closing : Tag
 
-abbrev pub looped : ℕ → Option Name → Name → Input → Option Tag
-looped limit key name i = option_map (λ e. Opening (ForHead key name e)) (whole limit i)
-
-abbrev pub keyed_by : ℕ → Name → Name → Input → Kind → Option Tag
-keyed_by limit key name i k.In = looped limit (Some key) name (next i)
-keyed_by limit key name i _ = None
-
--- behind the key of a loop and its comma
-abbrev pub keyed : ℕ → Name → Input → Option Tag
-keyed limit key i = if same k.Name (kind i) then keyed_by limit key (text i) (next i) (kind (next i)) else None
-
-abbrev pub looping_by : ℕ → Name → Input → Kind → Option Tag
-looping_by limit name i k.In = looped limit None name (next i)
-looping_by limit name i k.Comma = keyed limit name (next i)
-looping_by limit name i _ = None
+abbrev pub looping_by : ℕ → Outcome (Option Name × Name) → Option Tag
+looping_by limit None = None
+looping_by limit (Some p) = option_map (λ e. Opening (ForHead p.0.0 p.0.1 e)) (whole limit p.1)
 
 -- behind `for`
 abbrev pub looping : ℕ → Input → Option Tag
-looping limit i = if same k.Name (kind i) then looping_by limit (text i) (next i) (kind (next i)) else None
+looping limit i = looping_by limit (calls i)
 
 abbrev pub setting_by : ℕ → Bool → Name → Input → Kind → Option Tag
 setting_by limit is_global name i k.Assign = option_map (λ e. Single (Set name e is_global)) (whole limit (next i))
@@ -141,17 +130,25 @@ setting limit is_global i = if same k.Name (kind i) then setting_by limit is_glo
 abbrev pub alone : Text → List Token → Tag → Option Tag
 alone word tokens tag = if is_alone word tokens then Some tag else None
 
--- a tag that is one word, in a loop's body
-abbrev pub leaving : Bool → Text → List Token → Tag → Option Tag
-leaving q word tokens tag = if q then alone word tokens tag else None
+-- a tag that is one word and leaves a turn of the loop that it stands in
+abbrev pub leaving : Bool → Text → List Token → Node → Option Tag
+leaving q word tokens node = if q then alone word tokens (Single node) else None
 
 -- a tag that begins with this word, which is not reserved
 unfoldable pub named : ℕ → Bool → List Token → Text → Option Tag
 named limit q tokens word =
     if bytes_eq word (codes "set") then setting limit false (next (begin q tokens)) else (
     if bytes_eq word (codes "set_global") then setting limit true (next (begin q tokens)) else (
-    if bytes_eq word (codes "break") then leaving q (codes "break") tokens (Single Break) else (
-    if bytes_eq word (codes "continue") then leaving q (codes "continue") tokens (Single Continue) else Some Closing)))
+    if bytes_eq word (codes "break") then leaving q (codes "break") tokens Break else (
+    if bytes_eq word (codes "continue") then leaving q (codes "continue") tokens Continue else Some Closing)))
+
+-- whether a word that begins a statement begins with this byte and is this long
+abbrev pub may_begin : ℕ → ℕ → Bool
+may_begin first size =
+    if size == 3 then first == 115 else (
+    if size == 5 then first == 98 else (
+    if size == 8 then first == 99 else (
+    if size == 10 then first == 115 else false)))
 
 abbrev pub tag_by : ℕ → Bool → Bool → List Token → Kind → Option Tag
 tag_by limit q outer tokens k.If = option_map (λ c. Opening (IfHead c)) (whole limit (next (begin q tokens)))

@@ -1,21 +1,23 @@
 // What the tag of a statement is.
-ghost use Rattle.std.specs.Prelude.{◌≡◌, Option, option_copied, option_map};
+ghost use Rattle.std.specs.Prelude.{◌≡◌, get_or};
 ghost use Rattle.tera_syntax.specs.Reader as spec;
 ghost use Rattle.tera_syntax.specs.View.{tag_of};
 ghost use Rattle.tera_tokens.specs.Answers.{Answers};
 ghost use Rattle.tera_tokens.specs.Takes.{input};
 ghost use Rattle.tera_tokens.specs.Token.{tokens_of};
-ghost use Rattle.tera_tree.specs.View.{expr_of};
+ghost use Rattle.tera_tree.specs.View.{expr_of, node_of};
 
 use crate::heads::{Head, first};
 use std::alloc::Global;
 use tera_expressions::expressions::expr;
+use tera_expressions::headings::{LoopNames, names};
 use tera_tokens::cut::is_alone;
 use tera_tokens::input::{Tokens, same};
 use tera_tokens::refusal::{Reason, Refusal};
 use tera_tokens::token::{Kind, Token};
 use tera_tree::{Expression, Heading, Node};
 
+/// What the tag of a statement is.
 #[derive(Drop)]
 pub(crate) enum Tag<'s> {
     /// A statement.
@@ -47,66 +49,14 @@ pub(crate) fn whole<'s>(
     }
 }
 
-/// Behind the `in` of a loop.
-fn looped<'s>(
-    alloc: Global,
-    tokens: &mut Tokens<'_, 's>,
-    limit: usize,
-    key: Option<&'s str>,
-    name: &'s str,
-) -> Result<Tag<'s>, Refusal>
-    ensures { let meant = spec.looped limit (option_copied key.entry) name.now (input tokens.old) in
-        Answers tag_of meant result }
-{
-    let target = Box::into_inner(whole(alloc, tokens, limit)?);
-    let heading = Heading { key, name, target };
-    Ok(Tag::Opening(Head::For(Box::new(alloc, heading)?)))
-}
-
-/// Behind the key of a loop and its comma.
-fn keyed<'s>(
-    alloc: Global,
-    tokens: &mut Tokens<'_, 's>,
-    limit: usize,
-    key: &'s str,
-) -> Result<Tag<'s>, Refusal>
-    ensures { let meant = spec.keyed limit key.now (input tokens.old) in
-        Answers tag_of meant result }
-{
-    if !same(Kind::Name, tokens.kind()) {
-        return Err(tokens.refuse(Reason::Expected(Kind::Name)));
-    }
-    let name = tokens.text();
-    tokens.take();
-    match tokens.kind() {
-        Kind::In => {
-            tokens.take();
-            looped(alloc, tokens, limit, Some(key), name)
-        }
-        _ => Err(tokens.refuse(Reason::Expected(Kind::In))),
-    }
-}
-
 /// Behind `for`.
 fn looping<'s>(alloc: Global, tokens: &mut Tokens<'_, 's>, limit: usize) -> Result<Tag<'s>, Refusal>
     ensures { Answers tag_of (spec.looping limit (input tokens.old)) result }
 {
-    if !same(Kind::Name, tokens.kind()) {
-        return Err(tokens.refuse(Reason::Expected(Kind::Name)));
-    }
-    let name = tokens.text();
-    tokens.take();
-    match tokens.kind() {
-        Kind::In => {
-            tokens.take();
-            looped(alloc, tokens, limit, None, name)
-        }
-        Kind::Comma => {
-            tokens.take();
-            keyed(alloc, tokens, limit, name)
-        }
-        _ => Err(tokens.refuse(Reason::Expected(Kind::In))),
-    }
+    let LoopNames { key, name } = names(tokens)?;
+    let target = Box::into_inner(whole(alloc, tokens, limit)?);
+    let heading = Heading { key, name, target };
+    Ok(Tag::Opening(Head::For(Box::new(alloc, heading)?)))
 }
 
 /// Behind `set` or `set_global`.
@@ -130,7 +80,7 @@ fn setting<'s>(
             Ok(Tag::Single(Node::set(name, value, is_global)))
         }
         Kind::End => Ok(Tag::Opening(Head::Set(name, is_global))),
-        _ => Err(tokens.refuse(Reason::NoOperation)),
+        _ => Err(tokens.refuse(Reason::Expected(Kind::Assign))),
     }
 }
 
@@ -145,14 +95,14 @@ fn alone<'s>(word: &str, tokens: &[Token<'_>], tag: Tag<'s>) -> Result<Tag<'s>, 
     }
 }
 
-/// A tag that is one word, in a loop's body.
+/// A tag that is one word and leaves a turn of the loop that it stands in.
 fn leaving<'s>(
     in_loop: bool,
     word: &str,
     tokens: &[Token<'_>],
     node: Node<'s>,
 ) -> Result<Tag<'s>, Refusal>
-    ensures { let meant = spec.leaving in_loop word.now (tokens_of tokens.now) (tag_of (Tag.Single node.entry)) in
+    ensures { let meant = spec.leaving in_loop word.now (tokens_of tokens.now) (node_of node.entry) in
         Answers tag_of meant result }
 {
     if in_loop {
@@ -162,8 +112,31 @@ fn leaving<'s>(
     }
 }
 
+/// Whether a word that begins a statement begins so and is this long. Ends are told from these by that.
+#[inline]
+fn may_begin(first: u8, size: usize) -> bool
+    ensures { result ≡ spec.may_begin first size }
+{
+    match size {
+        3 => first == b's',
+        5 => first == b'b',
+        8 => first == b'c',
+        10 => first == b's',
+        _ => false,
+    }
+}
+
+/// The first byte of a text: 0 where it is empty.
+fn first_byte(text: &str) -> u8
+    ensures { result ≡ get_or text.now 0 0 }
+{
+    match text.as_bytes().first() {
+        Some(b) => *b,
+        None => 0,
+    }
+}
+
 /// A tag that begins with a word which is not reserved.
-#[tactic(auto, unfolding(crate::specs::Reader::named))]
 fn named<'s>(
     alloc: Global,
     tokens: &[Token<'s>],
@@ -173,26 +146,38 @@ fn named<'s>(
 ) -> Result<Tag<'s>, Refusal>
     ensures { Answers tag_of (spec.named limit in_loop (tokens_of tokens.now) word.now) result }
 {
-    if word == "set" {
-        let mut ahead = Tokens::begin(tokens, in_loop);
-        ahead.take();
-        return setting(alloc, &mut ahead, limit, false);
+    if may_begin(first_byte(word), word.len()) {
+        begun(alloc, tokens, limit, in_loop, word)
+    } else {
+        Ok(Tag::Closing)
     }
-    if word == "set_global" {
-        let mut ahead = Tokens::begin(tokens, in_loop);
-        ahead.take();
-        return setting(alloc, &mut ahead, limit, true);
-    }
-    if word == "break" {
-        return leaving(in_loop, "break", tokens, Node::Break);
-    }
-    if word == "continue" {
-        return leaving(in_loop, "continue", tokens, Node::Continue);
-    }
-    Ok(Tag::Closing)
 }
 
-/// A tag with expressions no deeper than `limit`. The flags say whether it, and what is open, stand in a loop's body.
+/// The same by comparing the word with each that begins a statement.
+#[tactic(auto, unfolding(crate::specs::Reader::named))]
+fn begun<'s>(
+    alloc: Global,
+    tokens: &[Token<'s>],
+    limit: usize,
+    in_loop: bool,
+    word: &str,
+) -> Result<Tag<'s>, Refusal>
+    ensures { Answers tag_of (spec.named limit in_loop (tokens_of tokens.now) word.now) result }
+{
+    match word {
+        "set" | "set_global" => {
+            let mut ahead = Tokens::begin(tokens, in_loop);
+            ahead.take();
+            setting(alloc, &mut ahead, limit, word != "set")
+        }
+        "break" => leaving(in_loop, "break", tokens, Node::Break),
+        "continue" => leaving(in_loop, "continue", tokens, Node::Continue),
+        _ => Ok(Tag::Closing),
+    }
+}
+
+/// A tag with expressions no deeper than `limit`. The flags say whether it, and what is open, stand in
+/// a loop's body.
 #[tactic(auto, unfolding(crate::specs::Reader::tag))]
 pub(crate) fn read_tag<'s>(
     alloc: Global,

@@ -21,7 +21,7 @@ pub struct Other(pub &'static str, pub &'static str, pub Row);
 pub struct Unusable(pub &'static str, pub &'static str);
 
 /// Between the standard delimiters.
-pub static TREES: [Row; 47] = [
+pub static TREES: [Row; 49] = [
     Row("", ""),
     Row("Hello {{ name }}!", "(Hello  0-6)(name 9-13)(! 16-17)"),
     Row("a{# b #}c{# d }} #}", "(a 0-1)(c 8-9)"),
@@ -165,9 +165,17 @@ pub static TREES: [Row; 47] = [
         "{{ break }}{{ endfor }}{{ set }}",
         "(break 3-8)(endfor 14-20)(set 26-29)",
     ),
+    Row(
+        "{{ [x * 2 for x in e if x > 1] }}",
+        "(each(Multiply(x 4-5)(2 8-9) 4-9) for x in (e 19-20) if (Greater(x 24-25)(1 28-29) 24-29) 3-30)",
+    ),
+    Row(
+        "{% for v in [w for k, w in e] %}{{ [loop.last for x in loop.first] }}{% endfor %}",
+        "(for v in (each(w 13-14) for k, w in (e 27-28) if _ 12-29) do (each(__tera_loop_last 36-45) for x in (__tera_loop_first 55-65) if _ 35-66) else )",
+    ),
 ];
 
-pub static REFUSED: [Text; 101] = [
+pub static REFUSED: [Text; 107] = [
     Text("{{ }}"),
     Text("{{ a"),
     Text("b {# open"),
@@ -269,6 +277,12 @@ pub static REFUSED: [Text; 101] = [
     ),
     Text("{% for v in e %}{% break a %}{% endfor %}"),
     Text("{% for v in e %}{% continue 1 %}{% endfor %}"),
+    Text("{{ [x for x in a if b else c] }}"),
+    Text("{{ [x for in e] }}"),
+    Text("{{ [x for x of e] }}"),
+    Text("{{ [x, y for x in e] }}"),
+    Text("{{ [...x for x in e] }}"),
+    Text("{{ [x for x in e }}"),
     Text("{{ set a }}"),
     Text("{{ for v in e }}"),
 ];

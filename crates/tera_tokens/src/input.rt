@@ -15,7 +15,7 @@ pub struct Tokens<'t, 's> {
     pub ahead: &'t [Token<'s>],
     /// Where the token before them ends: 0 before the first.
     pub last: usize,
-    /// Whether the tag stands inside a loop's body. No statement that is read yet has one, so no tag does.
+    /// Whether the tag stands inside a loop's body, where `loop.index` and its like are names.
     pub in_loop: bool,
 }
 

@@ -46,6 +46,7 @@ impl Reason {
             Reason::Expected(Kind::RightBracket) => "`]` is due here",
             Reason::Expected(Kind::RightBrace) => "`}` is due here",
             Reason::Expected(Kind::Colon) => "`:` is due here",
+            Reason::Expected(Kind::Assign) => "`=` is due here",
             Reason::Expected(Kind::Else) => "`else` is due here",
             Reason::Expected(Kind::In) => "`in` is due here",
             Reason::Expected(Kind::Name) => "a name is due here",

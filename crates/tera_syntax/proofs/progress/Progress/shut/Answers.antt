@@ -11,5 +11,5 @@ returns-in-Some c =
     let frames = c.args.self.now.frames.items in
     let last = c.in-Some.ensures.value ∙ ap (λ fs. slice_get fs (length fs - 1)) c.deref.ensures.value in
     subst (λ o. Becomes o c.close.result c.close.new.self)
-        (shut_innermost (tokens_of c.args.tokens.now) frames c.in-Some.frame.now (nodes_of c.args.self.now.found.items) last (sym c.is_ended_by.ensures ∙ c.if-is_ended_by.true))
-        c.close.ensures
+    (shut_innermost (tokens_of c.args.tokens.now) frames c.in-Some.frame.now (nodes_of c.args.self.now.found.items) last (sym c.is_ended_by.ensures ∙ c.if-is_ended_by.true))
+    c.close.ensures

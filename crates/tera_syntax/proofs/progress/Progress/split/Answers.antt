@@ -11,5 +11,5 @@ returns-in-Some c =
     let frames = c.args.self.now.frames.items in
     let last = c.in-Some.ensures.value ∙ ap (λ fs. slice_get fs (length fs - 1)) c.deref.ensures.value in
     subst (λ o. Becomes o c.turn.result c.turn.new.self)
-        (turned_innermost splits frames c.in-Some.frame.now (nodes_of c.args.self.now.found.items) last (sym c.splits.ensures ∙ c.if-splits.true))
-        c.turn.ensures
+    (turned_innermost splits frames c.in-Some.frame.now (nodes_of c.args.self.now.found.items) last (sym c.splits.ensures ∙ c.if-splits.true))
+    c.turn.ensures

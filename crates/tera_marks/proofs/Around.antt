@@ -1,16 +1,17 @@
--- What a name stands for at marked characters stands for what it stands for at bytes.
-use Rattle.std.proofs.Common.{◌≡◌, ℕ, Bool, true, false, cond, List, [], ◌∷◌, refl, Option, Some, None, unwrap_or}
+-- What a name stands for at marked characters stands for what it stands for at bytes, also after an assignment.
+use Rattle.std.proofs.Common.{◌≡◌, ℕ, Bool, true, false, cond, List, [], ◌∷◌, refl, ap, Option, Some, None, unwrap_or, Ordering, Less, Equal, Greater}
 use Rattle.std.specs.Str.{bytes_eq}
 use Rattle.std.specs.Option.{option_or}
+use Rattle.std.specs.Ordering.{match_ordering}
 use Rattle.tera_errors.specs.Site.{Name}
 use Rattle.tera_values.specs.Alphabet.{Marked, names_from_outside}
-use Rattle.tera_values.specs.Val.{Val, ValOf, undefined}
-use Rattle.tera_values.specs.Named.{Named, at_name}
+use Rattle.tera_values.specs.Val.{Val, ValOf, ktext, undefined}
+use Rattle.tera_values.specs.Named.{Named, at_name, put, name_cmp}
 use Rattle.tera_values.specs.Access.{is_undefined}
-use Rattle.tera_state.specs.Scope.{TurnOf, VariablesOf, Kind, whole, included, called, FrameOf, AroundOf, in_turn, in_turns, in_variables, outermost, defined, handed_down, bound, look, nothing_set, outside}
+use Rattle.tera_state.specs.Scope.{bind, TurnOf, VariablesOf, Kind, whole, included, called, FrameOf, AroundOf, in_turn, in_turns, in_variables, outermost, defined, handed_down, bound, look, set_in, assign, open_turn, inner_turns, close_turn, nothing_set, outside, put_all, put_turns, text_keys, dump}
 use Rattle.tera_marks.proofs.Each.{Each, none, more}
-use Rattle.tera_marks.proofs.Standing.{Stands, undefineds, from_outside-stands, OptionStands, no_value, value}
-use Rattle.tera_marks.proofs.Moving.{undefined-same}
+use Rattle.tera_marks.proofs.Standing.{Stands, undefineds, maps, from_outside-stands, OptionStands, no_value, value}
+use Rattle.tera_marks.proofs.Moving.{undefined-same, Pair, entries-stand}
 
 -- a name and its value
 abbrev pub Binds : Name × ValOf Marked → Name × ValOf ℕ → Type 0
@@ -91,6 +92,63 @@ bound-stands n (more l ls) {g = g} k vs =
 
 pub look-stands : (n : Name) {a : AroundOf Marked} {b : AroundOf ℕ} {v : VariablesOf Marked} {w : VariablesOf ℕ} → AroundStands a b → VariablesStand v w → Stands (look n a v) (look n b w)
 look-stands n k vs = unwrap_or-stands (bound-stands n k.above k.frame vs)
+
+-- binding
+bind-stands : (n : Name) {v : ValOf Marked} {w : ValOf ℕ} → Stands v w → {vs : List (Name × ValOf Marked)} {ws : List (Name × ValOf ℕ)} → Each Binds vs ws → Each Binds (bind n v vs) (bind n w ws)
+bind-stands n s none = more (refl, s) none
+bind-stands n {v} {w} s (more {x = b} {y = c} {xs = vs} {ys = ws} k ks) = rw k.0 (go (bytes_eq n c.0) (bind-stands n s ks))
+  where
+    go : (there : Bool) → Each Binds (bind n v vs) (bind n w ws) → Each Binds (cond there ((c.0, v) ∷ vs) ((c.0, b.1) ∷ bind n v vs)) (cond there ((c.0, w) ∷ ws) (c ∷ bind n w ws))
+    go true rest = more (refl, s) ks
+    go false rest = more (refl, k.1) rest
+
+set_in-stands : (n : Name) {a : ValOf Marked} {b : ValOf ℕ} → Stands a b → {ts : List (TurnOf Marked)} {us : List (TurnOf ℕ)} → Each TurnStands ts us
+    → {v : VariablesOf Marked} {w : VariablesOf ℕ} → VariablesStand v w → VariablesStand (set_in ts n a v) (set_in us n b w)
+set_in-stands n s none k = record { turns = k.turns; sets = bind-stands n s k.sets }
+set_in-stands n s (more t ts) k =
+    record { turns = more (record { counters = t.counters; sets = bind-stands n s t.sets; names = t.names }) ts; sets = k.sets }
+
+pub assign-stands : (is_global : Bool) (n : Name) {a : ValOf Marked} {b : ValOf ℕ} → Stands a b → {v : VariablesOf Marked} {w : VariablesOf ℕ} → VariablesStand v w → VariablesStand (assign is_global n a v) (assign is_global n b w)
+assign-stands true n s k = record { turns = k.turns; sets = bind-stands n s k.sets }
+assign-stands false n s k = set_in-stands n s k.turns k
+
+pub open_turn-stands : {t : TurnOf Marked} {u : TurnOf ℕ} → TurnStands t u → {v : VariablesOf Marked} {w : VariablesOf ℕ} → VariablesStand v w → VariablesStand (open_turn t v) (open_turn u w)
+open_turn-stands t k = record { turns = more t k.turns; sets = k.sets }
+
+inner_turns-stand : {ts : List (TurnOf Marked)} {us : List (TurnOf ℕ)} → Each TurnStands ts us → Each TurnStands (inner_turns ts) (inner_turns us)
+inner_turns-stand none = none
+inner_turns-stand (more t ts) = ts
+
+pub close_turn-stands : {v : VariablesOf Marked} {w : VariablesOf ℕ} → VariablesStand v w → VariablesStand (close_turn v) (close_turn w)
+close_turn-stands k = record { turns = inner_turns-stand k.turns; sets = k.sets }
+
+-- all that is bound
+put-stands : (n : Name) {v : ValOf Marked} {w : ValOf ℕ} → Stands v w → {vs : Named (ValOf Marked)} {ws : Named (ValOf ℕ)} → Each Binds vs ws → Each Binds (put n v vs) (put n w ws)
+put-stands n s none = more (refl, s) none
+put-stands n {v} {w} s (more {x = b} {y = c} {xs = vs} {ys = ws} k ks) = rw k.0 (go (name_cmp n c.0) (put-stands n s ks))
+  where
+    go : (o : Ordering) → Each Binds (put n v vs) (put n w ws)
+        → Each Binds (match_ordering o ((n, v) ∷ (c.0, b.1) ∷ vs) ((n, v) ∷ vs) ((c.0, b.1) ∷ put n v vs)) (match_ordering o ((n, w) ∷ c ∷ ws) ((n, w) ∷ ws) (c ∷ put n w ws))
+    go Less rest = more (refl, s) (more (refl, k.1) ks)
+    go Equal rest = more (refl, s) ks
+    go Greater rest = more (refl, k.1) rest
+
+put_all-stands : {bs : List (Name × ValOf Marked)} {cs : List (Name × ValOf ℕ)} → Each Binds bs cs → {vs : Named (ValOf Marked)} {ws : Named (ValOf ℕ)} → Each Binds vs ws → Each Binds (put_all bs vs) (put_all cs ws)
+put_all-stands none ks = ks
+put_all-stands (more {y = c} b bs) ks = put_all-stands bs (rw b.0 (put-stands c.0 b.1 ks))
+
+put_turns-stand : {ts : List (TurnOf Marked)} {us : List (TurnOf ℕ)} → Each TurnStands ts us → {vs : Named (ValOf Marked)} {ws : Named (ValOf ℕ)} → Each Binds vs ws → Each Binds (put_turns ts vs) (put_turns us ws)
+put_turns-stand none ks = ks
+put_turns-stand (more t ts) ks = put_all-stands t.sets (put_turns-stand ts ks)
+
+text_keys-stand : {vs : Named (ValOf Marked)} {ws : Named (ValOf ℕ)} → Each Binds vs ws → Each Pair (text_keys vs) (text_keys ws)
+text_keys-stand none = none
+text_keys-stand (more k ks) = more (ap ktext k.0, k.1) (text_keys-stand ks)
+
+pub dump-stands : {a : AroundOf Marked} {b : AroundOf ℕ} {v : VariablesOf Marked} {w : VariablesOf ℕ} → AroundStands a b → VariablesStand v w → Stands (dump a v) (dump b w)
+dump-stands k vs =
+    let outer = put_all-stands k.frame.context k.frame.global in
+    maps (entries-stand (text_keys-stand (put_turns-stand vs.turns (put_all-stands vs.sets outer))))
 
 -- names from outside, and what is around a rendering of them
 pub names-stand : (vs : Named Val) → Each Binds (names_from_outside vs) vs

@@ -1,19 +1,19 @@
 -- What trees mean, where the meaning of bodies that stand elsewhere is given.
-use Rattle.std.specs.Prelude.{Bool, false, List, [], ◌∷◌, Option, Result, Ok, if◌then◌else◌}
+use Rattle.std.specs.Prelude.{Bool, true, false, List, [], ◌∷◌, ◌++◌, Option, Result, Ok, codes, bytes_eq, if◌then◌else◌}
 use Rattle.tera_errors.specs.Site as site
 use Rattle.tera_errors.specs.Fault.{Fault}
-use Rattle.tera_tree.specs.Tree.{Key, Expr, Nothing, Boolean, Integer, Text, Name, Attribute, Index, Slice, Not, Negate, Binary, And, Or, Ternary, Array, Map, Optional, Absent, Present, Items, NoItems, MoreItems, Entries, NoEntries, MoreEntries, Node, Content, Print, If, Nodes, NoNodes, MoreNodes}
+use Rattle.tera_tree.specs.Tree.{Key, Expr, Nothing, Boolean, Integer, Text, Name, Attribute, Index, Slice, Not, Negate, Binary, And, Or, Ternary, Array, Map, Comprehension, Optional, Absent, Present, Items, NoItems, MoreItems, Entries, NoEntries, MoreEntries, Node, Content, Print, If, Set, Capture, For, Break, Continue, Nodes, NoNodes, MoreNodes}
 use Rattle.tera_values.specs.Alphabet.{Alphabet, plain, template, made}
-use Rattle.tera_values.specs.Val.{none, bool, int, text}
+use Rattle.tera_values.specs.Val.{ValOf, none, bool, int, text, array, vals}
 use Rattle.tera_values.specs.Access.{is_undefined, truthy}
-use Rattle.tera_operators.specs.Operand.{Evaluated, EvaluatedOf, fault_at}
+use Rattle.tera_operators.specs.Operand.{Evaluated, EvaluatedOf, fault_at, placed}
 use Rattle.tera_operators.specs.Accesses.{attribute_of, item_in, sliced_in}
 use Rattle.tera_operators.specs.Operators.{not_of, negative_in, binary_in}
 use Rattle.tera_operators.specs.Literals.{array_of, map_of}
 use Rattle.tera_state.specs.Rendered.{rendered_in}
-use Rattle.tera_state.specs.Scope.{look}
+use Rattle.tera_state.specs.Scope.{AroundOf, VariablesOf, TurnOf, Turn, Heading, look, dump, assign, open_turn, close_turn, loop_turns_in}
 use Rattle.tera_meaning.specs.Here.{Here, HereOf}
-use Rattle.tera_meaning.specs.Run.{Signal, On, Meaning, MeaningOf, Oracle, OracleOf, ◌▹◌, visit, gives, answered, value_at, if_else, reads, writes, go_on}
+use Rattle.tera_meaning.specs.Run.{Signal, On, Broke, Continued, Meaning, MeaningOf, Oracle, OracleOf, ◌▹◌, visit, gives, answered, value_at, if_else, reads, changes, writes, go_on, captured}
 
 module _ {C : Type 0} (alphabet : Alphabet C) where
   -- the text that a value is put out as, at the operand's span; undefined has none
@@ -24,6 +24,52 @@ module _ {C : Type 0} (alphabet : Alphabet C) where
 
   abbrev pub written_in : HereOf C → EvaluatedOf C → MeaningOf C Signal
   written_in here a = answered (output_in here a) ▹ writes
+
+  -- the turns of a loop over an operand, which is refused at its span
+  abbrev pub turns_of_in : HereOf C → Heading → EvaluatedOf C → Result (List (TurnOf C)) Fault
+  turns_of_in here heading a = placed here.file (loop_turns_in alphabet heading a.value) a.span
+
+module _ {C : Type 0} where
+  -- what a name stands for: `__tera_context` for all that is bound here
+  abbrev pub named_value : site.Name → AroundOf C → VariablesOf C → ValOf C
+  named_value name around v =
+      if bytes_eq name (codes "__tera_context") then dump around v else look name around v
+
+  -- the value of an item that is not passed over
+  abbrev pub if_kept : Bool → MeaningOf C (EvaluatedOf C) → MeaningOf C (List (ValOf C))
+  if_kept true value = value ▹ λ a. gives (a.value ∷ [])
+  if_kept false value = gives []
+
+  -- the values of a comprehension; each item is a visit, and has a turn of its own
+  abbrev pub comprehension : MeaningOf C Bool → MeaningOf C (EvaluatedOf C) → List (TurnOf C) → MeaningOf C (List (ValOf C))
+  comprehension test value [] = gives []
+  comprehension test value (t ∷ ts) =
+      visit (changes (open_turn t)
+      ▹ λ _. test
+      ▹ λ keep. if_kept keep value
+      ▹ λ vs. changes close_turn
+      ▹ λ _. comprehension test value ts
+      ▹ λ rest. gives (vs ++ rest))
+
+  -- after a turn the loop goes on, unless it broke
+  abbrev pub after_turn : Signal → MeaningOf C Signal → MeaningOf C Signal
+  after_turn On next = next
+  after_turn Broke next = gives On
+  after_turn Continued next = next
+
+  -- the body in each turn, which is a visit
+  abbrev pub loop : MeaningOf C Signal → List (TurnOf C) → MeaningOf C Signal
+  loop body [] = gives On
+  loop body (t ∷ ts) =
+      visit (changes (open_turn t)
+      ▹ λ _. body
+      ▹ λ signal. changes close_turn
+      ▹ λ _. after_turn signal (loop body ts))
+
+  -- the loop, or the other body where there is no item
+  abbrev pub loop_or_else : MeaningOf C Signal → MeaningOf C Signal → List (TurnOf C) → MeaningOf C Signal
+  loop_or_else body other [] = other
+  loop_or_else body other (t ∷ ts) = loop body (t ∷ ts)
 
 -- a bound that isn't written is none
 abbrev pub no_bound : {C : Type 0} → EvaluatedOf C
@@ -36,7 +82,7 @@ module _ {C : Type 0} (alphabet : Alphabet C) (here : HereOf C) (call : OracleOf
     expr_meaning_in (Boolean b span) = visit (value_at (bool b) span)
     expr_meaning_in (Integer z span) = visit (value_at (int z) span)
     expr_meaning_in (Text t span) = visit (value_at (text (alphabet.spelled made t) false) span)
-    expr_meaning_in (Name name span) = visit (reads (look name here.around) ▹ λ v. value_at v span)
+    expr_meaning_in (Name name span) = visit (reads (named_value name here.around) ▹ λ v. value_at v span)
     expr_meaning_in (Attribute target name optional span) =
         visit (expr_meaning_in target ▹ λ a. answered (attribute_of here.file optional a name span))
     expr_meaning_in (Index target index optional span) =
@@ -67,10 +113,20 @@ module _ {C : Type 0} (alphabet : Alphabet C) (here : HereOf C) (call : OracleOf
         visit (items_meaning_in items ▹ λ all. answered (array_of here.file all span))
     expr_meaning_in (Map entries span) =
         visit (entries_meaning_in entries ▹ λ all. answered (map_of here.file all span))
+    expr_meaning_in (Comprehension value key name target condition span) =
+        visit (expr_meaning_in target
+        ▹ λ a. answered (turns_of_in alphabet here (record { name = name; key = key; counts = false }) a)
+        ▹ λ turns. comprehension (condition_meaning_in condition) (expr_meaning_in value) turns
+        ▹ λ vs. value_at (array (vals vs)) span)
 
     pub bound_meaning_in : Optional → MeaningOf C (EvaluatedOf C)
     bound_meaning_in Absent = gives no_bound
     bound_meaning_in (Present e) = expr_meaning_in e
+
+    -- whether a condition holds, which does where none is written
+    pub condition_meaning_in : Optional → MeaningOf C Bool
+    condition_meaning_in Absent = gives true
+    condition_meaning_in (Present e) = expr_meaning_in e ▹ λ a. gives (truthy a.value)
 
     pub items_meaning_in : Items → MeaningOf C (List (Bool × EvaluatedOf C))
     items_meaning_in NoItems = gives []
@@ -89,6 +145,17 @@ module _ {C : Type 0} (alphabet : Alphabet C) (here : HereOf C) (call : OracleOf
     node_meaning_in (If condition body other) =
         visit (expr_meaning_in condition
         ▹ λ c. if_else (truthy c.value) (nodes_meaning_in body) (nodes_meaning_in other))
+    node_meaning_in (Set name value is_global) =
+        visit (expr_meaning_in value ▹ λ a. changes (assign is_global name a.value))
+    node_meaning_in (Capture name body is_global) =
+        visit (captured (nodes_meaning_in body)
+        ▹ λ c. go_on c.0 (changes (assign is_global name (text c.1 here.autoescape))))
+    node_meaning_in (For key name target body other) =
+        visit (expr_meaning_in target
+        ▹ λ a. answered (turns_of_in alphabet here (record { name = name; key = key; counts = true }) a)
+        ▹ λ turns. loop_or_else (nodes_meaning_in body) (nodes_meaning_in other) turns)
+    node_meaning_in Break = visit (gives Broke)
+    node_meaning_in Continue = visit (gives Continued)
 
     pub nodes_meaning_in : Nodes → MeaningOf C Signal
     nodes_meaning_in NoNodes = gives On
@@ -101,11 +168,17 @@ output = output_in plain
 abbrev pub written : Here → Evaluated → Meaning Signal
 written = written_in plain
 
+abbrev pub turns_of : Here → Heading → Evaluated → Result (List Turn) Fault
+turns_of = turns_of_in plain
+
 abbrev pub expr_meaning : Here → Oracle → Expr → Meaning Evaluated
 expr_meaning = expr_meaning_in plain
 
 abbrev pub bound_meaning : Here → Oracle → Optional → Meaning Evaluated
 bound_meaning = bound_meaning_in plain
+
+abbrev pub condition_meaning : Here → Oracle → Optional → Meaning Bool
+condition_meaning = condition_meaning_in plain
 
 abbrev pub items_meaning : Here → Oracle → Items → Meaning (List (Bool × Evaluated))
 items_meaning = items_meaning_in plain

@@ -1,5 +1,5 @@
 -- What the rendering calls answer.
-use Rattle.std.specs.Prelude.{ℕ, Bool, List, codes, Result, Ok, Err}
+use Rattle.std.specs.Prelude.{Bool, List, codes, Result, Ok, Err}
 use Rattle.tera_errors.specs.Site.{Text, Name}
 use Rattle.tera_errors.specs.Fault.{Fault}
 use Rattle.tera_values.specs.Alphabet.{Alphabet, plain}

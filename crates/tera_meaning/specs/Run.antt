@@ -20,9 +20,11 @@ Run = RunOf ℕ
 abbrev pub begun : {C : Type 0} → VariablesOf C → RunOf C
 begun vars = record { vars = vars; text = []; blocks = [] }
 
--- how a list of nodes ends: a loop's ways out are further cases
+-- how a list of nodes ends: to its end, or where `break` or `continue` ends the turn that it stands in
 pub data Signal : Type 0 where
   On : Signal
+  Broke : Signal
+  Continued : Signal
 
 -- a fault, or a result and what was done; and how many visits that took
 pub data AnswerOf (C A : Type 0) : Type 0 where
@@ -77,12 +79,27 @@ if_else false m n = n
 abbrev pub reads : {C A : Type 0} → (VariablesOf C → A) → MeaningOf C A
 reads f r = Gave (f r.vars) r 0
 
+-- what becomes of the variables
+abbrev pub changes : {C : Type 0} → (VariablesOf C → VariablesOf C) → MeaningOf C Signal
+changes f r = Gave On (record r { vars = f r.vars }) 0
+
 abbrev pub writes : {C : Type 0} → List C → MeaningOf C Signal
 writes text r = Gave On (record r { text = r.text ++ text }) 0
 
 -- what follows, unless a turn of a loop ends
 abbrev pub go_on : {C : Type 0} → Signal → MeaningOf C Signal → MeaningOf C Signal
 go_on On next = next
+go_on Broke next = gives Broke
+go_on Continued next = gives Continued
+
+-- the text of before is there again, and that of the body is handed out
+abbrev pub put_back : {C : Type 0} → List C → AnswerOf C Signal → AnswerOf C (Signal × List C)
+put_back before (Failed fault n) = Failed fault n
+put_back before (Gave signal r n) = Gave (signal, r.text) (record r { text = before }) n
+
+-- the text of a body, which is not written
+abbrev pub captured : {C : Type 0} → MeaningOf C Signal → MeaningOf C (Signal × List C)
+captured body r = put_back r.text (body (record r { text = [] }))
 
 -- what is asked of a body that stands elsewhere: blocks, includes and components are its cases
 pub data RequestOf (C : Type 0) : Type 0 where

@@ -5,7 +5,7 @@ use Rattle.tera_errors.specs.Fault.{Fault, message}
 use Rattle.tera_tree.specs.Tree.{Nodes}
 use Rattle.tera_values.specs.Alphabet.{Alphabet, plain}
 use Rattle.tera_state.specs.Scope.{AroundOf, VariablesOf, Variables}
-use Rattle.tera_meaning.specs.Here.{Here, HereOf}
+use Rattle.tera_meaning.specs.Here.{HereOf}
 use Rattle.tera_meaning.specs.Run.{Signal, On, Answer, AnswerOf, Failed, Gave, RunOf, Request, RequestOf, Oracle, OracleOf, visit, begun}
 use Rattle.tera_meaning.specs.Registry.{Registry}
 use Rattle.tera_meaning.specs.Meaning.{nodes_meaning_in}

@@ -115,6 +115,11 @@ set_variable n a v = set_in v.turns n a v
 abbrev pub set_global : {C : Type 0} → Name → ValOf C → VariablesOf C → VariablesOf C
 set_global n a v = record v { sets = bind n a v.sets }
 
+-- `set_global` where the flag is up, else `set`
+abbrev pub assign : {C : Type 0} → Bool → Name → ValOf C → VariablesOf C → VariablesOf C
+assign true n a v = set_global n a v
+assign false n a v = set_variable n a v
+
 abbrev pub open_turn : {C : Type 0} → TurnOf C → VariablesOf C → VariablesOf C
 open_turn t v = record v { turns = t ∷ v.turns }
 

@@ -15,14 +15,14 @@ pub data Mark : Type 0 where
 abbrev pub Marked : Type 0
 Marked = ℕ × Mark
 
--- how characters are seen as bytes, one and a text; how a text is spelled by them; a text that is vouched for, which may
--- have been safe before; a value as it is without marks, as it comes from outside, alone or by names, and as an answer from
--- there
+-- how characters are seen as bytes, one and a text; how a text is spelled by them; a text that is trusted from here on,
+-- which may have been safe before; a value as it is without marks, as it comes from outside, alone or by names, and as an
+-- answer from there
 pub record Alphabet (C : Type 0) : Type 0 where
   pub code : C → ℕ
   pub seen : List C → List ℕ
   pub spelled : Mark → List ℕ → List C
-  pub vouched : Bool → List C → List C
+  pub trusted : Bool → List C → List C
   pub bare : ValOf C → ValOf ℕ
   pub handed : ValOf ℕ → ValOf C
   pub all_handed : List (Name × ValOf ℕ) → List (Name × ValOf C)
@@ -34,7 +34,7 @@ plain = record {
   code = λ b. b;
   seen = λ t. t;
   spelled = λ mark t. t;
-  vouched = λ safe t. t;
+  trusted = λ safe t. t;
   bare = λ v. v;
   handed = λ v. v;
   all_handed = λ vs. vs;
@@ -100,7 +100,7 @@ marking = record {
   code = λ c. c.0;
   seen = bytes_of;
   spelled = bearing;
-  vouched = λ safe t. cond safe t (bearing marked_safe (bytes_of t));
+  trusted = λ safe t. cond safe t (bearing marked_safe (bytes_of t));
   bare = unmarked;
   handed = from_outside;
   all_handed = names_from_outside;

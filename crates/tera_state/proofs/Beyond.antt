@@ -1,24 +1,22 @@
 -- What a body reads of those above it.
-use Rattle.std.proofs.Common.{◌≡◌, ℕ, suc, List, [], ◌∷◌, Bool, true, false, cond, Option, Some, None, length, refl, sym, ap, ap₂, ◌∙◌, true≢false}
-use Rattle.std.specs.Prelude.{unwrap_or}
+use Rattle.std.proofs.Common.{◌≡◌, ℕ, ◌-◌, ◌<◌, ◌≤◌, List, [], ◌∷◌, Bool, true, false, cond, Option, Some, None, length, reverse, refl, sym, ap, ap₂, ◌∙◌, true≢false, arith}
+use Rattle.std.specs.Prelude.{slice_get, unwrap_or}
 use Rattle.std.specs.Option.{option_or}
 use Rattle.tera_errors.specs.Site.{Name}
 use Rattle.tera_values.specs.Val.{Val, undefined}
 use Rattle.tera_values.specs.Access.{is_undefined}
 use Rattle.tera_values.specs.Named.{Named, at_name}
 use Rattle.tera_state.specs.Found.{found_value}
-use Rattle.tera_state.specs.Scope.{Variables, bound, bound_above, defined, handed_down, outermost, in_turn, in_turns, in_variables, Frame as FrameMeant}
-use Rattle.tera_state.specs.Bound.{layer_of}
-use Rattle.tera_state.specs.Opened.{turn_of}
-use Rattle.tera_state.specs.Scopes.{opened, turns_of, context_of, frame_of, above_of, variables_at}
+use Rattle.tera_state.specs.Scope.{Variables, bound, bound_above, defined, handed_down, outermost, in_variables, Frame as FrameMeant}
+use Rattle.tera_state.specs.Stack.{lower}
+use Rattle.tera_state.specs.Scopes.{context_of, frame_of, above_of, variables_at}
 use Rattle.tera_state.specs.declared.bindings.Binding.{Binding}
-use Rattle.tera_state.specs.declared.loops.ForLoop.{ForLoop}
 use Rattle.tera_state.specs.declared.found.Found.{Found}
 use Rattle.tera_state.specs.declared.found.Found.TheVariants as found
 use Rattle.tera_state.specs.declared.frame.Frame.{Frame}
 use Rattle.tera_state.specs.declared.frame.Standing.{Standing}
 use Rattle.tera_state.specs.declared.frame.Standing.TheVariants as standing
-use Rattle.tera_state.proofs.Finds.{first}
+use Rattle.tera_state.proofs.Finds.{first, second, lower_at, lower_length}
 
 pub kept_first : (r : Found) (a b : Option Val) → (r ≡ found.Nothing → ⊥) → found_value r ≡ a → found_value r ≡ option_or a b
 kept_first (found.Kept v) a b n e = first _ a b e _ refl
@@ -28,22 +26,9 @@ kept_first (found.After z) a b n e = first _ a b e _ refl
 kept_first (found.Flag t) a b n e = first _ a b e _ refl
 kept_first found.Nothing a b n e = absurd (n refl)
 
-assoc : (a b c : Option Val) → option_or (option_or a b) c ≡ option_or a (option_or b c)
-assoc None b c = refl
-assoc (Some v) b c = refl
-
 or_none : (a : Option Val) → option_or a None ≡ a
 or_none None = refl
 or_none (Some v) = refl
-
--- a body with an open loop
-pub body_is : (n : Name) (bs : List Binding) (f k : ℕ) (body : Frame) (l : ForLoop) → body.inner ≡ Some l → k ≡ suc (length body.outer) → in_variables n (variables_at bs f body) ≡ option_or (in_turn n (turn_of (layer_of bs f k) l)) (option_or (in_turns n (turns_of bs f body.outer)) (at_name n (layer_of bs f 0)))
-body_is n bs f k body l is ek =
-    let sets : Option Val = at_name n (layer_of bs f 0) in
-    let rest : Option Val = in_turns n (turns_of bs f body.outer) in
-    ap (λ (i : Option ForLoop). option_or (in_turns n (turns_of bs f (opened i body.outer))) sets) is
-    ∙ assoc (in_turn n (turn_of (layer_of bs f (suc (length body.outer))) l)) rest sets
-    ∙ ap (λ (j : ℕ). option_or (in_turn n (turn_of (layer_of bs f j) l)) (option_or rest sets)) (sym ek)
 
 abbrev pub beyond : Name → FrameMeant → List (FrameMeant × Variables) → Option Val
 beyond n f [] = outermost n f
@@ -54,7 +39,7 @@ bound_split n f [] v = refl
 bound_split n f (u ∷ us) v = refl
 
 module _ (n : Name) (bs : List Binding) where
-  abbrev at : Standing → List Frame → Option Val
+  abbrev pub at : Standing → List Frame → Option Val
   at s fs = beyond n (frame_of s fs) (above_of bs fs)
 
   pub whole_beyond : (s : Standing) (context global : Named Val) (fs : List Frame) → s ≡ standing.Whole context global → at s fs ≡ option_or (at_name n context) (at_name n global)
@@ -82,6 +67,29 @@ pub handed_some : (o a : Option Val) → is_undefined (unwrap_or o undefined) �
 handed_some None a u = absurd (true≢false u)
 handed_some (Some v) a u = ap (λ (t : Bool). option_or (cond t None (Some v)) a) (sym u)
 
+-- a body that binds nothing of the name has what is beyond it
+module _ (n : Name) (bs : List Binding) (k : ℕ) (body : Frame) (fs : List Frame) where
+  pub from_beyond : (o : Option Val) → None ≡ in_variables n (variables_at bs k body) → o ≡ at n bs body.standing fs → o ≡ bound n (frame_of body.standing fs) (above_of bs fs) (variables_at bs k body)
+  from_beyond o none e =
+      second _ _ _ none e ∙ sym (bound_split n (frame_of body.standing fs) (above_of bs fs) (variables_at bs k body))
+
+-- the includer stands below so many frames, and o is what it has
+module _ (n : Name) (bs : List Binding) (below : List Frame) (k : ℕ) (s : Standing) (f : Frame) (some : 0 < k) (le : k ≤ length below) (is : s ≡ standing.Included) (there : slice_get (reverse below) (k - 1) ≡ Some f) (o : Option Val) (e : o ≡ bound n (frame_of f.standing (lower (k - 1) below)) (above_of bs (lower (k - 1) below)) (variables_at bs (k - 1) f)) where
+  abbrev own : Option Val
+  own = at_name n (context_of f.standing (lower (k - 1) below))
+
+  to_includer : option_or (defined o) own ≡ at n bs s (lower k below)
+  to_includer =
+      let less : k - 1 ≤ length below = omega (arith, le) in
+      ap (λ (p : Option Val). option_or (defined p) own) e
+      ∙ sym (included_beyond n bs s f (lower k below) (lower (k - 1) below) (k - 1) is (lower_at below k f some there) (lower_length below (k - 1) less))
+
+  pub from_context : (x : Option Val) → is_undefined (unwrap_or o undefined) ≡ true → x ≡ own → x ≡ at n bs s (lower k below)
+  from_context x u ex = handed_none o own x u ex ∙ to_includer
+
+  pub from_includer : is_undefined (unwrap_or o undefined) ≡ false → o ≡ at n bs s (lower k below)
+  from_includer u = handed_some o own u ∙ to_includer
+
 -- the bodies above one that has nothing but undefined
 abbrev pub from_above : Name → List (FrameMeant × Variables) → Option Val
 from_above n [] = None
@@ -99,6 +107,3 @@ implicit_above n f us v o x e u h = handed_none o (from_above n us) x u h ∙ ap
 
 pub above_step : (n : Name) (bs : List Binding) (f : Frame) (gs fs : List Frame) (k : ℕ) → gs ≡ f ∷ fs → length fs ≡ k → from_above n (above_of bs gs) ≡ bound_above n (frame_of f.standing fs) (above_of bs fs) (variables_at bs k f)
 above_step n bs f gs fs k g ek = ap (λ (hs : List Frame). from_above n (above_of bs hs)) g ∙ ap (λ (j : ℕ). bound_above n (frame_of f.standing fs) (above_of bs fs) (variables_at bs j f)) ek
-
-pub above_none : (n : Name) (bs : List Binding) (gs : List Frame) → gs ≡ [] → None ≡ from_above n (above_of bs gs)
-above_none n bs gs g = sym (ap (λ (hs : List Frame). from_above n (above_of bs hs)) g)

@@ -7,8 +7,9 @@ use Rattle.std.proofs.lemmas.Option.{slice_get_cases, slice_get_within, get_or_f
 use Rattle.tera_values.specs.Val.{Val}
 use Rattle.tera_values.specs.Named.{Named}
 use Rattle.tera_state.specs.Bound.{layer_of}
-use Rattle.tera_state.specs.Opened.{turn_of}
-use Rattle.tera_state.specs.Scopes.{lower, turns_of, context_of}
+use Rattle.tera_state.specs.Opened.{turn_of, turns_of}
+use Rattle.tera_state.specs.Stack.{lower}
+use Rattle.tera_state.specs.Scopes.{context_of}
 use Rattle.tera_state.specs.declared.bindings.Binding.{Binding}
 use Rattle.tera_state.specs.declared.loops.ForLoop.{ForLoop}
 use Rattle.tera_state.specs.declared.frame.Frame.{Frame}

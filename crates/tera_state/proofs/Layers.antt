@@ -7,8 +7,8 @@ use Rattle.tera_values.specs.Val.{Val}
 use Rattle.tera_values.specs.Named.{at_name}
 use Rattle.tera_state.specs.Scope.{Bindings, Turn, Variables, bind, set_variable, set_global, open_turn, Frame as FrameMeant}
 use Rattle.tera_state.specs.Bound.{value_in, layer_of, with_binding, without, without_frame}
-use Rattle.tera_state.specs.Opened.{turn_of}
-use Rattle.tera_state.specs.Scopes.{turns_of, variables_at, above_of, frame_of, loops_of}
+use Rattle.tera_state.specs.Opened.{turn_of, turns_of}
+use Rattle.tera_state.specs.Scopes.{variables_at, above_of, frame_of}
 use Rattle.tera_state.specs.declared.bindings.Binding.{Binding}
 use Rattle.tera_state.specs.declared.loops.ForLoop.{ForLoop}
 use Rattle.tera_state.specs.declared.frame.Frame.{Frame}
@@ -122,7 +122,7 @@ turns_same bs cs f (l ∷ ls) h =
 
 pub variables_same : (bs cs : List Binding) (f : ℕ) (fr : Frame) → ((j : ℕ) → layer_of cs f j ≡ layer_of bs f j) → variables_at cs f fr ≡ variables_at bs f fr
 variables_same bs cs f fr h =
-    ap₂ (λ (ts : List Turn) (sets : Bindings). record { turns = ts; sets = sets }) (turns_same bs cs f (loops_of fr) (λ j le. h j)) (h 0)
+    ap₂ (λ (ts : List Turn) (sets : Bindings). record { turns = ts; sets = sets }) (turns_same bs cs f fr.loops (λ j le. h j)) (h 0)
 
 below : (k n : ℕ) → k < n → k ≢ n
 below k n lt e = omega (arith, lt, e)

@@ -1,36 +1,39 @@
 -- How a loop begins.
-use Rattle.std.proofs.Common.{◌≡◌, ℕ, List, [], ◌∷◌, Some, Ok, Err, Bool, false, cond, length, drop, refl, sym, ap, ◌∙◌, arith}
+use Rattle.std.proofs.Common.{◌≡◌, ℕ, List, [], ◌∷◌, Option, Some, None, Result, Ok, Err, Bool, true, false, cond, length, drop, refl, sym, ap, ◌∙◌}
 use Rattle.std.specs.Prelude.{slice_get, ◌&&◌, not}
 use Rattle.std.specs.Option.{is_some}
 use Rattle.tera_errors.specs.Fault.{message}
+use Rattle.tera_errors.specs.Answer.{Refusal, Gives}
 use Rattle.tera_values.specs.Alphabet.{plain}
-use Rattle.tera_values.specs.Val.{Val, ValsOf, EntriesOf, array, bytes, text, vals, map as map_of}
+use Rattle.tera_values.specs.Val.{Val, array, text, vals}
 use Rattle.tera_state.specs.Items.{Item, items_in, unkeyed, clusters_in}
 use Rattle.tera_state.specs.Scope.{Heading, turns_from, turns_over, is_map, loop_turns, counters}
-use Rattle.tera_state.specs.Opened.{names_of, walked, turn_of, to_come, heading_of, items_of}
+use Rattle.tera_state.specs.Opened.{names_of, walked, given, items_for, turn_of, to_come, heading_of, items_of}
 use Rattle.tera_state.specs.declared.loops.ForLoop.{ForLoop}
 use Rattle.tera_state.proofs.Walked.{list_of_vals}
 
-pub over : (h : Heading) (target items : Val) → (is_some h.key && not (is_map target)) ≡ false → items_in plain target ≡ Some (walked items) → loop_turns h target ≡ Ok (turns_from h (length (walked items)) 0 (walked items))
-over h target items k e =
-    ap (λ (b : Bool). cond b (Err message) (turns_over h (items_in plain target))) k ∙ ap (turns_over h) e
+-- what a loop goes over and its turns are the same items
+with_items : (h : Heading) (b : Bool) (o : Option (List Item)) (is : List Item) → cond b (Err message) (given o) ≡ Ok is → (o ≡ Some is) × (cond b (Err message) (turns_over h o) ≡ Ok (turns_from h (length is) 0 is))
+with_items h true o is e = cc
+with_items h false None is e = cc
+with_items h false (Some js) is e = let same : js ≡ is = cc in (ap Some same, ap (λ (x : List Item). Ok (turns_from h (length x) 0 x)) same)
 
-pub text_items : (content : List ℕ) (safe : Bool) (target items : Val) → target ≡ text content safe → items ≡ array (vals (clusters_in plain content)) → items_in plain target ≡ Some (walked items)
-text_items content safe target items e made =
-    ap (items_in plain) e ∙ sym (ap (λ (v : Val). Some (walked v)) made ∙ ap (λ (l : List Val). Some (unkeyed l)) (list_of_vals (clusters_in plain content)))
+pub turns_of_items : (h : Heading) (v : Val) (is : List Item) → items_for (is_some h.key) v ≡ Ok is → (items_in plain v ≡ Some is) × (loop_turns h v ≡ Ok (turns_from h (length is) 0 is))
+turns_of_items h v is e = with_items h (is_some h.key && not (is_map v)) (items_in plain v) is e
 
-pub array_items : (vs : ValsOf ℕ) (target items : Val) → target ≡ array vs → items ≡ target → items_in plain target ≡ Some (walked items)
-array_items vs target items e same = ap (items_in plain) e ∙ sym (ap (λ (v : Val). Some (walked v)) (same ∙ e))
+-- a text is gone over by its clusters
+module _ (is_keyed : Bool) (content : List ℕ) (safe : Bool) (target : Val) where
+  over_clusters : (items : Val) → (is_keyed && not (is_map target)) ≡ false → text content safe ≡ target → array (vals (clusters_in plain content)) ≡ items → items_for is_keyed target ≡ Ok (walked items)
+  over_clusters items fits e made =
+      ap (λ (t : Bool). cond t (Err message) (given (items_in plain target))) fits
+      ∙ ap (λ (v : Val). given (items_in plain v)) (sym e)
+      ∙ ap (λ (l : List Val). Ok (unkeyed l)) (sym (list_of_vals (clusters_in plain content)))
+      ∙ ap (λ (v : Val). Ok (walked v)) made
 
-pub map_items : (es : EntriesOf ℕ) (target items : Val) → target ≡ map_of es → items ≡ target → items_in plain target ≡ Some (walked items)
-map_items es target items e same = ap (items_in plain) e ∙ sym (ap (λ (v : Val). Some (walked v)) (same ∙ e))
-
-pub bytes_items : (t : List ℕ) (target items : Val) → target ≡ bytes t → items ≡ target → items_in plain target ≡ Some (walked items)
-bytes_items t target items e same = ap (items_in plain) e ∙ sym (ap (λ (v : Val). Some (walked v)) (same ∙ e))
-
-pub no_turns : (h : Heading) (is : List Item) → 0 ≡ length is → turns_from h (length is) 0 is ≡ []
-no_turns h [] e = refl
-no_turns h (x ∷ is) e = absurd (omega (arith, e))
+  pub gives_clusters : (r : Result Val Refusal) → (is_keyed && not (is_map target)) ≡ false → text content safe ≡ target → Gives (λ v. v) r (Ok (array (vals (clusters_in plain content)))) → Gives walked r (items_for is_keyed target)
+  gives_clusters (Ok items) fits e made = let same : array (vals (clusters_in plain content)) ≡ items = cc in over_clusters items fits e same
+  gives_clusters (Err None) fits e made = tt
+  gives_clusters (Err (Some fault)) fits e made = cc
 
 starts : (h : Heading) (n : ℕ) (is : List Item) → (0 ≡ length is → ⊥) → turns_from h n 0 is ≡ record { counters = cond h.counts (counters n 0) []; sets = []; names = names_of h (slice_get is 0) } ∷ turns_from h n 1 (drop 1 is)
 starts h n [] ne = absurd (ne refl)

@@ -1,11 +1,11 @@
 -- What the calls do to variables and to what is around.
-use Rattle.std.proofs.Common.{◌≡◌, ℕ, suc, List, [], ◌∷◌, length, sym, ap, ap₂, ◌∙◌, true≢false, Option, Some, None, Result, Ok, Err, OnOk, OnErr, subst, IsSome}
+use Rattle.std.proofs.Common.{◌≡◌, ℕ, suc, Bool, true, false, List, [], ◌∷◌, length, drop, map, refl, sym, ap, ap₂, ◌∙◌, true≢false, Result, Ok, Err, OnOk, OnErr, subst}
 use Rattle.tera_errors.specs.Site.{Name}
 use Rattle.tera_values.specs.Val.{Val}
 use Rattle.tera_state.specs.Scope.{Bindings, Turn, Variables, Around, set_variable, set_global, open_turn, close_turn, nothing_set, Frame as FrameMeant}
 use Rattle.tera_state.specs.Bound.{layer_of, with_binding, without, without_frame}
-use Rattle.tera_state.specs.Opened.{turn_of, to_come}
-use Rattle.tera_state.specs.Scopes.{begun, opened, turns_of, variables_at, variables_of, around_of, rest_of, coming, above_of, frame_of, loops_of, tail}
+use Rattle.tera_state.specs.Opened.{turn_of, to_come, turns_of, InnermostGoesOn}
+use Rattle.tera_state.specs.Scopes.{begun, variables_at, variables_of, around_of, coming_of, TakesTurn, above_of, frame_of}
 use Rattle.tera_state.specs.declared.bindings.Binding.{Binding}
 use Rattle.tera_state.specs.declared.loops.ForLoop.{ForLoop}
 use Rattle.tera_state.specs.declared.frame.Frame.{Frame}
@@ -22,11 +22,11 @@ module _ {E : Type 0} where
   either_way (Ok x) f g p q = f p
   either_way (Err e) f g p q = g q
 
-  pub sets : (s : Scopes) (bs : List Binding) (f l : ℕ) (n : Name) (v : Val) (r : Result (Unit {0}) E) → f ≡ length s.below → l ≡ length (loops_of s.frame) → OnOk r (bs ≡ with_binding s.bindings f l n v) → OnOk r (variables_of (record s { bindings = bs }) ≡ set_variable n v (variables_of s))
-  sets s bs f l n v r ef el = on_ok r (λ e. ap (λ (x : List Binding). variables_of (record s { bindings = x })) (e ∙ ap₂ (λ (g k : ℕ). with_binding s.bindings g k n v) ef el) ∙ set_law s.bindings (length s.below) (loops_of s.frame) n v)
+  pub sets : (s : Scopes) (bs : List Binding) (f l : ℕ) (n : Name) (v : Val) (r : Result (Unit {0}) E) → f ≡ length s.below → l ≡ length (s.frame.loops) → OnOk r (bs ≡ with_binding s.bindings f l n v) → OnOk r (variables_of (record s { bindings = bs }) ≡ set_variable n v (variables_of s))
+  sets s bs f l n v r ef el = on_ok r (λ e. ap (λ (x : List Binding). variables_of (record s { bindings = x })) (e ∙ ap₂ (λ (g k : ℕ). with_binding s.bindings g k n v) ef el) ∙ set_law s.bindings (length s.below) (s.frame.loops) n v)
 
   pub sets_global : (s : Scopes) (bs : List Binding) (f : ℕ) (n : Name) (v : Val) (r : Result (Unit {0}) E) → f ≡ length s.below → OnOk r (bs ≡ with_binding s.bindings f 0 n v) → OnOk r (variables_of (record s { bindings = bs }) ≡ set_global n v (variables_of s))
-  sets_global s bs f n v r ef = on_ok r (λ e. ap (λ (x : List Binding). variables_of (record s { bindings = x })) (e ∙ ap (λ (g : ℕ). with_binding s.bindings g 0 n v) ef) ∙ set_global_law s.bindings (length s.below) (loops_of s.frame) n v)
+  sets_global s bs f n v r ef = on_ok r (λ e. ap (λ (x : List Binding). variables_of (record s { bindings = x })) (e ∙ ap (λ (g : ℕ). with_binding s.bindings g 0 n v) ef) ∙ set_global_law s.bindings (length s.below) (s.frame.loops) n v)
 
   pub sets_stays : (s : Scopes) (bs : List Binding) (f l : ℕ) (n : Name) (v : Val) (r : Result (Unit {0}) E) → f ≡ length s.below → OnOk r (bs ≡ with_binding s.bindings f l n v) → OnErr r (bs ≡ s.bindings) → around_of (record s { bindings = bs }) ≡ around_of s
   sets_stays s bs f l n v r ef =
@@ -35,44 +35,70 @@ module _ {E : Type 0} where
       (λ e. ap (λ (x : List Binding). around_of (record s { bindings = x })) e)
 
 -- a layer of the frame that runs is taken out
-abbrev cleared : Scopes → List Binding → Option ForLoop → Scopes
-cleared s bs inner = record s { bindings = bs; frame = record { standing = s.frame.standing; inner = inner; outer = s.frame.outer } }
+abbrev cleared : Scopes → List Binding → List ForLoop → Scopes
+cleared s bs ls = record s { bindings = bs; frame = record s.frame { loops = ls } }
 
-pub turn_stays : (s : Scopes) (bs : List Binding) (f l : ℕ) → f ≡ length s.below → bs ≡ without s.bindings f l → above_of bs s.below ≡ above_of s.bindings s.below
+turn_stays : (s : Scopes) (bs : List Binding) (f l : ℕ) → f ≡ length s.below → bs ≡ without s.bindings f l → above_of bs s.below ≡ above_of s.bindings s.below
 turn_stays s bs f l ef e = ap (λ (x : List Binding). above_of x s.below) (e ∙ ap (λ (g : ℕ). without s.bindings g l) ef) ∙ without_above s.bindings s.below l
 
 -- the same of all that is around
-pub cleared_stays : (s : Scopes) (fr : Frame) (bs : List Binding) (f l : ℕ) → f ≡ length s.below → bs ≡ without s.bindings f l → fr.standing ≡ s.frame.standing → around_of (record s { bindings = bs; frame = fr }) ≡ around_of s
-cleared_stays s fr bs f l ef e same = ap₂ (λ st us. record { frame = frame_of st s.below; above = us }) same (turn_stays s bs f l ef e)
+pub cleared_stays : (s : Scopes) (ls : List ForLoop) (bs : List Binding) (f l : ℕ) → f ≡ length s.below → bs ≡ without s.bindings f l → around_of (cleared s bs ls) ≡ around_of s
+cleared_stays s ls bs f l ef e = ap (λ us. record { frame = frame_of s.frame.standing s.below; above = us }) (turn_stays s bs f l ef e)
 
 abbrev variables_with : List Binding → ℕ → List ForLoop → Variables
 variables_with bs f ls = record { turns = turns_of bs f ls; sets = layer_of bs f 0 }
 
-pub opens : (s : Scopes) (fr : Frame) (bs : List Binding) (f k : ℕ) (l : ForLoop) → f ≡ length s.below → k ≡ length (loops_of fr) → loops_of fr ≡ l ∷ loops_of s.frame → bs ≡ without s.bindings f k → variables_of (record s { bindings = bs; frame = fr }) ≡ open_turn (turn_of [] l) (variables_of s)
-opens s fr bs f k l ef ek ls e =
-    let made : bs ≡ without s.bindings (length s.below) (suc (length (loops_of s.frame))) = e ∙ ap₂ (λ (g j : ℕ). without s.bindings g j) ef (ek ∙ ap length ls) in
-    ap₂ (λ (x : List Binding) (ms : List ForLoop). variables_with x (length s.below) ms) made ls ∙ open_law s.bindings (length s.below) (loops_of s.frame) l
+-- this is the layer of the innermost loop
+module _ (s : Scopes) (bs : List Binding) (f k : ℕ) (ef : f ≡ length s.below) (e : bs ≡ without s.bindings f k) where
+  abbrev here : ℕ
+  here = length s.below
 
-closes_by : (i : Option ForLoop) (outer ms : List ForLoop) (old bs : List Binding) (f k : ℕ) → IsSome i → k ≡ length (opened i outer) → ms ≡ tail (opened i outer) → bs ≡ without old f k → variables_with bs f ms ≡ close_turn (variables_with old f (opened i outer))
-closes_by None outer ms old bs f k h ek em e = absurd (true≢false (sym h))
-closes_by (Some l) outer ms old bs f k h ek em e = ap₂ (λ (x : List Binding) (ns : List ForLoop). variables_with x f ns) (e ∙ ap (λ (j : ℕ). without old f j) ek) em ∙ close_law old f outer
+  abbrev before : List ForLoop → Variables
+  before ls = variables_with s.bindings here ls
 
-pub closes : (s : Scopes) (fr : Frame) (bs : List Binding) (f k : ℕ) → IsSome s.frame.inner → f ≡ length s.below → k ≡ length (loops_of s.frame) → loops_of fr ≡ tail (loops_of s.frame) → bs ≡ without s.bindings f k → variables_of (record s { bindings = bs; frame = fr }) ≡ close_turn (variables_of s)
-closes s fr bs f k h ef ek em e = closes_by s.frame.inner s.frame.outer (loops_of fr) s.bindings bs (length s.below) k h ek em (e ∙ ap (λ (g : ℕ). without s.bindings g k) ef)
+  abbrev after : List ForLoop → Variables
+  after ls = variables_with bs here ls
 
--- the loop goes on to its next turn
-next_law : (old : List Binding) (below : List Frame) (l l' : ForLoop) (ls : List ForLoop) (bs : List Binding) (f k : ℕ) → f ≡ length below → k ≡ suc (length ls) → to_come l ≡ turn_of [] l' ∷ to_come l' → bs ≡ without old f k → (t : Turn) × (to_come l ≡ t ∷ to_come l') × (record { turns = turns_of bs (length below) (l' ∷ ls); sets = layer_of bs (length below) 0 } ≡ open_turn t (close_turn (record { turns = turns_of old (length below) (l ∷ ls); sets = layer_of old (length below) 0 })))
-next_law old below l l' ls bs f k ef ek h e =
-    let made : bs ≡ without old (length below) (suc (length ls)) = e ∙ ap₂ (λ (g j : ℕ). without old g j) ef ek in
-    (turn_of [] l', h, ap (λ (x : List Binding). record { turns = turns_of x (length below) (l' ∷ ls); sets = layer_of x (length below) 0 }) made ∙ open_law old (length below) ls l')
+  from_here : (ls new : List ForLoop) (l : ForLoop) → k ≡ length new → new ≡ l ∷ ls → after new ≡ open_turn (turn_of [] l) (before ls)
+  from_here ls new l ek same =
+      ap₂ (λ (x : List Binding) (ms : List ForLoop). variables_with x here ms) (e ∙ ap₂ (λ (g j : ℕ). without s.bindings g j) ef (ek ∙ ap length same)) same
+      ∙ open_law s.bindings here ls l
 
-takes_by : (i : Option ForLoop) (l l' : ForLoop) (old : List Binding) (below : List Frame) (ls : List ForLoop) (bs : List Binding) (f k : ℕ) → f ≡ length below → k ≡ length (opened i ls) → i ≡ Some l → to_come l ≡ turn_of [] l' ∷ to_come l' → bs ≡ without old f k → (t : Turn) × (coming i ≡ t ∷ to_come l') × (record { turns = turns_of bs (length below) (l' ∷ ls); sets = layer_of bs (length below) 0 } ≡ open_turn t (close_turn (record { turns = turns_of old (length below) (opened i ls); sets = layer_of old (length below) 0 })))
-takes_by i l l' old below ls bs f k ef ek is h e =
-    subst (λ (j : Option ForLoop). (t : Turn) × (coming j ≡ t ∷ to_come l') × (record { turns = turns_of bs (length below) (l' ∷ ls); sets = layer_of bs (length below) 0 } ≡ open_turn t (close_turn (record { turns = turns_of old (length below) (opened j ls); sets = layer_of old (length below) 0 })))) (sym is)
-    (next_law old below l l' ls bs f k ef (ek ∙ ap (λ (j : Option ForLoop). length (opened j ls)) is) h e)
+  pub opens : (new : List ForLoop) (l : ForLoop) → k ≡ length new → new ≡ l ∷ s.frame.loops → variables_of (cleared s bs new) ≡ open_turn (turn_of [] l) (variables_of s)
+  opens new l ek same = from_here s.frame.loops new l ek same
 
-pub takes_turn : (s : Scopes) (l l' : ForLoop) (bs : List Binding) (f k : ℕ) → f ≡ length s.below → k ≡ length (loops_of s.frame) → s.frame.inner ≡ Some l → to_come l ≡ turn_of [] l' ∷ to_come l' → bs ≡ without s.bindings f k → (t : Turn) × (rest_of s ≡ t ∷ to_come l') × (variables_of (cleared s bs (Some l')) ≡ open_turn t (close_turn (variables_of s)))
-takes_turn s l l' bs f k ef ek is h e = takes_by s.frame.inner l l' s.bindings s.below s.frame.outer bs f k ef ek is h e
+  closes_by : (old new : List ForLoop) → (map to_come old ≡ [] → ⊥) → k ≡ length old → new ≡ drop 1 old → after new ≡ close_turn (before old)
+  closes_by [] new some ek same = absurd (some refl)
+  closes_by (l ∷ ls) new some ek same =
+      ap₂ (λ (x : List Binding) (ms : List ForLoop). variables_with x here ms) (e ∙ ap₂ (λ (g j : ℕ). without s.bindings g j) ef ek) same
+      ∙ close_law s.bindings here ls
+
+  pub closes : (new : List ForLoop) → (coming_of s ≡ [] → ⊥) → k ≡ length s.frame.loops → new ≡ drop 1 s.frame.loops → variables_of (cleared s bs new) ≡ close_turn (variables_of s)
+  closes new some ek same = closes_by s.frame.loops new some ek same
+
+  takes_by : (old new : List ForLoop) → k ≡ length new → InnermostGoesOn true old new → TakesTurn true (map to_come old) (before old) (map to_come new) (after new)
+  takes_by [] new ek h = absurd (true≢false h.0)
+  takes_by (l ∷ ls) new ek (l', same, goes) =
+      subst (λ (c : List Turn). TakesTurn true (c ∷ map to_come ls) (before (l ∷ ls)) (map to_come new) (after new)) (sym goes)
+      (refl, ap (map to_come) same, from_here ls new l' ek same)
+
+  pub takes_turn : (new : List ForLoop) (r : Bool) → r ≡ true → k ≡ length new → InnermostGoesOn r s.frame.loops new → TakesTurn true (coming_of s) (variables_of s) (coming_of (cleared s bs new)) (variables_of (cleared s bs new))
+  takes_turn new r it ek h = takes_by s.frame.loops new ek (subst (λ (b : Bool). InnermostGoesOn b s.frame.loops new) it h)
+
+-- the innermost loop has no turn to come
+module _ (bs : List Binding) (f : ℕ) where
+  abbrev at : List ForLoop → Variables
+  at ls = variables_with bs f ls
+
+  stops_by : (old new : List ForLoop) → InnermostGoesOn false old new → TakesTurn false (map to_come old) (at old) (map to_come new) (at new)
+  stops_by [] new h = (refl, ap (map to_come) h.1, ap at h.1)
+  stops_by (l ∷ ls) new (l', same, stops) =
+      let e : new ≡ l ∷ ls = same ∙ ap (λ x. x ∷ ls) stops.1 in
+      subst (λ (c : List Turn). TakesTurn false (c ∷ map to_come ls) (at (l ∷ ls)) (map to_come new) (at new)) (sym stops.0)
+      (refl, ap (map to_come) e ∙ ap (λ c. c ∷ map to_come ls) stops.0, ap at e)
+
+pub stops : (s : Scopes) (new : List ForLoop) (r : Bool) → r ≡ false → InnermostGoesOn r s.frame.loops new → TakesTurn false (coming_of s) (variables_of s) (coming_of (cleared s s.bindings new)) (variables_of (cleared s s.bindings new))
+stops s new r it h = stops_by s.bindings (length s.below) s.frame.loops new (subst (λ (b : Bool). InnermostGoesOn b s.frame.loops new) it h)
 
 -- a frame begins with nothing bound, and ends with all that it bound
 pub begins_with_nothing : (bs : List Binding) (f : ℕ) → ◌≡◌ {A = Variables} (record { turns = []; sets = layer_of (without_frame bs f) f 0 }) nothing_set

@@ -1,8 +1,8 @@
 -- The items of an open loop, at their places.
-use Rattle.std.proofs.Common.{◌≡◌, ℕ, zero, suc, ◌<◌, ◌≤◌, List, [], ◌∷◌, Some, None, refl, sym, ap, ◌∙◌, arith, map, length, drop, option_map}
-use Rattle.std.specs.Prelude.{slice_get, pos}
+use Rattle.std.proofs.Common.{◌≡◌, ℕ, zero, suc, ◌<◌, ◌≤◌, List, [], ◌∷◌, Option, Some, None, refl, sym, ap, ap₂, ◌∙◌, arith, map, length, drop, option_map}
+use Rattle.std.specs.Prelude.{slice_get, pos, unwrap_or}
 use Rattle.std.proofs.lemmas.List.{length-map}
-use Rattle.tera_values.specs.Val.{Val, KeyVal, array, bytes, int, vals, list_of, map as map_of, entries}
+use Rattle.tera_values.specs.Val.{Val, KeyVal, undefined, array, bytes, int, vals, list_of, map as map_of, entries}
 use Rattle.tera_values.specs.Access.{pairs}
 use Rattle.tera_state.specs.Found.{key_as_value}
 use Rattle.tera_state.specs.Items.{Item, unkeyed}
@@ -74,9 +74,6 @@ keyed e = (Some (key_as_value e.0), e.1)
 pub map_size : (v : Val) (es : List (KeyVal × Val)) → map_of (entries es) ≡ v → length (walked v) ≡ length es
 map_size v es e = ap (λ w. length (walked w)) (sym e) ∙ ap (λ (l : List (KeyVal × Val)). length (map keyed l)) (pairs_of_entries es) ∙ length-map es keyed
 
-pub bytes_size : (v : Val) (t : List ℕ) → bytes t ≡ v → length (walked v) ≡ length t
-bytes_size v t e = ap (λ w. length (walked w)) (sym e) ∙ length-map (map number t) _ ∙ length-map t number
-
 -- the turns from a place on
 from_place : (h : Heading) (size k i : ℕ) (is : List Item) → i < length is → turns_from h size k (drop i is) ≡ record { counters = (turn h size k (None, int (pos 0))).counters; sets = []; names = names_of h (slice_get is i) } ∷ turns_from h size (suc k) (drop (suc i) is)
 from_place h size k i [] lt = absurd (omega (arith, lt))
@@ -95,3 +92,12 @@ nothing_past (suc i) (x ∷ is) le = nothing_past i is (omega (arith, le))
 
 pub ends : (l : ForLoop) → length (items_of l) ≤ suc l.index → to_come l ≡ []
 ends l le = ap (turns_from (heading_of l) (length (items_of l)) (suc l.index)) (nothing_past (suc l.index) (items_of l) le)
+
+-- an item that is lent at its place
+lent_at : (is : List Item) (i : ℕ) (key value : Option Val) → i < length is → key ≡ key_at (slice_get is i) → value ≡ value_at (slice_get is i) → drop i is ≡ (key, unwrap_or value undefined) ∷ drop (suc i) is
+lent_at [] i key value lt ek ev = absurd (omega (arith, lt))
+lent_at (x ∷ is) zero key value lt ek ev = ap₂ (λ (k o : Option Val). (k, unwrap_or o undefined) ∷ is) (sym ek) (sym ev)
+lent_at (x ∷ is) (suc i) key value lt ek ev = lent_at is i key value (omega (arith, lt)) ek ev
+
+pub drop-lent : (is : List Item) (i j : ℕ) (key value : Option Val) → j ≡ suc i → i < length is → key ≡ key_at (slice_get is i) → value ≡ value_at (slice_get is i) → drop i is ≡ (key, unwrap_or value undefined) ∷ drop j is
+drop-lent is i j key value e lt ek ev = lent_at is i key value lt ek ev ∙ ap (λ (k : ℕ). (key, unwrap_or value undefined) ∷ drop k is) (sym e)

@@ -1,9 +1,11 @@
+pub mod Stack
 pub mod Lent
 pub mod Items
 pub mod Scope
 pub mod Bound
 pub mod Found
 pub mod Opened
+pub mod Lending
 pub mod Scopes
 pub mod Rendered
 pub mod View

@@ -11,7 +11,7 @@ use Rattle.tera_state.specs.Scope.{Around, Variables, look}
 use Rattle.tera_state.specs.Scopes.{around_of, variables_of}
 use Rattle.tera_state.specs.declared.state.Source.{Source}
 use Rattle.tera_state.specs.declared.state.Source.TheVariants.{Alone, Open}
-use Rattle.tera_state.specs.declared.state.State.{State}
+use Rattle.tera_state.specs.declared.state.StateOver.{StateOver}
 
 -- the look-up, which gives undefined where nothing binds the name; whether text is escaped; and the escape
 pub record View : Type 0 where
@@ -29,7 +29,7 @@ abbrev pub look_in_source : Source → Name → Val
 look_in_source (Alone context) name = unwrap_or (at_name name context.now) undefined
 look_in_source (Open scopes) name = look name (around_of scopes.now) (variables_of scopes.now)
 
-abbrev pub view_of : State → View
+abbrev pub view_of : StateOver → View
 view_of s = record { look = look_in_source s.source; autoescape = s.autoescape; escape = escape_html }
 
 abbrev pub written : View → Val → Text

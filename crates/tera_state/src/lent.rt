@@ -34,8 +34,17 @@ impl<'c> Lent<'c> {
         Lent { context }
     }
 
+    /// The same names, lent once more. Takes no memory.
+    pub fn share(&self) -> Lent<'c>
+        ensures { result ≡ self.now }
+    {
+        Lent {
+            context: self.context,
+        }
+    }
+
     /// The value at a name.
-    pub fn get(&self, name: &str) -> Option<&Value>
+    pub fn get(&self, name: &str) -> Option<&'c Value>
         ensures { option_copied result ≡ at_name name.now self.now }
     {
         match self.context {

@@ -14,12 +14,12 @@ use tera_values::{ArgFromValue, Context, Error, TeraResult, Value, escape_html};
 
 /// Where names are looked up: in a context alone, or in the scopes of a rendering.
 #[derive(Drop)]
-enum Source<'a> {
+enum Source<'a, 'c> {
     Alone(&'a Context),
-    Open(&'a Scopes<'a>),
+    Open(&'a Scopes<'c>),
 }
 
-impl<'a> Source<'a> {
+impl<'a, 'c> Source<'a, 'c> {
     ghost use Rattle.tera_state.specs.View.{look_in_source};
 
     fn look(&self, name: &str) -> Found<'_>
@@ -35,23 +35,27 @@ impl<'a> Source<'a> {
     }
 }
 
-/// What an object of the caller sees: the variables, whether text is escaped, and the escape.
+/// What an object of the caller sees: the variables, whether text is escaped, and the escape. It is lent the scopes, and
+/// they are lent their contexts.
 #[derive(Drop)]
-pub struct State<'a> {
+pub struct StateOver<'a, 'c> {
     alloc: Global,
-    source: Source<'a>,
+    source: Source<'a, 'c>,
     autoescape: bool,
 }
 
-impl<'a> State<'a> {
+/// The same over what lives as long as it is lent.
+pub type State<'a> = StateOver<'a, 'a>;
+
+impl<'a, 'c> StateOver<'a, 'c> {
     ghost use Rattle.tera_state.specs.Scope.{outside, nothing_set};
     ghost use Rattle.tera_state.specs.View.{view_of, view_at, read_defined, escaped_if_needed};
 
     /// A state over a context alone: text is escaped, and by `escape_html`. Takes no memory.
-    pub fn new(context: &'a Context) -> State<'a>
+    pub fn new(context: &'a Context) -> StateOver<'a, 'c>
         ensures { view_of result ≡ view_at (outside context.now []) nothing_set true escape_html }
     {
-        State {
+        StateOver {
             alloc: context.alloc(),
             source: Source::Alone(context),
             autoescape: true,
@@ -110,15 +114,15 @@ impl<'a> State<'a> {
     }
 }
 
-impl<'a> Scopes<'a> {
+impl<'c> Scopes<'c> {
     ghost use Rattle.tera_state.specs.Scopes.{around_of, variables_of};
     ghost use Rattle.tera_state.specs.View.{view_of, view_at};
 
     /// The state of the rendering, as it is lent to an object. Takes no memory.
-    pub fn state(&'a self, autoescape: bool) -> State<'a>
+    pub fn state(&self, autoescape: bool) -> StateOver<'_, 'c>
         ensures { view_of result ≡ view_at (around_of self.now) (variables_of self.now) autoescape escape_html }
     {
-        State {
+        StateOver {
             alloc: self.alloc,
             source: Source::Open(self),
             autoescape,

@@ -41,7 +41,7 @@ fn numbers(alloc: Global) -> Option<Value> {
 
 fn opens(alloc: Global, scopes: &mut Scopes<'_>) -> bool {
     match (name(alloc, "x"), numbers(alloc)) {
-        (Some(name), Some(items)) => match ForLoop::new(alloc, name, None, true, items) {
+        (Some(name), Some(items)) => match ForLoop::new(alloc, name, None, items) {
             Ok(Some(opened)) => scopes.open_loop(opened).is_ok(),
             _ => false,
         },
@@ -74,7 +74,7 @@ fn turns_forget_what_was_set(rt: HostRuntime) {
     let mut holds = opens(alloc, &mut scopes)
         && first_turn(alloc, &mut scopes)
         && second_turn(alloc, &mut scopes);
-    if scopes.frame.inner.is_some() {
+    if scopes.is_in_loop() {
         scopes.close_loop();
     }
     holds = holds && finds(alloc, &scopes, "x", None) && finds(alloc, &scopes, "outside", Some(8));

@@ -1,6 +1,7 @@
 use Rattle.std.proofs.Common.{rules, ◌≡◌, ◌-◌, ◌≤◌, ◌<◌, ◌∙◌, sym, arith, length, true, false}
 use Rattle.tera_state.specs.Found.{found_value}
-use Rattle.tera_state.specs.Scopes.{lower, frame_of, above_of, variables_at}
+use Rattle.tera_state.specs.Stack.{lower}
+use Rattle.tera_state.specs.Scopes.{frame_of, above_of, variables_at}
 use Rattle.tera_state.proofs.Finds.{missing, lower_at, lower_length}
 use Rattle.tera_state.proofs.Beyond.{implicit_here, implicit_above, above_step}
 use Rattle.tera_state.proofs.scopes.Scopes.+implicit_at.Goals as goal

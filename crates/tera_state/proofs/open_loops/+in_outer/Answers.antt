@@ -2,7 +2,7 @@ use Rattle.std.proofs.Common.{rules, arith, ◌∙◌, sym, ap}
 use Rattle.tera_state.specs.Scope.{in_turns}
 use Rattle.tera_state.proofs.Finds.{second, missing, turns_step}
 use Rattle.tera_state.proofs.Beyond.{kept_first}
-use Rattle.tera_state.proofs.scopes.+in_outer.Goals as goal
+use Rattle.tera_state.proofs.open_loops.+in_outer.Goals as goal
 
 pub returns-in-Nothing : goal.returns-in-Nothing
 returns-in-Nothing t c =

@@ -3,7 +3,7 @@ use Rattle.tera_values.specs.Named.{at_name}
 use Rattle.tera_state.specs.Opened.{names_of, heading_of, item_at}
 use Rattle.tera_state.proofs.Finds.{first, second}
 use Rattle.tera_state.proofs.Layers.{value-is}
-use Rattle.tera_state.proofs.scopes.in_turn.Goals as goal
+use Rattle.tera_state.proofs.open_loops.in_turn.Goals as goal
 
 pub returns-in-Some : goal.returns-in-Some
 returns-in-Some c =

@@ -1,0 +1,140 @@
+// What an open loop goes over, by place.
+ghost use Rattle.std.specs.Prelude.{◌≡◌, ◌&&◌, Ok, drop, length, not, slice_get};
+ghost use Rattle.tera_errors.specs.Answer.{Gives};
+ghost use Rattle.tera_values.specs.Alphabet.{plain};
+ghost use Rattle.tera_values.specs.Val.{array, vals};
+ghost use Rattle.tera_state.specs.Found.{found_value};
+ghost use Rattle.tera_state.specs.Items.{clusters_in};
+ghost use Rattle.tera_state.specs.Scope.{is_map};
+ghost use Rattle.tera_state.specs.Opened.{walked, items_for, key_at, value_at};
+
+use crate::found::Found;
+use std::alloc::Global;
+use tera_values::{Error, Shape, TeraResult, Value};
+use unicode_segmentation::UnicodeSegmentation;
+
+/// The items of a loop that are still to be handed out, each with its key, which is nothing but in a map. They are lent.
+#[derive(Drop)]
+pub struct ForLoopIterator<'a> {
+    items: &'a Value,
+    index: usize,
+}
+
+impl<'a> ForLoopIterator<'a> {
+    ghost use Rattle.tera_state.specs.Lending.{items_left};
+
+    /// The items from a place on. A text is gone over as the array of its clusters.
+    pub(crate) fn new(items: &'a Value, index: usize) -> ForLoopIterator<'a>
+        ensures { items_left result ≡ drop index (walked items.now) }
+    {
+        ForLoopIterator { items, index }
+    }
+}
+
+impl<'a> Iterator for ForLoopIterator<'a> {
+    ghost use Rattle.std.specs.Iterator.{YieldsFirstBy, item_count};
+    ghost use Rattle.tera_state.specs.Lending.{items_left, lent_item};
+
+    type Item = (Found<'a>, Found<'a>);
+
+    ghost next_gives = { YieldsFirstBy lent_item items_left };
+
+    ghost remaining = { item_count items_left };
+
+    /// The key and the value of the next item. Takes no memory.
+    fn next(&mut self) -> Option<(Found<'a>, Found<'a>)> {
+        let items = self.items;
+        let index = self.index;
+        if index >= size_of(items) {
+            return None;
+        }
+        self.index = index + 1;
+        Some((key_at(items, index), value_at(items, index)))
+    }
+}
+
+/// How many items there are in all.
+pub(crate) fn size_of(items: &Value) -> usize
+    ensures { result ≡ length (walked items.now) }
+{
+    match items.shape() {
+        Shape::Array(items) => items.len(),
+        Shape::Map(entries) => entries.len(),
+        Shape::Bytes(bytes) => bytes.len(),
+        _ => 0,
+    }
+}
+
+/// The item at a place.
+pub(crate) fn value_at(items: &Value, index: usize) -> Found<'_>
+    ensures { found_value result ≡ value_at (slice_get (walked items.now) index) }
+{
+    match items.shape() {
+        Shape::Array(items) => match items.get(index) {
+            Some(value) => Found::Kept(value),
+            None => Found::Nothing,
+        },
+        Shape::Map(entries) => match entries.entry_at(index) {
+            Some((_, value)) => Found::Kept(value),
+            None => Found::Nothing,
+        },
+        Shape::Bytes(bytes) => match bytes.get(index) {
+            Some(byte) => Found::Number(*byte as usize),
+            None => Found::Nothing,
+        },
+        _ => Found::Nothing,
+    }
+}
+
+/// The key of the item at a place.
+pub(crate) fn key_at(items: &Value, index: usize) -> Found<'_>
+    ensures { found_value result ≡ key_at (slice_get (walked items.now) index) }
+{
+    match items.shape() {
+        Shape::Map(entries) => match entries.entry_at(index) {
+            Some((key, _)) => Found::Key(key),
+            None => Found::Nothing,
+        },
+        Shape::Array(_) => Found::Nothing,
+        Shape::Bytes(_) => Found::Nothing,
+        _ => Found::Nothing,
+    }
+}
+
+/// What a loop over the value goes over by place: the value itself, and for a text, whose clusters are made here, their
+/// array. With a key it must be a map.
+pub(crate) fn gone_over(alloc: Global, is_keyed: bool, target: Value) -> TeraResult<Value>
+    ensures { Gives walked result (items_for is_keyed target) }
+{
+    if lacks_keys(is_keyed, &target) {
+        return Err(Error::message(alloc, "a loop with a key needs a map"));
+    }
+    match target.shape() {
+        Shape::Text(content, _) => clusters(alloc, content),
+        Shape::Array(_) => Ok(target),
+        Shape::Map(_) => Ok(target),
+        Shape::Bytes(_) => Ok(target),
+        _ => Err(Error::message(alloc, "the value has no items to go over")),
+    }
+}
+
+// Whether keys are wanted of a value that has none.
+fn lacks_keys(is_keyed: bool, value: &Value) -> bool
+    ensures { result ≡ (is_keyed && not (is_map value.now)) }
+{
+    match value.shape() {
+        Shape::Map(_) => false,
+        _ => is_keyed,
+    }
+}
+
+// The clusters of a text, made once.
+fn clusters(alloc: Global, content: &str) -> TeraResult<Value>
+    ensures { Gives (λ v. v) result (Ok (array (vals (clusters_in plain content.now)))) }
+{
+    let mut parts = Vec::new(alloc);
+    for cluster in content.graphemes(true) {
+        parts.push(Value::string(alloc, cluster)?)?;
+    }
+    Ok(Value::array(parts))
+}

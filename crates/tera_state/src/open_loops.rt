@@ -1,0 +1,150 @@
+// The open loops of a body.
+ghost use Rattle.std.specs.Prelude.{◌≡◌, ◌≤◌, ◌∷◌, ◌^◌, ◌<◌, [], length, drop, OnOk, IfErr};
+ghost use Rattle.tera_errors.specs.Answer.{Lacks};
+ghost use Rattle.tera_state.specs.Bound.{layer_of};
+ghost use Rattle.tera_state.specs.Found.{found_value};
+ghost use Rattle.tera_state.specs.Opened.{turn_of, turns_of, InnermostGoesOn};
+ghost use Rattle.tera_state.specs.Scope.{in_turn, in_turns};
+ghost use Rattle.tera_state.specs.Stack.{lower};
+
+use crate::bindings::Bindings;
+use crate::found::Found;
+use crate::loops::ForLoop;
+use crate::stack::Stack;
+use std::alloc::Global;
+use std::marker::Model;
+use tera_values::TeraResult;
+
+/// The open loops of a body. A contract sees the list of them, the innermost first. The innermost stands apart, so that
+/// its turns are found first and one loop alone takes no memory.
+#[derive(Drop)]
+pub struct OpenLoops {
+    innermost: Option<ForLoop>,
+    around: Stack<ForLoop>,
+}
+
+impl Model for OpenLoops {
+    ghost use Rattle.std.specs.Prelude.{List};
+    ghost use Rattle.std.specs.Coded.{codes};
+    ghost use Rattle.tera_values.specs.Code.{val_code};
+    ghost use Rattle.tera_state.specs.declared.loops.ForLoop.{ForLoop as Datum};
+    ghost use Rattle.tera_state.specs.Opened.{opened, IsNested};
+
+    ghost Value = { List Datum };
+
+    ghost coded = { Prim.hlevel (codes, val_code) };
+
+    ghost view = { λ l. opened l.innermost l.around };
+
+    ghost invariant = { λ l. IsNested l.innermost l.around };
+}
+
+impl OpenLoops {
+    /// No loop is open. Takes no memory.
+    pub fn new(alloc: Global) -> OpenLoops
+        ensures { result ≡ [] }
+    {
+        OpenLoops {
+            innermost: None,
+            around: Stack::new(alloc),
+        }
+    }
+
+    /// How many loops are open: the layer of the innermost.
+    pub fn len(&self) -> usize
+        ensures { result ≡ length self.now }
+    {
+        match self.innermost {
+            Some(_) => self.around.len() + 1,
+            None => 0,
+        }
+    }
+
+    /// Opens the loop. Takes memory for the loop around it, if there is one.
+    pub fn push(&mut self, opened: ForLoop) -> TeraResult<()>
+        ensures ok { OnOk result (self.new ≡ opened ∷ self.old) }
+        ensures lacks { IfErr result Lacks }
+    {
+        if let Some(around) = self.innermost.replace(opened) {
+            self.around.push(around)?;
+        }
+        Ok(())
+    }
+
+    /// Closes the innermost loop, where there is one.
+    pub fn pop(&mut self)
+        ensures { self.new ≡ drop 1 self.old }
+    {
+        self.innermost = self.around.pop();
+    }
+
+    /// The innermost loop goes on to its next turn, where it has one. Takes no memory.
+    pub fn next(&mut self) -> bool
+        ensures { InnermostGoesOn result self.old self.new }
+    {
+        match &mut self.innermost {
+            Some(innermost) => innermost.next(),
+            None => false,
+        }
+    }
+
+    /// What the turns of the loops of this frame bind. Takes no memory.
+    pub fn look<'a>(&'a self, bindings: &'a Bindings, frame: usize, name: &str) -> Found<'a>
+        ensures { found_value result ≡ in_turns name.now (turns_of bindings.now frame self.now) }
+    {
+        match &self.innermost {
+            Some(innermost) => {
+                let layer = self.around.len() + 1;
+                match in_turn(bindings, frame, layer, innermost, name) {
+                    Found::Nothing => {
+                        in_outer(bindings, frame, &self.around, self.around.len(), name)
+                    }
+                    found => found,
+                }
+            }
+            None => Found::Nothing,
+        }
+    }
+}
+
+// What a turn binds, which is the layer-th of its frame.
+fn in_turn<'a>(
+    bindings: &'a Bindings,
+    frame: usize,
+    layer: usize,
+    turn: &'a ForLoop,
+    name: &str,
+) -> Found<'a>
+    ensures { found_value result ≡ in_turn name.now (turn_of (layer_of bindings.now frame layer) turn.now) }
+{
+    match turn.counter(name) {
+        Found::Nothing => match bindings.get(frame, layer, name) {
+            Some(value) => Found::Kept(value),
+            None => turn.named(name),
+        },
+        counted => counted,
+    }
+}
+
+// What the turns of the outer loops bind, up to a layer.
+fn in_outer<'a>(
+    bindings: &'a Bindings,
+    frame: usize,
+    loops: &'a Stack<ForLoop>,
+    layer: usize,
+    name: &str,
+) -> Found<'a>
+    requires { layer ≤ length loops.now }
+    ensures { found_value result ≡ in_turns name.now (turns_of bindings.now frame (lower layer loops.now)) }
+{
+    if layer == 0 {
+        return Found::Nothing;
+    }
+    match loops.at_height(layer - 1) {
+        Some(turn) => match in_turn(bindings, frame, layer, turn, name) {
+            Found::Nothing => in_outer(bindings, frame, loops, layer - 1, name),
+            found => found,
+        },
+        None => Found::Nothing,
+    }
+}

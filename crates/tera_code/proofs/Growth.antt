@@ -16,7 +16,8 @@ use Rattle.tera_code.specs.declared.instruction.Instruction.{Instruction}
 use Rattle.tera_code.specs.declared.instruction.Instruction.TheVariants as instruction
 use Rattle.tera_code.specs.declared.packed.Packed.{Packed}
 use Rattle.tera_code.specs.declared.packed.Packed.TheVariants as packed
-use Rattle.tera_code.specs.Packed.{Shelf, Longer, Grows, Packs, IsPacked, Within, unpacked, span_at}
+use Rattle.tera_code.specs.declared.packed.LoopNames.{LoopNames}
+use Rattle.tera_code.specs.Packed.{Shelf, Longer, Grows, Packs, Within, unpacked, span_at, name_at}
 use Rattle.tera_code.specs.Listing.{Listing}
 use Rattle.tera_code.specs.Code.{lengthened}
 use Rattle.tera_code.specs.Places.{filled}
@@ -76,10 +77,16 @@ chunk_of s ps file = record { file = file; code = map (unpacked s) ps }
 
 module _ (s t : Shelf) (u : IsUtf8 s.pool) (v : IsUtf8 t.pool) (g : Grows s t) where
   below_span : (n : ℕ) → n < length s.spans → n < length t.spans
-  below_span n l = below_longer s.spans t.spans n g.1.1.1.1.1 l
+  below_span n l = below_longer s.spans t.spans n g.1.1.1.1.1.0 l
 
   span_same : (n : ℕ) → n < length s.spans → span_at t n ≡ span_at s n
-  span_same n l = at_longer s.spans t.spans n _ g.1.1.1.1.1 l
+  span_same n l = at_longer s.spans t.spans n _ g.1.1.1.1.1.0 l
+
+  below_name : (n : ℕ) → n < length s.names → n < length t.names
+  below_name n l = below_longer s.names t.names n g.1.0 l
+
+  name_same : (n : ℕ) → n < length s.names → name_at t n ≡ name_at s n
+  name_same n l = at_longer s.names t.names n _ g.1.0 l
 
   within_stays : (p : Packed) → Within s p → Within t p
   within_stays (packed.WriteText start end) w = (w.0, (boundary_longer s.pool t.pool start u v g.0 w.1.0, boundary_longer s.pool t.pool end u v g.0 w.1.1))
@@ -88,9 +95,10 @@ module _ (s t : Shelf) (u : IsUtf8 s.pool) (v : IsUtf8 t.pool) (g : Grows s t) w
   within_stays (packed.LoadBool flag span) w = below_span span w
   within_stays (packed.LoadInt span number) w = below_span span w
   within_stays (packed.LoadConst constant span) w = (below_longer s.constants t.constants constant g.1.1.0 w.0, below_span span w.1)
-  within_stays (packed.WriteName name span) w = (below_longer s.names t.names name g.1.0 w.0, below_span span w.1)
-  within_stays (packed.LoadName name span) w = (below_longer s.names t.names name g.1.0 w.0, below_span span w.1)
-  within_stays (packed.LoadAttribute name optional span) w = (below_longer s.names t.names name g.1.0 w.0, below_span span w.1)
+  within_stays (packed.WriteName name span) w = (below_name name w.0, below_span span w.1)
+  within_stays (packed.LoadName name span) w = (below_name name w.0, below_span span w.1)
+  within_stays (packed.LoadContext span) w = below_span span w
+  within_stays (packed.LoadAttribute name optional span) w = (below_name name w.0, below_span span w.1)
   within_stays (packed.LoadItem optional span) w = below_span span w
   within_stays (packed.Slice optional span) w = below_span span w
   within_stays packed.Not w = tt
@@ -98,6 +106,16 @@ module _ (s t : Shelf) (u : IsUtf8 s.pool) (v : IsUtf8 t.pool) (g : Grows s t) w
   within_stays (packed.Binary operator span) w = below_span span w
   within_stays (packed.MakeArray spreads span) w = (below_longer s.spreads t.spreads spreads g.1.1.1.0 w.0, below_span span w.1)
   within_stays (packed.MakeMap keys span) w = (below_longer s.keys t.keys keys g.1.1.1.1.0 w.0, below_span span w.1)
+  within_stays (packed.Store name is_global) w = below_name name w
+  within_stays (packed.StartLoop counts names size) w = below_longer s.loops t.loops names g.1.1.1.1.1.1 w
+  within_stays packed.NextTurn w = tt
+  within_stays (packed.EndLoop skip) w = tt
+  within_stays packed.Keep w = tt
+  within_stays (packed.EndComprehension span) w = below_span span w
+  within_stays packed.StartCapture w = tt
+  within_stays packed.EndCapture w = tt
+  within_stays (packed.LeaveLoop drops) w = tt
+  within_stays (packed.LeaveTurn drops) w = tt
   within_stays (packed.Jump skip) w = tt
   within_stays (packed.PopJumpIfFalse skip) w = tt
   within_stays (packed.JumpIfFalseOrPop skip) w = tt
@@ -110,9 +128,10 @@ module _ (s t : Shelf) (u : IsUtf8 s.pool) (v : IsUtf8 t.pool) (g : Grows s t) w
   unpacked_stays (packed.LoadBool flag span) w = ap (λ y. instruction.LoadConst (val.bool flag) y) (span_same span w)
   unpacked_stays (packed.LoadInt span number) w = ap (λ y. instruction.LoadConst (val.int number) y) (span_same span w)
   unpacked_stays (packed.LoadConst constant span) w = ap₂ (λ x y. instruction.LoadConst x y) (at_longer s.constants t.constants constant _ g.1.1.0 w.0) (span_same span w.1)
-  unpacked_stays (packed.WriteName name span) w = ap₂ (λ x y. instruction.WriteName x y) (at_longer s.names t.names name _ g.1.0 w.0) (span_same span w.1)
-  unpacked_stays (packed.LoadName name span) w = ap₂ (λ x y. instruction.LoadName x y) (at_longer s.names t.names name _ g.1.0 w.0) (span_same span w.1)
-  unpacked_stays (packed.LoadAttribute name optional span) w = ap₂ (λ x y. instruction.LoadAttribute x optional y) (at_longer s.names t.names name _ g.1.0 w.0) (span_same span w.1)
+  unpacked_stays (packed.WriteName name span) w = ap₂ (λ x y. instruction.WriteName x y) (name_same name w.0) (span_same span w.1)
+  unpacked_stays (packed.LoadName name span) w = ap₂ (λ x y. instruction.LoadName x y) (name_same name w.0) (span_same span w.1)
+  unpacked_stays (packed.LoadContext span) w = ap (λ y. instruction.LoadContext y) (span_same span w)
+  unpacked_stays (packed.LoadAttribute name optional span) w = ap₂ (λ x y. instruction.LoadAttribute x optional y) (name_same name w.0) (span_same span w.1)
   unpacked_stays (packed.LoadItem optional span) w = ap (λ y. instruction.LoadItem optional y) (span_same span w)
   unpacked_stays (packed.Slice optional span) w = ap (λ y. instruction.Slice optional y) (span_same span w)
   unpacked_stays packed.Not w = refl
@@ -120,6 +139,17 @@ module _ (s t : Shelf) (u : IsUtf8 s.pool) (v : IsUtf8 t.pool) (g : Grows s t) w
   unpacked_stays (packed.Binary operator span) w = ap (λ y. instruction.Binary operator y) (span_same span w)
   unpacked_stays (packed.MakeArray spreads span) w = ap₂ (λ x y. instruction.MakeArray x y) (at_longer s.spreads t.spreads spreads _ g.1.1.1.0 w.0) (span_same span w.1)
   unpacked_stays (packed.MakeMap keys span) w = ap₂ (λ x y. instruction.MakeMap x y) (at_longer s.keys t.keys keys _ g.1.1.1.1.0 w.0) (span_same span w.1)
+  unpacked_stays (packed.Store name is_global) w = ap (λ x. instruction.Store x is_global) (name_same name w)
+  unpacked_stays (packed.StartLoop counts names size) w =
+      ap (λ (n : LoopNames). instruction.StartLoop n.key n.name counts size) (at_longer s.loops t.loops names _ g.1.1.1.1.1.1 w)
+  unpacked_stays packed.NextTurn w = refl
+  unpacked_stays (packed.EndLoop skip) w = refl
+  unpacked_stays packed.Keep w = refl
+  unpacked_stays (packed.EndComprehension span) w = ap (λ y. instruction.EndComprehension y) (span_same span w)
+  unpacked_stays packed.StartCapture w = refl
+  unpacked_stays packed.EndCapture w = refl
+  unpacked_stays (packed.LeaveLoop drops) w = refl
+  unpacked_stays (packed.LeaveTurn drops) w = refl
   unpacked_stays (packed.Jump skip) w = refl
   unpacked_stays (packed.PopJumpIfFalse skip) w = refl
   unpacked_stays (packed.JumpIfFalseOrPop skip) w = refl
@@ -148,12 +178,13 @@ module _ (s t : Shelf) (u : IsUtf8 s.pool) (v : IsUtf8 t.pool) (g : Grows s t) w
   pub chunk_grows : (ps qs : List Packed) (p : Packed) (i : Instruction) → All (Within s) ps → Packs t p i → qs ≡ ps ++ p ∷ [] → (file : Text) → chunk_of t qs file ≡ lengthened (chunk_of s ps file) (i ∷ [])
   chunk_grows ps qs p i h is e file = ap (λ code. record { file = file; code = code }) (code_grows ps qs p i h is e)
 
--- a jump at a place that was kept for it
-pub all_filled : (s : Shelf) (ps qs : List Packed) (at : ℕ) (p : Packed) (i : Instruction) → All (Within s) ps → IsPacked p i → qs ≡ set ps at p → All (Within s) qs
-all_filled s ps qs at p i h is e = subst (All (Within s)) (sym e) (All-set (Within s) ps at p (is s).0 h)
+  -- an instruction at a place that was kept for it
+  pub all_filled : (ps qs : List Packed) (at : ℕ) (p : Packed) (i : Instruction) → All (Within s) ps → Packs t p i → qs ≡ set ps at p → All (Within t) qs
+  all_filled ps qs at p i h is e = subst (All (Within t)) (sym e) (All-set (Within t) ps at p is.0 (all_stay ps h))
 
-code_filled : (s : Shelf) (ps qs : List Packed) (at : ℕ) (p : Packed) (i : Instruction) → IsPacked p i → qs ≡ set ps at p → map (unpacked s) qs ≡ set (map (unpacked s) ps) at i
-code_filled s ps qs at p i is e = ap (map (unpacked s)) e ∙ map-set (unpacked s) ps at p ∙ ap (set (map (unpacked s) ps) at) (is s).1
+  code_filled : (ps qs : List Packed) (at : ℕ) (p : Packed) (i : Instruction) → All (Within s) ps → Packs t p i → qs ≡ set ps at p → map (unpacked t) qs ≡ set (map (unpacked s) ps) at i
+  code_filled ps qs at p i h is e =
+      ap (map (unpacked t)) e ∙ map-set (unpacked t) ps at p ∙ ap₂ (λ xs x. set xs at x) (code_stays ps h) is.1
 
-pub chunk_filled : (s : Shelf) (ps qs : List Packed) (at : ℕ) (p : Packed) (i : Instruction) → IsPacked p i → qs ≡ set ps at p → (file : Text) → chunk_of s qs file ≡ filled at i (chunk_of s ps file)
-chunk_filled s ps qs at p i is e file = ap (λ code. record { file = file; code = code }) (code_filled s ps qs at p i is e)
+  pub chunk_filled : (ps qs : List Packed) (at : ℕ) (p : Packed) (i : Instruction) → All (Within s) ps → Packs t p i → qs ≡ set ps at p → (file : Text) → chunk_of t qs file ≡ filled at i (chunk_of s ps file)
+  chunk_filled ps qs at p i h is e file = ap (λ code. record { file = file; code = code }) (code_filled ps qs at p i h is e)

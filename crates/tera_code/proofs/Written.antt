@@ -1,23 +1,26 @@
 -- Forms whose parts stand in a Vec.
-use Rattle.std.proofs.Common.{◌≡◌, suc, length, List, [], ◌∷◌, ◌++◌, Vec, Box, Global, Result, Ok, Err, OnOk, Option, refl, sym, ap, ap₂, ◌∙◌, append_assoc}
+use Rattle.std.proofs.Common.{◌≡◌, ℕ, suc, Bool, false, String, string_bytes, length, List, [], ◌∷◌, ◌++◌, Vec, Box, Global, Result, Ok, Err, OnOk, Option, None, Some, refl, sym, ap, ap₂, ◌∙◌, append_assoc}
 use Rattle.tera_errors.specs.declared.span.Span.{Span}
 use Rattle.tera_errors.specs.Fault.{Fault}
 use Rattle.tera_errors.specs.Answer.{Refusal}
 use Rattle.tera_tree.specs.declared.expression.Item.{Item}
 use Rattle.tera_tree.specs.declared.expression.Entry.{Entry}
 use Rattle.tera_tree.specs.declared.expression.LiteralKey.{LiteralKey}
+use Rattle.tera_tree.specs.declared.expression.Heading.{Heading}
 use Rattle.tera_tree.specs.declared.expression.Expression.{Expression}
 use Rattle.tera_tree.specs.declared.expression.Expression.TheVariants as expression
 use Rattle.tera_tree.specs.declared.node.Node.{Node}
 use Rattle.tera_tree.specs.declared.node.Node.TheVariants as variant
-use Rattle.tera_tree.specs.Tree.{Key}
-use Rattle.tera_tree.specs.View.{key_option, expr_of, items_of, entries_of, node_of, nodes_of}
-use Rattle.tera_tree.proofs.Views.{view_array, view_map, view_if}
+use Rattle.tera_tree.specs.Tree.{Key, Capture}
+use Rattle.tera_tree.specs.View.{key_option, name_option, comprehension_of, optional_of, expr_of, items_of, entries_of, node_of, nodes_of}
+use Rattle.tera_tree.proofs.Views.{view_array, view_map, view_if, view_capture, view_for}
 use Rattle.tera_code.specs.declared.instruction.Instruction.TheVariants as instruction
 use Rattle.tera_code.specs.Listing.{Listing}
 use Rattle.tera_tree.specs.View.{keys_of}
-use Rattle.tera_code.specs.Code.{expr_code, items_code, entries_code, node_code, nodes_code, choice_code, spreads_of, keys_in, lengthened}
+use Rattle.tera_code.specs.Code.{expr_code, items_code, entries_code, node_code, nodes_code, choice_code, turn_code, loop_tail, spreads_of, keys_in, lengthened}
+use Rattle.tera_code.specs.Places.{filled, behind, looped}
 use Rattle.tera_code.proofs.Lengthened.{lengthened-lengthened}
+use Rattle.tera_code.proofs.Filled.{keep_written, comprehension_written}
 
 pub length_keys : (ks : List (Option LiteralKey)) → length (keys_of ks) ≡ length ks
 length_keys [] = refl
@@ -44,7 +47,7 @@ keys_more ks js k e before rest all h same b is =
     ∙ ap (λ x. keys_of ks ++ keys_in (entries_of x)) (sym b)
     ∙ is
 
-on_ok_by : {X : Type 0} (r : Result (Unit {0}) Refusal) (x y z : X) → y ≡ z → OnOk r (x ≡ y) → OnOk r (x ≡ z)
+pub on_ok_by : {X : Type 0} (r : Result (Unit {0}) Refusal) (x y z : X) → y ≡ z → OnOk r (x ≡ y) → OnOk r (x ≡ z)
 on_ok_by (Ok a) x y z e h = h ∙ e
 on_ok_by (Err b) x y z e h = tt
 
@@ -66,12 +69,64 @@ map_written l m n e entries span xs ys r is a b h =
     ∙ ap (λ t. lengthened l (expr_code t)) (sym (view_map entries span))
     ∙ ap (λ t. lengthened l (expr_code (expr_of t))) (sym is))
 
-pub if_written : (l m : Listing) (node : Node) (condition : Box Expression Global) (body other : Vec Node Global) (xs ys : List Node) → node ≡ variant.If condition body other → xs ≡ body.items → ys ≡ other.items → m ≡ lengthened l (choice_code (expr_code (expr_of condition.value)) (nodes_code (nodes_of xs)) (nodes_code (nodes_of ys))) → m ≡ lengthened l (node_code (node_of node))
-if_written l m node condition body other xs ys is a b h =
-    h
-    ∙ ap₂ (λ x y. lengthened l (choice_code (expr_code (expr_of condition.value)) (nodes_code (nodes_of x)) (nodes_code (nodes_of y)))) a b
-    ∙ ap (λ t. lengthened l (node_code t)) (sym (view_if condition body other))
-    ∙ ap (λ t. lengthened l (node_code (node_of t))) (sym is)
-
 pub boxed_written : (l m : Listing) (x y : Expression) → m ≡ lengthened l (expr_code (expr_of x)) → x ≡ y → m ≡ lengthened l (expr_code (expr_of y))
 boxed_written l m x y h e = h ∙ ap (λ e. lengthened l (expr_code (expr_of e))) e
+
+pub if_written : (l m : Listing) (node : Node) (drops : ℕ) (condition : Box Expression Global) (body other : Vec Node Global) (xs ys : List Node) → node ≡ variant.If condition body other → xs ≡ body.items → ys ≡ other.items
+    → m ≡ lengthened l (choice_code (expr_code (expr_of condition.value)) (nodes_code (nodes_of xs) drops) (nodes_code (nodes_of ys) drops)) → m ≡ lengthened l (node_code (node_of node) drops)
+if_written l m node drops condition body other xs ys is a b h =
+    h
+    ∙ ap₂ (λ x y. lengthened l (choice_code (expr_code (expr_of condition.value)) (nodes_code (nodes_of x) drops) (nodes_code (nodes_of y) drops))) a b
+    ∙ ap (λ t. lengthened l (node_code t drops)) (sym (view_if condition body other))
+    ∙ ap (λ t. lengthened l (node_code (node_of t) drops)) (sym is)
+
+pub for_written : (l m : Listing) (node : Node) (drops : ℕ) (heading : Box Heading Global) (body other : Vec Node Global) (xs ys : List Node) → node ≡ variant.For heading body other → xs ≡ body.items → ys ≡ other.items
+    → m ≡ lengthened l (expr_code (expr_of heading.value.target) ++ loop_tail (name_option heading.value.key) (string_bytes heading.value.name) (nodes_code (nodes_of xs) 0) (nodes_code (nodes_of ys) drops)) → m ≡ lengthened l (node_code (node_of node) drops)
+for_written l m node drops heading body other xs ys is a b h =
+    let loop = λ (x y : List Node). expr_code (expr_of heading.value.target) ++ loop_tail (name_option heading.value.key) (string_bytes heading.value.name) (nodes_code (nodes_of x) 0) (nodes_code (nodes_of y) drops) in
+    h
+    ∙ ap₂ (λ x y. lengthened l (loop x y)) a b
+    ∙ ap (λ t. lengthened l (node_code t drops)) (sym (view_for heading body other))
+    ∙ ap (λ t. lengthened l (node_code (node_of t) drops)) (sym is)
+
+pub capture_written : (l m : Listing) (node : Node) (drops : ℕ) (name : String Global) (body : Vec Node Global) (is_global : Bool) (xs : List Node) (r : Result (Unit {0}) Refusal) → node ≡ variant.Capture name body is_global → xs ≡ body.items
+    → OnOk r (m ≡ lengthened l (node_code (Capture (string_bytes name) (nodes_of xs) is_global) drops)) → OnOk r (m ≡ lengthened l (node_code (node_of node) drops))
+capture_written l m node drops name body is_global xs r is a h =
+    on_ok_by r m _ _ (ap (λ x. lengthened l (node_code (Capture (string_bytes name) (nodes_of x) is_global) drops)) a
+    ∙ ap (λ t. lengthened l (node_code t drops)) (sym (view_capture name body is_global))
+    ∙ ap (λ t. lengthened l (node_code (node_of t) drops)) (sym is)) h
+
+-- what a box holds, where it was read
+pub looped_as : (l m : Listing) (place : ℕ) (counts : Bool) (x y : Heading) → m ≡ looped place x counts l → x ≡ y → m ≡ looped place y counts l
+looped_as l m place counts x y h e = h ∙ ap (λ z. looped place z counts l) e
+
+view_comprehension : (value : Box Expression Global) (heading : Box Heading Global) (condition : Option (Box Expression Global)) (span : Span) → expr_of (expression.Comprehension value heading condition span) ≡ comprehension_of value.value heading.value condition span
+view_comprehension value heading None span = refl
+view_comprehension value heading (Some b) span = refl
+
+-- the turn of a comprehension without a condition
+pub kept : (l m n : Listing) (condition : Option (Box Expression Global)) (x value : Expression) → condition ≡ None → m ≡ lengthened l (expr_code (expr_of x)) → x ≡ value → n ≡ lengthened m (instruction.Keep ∷ [])
+    → n ≡ lengthened l (turn_code (optional_of condition) (expr_code (expr_of value)))
+kept l m n condition x value is h e w =
+    w
+    ∙ ap (λ k. lengthened k (instruction.Keep ∷ [])) (boxed_written l m x value h e)
+    ∙ lengthened-lengthened l (expr_code (expr_of value)) (instruction.Keep ∷ [])
+    ∙ ap (λ c. lengthened l (turn_code (optional_of c) (expr_code (expr_of value)))) (sym is)
+
+-- and with one
+pub kept_if : (l m n o p q : Listing) (condition : Option (Box Expression Global)) (b : Box Expression Global) (x y value : Expression) (place count : ℕ) → condition ≡ Some b → m ≡ lengthened l (expr_code (expr_of x)) → x ≡ b.value → place ≡ length m.code
+    → n ≡ lengthened m (instruction.Jump 0 ∷ []) → o ≡ lengthened n (expr_code (expr_of y)) → y ≡ value → p ≡ lengthened o (instruction.Keep ∷ []) → count ≡ behind place p → q ≡ filled place (instruction.PopJumpIfFalse count) p
+    → q ≡ lengthened l (turn_code (optional_of condition) (expr_code (expr_of value)))
+kept_if l m n o p q condition b x y value place count is h e at g w d k c put =
+    put
+    ∙ keep_written l m n o p (expr_code (expr_of b.value)) (expr_code (expr_of value)) place count (boxed_written l m x b.value h e) at g (boxed_written n o y value w d) k c
+    ∙ ap (λ z. lengthened l (turn_code (optional_of z) (expr_code (expr_of value)))) (sym is)
+
+pub comprehended : (l m n o : Listing) (e : Expression) (value : Box Expression Global) (heading : Box Heading Global) (condition : Option (Box Expression Global)) (span : Span) (place : ℕ) (x y : Heading) → e ≡ expression.Comprehension value heading condition span
+    → m ≡ lengthened l (expr_code (expr_of x.target)) → x ≡ heading.value → place ≡ length m.code → n ≡ lengthened m (instruction.Jump 0 ∷ []) → o ≡ lengthened n (turn_code (optional_of condition) (expr_code (expr_of value.value))) → y ≡ heading.value
+    → lengthened (looped place y false o) (instruction.EndComprehension span ∷ instruction.MakeArray [] span ∷ []) ≡ lengthened l (expr_code (expr_of e))
+comprehended l m n o e value heading condition span place x y is h a at g w b =
+    ap (λ z. lengthened (looped place z false o) (instruction.EndComprehension span ∷ instruction.MakeArray [] span ∷ [])) b
+    ∙ comprehension_written l m n o _ _ place heading.value span (boxed_written l m x.target heading.value.target h (ap (λ (z : Heading). z.target) a)) at g w
+    ∙ ap (λ t. lengthened l (expr_code t)) (sym (view_comprehension value heading condition span))
+    ∙ ap (λ t. lengthened l (expr_code (expr_of t))) (sym is)

@@ -1,9 +1,9 @@
 -- The instructions of a tree.
-use Rattle.std.specs.Prelude.{Bool, false, ◌+◌, List, [], ◌∷◌, ◌++◌, length, Option, Some, None}
+use Rattle.std.specs.Prelude.{ℕ, suc, Bool, true, false, ◌+◌, cond, List, [], ◌∷◌, ◌++◌, length, Option, Some, None, codes, bytes_eq}
 use Rattle.tera_errors.specs.Site as site
 use Rattle.tera_errors.specs.declared.span.Span.{Span}
 use Rattle.tera_values.specs.Val as val
-use Rattle.tera_tree.specs.Tree.{Key, Expr, Nothing, Boolean, Integer, Text, Name, Attribute, Index, Slice, Not, Negate, Binary, And, Or, Ternary, Array, Map, Optional, Absent, Present, Items, NoItems, MoreItems, Entries, NoEntries, MoreEntries, Node, Content, Print, If, Nodes, NoNodes, MoreNodes}
+use Rattle.tera_tree.specs.Tree.{Key, Expr, Nothing, Boolean, Integer, Text, Name, Attribute, Index, Slice, Not, Negate, Binary, And, Or, Ternary, Array, Map, Comprehension, Optional, Absent, Present, Items, NoItems, MoreItems, Entries, NoEntries, MoreEntries, Node, Content, Print, If, Set, Capture, For, Break, Continue, Nodes, NoNodes, MoreNodes}
 use Rattle.tera_code.specs.declared.instruction.Instruction.{Instruction}
 use Rattle.tera_code.specs.declared.instruction.Instruction.TheVariants as instruction
 use Rattle.tera_code.specs.Listing.{Listing}
@@ -19,6 +19,30 @@ choice_tail body other = instruction.PopJumpIfFalse (length body + 1) ∷ (body 
 abbrev pub choice_code : Code → Code → Code → Code
 choice_code condition body other = condition ++ choice_tail body other
 
+-- the name of the map of all that is bound
+abbrev pub is_context : site.Name → Bool
+is_context name = bytes_eq name (codes "__tera_context")
+
+abbrev pub name_code : site.Name → Span → Code
+name_code name span = cond (is_context name) (instruction.LoadContext span ∷ []) (instruction.LoadName name span ∷ [])
+
+-- a loop over the operand that stands on top
+abbrev pub loop_tail : Option site.Name → site.Name → Code → Code → Code
+loop_tail key name body other =
+    instruction.StartLoop key name true (length body) ∷ (body ++ (instruction.NextTurn ∷ instruction.EndLoop (length other) ∷ other))
+
+-- an array of what is kept in the turns over the operand that stands on top, and an empty one where there is none
+abbrev pub comprehension_tail : Option site.Name → site.Name → Code → Span → Code
+comprehension_tail key name turn span =
+    instruction.StartLoop key name false (length turn) ∷ (turn ++ (instruction.NextTurn ∷ instruction.EndComprehension span ∷ instruction.MakeArray [] span ∷ []))
+
+abbrev pub keep_code : Code → Code
+keep_code value = value ++ instruction.Keep ∷ []
+
+-- keeps a value where the operand that stands on top is truthy
+abbrev pub keep_tail : Code → Code
+keep_tail value = instruction.PopJumpIfFalse (length value + 1) ∷ keep_code value
+
 abbrev pub spreads_of : Items → List Bool
 spreads_of NoItems = []
 spreads_of (MoreItems is_spread value rest) = is_spread ∷ spreads_of rest
@@ -33,7 +57,7 @@ abbrev mutual
   expr_code (Boolean b span) = instruction.LoadConst (val.bool b) span ∷ []
   expr_code (Integer z span) = instruction.LoadConst (val.int z) span ∷ []
   expr_code (Text t span) = instruction.LoadConst (val.text t false) span ∷ []
-  expr_code (Name name span) = instruction.LoadName name span ∷ []
+  expr_code (Name name span) = name_code name span
   expr_code (Attribute target name optional span) =
       expr_code target ++ instruction.LoadAttribute name optional span ∷ []
   expr_code (Index target index optional span) =
@@ -52,11 +76,18 @@ abbrev mutual
       choice_code (expr_code condition) (expr_code value) (expr_code other)
   expr_code (Array items span) = items_code items ++ instruction.MakeArray (spreads_of items) span ∷ []
   expr_code (Map entries span) = entries_code entries ++ instruction.MakeMap (keys_in entries) span ∷ []
+  expr_code (Comprehension value key name target condition span) =
+      expr_code target ++ comprehension_tail key name (turn_code condition (expr_code value)) span
 
   -- a bound that isn't written is none
   pub bound_code : Optional → Code
   bound_code Absent = instruction.LoadConst val.none (record { start = 0; end = 0 }) ∷ []
   bound_code (Present e) = expr_code e
+
+  -- a turn of a comprehension, the condition first
+  pub turn_code : Optional → Code → Code
+  turn_code Absent value = keep_code value
+  turn_code (Present condition) value = expr_code condition ++ keep_tail value
 
   pub items_code : Items → Code
   items_code NoItems = []
@@ -66,9 +97,9 @@ abbrev mutual
   entries_code NoEntries = []
   entries_code (MoreEntries key value rest) = expr_code value ++ entries_code rest
 
--- an expression that is a name
+-- an expression that is a name, other than that of the map of all that is bound
 abbrev pub named : Expr → Option (site.Name × Span)
-named (Name name span) = Some (name, span)
+named (Name name span) = cond (is_context name) None (Some (name, span))
 named other = None
 
 -- what a name stands for is put out where it lies, and any other value from the top of the operands
@@ -76,20 +107,32 @@ abbrev pub print_code : Option (site.Name × Span) → Code → Code
 print_code (Some (name, span)) value = instruction.WriteName name span ∷ []
 print_code None value = value ++ instruction.WriteTop ∷ []
 
-abbrev mutual
-  pub node_code : Node → Code
-  node_code (Content t span) = instruction.WriteText t ∷ []
-  node_code (Print value) = print_code (named value) (expr_code value)
-  node_code (If condition body other) =
-      choice_code (expr_code condition) (nodes_code body) (nodes_code other)
+-- binds the name to the text that the body puts out
+abbrev pub capture_code : site.Name → Code → Bool → Code
+capture_code name body is_global =
+    instruction.StartCapture ∷ (body ++ (instruction.EndCapture ∷ instruction.Store name is_global ∷ []))
 
-  pub nodes_code : Nodes → Code
-  nodes_code NoNodes = []
-  nodes_code (MoreNodes node rest) = node_code node ++ nodes_code rest
+-- the number is that of the captures that were begun in the innermost loop: a jump to its end drops them
+abbrev mutual
+  pub node_code : Node → ℕ → Code
+  node_code (Content t span) drops = instruction.WriteText t ∷ []
+  node_code (Print value) drops = print_code (named value) (expr_code value)
+  node_code (If condition body other) drops =
+      choice_code (expr_code condition) (nodes_code body drops) (nodes_code other drops)
+  node_code (Set name value is_global) drops = expr_code value ++ instruction.Store name is_global ∷ []
+  node_code (Capture name body is_global) drops = capture_code name (nodes_code body (suc drops)) is_global
+  node_code (For key name target body other) drops =
+      expr_code target ++ loop_tail key name (nodes_code body 0) (nodes_code other drops)
+  node_code Break drops = instruction.LeaveLoop drops ∷ []
+  node_code Continue drops = instruction.LeaveTurn drops ∷ []
+
+  pub nodes_code : Nodes → ℕ → Code
+  nodes_code NoNodes drops = []
+  nodes_code (MoreNodes node rest) drops = node_code node drops ++ nodes_code rest drops
 
 -- the chunk of a body in this template's text
 abbrev pub listing_of : site.Name → Nodes → Listing
-listing_of file nodes = record { file = file; code = nodes_code nodes }
+listing_of file nodes = record { file = file; code = nodes_code nodes 0 }
 
 -- with further instructions behind
 abbrev pub lengthened : Listing → Code → Listing

@@ -1,5 +1,5 @@
 -- Kinds of expressions.
-use Rattle.tera_tree.specs.Tree.{Expr, Nothing, Boolean, Integer, Text, Name, Attribute, Index, Slice, Not, Negate, Binary, And, Or, Ternary, Array, Map}
+use Rattle.tera_tree.specs.Tree.{Expr, Nothing, Boolean, Integer, Text, Name, Attribute, Index, Slice, Not, Negate, Binary, And, Or, Ternary, Array, Map, Comprehension}
 
 pub data Group : Type 0 where
   -- has no parts
@@ -12,6 +12,8 @@ pub data Group : Type 0 where
   Branch : Group
   -- is written out item by item
   Collection : Group
+  -- goes over items
+  Loop : Group
 
 abbrev pub group : Expr → Group
 group (Nothing span) = Leaf
@@ -30,3 +32,4 @@ group (Or left right span) = Branch
 group (Ternary value condition other span) = Branch
 group (Array all span) = Collection
 group (Map all span) = Collection
+group (Comprehension value key name target condition span) = Loop

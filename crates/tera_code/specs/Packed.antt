@@ -1,5 +1,5 @@
 -- Instructions that name by number what they need.
-use Rattle.std.specs.Prelude.{◌≡◌, ℕ, ◌-◌, ◌<◌, ◌≤◌, Bool, List, [], ◌++◌, length, take, drop, map, get_or, Option, string_bytes}
+use Rattle.std.specs.Prelude.{◌≡◌, ℕ, ◌-◌, ◌<◌, ◌≤◌, Bool, List, [], ◌++◌, length, take, drop, map, get_or, Option, None, string_bytes}
 use Rattle.std.specs.Str.{IsCharBoundary}
 use Rattle.tera_errors.specs.Site.{Text}
 use Rattle.tera_errors.specs.declared.span.Span.{Span}
@@ -11,6 +11,7 @@ use Rattle.tera_code.specs.declared.instruction.Instruction.{Instruction}
 use Rattle.tera_code.specs.declared.instruction.Instruction.TheVariants as instruction
 use Rattle.tera_code.specs.declared.packed.Packed.{Packed}
 use Rattle.tera_code.specs.declared.packed.Packed.TheVariants as packed
+use Rattle.tera_code.specs.declared.packed.LoopNames.{LoopNames}
 use Rattle.tera_code.specs.declared.packed.Tables.{Tables}
 
 -- what instructions name by number
@@ -21,6 +22,7 @@ pub record Shelf : Type 0 where
   pub spreads : List (List Bool)
   pub keys : List (List (Option Key))
   pub spans : List Span
+  pub loops : List LoopNames
 
 abbrev pub shelf_of : Tables → Shelf
 shelf_of t =
@@ -31,10 +33,17 @@ shelf_of t =
       spreads = map (λ v. v.items) t.spreads.items;
       keys = map (λ v. keys_of v.items) t.keys.items;
       spans = t.spans.items;
+      loops = t.loops.items;
     }
 
 abbrev pub span_at : Shelf → ℕ → Span
 span_at s i = get_or s.spans i (record { start = 0; end = 0 })
+
+abbrev pub name_at : Shelf → ℕ → Text
+name_at s i = get_or s.names i []
+
+abbrev pub loop_at : Shelf → ℕ → LoopNames
+loop_at s i = get_or s.loops i (record { key = None; name = [] })
 
 -- the instruction that is meant
 abbrev pub unpacked : Shelf → Packed → Instruction
@@ -44,9 +53,10 @@ unpacked s (packed.LoadNone span) = instruction.LoadConst val.none (span_at s sp
 unpacked s (packed.LoadBool flag span) = instruction.LoadConst (val.bool flag) (span_at s span)
 unpacked s (packed.LoadInt span number) = instruction.LoadConst (val.int number) (span_at s span)
 unpacked s (packed.LoadConst constant span) = instruction.LoadConst (get_or s.constants constant val.none) (span_at s span)
-unpacked s (packed.WriteName name span) = instruction.WriteName (get_or s.names name []) (span_at s span)
-unpacked s (packed.LoadName name span) = instruction.LoadName (get_or s.names name []) (span_at s span)
-unpacked s (packed.LoadAttribute name optional span) = instruction.LoadAttribute (get_or s.names name []) optional (span_at s span)
+unpacked s (packed.WriteName name span) = instruction.WriteName (name_at s name) (span_at s span)
+unpacked s (packed.LoadName name span) = instruction.LoadName (name_at s name) (span_at s span)
+unpacked s (packed.LoadContext span) = instruction.LoadContext (span_at s span)
+unpacked s (packed.LoadAttribute name optional span) = instruction.LoadAttribute (name_at s name) optional (span_at s span)
 unpacked s (packed.LoadItem optional span) = instruction.LoadItem optional (span_at s span)
 unpacked s (packed.Slice optional span) = instruction.Slice optional (span_at s span)
 unpacked s packed.Not = instruction.Not
@@ -54,6 +64,16 @@ unpacked s packed.Negate = instruction.Negate
 unpacked s (packed.Binary operator span) = instruction.Binary operator (span_at s span)
 unpacked s (packed.MakeArray spreads span) = instruction.MakeArray (get_or s.spreads spreads []) (span_at s span)
 unpacked s (packed.MakeMap keys span) = instruction.MakeMap (get_or s.keys keys []) (span_at s span)
+unpacked s (packed.Store name is_global) = instruction.Store (name_at s name) is_global
+unpacked s (packed.StartLoop counts names size) = instruction.StartLoop (loop_at s names).key (loop_at s names).name counts size
+unpacked s packed.NextTurn = instruction.NextTurn
+unpacked s (packed.EndLoop skip) = instruction.EndLoop skip
+unpacked s packed.Keep = instruction.Keep
+unpacked s (packed.EndComprehension span) = instruction.EndComprehension (span_at s span)
+unpacked s packed.StartCapture = instruction.StartCapture
+unpacked s packed.EndCapture = instruction.EndCapture
+unpacked s (packed.LeaveLoop drops) = instruction.LeaveLoop drops
+unpacked s (packed.LeaveTurn drops) = instruction.LeaveTurn drops
 unpacked s (packed.Jump skip) = instruction.Jump skip
 unpacked s (packed.PopJumpIfFalse skip) = instruction.PopJumpIfFalse skip
 unpacked s (packed.JumpIfFalseOrPop skip) = instruction.JumpIfFalseOrPop skip
@@ -69,6 +89,7 @@ Within s (packed.LoadInt span number) = span < length s.spans
 Within s (packed.LoadConst constant span) = (constant < length s.constants) × (span < length s.spans)
 Within s (packed.WriteName name span) = (name < length s.names) × (span < length s.spans)
 Within s (packed.LoadName name span) = (name < length s.names) × (span < length s.spans)
+Within s (packed.LoadContext span) = span < length s.spans
 Within s (packed.LoadAttribute name optional span) = (name < length s.names) × (span < length s.spans)
 Within s (packed.LoadItem optional span) = span < length s.spans
 Within s (packed.Slice optional span) = span < length s.spans
@@ -77,6 +98,16 @@ Within s packed.Negate = Unit {0}
 Within s (packed.Binary operator span) = span < length s.spans
 Within s (packed.MakeArray spreads span) = (spreads < length s.spreads) × (span < length s.spans)
 Within s (packed.MakeMap keys span) = (keys < length s.keys) × (span < length s.spans)
+Within s (packed.Store name is_global) = name < length s.names
+Within s (packed.StartLoop counts names size) = names < length s.loops
+Within s packed.NextTurn = Unit {0}
+Within s (packed.EndLoop skip) = Unit {0}
+Within s packed.Keep = Unit {0}
+Within s (packed.EndComprehension span) = span < length s.spans
+Within s packed.StartCapture = Unit {0}
+Within s packed.EndCapture = Unit {0}
+Within s (packed.LeaveLoop drops) = Unit {0}
+Within s (packed.LeaveTurn drops) = Unit {0}
 Within s (packed.Jump skip) = Unit {0}
 Within s (packed.PopJumpIfFalse skip) = Unit {0}
 Within s (packed.JumpIfFalseOrPop skip) = Unit {0}
@@ -93,7 +124,8 @@ Grows s t =
     × (Longer s.names t.names
     × (Longer s.constants t.constants
     × (Longer s.spreads t.spreads
-    × (Longer s.keys t.keys × Longer s.spans t.spans))))
+    × (Longer s.keys t.keys
+    × (Longer s.spans t.spans × Longer s.loops t.loops)))))
 
 -- this element stands there
 abbrev pub IsAt : {X : Type 0} → List X → ℕ → X → Type 0
@@ -102,26 +134,3 @@ IsAt xs i x = (i < length xs) × (get_or xs i x ≡ x)
 -- this is meant, and all that is named is there
 abbrev pub Packs : Shelf → Packed → Instruction → Type 0
 Packs s p i = Within s p × (unpacked s p ≡ i)
-
-abbrev pub IsJump : Instruction → Type 0
-IsJump (instruction.WriteText text) = ⊥
-IsJump instruction.WriteTop = ⊥
-IsJump (instruction.LoadConst value span) = ⊥
-IsJump (instruction.WriteName name span) = ⊥
-IsJump (instruction.LoadName name span) = ⊥
-IsJump (instruction.LoadAttribute name optional span) = ⊥
-IsJump (instruction.LoadItem optional span) = ⊥
-IsJump (instruction.Slice optional span) = ⊥
-IsJump instruction.Not = ⊥
-IsJump instruction.Negate = ⊥
-IsJump (instruction.Binary operator span) = ⊥
-IsJump (instruction.MakeArray spreads span) = ⊥
-IsJump (instruction.MakeMap keys span) = ⊥
-IsJump (instruction.Jump skip) = Unit {0}
-IsJump (instruction.PopJumpIfFalse skip) = Unit {0}
-IsJump (instruction.JumpIfFalseOrPop skip) = Unit {0}
-IsJump (instruction.JumpIfTrueOrPop skip) = Unit {0}
-
--- this is meant, whatever is named
-abbrev pub IsPacked : Packed → Instruction → Type 0
-IsPacked p i = (s : Shelf) → Within s p × (unpacked s p ≡ i)

@@ -2,11 +2,10 @@
 ghost use Rattle.std.specs.Prelude.{◌≡◌, ◌+◌, ◌<◌, ◌^◌, [], ◌∷◌, length, slice_get, OnOk, IfErr, IfSome, MatchOption, Some, None};
 ghost use Rattle.tera_errors.specs.Answer.{Lacks};
 ghost use Rattle.tera_code.specs.Code.{lengthened};
-ghost use Rattle.tera_code.specs.Packed.{IsJump};
 ghost use Rattle.tera_code.specs.Places.{filled};
 
 use crate::instruction::Instruction;
-use crate::packed::{Packed, Tables, jump_of};
+use crate::packed::{Packed, Tables};
 use crate::steps::Steps;
 use std::alloc::Global;
 use std::marker::Model;
@@ -93,11 +92,19 @@ impl Chunk {
         Ok(())
     }
 
-    pub(crate) fn fill(&mut self, place: usize, jump: Instruction<'_>)
-        requires place { place < length self.old.code }
-        requires jump { IsJump jump }
-        ensures { self.new ≡ filled place jump.entry self.old }
+    pub(crate) fn fill(
+        &mut self,
+        alloc: Global,
+        seen: &mut [u32; 64],
+        place: usize,
+        instruction: Instruction<'_>,
+    ) -> TeraResult<()>
+        requires { place < length self.old.code }
+        ensures ok { OnOk result (self.new ≡ filled place instruction.entry self.old) }
+        ensures lacks { IfErr result Lacks }
     {
-        self.code[place] = jump_of(jump);
+        let packed = self.tables.pack(alloc, seen, instruction)?;
+        self.code[place] = packed;
+        Ok(())
     }
 }

@@ -4,7 +4,6 @@ ghost use Rattle.tera_errors.specs.Answer.{Gives, Lacks};
 ghost use Rattle.tera_values.specs.Val as val;
 ghost use Rattle.tera_code.specs.declared.instruction.Instruction.TheVariants as instruction;
 ghost use Rattle.tera_code.specs.Code.{lengthened};
-ghost use Rattle.tera_code.specs.Packed.{IsJump};
 ghost use Rattle.tera_code.specs.Places.{filled, behind};
 
 use crate::chunk::Chunk;
@@ -92,13 +91,14 @@ impl Compiler {
         self.chunk.len() - place - 1
     }
 
-    // Puts a jump at the place that was kept for it.
-    pub(crate) fn fill(&mut self, place: usize, jump: Instruction<'_>)
-        requires place { place < length self.old.code }
-        requires jump { IsJump jump }
-        ensures { self.new ≡ filled place jump.entry self.old }
+    // Puts the instruction at the place that was kept for it.
+    pub(crate) fn fill(&mut self, place: usize, instruction: Instruction<'_>) -> TeraResult<()>
+        requires { place < length self.old.code }
+        ensures ok { OnOk result (self.new ≡ filled place instruction.entry self.old) }
+        ensures lacks { IfErr result Lacks }
     {
-        self.chunk.fill(place, jump)
+        self.chunk
+            .fill(self.alloc, &mut self.seen, place, instruction)
     }
 
     pub(crate) fn constant(&mut self, constant: Constant<'_>, span: Span) -> TeraResult<()>

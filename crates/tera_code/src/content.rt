@@ -1,10 +1,12 @@
 // What instructions lend from their chunk.
-ghost use Rattle.std.specs.Prelude.{◌≡◌, length};
+ghost use Rattle.std.specs.Prelude.{◌≡◌, Ok, length};
+ghost use Rattle.tera_errors.specs.Answer.{Gives};
 
 use std::marker::Model;
 use tera_tree::LiteralKey;
+use tera_values::{Name, TeraResult};
 
-/// A piece of a template's text, or a name. A contract sees its bytes.
+/// A piece of a template's text, or a name that is read. A contract sees its bytes.
 #[derive(Drop)]
 pub struct Text<'a> {
     text: &'a str,
@@ -31,6 +33,56 @@ impl<'a> Text<'a> {
         ensures { result.now ≡ self.now }
     {
         self.text
+    }
+}
+
+/// A name that is bound: what binds it shares it. A contract sees its bytes.
+#[derive(Drop)]
+pub struct LentName<'a> {
+    name: &'a Name,
+}
+
+impl<'a> Model for LentName<'a> {
+    ghost use Rattle.std.specs.Prelude.{ℕ, List};
+
+    ghost Value = { List ℕ };
+
+    ghost view = { λ l. l.name.now };
+}
+
+impl<'a> LentName<'a> {
+    /// The name itself, which is not copied.
+    pub fn new(name: &'a Name) -> LentName<'a>
+        ensures { result ≡ name.now }
+    {
+        LentName { name }
+    }
+
+    /// The name itself, where there is one.
+    pub fn from_option(name: &'a Option<Name>) -> Option<LentName<'a>>
+        ensures { result ≡ name.now }
+    {
+        match name {
+            Some(name) => Some(LentName::new(name)),
+            None => None,
+        }
+    }
+
+    /// The name once more: a count, and no copy of its text.
+    pub fn share(&self) -> TeraResult<Name>
+        ensures { Gives (λ n. n) result (Ok self.now) }
+    {
+        self.name.share()
+    }
+
+    /// The name once more, where there is one.
+    pub fn share_option(name: &Option<LentName<'_>>) -> TeraResult<Option<Name>>
+        ensures { Gives (λ n. n) result (Ok name.now) }
+    {
+        match name {
+            Some(name) => Ok(Some(name.share()?)),
+            None => Ok(None),
+        }
     }
 }
 

@@ -2,7 +2,7 @@
 ghost use Rattle.std.specs.Prelude.{◌≡◌, OnOk, IfErr};
 ghost use Rattle.tera_errors.specs.Answer.{Lacks};
 ghost use Rattle.tera_code.specs.Code.{expr_code, bound_code, items_code, entries_code, lengthened};
-ghost use Rattle.tera_code.specs.Group.{group, Access, Operation, Branch, Collection};
+ghost use Rattle.tera_code.specs.Group.{group, Access, Operation, Branch, Collection, Loop};
 ghost use Rattle.tera_tree.specs.View.{expr_of, optional_of, items_of, entries_of};
 
 use crate::compiler::Compiler;
@@ -34,6 +34,7 @@ impl Compiler {
                 self.branch(expression)
             }
             Expression::Array { .. } | Expression::Map { .. } => self.collection(expression),
+            Expression::Comprehension { .. } => self.comprehension(expression),
         }
     }
 
@@ -128,15 +129,13 @@ impl Compiler {
                 self.expression(left)?;
                 let place = self.keep_place()?;
                 self.expression(right)?;
-                self.fill(place, Instruction::JumpIfFalseOrPop(self.behind(place)));
-                Ok(())
+                self.fill(place, Instruction::JumpIfFalseOrPop(self.behind(place)))
             }
             Expression::Or { left, right, .. } => {
                 self.expression(left)?;
                 let place = self.keep_place()?;
                 self.expression(right)?;
-                self.fill(place, Instruction::JumpIfTrueOrPop(self.behind(place)));
-                Ok(())
+                self.fill(place, Instruction::JumpIfTrueOrPop(self.behind(place)))
             }
             Expression::Ternary {
                 value,
@@ -147,10 +146,9 @@ impl Compiler {
                 self.expression(condition)?;
                 let place = self.keep_place()?;
                 self.expression(value)?;
-                let place = self.turn(place)?;
+                let place = self.divide(place)?;
                 self.expression(other)?;
-                self.fill(place, Instruction::Jump(self.behind(place)));
-                Ok(())
+                self.fill(place, Instruction::Jump(self.behind(place)))
             }
             _ => unreachable!(),
         }

@@ -1,6 +1,6 @@
 // What the machine can be told.
 use crate::constant::Constant;
-use crate::content::{Keys, Spreads, Text};
+use crate::content::{Keys, LentName, Spreads, Text};
 use tera_tree::BinaryOperator;
 use tera_values::Span;
 
@@ -45,6 +45,37 @@ pub enum Instruction<'a> {
     MakeArray(Spreads<'a>, Span),
     /// A map of so many operands, in their place.
     MakeMap(Keys<'a>, Span),
+    /// Puts the map of all that is bound on top of the operands.
+    LoadContext(Span),
+    /// Takes the topmost operand and binds the name to it.
+    Store {
+        name: LentName<'a>,
+        is_global: bool,
+    },
+    /// Takes the topmost operand and opens a loop over its items, at the first, with a body of so many instructions. Where
+    /// there is no item, it passes the body and the two instructions behind that.
+    StartLoop {
+        key: Option<LentName<'a>>,
+        name: LentName<'a>,
+        counts: bool,
+        size: usize,
+    },
+    /// Goes back to where the body of the innermost loop starts, with the next item, or on where there is none.
+    NextTurn,
+    /// Closes the innermost loop and passes instructions.
+    EndLoop(usize),
+    /// Takes the topmost operand into what the innermost loop keeps.
+    Keep,
+    /// Closes the innermost loop, puts the array of what it kept on top of the operands, and passes one instruction.
+    EndComprehension(Span),
+    /// Begins a capture: what is put out from here on is kept apart.
+    StartCapture,
+    /// Ends the innermost capture and puts its text on top of the operands, safe where autoescape is on.
+    EndCapture,
+    /// Drops so many captures and goes to the end of the innermost loop, where it is closed.
+    LeaveLoop(usize),
+    /// Drops so many captures and goes to the end of the turn, where the next one begins.
+    LeaveTurn(usize),
     /// Passes instructions.
     Jump(usize),
     /// Takes the topmost operand, and passes instructions where it is falsy.

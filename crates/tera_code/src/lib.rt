@@ -1,12 +1,14 @@
 //! The compiler: from a template's tree to a flat list of instructions.
 #![tactic(auto)]
 
+mod captures;
 pub mod chunk;
 pub mod compiler;
 pub mod constant;
 pub mod content;
 mod expressions;
 pub mod instruction;
+mod loops;
 mod nodes;
 mod packed;
 mod parts;
@@ -15,6 +17,6 @@ pub mod steps;
 pub use chunk::Chunk;
 pub use compiler::Compiler;
 pub use constant::Constant;
-pub use content::{Keys, Spreads, Text};
+pub use content::{Keys, LentName, Spreads, Text};
 pub use instruction::Instruction;
 pub use steps::Steps;

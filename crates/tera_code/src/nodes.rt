@@ -3,43 +3,54 @@ ghost use Rattle.std.specs.Prelude.{◌≡◌, [], ◌∷◌, OnOk, IfErr, Match
 ghost use Rattle.tera_errors.specs.Answer.{Lacks};
 ghost use Rattle.tera_code.specs.declared.instruction.Instruction.TheVariants as instruction;
 ghost use Rattle.tera_code.specs.Code.{named, node_code, nodes_code, lengthened};
+ghost use Rattle.tera_tree.specs.Tree.{Print};
 ghost use Rattle.tera_tree.specs.View.{expr_of, node_of, nodes_of};
 
 use crate::compiler::Compiler;
 use crate::content::Text;
 use crate::instruction::Instruction;
+use crate::parts::is_context;
 use std::alloc::Global;
 use tera_tree::{Expression, Node};
 use tera_values::{Span, TeraResult};
 
 impl Compiler {
     /// The instructions of the nodes, one after another, behind those that are there. After a refusal some may be missing.
-    #[cycle(nodes)]
     pub fn compile(&mut self, nodes: &[Node]) -> TeraResult<()>
-        ensures ok { OnOk result (self.new ≡ lengthened self.old (nodes_code (nodes_of nodes.now))) }
+        ensures ok { OnOk result (self.new ≡ lengthened self.old (nodes_code (nodes_of nodes.now) 0)) }
+        ensures lacks { IfErr result Lacks }
+    {
+        self.nodes(nodes, 0)
+    }
+
+    /// The instructions of the node, behind those that are there. After a refusal some may be missing.
+    pub fn compile_node(&mut self, node: &Node) -> TeraResult<()>
+        ensures ok { OnOk result (self.new ≡ lengthened self.old (node_code (node_of node.now) 0)) }
+        ensures lacks { IfErr result Lacks }
+    {
+        self.node(node, 0)
+    }
+
+    // Nodes inside so many captures of the innermost loop.
+    #[cycle(nodes)]
+    pub(crate) fn nodes(&mut self, nodes: &[Node], drops: usize) -> TeraResult<()>
+        ensures ok { OnOk result (self.new ≡ lengthened self.old (nodes_code (nodes_of nodes.now) drops)) }
         ensures lacks { IfErr result Lacks }
     {
         for node in nodes {
-            self.compile_node(node)?;
+            self.node(node, drops)?;
         }
         Ok(())
     }
 
-    /// The instructions of the node, behind those that are there. After a refusal some may be missing.
     #[cycle(nodes)]
-    pub fn compile_node(&mut self, node: &Node) -> TeraResult<()>
-        ensures ok { OnOk result (self.new ≡ lengthened self.old (node_code (node_of node.now))) }
+    fn node(&mut self, node: &Node, drops: usize) -> TeraResult<()>
+        ensures ok { OnOk result (self.new ≡ lengthened self.old (node_code (node_of node.now) drops)) }
         ensures lacks { IfErr result Lacks }
     {
         match node {
             Node::Content { text, span: _ } => self.content(text),
-            Node::Print { value } => match named(value) {
-                Some((name, span)) => self.write_name(name, span),
-                None => {
-                    self.expression(value)?;
-                    self.emit(Instruction::WriteTop)
-                }
-            },
+            Node::Print { value } => self.print(value),
             Node::If {
                 condition,
                 body,
@@ -47,12 +58,36 @@ impl Compiler {
             } => {
                 self.expression(condition)?;
                 let place = self.keep_place()?;
-                self.compile(body.as_slice())?;
-                let place = self.turn(place)?;
-                self.compile(other.as_slice())?;
-                self.fill(place, Instruction::Jump(self.behind(place)));
-                Ok(())
+                self.nodes(body.as_slice(), drops)?;
+                let place = self.divide(place)?;
+                self.nodes(other.as_slice(), drops)?;
+                self.fill(place, Instruction::Jump(self.behind(place)))
             }
+            Node::Set {
+                name,
+                value,
+                is_global,
+            } => self.set(name, value, *is_global),
+            Node::Capture {
+                name,
+                body,
+                is_global,
+            } => self.capture(name, body.as_slice(), *is_global, drops),
+            Node::For {
+                heading,
+                body,
+                other,
+            } => {
+                self.expression(&heading.target)?;
+                let place = self.keep_place()?;
+                self.nodes(body.as_slice(), 0)?;
+                self.end_turns(place, heading, true)?;
+                let place = self.keep_place()?;
+                self.nodes(other.as_slice(), drops)?;
+                self.fill(place, Instruction::EndLoop(self.behind(place)))
+            }
+            Node::Break => self.emit(Instruction::LeaveLoop(drops)),
+            Node::Continue => self.emit(Instruction::LeaveTurn(drops)),
         }
     }
 
@@ -63,20 +98,32 @@ impl Compiler {
         self.emit(Instruction::WriteText(Text::new(text.as_str())))
     }
 
-    fn write_name(&mut self, name: &String, span: Span) -> TeraResult<()>
-        ensures ok { OnOk result (self.new ≡ lengthened self.old (instruction.WriteName (string_bytes name.now) span ∷ [])) }
+    fn print(&mut self, value: &Expression) -> TeraResult<()>
+        ensures ok { OnOk result (self.new ≡ lengthened self.old (node_code (Print (expr_of value.now)) 0)) }
         ensures lacks { IfErr result Lacks }
     {
-        self.emit(Instruction::WriteName(Text::new(name.as_str()), span))
+        match named(value) {
+            Some((name, span)) => self.emit(Instruction::WriteName(Text::new(name.as_str()), span)),
+            None => {
+                self.expression(value)?;
+                self.emit(Instruction::WriteTop)
+            }
+        }
     }
 }
 
-// The name that an expression is, if it is one.
+// The name that an expression is, if it is one that is looked up.
 fn named(expression: &Expression) -> Option<(&String, Span)>
     ensures { MatchOption result (named (expr_of expression.now) ≡ None) (λ p. named (expr_of expression.now) ≡ Some (string_bytes p.0.now, p.1)) }
 {
     match expression {
-        Expression::Name { name, span } => Some((name, *span)),
+        Expression::Name { name, span } => {
+            if is_context(name) {
+                None
+            } else {
+                Some((name, *span))
+            }
+        }
         _ => None,
     }
 }

@@ -1,12 +1,12 @@
 // How a body's instructions are kept: small ones in a row, and beside them what they name by number.
-ghost use Rattle.std.specs.Prelude.{◌≡◌, ◌<◌, ◌^◌, Ok, OnOk, IfOk, IfErr};
+ghost use Rattle.std.specs.Prelude.{◌≡◌, ◌<◌, ◌^◌, Ok, OnOk, IfOk, IfErr, length};
 ghost use Rattle.tera_errors.specs.Answer.{Gives, Lacks};
-ghost use Rattle.tera_code.specs.Packed.{Grows, Longer, IsAt, Packs, Within, shelf_of, unpacked, IsJump, IsPacked};
+ghost use Rattle.tera_code.specs.Packed.{Grows, Longer, IsAt, Packs, Within, shelf_of, span_at, name_at, unpacked};
 ghost use Rattle.tera_tree.specs.View.{keys_of};
 ghost use Rattle.tera_code.specs.declared.instruction.Instruction.TheVariants as instruction;
 
 use crate::constant::{Constant, Kept};
-use crate::content::{Keys, Spreads, Text};
+use crate::content::{Keys, LentName, Spreads, Text};
 use crate::instruction::Instruction;
 use crate::parts::copied;
 use std::alloc::Global;
@@ -45,6 +45,9 @@ pub(crate) enum Packed {
         name: u32,
         span: u32,
     },
+    LoadContext {
+        span: u32,
+    },
     LoadAttribute {
         name: u32,
         optional: bool,
@@ -72,10 +75,39 @@ pub(crate) enum Packed {
         keys: u32,
         span: u32,
     },
+    Store {
+        name: u32,
+        is_global: bool,
+    },
+    StartLoop {
+        counts: bool,
+        names: u32,
+        size: usize,
+    },
+    NextTurn,
+    EndLoop(usize),
+    Keep,
+    EndComprehension {
+        span: u32,
+    },
+    StartCapture,
+    EndCapture,
+    LeaveLoop(usize),
+    LeaveTurn(usize),
     Jump(usize),
     PopJumpIfFalse(usize),
     JumpIfFalseOrPop(usize),
     JumpIfTrueOrPop(usize),
+}
+
+// The layout follows the order of the fields.
+const _: () = prove!(size_of::<Packed>() == 16);
+
+/// What a loop calls its items.
+#[derive(Drop)]
+pub(crate) struct LoopNames {
+    key: Option<Name>,
+    name: Name,
 }
 
 /// What instructions name by number.
@@ -87,6 +119,7 @@ pub(crate) struct Tables {
     spreads: Vec<Vec<bool>>,
     keys: Vec<Vec<Option<LiteralKey>>>,
     spans: Vec<Span>,
+    loops: Vec<LoopNames>,
 }
 
 /// A number that instructions hold. More than they can hold is want of memory.
@@ -161,6 +194,7 @@ impl Tables {
             spreads: Vec::new(alloc),
             keys: Vec::new(alloc),
             spans: Vec::new(alloc),
+            loops: Vec::new(alloc),
         }
     }
 
@@ -195,57 +229,22 @@ impl Tables {
 }
 
 impl Tables {
-    fn load_name(
+    /// Puts a name and a span beside the others, and tells their places.
+    fn name_and_span(
         &mut self,
         alloc: Global,
         seen: &mut [u32; 64],
         name: &Text<'_>,
         span: Span,
-    ) -> TeraResult<Packed>
+    ) -> TeraResult<(u32, u32)>
         ensures grows { Grows (shelf_of self.old) (shelf_of self.new) }
-        ensures ok { IfOk result (λ p. Packs (shelf_of self.new) p (instruction.LoadName name.now span)) }
+        ensures name { IfOk result (λ p. IsAt (shelf_of self.new).names p.0 name.now) }
+        ensures span { IfOk result (λ p. IsAt (shelf_of self.new).spans p.1 span) }
         ensures lacks { IfErr result Lacks }
     {
         let name = name_number(alloc, &mut self.names, seen, name.as_str())?;
         let span = number(&mut self.spans, span)?;
-        Ok(Packed::LoadName { name, span })
-    }
-
-    fn write_name(
-        &mut self,
-        alloc: Global,
-        seen: &mut [u32; 64],
-        name: &Text<'_>,
-        span: Span,
-    ) -> TeraResult<Packed>
-        ensures grows { Grows (shelf_of self.old) (shelf_of self.new) }
-        ensures ok { IfOk result (λ p. Packs (shelf_of self.new) p (instruction.WriteName name.now span)) }
-        ensures lacks { IfErr result Lacks }
-    {
-        let name = name_number(alloc, &mut self.names, seen, name.as_str())?;
-        let span = number(&mut self.spans, span)?;
-        Ok(Packed::WriteName { name, span })
-    }
-
-    fn load_attribute(
-        &mut self,
-        alloc: Global,
-        seen: &mut [u32; 64],
-        name: &Text<'_>,
-        optional: bool,
-        span: Span,
-    ) -> TeraResult<Packed>
-        ensures grows { Grows (shelf_of self.old) (shelf_of self.new) }
-        ensures ok { IfOk result (λ p. Packs (shelf_of self.new) p (instruction.LoadAttribute name.now optional span)) }
-        ensures lacks { IfErr result Lacks }
-    {
-        let name = name_number(alloc, &mut self.names, seen, name.as_str())?;
-        let span = number(&mut self.spans, span)?;
-        Ok(Packed::LoadAttribute {
-            name,
-            optional,
-            span,
-        })
+        Ok((name, span))
     }
 
     fn make_array(&mut self, alloc: Global, spreads: &Spreads<'_>, span: Span) -> TeraResult<Packed>
@@ -271,6 +270,38 @@ impl Tables {
         Ok(Packed::MakeMap { keys, span })
     }
 
+    fn store(&mut self, name: &LentName<'_>, is_global: bool) -> TeraResult<Packed>
+        ensures grows { Grows (shelf_of self.old) (shelf_of self.new) }
+        ensures ok { IfOk result (λ p. Packs (shelf_of self.new) p (instruction.Store name.now is_global)) }
+        ensures lacks { IfErr result Lacks }
+    {
+        let name = number(&mut self.names, name.share()?)?;
+        Ok(Packed::Store { name, is_global })
+    }
+
+    fn start_loop(
+        &mut self,
+        key: &Option<LentName<'_>>,
+        name: &LentName<'_>,
+        counts: bool,
+        size: usize,
+    ) -> TeraResult<Packed>
+        ensures grows { Grows (shelf_of self.old) (shelf_of self.new) }
+        ensures ok { IfOk result (λ p. Packs (shelf_of self.new) p (instruction.StartLoop key.now name.now counts size)) }
+        ensures lacks { IfErr result Lacks }
+    {
+        let names = LoopNames {
+            key: LentName::share_option(key)?,
+            name: name.share()?,
+        };
+        let names = number(&mut self.loops, names)?;
+        Ok(Packed::StartLoop {
+            counts,
+            names,
+            size,
+        })
+    }
+
     /// The instruction by numbers, with all that it names put where they find it.
     pub(crate) fn pack(
         &mut self,
@@ -285,14 +316,31 @@ impl Tables {
         match instruction {
             Instruction::WriteText(text) => self.text(text.as_str()),
             Instruction::WriteTop => Ok(Packed::WriteTop),
-            Instruction::WriteName(name, span) => self.write_name(alloc, seen, &name, span),
+            Instruction::WriteName(name, span) => {
+                let (name, span) = self.name_and_span(alloc, seen, &name, span)?;
+                Ok(Packed::WriteName { name, span })
+            }
             Instruction::LoadConst(constant, span) => self.constant(&constant, span),
-            Instruction::LoadName(name, span) => self.load_name(alloc, seen, &name, span),
+            Instruction::LoadName(name, span) => {
+                let (name, span) = self.name_and_span(alloc, seen, &name, span)?;
+                Ok(Packed::LoadName { name, span })
+            }
+            Instruction::LoadContext(span) => {
+                let span = number(&mut self.spans, span)?;
+                Ok(Packed::LoadContext { span })
+            }
             Instruction::LoadAttribute {
                 name,
                 optional,
                 span,
-            } => self.load_attribute(alloc, seen, &name, optional, span),
+            } => {
+                let (name, span) = self.name_and_span(alloc, seen, &name, span)?;
+                Ok(Packed::LoadAttribute {
+                    name,
+                    optional,
+                    span,
+                })
+            }
             Instruction::LoadItem { optional, span } => {
                 let span = number(&mut self.spans, span)?;
                 Ok(Packed::LoadItem { optional, span })
@@ -309,11 +357,43 @@ impl Tables {
             }
             Instruction::MakeArray(spreads, span) => self.make_array(alloc, &spreads, span),
             Instruction::MakeMap(keys, span) => self.make_map(alloc, &keys, span),
+            Instruction::Store { name, is_global } => self.store(&name, is_global),
+            Instruction::StartLoop {
+                key,
+                name,
+                counts,
+                size,
+            } => self.start_loop(&key, &name, counts, size),
+            Instruction::NextTurn => Ok(Packed::NextTurn),
+            Instruction::EndLoop(skip) => Ok(Packed::EndLoop(skip)),
+            Instruction::Keep => Ok(Packed::Keep),
+            Instruction::EndComprehension(span) => {
+                let span = number(&mut self.spans, span)?;
+                Ok(Packed::EndComprehension { span })
+            }
+            Instruction::StartCapture => Ok(Packed::StartCapture),
+            Instruction::EndCapture => Ok(Packed::EndCapture),
+            Instruction::LeaveLoop(drops) => Ok(Packed::LeaveLoop(drops)),
+            Instruction::LeaveTurn(drops) => Ok(Packed::LeaveTurn(drops)),
             Instruction::Jump(skip) => Ok(Packed::Jump(skip)),
             Instruction::PopJumpIfFalse(skip) => Ok(Packed::PopJumpIfFalse(skip)),
             Instruction::JumpIfFalseOrPop(skip) => Ok(Packed::JumpIfFalseOrPop(skip)),
             Instruction::JumpIfTrueOrPop(skip) => Ok(Packed::JumpIfTrueOrPop(skip)),
         }
+    }
+
+    fn span(&self, number: u32) -> Span
+        requires { number < length self.now.spans.items }
+        ensures { result ≡ span_at (shelf_of self.now) number }
+    {
+        self.spans[number as usize]
+    }
+
+    fn name(&self, number: u32) -> Text<'_>
+        requires { number < length self.now.names.items }
+        ensures { result ≡ name_at (shelf_of self.now) number }
+    {
+        Text::new(self.names[number as usize].as_str())
     }
 
     /// The instruction that is meant.
@@ -326,79 +406,82 @@ impl Tables {
                 Instruction::WriteText(Text::new(&self.pool[start as usize..end as usize]))
             }
             Packed::WriteTop => Instruction::WriteTop,
-            Packed::LoadNone { span } => {
-                Instruction::LoadConst(Constant::none(), self.spans[span as usize])
+            Packed::WriteName { name, span } => {
+                Instruction::WriteName(self.name(name), self.span(span))
             }
+            Packed::LoadNone { span } => Instruction::LoadConst(Constant::none(), self.span(span)),
             Packed::LoadBool { flag, span } => {
-                Instruction::LoadConst(Constant::from_bool(flag), self.spans[span as usize])
+                Instruction::LoadConst(Constant::from_bool(flag), self.span(span))
             }
             Packed::LoadInt { span, number } => {
-                Instruction::LoadConst(Constant::from_int(number), self.spans[span as usize])
+                Instruction::LoadConst(Constant::from_int(number), self.span(span))
             }
             Packed::LoadConst { constant, span } => {
                 let value = &self.constants[constant as usize];
-                Instruction::LoadConst(Constant::shared(value), self.spans[span as usize])
-            }
-            Packed::WriteName { name, span } => {
-                let name = &self.names[name as usize];
-                Instruction::WriteName(Text::new(name.as_str()), self.spans[span as usize])
+                Instruction::LoadConst(Constant::shared(value), self.span(span))
             }
             Packed::LoadName { name, span } => {
-                let name = &self.names[name as usize];
-                Instruction::LoadName(Text::new(name.as_str()), self.spans[span as usize])
+                Instruction::LoadName(self.name(name), self.span(span))
             }
+            Packed::LoadContext { span } => Instruction::LoadContext(self.span(span)),
             Packed::LoadAttribute {
                 name,
                 optional,
                 span,
-            } => {
-                let name = &self.names[name as usize];
-                Instruction::LoadAttribute {
-                    name: Text::new(name.as_str()),
-                    optional,
-                    span: self.spans[span as usize],
-                }
-            }
+            } => Instruction::LoadAttribute {
+                name: self.name(name),
+                optional,
+                span: self.span(span),
+            },
             Packed::LoadItem { optional, span } => Instruction::LoadItem {
                 optional,
-                span: self.spans[span as usize],
+                span: self.span(span),
             },
             Packed::Slice { optional, span } => Instruction::Slice {
                 optional,
-                span: self.spans[span as usize],
+                span: self.span(span),
             },
             Packed::Not => Instruction::Not,
             Packed::Negate => Instruction::Negate,
-            Packed::Binary { operator, span } => {
-                Instruction::Binary(operator, self.spans[span as usize])
-            }
+            Packed::Binary { operator, span } => Instruction::Binary(operator, self.span(span)),
             Packed::MakeArray { spreads, span } => {
                 let spreads = &self.spreads[spreads as usize];
-                Instruction::MakeArray(Spreads::new(spreads.as_slice()), self.spans[span as usize])
+                Instruction::MakeArray(Spreads::new(spreads.as_slice()), self.span(span))
             }
             Packed::MakeMap { keys, span } => {
                 let keys = &self.keys[keys as usize];
-                Instruction::MakeMap(Keys::new(keys.as_slice()), self.spans[span as usize])
+                Instruction::MakeMap(Keys::new(keys.as_slice()), self.span(span))
             }
+            Packed::Store { name, is_global } => Instruction::Store {
+                name: LentName::new(&self.names[name as usize]),
+                is_global,
+            },
+            Packed::StartLoop {
+                counts,
+                names,
+                size,
+            } => {
+                let names = &self.loops[names as usize];
+                Instruction::StartLoop {
+                    key: LentName::from_option(&names.key),
+                    name: LentName::new(&names.name),
+                    counts,
+                    size,
+                }
+            }
+            Packed::NextTurn => Instruction::NextTurn,
+            Packed::EndLoop(skip) => Instruction::EndLoop(skip),
+            Packed::Keep => Instruction::Keep,
+            Packed::EndComprehension { span } => Instruction::EndComprehension(self.span(span)),
+            Packed::StartCapture => Instruction::StartCapture,
+            Packed::EndCapture => Instruction::EndCapture,
+            Packed::LeaveLoop(drops) => Instruction::LeaveLoop(drops),
+            Packed::LeaveTurn(drops) => Instruction::LeaveTurn(drops),
             Packed::Jump(skip) => Instruction::Jump(skip),
             Packed::PopJumpIfFalse(skip) => Instruction::PopJumpIfFalse(skip),
             Packed::JumpIfFalseOrPop(skip) => Instruction::JumpIfFalseOrPop(skip),
             Packed::JumpIfTrueOrPop(skip) => Instruction::JumpIfTrueOrPop(skip),
         }
-    }
-}
-
-/// A jump names nothing.
-pub(crate) fn jump_of(jump: Instruction<'_>) -> Packed
-    requires { IsJump jump }
-    ensures { IsPacked result jump.entry }
-{
-    match jump {
-        Instruction::Jump(skip) => Packed::Jump(skip),
-        Instruction::PopJumpIfFalse(skip) => Packed::PopJumpIfFalse(skip),
-        Instruction::JumpIfFalseOrPop(skip) => Packed::JumpIfFalseOrPop(skip),
-        Instruction::JumpIfTrueOrPop(skip) => Packed::JumpIfTrueOrPop(skip),
-        _ => unreachable!(),
     }
 }
 

@@ -3,8 +3,8 @@ ghost use Rattle.std.specs.Prelude.{◌≡◌, ◌<◌, [], ◌∷◌, ◌++◌,
 ghost use Rattle.tera_errors.specs.Answer.{Gives, Lacks};
 ghost use Rattle.tera_values.specs.Val as val;
 ghost use Rattle.tera_code.specs.declared.instruction.Instruction.TheVariants as instruction;
-ghost use Rattle.tera_code.specs.Code.{lengthened, spreads_of, keys_in};
-ghost use Rattle.tera_code.specs.Places.{turned};
+ghost use Rattle.tera_code.specs.Code.{lengthened, is_context, name_code, spreads_of, keys_in};
+ghost use Rattle.tera_code.specs.Places.{divided};
 ghost use Rattle.tera_tree.specs.View.{keys_of};
 ghost use Rattle.tera_tree.specs.View.{items_of, entries_of, key_option, key_of};
 
@@ -26,10 +26,14 @@ impl Compiler {
     }
 
     pub(crate) fn load(&mut self, name: &String, span: Span) -> TeraResult<()>
-        ensures ok { OnOk result (self.new ≡ lengthened self.old (instruction.LoadName (string_bytes name.now) span ∷ [])) }
+        ensures ok { OnOk result (self.new ≡ lengthened self.old (name_code (string_bytes name.now) span)) }
         ensures lacks { IfErr result Lacks }
     {
-        self.emit(Instruction::LoadName(Text::new(name.as_str()), span))
+        if is_context(name) {
+            self.emit(Instruction::LoadContext(span))
+        } else {
+            self.emit(Instruction::LoadName(Text::new(name.as_str()), span))
+        }
     }
 
     pub(crate) fn attribute(&mut self, name: &String, optional: bool, span: Span) -> TeraResult<()>
@@ -44,14 +48,14 @@ impl Compiler {
     }
 
     // The first of two parts ends, which starts behind the place; the place that was kept behind it.
-    pub(crate) fn turn(&mut self, place: usize) -> TeraResult<usize>
+    pub(crate) fn divide(&mut self, place: usize) -> TeraResult<usize>
         requires { place < length self.old.code }
         ensures place { IfOk result (λ next. next ≡ length self.old.code) }
-        ensures ok { OnOk result (self.new ≡ turned place self.old) }
+        ensures ok { OnOk result (self.new ≡ divided place self.old) }
         ensures lacks { IfErr result Lacks }
     {
         let next = self.keep_place()?;
-        self.fill(place, Instruction::PopJumpIfFalse(self.behind(place)));
+        self.fill(place, Instruction::PopJumpIfFalse(self.behind(place)))?;
         Ok(next)
     }
 
@@ -70,6 +74,13 @@ impl Compiler {
         let keys = keys(self.alloc(), entries)?;
         self.emit(Instruction::MakeMap(Keys::new(keys.as_slice()), span))
     }
+}
+
+// The map of all that is bound has this name.
+pub(crate) fn is_context(name: &String) -> bool
+    ensures { result ≡ is_context (string_bytes name.now) }
+{
+    name.as_str() == "__tera_context"
 }
 
 fn spreads(alloc: Global, items: &[Item]) -> TeraResult<Vec<bool>>

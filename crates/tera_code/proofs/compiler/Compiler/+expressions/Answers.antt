@@ -3,7 +3,7 @@ use Rattle.tera_tree.specs.View.{expr_of}
 use Rattle.tera_code.specs.declared.instruction.Instruction.TheVariants as instruction
 use Rattle.tera_code.specs.Code.{expr_code, choice_code, lengthened}
 use Rattle.tera_code.proofs.Filled.{jump_written, choice_written}
-use Rattle.tera_code.proofs.Written.{array_written, map_written}
+use Rattle.tera_code.proofs.Written.{array_written, map_written, on_ok_by, kept, kept_if, comprehended}
 use Rattle.tera_code.proofs.compiler.Compiler.+expressions.Goals as goal
 
 pub collection-returns-in_ok-items-in-Array-clause-ok : goal.collection-returns-in_ok-items-in-Array-clause-ok
@@ -16,21 +16,33 @@ collection-returns-in_ok-entries-in-Map-clause-ok t c =
 
 pub branch-returns-in_ok-expression-in-And-2-clause-ok : goal.branch-returns-in_ok-expression-in-And-2-clause-ok
 branch-returns-in_ok-expression-in-And-2-clause-ok t c =
-    jump_written _ _ _ _ _ _ _ _ _ (λ count. instruction.JumpIfFalseOrPop count) c.in_ok-expression-in-And.ensures.ok c.in_ok-place-in-And.ensures.place c.in_ok-place-in-And.ensures.ok c.in_ok-expression-in-And-2.ensures.ok c.behind.ensures c.fill.ensures
+    on_ok_by _ _ _ _ (jump_written _ _ _ _ _ _ _ _ (λ count. instruction.JumpIfFalseOrPop count) c.in_ok-expression-in-And.ensures.ok c.in_ok-place-in-And.ensures.place c.in_ok-place-in-And.ensures.ok c.in_ok-expression-in-And-2.ensures.ok c.behind.ensures
     ∙ ap₂ (λ x y. lengthened c.args.self.now (expr_code (expr_of x) ++ instruction.JumpIfFalseOrPop (length (expr_code (expr_of y))) ∷ expr_code (expr_of y))) c.deref.ensures c.deref-in-And.ensures
-    ∙ ap (λ e. lengthened c.args.self.now (expr_code (expr_of e))) (sym c.in-And.is)
+    ∙ ap (λ e. lengthened c.args.self.now (expr_code (expr_of e))) (sym c.in-And.is)) c.fill.ensures.ok
 
 pub branch-returns-in_ok-expression-in-Or-2-clause-ok : goal.branch-returns-in_ok-expression-in-Or-2-clause-ok
 branch-returns-in_ok-expression-in-Or-2-clause-ok t c =
-    jump_written _ _ _ _ _ _ _ _ _ (λ count. instruction.JumpIfTrueOrPop count) c.in_ok-expression-in-Or.ensures.ok c.in_ok-place-in-Or.ensures.place c.in_ok-place-in-Or.ensures.ok c.in_ok-expression-in-Or-2.ensures.ok c.behind-in-Or.ensures c.fill-in-Or.ensures
+    on_ok_by _ _ _ _ (jump_written _ _ _ _ _ _ _ _ (λ count. instruction.JumpIfTrueOrPop count) c.in_ok-expression-in-Or.ensures.ok c.in_ok-place-in-Or.ensures.place c.in_ok-place-in-Or.ensures.ok c.in_ok-expression-in-Or-2.ensures.ok c.behind-in-Or.ensures
     ∙ ap₂ (λ x y. lengthened c.args.self.now (expr_code (expr_of x) ++ instruction.JumpIfTrueOrPop (length (expr_code (expr_of y))) ∷ expr_code (expr_of y))) c.deref-in-Or.ensures c.deref-in-Or-2.ensures
-    ∙ ap (λ e. lengthened c.args.self.now (expr_code (expr_of e))) (sym c.in-Or.is)
+    ∙ ap (λ e. lengthened c.args.self.now (expr_code (expr_of e))) (sym c.in-Or.is)) c.fill-in-Or.ensures.ok
 
 pub branch-returns-in_ok-expression-in-Ternary-3-clause-ok : goal.branch-returns-in_ok-expression-in-Ternary-3-clause-ok
 branch-returns-in_ok-expression-in-Ternary-3-clause-ok t c =
-    choice_written _ _ _ _ _ _ _ _ _ _ _ _ _ c.in_ok-expression-in-Ternary.ensures.ok c.in_ok-place-in-Ternary.ensures.place c.in_ok-place-in-Ternary.ensures.ok
+    on_ok_by _ _ _ _ (choice_written _ _ _ _ _ _ _ _ _ _ _ _ c.in_ok-expression-in-Ternary.ensures.ok c.in_ok-place-in-Ternary.ensures.place c.in_ok-place-in-Ternary.ensures.ok
     c.in_ok-expression-in-Ternary-2.ensures.ok c.in_ok-place-in-Ternary-2.ensures.place c.in_ok-place-in-Ternary-2.ensures.ok c.in_ok-expression-in-Ternary-3.ensures.ok c.behind-in-Ternary.ensures
-    c.fill-in-Ternary.ensures
     ∙ ap (λ x. lengthened c.args.self.now (choice_code (expr_code (expr_of x)) (expr_code (expr_of c.deref-in-Ternary-2.result.now)) (expr_code (expr_of c.deref-in-Ternary-3.result.now)))) c.deref-in-Ternary.ensures
     ∙ ap₂ (λ x y. lengthened c.args.self.now (choice_code (expr_code (expr_of c.in-Ternary.condition.value)) (expr_code (expr_of x)) (expr_code (expr_of y)))) c.deref-in-Ternary-2.ensures c.deref-in-Ternary-3.ensures
-    ∙ ap (λ e. lengthened c.args.self.now (expr_code (expr_of e))) (sym c.in-Ternary.is)
+    ∙ ap (λ e. lengthened c.args.self.now (expr_code (expr_of e))) (sym c.in-Ternary.is)) c.fill-in-Ternary.ensures.ok
+
+pub comprehension-returns-in_ok-emit-in-None-clause-ok : goal.comprehension-returns-in_ok-emit-in-None-clause-ok
+comprehension-returns-in_ok-emit-in-None-clause-ok t c =
+    on_ok_by _ _ _ _ (comprehended _ _ _ _ _ c.in-Comprehension.value c.in-Comprehension.heading c.in-Comprehension.condition c.in-Comprehension.span _ _ _ c.in-Comprehension.is c.in_ok-expression-in-Comprehension.ensures.ok
+    c.deref.ensures c.in_ok-start-in-Comprehension.ensures.place c.in_ok-start-in-Comprehension.ensures.ok (kept _ _ _ _ _ _ c.in-None.is c.in_ok-expression-in-None.ensures.ok c.deref-in-None.ensures c.in_ok-emit-in-None.ensures.ok)
+    c.deref-in-None-2.ensures) c.end_comprehension.ensures.ok
+
+pub comprehension-returns-in_ok-fill-in-Some-clause-ok : goal.comprehension-returns-in_ok-fill-in-Some-clause-ok
+comprehension-returns-in_ok-fill-in-Some-clause-ok t c =
+    on_ok_by _ _ _ _ (comprehended _ _ _ _ _ c.in-Comprehension.value c.in-Comprehension.heading c.in-Comprehension.condition c.in-Comprehension.span _ _ _ c.in-Comprehension.is c.in_ok-expression-in-Comprehension.ensures.ok
+    c.deref.ensures c.in_ok-start-in-Comprehension.ensures.place c.in_ok-start-in-Comprehension.ensures.ok (kept_if _ _ _ _ _ _ _ c.in-Some.condition _ _ _ _ _ c.in-Some.is c.in_ok-expression-in-Some.ensures.ok c.deref-in-Some.ensures
+    c.in_ok-place-in-Some.ensures.place c.in_ok-place-in-Some.ensures.ok c.in_ok-expression-in-Some-2.ensures.ok c.deref-in-Some-2.ensures c.in_ok-emit-in-Some.ensures.ok c.behind.ensures c.in_ok-fill-in-Some.ensures.ok)
+    c.deref-in-Some-3.ensures) c.end_comprehension-in-Some.ensures.ok

@@ -1,0 +1,98 @@
+// Loops and comprehensions.
+ghost use Rattle.std.specs.Prelude.{◌≡◌, ◌<◌, ◌∷◌, [], Ok, OnOk, IfErr, length, true, false};
+ghost use Rattle.tera_errors.specs.Answer.{Gives, Lacks};
+ghost use Rattle.tera_code.specs.declared.instruction.Instruction.TheVariants as instruction;
+ghost use Rattle.tera_code.specs.Code.{expr_code, lengthened};
+ghost use Rattle.tera_code.specs.Group.{group, Loop};
+ghost use Rattle.tera_code.specs.Places.{looped};
+ghost use Rattle.tera_tree.specs.View.{name_option, expr_of};
+
+use crate::compiler::Compiler;
+use crate::content::{LentName, Spreads};
+use crate::instruction::Instruction;
+use std::alloc::Global;
+use tera_tree::{Expression, Heading};
+use tera_values::{Name, Span, TeraResult};
+
+impl Compiler {
+    // An array of what is kept in the turns of a loop.
+    #[cycle(expressions)]
+    pub(crate) fn comprehension(&mut self, expression: &Expression) -> TeraResult<()>
+        requires { group (expr_of expression.now) ≡ Loop }
+        ensures ok { OnOk result (self.new ≡ lengthened self.old (expr_code (expr_of expression.now))) }
+        ensures lacks { IfErr result Lacks }
+    {
+        match expression {
+            Expression::Comprehension {
+                value,
+                heading,
+                condition,
+                span,
+            } => {
+                self.expression(&heading.target)?;
+                let start = self.keep_place()?;
+                match condition {
+                    None => {
+                        self.expression(value)?;
+                        self.emit(Instruction::Keep)?;
+                        self.end_comprehension(start, heading, *span)
+                    }
+                    Some(condition) => {
+                        self.expression(condition)?;
+                        let place = self.keep_place()?;
+                        self.expression(value)?;
+                        self.emit(Instruction::Keep)?;
+                        self.fill(place, Instruction::PopJumpIfFalse(self.behind(place)))?;
+                        self.end_comprehension(start, heading, *span)
+                    }
+                }
+            }
+            _ => unreachable!(),
+        }
+    }
+
+    fn end_comprehension(&mut self, start: usize, heading: &Heading, span: Span) -> TeraResult<()>
+        requires { start < length self.old.code }
+        ensures ok { OnOk result (self.new ≡ lengthened (looped start heading.now false self.old) (instruction.EndComprehension span ∷ instruction.MakeArray [] span ∷ [])) }
+        ensures lacks { IfErr result Lacks }
+    {
+        self.end_turns(start, heading, false)?;
+        self.emit(Instruction::EndComprehension(span))?;
+        self.emit(Instruction::MakeArray(Spreads::new(&[]), span))
+    }
+
+    // The turns of a loop end, which stand behind the place that was kept for its start.
+    pub(crate) fn end_turns(
+        &mut self,
+        start: usize,
+        heading: &Heading,
+        counts: bool,
+    ) -> TeraResult<()>
+        requires { start < length self.old.code }
+        ensures ok { OnOk result (self.new ≡ looped start heading.now counts self.old) }
+        ensures lacks { IfErr result Lacks }
+    {
+        let key = key_name(self.alloc(), &heading.key)?;
+        let name = Name::new(self.alloc(), heading.name.as_str())?;
+        let size = self.behind(start);
+        self.fill(
+            start,
+            Instruction::StartLoop {
+                key: LentName::from_option(&key),
+                name: LentName::new(&name),
+                counts,
+                size,
+            },
+        )?;
+        self.emit(Instruction::NextTurn)
+    }
+}
+
+fn key_name(alloc: Global, key: &Option<String>) -> TeraResult<Option<Name>>
+    ensures { Gives (λ k. k) result (Ok (name_option key.now)) }
+{
+    match key {
+        None => Ok(None),
+        Some(key) => Ok(Some(Name::new(alloc, key.as_str())?)),
+    }
+}

@@ -105,5 +105,11 @@ implicit_here n f us v o e u = handed_some o (from_above n us) u ∙ ap (λ (p :
 pub implicit_above : (n : Name) (f : FrameMeant) (us : List (FrameMeant × Variables)) (v : Variables) (o x : Option Val) → o ≡ bound n f us v → is_undefined (unwrap_or o undefined) ≡ true → x ≡ from_above n us → x ≡ bound_above n f us v
 implicit_above n f us v o x e u h = handed_none o (from_above n us) x u h ∙ ap (λ (p : Option Val). option_or (defined p) (from_above n us)) e ∙ sym (implicit_split n f us v)
 
-pub above_step : (n : Name) (bs : List Binding) (f : Frame) (gs fs : List Frame) (k : ℕ) → gs ≡ f ∷ fs → length fs ≡ k → from_above n (above_of bs gs) ≡ bound_above n (frame_of f.standing fs) (above_of bs fs) (variables_at bs k f)
+above_step : (n : Name) (bs : List Binding) (f : Frame) (gs fs : List Frame) (k : ℕ) → gs ≡ f ∷ fs → length fs ≡ k → from_above n (above_of bs gs) ≡ bound_above n (frame_of f.standing fs) (above_of bs fs) (variables_at bs k f)
 above_step n bs f gs fs k g ek = ap (λ (hs : List Frame). from_above n (above_of bs hs)) g ∙ ap (λ (j : ℕ). bound_above n (frame_of f.standing fs) (above_of bs fs) (variables_at bs j f)) ek
+
+-- the caller stands below so many frames
+pub above_caller : (n : Name) (bs : List Binding) (below : List Frame) (k : ℕ) (f : Frame) → 0 < k → k ≤ length below → slice_get (reverse below) (k - 1) ≡ Some f → from_above n (above_of bs (lower k below)) ≡ bound_above n (frame_of f.standing (lower (k - 1) below)) (above_of bs (lower (k - 1) below)) (variables_at bs (k - 1) f)
+above_caller n bs below k f some le there =
+    let less : k - 1 ≤ length below = omega (arith, le) in
+    above_step n bs f (lower k below) (lower (k - 1) below) (k - 1) (lower_at below k f some there) (lower_length below (k - 1) less)

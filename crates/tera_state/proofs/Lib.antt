@@ -4,6 +4,7 @@ pub mod Walked
 pub mod Layers
 pub mod Steps
 pub mod Finds
+pub mod Dumped
 pub mod Beyond
 pub mod Started
 pub mod Stacks

@@ -5,7 +5,7 @@ use Rattle.tera_values.specs.Val.{Val}
 use Rattle.tera_state.specs.Scope.{Bindings, Turn, Variables, Around, set_variable, set_global, open_turn, close_turn, nothing_set, Frame as FrameMeant}
 use Rattle.tera_state.specs.Bound.{layer_of, with_binding, without, without_frame}
 use Rattle.tera_state.specs.Opened.{turn_of, to_come, turns_of, InnermostGoesOn}
-use Rattle.tera_state.specs.Scopes.{begun, variables_at, variables_of, around_of, coming_of, TakesTurn, above_of, frame_of}
+use Rattle.tera_state.specs.Scopes.{begun, variables_at, variables_of, around_of, coming_of, GoesRound, TakesTurn, above_of, frame_of}
 use Rattle.tera_state.specs.declared.bindings.Binding.{Binding}
 use Rattle.tera_state.specs.declared.loops.ForLoop.{ForLoop}
 use Rattle.tera_state.specs.declared.frame.Frame.{Frame}
@@ -76,13 +76,13 @@ module _ (s : Scopes) (bs : List Binding) (f k : ℕ) (ef : f ≡ length s.below
   pub closes : (new : List ForLoop) → (coming_of s ≡ [] → ⊥) → k ≡ length s.frame.loops → new ≡ drop 1 s.frame.loops → variables_of (cleared s bs new) ≡ close_turn (variables_of s)
   closes new some ek same = closes_by s.frame.loops new some ek same
 
-  takes_by : (old new : List ForLoop) → k ≡ length new → InnermostGoesOn true old new → TakesTurn true (map to_come old) (before old) (map to_come new) (after new)
+  takes_by : (old new : List ForLoop) → k ≡ length new → InnermostGoesOn true old new → GoesRound true (map to_come old) (before old) (map to_come new) (after new)
   takes_by [] new ek h = absurd (true≢false h.0)
   takes_by (l ∷ ls) new ek (l', same, goes) =
-      subst (λ (c : List Turn). TakesTurn true (c ∷ map to_come ls) (before (l ∷ ls)) (map to_come new) (after new)) (sym goes)
+      subst (λ (c : List Turn). GoesRound true (c ∷ map to_come ls) (before (l ∷ ls)) (map to_come new) (after new)) (sym goes)
       (refl, ap (map to_come) same, from_here ls new l' ek same)
 
-  pub takes_turn : (new : List ForLoop) (r : Bool) → r ≡ true → k ≡ length new → InnermostGoesOn r s.frame.loops new → TakesTurn true (coming_of s) (variables_of s) (coming_of (cleared s bs new)) (variables_of (cleared s bs new))
+  pub takes_turn : (new : List ForLoop) (r : Bool) → r ≡ true → k ≡ length new → InnermostGoesOn r s.frame.loops new → TakesTurn true s (cleared s bs new)
   takes_turn new r it ek h = takes_by s.frame.loops new ek (subst (λ (b : Bool). InnermostGoesOn b s.frame.loops new) it h)
 
 -- the innermost loop has no turn to come
@@ -90,14 +90,14 @@ module _ (bs : List Binding) (f : ℕ) where
   abbrev at : List ForLoop → Variables
   at ls = variables_with bs f ls
 
-  stops_by : (old new : List ForLoop) → InnermostGoesOn false old new → TakesTurn false (map to_come old) (at old) (map to_come new) (at new)
+  stops_by : (old new : List ForLoop) → InnermostGoesOn false old new → GoesRound false (map to_come old) (at old) (map to_come new) (at new)
   stops_by [] new h = (refl, ap (map to_come) h.1, ap at h.1)
   stops_by (l ∷ ls) new (l', same, stops) =
       let e : new ≡ l ∷ ls = same ∙ ap (λ x. x ∷ ls) stops.1 in
-      subst (λ (c : List Turn). TakesTurn false (c ∷ map to_come ls) (at (l ∷ ls)) (map to_come new) (at new)) (sym stops.0)
+      subst (λ (c : List Turn). GoesRound false (c ∷ map to_come ls) (at (l ∷ ls)) (map to_come new) (at new)) (sym stops.0)
       (refl, ap (map to_come) e ∙ ap (λ c. c ∷ map to_come ls) stops.0, ap at e)
 
-pub stops : (s : Scopes) (new : List ForLoop) (r : Bool) → r ≡ false → InnermostGoesOn r s.frame.loops new → TakesTurn false (coming_of s) (variables_of s) (coming_of (cleared s s.bindings new)) (variables_of (cleared s s.bindings new))
+pub stops : (s : Scopes) (new : List ForLoop) (r : Bool) → r ≡ false → InnermostGoesOn r s.frame.loops new → TakesTurn false s (cleared s s.bindings new)
 stops s new r it h = stops_by s.bindings (length s.below) s.frame.loops new (subst (λ (b : Bool). InnermostGoesOn b s.frame.loops new) it h)
 
 -- a frame begins with nothing bound, and ends with all that it bound

@@ -4,14 +4,18 @@ use Rattle.tera_values.specs.Val.{Val, undefined, none, bool, int, text, bytes, 
 use Rattle.tera_values.specs.Access.{pairs}
 use Rattle.tera_state.specs.Found.{key_as_value}
 use Rattle.tera_errors.specs.Fault.{Fault, message}
+use Rattle.tera_errors.specs.Site.{Name}
 use Rattle.tera_state.specs.Items.{Item, items, unkeyed}
 use Rattle.tera_state.specs.Scope.{is_map, Bindings, Turn, Heading, counters, named_item, turns_from}
 use Rattle.tera_state.specs.Bound.{layer_of}
 use Rattle.tera_state.specs.declared.bindings.Binding.{Binding}
 use Rattle.tera_state.specs.declared.loops.ForLoop.{ForLoop}
 
+abbrev pub heading : Name → Option Name → Bool → Heading
+heading name key counts = record { name = name; key = key; counts = counts }
+
 abbrev pub heading_of : ForLoop → Heading
-heading_of l = record { name = l.name; key = l.key; counts = l.counts }
+heading_of l = heading l.name l.key l.counts
 
 -- what is gone over; a text was made an array before
 abbrev pub walked : Val → List Item

@@ -3,10 +3,11 @@ use Rattle.std.specs.Prelude.{ℕ, suc, ◌+◌, ◌&&◌, not, pos, Bool, true,
 use Rattle.std.specs.Option.{option_or, is_some}
 use Rattle.tera_errors.specs.Fault.{Fault, message}
 use Rattle.tera_errors.specs.Site.{Name}
-use Rattle.tera_values.specs.Val.{ValOf, KeyVal, ktext, undefined, none, int, bool, text, bytes, array, map as map_of, entries}
+use Rattle.tera_values.specs.Val.{ValOf, undefined, none, int, bool, text, bytes, array, map as map_of, entries}
 use Rattle.tera_values.specs.Access.{is_undefined}
 use Rattle.tera_values.specs.Alphabet.{Alphabet, plain}
-use Rattle.tera_values.specs.Named.{Named, at_name, put}
+use Rattle.tera_values.specs.Named.{Named, at_name, put_all, text_keys}
+pub use Rattle.tera_values.specs.Named.{put_all, text_keys}
 use Rattle.tera_state.specs.Items.{ItemOf, items_in}
 
 -- values by name, the name that was bound first standing first
@@ -194,10 +195,6 @@ abbrev pub in_component : {C : Type 0} → Named (ValOf C) → AroundOf C → Va
 in_component context around v =
     record { frame = record { kind = called; context = context; global = [] }; above = (around.frame, v) ∷ around.above }
 
-abbrev pub put_all : {C : Type 0} → BindingsOf C → Named (ValOf C) → Named (ValOf C)
-put_all [] m = m
-put_all (b ∷ bs) m = put_all bs (put b.0 b.1 m)
-
 -- what is set in the turns, that of inner ones over that of outer ones
 abbrev pub put_turns : {C : Type 0} → List (TurnOf C) → Named (ValOf C) → Named (ValOf C)
 put_turns [] m = m
@@ -205,10 +202,6 @@ put_turns (t ∷ ts) m = put_all t.sets (put_turns ts m)
 
 abbrev pub dumped : {C : Type 0} → AroundOf C → VariablesOf C → Named (ValOf C)
 dumped around v = put_turns v.turns (put_all v.sets (put_all around.frame.context around.frame.global))
-
-abbrev pub text_keys : {C : Type 0} → Named (ValOf C) → List (KeyVal × ValOf C)
-text_keys [] = []
-text_keys (e ∷ es) = (ktext e.0, e.1) ∷ text_keys es
 
 -- `__tera_context`: what this state alone binds, in byte order of the names
 abbrev pub dump : {C : Type 0} → AroundOf C → VariablesOf C → ValOf C

@@ -1,11 +1,12 @@
 // All names that a rendering has set, in one list.
 ghost use Rattle.std.specs.Prelude.{◌≡◌, [], OnOk, OnErr, IfErr, option_copied};
 ghost use Rattle.tera_errors.specs.Answer.{Lacks};
-ghost use Rattle.tera_state.specs.Bound.{value_in, with_binding, without, without_frame, place_from};
+ghost use Rattle.tera_values.specs.Named.{put_all};
+ghost use Rattle.tera_state.specs.Bound.{value_in, with_binding, without, without_frame, place_from, layer_of};
 
 use std::alloc::Global;
 use std::marker::Model;
-use tera_values::{Name, TeraResult, Value};
+use tera_values::{Context, Name, TeraResult, Value};
 
 /// A name with its value, in a layer of a frame.
 #[derive(Drop)]
@@ -73,6 +74,14 @@ impl Bindings {
         Ok(())
     }
 
+    /// Puts what a layer binds into the names.
+    pub fn put_layer(&self, frame: usize, layer: usize, names: &mut Context) -> TeraResult<()>
+        ensures ok { OnOk result (names.new ≡ put_all (layer_of self.now frame layer) names.old) }
+        ensures lacks { IfErr result Lacks }
+    {
+        put_layer(self.items.as_slice(), frame, layer, names)
+    }
+
     /// Takes out what a layer binds.
     pub fn clear(&mut self, frame: usize, layer: usize)
         ensures { self.new ≡ without self.old frame layer }
@@ -109,4 +118,16 @@ fn place(items: &[Binding], frame: usize, layer: usize, name: &str) -> Option<us
         }
     }
     None
+}
+
+fn put_layer(items: &[Binding], frame: usize, layer: usize, names: &mut Context) -> TeraResult<()>
+    ensures ok { OnOk result (names.new ≡ put_all (layer_of items.now frame layer) names.old) }
+    ensures lacks { IfErr result Lacks }
+{
+    for b in items {
+        if b.frame == frame && b.layer == layer {
+            names.insert(b.name.as_str(), b.value.try_clone()?)?;
+        }
+    }
+    Ok(())
 }

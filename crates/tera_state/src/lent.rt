@@ -1,8 +1,10 @@
 // Names that belong to someone else.
-ghost use Rattle.std.specs.Prelude.{◌≡◌, option_copied};
+ghost use Rattle.std.specs.Prelude.{◌≡◌, Ok, OnOk, IfErr, option_copied};
+ghost use Rattle.tera_errors.specs.Answer.{Gives, Lacks};
 
+use std::alloc::Global;
 use std::marker::Model;
-use tera_values::{Context, Value};
+use tera_values::{Context, TeraResult, Value};
 
 /// The names of a context that lives elsewhere, or none. A contract sees the names, and not where they lie.
 #[derive(Drop)]
@@ -24,7 +26,7 @@ impl<'c> Model for Lent<'c> {
 }
 
 impl<'c> Lent<'c> {
-    ghost use Rattle.tera_values.specs.Named.{at_name};
+    ghost use Rattle.tera_values.specs.Named.{at_name, put_all};
     ghost use Rattle.tera_state.specs.Lent.{names_of};
 
     /// Takes no memory.
@@ -40,6 +42,27 @@ impl<'c> Lent<'c> {
     {
         Lent {
             context: self.context,
+        }
+    }
+
+    /// A context of its own with the same names.
+    pub fn to_context(&self, alloc: Global) -> TeraResult<Context>
+        ensures { Gives (λ c. c) result (Ok self.now) }
+    {
+        match self.context {
+            Some(context) => context.try_clone(),
+            None => Ok(Context::new(alloc)),
+        }
+    }
+
+    /// Puts all into the names.
+    pub fn put_into(&self, names: &mut Context) -> TeraResult<()>
+        ensures ok { OnOk result (names.new ≡ put_all self.now names.old) }
+        ensures lacks { IfErr result Lacks }
+    {
+        match self.context {
+            Some(context) => names.put_all(context),
+            None => Ok(()),
         }
     }
 

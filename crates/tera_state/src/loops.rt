@@ -7,7 +7,7 @@ ghost use Rattle.tera_state.specs.Found.{found_value};
 ghost use Rattle.tera_state.specs.Items.{items_in};
 ghost use Rattle.tera_state.specs.Lending.{items_left};
 ghost use Rattle.tera_state.specs.Scope.{loop_turns};
-ghost use Rattle.tera_state.specs.Opened.{items_of, item_at, heading_of, names_of, items_over, turns_left, counters_of, GoesOn};
+ghost use Rattle.tera_state.specs.Opened.{items_of, item_at, heading, heading_of, names_of, items_over, turns_left, counters_of, GoesOn};
 
 use crate::found::Found;
 use crate::items::{ForLoopIterator, gone_over, key_at, size_of, value_at};
@@ -33,7 +33,7 @@ impl ForLoop {
         key: Option<Name>,
         target: Value,
     ) -> TeraResult<Option<ForLoop>>
-        ensures turns { Gives turns_left result (loop_turns (record { name = name; key = key; counts = true }) target) }
+        ensures turns { Gives turns_left result (loop_turns (heading name key true) target) }
         ensures items { IfOk result (λ opened. items_in plain target ≡ Some (items_over opened)) }
     {
         ForLoop::begin(alloc, name, key, true, target)
@@ -46,12 +46,13 @@ impl ForLoop {
         key: Option<Name>,
         target: Value,
     ) -> TeraResult<Option<ForLoop>>
-        ensures turns { Gives turns_left result (loop_turns (record { name = name; key = key; counts = false }) target) }
+        ensures turns { Gives turns_left result (loop_turns (heading name key false) target) }
         ensures items { IfOk result (λ opened. items_in plain target ≡ Some (items_over opened)) }
     {
         ForLoop::begin(alloc, name, key, false, target)
     }
 
+    // The same, which counts or does not.
     fn begin(
         alloc: Global,
         name: Name,
@@ -59,7 +60,7 @@ impl ForLoop {
         counts: bool,
         target: Value,
     ) -> TeraResult<Option<ForLoop>>
-        ensures turns { Gives turns_left result (loop_turns (record { name = name; key = key; counts = counts }) target) }
+        ensures turns { Gives turns_left result (loop_turns (heading name key counts) target) }
         ensures items { IfOk result (λ opened. items_in plain target ≡ Some (items_over opened)) }
     {
         let items = gone_over(alloc, key.is_some(), target)?;

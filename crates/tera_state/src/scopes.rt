@@ -1,15 +1,15 @@
 // All that a rendering has open, and all that it binds.
-ghost use Rattle.std.specs.Prelude.{◌≡◌, ◌≤◌, ◌≢◌, ◌↔◌, ◌∷◌, [], suc, OnOk, OnErr, IfErr, IsTrue, length, drop, unwrap_or, option_copied};
-ghost use Rattle.tera_errors.specs.Answer.{Lacks};
+ghost use Rattle.std.specs.Prelude.{◌≡◌, Ok, ◌≤◌, ◌≢◌, ◌↔◌, ◌∷◌, [], suc, OnOk, OnErr, IfErr, IsTrue, length, drop, unwrap_or, option_copied};
+ghost use Rattle.tera_errors.specs.Answer.{Gives, Lacks};
 ghost use Rattle.tera_values.specs.Val.{undefined};
 ghost use Rattle.tera_state.specs.Found.{found_value};
 ghost use Rattle.tera_values.specs.Named.{at_name};
 ghost use Rattle.tera_state.specs.Bound.{without_frame};
 ghost use Rattle.tera_state.specs.Lent.{names_of};
-ghost use Rattle.tera_state.specs.Scope.{look, look_implicit, bound_above, bound, in_variables, set_variable, set_global, open_turn, close_turn, nothing_set, outside, in_include, in_component};
+ghost use Rattle.tera_state.specs.Scope.{look, look_implicit, in_variables, set_variable, set_global, open_turn, close_turn, nothing_set, outside, in_include, in_component, put_turns, dump};
 ghost use Rattle.tera_state.specs.Opened.{turn_of, to_come};
 ghost use Rattle.tera_state.specs.Stack.{lower};
-ghost use Rattle.tera_state.specs.Scopes.{begun, variables_at, frame_of, above_of, context_of, variables_of, around_of, coming_of, coming_around, TakesTurn};
+ghost use Rattle.tera_state.specs.Scopes.{begun, bound_at, bound_above_at, variables_at, context_of, variables_of, around_of, coming_of, coming_around, own_global, TakesTurn};
 
 use crate::bindings::Bindings;
 use crate::found::Found;
@@ -61,7 +61,7 @@ impl<'c> Scopes<'c> {
     // What a body with so many frames below it has the name stand for.
     fn bound_at<'a>(&'a self, height: usize, body: &'a Frame<'c>, name: &str) -> Found<'a>
         requires { height ≤ length self.now.below }
-        ensures { found_value result ≡ bound name.now (frame_of body.now.standing (lower height self.now.below)) (above_of self.now.bindings (lower height self.now.below)) (variables_at self.now.bindings height body.now) }
+        ensures { found_value result ≡ bound_at self.now height body.now name.now }
     {
         match in_body(&self.bindings, height, body, name) {
             Found::Nothing => match &body.standing {
@@ -102,7 +102,7 @@ impl<'c> Scopes<'c> {
     // The same from a body with so many frames below it.
     fn implicit_at<'a>(&'a self, height: usize, body: &'a Frame<'c>, name: &str) -> Found<'a>
         requires { height ≤ length self.now.below }
-        ensures { found_value result ≡ bound_above name.now (frame_of body.now.standing (lower height self.now.below)) (above_of self.now.bindings (lower height self.now.below)) (variables_at self.now.bindings height body.now) }
+        ensures { found_value result ≡ bound_above_at self.now height body.now name.now }
     {
         let found = self.bound_at(height, body, name);
         if !found.is_undefined() {
@@ -134,6 +134,41 @@ impl<'c> Scopes<'c> {
             Some(includer) => self.context_at(height - 1, includer),
             None => Lent::new(None),
         }
+    }
+
+    /// What `__tera_context` stands for: the map of all that this body itself binds, the names of its loops excepted.
+    pub fn dump(&self, alloc: Global) -> TeraResult<Value>
+        ensures { Gives (λ v. v) result (Ok (dump (around_of self.now) (variables_of self.now))) }
+    {
+        let mut names = self.global(alloc)?;
+        let height = self.below.len();
+        self.context_at(height, &self.frame).put_into(&mut names)?;
+        self.bindings.put_layer(height, 0, &mut names)?;
+        self.put_turns(&mut names)?;
+        names.to_value()
+    }
+
+    // A copy of the global context of the body that runs.
+    fn global(&self, alloc: Global) -> TeraResult<Context>
+        ensures { Gives (λ c. c) result (Ok (own_global self.now.frame.standing)) }
+    {
+        match &self.frame.standing {
+            Standing::Whole(_, global) => global.to_context(alloc),
+            Standing::Called(_) => Ok(Context::new(alloc)),
+            Standing::Included => Ok(Context::new(alloc)),
+        }
+    }
+
+    // Puts what is set in the turns into the names, that of inner ones last.
+    fn put_turns(&self, names: &mut Context) -> TeraResult<()>
+        ensures ok { OnOk result (names.new ≡ put_turns (variables_of self.now).turns names.old) }
+        ensures lacks { IfErr result Lacks }
+    {
+        let height = self.below.len();
+        for layer in 0..self.frame.loops.len() {
+            self.bindings.put_layer(height, layer + 1, names)?;
+        }
+        Ok(())
     }
 
     /// A template by itself. Takes no memory.
@@ -198,7 +233,7 @@ impl<'c> Scopes<'c> {
 
     /// Goes on to the next turn of the innermost loop, where there is one. Takes no memory.
     pub fn next_turn(&mut self) -> bool
-        ensures turn { TakesTurn result (coming_of self.old) (variables_of self.old) (coming_of self.new) (variables_of self.new) }
+        ensures turn { TakesTurn result self.old self.new }
         ensures stays { around_of self.new ≡ around_of self.old }
         ensures outer { coming_around self.new ≡ coming_around self.old }
     {

@@ -22,7 +22,7 @@ three Less = inl refl
 three Equal = inr (inl refl)
 three Greater = inr (inr refl)
 
-flip_less : (a b : Name) → name_cmp a b ≡ Less → name_cmp b a ≡ Greater
+pub flip_less : (a b : Name) → name_cmp a b ≡ Less → name_cmp b a ≡ Greater
 flip_less a b h = names_total.antisymm b a ∙ ap ordering_reverse h
 
 pub flip_greater : (a b : Name) → name_cmp a b ≡ Greater → name_cmp b a ≡ Less

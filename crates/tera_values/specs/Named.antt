@@ -7,6 +7,7 @@ use Rattle.std.specs.List.Sorted.{IsStrictlySortedBy}
 use Rattle.std.specs.Coded.{Coded, coded×, coded_ℕ, coded_list}
 use Rattle.std.specs.Str.{bytes_eq}
 use Rattle.tera_errors.specs.Site.{Name}
+use Rattle.tera_values_data.specs.Val.{KeyVal, ktext}
 
 abbrev pub Named : Type 0 → Type 0
 Named A = List (Name × A)
@@ -23,6 +24,16 @@ at_name n (e ∷ es) = cond (bytes_eq n e.0) (Some e.1) (at_name n es)
 abbrev pub put : {A : Type 0} → Name → A → Named A → Named A
 put n a [] = (n, a) ∷ []
 put n a (e ∷ es) = match_ordering (name_cmp n e.0) ((n, a) ∷ e ∷ es) ((n, a) ∷ es) (e ∷ put n a es)
+
+-- all of the first, put into the second one by one
+abbrev pub put_all : {A : Type 0} → Named A → Named A → Named A
+put_all [] m = m
+put_all (e ∷ es) m = put_all es (put e.0 e.1 m)
+
+-- the same things at text keys
+abbrev pub text_keys : {A : Type 0} → Named A → List (KeyVal × A)
+text_keys [] = []
+text_keys (e ∷ es) = (ktext e.0, e.1) ∷ text_keys es
 
 -- each name is below those after it, so none stands twice
 abbrev pub IsAscending : {A : Type 0} → Named A → Type 0

@@ -1,14 +1,15 @@
 // What a rendering is given: values by name.
 ghost use Rattle.std.specs.Prelude.{◌≡◌, [], Ok, IfErr, OnOk, OnErr, map, option_copied, string_bytes};
 ghost use Rattle.tera_errors.specs.Answer.{Gives, Lacks};
-ghost use Rattle.tera_values.specs.Named.{at_name, put, IsAscending};
+ghost use Rattle.tera_values_data.specs.Val.{entries, map as map_of};
+ghost use Rattle.tera_values.specs.Named.{at_name, put, put_all, text_keys, IsAscending};
 
 use indexmap::IndexMap;
 use std::alloc::Global;
 use std::collections::BTreeSet;
 use std::marker::Model;
 use tera_errors::TeraResult;
-use tera_values_data::Value;
+use tera_values_data::{Key, Map, Value};
 
 /// Values by name. Each is kept so that a copy of it, or of any part of it, is a count.
 pub struct Context {
@@ -71,6 +72,41 @@ impl Context {
         ensures { option_copied result ≡ at_name name.now self.now }
     {
         self.names.get(name)
+    }
+
+    /// Puts all values of the other at their names.
+    pub fn put_all(&mut self, other: &Context) -> TeraResult<()>
+        ensures ok { OnOk result (self.new ≡ put_all other.now self.old) }
+        ensures lacks { IfErr result Lacks }
+    {
+        for (name, value) in other.names.iter() {
+            self.insert(name.as_str(), value.try_clone()?)?;
+        }
+        Ok(())
+    }
+
+    /// The same values at the same names.
+    pub fn try_clone(&self) -> TeraResult<Context>
+        ensures { Gives (λ c. c) result (Ok self.now) }
+    {
+        let mut copy = Context::new(self.alloc);
+        copy.put_all(self)?;
+        Ok(copy)
+    }
+
+    /// The map of the values at their names, in byte order of these.
+    pub fn to_value(&self) -> TeraResult<Value>
+        ensures { Gives (λ v. v) result (Ok (map_of (entries (text_keys self.now)))) }
+    {
+        let mut all = Map::new(self.alloc);
+        for name in self.names()? {
+            let Some(value) = self.get(name.as_str()) else {
+                unreachable!()
+            };
+            let value = value.try_clone()?;
+            all.insert(Key::Text(name), value)?;
+        }
+        Ok(Value::map(all))
     }
 
     /// The names, in byte order.

@@ -1,9 +1,9 @@
-use Rattle.std.proofs.Common.{rules, ◌≡◌, ◌-◌, ◌≤◌, ◌<◌, ◌∙◌, sym, arith, length, true, false}
+use Rattle.std.proofs.Common.{rules, ◌≡◌, ◌≤◌, ◌<◌, ◌∙◌, sym, arith, length, true, false}
 use Rattle.tera_state.specs.Found.{found_value}
 use Rattle.tera_state.specs.Stack.{lower}
 use Rattle.tera_state.specs.Scopes.{frame_of, above_of, variables_at}
-use Rattle.tera_state.proofs.Finds.{missing, lower_at, lower_length}
-use Rattle.tera_state.proofs.Beyond.{implicit_here, implicit_above, above_step}
+use Rattle.tera_state.proofs.Finds.{missing}
+use Rattle.tera_state.proofs.Beyond.{implicit_here, implicit_above, above_caller}
 use Rattle.tera_state.proofs.scopes.Scopes.+implicit_at.Goals as goal
 
 pub returns-then-not-is_undefined : goal.returns-then-not-is_undefined
@@ -14,14 +14,16 @@ returns-then-not-is_undefined t c =
 
 pub returns-in-Some : goal.returns-in-Some
 returns-in-Some t c =
+    let n = c.args.name.now in
+    let bs = c.args.self.now.bindings in
     let below = c.args.self.now.below in
     let h = c.args.height in
     let fs = lower h below in
-    let f = c.in-Some.caller.now in
     let positive : 0 < h = search rules in
-    let less : h - 1 ≤ length below = omega (arith, c.requires) in
+    let within : h ≤ length below = omega (arith, c.requires) in
     let gone : c.is_undefined.result ≡ true = search rules in
-    implicit_above c.args.name.now (frame_of c.args.body.now.standing fs) (above_of c.args.self.now.bindings fs) (variables_at c.args.self.now.bindings h c.args.body.now) (found_value c.bound_at-found.result) (found_value c.implicit_at.result) c.bound_at-found.ensures (sym c.is_undefined.ensures ∙ gone) (c.implicit_at.ensures ∙ sym (above_step c.args.name.now c.args.self.now.bindings f fs (lower (h - 1) below) (h - 1) (lower_at below h f positive c.in-Some.ensures) (lower_length below (h - 1) less)))
+    implicit_above n (frame_of c.args.body.now.standing fs) (above_of bs fs) (variables_at bs h c.args.body.now) (found_value c.bound_at-found.result) (found_value c.implicit_at.result) c.bound_at-found.ensures (sym c.is_undefined.ensures ∙ gone)
+    (c.implicit_at.ensures ∙ sym (above_caller n bs below h c.in-Some.caller.now positive within c.in-Some.ensures))
 
 pub returns-in-None : goal.returns-in-None
 returns-in-None t c = missing c.args.self.now.below c.args.height (search rules) (omega (arith, c.requires)) c.in-None.ensures

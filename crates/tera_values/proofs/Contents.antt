@@ -1,0 +1,145 @@
+-- All values of a context: put into another, and as a map.
+use Rattle.std.proofs.Common.{◌≡◌, ℕ, length, arith, inl, inr, Bool, true, false, List, [], ◌∷◌, ◌++◌, Option, Some, None, String, string_bytes, refl, sym, ap, ◌∙◌, subst, cond, if◌then◌else◌, map, append_assoc, append-nil, Less, true≢false}
+use Rattle.std.specs.List.{AllByRecursion, IsDistinct}
+use Rattle.std.specs.List.Sorted.{IsStrictlySortedBy}
+use Rattle.std.specs.Map.{lookup, keys_of}
+use Rattle.std.specs.Str.{bytes_eq}
+use Rattle.std.specs.String.{string_eq}
+use Rattle.std.specs.Ordering.{is_eq}
+use Rattle.std.specs.Cmp.Lexicographic.{bytes_decides}
+use Rattle.std.proofs.lemmas.Map.Keys.{IsDistinct-head}
+use Rattle.std.proofs.lemmas.Map.Lookups.{exact_bytes}
+use Rattle.tera_errors.specs.Site.{Name}
+use Rattle.tera_values_data.specs.Val.{KeyVal, ktext}
+use Rattle.tera_values_data.specs.Access.{key_eq, insert_pair}
+use Rattle.tera_values.specs.Named.{Named, name_cmp, at_name, put, put_all, text_keys, IsAscending}
+use Rattle.tera_values.specs.Names.{by_name}
+use Rattle.tera_values.proofs.Named.{three, flip_less, flip_greater, before, after, put_swap, found}
+
+not_same : (n k : Name) → name_cmp k n ≡ Less → bytes_eq n k ≡ false
+not_same n k h = by (bytes_eq n k) refl
+  where
+    by : (b : Bool) → bytes_eq n k ≡ b → b ≡ false
+    by true e =
+        let same : k ≡ n = sym ((bytes_decides n k).0 e) in
+        let tie : name_cmp k n ≡ name_cmp n k = ap (λ (j : Name). name_cmp j n) same ∙ ap (name_cmp n) (sym same) in
+        let more = flip_less k n h in
+        cc
+    by false e = refl
+
+module _ {A : Type 0} where
+  split_none : (b : Bool) (a : A) (o : Option A) → cond b (Some a) o ≡ None → (b ≡ false) × (o ≡ None)
+  split_none true a o h = cc
+  split_none false a o h = (refl, h)
+
+  -- a thing whose name is not among the others may be put before them
+  put_all-put : (es : Named A) (n : Name) (a : A) (m : Named A) → at_name n es ≡ None → put_all (put n a es) m ≡ put_all es (put n a m)
+  put_all-put [] n a m h = refl
+  put_all-put (e ∷ es) n a m h =
+      let s = split_none (bytes_eq n e.0) e.1 (at_name n es) h in
+      elim (three (name_cmp n e.0)) [
+        | inl q ↦ ap (λ (l : Named A). put_all l m) (before n a e es q)
+        | inr (inl q) ↦ absurd (true≢false (sym ((bytes_decides n e.0).1 (exact_bytes n e.0 q)) ∙ s.0))
+        | inr (inr q) ↦
+            ap (λ (l : Named A). put_all l m) (after n a e es q)
+            ∙ put_all-put es n a (put e.0 e.1 m) s.1
+            ∙ ap (put_all es) (sym (put_swap e.0 n e.1 a m (flip_greater n e.0 q)))
+      ]
+
+  module _ {Z : Type 0} where
+    absent : (k : String Z) (es : List (String Z × A)) → AllByRecursion (λ j. string_eq k j ≡ false) (keys_of es) → lookup (λ j. bytes_eq (string_bytes k) (string_bytes j)) es ≡ None
+    absent k [] h = refl
+    absent k (e ∷ es) h = ap (λ (b : Bool). cond b (Some e.1) (lookup (λ j. bytes_eq (string_bytes k) (string_bytes j)) es)) h.0 ∙ absent k es h.1
+
+    -- the entries put one by one
+    pub put_first : (k : String Z) (a : A) (es : List (String Z × A)) (m : Named A) → IsDistinct string_eq (keys_of ((k, a) ∷ es)) → put_all (by_name ((k, a) ∷ es)) m ≡ put_all (by_name es) (put (string_bytes k) a m)
+    put_first k a es m h =
+        put_all-put (by_name es) (string_bytes k) a m
+        (sym (found es (string_bytes k)) ∙ absent k es (IsDistinct-head string_eq k (keys_of es) h))
+
+  among : (P : Name → Type 0) (pre : Named A) (e : Name × A) (post : Named A) → AllByRecursion P (map (λ d. d.0) (pre ++ e ∷ post)) → P e.0
+  among P [] e post h = h.0
+  among P (p ∷ pre) e post h = among P pre e post h.1
+
+  ascends : (p : Name × A) (es : Named A) → IsAscending (p ∷ es) → AllByRecursion (λ j. name_cmp p.0 j ≡ Less) (map (λ d. d.0) es) × IsAscending es
+  unfolding IsStrictlySortedBy
+  ascends p es h = h
+
+  found_among : (pre : Named A) (e : Name × A) (post : Named A) → IsAscending (pre ++ e ∷ post) → at_name e.0 (pre ++ e ∷ post) ≡ Some e.1
+  found_among [] e post h = ap (λ (b : Bool). cond b (Some e.1) (at_name e.0 post)) ((bytes_decides e.0 e.0).1 refl)
+  found_among (p ∷ pre) e post h =
+      let s = ascends p (pre ++ e ∷ post) h in
+      ap (λ (b : Bool). cond b (Some p.1) (at_name e.0 (pre ++ e ∷ post))) (not_same e.0 p.0 (among (λ j. name_cmp p.0 j ≡ Less) pre e post s.0))
+      ∙ found_among pre e post s.1
+
+  goes_last : (pre : Named A) (e : Name × A) (post : Named A) → IsAscending (pre ++ e ∷ post) → insert_pair (text_keys pre) (ktext e.0) e.1 ≡ text_keys (pre ++ e ∷ [])
+  goes_last [] e post h = refl
+  goes_last (p ∷ pre) e post h =
+      let s = ascends p (pre ++ e ∷ post) h in
+      let other : key_eq (ktext e.0) (ktext p.0) ≡ false = ap is_eq (flip_less p.0 e.0 (among (λ j. name_cmp p.0 j ≡ Less) pre e post s.0)) in
+      ap (λ (b : Bool). if b then (ktext p.0, e.1) ∷ text_keys pre else (ktext p.0, p.1) ∷ insert_pair (text_keys pre) (ktext e.0) e.1) other
+      ∙ ap (λ (l : List (KeyVal × A)). (ktext p.0, p.1) ∷ l) (goes_last pre e post s.1)
+
+  put_last : (pre : Named A) (e : Name × A) (post : Named A) → IsAscending (pre ++ e ∷ post) → put e.0 e.1 pre ≡ pre ++ e ∷ []
+  put_last [] e post h = refl
+  put_last (p ∷ pre) e post h =
+      let s = ascends p (pre ++ e ∷ post) h in
+      after e.0 e.1 p pre (flip_less p.0 e.0 (among (λ j. name_cmp p.0 j ≡ Less) pre e post s.0))
+      ∙ ap (λ (l : Named A). p ∷ l) (put_last pre e post s.1)
+
+  behind : (m pre : Named A) → IsAscending (pre ++ m) → put_all m pre ≡ pre ++ m
+  behind [] pre h = sym (append-nil pre)
+  behind (e ∷ m) pre h =
+      ap (put_all m) (put_last pre e m h)
+      ∙ behind m (pre ++ e ∷ []) (subst IsAscending (sym (append_assoc pre (e ∷ []) m)) h)
+      ∙ append_assoc pre (e ∷ []) m
+
+  -- all of a context put into none is that context
+  pub put_all-nil : (m : Named A) → IsAscending m → put_all m [] ≡ m
+  put_all-nil m h = behind m [] h
+
+  -- the map has the first things in their order, and the names are those of the others
+  abbrev pub IsFilled : Named A → List (KeyVal × A) → List Name → Type 0
+  IsFilled m all names =
+      (done : Named A) × (rest : Named A) × (done ++ rest ≡ m) × (all ≡ text_keys done) × (names ≡ map (λ e. e.0) rest)
+
+  pub filled_none : (m : Named A) (all : List (KeyVal × A)) (names : List Name) → all ≡ [] → names ≡ map (λ e. e.0) m → IsFilled m all names
+  filled_none m all names none e = ([], m, refl, none, e)
+
+  -- the next name is found, and what it finds goes last
+  next_is : (m : Named A) (all : List (KeyVal × A)) (n : Name) (names before : List Name) → before ≡ n ∷ names → IsAscending m → IsFilled m all before → (a : A) × (at_name n m ≡ Some a) × IsFilled m (insert_pair all (ktext n) a) names
+  next_is m all n names before e h (done, [], split, is, left) = cc
+  next_is m all n names before e h (done, d ∷ rest, split, is, left) =
+      let name : n ≡ d.0 = cc in
+      let others : names ≡ map (λ c. c.0) rest = cc in
+      let up : IsAscending (done ++ d ∷ rest) = subst IsAscending (sym split) h in (
+        d.1,
+        ap (at_name n) (sym split) ∙ ap (λ (j : Name). at_name j (done ++ d ∷ rest)) name ∙ found_among done d rest up,
+        (
+          done ++ d ∷ [],
+          rest,
+          append_assoc done (d ∷ []) rest ∙ split,
+          ap (λ (l : List (KeyVal × A)). insert_pair l (ktext n) d.1) is ∙ ap (λ (j : Name). insert_pair (text_keys done) (ktext j) d.1) name ∙ goes_last done d rest up,
+          others,
+        ),
+      )
+
+  pub next_found : (m : Named A) (all : List (KeyVal × A)) (n : Name) (names before : List Name) → before ≡ n ∷ names → IsAscending m → IsFilled m all before → at_name n m ≡ None → ⊥
+  next_found m all n names before e h filled none =
+      let it = next_is m all n names before e h filled in
+      let same : Some it.0 ≡ None = sym it.1 ∙ none in
+      cc
+
+  pub filled_next : (m : Named A) (all new : List (KeyVal × A)) (n : Name) (names before : List Name) (a : A) → before ≡ n ∷ names → IsAscending m → IsFilled m all before → Some a ≡ at_name n m → new ≡ insert_pair all (ktext n) a → IsFilled m new names
+  filled_next m all new n names before a e h filled found made =
+      let it = next_is m all n names before e h filled in
+      let same : a ≡ it.0 = cc (found ∙ it.1) in
+      subst (λ (l : List (KeyVal × A)). IsFilled m l names) (sym (made ∙ ap (insert_pair all (ktext n)) same)) it.2
+
+  pub filled_all : (m : Named A) (all : List (KeyVal × A)) (names : List Name) → names ≡ [] → IsFilled m all names → all ≡ text_keys m
+  filled_all m all names none (done, [], split, is, left) = is ∙ ap text_keys (sym (append-nil done) ∙ split)
+  filled_all m all names none (done, d ∷ rest, split, is, left) = cc
+
+pub none_left : {A : Type 0} (xs : List A) (n : ℕ) → n ≡ length xs → n ≡ 0 → xs ≡ []
+none_left [] n size none = refl
+none_left (x ∷ xs) n size none = absurd (omega (arith, size, none))

@@ -1,9 +1,9 @@
 -- A run of the code of a tree, from its start to its end.
-use Rattle.std.proofs.Common.{◌≡◌, ℕ, ◌+◌, ◌-◌, ◌*◌, ◌≤◌, length, Some, None, Result, Ok, Err, sym, subst, arith}
+use Rattle.std.proofs.Common.{◌≡◌, ℕ, ◌+◌, ◌-◌, ◌*◌, ◌≤◌, [], length, Some, None, Result, Ok, Err, sym, subst, arith}
 use Rattle.tera_errors.specs.Fault.{Fault}
 use Rattle.tera_errors.specs.Answer.{Refusal}
 use Rattle.tera_tree.specs.Tree.{Nodes}
-use Rattle.tera_meaning.specs.Run.{Signal, On, Answer, Failed, Gave, more, visits_of}
+use Rattle.tera_meaning.specs.Run.{Run, Signal, On, Broke, Continued, Answer, Failed, Gave, more, visits_of}
 use Rattle.tera_meaning.specs.Meaning.{nodes_meaning}
 use Rattle.tera_meaning.specs.Whole.{World, Place, here_at, whole}
 use Rattle.tera_code.specs.Code.{nodes_code}
@@ -12,11 +12,16 @@ use Rattle.tera_machine.specs.Exec.{Code, Finished, Broken, Within, Ends, EndsWi
 use Rattle.tera_machine.specs.Subject.{Means}
 use Rattle.tera_machine.proofs.Ends.{ends_here, same_end}
 use Rattle.tera_machine.proofs.Places.{stands_whole, nothing_behind}
-use Rattle.tera_machine.proofs.Counted.{Comes}
-use Rattle.tera_machine.proofs.Chunks.{Base, spot, Arrive, nodes_runs}
+use Rattle.tera_machine.proofs.Counted.{Reaches, Comes}
+use Rattle.tera_machine.proofs.Arrivals.{Base, spot, Arrive, arrive_at}
+use Rattle.tera_machine.proofs.Chunks.{nodes_runs}
 
-abbrev base_of : Config → Base
-base_of c = record { operands = c.operands; captures = c.captures; loops = c.loops }
+-- what waits in a body, none of whose loops is open
+abbrev waiting : Config → Base
+waiting c = record { operands = c.operands; captures = c.captures; loops = [] }
+
+abbrev outside : Config → Config
+outside c = record c { loops = [] }
 
 module _ (w : World) (place : Place) where
   -- the whole run ends as the answer says, in at most eight instructions a visit
@@ -24,16 +29,26 @@ module _ (w : World) (place : Place) where
   Concludes code c (Failed f v) = (k : ℕ) × (k ≤ 8 * v) × Ends w place code 0 c (Broken f k)
   Concludes code c (Gave signal r v) = (k : ℕ) × (k ≤ 8 * v) × Ends w place code 0 c (Finished (record c { run = r }) k)
 
-  comes_to : (code : Code) (c : Config) (x : Answer Signal) → Comes w place code (spot 0 (base_of c) c.run) 0 0 (Arrive (0 + length code) (base_of c)) x → Concludes code c x
+  -- a body ends where its code does, also by a way out of a loop that is not there
+  finishes : (code : Code) (c : Config) (r : Run) (k v : ℕ) → k + 0 ≤ 0 + 8 * v → Reaches w place code (spot 0 (waiting c) c.run) k (spot (length code) (waiting c) r) → Concludes code (outside c) (Gave On r v)
+  finishes code c r k v l h =
+      let last : Config = record c { loops = []; run = r } in
+      (k + 0, omega (arith, l), h.by (Finished last 0) tt (ends_here w place code (length code) last (nothing_behind code)))
+
+  comes_to : (code : Code) (c : Config) (x : Answer Signal) → Comes w place code (spot 0 (waiting c) c.run) 0 0 (Arrive code (length code) (waiting c) 0) x → Concludes code (outside c) x
   comes_to code c (Failed f v) h = (h.0, omega (arith, h.1), h.2)
-  comes_to code c (Gave On r v) h =
-      let last : Config = record c { run = r } in
-      (h.0 + 0, omega (arith, h.1), h.2.by (Finished last 0) tt (ends_here w place code (0 + length code) last (nothing_behind code)))
+  comes_to code c (Gave On r v) h = finishes code c r h.0 v h.1 h.2
+  comes_to code c (Gave Broke r v) h = finishes code c r h.0 v h.1 h.2
+  comes_to code c (Gave Continued r v) h = finishes code c r h.0 v h.1 h.2
 
   -- the code of a tree does
-  pub concludes : (tree : Nodes) (c : Config) → Concludes (nodes_code tree) c (nodes_meaning (here_at w place) (whole w place) tree c.run)
-  concludes tree c =
-      comes_to (nodes_code tree) c (nodes_meaning (here_at w place) (whole w place) tree c.run) (nodes_runs w place (nodes_code tree) tree 0 (base_of c) c.run (stands_whole (nodes_code tree))).by
+  pub concludes : (tree : Nodes) (c : Config) → c.loops ≡ [] → Concludes (nodes_code tree 0) c (nodes_meaning (here_at w place) (whole w place) tree c.run)
+  concludes tree c own =
+      let code = nodes_code tree 0 in
+      let answer = nodes_meaning (here_at w place) (whole w place) tree c.run in
+      let e : 0 + length code ≡ length code = omega arith in
+      let runs = arrive_at w place code 0 _ e (nodes_runs w place code tree 0 0 (waiting c) c.run tt (stands_whole code)) in
+      subst (λ loops. Concludes code (record c { loops = loops }) answer) (sym own) (comes_to code c answer runs.by)
 
   module _ (code : Code) (c : Config) where
     -- one visit more, for the body
@@ -65,16 +80,16 @@ module _ (w : World) (place : Place) where
     means (Gave signal r v) h (Err (Some g)) c2 n ran =
         not_both _ g h.0 n (same_end w place code 0 c _ _ tt tt h.2 ran)
 
-module _ (w : World) {place place2 : Place} {code : Code} (tree : Nodes) (same : place ≡ place2) (is : code ≡ nodes_code tree) where
+module _ (w : World) {place place2 : Place} {code : Code} (tree : Nodes) (same : place ≡ place2) (is : code ≡ nodes_code tree 0) where
   -- the code of a tree may be run, from any count of instructions
-  pub can_run : (c : Config) (n : ℕ) → EndsWithin w place code 0 c (n + 8 * visits_of (more 1 (nodes_meaning (here_at w place2) (whole w place2) tree c.run)) - n)
-  can_run c n =
+  pub can_run : (c : Config) → c.loops ≡ [] → (n : ℕ) → EndsWithin w place code 0 c (n + 8 * visits_of (more 1 (nodes_meaning (here_at w place2) (whole w place2) tree c.run)) - n)
+  can_run c own n =
       let m : ℕ = 8 * visits_of (more 1 (nodes_meaning (here_at w place2) (whole w place2) tree c.run)) in
       let e : m ≡ n + m - n = omega arith in
-      let x = ends_within w place2 (nodes_code tree) c _ (concludes w place2 tree c) in
-      subst (λ p. EndsWithin w p code 0 c (n + m - n)) (sym same) (subst (λ x. EndsWithin w place2 x 0 c (n + m - n)) (sym is) (subst (EndsWithin w place2 (nodes_code tree) 0 c) e x))
+      let x = ends_within w place2 (nodes_code tree 0) c _ (concludes w place2 tree c own) in
+      subst (λ p. EndsWithin w p code 0 c (n + m - n)) (sym same) (subst (λ x. EndsWithin w place2 x 0 c (n + m - n)) (sym is) (subst (EndsWithin w place2 (nodes_code tree 0) 0 c) e x))
 
   -- and gives what the tree means
-  pub gave_meant : (c : Config) (result : Result (Unit {0}) Refusal) (c2 : Config) (k : ℕ) → Ran w place code c result c2 k → Means (more 1 (nodes_meaning (here_at w place2) (whole w place2) tree c.run)) c result c2
-  gave_meant c result c2 k ran =
-      means w place2 (nodes_code tree) c _ (concludes w place2 tree c) result c2 k (subst (λ x. Ran w place2 x c result c2 k) is (subst (λ p. Ran w p code c result c2 k) same ran))
+  pub gave_meant : (c : Config) → c.loops ≡ [] → (result : Result (Unit {0}) Refusal) (c2 : Config) (k : ℕ) → Ran w place code c result c2 k → Means (more 1 (nodes_meaning (here_at w place2) (whole w place2) tree c.run)) c result c2
+  gave_meant c own result c2 k ran =
+      means w place2 (nodes_code tree 0) c _ (concludes w place2 tree c own) result c2 k (subst (λ x. Ran w place2 x c result c2 k) is (subst (λ p. Ran w p code c result c2 k) same ran))

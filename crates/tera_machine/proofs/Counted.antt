@@ -1,13 +1,15 @@
 -- Runs of code that give a meaning, in at most eight instructions a visit.
-use Rattle.std.proofs.Common.{◌≡◌, ℕ, ◌+◌, ◌*◌, ◌≤◌, Bool, true, false, not, length, Some, refl, sym, subst, arith}
+use Rattle.std.proofs.Common.{◌≡◌, ℕ, ◌+◌, ◌*◌, ◌≤◌, Bool, true, false, not, length, Some, Result, Ok, Err, refl, sym, ap, subst, arith}
 use Rattle.std.specs.Prelude.{slice_get}
+use Rattle.tera_errors.specs.Site.{Text}
 use Rattle.tera_errors.specs.Fault.{Fault}
-use Rattle.tera_meaning.specs.Run.{Run, Signal, Request, Answer, Failed, Gave, Meaning, more, onward, if_else}
+use Rattle.tera_meaning.specs.Run.{Run, Signal, Request, Answer, Failed, Gave, Meaning, more, onward, gives, answered, if_else, put_back}
 use Rattle.tera_meaning.specs.Whole.{World, Place, here_at}
 use Rattle.tera_code.specs.declared.instruction.Instruction.{Instruction}
 use Rattle.tera_machine.specs.Config.{Config}
 use Rattle.tera_machine.specs.Flow.{Use, On, Skip}
-use Rattle.tera_machine.specs.Act.{Goes, Faults, act, branched}
+use Rattle.tera_machine.specs.Did.{Goes, Faults}
+use Rattle.tera_machine.specs.Act.{act, branched}
 use Rattle.tera_machine.specs.Exec.{Code, Finished, Broken, used, Ends, BodyEnds}
 use Rattle.tera_machine.specs.Progress.{Leads}
 use Rattle.tera_machine.proofs.Ends.{after-none, step_ends, further, on_leads, skip_leads}
@@ -61,7 +63,7 @@ module _ (w : World) (place : Place) (code : Code) where
   breaks_then : (a b : Spot) (j k : ℕ) (f : Fault) → Reaches a j b → Breaks b k f → Breaks a (j + k) f
   breaks_then a b j k f g h = g.by (Broken f k) tt h
 
-  reaches_none : (a : Spot) → Reaches a 0 a
+  pub reaches_none : (a : Spot) → Reaches a 0 a
   reaches_none a = record { by = λ o over x. subst (Ends w place code a.ip a.config) (sym (after-none o)) x }
 
   -- nothing is to do
@@ -80,15 +82,19 @@ module _ (w : World) (place : Place) (code : Code) where
   step_comes a b s t goal (Failed f v) g h = (1 + h.0, omega (arith, h.1), breaks_then a b 1 h.0 f g h.2)
   step_comes a b s t goal (Gave x r v) g h = (1 + h.0, omega (arith, h.1), reaches_then a b (goal x r) 1 h.0 g h.2)
 
+  -- one instruction that leads to a place, and the rest
+  pub step : {A : Type 0} {a : Spot} (b : Spot) (s : ℕ) {t : ℕ} {goal : A → Run → Spot} {x : Answer A} → Reaches a 1 b → Runs b s t goal x → Runs a (s + 1) t goal x
+  step {a = a} b s {t = t} {goal = goal} {x = x} g h = record { by = step_comes a b s t goal x g h.by }
+
   -- one instruction, and the rest
   pub first : {A : Type 0} {ip : ℕ} {c : Config} (c2 : Config) (s : ℕ) {t : ℕ} {goal : A → Run → Spot} {x : Answer A} (i : Instruction) → slice_get code ip ≡ Some i → act (here_at w place) (ip + 1) i c ≡ Goes c2 On → Runs (record { ip = ip + 1; config = c2 }) s t goal x → Runs (record { ip = ip; config = c }) (s + 1) t goal x
-  first {ip = ip} {c = c} c2 s {t = t} {goal = goal} {x = x} i e a h =
-      record { by = step_comes (record { ip = ip; config = c }) (record { ip = ip + 1; config = c2 }) s t goal x (on_leads w place code ip c c2 i e a) h.by }
+  first {ip = ip} {c = c} c2 s i e a h =
+      step (record { ip = ip + 1; config = c2 }) s (on_leads w place code ip c c2 i e a) h
 
   -- one instruction, which jumps
   pub jump : {A : Type 0} {ip : ℕ} {c : Config} (c2 : Config) (s n : ℕ) {t : ℕ} {goal : A → Run → Spot} {x : Answer A} (i : Instruction) → slice_get code ip ≡ Some i → act (here_at w place) (ip + 1) i c ≡ Goes c2 (Skip n) → ip + 1 + n ≤ length code → Runs (record { ip = ip + 1 + n; config = c2 }) s t goal x → Runs (record { ip = ip; config = c }) (s + 1) t goal x
-  jump {ip = ip} {c = c} c2 s n {t = t} {goal = goal} {x = x} i e a l h =
-      record { by = step_comes (record { ip = ip; config = c }) (record { ip = ip + 1 + n; config = c2 }) s t goal x (skip_leads w place code ip n c c2 i e a l) h.by }
+  jump {ip = ip} {c = c} c2 s n i e a l h =
+      step (record { ip = ip + 1 + n; config = c2 }) s (skip_leads w place code ip n c c2 i e a l) h
 
   adjust_comes : {A : Type 0} (from : Spot) (s t s' t' : ℕ) (goal : A → Run → Spot) (x : Answer A) → s + t' ≤ s' + t → Comes from s t goal x → Comes from s' t' goal x
   adjust_comes from s t s' t' goal (Failed f v) l k = (k.0, omega (arith, l, k.1), k.2)
@@ -155,12 +161,68 @@ module _ (w : World) (place : Place) (code : Code) where
   choice_not_runs go stay s skip true m n r i e a l f g = jump stay s skip i e a l g
   choice_not_runs go stay s skip false m n r i e a l f g = first go s i e a f
 
-  after_comes : {A : Type 0} (from : Spot) (s t : ℕ) (goal goal' : A → Run → Spot) (x : Answer A) → ((a : A) (r : Run) → Reaches (goal a r) 1 (goal' a r)) → Comes from s t goal x → Comes from (s + 1) t goal' x
+  -- the one place is the other, or an instruction leads there
+  abbrev pub Follows : Spot → Spot → Type 0
+  Follows a b = (k : ℕ) × (k ≤ 1) × Reaches a k b
+
+  after_comes : {A : Type 0} (from : Spot) (s t : ℕ) (goal goal' : A → Run → Spot) (x : Answer A) → ((a : A) (r : Run) → Follows (goal a r) (goal' a r)) → Comes from s t goal x → Comes from (s + 1) t goal' x
   after_comes from s t goal goal' (Failed f v) g h = (h.0, omega (arith, h.1), h.2)
   after_comes from s t goal goal' (Gave a r v) g h =
-      (h.0 + 1, omega (arith, h.1), reaches_then from (goal a r) (goal' a r) h.0 1 h.2 (g a r))
+      let k = g a r in
+      (h.0 + k.0, omega (arith, h.1, k.1), reaches_then from (goal a r) (goal' a r) h.0 k.0 h.2 k.2)
 
-  -- one instruction more at the end
-  pub jump_after : {A : Type 0} {from : Spot} {s t : ℕ} {goal goal' : A → Run → Spot} {x : Answer A} → ((a : A) (r : Run) → Reaches (goal a r) 1 (goal' a r)) → Runs from s t goal x → Runs from (s + 1) t goal' x
+  -- at most one instruction more at the end
+  pub jump_after : {A : Type 0} {from : Spot} {s t : ℕ} {goal goal' : A → Run → Spot} {x : Answer A} → ((a : A) (r : Run) → Follows (goal a r) (goal' a r)) → Runs from s t goal x → Runs from (s + 1) t goal' x
   jump_after {from = from} {s = s} {t = t} {goal = goal} {goal' = goal'} {x = x} g h =
       record { by = after_comes from s t goal goal' x g h.by }
+
+  none_comes : {A : Type 0} (from : Spot) (s t : ℕ) (goal : A → Run → Spot) (x : Answer A) → Comes from s t goal x → Comes from s t goal (more 0 x)
+  none_comes from s t goal (Failed f v) h = (h.0, omega (arith, h.1), h.2)
+  none_comes from s t goal (Gave a r v) h = (h.0, omega (arith, h.1), h.2)
+
+  -- what is no visit
+  pub none : {A : Type 0} {from : Spot} {s t : ℕ} {goal : A → Run → Spot} {x : Answer A} → Runs from s t goal x → Runs from s t goal (more 0 x)
+  none {from = from} {s = s} {t = t} {goal = goal} {x = x} h =
+      record { by = none_comes from s t goal x h.by }
+
+  -- what is answered, by one instruction that faults where that is a fault
+  pub answered_runs : {A B : Type 0} {ip : ℕ} {c : Config} (s : ℕ) {t : ℕ} {goal : B → Run → Spot} (o : Result A Fault) (r : Run) (go : A → Meaning B) (i : Instruction) → t ≤ s → slice_get code ip ≡ Some i → ((f : Fault) → o ≡ Err f → act (here_at w place) (ip + 1) i c ≡ Faults f) → ((a : A) → o ≡ Ok a → Runs (record { ip = ip; config = c }) (s + 1) t goal (go a r)) → Runs (record { ip = ip; config = c }) (s + 1) t goal (onward (answered o r) go)
+  answered_runs s (Ok a) r go i l e f k = none (k a refl)
+  answered_runs s (Err fault) r go i l e f k = fail {s = s} fault i l e (f fault refl)
+
+  put_back_comes : {A : Type 0} (from : Spot) (s : ℕ) (before : Text) (goal : Signal → Run → Spot) (goal' : A → Run → Spot) (x : Answer Signal) (go : Signal × Text → Meaning A) → Comes from 0 0 goal x → ((signal : Signal) (r : Run) → Runs (goal signal r) s 0 goal' (go (signal, r.text) (record r { text = before }))) → Comes from s 0 goal' (onward (put_back before x) go)
+  put_back_comes from s before goal goal' (Failed f v) go h k = (h.0, omega (arith, h.1), h.2)
+  put_back_comes from s before goal goal' (Gave signal r v) go h k =
+      rest_comes from (goal signal r) h.0 s 0 0 v goal' (go (signal, r.text) (record r { text = before })) h.1 h.2 (adjust (s + 0) 0 (omega arith) (k signal r)).by
+
+  -- a text that was captured, and the text around it
+  pub put_back_runs : {A : Type 0} {from : Spot} (s : ℕ) (before : Text) (goal : Signal → Run → Spot) {goal' : A → Run → Spot} {x : Answer Signal} (go : Signal × Text → Meaning A) → Runs from 0 0 goal x → ((signal : Signal) (r : Run) → Runs (goal signal r) s 0 goal' (go (signal, r.text) (record r { text = before }))) → Runs from s 0 goal' (onward (put_back before x) go)
+  put_back_runs {from = from} s before goal {goal' = goal'} {x = x} go h k =
+      record { by = put_back_comes from s before goal goal' x go h.by k }
+
+  -- a result of which something is made
+  pub mapped_runs : {A B : Type 0} {from : Spot} (s : ℕ) {t : ℕ} {goal : B → Run → Spot} (f : A → B) {x : Answer A} → Runs from s t (λ a r. goal (f a) r) x → Runs from s t goal (onward x (λ a. gives (f a)))
+  mapped_runs s {t = t} f h =
+      adjust {s = 0 + s} {t = t} s t (omega arith) (onward_lent s 0 (omega arith) h (λ a r. done (omega arith)))
+
+  same_comes : {A : Type 0} (from : Spot) (s t : ℕ) (goal goal' : A → Run → Spot) (x : Answer A) → ((a : A) (r : Run) → goal a r ≡ goal' a r) → Comes from s t goal x → Comes from s t goal' x
+  same_comes from s t goal goal' (Failed f v) e h = h
+  same_comes from s t goal goal' (Gave a r v) e h = (h.0, h.1, subst (Reaches from h.0) (e a r) h.2)
+
+  -- to the same places, told otherwise
+  pub same_goal : {A : Type 0} {from : Spot} {s t : ℕ} {goal goal' : A → Run → Spot} {x : Answer A} → ((a : A) (r : Run) → goal a r ≡ goal' a r) → Runs from s t goal x → Runs from s t goal' x
+  same_goal {from = from} {s = s} {t = t} {goal = goal} {goal' = goal'} {x = x} e h =
+      record { by = same_comes from s t goal goal' x e h.by }
+
+more-more : {A : Type 0} (n m : ℕ) (x : Answer A) → more n (more m x) ≡ more (n + m) x
+more-more n m (Failed fault k) = let e : n + (m + k) ≡ n + m + k = omega arith in ap (Failed fault) e
+more-more n m (Gave a r k) = let e : n + (m + k) ≡ n + m + k = omega arith in ap (Gave a r) e
+
+more-onward : {A B : Type 0} (n : ℕ) (x : Answer A) (g : A → Meaning B) → onward (more n x) g ≡ more n (onward x g)
+more-onward n (Failed fault m) g = refl
+more-onward n (Gave a r m) g = sym (more-more n m (g a r))
+
+-- what follows a part that is followed by another
+pub onward-onward : {A B D : Type 0} (x : Answer A) (f : A → Meaning B) (g : B → Meaning D) → onward (onward x f) g ≡ onward x (λ a r. onward (f a r) g)
+onward-onward (Failed fault n) f g = refl
+onward-onward (Gave a r n) f g = more-onward n (f a r) g

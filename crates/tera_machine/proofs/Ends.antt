@@ -9,7 +9,8 @@ use Rattle.tera_code.specs.declared.instruction.Instruction.{Instruction}
 use Rattle.tera_code.specs.Code.{nodes_code}
 use Rattle.tera_machine.specs.Config.{Config}
 use Rattle.tera_machine.specs.Flow.{Use, On, Skip, To, Out, Ask}
-use Rattle.tera_machine.specs.Act.{Did, Goes, Faults, Sticks, act}
+use Rattle.tera_machine.specs.Did.{Did, Goes, Faults, Sticks}
+use Rattle.tera_machine.specs.Act.{act}
 use Rattle.tera_machine.specs.Exec.{Code, End, Finished, Broken, Unfinished, Stuck, after, then_on, Runner, entered, leaving, taken, within_code, follow, body_by, fetched, exec, Within, IsOver, Ends, EndsWithin, BodyEnds}
 use Rattle.tera_machine.specs.Progress.{Leads}
 
@@ -55,7 +56,7 @@ leaving_extends q u c Stuck b e = λ over. ap (leaving q u c) (e tt)
 taken_extends : (f g : Runner) → AllExtend f g → (q : Request) (u : Use) (c : Config) (x : Way) → Extends (taken f q u c x) (taken g q u c x)
 taken_extends f g e q u c (Refuses fault) = λ over. refl
 taken_extends f g e q u c (Takes p vars body) =
-    leaving_extends q u c _ _ (e p (nodes_code body) 0 (entered vars c))
+    leaving_extends q u c _ _ (e p (nodes_code body 0) 0 (entered vars c))
 
 pub after-after : (j k : ℕ) (o : End) → after j (after k o) ≡ after (j + k) o
 after-after j k (Finished c n) = let e : j + (k + n) ≡ j + k + n = omega arith in ap (Finished c) e

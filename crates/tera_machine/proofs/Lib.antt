@@ -1,7 +1,12 @@
 pub mod Ends
 pub mod Runs
+pub mod Looping
 pub mod Literals
 pub mod Places
 pub mod Counted
+pub mod Arrivals
+pub mod Turns
+pub mod Gathered
+pub mod Expressions
 pub mod Chunks
 pub mod Conclusions

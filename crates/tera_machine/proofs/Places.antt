@@ -4,7 +4,7 @@ use Rattle.std.specs.Prelude.{slice_get}
 use Rattle.std.proofs.Math.Seq.{get_or-append_seam}
 use Rattle.std.proofs.lemmas.Option.{slice_get-get_or, slice_get_past, slice_get_within}
 use Rattle.tera_code.specs.declared.instruction.Instruction.{Instruction}
-use Rattle.tera_code.specs.declared.instruction.Instruction.TheVariants.{PopJumpIfFalse, Jump}
+use Rattle.tera_code.specs.declared.instruction.Instruction.TheVariants.{PopJumpIfFalse, Jump, NextTurn}
 use Rattle.tera_code.specs.Code.{choice_tail}
 use Rattle.tera_machine.specs.Exec.{Code}
 
@@ -51,6 +51,27 @@ parts code pc body other h =
       ends = omega (arith, end);
     }
 
+-- the parts of a loop behind its beginning, where they stand
+pub record Round (code : Code) (at : ℕ) (body : Code) (end : Instruction) (behind : Code) : Type 0 where
+  pub turn : StandsAt code at body
+  pub next : slice_get code (at + length body) ≡ Some NextTurn
+  pub over : slice_get code (at + (length body + 1)) ≡ Some end
+  pub rest : StandsAt code (at + (length body + 1) + 1) behind
+  pub within : at + (length body + 1) + 1 + length behind ≤ length code
+
+pub round : (code : Code) (at : ℕ) (body : Code) (end : Instruction) (behind : Code) → StandsAt code at (body ++ (NextTurn ∷ end ∷ behind)) → Round code at body end behind
+round code at body end behind h =
+    let back = stands_back code at body (NextTurn ∷ end ∷ behind) h in
+    let last : at + length body + length (NextTurn ∷ end ∷ behind) ≤ length code = stands_within code (at + length body) NextTurn (end ∷ behind) back in
+    let same : at + length body + 1 ≡ at + (length body + 1) = omega arith in
+    record {
+      turn = stands_front code at body (NextTurn ∷ end ∷ behind) h;
+      next = back.0;
+      over = subst (λ n. slice_get code n ≡ Some end) same back.1.0;
+      rest = subst (λ n. StandsAt code (n + 1) behind) same back.1.1;
+      within = omega (arith, last);
+    }
+
 -- what stands behind a beginning
 stands_behind : (is before : Code) → StandsAt (before ++ is) (length before) is
 stands_behind [] before = tt
@@ -67,7 +88,5 @@ pub stands_whole : (code : Code) → StandsAt code 0 code
 stands_whole code = stands_behind code []
 
 -- and there is nothing behind it
-pub nothing_behind : (code : Code) → slice_get code (0 + length code) ≡ None
-nothing_behind code =
-    let e : length code ≡ 0 + length code = omega arith in
-    subst (λ n. slice_get code n ≡ None) e (slice_get_past code (length code) (omega arith))
+pub nothing_behind : (code : Code) → slice_get code (length code) ≡ None
+nothing_behind code = slice_get_past code (length code) (omega arith)

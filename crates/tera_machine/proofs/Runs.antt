@@ -1,5 +1,5 @@
 -- The machine's loop follows the pure machine.
-use Rattle.std.proofs.Common.{◌≡◌, ◌≢◌, ℕ, ◌+◌, ◌-◌, ◌<◌, ◌≤◌, Some, None, Err, refl, sym, ap, ap₂, ◌∙◌, subst, arith}
+use Rattle.std.proofs.Common.{◌≡◌, ◌≢◌, ℕ, ◌+◌, ◌-◌, ◌^◌, ◌<◌, ◌≤◌, Some, None, Err, refl, sym, ap, ap₂, ◌∙◌, subst, arith}
 use Rattle.std.proofs.lemmas.Bool.{leb-true}
 use Rattle.std.specs.Prelude.{slice_get, Bool, true, false, cond, nat_le, length}
 use Rattle.tera_errors.specs.Site.{Name}
@@ -13,12 +13,14 @@ use Rattle.tera_machine.specs.declared.machine.VirtualMachine.{VirtualMachine}
 use Rattle.tera_machine.specs.declared.machine.Flow as declared
 use Rattle.tera_machine.specs.declared.machine.Flow.TheVariants as flow
 use Rattle.tera_machine.specs.Config.{Config}
-use Rattle.tera_machine.specs.Flow.{On, Skip, flow_of}
-use Rattle.tera_machine.specs.Act.{Goes, Faults, Sticks, act, Acted}
-use Rattle.tera_machine.specs.Exec.{Code, End, Finished, Broken, Stuck, after, exec, Within, Ends, EndsWithin, Ran}
-use Rattle.tera_machine.specs.Progress.{Progress}
+use Rattle.tera_machine.specs.Flow.{On, Skip, To, Out, Ask, flow_of}
+use Rattle.tera_machine.specs.Did.{Did, Goes, Faults, Sticks}
+use Rattle.tera_machine.specs.Act.{act, Acted, IsSmall}
+use Rattle.tera_machine.specs.Exec.{Code, End, Finished, Broken, Stuck, after, within_code, follow, body_by, exec, Within, Ends, EndsWithin, Ran}
+use Rattle.tera_machine.specs.Progress.{Leads, Progress}
 use Rattle.tera_machine.specs.Subject.{engine_of, place_of, here_of}
-use Rattle.tera_machine.proofs.Ends.{after-none, ends_here, step_ends, within_step, further, on_leads, skip_leads}
+use Rattle.tera_machine.proofs.Ends.{after-none, ends_here, step_ends, within_step, further, on_leads, skip_leads, to_leads, out_leads}
+use Rattle.tera_machine.proofs.Places.{nothing_behind}
 
 within_cond : (m : ℕ) (b : Bool) (x : End) → Within m (cond b x Stuck) → (b ≡ true) × Within m x
 within_cond m true x h = (refl, h)
@@ -46,6 +48,26 @@ module _ {most : ℕ} {w : World} {place : Place} {code : Code} {c0 : Config} wh
         omega (arith, x.1)
 
     module _ {here : Here} (same : here ≡ here_at w place) where
+      small_did : (d : Did) → act (here_at w place) (ip + 1) i c ≡ d → slice_get code ip ≡ Some i → length code < 2 ^ 64 → IsSmall d
+      small_did (Goes c2 On) a e l = tt
+      small_did (Goes c2 (Skip k)) a e l =
+          let x = within_step w place code ip c i (Goes c2 (Skip k)) (most - n) g.within e a in
+          let q = within_cond (most - n - 1) (nat_le (ip + 1 + k) (length code)) _ x.2 in
+          omega (arith, leb-true (ip + 1 + k) (length code) q.0, l)
+      small_did (Goes c2 (To p k)) a e l =
+          let x = within_step w place code ip c i (Goes c2 (To p k)) (most - n) g.within e a in
+          let q = within_cond (most - n - 1) (nat_le (p + k) (length code)) _ x.2 in
+          omega (arith, leb-true (p + k) (length code) q.0, l)
+      small_did (Goes c2 Out) a e l = tt
+      small_did (Goes c2 (Ask q u)) a e l = tt
+      small_did (Faults fault) a e l = tt
+      small_did Sticks a e l = tt
+
+      -- a jump of a run that ends can be counted
+      pub small : slice_get code ip ≡ Some i → length code < 2 ^ 64 → IsSmall (act here (ip + 1) i c)
+      small e l =
+          subst (λ h. IsSmall (act h (ip + 1) i c)) (sym same) (small_did (act (here_at w place) (ip + 1) i c) refl e l)
+
       pub not_stuck : slice_get code ip ≡ Some i → act here (ip + 1) i c ≢ Sticks
       not_stuck e = λ a. (within_step w place code ip c i Sticks (most - n) g.within e (ap (λ h. act h (ip + 1) i c) (sym same) ∙ a)).2
 
@@ -64,30 +86,53 @@ module _ {most : ℕ} {w : World} {place : Place} {code : Code} {c0 : Config} wh
               leads = further w place code 0 c0 (n - n0) 1 (n2 - n0) ip (ip + 1) c c2 g.leads taken (on_leads w place code ip c c2 i e d);
             }
 
-        -- a jump of a run that ends stays within the code
-        skipped : {c2 : Config} {k : ℕ} → act (here_at w place) (ip + 1) i c ≡ Goes c2 (Skip k) → (d : ℕ) × (1 ≤ most - n) × (ip + 1 + k ≤ length code) × Within (most - n - 1) (exec w d place code (ip + 1 + k) c2)
-        skipped {c2} {k} a =
-            let x = within_step w place code ip c i (Goes c2 (Skip k)) (most - n) g.within e a in
-            let q = within_cond (most - n - 1) (nat_le (ip + 1 + k) (length code)) _ x.2 in
-            (x.0, x.1, leb-true (ip + 1 + k) (length code) q.0, q.1)
+        -- a place that a run goes to lies within the code, and the run goes on there
+        landed : {c2 : Config} (to : ℕ) (d : Did) → ((k : ℕ) → follow (length code) (body_by w (exec w k) place) (exec w k place code) ip d ≡ within_code (length code) (exec w k place code) to c2) → act (here_at w place) (ip + 1) i c ≡ d → (1 ≤ most - n) × (to ≤ length code) × EndsWithin w place code to c2 (most - n - 1)
+        landed to d is a =
+            let x = within_step w place code ip c i d (most - n) g.within e a in
+            let q = within_cond (most - n - 1) (nat_le to (length code)) _ (subst (Within (most - n - 1)) (is x.0) x.2) in
+            (x.1, leb-true to (length code) q.0, record { depth = x.0; within = q.1 })
 
-        pub within_code : {c2 : Config} {f : declared.Flow} {k : ℕ} → act here (ip + 1) i c ≡ Goes c2 (flow_of f) → f ≡ flow.Skip k → ip + 1 + k ≤ length code
-        within_code {c2} {f} {k} a is =
-            (skipped (ap (λ h. act h (ip + 1) i c) (sym same) ∙ a ∙ ap (λ x. Goes c2 (flow_of x)) is)).2
+        at_place : {f : declared.Flow} {c2 : Config} → act here (ip + 1) i c ≡ Goes c2 (flow_of f) → (f2 : declared.Flow) → f ≡ f2 → act (here_at w place) (ip + 1) i c ≡ Goes c2 (flow_of f2)
+        at_place {c2 = c2} a f2 is = ap (λ h. act h (ip + 1) i c) (sym same) ∙ a ∙ ap (λ x. Goes c2 (flow_of x)) is
 
-        pub went_to : {c2 : Config} {f : declared.Flow} {k : ℕ} → act here (ip + 1) i c ≡ Goes c2 (flow_of f) → f ≡ flow.Skip k → Progress most w place code c0 n0 (ip + 1 + k) c2 n2
-        went_to {c2} {f} {k} a is =
+        arrived : {c2 : Config} (to : ℕ) → (1 ≤ most - n) × (to ≤ length code) × EndsWithin w place code to c2 (most - n - 1) → Leads w place code ip c 1 to c2 → Progress most w place code c0 n0 to c2 n2
+        arrived {c2} to x led =
             let at_least = g.counted in
-            let d : act (here_at w place) (ip + 1) i c ≡ Goes c2 (Skip k) = ap (λ h. act h (ip + 1) i c) (sym same) ∙ a ∙ ap (λ x. Goes c2 (flow_of x)) is in
-            let x = skipped d in
             let left : most - n - 1 ≡ most - n2 = omega arith in
             let taken : n2 - n0 ≡ n - n0 + 1 = omega arith in
             record {
               counted = omega arith;
-              bounded = λ h. omega (arith, x.1);
-              within = record { depth = x.0; within = subst (λ z. Within z (exec w x.0 place code (ip + 1 + k) c2)) left x.3 };
-              leads = further w place code 0 c0 (n - n0) 1 (n2 - n0) ip (ip + 1 + k) c c2 g.leads taken (skip_leads w place code ip k c c2 i e d x.2);
+              bounded = λ h. omega (arith, x.0);
+              within = subst (EndsWithin w place code to c2) left x.2;
+              leads = further w place code 0 c0 (n - n0) 1 (n2 - n0) ip to c c2 g.leads taken led;
             }
+
+        pub skip_within : {c2 : Config} {f : declared.Flow} {k : ℕ} → act here (ip + 1) i c ≡ Goes c2 (flow_of f) → f ≡ flow.Skip k → ip + 1 + k ≤ length code
+        skip_within {c2} {f} {k} a is = (landed (ip + 1 + k) (Goes c2 (Skip k)) (λ _. refl) (at_place a (flow.Skip k) is)).1
+
+        pub skipped : {c2 : Config} {f : declared.Flow} {k : ℕ} → act here (ip + 1) i c ≡ Goes c2 (flow_of f) → f ≡ flow.Skip k → Progress most w place code c0 n0 (ip + 1 + k) c2 n2
+        skipped {c2} {f} {k} a is =
+            let d = at_place a (flow.Skip k) is in
+            let x = landed (ip + 1 + k) (Goes c2 (Skip k)) (λ _. refl) d in
+            arrived (ip + 1 + k) x (skip_leads w place code ip k c c2 i e d x.1)
+
+        pub place_within : {c2 : Config} {f : declared.Flow} {p k : ℕ} → act here (ip + 1) i c ≡ Goes c2 (flow_of f) → f ≡ flow.To p k → p + k ≤ length code
+        place_within {c2} {f} {p} {k} a is = (landed (p + k) (Goes c2 (To p k)) (λ _. refl) (at_place a (flow.To p k) is)).1
+
+        pub went_to : {c2 : Config} {f : declared.Flow} {p k : ℕ} → act here (ip + 1) i c ≡ Goes c2 (flow_of f) → f ≡ flow.To p k → Progress most w place code c0 n0 (p + k) c2 n2
+        went_to {c2} {f} {p} {k} a is =
+            let d = at_place a (flow.To p k) is in
+            let x = landed (p + k) (Goes c2 (To p k)) (λ _. refl) d in
+            arrived (p + k) x (to_leads w place code ip p k c c2 i e d x.1)
+
+        -- at the end of the code, which an instruction goes to
+        pub went_out : {c2 : Config} {f : declared.Flow} → act here (ip + 1) i c ≡ Goes c2 (flow_of f) → f ≡ flow.Out → Ends w place code 0 c0 (Finished c2 (n2 - n0))
+        went_out {c2} {f} a is =
+            let at_least = g.counted in
+            let led = out_leads w place code ip c c2 i e (at_place a flow.Out is) in
+            let z : n - n0 + (1 + 0) ≡ n2 - n0 = omega arith in
+            subst (λ k. Ends w place code 0 c0 (Finished c2 k)) z (g.leads.by (Finished c2 (1 + 0)) tt (led.by (Finished c2 0) tt (ends_here w place code (length code) c2 (nothing_behind code))))
 
         pub act_failed : (r : Refusal) (c2 : Config) → Acted (act here (ip + 1) i c) (Err r) c2 → Ran w place code c0 (Err r) c2 (n2 - n0)
         act_failed None c2 a = tt

@@ -1,5 +1,5 @@
 -- What one instruction does.
-use Rattle.std.specs.Prelude.{◌≡◌, ◌≢◌, ℕ, Bool, true, false, not, nat_le, cond, List, [], ◌∷◌, ◌++◌, length, reverse, take, drop, Option, Some, None, Result, Ok, Err}
+use Rattle.std.specs.Prelude.{◌≡◌, ◌≢◌, ℕ, ◌+◌, ◌<◌, ◌^◌, Bool, true, false, not, nat_le, cond, List, [], ◌∷◌, length, reverse, take, drop, Option, Some, None, Result, Ok, Err}
 use Rattle.std.specs.List.{zip}
 use Rattle.tera_errors.specs.declared.span.Span.{Span}
 use Rattle.tera_errors.specs.Site as site
@@ -8,46 +8,32 @@ use Rattle.tera_errors.specs.Fault.{Fault}
 use Rattle.tera_errors.specs.Answer.{Refusal}
 use Rattle.tera_tree.specs.Tree.{Key}
 use Rattle.tera_tree.specs.declared.expression.BinaryOperator.{BinaryOperator}
-use Rattle.tera_values.specs.Val.{Val}
 use Rattle.tera_values.specs.Access.{truthy}
 use Rattle.tera_operators.specs.Operand.{Evaluated, Outcome}
 use Rattle.tera_operators.specs.Accesses.{attribute_of, item_of, slice_of}
 use Rattle.tera_operators.specs.Operators.{not_of, negative_of, binary_of}
 use Rattle.tera_operators.specs.Literals.{array_of, map_of}
-use Rattle.tera_state.specs.Scope.{Around, look}
+use Rattle.tera_state.specs.Scope.{Around, look, dump, assign}
 use Rattle.tera_state.specs.Scopes.{around_of}
 use Rattle.tera_meaning.specs.Here.{Here}
 use Rattle.tera_meaning.specs.Meaning.{output}
 use Rattle.tera_code.specs.declared.instruction.Instruction.{Instruction}
-use Rattle.tera_code.specs.declared.instruction.Instruction.TheVariants.{WriteText, WriteTop, WriteName, LoadConst, LoadName, LoadAttribute, LoadItem, Slice, Not, Negate, Binary, MakeArray, MakeMap, Jump, PopJumpIfFalse, JumpIfFalseOrPop, JumpIfTrueOrPop}
+use Rattle.tera_code.specs.declared.instruction.Instruction.TheVariants.{WriteText, WriteTop, WriteName, LoadConst, LoadName, LoadAttribute, LoadItem, Slice, Not, Negate, Binary, MakeArray, MakeMap, Jump, PopJumpIfFalse, JumpIfFalseOrPop, JumpIfTrueOrPop, Store, LoadContext, StartLoop, NextTurn, EndLoop, Keep, EndComprehension, StartCapture, EndCapture, LeaveLoop, LeaveTurn}
 use Rattle.tera_machine.specs.declared.configuration.Configuration.{Configuration}
 use Rattle.tera_machine.specs.declared.machine.Flow as declared
 use Rattle.tera_machine.specs.Config.{Config, config_of}
-use Rattle.tera_machine.specs.Flow.{Flow, On, Skip, flow_of}
-
--- what one instruction comes to: where it goes on, a fault, or nothing, where an operand is missing
-pub data Did : Type 0 where
-  Goes : (config : Config) (flow : Flow) → Did
-  Faults : (fault : Fault) → Did
-  Sticks : Did
-
-abbrev pub holding : List Evaluated → Config → Config
-holding operands c = record c { operands = operands }
-
-abbrev pub pushed : Val → Span → Config → Did
-pushed v span c = Goes (holding (record { value = v; span = span } ∷ c.operands) c) On
-
-abbrev pub with_text : Text → Config → Config
-with_text text c = record c { run = record c.run { text = c.run.text ++ text } }
-
--- the outcome on top of the operands that are left, or its fault
-abbrev pub outcome : Outcome → List Evaluated → Config → Did
-outcome (Ok a) rest c = Goes (holding (a ∷ rest) c) On
-outcome (Err fault) rest c = Faults fault
+use Rattle.tera_machine.specs.Flow.{On, Skip, To, Out, Ask, flow_of}
+use Rattle.tera_machine.specs.Did.{Did, Goes, Faults, Sticks, holding, pushed, with_text, with_vars, outcome}
+use Rattle.tera_machine.specs.Loops.{loop_started, turned, loop_ended, kept, comprehension_ended}
+use Rattle.tera_machine.specs.Captures.{capture_started, capture_ended, loop_left, turn_left}
 
 abbrev pub put_out : Result Text Fault → Config → Did
 put_out (Ok text) c = Goes (with_text text c) On
 put_out (Err fault) c = Faults fault
+
+abbrev pub stored_in : Bool → site.Name → List Evaluated → Config → Did
+stored_in is_global name [] c = Sticks
+stored_in is_global name (a ∷ rest) c = Goes (with_vars (assign is_global name a.value) (holding rest c)) On
 
 abbrev pub top_written_in : Here → List Evaluated → Config → Did
 top_written_in here [] c = Sticks
@@ -100,6 +86,9 @@ abbrev pub kept_if_truthy_in : ℕ → List Evaluated → Config → Did
 kept_if_truthy_in skip [] c = Sticks
 kept_if_truthy_in skip (a ∷ rest) c = branched (not (truthy a.value)) (holding rest c) skip c
 
+abbrev pub stored : Bool → site.Name → Config → Did
+stored is_global name c = stored_in is_global name c.operands c
+
 abbrev pub top_written : Here → Config → Did
 top_written here c = top_written_in here c.operands c
 
@@ -111,6 +100,9 @@ outcome_put o c = outcome o c.operands c
 
 abbrev pub name_loaded : Around → site.Name → Span → Config → Did
 name_loaded around name span c = pushed (look name around c.run.vars) span c
+
+abbrev pub context_loaded : Around → Span → Config → Did
+context_loaded around span c = pushed (dump around c.run.vars) span c
 
 abbrev pub attribute_loaded : site.Name → site.Name → Bool → Span → Config → Did
 attribute_loaded file name optional span c = on_one (λ a. attribute_of file optional a name span) c.operands c
@@ -153,6 +145,7 @@ act here next WriteTop = top_written here
 act here next (WriteName name span) = name_written here name span
 act here next (LoadConst v span) = pushed v span
 act here next (LoadName name span) = name_loaded here.around name span
+act here next (LoadContext span) = context_loaded here.around span
 act here next (LoadAttribute name optional span) = attribute_loaded here.file name optional span
 act here next (LoadItem optional span) = item_loaded here.file optional span
 act here next (Slice optional span) = sliced here.file optional span
@@ -165,6 +158,16 @@ act here next (Jump skip) = λ c. Goes c (Skip skip)
 act here next (PopJumpIfFalse skip) = popped_branch skip
 act here next (JumpIfFalseOrPop skip) = kept_if_falsy skip
 act here next (JumpIfTrueOrPop skip) = kept_if_truthy skip
+act here next (Store name is_global) = stored is_global name
+act here next (StartLoop key name counts size) = loop_started here next key name counts size
+act here next NextTurn = turned
+act here next (EndLoop skip) = loop_ended skip
+act here next Keep = kept
+act here next (EndComprehension span) = comprehension_ended span
+act here next StartCapture = capture_started
+act here next EndCapture = capture_ended here.autoescape
+act here next (LeaveLoop drops) = loop_left drops
+act here next (LeaveTurn drops) = turn_left drops
 
 -- the code did so, unless memory was refused
 abbrev pub Acted : Did → Result declared.Flow Refusal → Config → Type 0
@@ -175,6 +178,16 @@ Acted d (Err (Some fault)) c = d ≡ Faults fault
 -- the operands that are needed are there
 abbrev pub IsReady : (Config → Did) → Configuration → Type 0
 IsReady does before = does (config_of before) ≢ Sticks
+
+-- so far it jumps that the code can count it
+abbrev pub IsSmall : Did → Type 0
+IsSmall (Goes c On) = Unit {0}
+IsSmall (Goes c (Skip n)) = n < 2 ^ 64
+IsSmall (Goes c (To p n)) = p + n < 2 ^ 64
+IsSmall (Goes c Out) = Unit {0}
+IsSmall (Goes c (Ask q u)) = Unit {0}
+IsSmall (Faults fault) = Unit {0}
+IsSmall Sticks = Unit {0}
 
 -- the code does this to a configuration, and what is around its variables stays
 abbrev pub Does : (Config → Did) → Configuration → Result declared.Flow Refusal → Configuration → Type 0

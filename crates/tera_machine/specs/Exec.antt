@@ -11,7 +11,8 @@ use Rattle.tera_code.specs.declared.instruction.Instruction.{Instruction}
 use Rattle.tera_code.specs.Code.{nodes_code}
 use Rattle.tera_machine.specs.Config.{Config}
 use Rattle.tera_machine.specs.Flow.{Use, Written, Pushed, On, Skip, To, Out, Ask}
-use Rattle.tera_machine.specs.Act.{Did, Goes, Faults, Sticks, act}
+use Rattle.tera_machine.specs.Did.{Did, Goes, Faults, Sticks}
+use Rattle.tera_machine.specs.Act.{act}
 
 abbrev pub Code : Type 0
 Code = List Instruction
@@ -76,7 +77,7 @@ leaving q u c Stuck = Stuck
 -- a body that a request takes, where runs of code are given
 abbrev pub taken : Runner → Request → Use → Config → Way → End
 taken go q u c (Refuses f) = Broken f 0
-taken go q u c (Takes place vars body) = leaving q u c (go place (nodes_code body) 0 (entered vars c))
+taken go q u c (Takes place vars body) = leaving q u c (go place (nodes_code body 0) 0 (entered vars c))
 
 -- a place past the end of the code sticks
 abbrev pub within_code : ℕ → (ℕ → Config → End) → ℕ → Config → End

@@ -23,3 +23,5 @@ pub data Flow : Type 0 where
 abbrev pub flow_of : declared.Flow → Flow
 flow_of flow.On = On
 flow_of (flow.Skip count) = Skip count
+flow_of (flow.To place count) = To place count
+flow_of flow.Out = Out

@@ -1,5 +1,9 @@
+pub mod Layers
 pub mod Config
 pub mod Flow
+pub mod Did
+pub mod Loops
+pub mod Captures
 pub mod Act
 pub mod Exec
 pub mod Progress

@@ -2,7 +2,9 @@
 ghost use Rattle.std.specs.Prelude.{Ok, ℕ, Bool};
 ghost use Rattle.tera_errors.specs.Answer.{Tells};
 ghost use Rattle.tera_errors.specs.Fault.{rendering_error};
-ghost use Rattle.tera_machine.specs.Act.{act, IsReady, Does, text_written, pushed, outcome_put, top_written, name_written, name_loaded, attribute_loaded, item_loaded, sliced, denied, negated, operated, array_made, map_made, popped_branch, kept_if_falsy, kept_if_truthy};
+ghost use Rattle.tera_machine.specs.Config.{config_of};
+ghost use Rattle.tera_machine.specs.Did.{pushed};
+ghost use Rattle.tera_machine.specs.Act.{act, IsReady, IsSmall, Does, text_written, outcome_put, top_written, name_written, name_loaded, context_loaded, stored, attribute_loaded, item_loaded, sliced, denied, negated, operated, array_made, map_made, popped_branch, kept_if_falsy, kept_if_truthy};
 ghost use Rattle.tera_machine.specs.Subject.{here_of};
 ghost use Rattle.tera_state.specs.Scopes.{around_of};
 ghost use Rattle.tera_tree.specs.declared.expression.BinaryOperator.{BinaryOperator as Operator};
@@ -10,7 +12,7 @@ ghost use Rattle.tera_tree.specs.declared.expression.BinaryOperator.{BinaryOpera
 use crate::configuration::Configuration;
 use crate::machine::{Flow, VirtualMachine};
 use std::alloc::Global;
-use tera_code::{Instruction, Keys, Spreads, Text};
+use tera_code::{Instruction, Keys, LentName, Spreads, Text};
 use tera_operators::Operand;
 use tera_state::Found;
 use tera_tree::BinaryOperator;
@@ -22,11 +24,12 @@ impl<'c> Configuration<'c> {
         &mut self,
         machine: &VirtualMachine,
         file: &str,
-        _next: usize,
+        next: usize,
         instruction: &Instruction<'_>,
     ) -> TeraResult<Flow>
-        requires { IsReady (act (here_of machine.now file.now self.old) _next instruction.now) self.old }
-        ensures { Does (act (here_of machine.now file.now self.old) _next instruction.now) self.old result self.new }
+        requires ready { IsReady (act (here_of machine.now file.now self.old) next instruction.now) self.old }
+        requires small { IsSmall (act (here_of machine.now file.now self.old) next instruction.now (config_of self.old)) }
+        ensures { Does (act (here_of machine.now file.now self.old) next instruction.now) self.old result self.new }
     {
         let alloc = machine.alloc;
         match instruction {
@@ -53,13 +56,29 @@ impl<'c> Configuration<'c> {
             Instruction::PopJumpIfFalse(skip) => self.pop_jump_if_false(*skip),
             Instruction::JumpIfFalseOrPop(skip) => self.jump_if_false_or_pop(*skip),
             Instruction::JumpIfTrueOrPop(skip) => self.jump_if_true_or_pop(*skip),
+            Instruction::LoadContext(span) => self.load_context(alloc, *span),
+            Instruction::Store { name, is_global } => self.store(alloc, name, *is_global),
+            Instruction::StartLoop {
+                key,
+                name,
+                counts,
+                size,
+            } => self.start_loop(machine, file, next, key, name, *counts, *size),
+            Instruction::NextTurn => self.next_turn(),
+            Instruction::EndLoop(skip) => self.end_loop(*skip),
+            Instruction::Keep => self.keep(),
+            Instruction::EndComprehension(span) => self.end_comprehension(alloc, *span),
+            Instruction::StartCapture => self.start_capture(),
+            Instruction::EndCapture => self.end_capture(machine),
+            Instruction::LeaveLoop(drops) => self.leave_loop(*drops),
+            Instruction::LeaveTurn(drops) => self.leave_turn(*drops),
         }
     }
 
     fn write_text(&mut self, text: &Text<'_>) -> TeraResult<Flow>
         ensures { Does (text_written text.now) self.old result self.new }
     {
-        self.written.append(text.as_str())?;
+        self.texts.append(text.as_str())?;
         Ok(Flow::On)
     }
 
@@ -73,7 +92,7 @@ impl<'c> Configuration<'c> {
         if operand.value().is_undefined() {
             return Err(undefined_written(machine.alloc, file, operand.span()));
         }
-        self.written
+        self.texts
             .append_value(machine.alloc, machine.autoescape, operand.value())?;
         Ok(Flow::On)
     }
@@ -94,10 +113,10 @@ impl<'c> Configuration<'c> {
         }
         match &found {
             Found::Kept(value) => {
-                self.written
+                self.texts
                     .append_value(machine.alloc, machine.autoescape, value)?
             }
-            _ => self.written.append_value(
+            _ => self.texts.append_value(
                 machine.alloc,
                 machine.autoescape,
                 &found.to_value(machine.alloc)?,
@@ -106,14 +125,14 @@ impl<'c> Configuration<'c> {
         Ok(Flow::On)
     }
 
-    fn put(&mut self, operand: Operand) -> TeraResult<Flow>
+    pub(crate) fn put(&mut self, operand: Operand) -> TeraResult<Flow>
         ensures { Does (outcome_put (Ok operand)) self.old result self.new }
     {
         self.operands.push(operand)?;
         Ok(Flow::On)
     }
 
-    fn push(&mut self, value: Value, span: Span) -> TeraResult<Flow>
+    pub(crate) fn push(&mut self, value: Value, span: Span) -> TeraResult<Flow>
         ensures { Does (pushed value span) self.old result self.new }
     {
         self.put(Operand::new(value, span))
@@ -124,6 +143,30 @@ impl<'c> Configuration<'c> {
     {
         let value = self.scopes.look(name.as_str()).to_value(alloc)?;
         self.push(value, span)
+    }
+
+    fn load_context(&mut self, alloc: Global, span: Span) -> TeraResult<Flow>
+        ensures { Does (context_loaded (around_of self.old.scopes) span) self.old result self.new }
+    {
+        let value = self.scopes.dump(alloc)?;
+        self.push(value, span)
+    }
+
+    // What is bound is kept in shared form, so that a copy of it is a count.
+    fn store(&mut self, alloc: Global, name: &LentName<'_>, is_global: bool) -> TeraResult<Flow>
+        requires { IsReady (stored is_global name.now) self.old }
+        ensures { Does (stored is_global name.now) self.old result self.new }
+    {
+        let Some(operand) = self.operands.pop() else {
+            unreachable!()
+        };
+        let value = operand.into_value().shared(alloc)?;
+        if is_global {
+            self.scopes.set_global(name.share()?, value)?;
+        } else {
+            self.scopes.set(name.share()?, value)?;
+        }
+        Ok(Flow::On)
     }
 
     fn load_attribute(

@@ -1,16 +1,18 @@
 // What the machine works on.
 use crate::ended::Ended;
-use crate::written::Written;
+use crate::place::LoopPlace;
+use crate::texts::Texts;
 use std::alloc::Global;
 use tera_operators::Operand;
 use tera_state::{Scopes, Stack};
 
-/// Everything that an instruction may read or change.
+/// Everything that an instruction may read or change. The places are those of the loops that the body which runs has open.
 #[derive(Drop)]
 pub struct Configuration<'c> {
     pub operands: Stack<Operand>,
     pub scopes: Scopes<'c>,
-    pub written: Written,
+    pub texts: Texts,
+    pub places: Stack<LoopPlace>,
     pub ended: Ended,
 }
 
@@ -28,7 +30,8 @@ impl<'c> Configuration<'c> {
         Configuration {
             operands: Stack::new(alloc),
             scopes,
-            written: Written::new(alloc),
+            texts: Texts::new(alloc),
+            places: Stack::new(alloc),
             ended: Ended::new(),
         }
     }

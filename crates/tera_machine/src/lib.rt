@@ -2,12 +2,16 @@
 #![tactic(auto)]
 
 pub mod act;
+mod captures;
 pub mod configuration;
 pub mod ended;
+mod loops;
 pub mod machine;
-pub mod written;
+pub mod place;
+pub mod texts;
 
 pub use configuration::Configuration;
 pub use ended::Ended;
 pub use machine::VirtualMachine;
-pub use written::Written;
+pub use place::LoopPlace;
+pub use texts::Texts;

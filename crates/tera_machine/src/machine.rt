@@ -1,5 +1,5 @@
 // A run of a body.
-ghost use Rattle.std.specs.Prelude.{◌≡◌, ℕ, ◌+◌, ◌-◌, ◌*◌, ◌≤◌, IsTrue, OnOk};
+ghost use Rattle.std.specs.Prelude.{◌≡◌, ℕ, ◌+◌, ◌-◌, ◌*◌, ◌≤◌, [], IsTrue, OnOk};
 ghost use Rattle.tera_meaning.specs.Run.{visits_of};
 ghost use Rattle.tera_meaning.specs.Registry.{new_registry};
 ghost use Rattle.tera_meaning.specs.Rendering.{alone};
@@ -24,6 +24,10 @@ pub enum Flow {
     On,
     /// So many instructions behind the next one.
     Skip(usize),
+    /// So many instructions behind a place.
+    To(usize, usize),
+    /// At the end of the body.
+    Out,
 }
 
 /// What a run stands on, and how high the count of instructions may rise. Contracts alone see it.
@@ -71,7 +75,8 @@ impl VirtualMachine {
         ghost about: { Subject }
         requires engine { engine_of self.now ≡ about.world.registry.engine }
         requires place { place_of self.now chunk.now.file configuration.old ≡ about.place }
-        requires code { chunk.now.code ≡ nodes_code about.tree }
+        requires code { chunk.now.code ≡ nodes_code about.tree 0 }
+        requires own { (config_of configuration.old).loops ≡ [] }
         ensures few { steps.new ≤ steps.old + 8 * visits_of (meant_from about configuration.old) }
         ensures means { Means (meant_from about configuration.old) (config_of configuration.old) result (config_of configuration.new) }
         ensures stays { OnOk result (around_of configuration.new.scopes ≡ around_of configuration.old.scopes) }
@@ -103,6 +108,8 @@ impl VirtualMachine {
             match flow {
                 Flow::On => at = next,
                 Flow::Skip(count) => at = next + count,
+                Flow::To(place, count) => at = place + count,
+                Flow::Out => return Ok(()),
             }
         }
         Ok(())

@@ -19,3 +19,4 @@ pub use compare::not;
 pub use maps::map;
 pub use operand::Operand;
 pub use operator::binary;
+pub use place::fault_at;

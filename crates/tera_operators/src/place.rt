@@ -20,7 +20,7 @@ pub(crate) fn spanning(left: &Operand, right: &Operand) -> Span
 }
 
 /// The refusal as a fault at this span of the file, in the same words. Want of memory stays what it is.
-pub(crate) fn fault_at(alloc: Global, file: &str, refusal: &Error, span: Span) -> Error
+pub fn fault_at(alloc: Global, file: &str, refusal: &Error, span: Span) -> Error
     ensures { Retells refusal.now result (rendering_error (record { file = file.now; span = span })) }
 {
     match refusal.kind() {

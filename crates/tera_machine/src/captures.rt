@@ -1,0 +1,65 @@
+// Instructions of captures, and the ways out of them.
+ghost use Rattle.tera_machine.specs.Config.{config_of};
+ghost use Rattle.tera_machine.specs.Act.{IsReady, IsSmall, Does};
+ghost use Rattle.std.specs.Prelude.{◌≡◌};
+ghost use Rattle.tera_state.specs.Scopes.{around_of};
+ghost use Rattle.tera_machine.specs.Loops.{innermost};
+ghost use Rattle.tera_machine.specs.Captures.{capture_started, capture_ended, dropped, loop_left, turn_left};
+
+use crate::configuration::Configuration;
+use crate::machine::{Flow, VirtualMachine};
+use tera_values::{Span, TeraResult, Value};
+
+impl<'c> Configuration<'c> {
+    pub(crate) fn start_capture(&mut self) -> TeraResult<Flow>
+        ensures { Does capture_started self.old result self.new }
+    {
+        self.texts.begin()?;
+        Ok(Flow::On)
+    }
+
+    // The text is safe where texts are escaped: what is put out in a capture is escaped already.
+    pub(crate) fn end_capture(&mut self, machine: &VirtualMachine) -> TeraResult<Flow>
+        requires { IsReady (capture_ended machine.now.autoescape) self.old }
+        ensures { Does (capture_ended machine.now.autoescape) self.old result self.new }
+    {
+        let text = self.texts.end()?;
+        let value = if machine.autoescape {
+            Value::safe_string(machine.alloc, text.as_str())?
+        } else {
+            Value::string(machine.alloc, text.as_str())?
+        };
+        self.push(value, Span { start: 0, end: 0 })
+    }
+
+    // At the instruction that closes the loop.
+    pub(crate) fn leave_loop(&mut self, drops: usize) -> TeraResult<Flow>
+        requires { IsSmall (loop_left drops (config_of self.old)) }
+        ensures { Does (loop_left drops) self.old result self.new }
+    {
+        match self.leave(drops) {
+            Some((start, size)) => Ok(Flow::To(start, size + 1)),
+            None => Ok(Flow::Out),
+        }
+    }
+
+    // At the instruction that begins the next turn.
+    pub(crate) fn leave_turn(&mut self, drops: usize) -> TeraResult<Flow>
+        ensures { Does (turn_left drops) self.old result self.new }
+    {
+        match self.leave(drops) {
+            Some((start, size)) => Ok(Flow::To(start, size)),
+            None => Ok(Flow::Out),
+        }
+    }
+
+    // Drops so many captures, and tells where the body of the innermost loop starts, and its size.
+    fn leave(&mut self, drops: usize) -> Option<(usize, usize)>
+        ensures dropped { config_of self.new ≡ dropped drops (config_of self.old) }
+        ensures innermost { result ≡ innermost (config_of self.old).loops }
+        ensures stays { around_of self.new.scopes ≡ around_of self.old.scopes }
+    {
+        self.texts.drop_marks(drops);
+        self.innermost()
+    }
+}

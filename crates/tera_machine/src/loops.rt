@@ -1,0 +1,175 @@
+// Instructions of loops.
+ghost use Rattle.std.specs.Prelude.{◌≡◌, ◌≢◌, ◌∷◌, [], option_copied};
+ghost use Rattle.tera_errors.specs.Answer.{Gives};
+ghost use Rattle.tera_operators.specs.Operand.{placed};
+ghost use Rattle.tera_state.specs.Scope.{Heading, loop_turns};
+ghost use Rattle.tera_state.specs.Scopes.{around_of};
+ghost use Rattle.tera_state.specs.Opened.{turns_left};
+ghost use Rattle.tera_machine.specs.Config.{config_of};
+ghost use Rattle.tera_machine.specs.Act.{IsReady, IsSmall, Does};
+ghost use Rattle.tera_machine.specs.Loops.{loop_started, turned, loop_ended, kept, comprehension_ended, innermost, Closes, first_of};
+ghost use Rattle.tera_machine.specs.Subject.{here_of};
+
+use crate::configuration::Configuration;
+use crate::machine::{Flow, VirtualMachine};
+use crate::place::LoopPlace;
+use std::alloc::Global;
+use tera_code::LentName;
+use tera_operators::{Operand, fault_at};
+use tera_state::{ForLoop, Stack};
+use tera_values::{Span, TeraResult, Value};
+
+// The topmost place.
+fn top(places: &Stack<LoopPlace>) -> Option<&LoopPlace>
+    ensures { option_copied result ≡ first_of places.now }
+{
+    let height = places.len();
+    if height == 0 {
+        return None;
+    }
+    places.at_height(height - 1)
+}
+
+// The loop over the operand at its first turn, or none where there is no item. What is no target of a loop is a fault at
+// the operand.
+fn opened(
+    alloc: Global,
+    file: &str,
+    key: &Option<LentName<'_>>,
+    name: &LentName<'_>,
+    counts: bool,
+    target: Operand,
+) -> TeraResult<Option<ForLoop>>
+    ensures { let heading : Heading = record { name = name.now; key = key.now; counts = counts } in
+        Gives turns_left result (placed file.now (loop_turns heading target.value) target.span) }
+{
+    let span = target.span();
+    let name = name.share()?;
+    let key = LentName::share_option(key)?;
+    let target = target.into_value();
+    let opened = if counts {
+        ForLoop::new(alloc, name, key, target)
+    } else {
+        ForLoop::new_comprehension(alloc, name, key, target)
+    };
+    match opened {
+        Ok(opened) => Ok(opened),
+        Err(refusal) => Err(fault_at(alloc, file, &refusal, span)),
+    }
+}
+
+impl<'c> Configuration<'c> {
+    // The body starts at the next place.
+    pub(crate) fn start_loop(
+        &mut self,
+        machine: &VirtualMachine,
+        file: &str,
+        next: usize,
+        key: &Option<LentName<'_>>,
+        name: &LentName<'_>,
+        counts: bool,
+        size: usize,
+    ) -> TeraResult<Flow>
+        requires ready { IsReady (loop_started (here_of machine.now file.now self.old)
+            next key.now name.now counts size) self.old }
+        requires small { IsSmall (loop_started (here_of machine.now file.now self.old)
+            next key.now name.now counts size (config_of self.old)) }
+        ensures { Does (loop_started (here_of machine.now file.now self.old)
+            next key.now name.now counts size) self.old result self.new }
+    {
+        let alloc = machine.alloc;
+        let Some(operand) = self.operands.pop() else {
+            unreachable!()
+        };
+        match opened(alloc, file, key, name, counts, operand)? {
+            None => Ok(Flow::Skip(size + 2)),
+            Some(opened) => {
+                self.scopes.open_loop(opened)?;
+                let kept = Vec::new(alloc);
+                self.places.push(LoopPlace {
+                    start: next,
+                    size,
+                    kept,
+                })?;
+                Ok(Flow::On)
+            }
+        }
+    }
+
+    // The start of the body stands with the loop: nothing is looked for.
+    pub(crate) fn next_turn(&mut self) -> TeraResult<Flow>
+        requires { IsReady turned self.old }
+        ensures { Does turned self.old result self.new }
+    {
+        if !self.scopes.next_turn() {
+            return Ok(Flow::On);
+        }
+        match top(&self.places) {
+            Some(place) => Ok(Flow::To(place.start, 0)),
+            None => unreachable!(),
+        }
+    }
+
+    // Closes the innermost loop, and hands out what it kept.
+    fn close_loop(&mut self) -> Vec<Value>
+        requires { (config_of self.old).loops ≢ [] }
+        ensures closes { Closes (config_of self.old) result.items (config_of self.new) }
+        ensures stays { around_of self.new.scopes ≡ around_of self.old.scopes }
+    {
+        self.scopes.close_loop();
+        let Some(place) = self.places.pop() else {
+            unreachable!()
+        };
+        let LoopPlace {
+            start: _,
+            size: _,
+            kept,
+        } = place;
+        kept
+    }
+
+    pub(crate) fn end_loop(&mut self, skip: usize) -> TeraResult<Flow>
+        requires { IsReady (loop_ended skip) self.old }
+        ensures { Does (loop_ended skip) self.old result self.new }
+    {
+        drop(self.close_loop());
+        Ok(Flow::Skip(skip))
+    }
+
+    pub(crate) fn keep(&mut self) -> TeraResult<Flow>
+        requires { IsReady kept self.old }
+        ensures { Does kept self.old result self.new }
+    {
+        let Some(operand) = self.operands.pop() else {
+            unreachable!()
+        };
+        let Some(mut place) = self.places.pop() else {
+            unreachable!()
+        };
+        place.kept.push(operand.into_value())?;
+        self.places.push(place)?;
+        Ok(Flow::On)
+    }
+
+    pub(crate) fn end_comprehension(&mut self, alloc: Global, span: Span) -> TeraResult<Flow>
+        requires { IsReady (comprehension_ended span) self.old }
+        ensures { Does (comprehension_ended span) self.old result self.new }
+    {
+        let value = Value::array(self.close_loop()).shared(alloc)?;
+        self.operands.push(Operand::new(value, span))?;
+        Ok(Flow::Skip(1))
+    }
+
+    // Where the body of the innermost loop starts, and its size.
+    pub(crate) fn innermost(&self) -> Option<(usize, usize)>
+        ensures { result ≡ innermost (config_of self.now).loops }
+    {
+        if !self.scopes.is_in_loop() {
+            return None;
+        }
+        match top(&self.places) {
+            Some(place) => Some((place.start, place.size)),
+            None => None,
+        }
+    }
+}

@@ -65,7 +65,7 @@ impl Tera {
         let mut configuration = Configuration::new(self.alloc, scopes);
         let mut steps = Steps::<L>::new(blank);
         match machine.run::<L>(&chunk, &mut configuration, &mut steps) {
-            Ok(()) => Ok(configuration.written.into_string()),
+            Ok(()) => Ok(configuration.texts.into_string()),
             Err(error) => Err(error),
         }
     }

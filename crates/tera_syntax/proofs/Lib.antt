@@ -1,6 +1,6 @@
 pub mod Rows
 pub mod Whole
-pub mod Words
+pub mod Begun
 pub mod OneTag
 pub mod Complete
 pub mod Sound

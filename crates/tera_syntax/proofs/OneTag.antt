@@ -67,13 +67,13 @@ module _ (limit : ℕ) (q outer : Bool) (tokens : List Token) (t : Tag) where
       let w = whole_sound limit (next (begin outer tokens)) p.0 p.1 in
       said (GoingOn (IfHead p.0)) (elif e w.0, w.1) p.2
 
-  for-got : first tokens ≡ k.For → (o : Outcome (Option Name × Name)) → calls (next (begin q tokens)) ≡ o → looping_by limit o ≡ Some t → Says
+  for-got : first tokens ≡ k.For → (o : Outcome (Option Name × Name)) → calls (next (begin q tokens)) ≡ o → option_map Opening (looping_by limit o) ≡ Some t → Says
   for-got e None c h = absurd (cc)
   for-got e (Some n) c h =
-      let make : Expr → Tag = λ e. Opening (ForHead n.0.0 n.0.1 e) in
-      let p = mapped make (whole limit n.1) t h in
+      let head = mapped Opening (looping_by limit (Some n)) t h in
+      let p = mapped (ForHead n.0.0 n.0.1) (whole limit n.1) head.0 head.1 in
       let w = whole_sound limit n.1 p.0 p.1 in
-      said (make p.0) (loop e (calls-got (next (begin q tokens)) n.1 n.0 c) w.0, w.1) p.2
+      said (Opening (ForHead n.0.0 n.0.1 p.0)) (loop e (calls-got (next (begin q tokens)) n.1 n.0 c) w.0, w.1) (ap Opening p.2 ∙ head.2)
 
   set-by-got : (is_global : Bool) → Begins (set_word is_global) tokens → kind (next (begin q tokens)) ≡ k.Name → (s : Kind) → kind (next (next (begin q tokens))) ≡ s
       → setting_by limit is_global (text (next (begin q tokens))) (next (next (begin q tokens))) s ≡ Some t → Says
@@ -203,7 +203,10 @@ module _ (limit : ℕ) (q outer : Bool) (tokens : List Token) where
 
   pub opens_read : {head : Head} → Opens q head tokens → head_depth head ≤ limit → tag limit q outer tokens ≡ Some (Opening head)
   opens_read (choice e w) le = by-kind k.If e ∙ ap (option_map (λ c. Opening (IfHead c))) (whole_complete w limit le)
-  opens_read (loop {key = key} {name = name} f c w) le = by-kind k.For f ∙ ap (looping_by limit) (calls-is c) ∙ ap (option_map (λ e. Opening (ForHead key name e))) (whole_complete w limit le)
+  opens_read (loop {key = key} {name = name} f c w) le =
+      by-kind k.For f
+      ∙ ap (λ o. option_map Opening (looping_by limit o)) (calls-is c)
+      ∙ ap (λ o. option_map Opening (option_map (ForHead key name) o)) (whole_complete w limit le)
   opens_read (capture b n) le = capture-read b n
 
   pub goes_on_read : {head : Head} → GoesOn outer head tokens → head_depth head ≤ limit → tag limit q outer tokens ≡ Some (GoingOn head)

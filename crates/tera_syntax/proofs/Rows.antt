@@ -1,8 +1,8 @@
 -- Rows of nodes, and what is open around them.
-use Rattle.std.proofs.Common.{◌≡◌, ℕ, ◌-◌, ◌≤◌, ◌<◌, max, List, [], ◌∷◌, Bool, true, false, ◌==◌, Some, refl, sym, ap, ◌∙◌, arith, length, drop, get_or, reverse, ◌++◌, map}
+use Rattle.std.proofs.Common.{◌≡◌, ℕ, ◌-◌, ◌≤◌, ◌<◌, max, List, [], ◌∷◌, Bool, true, false, ◌==◌, Some, None, refl, sym, ap, ◌∙◌, arith, length, drop, get_or, reverse, ◌++◌, map}
 use Rattle.tera_errors.specs.Site.{Text}
 use Rattle.std.proofs.lemmas.List.{drop_more, get_or-reverse, length-reverse, reverse-append}
-use Rattle.std.proofs.lemmas.Option.{get_or_from_slice_get, slice_get_within}
+use Rattle.std.proofs.lemmas.Option.{get_or_from_slice_get, slice_get-get_or, slice_get_within}
 use Rattle.std.specs.List.{slice_get}
 use Rattle.tera_tokens.specs.Token.{Token}
 use Rattle.tera_tree.specs.Tree.{Nodes, NoNodes, MoreNodes}
@@ -49,6 +49,22 @@ shut_innermost tokens fs f found e h =
     let t = innermost fs f e in
     let s : closed (frame_of f ∷ t.0) found ≡ shut tokens (frame_of f ∷ t.0) found = rw h refl in
     ap (λ fs. closed fs found) t.1 ∙ s ∙ sym (ap (λ fs. shut tokens fs found) t.1)
+
+pub turned_otherwise : (may : Head → Bool) (fs : List frame.Frame) (f : frame.Frame) (found : Nodes) → Some f ≡ slice_get fs (length fs - 1) → may (head_of f.head) ≡ false → turned may (frames_of fs) found ≡ None
+turned_otherwise may fs f found e h =
+    let t = innermost fs f e in
+    let s : turned may (frame_of f ∷ t.0) found ≡ None = rw h refl in
+    ap (λ fs. turned may fs found) t.1 ∙ s
+
+pub shut_otherwise : (tokens : List Token) (fs : List frame.Frame) (f : frame.Frame) (found : Nodes) → Some f ≡ slice_get fs (length fs - 1) → ends (head_of f.head) tokens ≡ false → shut tokens (frames_of fs) found ≡ None
+shut_otherwise tokens fs f found e h =
+    let t = innermost fs f e in
+    let s : shut tokens (frame_of f ∷ t.0) found ≡ None = rw h refl in
+    ap (λ fs. shut tokens fs found) t.1 ∙ s
+
+pub nothing_open : (fs : List frame.Frame) → None ≡ slice_get fs (length fs - 1) → frames_of fs ≡ []
+nothing_open [] e = refl
+nothing_open (f ∷ fs) e = let s = slice_get-get_or (f ∷ fs) (length (f ∷ fs) - 1) f (omega arith) in absurd (cc)
 
 -- how deep rows are
 deepest : (limit a b : ℕ) → a ≤ limit → b ≤ limit → max a b ≤ limit

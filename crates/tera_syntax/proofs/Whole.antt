@@ -1,9 +1,10 @@
 -- An expression that is all from here to the end of a tag.
-use Rattle.std.proofs.Common.{◌≡◌, ℕ, ◌≤◌, Bool, true, false, Some, None, if◌then◌else◌, refl, ap, ◌∙◌, subst}
+use Rattle.std.proofs.Common.{◌≡◌, ℕ, zero, suc, ◌≤◌, ◌<◌, nat_lt, length, Bool, true, false, Some, None, if◌then◌else◌, refl, ap, ◌∙◌, subst, arith}
+use Rattle.std.proofs.lemmas.Grind.{common_steps}
 use Rattle.tera_tokens.specs.declared.token.Kind.TheVariants as k
 use Rattle.tera_tokens.specs.Input.{Input, Outcome, kind, same}
 use Rattle.tera_expressions.specs.Expressions.{Deep, expr}
-use Rattle.tera_tree.specs.Tree.{Expr}
+use Rattle.tera_tree.specs.Tree.{Expr, Node}
 use Rattle.tera_tree.specs.Depth.{depth}
 use Rattle.tera_expressions.specs.Grammar.{Derives}
 use Rattle.tera_syntax.specs.Grammar.{DerivesWhole, whole}
@@ -34,3 +35,16 @@ unfolding r.whole
 whole_complete (whole {x = x} {i = i} {end = j} d e) limit le =
     let q : same k.End (kind j) ≡ true = ap (same k.End) e ∙ same-refl k.End in
     rw (complete x i j d e limit le, q) refl
+
+whole_room : (limit : ℕ) (i : Input) (x : Expr) → r.whole limit i ≡ Some x → 0 < limit
+unfolding r.whole expr
+whole_room zero i x h = absurd (cc)
+whole_room (suc n) i x h = omega arith
+
+-- where an expression of a tag is read, there is room for a node
+pub put_read : (limit : ℕ) (s : r.Progress) (i : Input) (x : Expr) (n : Node) → r.whole (r.room limit s) i ≡ Some x → r.put limit s n ≡ Some (r.added s n)
+put_read limit s i x n h =
+    let p = whole_room (r.room limit s) i x h in
+    let l : length s.frames < limit = omega (arith, p) in
+    let t : nat_lt (length s.frames) limit ≡ true = grind (arith, common_steps) in
+    ap (λ (b : Bool). if b then Some (r.added s n) else None) t

@@ -48,9 +48,16 @@ pub record Progress : Type 0 where
 abbrev pub begun : Progress
 begun = record { frames = []; found = NoNodes; in_loop = false }
 
--- a node more, where nodes may be as deep as the limit at the top
+-- whether a node may stand here, where nodes may be as deep as the limit at the top
+abbrev pub has_room : ℕ → Progress → Bool
+has_room limit s = nat_lt (length s.frames) limit
+
+-- a node more
+abbrev pub added : Progress → Node → Progress
+added s node = record { frames = s.frames; found = join s.found (one node); in_loop = s.in_loop }
+
 abbrev pub put : ℕ → Progress → Node → Option Progress
-put limit s node = if nat_lt (length s.frames) limit then Some (record { frames = s.frames; found = join s.found (one node); in_loop = s.in_loop }) else None
+put limit s node = if has_room limit s then Some (added s node) else None
 
 -- how deep an expression of a tag may be here
 abbrev pub room : ℕ → Progress → ℕ
@@ -68,7 +75,7 @@ row f found = join f.before (one (made f.head f.body found))
 -- a statement with a body begins
 abbrev pub opened : ℕ → Bool → Progress → Head → Option Progress
 opened limit is_chained s head =
-    if nat_lt (length s.frames) limit then Some (record {
+    if has_room limit s then Some (record {
       frames = record { before = s.found; head = head; body = None; is_chained = is_chained; in_loop = s.in_loop } ∷ s.frames;
       found = NoNodes;
       in_loop = inside head s.in_loop;
@@ -109,12 +116,12 @@ pub data Tag : Type 0 where
   -- any other, which may be an end
   Closing : Tag
 
-abbrev pub looping_by : ℕ → Outcome (Option Name × Name) → Option Tag
+abbrev pub looping_by : ℕ → Outcome (Option Name × Name) → Option Head
 looping_by limit None = None
-looping_by limit (Some p) = option_map (λ e. Opening (ForHead p.0.0 p.0.1 e)) (whole limit p.1)
+looping_by limit (Some p) = option_map (ForHead p.0.0 p.0.1) (whole limit p.1)
 
 -- behind `for`
-abbrev pub looping : ℕ → Input → Option Tag
+abbrev pub looping : ℕ → Input → Option Head
 looping limit i = looping_by limit (calls i)
 
 abbrev pub setting_by : ℕ → Bool → Name → Input → Kind → Option Tag
@@ -152,7 +159,7 @@ may_begin first size =
 
 abbrev pub tag_by : ℕ → Bool → Bool → List Token → Kind → Option Tag
 tag_by limit q outer tokens k.If = option_map (λ c. Opening (IfHead c)) (whole limit (next (begin q tokens)))
-tag_by limit q outer tokens k.For = looping limit (next (begin q tokens))
+tag_by limit q outer tokens k.For = option_map Opening (looping limit (next (begin q tokens)))
 tag_by limit q outer tokens k.Elif = option_map (λ c. GoingOn (IfHead c)) (whole limit (next (begin outer tokens)))
 tag_by limit q outer tokens k.Else = alone (codes "else") tokens Turning
 tag_by limit q outer tokens k.Name = named limit q tokens (text (begin false tokens))

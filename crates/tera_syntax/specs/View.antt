@@ -1,31 +1,26 @@
 -- What is open while a text is read, as plain data.
 use Rattle.std.specs.Prelude.{◌≡◌, List, Option, Some, None, Result, Ok, Err, Vec, map, option_copied, reverse}
 use Rattle.std.specs.Global.{Global}
+use Rattle.tera_tree.specs.declared.expression.Heading.{Heading}
 use Rattle.tera_tree.specs.declared.node.Node as declared
 use Rattle.tera_tokens.specs.declared.refusal.Refusal.{Refusal}
 use Rattle.tera_tokens.specs.Answers.{Refuses}
 use Rattle.tera_tree.specs.Tree.{Nodes}
-use Rattle.tera_tree.specs.View.{expr_of, node_of, nodes_of}
+use Rattle.tera_tree.specs.View.{expr_of, nodes_of}
 use Rattle.tera_syntax.specs.Heads.{Head, IfHead, ForHead, SetHead}
-use Rattle.tera_syntax.specs.Reader.{Frame, Progress, Tag, Single, Opening, GoingOn, Turning, Closing}
+use Rattle.tera_syntax.specs.Reader.{Frame, Progress}
 use Rattle.tera_syntax.specs.declared.heads.Head as head
-use Rattle.tera_syntax.specs.declared.heads.Head.TheVariants as head_variant
-use Rattle.tera_syntax.specs.declared.tags.Tag as tag
-use Rattle.tera_syntax.specs.declared.tags.Tag.TheVariants as tag_variant
+use Rattle.tera_syntax.specs.declared.heads.Head.TheVariants as variant
 use Rattle.tera_syntax.specs.declared.progress.Frame as frame
 use Rattle.tera_syntax.specs.declared.progress.Progress as progress
 
-abbrev pub head_of : head.Head → Head
-head_of (head_variant.If c) = IfHead (expr_of c.value)
-head_of (head_variant.For h) = ForHead (option_copied h.value.key) h.value.name.now (expr_of h.value.target)
-head_of (head_variant.Set t is_global) = SetHead t.now is_global
+abbrev pub heading_of : Heading → Head
+heading_of h = ForHead (option_copied h.key) h.name.now (expr_of h.target)
 
-abbrev pub tag_of : tag.Tag → Tag
-tag_of (tag_variant.Single node) = Single (node_of node)
-tag_of (tag_variant.Opening h) = Opening (head_of h)
-tag_of (tag_variant.GoingOn h) = GoingOn (head_of h)
-tag_of tag_variant.Turning = Turning
-tag_of tag_variant.Closing = Closing
+abbrev pub head_of : head.Head → Head
+head_of (variant.If c) = IfHead (expr_of c.value)
+head_of (variant.For h) = heading_of h.value
+head_of (variant.Set t is_global) = SetHead t.now is_global
 
 abbrev pub body_of : Option (Vec declared.Node Global) → Option Nodes
 body_of None = None

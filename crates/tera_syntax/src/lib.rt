@@ -6,7 +6,7 @@ pub mod laws;
 mod progress;
 pub mod reader;
 mod statements;
-mod tags;
+mod words;
 
 pub use reader::parse;
 pub use tera_tree::{

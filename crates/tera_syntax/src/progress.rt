@@ -11,6 +11,7 @@ use crate::heads::Head;
 use std::alloc::Global;
 use std::mem::replace;
 use tera_errors::Span;
+use tera_tokens::input::Tokens;
 use tera_tokens::refusal::{Reason, Refusal};
 use tera_tokens::token::Token;
 use tera_tree::Node;
@@ -42,6 +43,13 @@ pub(crate) struct Progress<'s> {
     pub in_loop: bool,
 }
 
+/// A refusal that points at the first token of a tag.
+pub(crate) fn refused(tag: &[Token<'_>], why: Reason) -> Refusal
+    ensures { IsSyntax result }
+{
+    Tokens::begin(tag, false).refuse(why)
+}
+
 /// What the end of a statement makes of what was read last.
 fn made<'s>(
     alloc: Global,
@@ -57,17 +65,8 @@ fn made<'s>(
     }
 }
 
-/// Puts a node behind others.
-#[tactic(auto, using(crate::proofs::Rows::nodes_push))]
-fn push<'s>(nodes: &mut Vec<Node<'s>>, node: Node<'s>) -> Result<(), Refusal>
-    ensures { let meant = spec.join (nodes_of nodes.old.items) (spec.one (node_of node.entry)) in
-        Answers (λ done. nodes_of nodes.new.items) (Some meant) result }
-{
-    nodes.push(node)?;
-    Ok(())
-}
-
 /// What stands in front of a statement, and the statement.
+#[tactic(auto, using(crate::proofs::Rows::nodes_push))]
 fn row<'s>(alloc: Global, frame: Frame<'s>, found: Vec<Node<'s>>) -> Result<Vec<Node<'s>>, Refusal>
     ensures { let meant = spec.row (frame_of frame.entry) (nodes_of found.entry.items) in
         Answers (λ nodes. nodes_of nodes.items) (Some meant) result }
@@ -78,7 +77,7 @@ fn row<'s>(alloc: Global, frame: Frame<'s>, found: Vec<Node<'s>>) -> Result<Vec<
         body,
         ..
     } = frame;
-    push(&mut before, made(alloc, head, body, found))?;
+    before.push(made(alloc, head, body, found))?;
     Ok(before)
 }
 
@@ -110,14 +109,21 @@ impl<'s> Progress<'s> {
         }
     }
 
-    /// Puts a node behind those that were read. It begins at `at`.
-    pub fn put(&mut self, node: Node<'s>, at: Span) -> Result<(), Refusal>
-        ensures { Becomes (spec.put 200 (progress_of self.old) (node_of node.entry)) result self.new }
+    /// Whether a node may stand here.
+    pub fn has_room(&self) -> bool
+        ensures { result ≡ spec.has_room 200 (progress_of self.now) }
     {
-        if self.frames.len() >= MAX_DEPTH {
-            return Err(Refusal::Syntax(Reason::TooDeep, at));
-        }
-        push(&mut self.found, node)
+        self.frames.len() < MAX_DEPTH
+    }
+
+    /// Puts a node behind those that were read, where it may stand.
+    #[tactic(auto, using(crate::proofs::Rows::nodes_push))]
+    pub fn add(&mut self, node: Node<'s>) -> Result<(), Refusal>
+        ensures { let meant = spec.added (progress_of self.old) (node_of node.entry) in
+            Becomes (Some meant) result self.new }
+    {
+        self.found.push(node)?;
+        Ok(())
     }
 
     /// A statement with a body begins.
@@ -126,13 +132,13 @@ impl<'s> Progress<'s> {
         alloc: Global,
         is_chained: bool,
         head: Head<'s>,
-        at: Span,
+        tag: &[Token<'_>],
     ) -> Result<(), Refusal>
         ensures { let meant = spec.opened 200 is_chained (progress_of self.old) (head_of head.entry) in
             Becomes meant result self.new }
     {
-        if self.frames.len() >= MAX_DEPTH {
-            return Err(Refusal::Syntax(Reason::TooDeep, at));
+        if !self.has_room() {
+            return Err(refused(tag, Reason::TooDeep));
         }
         let inside = head.inside(self.in_loop);
         let before = replace(&mut self.found, Vec::new(alloc));
@@ -148,36 +154,36 @@ impl<'s> Progress<'s> {
     }
 
     /// `else`: what was read is the body.
-    pub fn split(&mut self, alloc: Global, at: Span) -> Result<(), Refusal>
+    pub fn split(&mut self, alloc: Global, tag: &[Token<'_>]) -> Result<(), Refusal>
         ensures { let s = progress_of self.old in
             Becomes (spec.turned heads.splits s.frames s.found) result self.new }
     {
         match self.frames.last() {
-            Some(frame) if frame.head.splits() => self.turn(alloc, at),
-            _ => Err(Refusal::Syntax(Reason::NotOpen, at)),
+            Some(frame) if frame.head.splits() => self.turn(alloc, tag),
+            _ => Err(refused(tag, Reason::NotOpen)),
         }
     }
 
     /// The first half of a tag that goes on with a statement: what was read is the body.
-    pub fn go_on(&mut self, alloc: Global, at: Span) -> Result<(), Refusal>
+    pub fn go_on(&mut self, alloc: Global, tag: &[Token<'_>]) -> Result<(), Refusal>
         ensures { let s = progress_of self.old in
             Becomes (spec.turned heads.chains s.frames s.found) result self.new }
     {
         match self.frames.last() {
-            Some(frame) if frame.head.chains() => self.turn(alloc, at),
-            _ => Err(Refusal::Syntax(Reason::NotOpen, at)),
+            Some(frame) if frame.head.chains() => self.turn(alloc, tag),
+            _ => Err(refused(tag, Reason::NotOpen)),
         }
     }
 
-    fn turn(&mut self, alloc: Global, at: Span) -> Result<(), Refusal>
+    fn turn(&mut self, alloc: Global, tag: &[Token<'_>]) -> Result<(), Refusal>
         ensures { let s = progress_of self.old in
             Becomes (spec.turned (λ head. true) s.frames s.found) result self.new }
     {
         let Some(mut frame) = self.frames.pop() else {
-            return Err(Refusal::Syntax(Reason::NotOpen, at));
+            return Err(refused(tag, Reason::NotOpen));
         };
         if frame.body.is_some() {
-            return Err(Refusal::Syntax(Reason::NotOpen, at));
+            return Err(refused(tag, Reason::NotOpen));
         }
         self.in_loop = frame.in_loop;
         frame.body = Some(replace(&mut self.found, Vec::new(alloc)));
@@ -186,17 +192,17 @@ impl<'s> Progress<'s> {
     }
 
     /// The end of what is open.
-    pub fn shut(&mut self, alloc: Global, tokens: &[Token<'_>], at: Span) -> Result<(), Refusal>
+    pub fn shut(&mut self, alloc: Global, tag: &[Token<'_>]) -> Result<(), Refusal>
         ensures { let s = progress_of self.old in
-            Becomes (spec.shut (tokens_of tokens.now) s.frames s.found) result self.new }
+            Becomes (spec.shut (tokens_of tag.now) s.frames s.found) result self.new }
     {
         match self.frames.last() {
-            Some(frame) if frame.head.is_ended_by(tokens) => self.close(alloc, at),
-            _ => Err(Refusal::Syntax(Reason::NoStatement, at)),
+            Some(frame) if frame.head.is_ended_by(tag) => self.close(alloc, tag),
+            _ => Err(refused(tag, Reason::NoStatement)),
         }
     }
 
-    fn close(&mut self, alloc: Global, at: Span) -> Result<(), Refusal>
+    fn close(&mut self, alloc: Global, tag: &[Token<'_>]) -> Result<(), Refusal>
         ensures { let s = progress_of self.old in
             Becomes (spec.closed s.frames s.found) result self.new }
     {
@@ -212,7 +218,7 @@ impl<'s> Progress<'s> {
                 return Ok(());
             }
         }
-        Err(Refusal::Syntax(Reason::NotOpen, at))
+        Err(refused(tag, Reason::NotOpen))
     }
 
     /// The nodes, where the text ends here. It takes no memory.

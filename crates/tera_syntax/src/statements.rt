@@ -1,64 +1,114 @@
 // What a piece of the text adds to what was read.
+ghost use Rattle.std.specs.Prelude.{◌≡◌};
 ghost use Rattle.tera_syntax.specs.Reader as spec;
-ghost use Rattle.tera_syntax.specs.View.{Becomes, progress_of, tag_of};
+ghost use Rattle.tera_syntax.specs.View.{Becomes, heading_of, progress_of};
+ghost use Rattle.tera_tokens.specs.Answers.{Answers};
 ghost use Rattle.tera_tokens.specs.Found.{piece_of};
+ghost use Rattle.tera_tokens.specs.Input.{begin, next};
+ghost use Rattle.tera_tokens.specs.Takes.{input};
 ghost use Rattle.tera_tokens.specs.Token.{tokens_of};
+ghost use Rattle.tera_tree.specs.View.{expr_of, node_of};
 
-use crate::progress::Progress;
-use crate::tags::{Tag, read_tag, whole};
+use crate::heads::{Head, first};
+use crate::progress::{Progress, refused};
+use crate::words::named;
 use std::alloc::Global;
 use tera_errors::Span;
-use tera_tokens::cut::Piece;
-use tera_tokens::input::Tokens;
-use tera_tokens::refusal::Refusal;
-use tera_tokens::token::Token;
-use tera_tree::Node;
+use tera_expressions::expressions::expr;
+use tera_expressions::headings::{LoopNames, names};
+use tera_tokens::cut::{Piece, is_alone};
+use tera_tokens::input::{Tokens, same};
+use tera_tokens::refusal::{Reason, Refusal};
+use tera_tokens::token::{Kind, Token};
+use tera_tree::{Expression, Heading, Node};
 
-/// Where the tag's first token stands.
-fn place(tokens: &[Token<'_>]) -> Span {
-    match tokens.first() {
-        Some(token) => token.span,
-        None => Span { start: 0, end: 0 },
+/// An expression that is all from here to the end of the tag.
+#[tactic(auto, unfolding(crate::specs::Reader::whole))]
+pub(crate) fn whole<'s>(
+    alloc: Global,
+    tokens: &mut Tokens<'_, 's>,
+    limit: usize,
+) -> Result<Box<Expression<'s>>, Refusal>
+    ensures { Answers (λ b. expr_of b.value) (spec.whole limit (input tokens.old)) result }
+{
+    let value = expr(alloc, tokens, limit, 0)?;
+    if same(Kind::End, tokens.kind()) {
+        Ok(value.expression)
+    } else {
+        Err(tokens.refuse(Reason::TagGoesOn))
     }
 }
 
-/// What a tag adds.
-fn take<'s>(
-    progress: &mut Progress<'s>,
+/// What stands behind `for`.
+fn heading<'s>(
     alloc: Global,
-    tokens: &[Token<'s>],
-    tag: Tag<'s>,
-) -> Result<(), Refusal>
-    ensures { let s = progress_of progress.old in
-        let meant = spec.taken 200 s (tokens_of tokens.now) (tag_of tag.entry) in
-        Becomes meant result progress.new }
+    tokens: &mut Tokens<'_, 's>,
+    limit: usize,
+) -> Result<Box<Heading<'s>>, Refusal>
+    ensures { Answers (λ b. heading_of b.value) (spec.looping limit (input tokens.old)) result }
 {
-    let at = place(tokens);
-    match tag {
-        Tag::Single(node) => progress.put(node, at),
-        Tag::Opening(head) => progress.open(alloc, false, head, at),
-        Tag::GoingOn(head) => {
-            progress.go_on(alloc, at)?;
-            progress.open(alloc, true, head, at)
-        }
-        Tag::Turning => progress.split(alloc, at),
-        Tag::Closing => progress.shut(alloc, tokens, at),
+    let LoopNames { key, name } = names(tokens)?;
+    let target = Box::into_inner(whole(alloc, tokens, limit)?);
+    Ok(Box::new(alloc, Heading { key, name, target })?)
+}
+
+/// What stands behind the first token of a tag.
+fn behind<'t, 's>(tag: &'t [Token<'s>], in_loop: bool) -> Tokens<'t, 's>
+    ensures { input result ≡ next (begin in_loop (tokens_of tag.now)) }
+{
+    let mut ahead = Tokens::begin(tag, in_loop);
+    ahead.take();
+    ahead
+}
+
+/// Puts a node behind those that were read.
+pub(crate) fn put<'s>(
+    progress: &mut Progress<'s>,
+    node: Node<'s>,
+    tag: &[Token<'_>],
+) -> Result<(), Refusal>
+    ensures { Becomes (spec.put 200 (progress_of progress.old) (node_of node.entry)) result progress.new }
+{
+    if !progress.has_room() {
+        return Err(refused(tag, Reason::TooDeep));
     }
+    progress.add(node)
 }
 
 /// A statement, or a tag that belongs to one.
-#[tactic(auto, unfolding(crate::specs::Reader::statement))]
+#[tactic(auto, unfolding(crate::specs::Reader::statement, crate::specs::Reader::tag))]
 fn statement<'s>(
     progress: &mut Progress<'s>,
     alloc: Global,
-    tokens: &[Token<'s>],
+    tag: &[Token<'s>],
 ) -> Result<(), Refusal>
-    ensures { let meant = spec.statement 200 (progress_of progress.old) (tokens_of tokens.now) in
+    ensures { let meant = spec.statement 200 (progress_of progress.old) (tokens_of tag.now) in
         Becomes meant result progress.new }
 {
-    let room = progress.room();
-    let tag = read_tag(alloc, tokens, room, progress.in_loop, progress.around())?;
-    take(progress, alloc, tokens, tag)
+    match first(tag) {
+        Kind::If => {
+            let mut ahead = behind(tag, progress.in_loop);
+            let condition = whole(alloc, &mut ahead, progress.room())?;
+            progress.open(alloc, false, Head::If(condition), tag)
+        }
+        Kind::For => {
+            let mut ahead = behind(tag, progress.in_loop);
+            let heading = heading(alloc, &mut ahead, progress.room())?;
+            progress.open(alloc, false, Head::For(heading), tag)
+        }
+        Kind::Elif => {
+            let mut ahead = behind(tag, progress.around());
+            let condition = whole(alloc, &mut ahead, progress.room())?;
+            progress.go_on(alloc, tag)?;
+            progress.open(alloc, true, Head::If(condition), tag)
+        }
+        Kind::Else if is_alone("else", tag) => progress.split(alloc, tag),
+        Kind::Name => {
+            let word = Tokens::begin(tag, false).text();
+            named(progress, alloc, tag, word)
+        }
+        _ => Err(refused(tag, Reason::NoStatement)),
+    }
 }
 
 fn put_words<'s>(progress: &mut Progress<'s>, text: &'s str, span: Span) -> Result<(), Refusal>
@@ -68,7 +118,21 @@ fn put_words<'s>(progress: &mut Progress<'s>, text: &'s str, span: Span) -> Resu
     if text.is_empty() {
         return Ok(());
     }
-    progress.put(Node::Content { text, span }, span)
+    if !progress.has_room() {
+        return Err(Refusal::Syntax(Reason::TooDeep, span));
+    }
+    progress.add(Node::Content { text, span })
+}
+
+/// `{{ value }}`
+fn print<'s>(progress: &mut Progress<'s>, alloc: Global, tag: &[Token<'s>]) -> Result<(), Refusal>
+    ensures { let s = progress_of progress.old in
+        let value = spec.whole (spec.room 200 s) (begin s.in_loop (tokens_of tag.now)) in
+        Becomes (spec.printed 200 s value) result progress.new }
+{
+    let mut ahead = Tokens::begin(tag, progress.in_loop);
+    let value = whole(alloc, &mut ahead, progress.room())?;
+    progress.add(Node::Print { value })
 }
 
 /// Takes a piece more to what was read. The tokens are those of a tag.
@@ -78,17 +142,13 @@ pub(crate) fn step<'s>(
     piece: Piece<'s>,
     tokens: &[Token<'s>],
 ) -> Result<(), Refusal>
-    ensures { let meant = spec.step 200 (progress_of progress.old) (piece_of tokens.now piece.entry) in
-        Becomes meant result progress.new }
+    ensures { let meant = piece_of tokens.now piece.entry in
+        Becomes (spec.step 200 (progress_of progress.old) meant) result progress.new }
 {
     match piece {
         Piece::Words(text, span) => put_words(progress, text, span),
         Piece::Comment => Ok(()),
-        Piece::Variable => {
-            let mut ahead = Tokens::begin(tokens, progress.in_loop);
-            let value = whole(alloc, &mut ahead, progress.room())?;
-            progress.put(Node::Print { value }, place(tokens))
-        }
+        Piece::Variable => print(progress, alloc, tokens),
         Piece::Block => statement(progress, alloc, tokens),
     }
 }

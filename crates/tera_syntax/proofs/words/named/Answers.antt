@@ -1,0 +1,15 @@
+use Rattle.std.proofs.Common.{◌≡◌, false, sym, subst}
+use Rattle.std.specs.Prelude.{option_and_then}
+use Rattle.tera_tokens.specs.Token.{tokens_of}
+use Rattle.tera_syntax.specs.Reader.{room, taken}
+use Rattle.tera_syntax.specs.View.{Becomes, progress_of}
+use Rattle.tera_syntax.proofs.Begun.{hint, none_begun}
+use Rattle.tera_syntax.proofs.words.named.Goals as goal
+
+pub returns-else-may_begin : goal.returns-else-may_begin
+returns-else-may_begin c =
+    let s = progress_of c.args.progress.now in
+    let tokens = tokens_of c.args.tag.now in
+    let h : hint c.args.word.now ≡ false = cc in
+    let n = none_begun (room 200 s) s.in_loop tokens c.args.word.now h in
+    subst (λ o. Becomes (option_and_then (taken 200 s tokens) o) c.shut.result c.shut.new.self) (sym n) c.shut.ensures

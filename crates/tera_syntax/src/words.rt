@@ -1,0 +1,131 @@
+// Statements that begin with a word which is not reserved, and ends.
+ghost use Rattle.std.specs.Prelude.{◌≡◌, List, get_or, option_and_then};
+ghost use Rattle.tera_syntax.specs.Reader as spec;
+ghost use Rattle.tera_syntax.specs.View.{Becomes, progress_of};
+ghost use Rattle.tera_tokens.specs.Takes.{input};
+ghost use Rattle.tera_tokens.specs.Token.{Token, tokens_of};
+ghost use Rattle.tera_tree.specs.View.{node_of};
+
+use crate::heads::Head;
+use crate::progress::{Progress, refused};
+use crate::statements::{put, whole};
+use std::alloc::Global;
+use tera_tokens::cut::is_alone;
+use tera_tokens::input::{Tokens, same};
+use tera_tokens::refusal::{Reason, Refusal};
+use tera_tokens::token::{Kind, Token};
+use tera_tree::Node;
+
+/// Behind `set` or `set_global`.
+fn set<'s>(
+    progress: &mut Progress<'s>,
+    alloc: Global,
+    tag: &[Token<'_>],
+    ahead: &mut Tokens<'_, 's>,
+    is_global: bool,
+) -> Result<(), Refusal>
+    ensures { let s = progress_of progress.old in
+        let meant = spec.setting (spec.room 200 s) is_global (input ahead.old) in
+        Becomes (option_and_then (spec.taken 200 s (tokens_of tag.now)) meant) result progress.new }
+{
+    if !same(Kind::Name, ahead.kind()) {
+        return Err(ahead.refuse(Reason::Expected(Kind::Name)));
+    }
+    let name = ahead.text();
+    ahead.take();
+    match ahead.kind() {
+        Kind::Assign => {
+            ahead.take();
+            let value = whole(alloc, ahead, progress.room())?;
+            put(progress, Node::set(name, value, is_global), tag)
+        }
+        Kind::End => progress.open(alloc, false, Head::Set(name, is_global), tag),
+        _ => Err(ahead.refuse(Reason::Expected(Kind::Assign))),
+    }
+}
+
+/// A tag that is one word and leaves a turn of the loop that it stands in.
+fn leave<'s>(
+    progress: &mut Progress<'s>,
+    tag: &[Token<'_>],
+    word: &str,
+    node: Node<'s>,
+) -> Result<(), Refusal>
+    ensures { let s = progress_of progress.old in
+        let meant = spec.leaving s.in_loop word.now (tokens_of tag.now) (node_of node.entry) in
+        Becomes (option_and_then (spec.taken 200 s (tokens_of tag.now)) meant) result progress.new }
+{
+    if !progress.in_loop {
+        return Err(refused(tag, Reason::NotOpen));
+    }
+    if !is_alone(word, tag) {
+        return Err(refused(tag, Reason::TagGoesOn));
+    }
+    put(progress, node, tag)
+}
+
+/// Whether a word that begins a statement begins so and is this long. Ends are told from these by that.
+#[inline]
+fn may_begin(first: u8, size: usize) -> bool
+    ensures { result ≡ spec.may_begin first size }
+{
+    match size {
+        3 => first == b's',
+        5 => first == b'b',
+        8 => first == b'c',
+        10 => first == b's',
+        _ => false,
+    }
+}
+
+/// The first byte of a text: 0 where it is empty.
+fn first_byte(text: &str) -> u8
+    ensures { result ≡ get_or text.now 0 0 }
+{
+    match text.as_bytes().first() {
+        Some(b) => *b,
+        None => 0,
+    }
+}
+
+/// A tag that begins with this word.
+pub(crate) fn named<'s>(
+    progress: &mut Progress<'s>,
+    alloc: Global,
+    tag: &[Token<'s>],
+    word: &str,
+) -> Result<(), Refusal>
+    ensures { let s = progress_of progress.old in
+        let meant = spec.named (spec.room 200 s) s.in_loop (tokens_of tag.now) word.now in
+        Becomes (option_and_then (spec.taken 200 s (tokens_of tag.now)) meant) result progress.new }
+{
+    if may_begin(first_byte(word), word.len()) {
+        begun(progress, alloc, tag, word)
+    } else {
+        progress.shut(alloc, tag)
+    }
+}
+
+/// The same by comparing the word with each that begins a statement.
+#[tactic(auto, unfolding(crate::specs::Reader::named))]
+fn begun<'s>(
+    progress: &mut Progress<'s>,
+    alloc: Global,
+    tag: &[Token<'s>],
+    word: &str,
+) -> Result<(), Refusal>
+    ensures { let s = progress_of progress.old in
+        let meant = spec.named (spec.room 200 s) s.in_loop (tokens_of tag.now) word.now in
+        Becomes (option_and_then (spec.taken 200 s (tokens_of tag.now)) meant) result progress.new }
+{
+    match word {
+        "set" | "set_global" => {
+            let mut ahead = Tokens::begin(tag, progress.in_loop);
+            ahead.take();
+            set(progress, alloc, tag, &mut ahead, word != "set")
+        }
+        "break" => leave(progress, tag, "break", Node::Break),
+        "continue" => leave(progress, tag, "continue", Node::Continue),
+        _ => progress.shut(alloc, tag),
+    }
+}

@@ -6,3 +6,4 @@ pub mod Passages
 pub mod Devices
 pub mod Sessions
 pub mod Programs
+pub mod Numbers

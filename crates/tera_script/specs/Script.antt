@@ -1,9 +1,9 @@
 -- The commands that a script spells.
 use Rattle.std.specs.Prelude.{ℕ, zero, suc, ◌+◌, ℤ, Bool, true, false, not, ◌||◌, ◌&&◌, ◌==◌, codes, List, [], ◌∷◌, length, drop, Option, Some, None, if◌then◌else◌}
-use Rattle.std.specs.Char.{is_whitespace, is_ascii_digit}
+use Rattle.std.specs.Char.{is_whitespace}
 use Rattle.std.specs.List.{list_all}
 use Rattle.std.specs.Option.{option_map}
-use Rattle.std.specs.Str.{bytes_eq, chars, is_utf8}
+use Rattle.std.specs.Str.{all_ascii_digits, bytes_eq, chars, is_utf8}
 use Rattle.std.specs.Str.Parse.{starts_with_minus, signed_digits_value}
 use Rattle.tera_errors.specs.Site.{Name, Text}
 use Rattle.tera_values.specs.Number.{in_range}
@@ -49,11 +49,14 @@ str_opening_of (Some field) = option_map str_opening (switch field)
 -- one digit or more
 abbrev pub is_digits : Text → Bool
 is_digits [] = false
-is_digits (byte ∷ bytes) = list_all is_ascii_digit (byte ∷ bytes)
+is_digits (byte ∷ bytes) = all_ascii_digits (byte ∷ bytes)
+
+abbrev pub unsigned : Text → Text
+unsigned field = if starts_with_minus field then drop 1 field else field
 
 -- digits, with a minus sign in front at will
 abbrev pub is_integer : Text → Bool
-is_integer field = is_digits (if starts_with_minus field then drop 1 field else field)
+is_integer field = is_digits (unsigned field)
 
 -- the number that they write, where it fits 128 bits
 abbrev pub integer : Text → Option ℤ

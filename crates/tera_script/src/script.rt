@@ -1,9 +1,9 @@
 // Commands from the text of a script.
-ghost use Rattle.std.specs.Prelude.{◌≡◌, MatchOption, IfOk, option_map};
+ghost use Rattle.std.specs.Prelude.{◌≡◌, ◌==◌, MatchOption, IfOk, option_map, slice_index};
 ghost use Rattle.tera_script.specs.Act.{act_of};
 ghost use Rattle.tera_script.specs.Found.{IsCommand, IsNone};
 ghost use Rattle.tera_script.specs.Lines.{lines_of};
-ghost use Rattle.tera_script.specs.Script.{is_plain, head_of, head_named, only_field, switch, is_integer, integer, int_of, with_body, script_of_lines, script_of};
+ghost use Rattle.tera_script.specs.Script.{is_plain, head_of, head_named, only_field, switch, integer, int_of, with_body, script_of_lines, script_of};
 ghost use Rattle.tera_script.specs.Seen.{head_seen, plain_opening, script_seen, text_seen};
 ghost use Rattle.tera_script.specs.Words.{words_after};
 
@@ -62,22 +62,20 @@ fn switch(field: &str) -> Option<bool>
     }
 }
 
-fn is_integer(field: &str) -> bool
-    ensures { result ≡ is_integer field.now }
+fn has_plus(field: &str) -> bool
+    ensures { result ≡ (slice_index field.now 0 == 43) }
 {
-    let bytes = field.as_bytes();
-    let digits = match bytes.first() {
-        Some(b'-') => &bytes[1..],
-        _ => bytes,
-    };
-    !digits.is_empty() && digits.iter().all(|b| b.is_ascii_digit())
+    match field.as_bytes().first() {
+        Some(byte) => *byte == b'+',
+        None => false,
+    }
 }
 
-// A plus sign in front is no part of a number.
+// A plus sign in front, which std reads too, is no part of a number.
 fn integer(field: &str) -> Option<i128>
     ensures { result ≡ integer field.now }
 {
-    if !is_integer(field) {
+    if has_plus(field) {
         return None;
     }
     match field.parse::<i128>() {

@@ -6,9 +6,21 @@ use tera::{Context, Tera, Value};
 fn is_read(alloc: Global, engine: &mut Tera, context: &mut Context) -> bool {
     renders(engine, context, true, "{{ name or 'none' }}", "none")
         && put(engine.global_context(), "name", Value::string(alloc, "<"))
-        && renders(engine, context, true, "{{ name }}{{ __tera_context.name }}", "&lt;&lt;")
+        && renders(
+            engine,
+            context,
+            true,
+            "{{ name }}{{ __tera_context.name }}",
+            "&lt;&lt;",
+        )
         && put(engine.global_context(), "name", Value::string(alloc, "a"))
-        && renders(engine, context, true, "{% set name = name ~ 'b' %}{{ name }}", "ab")
+        && renders(
+            engine,
+            context,
+            true,
+            "{% set name = name ~ 'b' %}{{ name }}",
+            "ab",
+        )
         && renders(engine, context, true, "{{ name }}", "a")
         && put(context, "name", Value::string(alloc, "own"))
         && renders(engine, context, true, "{{ name }}", "own")

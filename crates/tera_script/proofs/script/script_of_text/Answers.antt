@@ -1,10 +1,10 @@
-use Rattle.std.proofs.Common.{◌<◌, length, sym, ap, ◌∙◌, arith, rules, ◌∷◌, [], ◌+◌}
+use Rattle.std.proofs.Common.{◌<◌, length, sym, ap, ◌∙◌, arith, rules, ◌∷◌, [], ◌+◌, Some, append-nil}
 use Rattle.std.proofs.lemmas.List.{map-append}
 use Rattle.std.proofs.lemmas.Bool.Decides.{nat_tests}
 use Rattle.tera_script.specs.Lines.{lines_of}
 use Rattle.tera_script.specs.Act.{acts_of, act_of}
-use Rattle.tera_script.specs.Script.{script_of_lines}
-use Rattle.tera_script.proofs.Scripts.{onto, onto-command}
+use Rattle.tera_script.specs.Script.{Script, script_of_lines}
+use Rattle.tera_script.proofs.Scripts.{onto, onto-command, script_of_lines-line}
 use Rattle.tera_script.proofs.script.script_of_text.Goals as goal
 
 pub loop-line-preserved : goal.loop-line-preserved
@@ -22,3 +22,15 @@ loop-line-preserved c =
           (sym (ap acts_of c.in_ok-push.ensures.items ∙ map-append act_of c.loop-line.commands.items (next.command ∷ [])));
       room = omega (arith, c.loop-line.invariant.room, c.in-Some.ensures.shorter, found.room);
     }
+
+-- a line that is no command ends the script
+pub returns-in_default-command_at : goal.returns-in_default-command_at
+returns-in_default-command_at c =
+    let some : 0 < length c.in-Some.line.now = grind (arith, nat_tests, c.is_empty.ensures, c.if-is_empty.false) in
+    let acts = acts_of c.loop-line.commands.items in
+    let number = c.loop-line.number in
+    let after = lines_of c.in-Some.after.now in
+    sym (c.loop-line.invariant.read
+    ∙ ap (λ lines. onto acts (script_of_lines number 0 lines)) c.in-Some.ensures.lines
+    ∙ ap (onto acts) (script_of_lines-line number c.in-Some.line.now after some ∙ c.in_default-command_at.ensures number (λ taken. script_of_lines (number + 1) taken after))
+    ∙ ap (λ done. let s : Script = record { acts = done; unreadable = Some number } in s) (append-nil acts))

@@ -3,12 +3,12 @@ use crate::cases::put;
 use std::alloc::Global;
 use tera::{Context, Tera, Value};
 
-const MANY: i128 = 100_000;
+const MANY: usize = 100_000;
 
 fn numbers(alloc: Global) -> Option<Value> {
     let mut items = Vec::new(alloc);
     for number in 0..MANY {
-        if items.push(Value::from_int(number)).is_err() {
+        if items.push(Value::from_int(number as i128)).is_err() {
             return None;
         }
     }

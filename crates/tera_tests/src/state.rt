@@ -52,6 +52,10 @@ fn finds(state: &State<'_>, look: Look) -> bool {
     }
 }
 
+fn finds_all(state: &State<'_>) -> bool {
+    LOOKS.iter().all(|look| finds(state, *look))
+}
+
 #[test]
 fn names_are_looked_up(rt: HostRuntime) {
     let alloc = rt.alloc();
@@ -61,8 +65,7 @@ fn names_are_looked_up(rt: HostRuntime) {
         None => Context::new(alloc),
     };
     let state = State::new(&context);
-    let holds = LOOKS.iter().all(|look| finds(&state, *look));
-    assert!(rt; holds);
+    assert!(rt; finds_all(&state));
 }
 
 fn value_of(alloc: Global, row: Row) -> Option<Value> {

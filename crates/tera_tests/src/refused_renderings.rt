@@ -4,21 +4,9 @@ use crate::memory::{Tried, refusals, with_budget};
 use std::alloc::Global;
 use tera::{Context, Error, ErrorKind, Tera, Value};
 
-/// A text, and what it renders to.
-#[derive(Clone, Copy)]
-struct Case(&'static str, &'static str);
+const INPUT: &str = "Hello {{ name }}!{# not this #}";
 
-static CASES: [Case; 3] = [
-    Case("Hello {{ name }}!{# not this #}", "Hello &lt;world&gt;!"),
-    Case(
-        "{% for k, v in {'a': name} %}{% set n = [x ~ k for x in v] %}{{ loop.index }}{{ n[0] }}{% endfor %}",
-        "1&lt;a",
-    ),
-    Case(
-        "{% for c in name %}{% set_global n %}{{ c }}{% if loop.last %}{% break %}{% endif %}{% endset %}{% endfor %}{{ n }}",
-        "d",
-    ),
-];
+const WANT: &str = "Hello &lt;world&gt;!";
 
 const BEFORE: &[u8] = b"before ";
 
@@ -37,15 +25,9 @@ fn refused(error: &Error, is_unchanged: bool) -> Tried {
     }
 }
 
-fn try_rendering(
-    alloc: Global,
-    engine: &Tera,
-    context: &Context,
-    case: Case,
-    budget: usize,
-) -> Tried {
-    match with_budget(alloc, budget, || engine.render_str(case.0, context, true)) {
-        Some(Ok(text)) => answered(text.as_str() == case.1),
+fn try_rendering(alloc: Global, engine: &Tera, context: &Context, budget: usize) -> Tried {
+    match with_budget(alloc, budget, || engine.render_str(INPUT, context, true)) {
+        Some(Ok(text)) => answered(text.as_str() == WANT),
         Some(Err(error)) => refused(&error, true),
         None => Tried::Wrong,
     }
@@ -55,45 +37,36 @@ fn try_appending_to(
     alloc: Global,
     engine: &Tera,
     context: &Context,
-    case: Case,
     budget: usize,
     out: &mut Vec<u8>,
 ) -> Tried {
     match with_budget(
         alloc,
         budget,
-        || engine.render_str_to(case.0, context, true, out),
+        || engine.render_str_to(INPUT, context, true, out),
     ) {
-        Some(Ok(())) => answered(out.strip_prefix(BEFORE) == Some(case.1.as_bytes())),
+        Some(Ok(())) => answered(out.strip_prefix(BEFORE) == Some(WANT.as_bytes())),
         Some(Err(error)) => refused(&error, out.as_slice() == BEFORE),
         None => Tried::Wrong,
     }
 }
 
-fn try_appending(
-    alloc: Global,
-    engine: &Tera,
-    context: &Context,
-    case: Case,
-    budget: usize,
-) -> Tried {
+fn try_appending(alloc: Global, engine: &Tera, context: &Context, budget: usize) -> Tried {
     match BEFORE.to_vec(alloc) {
-        Ok(mut out) => try_appending_to(alloc, engine, context, case, budget, &mut out),
+        Ok(mut out) => try_appending_to(alloc, engine, context, budget, &mut out),
         Err(_) => Tried::Wrong,
     }
 }
 
-fn is_refused_in_turn(alloc: Global, engine: &Tera, context: &Context, case: Case) -> bool {
-    refusals(|budget| try_rendering(alloc, engine, context, case, budget)) > Some(0)
-        && refusals(|budget| try_appending(alloc, engine, context, case, budget)) > Some(0)
+fn are_refused_in_turn(alloc: Global, engine: &Tera, context: &Context) -> bool {
+    refusals(|budget| try_rendering(alloc, engine, context, budget)) > Some(0)
+        && refusals(|budget| try_appending(alloc, engine, context, budget)) > Some(0)
 }
 
 fn greets(alloc: Global, engine: &Tera) -> bool {
     let mut context = Context::new(alloc);
     put(&mut context, "name", Value::string(alloc, "<world>"))
-        && CASES
-            .iter()
-            .all(|case| is_refused_in_turn(alloc, engine, &context, *case))
+        && are_refused_in_turn(alloc, engine, &context)
 }
 
 fn is_greeted(alloc: Global) -> bool {

@@ -7,9 +7,13 @@ mod rendering;
 pub use engine::Tera;
 pub use tera_code::{Chunk, Compiler, Instruction, Steps};
 pub use tera_machine::VirtualMachine;
-pub use tera_state::State;
+pub use tera_state::{ForLoop, ForLoopIterator, State};
 pub use tera_syntax::parse;
-pub use tera_tree::{BinaryOperator, Delimiters, Expression, Node, ParserOutput};
+pub use tera_tree::{
+    BinaryOperator, Bounds, Delimiters, Entry, Expression, Heading, Item, LiteralKey, Node,
+    ParserOutput, Quoted,
+};
 pub use tera_values::{
-    Context, Error, ErrorKind, ReportError, Span, TeraResult, Value, escape_html,
+    ArgFromValue, Context, Error, ErrorKind, Key, Kwargs, Map, ReportError, Span, StringInput,
+    TeraResult, Value, ValueKind, escape_html, number,
 };

@@ -1,0 +1,62 @@
+// A page of two users, and a template with a fault. docs/USING.md explains it.
+#![tactic(auto)]
+
+use std::alloc::Global;
+use std::io;
+use std::io::Write;
+use tera::{Context, Error, ErrorKind, Key, Map, Tera, TeraResult, Value};
+
+/// A user, as a template reads it.
+fn user(alloc: Global, name: &str, age: i128) -> TeraResult<Value> {
+    let mut map = Map::new(alloc);
+    map.insert(Key::Text(String::from_str(alloc, "name")?), Value::string(alloc, name)?)?;
+    map.insert(Key::Text(String::from_str(alloc, "age")?), Value::from_int(age))?;
+    Value::map(map).shared(alloc)
+}
+
+fn context(alloc: Global) -> TeraResult<Context> {
+    let mut users = Vec::new(alloc);
+    users.push(user(alloc, "Ada", 36)?)?;
+    users.push(user(alloc, "Tom & Jo", 7)?)?;
+    let mut context = Context::new(alloc);
+    context.insert("users", Value::array(users).shared(alloc)?)?;
+    Ok(context)
+}
+
+/// An engine with two templates.
+fn engine(alloc: Global) -> TeraResult<Tera> {
+    let mut engine = Tera::new(alloc)?;
+    let page = "{% for user in users %}<li>{{ user.name }}: {{ user.age }}</li>\n{% endfor %}";
+    engine.add_raw_templates(&[("page.html", page), ("wrong.html", "{{ users.0 + 1 }}")])?;
+    Ok(engine)
+}
+
+/// The text, or what is wrong and where.
+fn print(rt: &HostRuntime, answer: TeraResult<String>) -> io::Result<()> {
+    match answer {
+        Ok(text) => rt.stdout().write_all(text.as_str().as_bytes()),
+        Err(error) => explain(rt, &error),
+    }
+}
+
+fn explain(rt: &HostRuntime, error: &Error) -> io::Result<()> {
+    match error.kind() {
+        ErrorKind::RenderingError(report) => {
+            let (file, span) = (report.file(), report.span());
+            let (start, end) = (span.start, span.end);
+            println!(rt; "{file}, bytes {start} to {end}: it can't be rendered")
+        }
+        ErrorKind::TemplateNotFound => println!(rt; "there is no such template"),
+        ErrorKind::OutOfMemory => println!(rt; "out of memory"),
+        _ => println!(rt; "it was refused"),
+    }
+}
+
+fn main(rt: HostRuntime) -> io::Result<()> {
+    let (Ok(engine), Ok(context)) = (engine(rt.alloc()), context(rt.alloc())) else {
+        return println!(rt; "out of memory");
+    };
+    print(&rt, engine.render("page.html", &context))?;
+    print(&rt, engine.render("wrong.html", &context))?;
+    print(&rt, engine.render("none.html", &context))
+}

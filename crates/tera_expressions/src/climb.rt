@@ -17,7 +17,8 @@ use tera_tokens::token::{Kind, Token};
 use tera_tree::BinaryOperator;
 
 impl<'s, F: Fn(Global, &mut Tokens<'_, 's>, usize, u8) -> Result<Deep<'s>, Refusal>> Reader<F> {
-    /// An expression of this level or above.
+    /// An expression of this level or above. Not inlined, so that a reading of a lone operand keeps a small frame.
+    #[inline(never)]
     #[tactic(auto, unfolding(crate::specs::Expressions::level, crate::specs::Expressions::level_with))]
     pub(crate) fn level(&self, tokens: &mut Tokens<'_, 's>, floor: u8) -> Result<Deep<'s>, Refusal>
         requires { Nests self.now.below (F.pre self.now.expr) (F.post self.now.expr) }

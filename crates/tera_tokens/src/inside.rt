@@ -34,6 +34,7 @@ pub(crate) fn is_hyphen(text: &[u8]) -> bool
     }
 }
 
+#[inline]
 pub(crate) fn closing(end: &[u8], text: &[u8]) -> Option<Ending>
     ensures { result ≡ spec.closing end.now text.now }
 {

@@ -17,11 +17,11 @@ pub(crate) struct Ending {
     pub trims: bool,
 }
 
-/// What follows a tag.
+/// What follows a tag. The flag stands first, as the kind of a refusal does, so that a result of either is moved by words.
 #[derive(Drop)]
 pub(crate) struct Inside<'a> {
-    pub next: usize,
     pub trims: bool,
+    pub next: usize,
     pub rest: &'a str,
 }
 

@@ -61,6 +61,7 @@ impl<'s, F: Fn(Global, &mut Tokens<'_, 's>, usize, u8) -> Result<Deep<'s>, Refus
     }
 
     /// An integer.
+    #[inline(always)]
     pub(crate) fn int(&self, tokens: &mut Tokens<'_, 's>) -> Result<Deep<'s>, Refusal>
         ensures { Takes deep_of (spec.head_by self.now.limit (spec.expr self.now.below) Kind.Int (input tokens.old)) result tokens.new }
     {
@@ -91,6 +92,7 @@ impl<'s, F: Fn(Global, &mut Tokens<'_, 's>, usize, u8) -> Result<Deep<'s>, Refus
     }
 
     /// A name.
+    #[inline(always)]
     pub(crate) fn name(&self, tokens: &mut Tokens<'_, 's>) -> Result<Deep<'s>, Refusal>
         ensures { Takes deep_of (spec.head_by self.now.limit (spec.expr self.now.below) Kind.Name (input tokens.old)) result tokens.new }
     {

@@ -60,6 +60,7 @@ pub(crate) fn gives(kind: Kind) -> u8
 }
 
 /// Whether an expression of the level `have` goes on with this token, to the level `floor` or above.
+#[inline(always)]
 pub(crate) fn goes_on(floor: u8, have: u8, kind: Kind) -> bool
     ensures { result ≡ spec.goes_on floor have kind }
 {

@@ -9,3 +9,4 @@ pub mod Forms
 pub mod Turning
 pub mod Complete
 pub mod Inside
+pub mod Alone

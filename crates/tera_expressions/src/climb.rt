@@ -8,13 +8,13 @@ ghost use Rattle.tera_expressions.specs.Parts.{Nests, deep_of};
 
 use crate::expressions::Deep;
 use crate::levels::{begins, gives, goes_on};
-use crate::operators::Infix;
+use crate::operators::Infix::{self, Binary};
 use crate::reader::Reader;
 use std::alloc::Global;
 use tera_tokens::input::{Tokens, same, start_at};
 use tera_tokens::refusal::{Reason, Refusal};
 use tera_tokens::token::{Kind, Token};
-use tera_tree::BinaryOperator;
+use tera_tree::BinaryOperator as Operator;
 
 impl<'s, F: Fn(Global, &mut Tokens<'_, 's>, usize, u8) -> Result<Deep<'s>, Refusal>> Reader<F> {
     /// An expression of this level or above.
@@ -73,7 +73,7 @@ impl<'s, F: Fn(Global, &mut Tokens<'_, 's>, usize, u8) -> Result<Deep<'s>, Refus
     }
 
     /// What the next token goes on to.
-    #[tactic(auto, unfolding(crate::specs::Expressions::operation))]
+    #[tactic(auto, unfolding(crate::specs::Expressions::operation, crate::specs::Expressions::applied))]
     pub(crate) fn operation(
         &self,
         tokens: &mut Tokens<'_, 's>,
@@ -92,23 +92,27 @@ impl<'s, F: Fn(Global, &mut Tokens<'_, 's>, usize, u8) -> Result<Deep<'s>, Refus
             Kind::OptionalBracket => self.subscript(tokens, true, start, x),
             Kind::Or => self.infixed(tokens, 2, Infix::Or, start, x),
             Kind::And => self.infixed(tokens, 3, Infix::And, start, x),
-            Kind::Equal => { self.binary(tokens, 5, BinaryOperator::Equal, start, x) }
-            Kind::NotEqual => { self.binary(tokens, 5, BinaryOperator::NotEqual, start, x) }
-            Kind::Less => self.binary(tokens, 5, BinaryOperator::Less, start, x),
-            Kind::Greater => { self.binary(tokens, 5, BinaryOperator::Greater, start, x) }
-            Kind::LessOrEqual => { self.binary(tokens, 5, BinaryOperator::LessOrEqual, start, x) }
-            Kind::GreaterOrEqual => {
-                self.binary(tokens, 5, BinaryOperator::GreaterOrEqual, start, x)
-            }
-            Kind::In => self.binary(tokens, 5, BinaryOperator::In, start, x),
-            Kind::Tilde => self.binary(tokens, 6, BinaryOperator::Concat, start, x),
-            Kind::Plus => self.binary(tokens, 7, BinaryOperator::Add, start, x),
-            Kind::Minus => { self.binary(tokens, 7, BinaryOperator::Subtract, start, x) }
-            Kind::Star => { self.binary(tokens, 8, BinaryOperator::Multiply, start, x) }
-            Kind::Slash => self.binary(tokens, 8, BinaryOperator::Divide, start, x),
-            Kind::FloorSlash => { self.binary(tokens, 8, BinaryOperator::FloorDivide, start, x) }
-            Kind::Percent => { self.binary(tokens, 8, BinaryOperator::Remainder, start, x) }
-            Kind::Power => self.binary(tokens, 8, BinaryOperator::Power, start, x),
+            Kind::Equal => self.infixed(tokens, 5, Binary(Operator::Equal), start, x),
+            Kind::NotEqual => self.infixed(tokens, 5, Binary(Operator::NotEqual), start, x),
+            Kind::Less => self.infixed(tokens, 5, Binary(Operator::Less), start, x),
+            Kind::Greater => self.infixed(tokens, 5, Binary(Operator::Greater), start, x),
+            Kind::LessOrEqual => self.infixed(tokens, 5, Binary(Operator::LessOrEqual), start, x),
+            Kind::GreaterOrEqual => self.infixed(
+                tokens,
+                5,
+                Binary(Operator::GreaterOrEqual),
+                start,
+                x,
+            ),
+            Kind::In => self.infixed(tokens, 5, Binary(Operator::In), start, x),
+            Kind::Tilde => self.infixed(tokens, 6, Binary(Operator::Concat), start, x),
+            Kind::Plus => self.infixed(tokens, 7, Binary(Operator::Add), start, x),
+            Kind::Minus => self.infixed(tokens, 7, Binary(Operator::Subtract), start, x),
+            Kind::Star => self.infixed(tokens, 8, Binary(Operator::Multiply), start, x),
+            Kind::Slash => self.infixed(tokens, 8, Binary(Operator::Divide), start, x),
+            Kind::FloorSlash => self.infixed(tokens, 8, Binary(Operator::FloorDivide), start, x),
+            Kind::Percent => self.infixed(tokens, 8, Binary(Operator::Remainder), start, x),
+            Kind::Power => self.infixed(tokens, 8, Binary(Operator::Power), start, x),
             _ => Err(tokens.refuse(Reason::NoOperation)),
         }
     }

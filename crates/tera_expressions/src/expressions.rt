@@ -3,6 +3,7 @@ ghost use Rattle.tera_tokens.specs.Takes.{Takes, input};
 ghost use Rattle.tera_expressions.specs.Expressions as spec;
 ghost use Rattle.tera_expressions.specs.Parts.{deep_of};
 
+use crate::levels::stands_alone;
 use crate::reader::Reader;
 use std::alloc::Global;
 use tera_tokens::input::Tokens;
@@ -30,11 +31,15 @@ pub fn expr<'s>(
     if limit == 0 {
         return Err(tokens.refuse(Reason::TooDeep));
     }
-    Reader {
+    let reader = Reader {
         alloc,
         limit,
         below: limit - 1,
         expr,
+    };
+    if stands_alone(tokens, floor) {
+        reader.leaf(tokens)
+    } else {
+        reader.level(tokens, floor)
     }
-    .level(tokens, floor)
 }

@@ -47,7 +47,21 @@ impl<'s, F: Fn(Global, &mut Tokens<'_, 's>, usize, u8) -> Result<Deep<'s>, Refus
         }
     }
 
+    /// A name or an integer, and what else may begin an expression.
+    #[tactic(auto, unfolding(crate::specs::Expressions::head))]
+    pub(crate) fn leaf(&self, tokens: &mut Tokens<'_, 's>) -> Result<Deep<'s>, Refusal>
+        requires { Nests self.now.below (F.pre self.now.expr) (F.post self.now.expr) }
+        ensures { Takes deep_of (spec.head self.now.limit (spec.expr self.now.below) (input tokens.old)) result tokens.new }
+    {
+        match tokens.kind() {
+            Kind::Name => self.name(tokens),
+            Kind::Int => self.int(tokens),
+            _ => self.head(tokens),
+        }
+    }
+
     /// An integer.
+    #[inline(always)]
     pub(crate) fn int(&self, tokens: &mut Tokens<'_, 's>) -> Result<Deep<'s>, Refusal>
         ensures { Takes deep_of (spec.head_by self.now.limit (spec.expr self.now.below) Kind.Int (input tokens.old)) result tokens.new }
     {
@@ -78,6 +92,7 @@ impl<'s, F: Fn(Global, &mut Tokens<'_, 's>, usize, u8) -> Result<Deep<'s>, Refus
     }
 
     /// A name.
+    #[inline(always)]
     pub(crate) fn name(&self, tokens: &mut Tokens<'_, 's>) -> Result<Deep<'s>, Refusal>
         ensures { Takes deep_of (spec.head_by self.now.limit (spec.expr self.now.below) Kind.Name (input tokens.old)) result tokens.new }
     {

@@ -1,7 +1,11 @@
 // Levels of precedence: which tokens go on with an expression, and to what.
-ghost use Rattle.std.specs.Prelude.{◌≡◌};
+ghost use Rattle.std.specs.Prelude.{◌≡◌, ◌&&◌, ◌||◌, ℕ, IsTrue, nat_le, not};
+ghost use Rattle.tera_tokens.specs.Input.{Parser, kind, next, same as spec_same};
+ghost use Rattle.tera_tokens.specs.declared.token.Kind.TheVariants as Kind;
+ghost use Rattle.tera_tokens.specs.Takes.{input};
 ghost use Rattle.tera_expressions.specs.Expressions as spec;
 
+use tera_tokens::input::{Tokens, same};
 use tera_tokens::token::Kind;
 
 /// The least level of an expression before this token that goes on with it, and 12 where none does.
@@ -56,6 +60,7 @@ pub(crate) fn gives(kind: Kind) -> u8
 }
 
 /// Whether an expression of the level `have` goes on with this token, to the level `floor` or above.
+#[inline(always)]
 pub(crate) fn goes_on(floor: u8, have: u8, kind: Kind) -> bool
     ensures { result ≡ spec.goes_on floor have kind }
 {
@@ -72,4 +77,37 @@ pub(crate) fn begins(kind: Kind) -> u8
         Kind::Minus => 8,
         _ => 11,
     }
+}
+
+/// The kinds of the next two tokens.
+#[tactic(auto, unfolding(tera_tokens::specs::Input::kind, tera_tokens::specs::Input::next))]
+fn kinds(tokens: &Tokens<'_, '_>) -> (Kind, Kind)
+    ensures first { result.0 ≡ kind (input tokens.now) }
+    ensures second { result.1 ≡ kind (next (input tokens.now)) }
+{
+    match tokens.ahead {
+        [] => (Kind::End, Kind::End),
+        [first] => (first.kind, Kind::End),
+        [first, second, ..] => (first.kind, second.kind),
+    }
+}
+
+/// Whether the first of two tokens is a name or an integer, and the second doesn't go on with it to this level.
+fn is_alone(floor: u8, first: Kind, second: Kind) -> bool
+    ensures { let is_leaf = spec_same Kind.Name first || spec_same Kind.Int first in
+        result ≡ ((is_leaf && nat_le floor 11) && not (spec.goes_on floor 11 second)) }
+{
+    (same(Kind::Name, first) || same(Kind::Int, first))
+        && floor <= 11
+        && !goes_on(floor, 11, second)
+}
+
+/// Whether the next operand is a name or an integer, and nothing goes on with it to this level. Most are.
+#[inline]
+pub(crate) fn stands_alone(tokens: &Tokens<'_, '_>, floor: u8) -> bool
+    ensures { let here = input tokens.now in
+        IsTrue result → (limit : ℕ) → (sub : ℕ → Parser spec.Deep) → spec.level limit sub floor here ≡ spec.head limit sub here }
+{
+    let (first, second) = kinds(tokens);
+    is_alone(floor, first, second)
 }

@@ -180,6 +180,15 @@ pub opens_heads : (d : Delims) → Filled d → (text : Text) → opens d text �
 unfolding opening_at
 opens_heads d f text h = heads_by (begins d.variable_start text) (begins d.block_start text) (begins d.comment_start text) d text f refl refl refl h
 
+-- nothing opens where the first byte is no start delimiter's
+pub no_start : (d : Delims) → Filled d → (text : Text) → 0 < length text → first_bytes d (get_or text 0 0) ≡ false → opening_at d text ≡ None
+no_start d f [] l h = absurd (omega arith)
+no_start d f (b ∷ bs) l h = go (opening_at d (b ∷ bs)) refl
+  where
+    go : (o : Option Opening) → opening_at d (b ∷ bs) ≡ o → opening_at d (b ∷ bs) ≡ None
+    go None e = e
+    go (Some o) e = let t = opens_heads d f (b ∷ bs) (ap is_some e) in absurd (cc)
+
 -- nothing opens at the end
 pub nothing_opens : (d : Delims) → Filled d → opening_at d [] ≡ None
 nothing_opens d f = go (opening_at d []) refl

@@ -21,9 +21,19 @@ pub(crate) fn before(bytes: &[u8], i: usize) -> &[u8]
     bytes.split_at(i).0
 }
 
-/// Whether the bytes begin with the word. It has two bytes mostly, so they are compared one by one.
+/// Whether the bytes begin with the word. It has two bytes mostly, which are compared without a loop.
 #[inline]
 pub(crate) fn begins(word: &[u8], bytes: &[u8]) -> bool
+    ensures { result ≡ spec.begins word.now bytes.now }
+{
+    match (word, bytes) {
+        ([a, b], [c, d, ..]) => a == c && b == d,
+        _ => begins_any(word, bytes),
+    }
+}
+
+/// The same for a word of any length.
+fn begins_any(word: &[u8], bytes: &[u8]) -> bool
     ensures { result ≡ spec.begins word.now bytes.now }
 {
     for (i, b) in word.iter().enumerate() {

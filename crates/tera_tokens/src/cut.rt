@@ -1,5 +1,6 @@
 // The cut of a text into text, comments and tags.
-ghost use Rattle.std.specs.Prelude.{List, ◌≡◌, ◌<◌, ◌≤◌, ◌+◌, ◌-◌, ◌^◌, ◌≢◌, [], length, drop, IfOk, IfSome, IsTrue, Some, None, string_bytes};
+ghost use Rattle.std.specs.Prelude.{List, ◌≡◌, ◌<◌, ◌≤◌, ◌+◌, ◌-◌, ◌^◌, ◌≢◌, [], length, drop, IfOk, IfSome, IsTrue, Some, None, string_bytes, get_or};
+ghost use Rattle.memchr.specs.Find.{is_byte3};
 ghost use Rattle.tera_tokens.specs.Answers.{Answers, Follows};
 ghost use Rattle.tera_tokens.specs.Bytes.{place};
 ghost use Rattle.tera_tokens.specs.Cut as spec;
@@ -93,6 +94,7 @@ fn longer(a: Option<Opening>, b: Option<Opening>) -> Option<Opening>
 }
 
 /// The start delimiter that begins the text, the longest of them.
+#[inline]
 #[tactic(auto, unfolding(crate::specs::Cut::opening_at))]
 pub(crate) fn opening_at(delimiters: &Delimiters, text: &[u8]) -> Option<Opening>
     ensures { result ≡ spec.opening_at (delimiters_of delimiters.now) text.now }
@@ -103,14 +105,31 @@ pub(crate) fn opening_at(delimiters: &Delimiters, text: &[u8]) -> Option<Opening
     longer(variable, longer(block, comment))
 }
 
+/// Whether the text begins with the first byte of a start delimiter.
+fn may_open(delimiters: &Delimiters, text: &[u8]) -> bool
+    requires usable { IsTrue (accepted (delimiters_of delimiters.now)) }
+    requires some { 0 < length text.now }
+    ensures { let d = delimiters_of delimiters.now in
+        let test = is_byte3 (get_or d.variable_start 0 0) (get_or d.block_start 0 0) (get_or d.comment_start 0 0) in
+        result ≡ test (get_or text.now 0 0) }
+{
+    let byte = text[0];
+    byte == delimiters.variable_start.as_bytes()[0]
+        || byte == delimiters.block_start.as_bytes()[0]
+        || byte == delimiters.comment_start.as_bytes()[0]
+}
+
 /// The start delimiter that begins the text, if that isn't known.
 fn opening_of(delimiters: &Delimiters, text: &[u8], known: Option<Opening>) -> Option<Opening>
-    requires { Knows (delimiters_of delimiters.now) text.now known }
+    requires usable { IsTrue (accepted (delimiters_of delimiters.now)) }
+    requires some { 0 < length text.now }
+    requires known { Knows (delimiters_of delimiters.now) text.now known }
     ensures { result ≡ spec.opening_at (delimiters_of delimiters.now) text.now }
 {
     match known {
         Some(opening) => Some(opening),
-        None => opening_at(delimiters, text),
+        None if may_open(delimiters, text) => opening_at(delimiters, text),
+        None => None,
     }
 }
 

@@ -1,5 +1,5 @@
 // The inside of a tag: its tokens, up to the end delimiter.
-ghost use Rattle.std.specs.Prelude.{◌≡◌, ◌<◌, ◌≤◌, ◌+◌, ◌-◌, ◌^◌, length, drop, IfOk};
+ghost use Rattle.std.specs.Prelude.{◌≡◌, ◌<◌, ◌≤◌, ◌+◌, ◌-◌, ◌^◌, length, drop, get_or, IfOk};
 ghost use Rattle.tera_tokens.specs.Answers.{Answers, Follows};
 ghost use Rattle.tera_tokens.specs.Bytes.{begins};
 ghost use Rattle.tera_tokens.specs.Found.{inside_of};
@@ -17,28 +17,27 @@ pub(crate) struct Ending {
     pub trims: bool,
 }
 
-/// What follows a tag.
+/// What follows a tag. The flag stands first, as the kind of a refusal does, so that a result of either is moved by words.
 #[derive(Drop)]
 pub(crate) struct Inside<'a> {
-    pub next: usize,
     pub trims: bool,
+    pub next: usize,
     pub rest: &'a str,
 }
 
 pub(crate) fn is_hyphen(text: &[u8]) -> bool
     ensures { result ≡ begins spec.hyphen text.now }
 {
-    begins(b"-", text)
+    match text {
+        [b'-', ..] => true,
+        _ => false,
+    }
 }
 
+#[inline]
 pub(crate) fn closing(end: &[u8], text: &[u8]) -> Option<Ending>
     ensures { result ≡ spec.closing end.now text.now }
 {
-    // Most places are told by their first byte.
-    match (end, text) {
-        ([first, ..], [byte, ..]) if first != byte && *byte != b'-' => return None,
-        _ => {}
-    }
     if is_hyphen(text) && begins(end, after(text, 1)) {
         return Some(Ending {
             size: end.len() + 1,
@@ -54,11 +53,14 @@ pub(crate) fn closing(end: &[u8], text: &[u8]) -> Option<Ending>
     None
 }
 
-/// The end of a tag, where no bracket is open.
-fn closing_in(opened: usize, end: &[u8], text: &[u8]) -> Option<Ending>
+/// The end of a tag, where no bracket is open. Most places are told by their first byte.
+fn closing_in(opened: usize, first: u8, end: &[u8], text: &[u8]) -> Option<Ending>
+    requires first { first ≡ get_or end.now 0 0 }
+    requires some { 0 < length end.now }
+    requires more { 0 < length text.now }
     ensures { result ≡ spec.closing_in opened end.now text.now }
 {
-    if opened == 0 {
+    if opened == 0 && (text[0] == first || text[0] == b'-') {
         closing(end, text)
     } else {
         None
@@ -93,11 +95,12 @@ pub(crate) fn cut_inside<'a>(
     ensures rest { IfOk result (λ x. Follows at text.now x.next x.rest.now) }
 {
     let bytes = text.as_bytes();
+    let first = end.as_bytes()[0];
     tokens.clear();
     let mut opened = 0;
     let mut i = 0;
     while i < bytes.len() {
-        if let Some(ending) = closing_in(opened, end.as_bytes(), after(bytes, i)) {
+        if let Some(ending) = closing_in(opened, first, end.as_bytes(), after(bytes, i)) {
             let (_, rest) = text.split_at(i + ending.size);
             return Ok(Inside {
                 next: at + i + ending.size,

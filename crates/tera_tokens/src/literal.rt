@@ -13,6 +13,34 @@ use tera_tree::Quoted;
 pub fn integer(digits: &str) -> Option<i128>
     ensures { result ≡ spec.integer digits.now }
 {
+    match small(digits) {
+        Some(number) => Some(i128::from(number)),
+        None => large(digits),
+    }
+}
+
+/// The same where the number fits 64 bits, as most do.
+fn small(digits: &str) -> Option<u64>
+    ensures { IfSome result (λ n. n ≡ spec.number_from 0 digits.now) }
+{
+    let mut number: u64 = 0;
+    for b in digits.as_bytes() {
+        number = match number.checked_mul(10) {
+            Some(number) => number,
+            None => return None,
+        };
+        number = match number.checked_add(u64::from(b.saturating_sub(b'0'))) {
+            Some(number) => number,
+            None => return None,
+        };
+    }
+    Some(number)
+}
+
+/// The same for any number.
+fn large(digits: &str) -> Option<i128>
+    ensures { result ≡ spec.integer digits.now }
+{
     let mut number: u128 = 0;
     for b in digits.as_bytes() {
         number = match number.checked_mul(10) {

@@ -1,7 +1,7 @@
 use Rattle.std.proofs.Common.{◌≡◌, ◌≤◌, ◌<◌, ◌+◌, ◌-◌, ◌*◌, get_or, length, ap, ◌∙◌, arith}
 use Rattle.tera_tokens.proofs.Places.{by_order}
 use Rattle.tera_tokens.proofs.Literals.{too_large}
-use Rattle.tera_tokens.proofs.literal.integer.Goals as goal
+use Rattle.tera_tokens.proofs.literal.large.Goals as goal
 
 pub returns-in-None : goal.returns-in-None
 returns-in-None c =

@@ -8,5 +8,4 @@ pub mod Dumped
 pub mod Beyond
 pub mod Started
 pub mod Stacks
-pub mod Counted
 pub mod Ends

@@ -2,7 +2,7 @@
 ghost use Rattle.std.specs.Prelude.{◌≡◌, [], OnOk, OnErr, IfErr, option_copied};
 ghost use Rattle.tera_errors.specs.Answer.{Lacks};
 ghost use Rattle.tera_values.specs.Named.{put_all};
-ghost use Rattle.tera_state.specs.Bound.{value_in, with_binding, without, without_frame, place_from, layer_of, is_beyond, end_without};
+ghost use Rattle.tera_state.specs.Bound.{value_in, with_binding, without, without_frame, place_from, layer_of, is_beyond, end_with, end_without};
 
 use std::alloc::Global;
 use std::marker::Model;
@@ -75,9 +75,7 @@ impl Bindings {
         ensures err { OnErr result (self.new ≡ self.old) }
         ensures lacks { IfErr result Lacks }
     {
-        if is_beyond(frame, layer, self.end) {
-            self.end = Layer { frame, layer };
-        }
+        self.end = end_with(frame, layer, self.end);
         match place(self.items.as_slice(), frame, layer, &name.sought()) {
             Some(at) => self.items[at].value = value,
             None => self.items.push(Binding {
@@ -126,6 +124,17 @@ fn is_beyond(frame: usize, layer: usize, end: Layer) -> bool
     ensures { result ≡ is_beyond frame layer end.frame end.layer }
 {
     frame > end.frame || (frame == end.frame && layer > end.layer)
+}
+
+// An end for the bindings and one more in the layer.
+fn end_with(frame: usize, layer: usize, end: Layer) -> Layer
+    ensures { result ≡ end_with frame layer end }
+{
+    if is_beyond(frame, layer, end) {
+        Layer { frame, layer }
+    } else {
+        end
+    }
 }
 
 // An end for the bindings that are left when a layer is taken out.

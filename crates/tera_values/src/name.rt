@@ -118,6 +118,13 @@ impl<'a> Sought<'a> {
         self.text
     }
 
+    /// The hash of the text, which is the same for the same text.
+    pub fn hash(&self) -> u64
+        ensures { result ≡ name_hash self.now }
+    {
+        self.hash
+    }
+
     /// What a loop counts under the name, if anything.
     pub fn counter(&self) -> Option<Counter>
         ensures { result ≡ counter_of self.now }

@@ -16,7 +16,7 @@ use tera_code::{Instruction, Keys, LentName, Spreads, Text};
 use tera_operators::Operand;
 use tera_state::Found;
 use tera_tree::BinaryOperator;
-use tera_values::{Error, Span, TeraResult, Value};
+use tera_values::{Error, Sought, Span, TeraResult, Value};
 
 impl<'c> Configuration<'c> {
     /// Does what the instruction says, which stands in this file's text in front of the next place, and tells where to go on.
@@ -102,12 +102,12 @@ impl<'c> Configuration<'c> {
         &mut self,
         machine: &VirtualMachine,
         file: &str,
-        name: &Text<'_>,
+        name: &Sought<'_>,
         span: Span,
     ) -> TeraResult<Flow>
         ensures { Does (name_written (here_of machine.now file.now self.old) name.now span) self.old result self.new }
     {
-        let found = self.scopes.look(name.as_str());
+        let found = self.scopes.look(name);
         if found.is_undefined() {
             return Err(undefined_written(machine.alloc, file, span));
         }
@@ -138,10 +138,10 @@ impl<'c> Configuration<'c> {
         self.put(Operand::new(value, span))
     }
 
-    fn load_name(&mut self, alloc: Global, name: &Text<'_>, span: Span) -> TeraResult<Flow>
+    fn load_name(&mut self, alloc: Global, name: &Sought<'_>, span: Span) -> TeraResult<Flow>
         ensures { Does (name_loaded (around_of self.old.scopes) name.now span) self.old result self.new }
     {
-        let value = self.scopes.look(name.as_str()).to_value(alloc)?;
+        let value = self.scopes.look(name).to_value(alloc)?;
         self.push(value, span)
     }
 

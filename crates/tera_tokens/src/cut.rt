@@ -190,7 +190,8 @@ pub(crate) fn start_size(opening: Opening, text: &[u8]) -> usize
     }
 }
 
-/// The first n bytes of a text, without the white space that a `-` on either side removes.
+/// The first n bytes of a text, without the white space that a `-` on either side removes. Mostly there is none.
+#[inline]
 pub(crate) fn trimmed<'a>(
     text: &'a str,
     n: usize,
@@ -198,6 +199,25 @@ pub(crate) fn trimmed<'a>(
     before: bool,
     behind: bool,
 ) -> Piece<'a>
+    requires room { at + length text.now < 2 ^ 64 }
+    requires whole { IsCharBoundary text.now n }
+    ensures { (tokens : List Token) → piece_of tokens result ≡ spec.words before behind n at text.now }
+{
+    if before || behind {
+        return trimmed_sides(text, n, at, before, behind);
+    }
+    let (front, _) = text.split_at(n);
+    Piece::Words(
+        front,
+        Span {
+            start: at,
+            end: at + front.len(),
+        },
+    )
+}
+
+/// The same where a side is trimmed.
+fn trimmed_sides<'a>(text: &'a str, n: usize, at: usize, before: bool, behind: bool) -> Piece<'a>
     requires room { at + length text.now < 2 ^ 64 }
     requires whole { IsCharBoundary text.now n }
     ensures { (tokens : List Token) → piece_of tokens result ≡ spec.words before behind n at text.now }

@@ -94,7 +94,7 @@ fn longer(a: Option<Opening>, b: Option<Opening>) -> Option<Opening>
 }
 
 /// The start delimiter that begins the text, the longest of them.
-#[inline]
+#[inline(always)]
 #[tactic(auto, unfolding(crate::specs::Cut::opening_at))]
 pub(crate) fn opening_at(delimiters: &Delimiters, text: &[u8]) -> Option<Opening>
     ensures { result ≡ spec.opening_at (delimiters_of delimiters.now) text.now }

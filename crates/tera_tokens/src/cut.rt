@@ -134,6 +134,7 @@ fn opening_of(delimiters: &Delimiters, text: &[u8], known: Option<Opening>) -> O
 }
 
 /// What comes next in the text. Most of it is passed over by the first bytes alone.
+#[inline(always)]
 fn opening_ahead(delimiters: &Delimiters, text: &[u8]) -> Ahead
     requires usable { IsTrue (accepted (delimiters_of delimiters.now)) }
     ensures value { result.at ≡ place (spec.opens (delimiters_of delimiters.now)) text.now }
@@ -191,7 +192,7 @@ pub(crate) fn start_size(opening: Opening, text: &[u8]) -> usize
 }
 
 /// The first n bytes of a text, without the white space that a `-` on either side removes. Mostly there is none.
-#[inline]
+#[inline(always)]
 pub(crate) fn trimmed<'a>(
     text: &'a str,
     n: usize,

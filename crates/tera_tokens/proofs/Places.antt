@@ -1,11 +1,12 @@
 -- Places in a text.
-use Rattle.std.proofs.Common.{inl, inr, ◌≡◌, ℕ, zero, suc, ◌+◌, ◌<◌, ◌≤◌, [], ◌∷◌, ◌++◌, Bool, true, false, length, take, drop, get_or, refl, ap, sym, ◌∙◌, arith, if◌then◌else◌}
+use Rattle.std.proofs.Common.{inl, inr, ◌≡◌, ℕ, zero, suc, ◌+◌, ◌<◌, ◌≤◌, [], ◌∷◌, ◌++◌, Bool, true, false, ◌||◌, ◌==◌, length, take, drop, get_or, refl, ap, sym, ◌∙◌, arith, if◌then◌else◌}
 use Rattle.std.proofs.lemmas.Grind.{common_steps}
 use Rattle.std.proofs.lemmas.List.{drop_more, drop_all, drop-drop, get_or-drop, length-drop, length-append, get_or_append_left, take_at}
 use Rattle.std.proofs.lemmas.Slice.Eq.{starts_is}
 use Rattle.std.proofs.lemmas.Bool.Decides.{Decides-eqb, leb_tells}
 use Rattle.std.proofs.lemmas.Str.{IsCharBoundary-start, IsCharBoundary-from_take, IsCharBoundary-from_rest, IsUtf8-drop}
 use Rattle.std.specs.Str.{IsUtf8, IsCharBoundary}
+use Rattle.memchr.specs.Find.{is_byte, is_byte3}
 use Rattle.tera_errors.specs.Site.{Text}
 use Rattle.tera_tokens.specs.Bytes.{begins, place, heads}
 
@@ -88,6 +89,24 @@ place_of_head test [] k l before here = omega arith
 place_of_head test (b ∷ bs) zero l before here = rw (here (omega arith)) refl
 place_of_head test (b ∷ bs) (suc k) l before here =
     rw (before 0 (omega arith)) (ap suc (place_of_head test bs k (omega arith) (λ j m. before (suc j) (omega arith)) (λ m. here (omega arith))))
+
+-- tests that say the same find the same place
+place_alike : (p q : Text → Bool) → ((text : Text) → p text ≡ q text) → (text : Text) → place p text ≡ place q text
+unfolding place
+place_alike p q h [] = refl
+place_alike p q h (b ∷ bs) = rw (h (b ∷ bs), place_alike p q h bs) refl
+
+thrice : (t : Bool) → t ≡ (t || t || t)
+thrice true = refl
+thrice false = refl
+
+heads_thrice : (a : ℕ) (text : Text) → heads (is_byte a) text ≡ heads (is_byte3 a a a) text
+heads_thrice a [] = refl
+heads_thrice a (b ∷ bs) = thrice (b == a)
+
+-- one byte of three that are one
+pub place_thrice : (a b c : ℕ) (text : Text) → b ≡ a → c ≡ a → place (heads (is_byte a)) text ≡ place (heads (is_byte3 a b c)) text
+place_thrice a b c text e f = rw (e, f) (place_alike (heads (is_byte a)) (heads (is_byte3 a a a)) (heads_thrice a) text)
 
 -- A search may pass over what a weaker test does not pass.
 skips_by : (t u : Bool) (p q : Text → Bool) (b : ℕ) (bs : Text) → p (b ∷ bs) ≡ t → q (b ∷ bs) ≡ u → (u ≡ true → t ≡ true)

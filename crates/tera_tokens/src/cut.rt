@@ -94,7 +94,7 @@ fn longer(a: Option<Opening>, b: Option<Opening>) -> Option<Opening>
 }
 
 /// The start delimiter that begins the text, the longest of them.
-#[inline]
+#[inline(always)]
 #[tactic(auto, unfolding(crate::specs::Cut::opening_at))]
 pub(crate) fn opening_at(delimiters: &Delimiters, text: &[u8]) -> Option<Opening>
     ensures { result ≡ spec.opening_at (delimiters_of delimiters.now) text.now }
@@ -134,6 +134,7 @@ fn opening_of(delimiters: &Delimiters, text: &[u8], known: Option<Opening>) -> O
 }
 
 /// What comes next in the text. Most of it is passed over by the first bytes alone.
+#[inline(always)]
 fn opening_ahead(delimiters: &Delimiters, text: &[u8]) -> Ahead
     requires usable { IsTrue (accepted (delimiters_of delimiters.now)) }
     ensures value { result.at ≡ place (spec.opens (delimiters_of delimiters.now)) text.now }
@@ -190,7 +191,8 @@ pub(crate) fn start_size(opening: Opening, text: &[u8]) -> usize
     }
 }
 
-/// The first n bytes of a text, without the white space that a `-` on either side removes.
+/// The first n bytes of a text, without the white space that a `-` on either side removes. Mostly there is none.
+#[inline(always)]
 pub(crate) fn trimmed<'a>(
     text: &'a str,
     n: usize,
@@ -198,6 +200,25 @@ pub(crate) fn trimmed<'a>(
     before: bool,
     behind: bool,
 ) -> Piece<'a>
+    requires room { at + length text.now < 2 ^ 64 }
+    requires whole { IsCharBoundary text.now n }
+    ensures { (tokens : List Token) → piece_of tokens result ≡ spec.words before behind n at text.now }
+{
+    if before || behind {
+        return trimmed_sides(text, n, at, before, behind);
+    }
+    let (front, _) = text.split_at(n);
+    Piece::Words(
+        front,
+        Span {
+            start: at,
+            end: at + front.len(),
+        },
+    )
+}
+
+/// The same where a side is trimmed.
+fn trimmed_sides<'a>(text: &'a str, n: usize, at: usize, before: bool, behind: bool) -> Piece<'a>
     requires room { at + length text.now < 2 ^ 64 }
     requires whole { IsCharBoundary text.now n }
     ensures { (tokens : List Token) → piece_of tokens result ≡ spec.words before behind n at text.now }

@@ -110,7 +110,7 @@ fn is_digit(b: u8) -> bool
 pub(crate) fn is_name_byte(b: u8) -> bool
     ensures { result ≡ spec.is_name_byte b }
 {
-    is_letter(b) || is_digit(b)
+    is_digit(b) || is_letter(b)
 }
 
 pub(crate) fn is_quote(b: u8) -> bool

@@ -33,7 +33,7 @@ fault-means (Gave signal run n) (Some fault) before after h = absurd h
 fault-means (Failed meant n) None before after h = tt
 fault-means (Failed meant n) (Some fault) before after h = ap Err (sym h)
 
-told-says : {Y : Type 0} (e : Refusal) → Tells e message → let meant : Result Y Fault = Err message in Says e meant
+told-says : (e : Refusal) → Tells e message → let meant : Result Text Fault = Err message in Says e meant
 told-says None h = tt
 told-says (Some fault) h = ap Err (sym h)
 

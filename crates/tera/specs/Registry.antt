@@ -9,13 +9,20 @@ use Rattle.tera_tree.specs.Delimiters.{delimiters_of}
 use Rattle.tera_tree.specs.Tree.{Nodes}
 use Rattle.tera_state.specs.Scope.{nothing_set}
 use Rattle.tera_meaning.specs.Run.{begun}
-use Rattle.tera_meaning.specs.Registry.{Registry}
+use Rattle.tera_meaning.specs.Registry.{Registry, standard_suffixes}
 use Rattle.tera_meaning.specs.Rendering.{alone, one_off_place, text_of}
 use Rattle.tera_machine.specs.Subject.{Subject, meant}
 use Rattle.tera.specs.declared.engine.Tera.{Tera}
 
 abbrev pub registry_of : Tera → Registry
-registry_of t = record { templates = []; delimiters = delimiters_of t.delimiters; global = t.global_context; engine = record { escape = escape_html } }
+registry_of t = record {
+  templates = [];
+  prefixes = [];
+  suffixes = standard_suffixes;
+  delimiters = delimiters_of t.delimiters;
+  global = t.global_context;
+  engine = record { escape = escape_html };
+}
 
 -- a text beside the registry, as what a run of the machine is about
 abbrev pub subject_of : Tera → Nodes → Named Val → Bool → Subject

@@ -1,5 +1,5 @@
 -- What an engine holds, as the definitions see it.
-use Rattle.std.specs.Prelude.{Bool, [], Result}
+use Rattle.std.specs.Prelude.{Bool, [], map, string_bytes, Result}
 use Rattle.tera_errors.specs.Site.{Text}
 use Rattle.tera_errors.specs.Fault.{Fault}
 use Rattle.tera_values.specs.Val.{Val}
@@ -15,7 +15,14 @@ use Rattle.tera_machine.specs.Subject.{Subject, meant}
 use Rattle.tera.specs.declared.engine.Tera.{Tera}
 
 abbrev pub registry_of : Tera → Registry
-registry_of t = record { templates = []; delimiters = delimiters_of t.delimiters; global = t.global_context; engine = record { escape = escape_html } }
+registry_of t = record {
+  templates = [];
+  prefixes = map string_bytes t.prefixes.items;
+  suffixes = map string_bytes t.suffixes.items;
+  delimiters = delimiters_of t.delimiters;
+  global = t.global_context;
+  engine = record { escape = escape_html };
+}
 
 -- a text beside the registry, as what a run of the machine is about
 abbrev pub subject_of : Tera → Nodes → Named Val → Bool → Subject

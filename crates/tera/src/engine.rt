@@ -5,8 +5,10 @@ ghost use Rattle.tera_errors.specs.Answer.{Gives, GivesOneOf};
 ghost use Rattle.tera_tree.specs.Delimiters.{delimiters_of, accepted};
 ghost use Rattle.tera_meaning.specs.Registry.{new_registry};
 ghost use Rattle.tera.specs.Rendering.{OneOff, AppendsOneOf};
-ghost use Rattle.tera.specs.Configuring.{Configures, with_delimiters};
+ghost use Rattle.tera.specs.Configuring.{Configures, with_delimiters, with_prefixes, with_suffixes};
+ghost use Rattle.tera.specs.Lent.{texts_of};
 
+use crate::texts::{copied, standard_suffixes};
 use std::alloc::Global;
 use tera_tree::Delimiters;
 use tera_values::{Context, TeraResult};
@@ -14,6 +16,8 @@ use tera_values::{Context, TeraResult};
 /// An engine: what templates are read by, and what every rendering reads. Definitions see it as a registry.
 pub struct Tera {
     pub(crate) alloc: Global,
+    pub(crate) prefixes: Vec<String>,
+    pub(crate) suffixes: Vec<String>,
     pub(crate) delimiters: Delimiters,
     pub(crate) global_context: Context,
     ghost accepted: { IsTrue (accepted (delimiters_of delimiters)) },
@@ -24,9 +28,13 @@ impl Drop for Tera {
     fn drop(self) {
         let Tera {
             alloc: _,
+            prefixes,
+            suffixes,
             delimiters,
             global_context,
         } = self;
+        drop(prefixes);
+        drop(suffixes);
         drop(delimiters);
         drop(global_context);
     }
@@ -36,12 +44,15 @@ impl Tera {
     ghost use Rattle.tera.specs.Registry.{registry_of};
     ghost use Rattle.tera.specs.Lending.{LendsGlobal};
 
-    /// An engine without templates, with Tera's own delimiters and an empty global context.
+    /// An engine without templates and prefixes, with Tera's own delimiters and an empty global context. Templates whose names end with
+    /// `.html`, `.htm` or `.xml` escape.
     pub fn new(alloc: Global) -> TeraResult<Tera>
         ensures { Gives registry_of result (Ok new_registry) }
     {
         Ok(Tera {
             alloc,
+            prefixes: Vec::new(alloc),
+            suffixes: standard_suffixes(alloc)?,
             delimiters: Delimiters::standard(alloc)?,
             global_context: Context::new(alloc),
         })
@@ -63,6 +74,23 @@ impl Tera {
     {
         delimiters.validate(self.alloc)?;
         self.delimiters = delimiters;
+        Ok(())
+    }
+
+    /// A name that no template has is looked up behind each of these prefixes, in their order, from now on. Refused with a
+    /// message once a template is there; then those of before stay.
+    pub fn set_fallback_prefixes(&mut self, prefixes: &[&str]) -> TeraResult<()>
+        ensures { Configures result (with_prefixes (texts_of prefixes.now) (registry_of self.old)) (registry_of self.old) (registry_of self.new) }
+    {
+        self.prefixes = copied(self.alloc, prefixes)?;
+        Ok(())
+    }
+
+    /// Templates whose names end with one of these suffixes escape from now on, also those that are there.
+    pub fn autoescape_on(&mut self, suffixes: &[&str]) -> TeraResult<()>
+        ensures { Configures result (Ok (with_suffixes (texts_of suffixes.now) (registry_of self.old))) (registry_of self.old) (registry_of self.new) }
+    {
+        self.suffixes = copied(self.alloc, suffixes)?;
         Ok(())
     }
 

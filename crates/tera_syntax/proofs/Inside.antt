@@ -78,4 +78,4 @@ mutual
       record { inside = (made_inside size further body other (goes_on_inside size g h.0) b.inside e.inside, tt); rest = e.rest }
 
 pub tree_inside : (name : Name) (d : Delimiters) (text : Text) (tree : Tree) → IsTrue (accepted (delimiters_of d)) → IsUtf8 text → Spells name (delimiters_of d) text tree → Inside (length text) tree
-tree_inside name d text tree usable u spelled = (nodes_lie (length text) spelled (pieces_inside d usable text u)).inside
+tree_inside name d text tree usable u spelled = (nodes_lie (length text) spelled.1 (pieces_inside d usable text u)).inside

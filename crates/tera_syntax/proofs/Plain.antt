@@ -1,5 +1,5 @@
 -- What is refused, and what never is.
-use Rattle.std.proofs.Common.{max, ◌≡◌, ℕ, ◌+◌, ◌-◌, ◌<◌, ◌≤◌, [], ◌∷◌, Bool, true, false, length, drop, is_some, Option, Some, None, Result, Err, IsTrue, refl, ap, sym, ◌∙◌, subst, arith}
+use Rattle.std.proofs.Common.{max, ◌≡◌, ℕ, ◌+◌, ◌-◌, ◌<◌, ◌≤◌, [], ◌∷◌, Bool, true, false, length, drop, is_some, Option, Some, None, Result, Err, IsTrue, refl, ap, ap₂, sym, ◌∙◌, subst, arith}
 use Rattle.std.proofs.lemmas.List.{drop_all}
 use Rattle.tera_errors.specs.Site.{Text, Name}
 use Rattle.tera_errors.specs.Fault.{Fault}
@@ -29,7 +29,7 @@ pub refused_by : {Y : Type 0} (meant : Option Y) (why : _) (at : Span) (r : read
 refused_by meant why at r e h = let P : reader.Refusal → Type 0 = Refuses meant in subst P e h
 
 pub spells_none : (name : Name) (d : Delims) (text : Text) → nodes 200 (pieces d text) ≡ None → SpellsNone name d text
-spells_none name d text h tree flat spelled = let e = complete_nodes 200 tree.nodes (pieces d text) spelled flat.0 in absurd (cc)
+spells_none name d text h tree flat spelled = let e = complete_nodes 200 tree.nodes (pieces d text) spelled.1 flat.0 in absurd (cc)
 
 words_read : (words : Text) (at : Span) → (n : Nodes) × (nodes 200 (Words words at ∷ []) ≡ Some n)
 words_read [] at = (_, refl)
@@ -91,7 +91,8 @@ plain d text h =
 pub one_tree : (name : Name) (d : Delims) (text : Text) (one other : Tree) → Spells name d text one → Spells name d text other → one ≡ other
 one_tree name d text one other h k =
     let m = max (nodes_depth one.nodes) (nodes_depth other.nodes) in
-    let a = complete_nodes m one.nodes (pieces d text) h (omega arith) in
-    let b = complete_nodes m other.nodes (pieces d text) k (omega arith) in
+    let a = complete_nodes m one.nodes (pieces d text) h.1 (omega arith) in
+    let b = complete_nodes m other.nodes (pieces d text) k.1 (omega arith) in
     let e : one.nodes ≡ other.nodes = cc in
-    ap (λ x. record { nodes = x }) e
+    let p : one.parent ≡ other.parent = h.0 ∙ sym k.0 in
+    ap₂ (λ p x. record { parent = p; nodes = x }) p e

@@ -1,5 +1,5 @@
 -- What the text of a template spells.
-use Rattle.std.specs.Prelude.{[], false}
+use Rattle.std.specs.Prelude.{◌≡◌, [], false, None}
 use Rattle.tera_errors.specs.Site.{Text, Name}
 use Rattle.tera_tokens.specs.Cut.{pieces}
 use Rattle.tera_tree.specs.Delimiters.{Delims}
@@ -8,4 +8,4 @@ use Rattle.tera_tree.specs.Tree.{Tree}
 
 -- All pieces of the text are the nodes of the tree.
 abbrev pub Spells : Name → Delims → Text → Tree → Type 0
-Spells name d text tree = DerivesNodes false tree.nodes (pieces d text) []
+Spells name d text tree = (tree.parent ≡ None) × DerivesNodes false tree.nodes (pieces d text) []

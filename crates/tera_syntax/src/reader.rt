@@ -74,7 +74,10 @@ pub fn parse<'s>(
     ensures plain { GivesOneOf tree_of result (ReadsPlainText (delimiters_of delimiters.now) source.now) }
 {
     match nodes(alloc, delimiters, source) {
-        Ok(nodes) => Ok(ParserOutput { nodes }),
+        Ok(nodes) => Ok(ParserOutput {
+            parent: None,
+            nodes,
+        }),
         Err(Refusal::Syntax(why, span)) => {
             let span = clipped(span, source.len());
             Err(Error::syntax(alloc, why.words(), name, span))

@@ -58,5 +58,7 @@ mutual
     NoNodes : Nodes
     MoreNodes : (node : Node) (rest : Nodes) → Nodes
 
+-- the name of the template that the text extends, if it does, and the nodes of the text
 pub record Tree : Type 0 where
+  pub parent : Option site.Name
   pub nodes : Nodes

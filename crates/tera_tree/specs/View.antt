@@ -25,6 +25,10 @@ abbrev pub quoted_of : Quoted → site.Text
 quoted_of (quoted.Lent t) = t.now
 quoted_of (quoted.Made t) = string_bytes t
 
+abbrev pub quoted_option : Option Quoted → Option site.Text
+quoted_option None = None
+quoted_option (Some q) = Some (quoted_of q)
+
 abbrev pub literal_of : LiteralKey → Key
 literal_of (key.Bool b) = BoolKey b
 literal_of (key.Int z) = IntKey z
@@ -122,4 +126,4 @@ abbrev pub for_of : Heading → List declared.Node → List declared.Node → No
 for_of h body other = For (option_copied h.key) h.name.now (expr_of h.target) (nodes_of body) (nodes_of other)
 
 abbrev pub tree_of : ParserOutput → Tree
-tree_of output = record { nodes = nodes_of output.nodes.items }
+tree_of output = record { parent = quoted_option output.parent; nodes = nodes_of output.nodes.items }

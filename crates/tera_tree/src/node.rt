@@ -1,5 +1,6 @@
 // Nodes of a template. They borrow names and texts from its source.
 use crate::expression::{Expression, Heading};
+use crate::quoted::Quoted;
 use tera_errors::Span;
 
 /// A node of a template: a piece of its text, or a tag with what belongs to it.
@@ -77,12 +78,15 @@ impl<'s> Drop for Node<'s> {
 
 /// What the reader makes of a text, from which it borrows.
 pub struct ParserOutput<'s> {
+    /// The name of the template that the text extends, if it does.
+    pub parent: Option<Quoted<'s>>,
     pub nodes: Vec<Node<'s>>,
 }
 
 impl<'s> Drop for ParserOutput<'s> {
     fn drop(self) {
-        let ParserOutput { nodes } = self;
+        let ParserOutput { parent, nodes } = self;
+        drop(parent);
         drop(nodes);
     }
 }

@@ -2,5 +2,8 @@ pub mod Run
 pub mod Here
 pub mod Meaning
 pub mod Registry
+pub mod Resolve
+pub mod Accepted
+pub mod Adding
 pub mod Whole
 pub mod Rendering

@@ -1,14 +1,16 @@
 -- What the rendering calls answer.
-use Rattle.std.specs.Prelude.{Bool, List, codes, Result, Ok, Err}
+use Rattle.std.specs.Prelude.{Bool, List, codes, nat_eq, Option, Some, None, Result, Ok, Err}
+use Rattle.std.specs.List.{list_any, ends_with}
 use Rattle.tera_errors.specs.Site.{Text, Name}
-use Rattle.tera_errors.specs.Fault.{Fault}
+use Rattle.tera_errors.specs.Fault.{Fault, template_not_found}
 use Rattle.tera_values.specs.Alphabet.{Alphabet, plain}
 use Rattle.tera_values.specs.Val.{Val}
 use Rattle.tera_values.specs.Named.{Named}
 use Rattle.tera_tree.specs.Tree.{Tree}
 use Rattle.tera_state.specs.Scope.{AroundOf, Around, outside, nothing_set}
 use Rattle.tera_meaning.specs.Run.{Signal, Answer, AnswerOf, Failed, Gave}
-use Rattle.tera_meaning.specs.Registry.{Registry}
+use Rattle.tera_meaning.specs.Registry.{Entry, Registry}
+use Rattle.tera_meaning.specs.Resolve.{resolve, root}
 use Rattle.tera_meaning.specs.Whole.{World, Place, PlaceOf, meaning_in}
 
 abbrev pub text_of : {C : Type 0} → AnswerOf C Signal → Result (List C) Fault
@@ -21,6 +23,10 @@ alone r = record { registry = r }
 -- the name of a text that is rendered beside the registry
 abbrev pub one_off_name : Name
 one_off_name = codes "__tera_one_off"
+
+-- whether texts are escaped in a template of this name
+abbrev pub autoescapes : Registry → Name → Bool
+autoescapes r name = list_any (λ suffix. ends_with nat_eq name suffix) r.suffixes
 
 module _ {C : Type 0} (alphabet : Alphabet C) where
   -- around the variables of a rendering: the caller's context, and the global one
@@ -40,6 +46,23 @@ module _ {C : Type 0} (alphabet : Alphabet C) where
   render_str_in r (Err fault) context autoescape = Err fault
   render_str_in r (Ok tree) context autoescape = text_of (one_off_meaning_in r tree context autoescape)
 
+  -- Nodes stand in the text of the template that has no parent, and texts are escaped as in the template that is rendered.
+  abbrev pub template_place_in : Registry → Entry → Named Val → PlaceOf C
+  template_place_in r t context =
+      record { file = (root r t).0; around = outermost_in r context; autoescape = autoescapes r t.0 }
+
+  abbrev pub template_meaning_in : Registry → Entry → Named Val → AnswerOf C Signal
+  template_meaning_in r t context =
+      meaning_in alphabet (alone r) (template_place_in r t context) nothing_set (root r t).1.tree.nodes
+
+  abbrev pub render_template_in : Registry → Option Entry → Named Val → Result (List C) Fault
+  render_template_in r None context = Err template_not_found
+  render_template_in r (Some t) context = text_of (template_meaning_in r t context)
+
+  -- the text of the template to which a name resolves
+  abbrev pub render_in : Registry → Name → Named Val → Result (List C) Fault
+  render_in r name context = render_template_in r (resolve r name) context
+
 -- of texts of bytes: this is what runs
 abbrev pub outermost : Registry → Named Val → Around
 outermost = outermost_in plain
@@ -52,3 +75,15 @@ one_off_meaning = one_off_meaning_in plain
 
 abbrev pub render_str : Registry → Result Tree Fault → Named Val → Bool → Result Text Fault
 render_str = render_str_in plain
+
+abbrev pub template_place : Registry → Entry → Named Val → Place
+template_place = template_place_in plain
+
+abbrev pub template_meaning : Registry → Entry → Named Val → Answer Signal
+template_meaning = template_meaning_in plain
+
+abbrev pub render_template : Registry → Option Entry → Named Val → Result Text Fault
+render_template = render_template_in plain
+
+abbrev pub render : Registry → Name → Named Val → Result Text Fault
+render = render_in plain

@@ -1,3 +1,4 @@
+pub mod Lent
 pub mod Registry
 pub mod Rendering
 pub mod Configuring

@@ -1,6 +1,6 @@
 -- What the rendering calls may answer.
-use Rattle.std.specs.Prelude.{◌≡◌, Bool, IsTrue, ◌++◌, Result, Ok, Err}
-use Rattle.tera_errors.specs.Site.{Text}
+use Rattle.std.specs.Prelude.{◌≡◌, Bool, IsTrue, ◌++◌, Some, Result, Ok, Err}
+use Rattle.tera_errors.specs.Site.{Text, Name}
 use Rattle.tera_errors.specs.Fault.{Fault}
 use Rattle.tera_errors.specs.Answer.{Refusal, SaysOneOf}
 use Rattle.tera_values.specs.Alphabet.{marking}
@@ -8,8 +8,9 @@ use Rattle.tera_values.specs.Val.{Val}
 use Rattle.tera_values.specs.Named.{Named}
 use Rattle.tera_tree.specs.Tree.{Tree}
 use Rattle.tera_syntax.specs.Reads.{Reads}
-use Rattle.tera_meaning.specs.Registry.{Registry}
-use Rattle.tera_meaning.specs.Rendering.{one_off_name, render_str, render_str_in}
+use Rattle.tera_meaning.specs.Registry.{Entry, Registry}
+use Rattle.tera_meaning.specs.Resolve.{resolve}
+use Rattle.tera_meaning.specs.Rendering.{autoescapes, one_off_name, render, render_in, render_str, render_str_in}
 use Rattle.tera_marks.specs.Origin.{Traces}
 
 -- what the rendering of a text beside the registry may answer: what its tree means, and where texts are escaped, no markup
@@ -19,6 +20,12 @@ pub record OneOff (r : Registry) (text : Text) (context : Named Val) (autoescape
   pub read : Reads one_off_name r.delimiters text reading
   pub is : answer ≡ render_str r reading context autoescape
   pub origin : IsTrue autoescape → Traces (render_str_in marking r reading context autoescape) answer
+
+-- what the rendering of a template may answer: what it means, and where it escapes, no markup but from template text or a
+-- value marked safe
+pub record ByName (r : Registry) (name : Name) (context : Named Val) (answer : Result Text Fault) : Type 0 where
+  pub is : answer ≡ render r name context
+  pub origin : (t : Entry) → resolve r name ≡ Some t → IsTrue (autoescapes r t.0) → Traces (render_in marking r name context) answer
 
 -- how a call ends that appends what it renders to these bytes: they are followed by the text, or are as before
 abbrev pub AppendsOneOf : Result (Unit {0}) Refusal → Text → Text → (Result Text Fault → Type 0) → Type 0

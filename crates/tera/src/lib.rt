@@ -3,6 +3,8 @@
 
 pub mod engine;
 mod rendering;
+pub mod templates;
+mod texts;
 
 pub use engine::Tera;
 pub use tera_code::{Chunk, Compiler, Instruction, Steps};

@@ -28,6 +28,8 @@ mod loops;
 #[cfg(test)]
 mod many_items;
 #[cfg(test)]
+mod many_templates;
+#[cfg(test)]
 mod memory;
 #[cfg(test)]
 mod other_delimiters;
@@ -49,3 +51,5 @@ mod shared_copies;
 mod state;
 #[cfg(test)]
 mod statements;
+#[cfg(test)]
+mod templates;

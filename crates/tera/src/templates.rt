@@ -1,0 +1,66 @@
+// Templates by name.
+ghost use Rattle.std.specs.Prelude.{◌≡◌, Ok, [], ◌∷◌, is_some, map, string_bytes};
+ghost use Rattle.tera_errors.specs.Answer.{Gives, GivesOneOf};
+ghost use Rattle.tera_meaning.specs.Resolve.{resolve};
+ghost use Rattle.tera_registry.specs.Batch.{Adds, ConfiguresOneOf, pairs_of};
+ghost use Rattle.tera.specs.Rendering.{ByName, AppendsOneOf};
+
+use crate::engine::Tera;
+use crate::texts::ends_with_one_of;
+use tera_values::{Context, Error, TeraResult};
+
+impl Tera {
+    ghost use Rattle.tera.specs.Registry.{registry_of};
+
+    /// Adds a template, as `add_raw_templates` does.
+    pub fn add_raw_template(&mut self, name: &str, content: &str) -> TeraResult<()>
+        ensures { ConfiguresOneOf result (Adds (registry_of self.old) ((name.now, content.now) ∷ [])) (registry_of self.old) (registry_of self.new) }
+    {
+        self.add_raw_templates(&[(name, content)])
+    }
+
+    /// Adds templates, all or none, each in place of one that has its name; of several with one name the last stays. Refused with
+    /// a `SyntaxError` where a text spells no tree, and where the templates do not go together: a template extends one that
+    /// is not there, or some extend one another in a circle. Then all is as before.
+    pub fn add_raw_templates(&mut self, templates: &[(&str, &str)]) -> TeraResult<()>
+        ensures { ConfiguresOneOf result (Adds (registry_of self.old) (pairs_of templates.now)) (registry_of self.old) (registry_of self.new) }
+    {
+        self.templates.add(&self.delimiters, templates)
+    }
+
+    /// Whether the name resolves to a template. Takes no memory.
+    pub fn contains_template(&self, name: &str) -> bool
+        ensures { result ≡ is_some (resolve (registry_of self.now) name.now) }
+    {
+        self.templates.contains(name)
+    }
+
+    /// The names of the templates, each once, in byte order.
+    pub fn get_template_names(&self) -> TeraResult<Vec<String>>
+        ensures { Gives (λ v. map string_bytes v.items) result (Ok (map (λ t. t.0) (registry_of self.now).templates)) }
+    {
+        self.templates.names()
+    }
+
+    /// Renders the template to which the name resolves: the text of the last of its parents, or its own where it has none.
+    pub fn render(&self, name: &str, context: &Context) -> TeraResult<String>
+        ensures { GivesOneOf string_bytes result (ByName (registry_of self.now) name.now context.now) }
+    {
+        match self.templates.find(name) {
+            Some(found) => {
+                let autoescape = ends_with_one_of(found.name, self.suffixes.as_slice());
+                self.render_body(found.chunk, context, autoescape)
+            }
+            None => Err(Error::template_not_found()),
+        }
+    }
+
+    /// Appends what `render` answers. After a refusal the vector is as before.
+    pub fn render_to(&self, name: &str, context: &Context, out: &mut Vec<u8>) -> TeraResult<()>
+        ensures { AppendsOneOf result out.old.items out.new.items (ByName (registry_of self.now) name.now context.now) }
+    {
+        let text = self.render(name, context)?;
+        out.extend_from_slice(text.as_bytes())?;
+        Ok(())
+    }
+}

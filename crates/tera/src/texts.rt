@@ -1,0 +1,34 @@
+// Texts that an engine keeps.
+ghost use Rattle.std.specs.Prelude.{◌≡◌, Ok, map, nat_eq, string_bytes};
+ghost use Rattle.std.specs.List.{list_any, ends_with};
+ghost use Rattle.tera_errors.specs.Answer.{Gives};
+ghost use Rattle.tera_meaning.specs.Registry.{standard_suffixes};
+ghost use Rattle.tera.specs.Lent.{texts_of};
+
+use std::alloc::Global;
+use tera_values::TeraResult;
+
+/// A copy of each text.
+pub fn copied(alloc: Global, texts: &[&str]) -> TeraResult<Vec<String>>
+    ensures { Gives (λ v. map string_bytes v.items) result (Ok (texts_of texts.now)) }
+{
+    let mut copies = Vec::new(alloc);
+    for text in texts {
+        copies.push(String::from_str(alloc, text)?)?;
+    }
+    Ok(copies)
+}
+
+/// The suffixes of an engine that was told no others.
+pub fn standard_suffixes(alloc: Global) -> TeraResult<Vec<String>>
+    ensures { Gives (λ v. map string_bytes v.items) result (Ok standard_suffixes) }
+{
+    copied(alloc, &[".html", ".htm", ".xml"])
+}
+
+/// Whether the name ends with one of the suffixes. Takes no memory.
+pub fn ends_with_one_of(name: &str, suffixes: &[String]) -> bool
+    ensures { result ≡ list_any (λ s. ends_with nat_eq name.now s) (map string_bytes suffixes.now) }
+{
+    suffixes.iter().any(|suffix| name.ends_with(suffix.as_str()))
+}

@@ -1,0 +1,210 @@
+//! Templates by name: what they render to, and which batches are refused.
+use crate::cases::put;
+use std::alloc::Global;
+use tera::{Context, Error, ErrorKind, Tera, TeraResult, Value};
+use tera_values::{Key, Map};
+
+/// Two that extend one another, and one above which they stand.
+const CIRCLE: [(&str, &str); 3] = [
+    ("a", "{% extends 'b' %}"),
+    ("b", "{% extends 'c' %}"),
+    ("c", "{% extends 'b' %}"),
+];
+
+const TWICE: [(&str, &str); 2] = [("a", "1"), ("a", "2")];
+
+/// A parent that escapes nothing by its own name, and children of it.
+const FAMILY: [(&str, &str); 3] = [
+    ("base.txt", "{{ html }}{{ nope or '' }}"),
+    ("child.html", "{% extends 'base.txt' %}"),
+    ("child.txt", "{% extends 'base.txt' %}"),
+];
+
+const USERS: &str = "{% for user in users %}<a href=\"{{ user.url }}\">{{ user.username }}</a>{% endfor %}";
+
+fn kind(error: &Error) -> &'static str {
+    match error.kind() {
+        ErrorKind::SyntaxError(_) => "SyntaxError",
+        ErrorKind::Message(_) => "Message",
+        ErrorKind::CircularExtend => "CircularExtend",
+        ErrorKind::MissingParent => "MissingParent",
+        ErrorKind::TemplateNotFound => "TemplateNotFound",
+        _ => "another",
+    }
+}
+
+pub fn is_refused(answer: TeraResult<()>, want: &str) -> bool {
+    match answer {
+        Ok(()) => false,
+        Err(error) => kind(&error) == want,
+    }
+}
+
+pub fn adds(engine: &mut Tera, name: &str, content: &str) -> bool {
+    engine.add_raw_template(name, content).is_ok()
+}
+
+/// Whether the template renders to the text.
+pub fn shows(engine: &Tera, context: &Context, name: &str, text: &str) -> bool {
+    match engine.render(name, context) {
+        Ok(rendered) => rendered.as_str() == text,
+        Err(_) => false,
+    }
+}
+
+/// Whether the rendering is refused with an error of this kind.
+fn fails(engine: &Tera, context: &Context, name: &str, want: &str) -> bool {
+    match engine.render(name, context) {
+        Ok(_) => false,
+        Err(error) => kind(&error) == want,
+    }
+}
+
+fn falls_back(engine: &mut Tera, context: &Context) -> bool {
+    engine.set_fallback_prefixes(&["other/", "themes/cool/"]).is_ok()
+        && adds(engine, "themes/cool/base.html", "fallback")
+        && adds(engine, "child.html", "{% extends \"base.html\" %}")
+        && engine.contains_template("base.html")
+        && !engine.contains_template("cool/base.html")
+        && shows(engine, context, "child.html", "fallback")
+        && shows(engine, context, "base.html", "fallback")
+        && adds(engine, "base.html", "main")
+        && shows(engine, context, "child.html", "main")
+        && is_refused(engine.set_fallback_prefixes(&["other/"]), "Message")
+        && shows(engine, context, "child.html", "main")
+}
+
+fn prefixes_are_tried(alloc: Global) -> bool {
+    match Tera::new(alloc) {
+        Ok(mut engine) => {
+            let context = Context::new(alloc);
+            falls_back(&mut engine, &context)
+        }
+        Err(_) => false,
+    }
+}
+
+#[test]
+fn names_fall_back_to_prefixes(rt: HostRuntime) {
+    assert!(rt; prefixes_are_tried(rt.alloc()));
+}
+
+fn has_names(engine: &Tera, count: usize) -> bool {
+    match engine.get_template_names() {
+        Ok(names) => names.len() == count,
+        Err(_) => false,
+    }
+}
+
+fn refuses_batches(engine: &mut Tera, context: &Context) -> bool {
+    is_refused(engine.add_raw_templates(&CIRCLE), "CircularExtend")
+        && has_names(engine, 0)
+        && is_refused(engine.add_raw_template("a", "{% extends \"no\" %}"), "MissingParent")
+        && is_refused(engine.add_raw_template("a", "{% extends 'a' %}"), "CircularExtend")
+        && !engine.contains_template("a")
+        && fails(engine, context, "no", "TemplateNotFound")
+        && engine.add_raw_templates(&TWICE).is_ok()
+        && shows(engine, context, "a", "2")
+        && is_refused(engine.add_raw_template("a", "{% if x %}oops"), "SyntaxError")
+        && is_refused(engine.add_raw_template("b", "{% extends 'no' %}"), "MissingParent")
+        && shows(engine, context, "a", "2")
+        && has_names(engine, 1)
+}
+
+fn batches_are_refused(alloc: Global) -> bool {
+    match Tera::new(alloc) {
+        Ok(mut engine) => {
+            let context = Context::new(alloc);
+            refuses_batches(&mut engine, &context)
+        }
+        Err(_) => false,
+    }
+}
+
+#[test]
+fn refused_batches_change_nothing(rt: HostRuntime) {
+    assert!(rt; batches_are_refused(rt.alloc()));
+}
+
+/// One user, with an address and a name.
+fn user(alloc: Global) -> TeraResult<Value> {
+    let mut user = Map::new(alloc);
+    let url = Value::string(alloc, "/a")?;
+    user.insert(Key::Text(String::from_str(alloc, "url")?), url)?;
+    let name = Value::string(alloc, "A&B")?;
+    user.insert(Key::Text(String::from_str(alloc, "username")?), name)?;
+    Ok(Value::map(user))
+}
+
+fn users(alloc: Global) -> TeraResult<Value> {
+    let mut all = Vec::new(alloc);
+    all.push(user(alloc)?)?;
+    Ok(Value::array(all))
+}
+
+fn lists_users(engine: &mut Tera, context: &Context) -> bool {
+    adds(engine, "u.html", USERS)
+        && adds(engine, "u.txt", USERS)
+        && shows(engine, context, "u.html", "<a href=\"/a\">A&amp;B</a>")
+        && shows(engine, context, "u.txt", "<a href=\"/a\">A&B</a>")
+        && engine.autoescape_on(&[".txt"]).is_ok()
+        && shows(engine, context, "u.html", "<a href=\"/a\">A&B</a>")
+        && shows(engine, context, "u.txt", "<a href=\"/a\">A&amp;B</a>")
+        && engine.autoescape_on(&[]).is_ok()
+        && shows(engine, context, "u.txt", "<a href=\"/a\">A&B</a>")
+}
+
+fn users_are_listed(alloc: Global) -> bool {
+    match Tera::new(alloc) {
+        Ok(mut engine) => {
+            let mut context = Context::new(alloc);
+            put(&mut context, "users", users(alloc)) && lists_users(&mut engine, &context)
+        }
+        Err(_) => false,
+    }
+}
+
+#[test]
+fn suffixes_say_what_escapes(rt: HostRuntime) {
+    assert!(rt; users_are_listed(rt.alloc()));
+}
+
+fn appends(alloc: Global, engine: &Tera, context: &Context) -> bool {
+    let mut out = Vec::new(alloc);
+    engine.render_to("child.html", context, &mut out).is_ok()
+        && is_refused(engine.render_to("no", context, &mut out), "TemplateNotFound")
+        && engine.render_to("child.txt", context, &mut out).is_ok()
+        && out.as_slice() == b"&lt;<".as_slice()
+}
+
+/// Whether a child escapes as its own name says, in its parent's text too.
+fn inherits(alloc: Global, engine: &mut Tera, context: &Context) -> bool {
+    engine.add_raw_templates(&FAMILY).is_ok()
+        && shows(engine, context, "child.html", "&lt;")
+        && shows(engine, context, "child.txt", "<")
+        && appends(alloc, engine, context)
+        && is_message(engine, context, "{% extends 'base.txt' %}")
+}
+
+fn is_message(engine: &Tera, context: &Context, input: &str) -> bool {
+    match engine.render_str(input, context, true) {
+        Ok(_) => false,
+        Err(error) => kind(&error) == "Message",
+    }
+}
+
+fn children_are_shown(alloc: Global) -> bool {
+    match Tera::new(alloc) {
+        Ok(mut engine) => {
+            let mut context = Context::new(alloc);
+            put(&mut context, "html", Value::string(alloc, "<"))
+                && inherits(alloc, &mut engine, &context)
+        }
+        Err(_) => false,
+    }
+}
+
+#[test]
+fn children_show_their_last_parent(rt: HostRuntime) {
+    assert!(rt; children_are_shown(rt.alloc()));
+}

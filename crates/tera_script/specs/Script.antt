@@ -86,6 +86,15 @@ abbrev pub add_of : List Text → Option Act
 add_of [] = Some add_batch
 add_of (field ∷ fields) = None
 
+abbrev pub suffix_of : List Text → Option Act
+suffix_of fields = option_map set_suffixes (checked_fields fields)
+
+abbrev pub prefix_of : List Text → Option Act
+prefix_of fields = option_map set_prefixes (checked_fields fields)
+
+abbrev pub render_of : List Text → Option Act
+render_of fields = option_map render_named (only_field fields)
+
 -- the word and the field of a command with a body
 abbrev pub opening_of : Text → Option Text → Option Opening
 opening_of word None = None
@@ -104,9 +113,9 @@ abbrev pub act_named : Text → List Text → Option Act
 act_named word fields =
     if bytes_eq word (codes "int") then int_of fields
     else if bytes_eq word (codes "add") then add_of fields
-    else if bytes_eq word (codes "suffix") then option_map set_suffixes (checked_fields fields)
-    else if bytes_eq word (codes "prefix") then option_map set_prefixes (checked_fields fields)
-    else if bytes_eq word (codes "render") then option_map render_named (only_field fields)
+    else if bytes_eq word (codes "suffix") then suffix_of fields
+    else if bytes_eq word (codes "prefix") then prefix_of fields
+    else if bytes_eq word (codes "render") then render_of fields
     else None
 
 -- a command has a body, or has none

@@ -4,7 +4,8 @@ use Rattle.std.specs.Borrow.{Bor}
 use Rattle.std.specs.Global.{Vec}
 use Rattle.std.specs.Option.{option_map}
 use Rattle.tera_errors.specs.Site.{Text}
-use Rattle.tera_script.specs.Act.{act_of, acts_of}
+use Rattle.tera_script.specs.Act.{Act, act_of, acts_of}
+use Rattle.tera_script.specs.declared.command.Command.{Command}
 use Rattle.tera_script.specs.declared.script.Opening.{Opening}
 use Rattle.tera_script.specs.declared.script.Opening.TheVariants as opening
 use Rattle.tera_script.specs.declared.script.Head.{Head}
@@ -22,6 +23,9 @@ text_seen text = option_map (λ t. t.now) text
 
 abbrev pub fields_seen : Option (Vec (Bor Text)) → Option (List Text)
 fields_seen fields = option_map (λ texts. texts_of texts.items) fields
+
+abbrev pub act_seen : Option Command → Option Act
+act_seen found = option_map act_of found
 
 abbrev pub plain_opening : Opening → script.Opening
 plain_opening (opening.Text name) = script.text_opening name.now

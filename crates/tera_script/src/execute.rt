@@ -31,7 +31,8 @@ pub fn run_commands(
     engine: &mut Tera,
     commands: &[Command<'_>],
 ) -> TeraResult<Vec<Reply>>
-    ensures replies { IfOk result (λ replies. Leads (registry_of engine.old) (acts_of commands.now) (replies_seen replies.items) (registry_of engine.new)) }
+    ensures replies { IfOk result (λ replies. Leads (registry_of engine.old)
+        (acts_of commands.now) (replies_seen replies.items) (registry_of engine.new)) }
     ensures memory { IfErr result (λ e. Lacks e) }
     ensures unchanged { OnErr result (registry_of engine.new ≡ registry_of engine.old) }
 {
@@ -66,7 +67,8 @@ fn reply_to<'a>(
     session: &mut Session<'a>,
     command: &Command<'a>,
 ) -> Reply
-    ensures { Answers (session_of engine.old session.old) (act_of command.now) (reply_seen result) (session_of engine.new session.new) }
+    ensures { Answers (session_of engine.old session.old)
+        (act_of command.now) (reply_seen result) (session_of engine.new session.new) }
 {
     let context = &mut session.context;
     match command {
@@ -129,7 +131,8 @@ fn put_text(
 
 // Lets a template wait.
 fn join<'a>(batch: &mut Vec<(&'a str, &'a str)>, name: &'a str, body: &'a str) -> TeraResult<()>
-    ensures ok { OnOk result (pairs_of batch.new.items ≡ pairs_of batch.old.items ++ (name.now, body.now) ∷ []) }
+    ensures ok { OnOk result
+        (pairs_of batch.new.items ≡ pairs_of batch.old.items ++ (name.now, body.now) ∷ []) }
     ensures err { IfErr result (λ e. Lacks e) }
     ensures unchanged { OnErr result (pairs_of batch.new.items ≡ pairs_of batch.old.items) }
 {
@@ -139,7 +142,9 @@ fn join<'a>(batch: &mut Vec<(&'a str, &'a str)>, name: &'a str, body: &'a str) -
 
 // Adds the templates that wait. Then none waits, whatever the answer is.
 fn add(engine: &mut Tera, batch: &mut Vec<(&str, &str)>) -> TeraResult<()>
-    ensures engine { ConfiguresOneOf result (Adds (registry_of engine.old) (pairs_of batch.old.items)) (registry_of engine.old) (registry_of engine.new) }
+    ensures engine { ConfiguresOneOf result
+        (Adds (registry_of engine.old) (pairs_of batch.old.items))
+        (registry_of engine.old) (registry_of engine.new) }
     ensures batch { batch.new.items ≡ [] }
 {
     let answer = engine.add_raw_templates(batch.as_slice());

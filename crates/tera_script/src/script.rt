@@ -1,10 +1,10 @@
 // Commands from the text of a script.
-ghost use Rattle.std.specs.Prelude.{◌≡◌, ◌==◌, MatchOption, IfOk, option_map, slice_index};
-ghost use Rattle.tera_script.specs.Act.{act_of, set_suffixes, set_prefixes, render_named};
+ghost use Rattle.std.specs.Prelude.{◌≡◌, ◌==◌, MatchOption, IfOk, slice_index};
+ghost use Rattle.tera_script.specs.Act.{act_of};
 ghost use Rattle.tera_script.specs.Found.{IsCommand, IsNone};
 ghost use Rattle.tera_script.specs.Lines.{lines_of};
-ghost use Rattle.tera_script.specs.Script.{is_plain, head_of, head_named, only_field, checked_fields, switch, integer, int_of, add_of, opening_named, act_named, with_body, script_of_lines, script_of};
-ghost use Rattle.tera_script.specs.Seen.{fields_seen, head_seen, opening_seen, plain_opening, script_seen, text_seen};
+ghost use Rattle.tera_script.specs.Script.{is_plain, head_of, head_named, only_field, checked_fields, switch, integer, int_of, add_of, suffix_of, prefix_of, render_of, opening_named, act_named, with_body, script_of_lines, script_of};
+ghost use Rattle.tera_script.specs.Seen.{act_seen, fields_seen, head_seen, opening_seen, plain_opening, script_seen, text_seen};
 ghost use Rattle.tera_script.specs.Words.{words_after};
 
 use crate::body::first_body;
@@ -107,7 +107,7 @@ fn integer(field: &str) -> Option<i128>
 
 // `int`, with a name and a number.
 fn int_of(fields: Option<&str>) -> Option<Command<'_>>
-    ensures { option_map act_of result ≡ int_of (words_after fields.entry) }
+    ensures { act_seen result ≡ int_of (words_after fields.entry) }
 {
     let (name, rest) = first_word(fields?);
     let (number, more) = first_word(rest?);
@@ -123,7 +123,7 @@ fn int_of(fields: Option<&str>) -> Option<Command<'_>>
 }
 
 fn add_of(fields: Option<&str>) -> Option<Command<'static>>
-    ensures { option_map act_of result ≡ add_of (words_after fields.entry) }
+    ensures { act_seen result ≡ add_of (words_after fields.entry) }
 {
     match fields {
         None => Some(Command::Add),
@@ -132,7 +132,7 @@ fn add_of(fields: Option<&str>) -> Option<Command<'static>>
 }
 
 fn suffix_of<'a>(alloc: Global, fields: Option<&'a str>) -> Result<Option<Command<'a>>, AllocError>
-    ensures { IfOk result (λ found. option_map act_of found ≡ option_map set_suffixes (checked_fields (words_after fields.entry))) }
+    ensures { IfOk result (λ found. act_seen found ≡ suffix_of (words_after fields.entry)) }
 {
     match checked_fields(alloc, fields)? {
         Some(suffixes) => Ok(Some(Command::Suffix { suffixes })),
@@ -141,7 +141,7 @@ fn suffix_of<'a>(alloc: Global, fields: Option<&'a str>) -> Result<Option<Comman
 }
 
 fn prefix_of<'a>(alloc: Global, fields: Option<&'a str>) -> Result<Option<Command<'a>>, AllocError>
-    ensures { IfOk result (λ found. option_map act_of found ≡ option_map set_prefixes (checked_fields (words_after fields.entry))) }
+    ensures { IfOk result (λ found. act_seen found ≡ prefix_of (words_after fields.entry)) }
 {
     match checked_fields(alloc, fields)? {
         Some(prefixes) => Ok(Some(Command::Prefix { prefixes })),
@@ -150,7 +150,7 @@ fn prefix_of<'a>(alloc: Global, fields: Option<&'a str>) -> Result<Option<Comman
 }
 
 fn render_of(fields: Option<&str>) -> Option<Command<'_>>
-    ensures { option_map act_of result ≡ option_map render_named (only_field (words_after fields.entry)) }
+    ensures { act_seen result ≡ render_of (words_after fields.entry) }
 {
     Some(Command::Render {
         name: only_field(fields)?,
@@ -177,7 +177,8 @@ fn command_named<'a>(
     word: &str,
     fields: Option<&'a str>,
 ) -> Result<Option<Command<'a>>, AllocError>
-    ensures { IfOk result (λ found. option_map act_of found ≡ act_named word.now (words_after fields.entry)) }
+    ensures { IfOk result (λ found.
+        act_seen found ≡ act_named word.now (words_after fields.entry)) }
 {
     match word {
         "int" => Ok(int_of(fields)),
@@ -194,7 +195,8 @@ fn head_named<'a>(
     word: &str,
     fields: Option<&'a str>,
 ) -> Result<Option<Head<'a>>, AllocError>
-    ensures { IfOk result (λ found. head_seen found ≡ head_named word.now (words_after fields.entry)) }
+    ensures { IfOk result (λ found.
+        head_seen found ≡ head_named word.now (words_after fields.entry)) }
 {
     if let Some(opening) = opening_named(word, fields) {
         return Ok(Some(Head::Opens(opening)));
@@ -245,7 +247,8 @@ fn command_at<'a>(
     line: &'a str,
     after: &'a str,
 ) -> Result<Option<Found<'a>>, AllocError>
-    ensures { IfOk result (λ found. MatchOption found (IsNone line.now after.now) (IsCommand line.now after.now)) }
+    ensures { IfOk result (λ found.
+        MatchOption found (IsNone line.now after.now) (IsCommand line.now after.now)) }
 {
     match head_of(alloc, line)? {
         None => Ok(None),

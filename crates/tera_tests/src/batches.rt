@@ -21,7 +21,7 @@ B
 A
 
 @@ template a
-{{ x
+{% extends "p" %}
 @@ end
 @@ template b
 @@ end
@@ -30,18 +30,6 @@ A
 @@ render b
 =>
 ok
-ok
-fault SyntaxError a 4 4
-ok
-fault TemplateNotFound
-
-@@ template a
-{% extends "p" %}
-@@ end
-@@ add
-@@ add
-@@ render a
-=>
 ok
 fault MissingParent
 ok
@@ -240,7 +228,8 @@ ok
 <&lt;"#;
 
 /// Lines that are no commands.
-const UNREADABLE: &str = "@@ add \n@@ add a\n@@ suffix \n@@ suffix  a\n@@ suffix a \n@@ suffix a  b\n\
+const UNREADABLE: &str =
+    "@@ add \n@@ add a\n@@ suffix \n@@ suffix  a\n@@ suffix a \n@@ suffix a  b\n\
     @@ prefix \n@@ prefix a \n@@ prefix a\tb\n@@ render\n@@ render \n@@ render a b\n@@ template\n@@ template a b";
 
 /// Whether the replies to the script are these.
@@ -278,5 +267,9 @@ fn prefixes_and_suffixes(rt: HostRuntime) {
 
 #[test]
 fn unreadable_fields(rt: HostRuntime) {
-    assert!(rt; UNREADABLE.lines().all(|line| is_unreadable(rt.alloc(), line)));
+    assert!(rt;
+        UNREADABLE
+            .lines()
+            .all(|line| is_unreadable(rt.alloc(), line))
+    );
 }

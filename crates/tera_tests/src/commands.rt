@@ -41,8 +41,7 @@ fn are_all_done(replies: &[Reply]) -> bool {
 
 /// Whether the engine keeps what commands left.
 fn are_kept(alloc: Global, engine: &mut Tera) -> bool {
-    let (Ok(prefixes), Ok(suffixes)) = (vec![in alloc; "t/"], vec![in alloc; ".txt", ".csv"])
-    else {
+    let (Ok(prefixes), Ok(suffixes)) = (vec![in alloc; "t/"], vec![in alloc; ".txt", ".csv"]) else {
         return false;
     };
     let commands = [

@@ -1,24 +1,16 @@
 -- What the configuring calls make of a registry.
-use Rattle.std.specs.Prelude.{◌≡◌, ◌&&◌, cond, Bool, true, false, List, [], ◌∷◌, Result, Ok, Err}
+use Rattle.std.specs.Prelude.{◌≡◌, ◌&&◌, cond, List, Result, Ok, Err}
 use Rattle.tera_errors.specs.Fault.{Fault, message}
 use Rattle.tera_errors.specs.Site.{Text}
-use Rattle.tera_errors.specs.Answer.{Refusal, Says, SaysOneOf}
+use Rattle.tera_errors.specs.Answer.{Refusal, Says}
 use Rattle.tera_tree.specs.Delimiters.{Delims, accepted}
 use Rattle.tera_meaning.specs.Registry.{Registry}
+use Rattle.tera_registry.specs.Templates.{is_empty}
 
 -- how a configuring call ends: with the registry that is meant, or with a refusal and the one of before
 abbrev pub Configures : Result (Unit {0}) Refusal → Result Registry Fault → Registry → Registry → Type 0
 Configures (Ok u) meant old new = meant ≡ Ok new
 Configures (Err e) meant old new = Says e meant × (new ≡ old)
-
--- the same, where more than one end may be meant
-abbrev pub ConfiguresOneOf : Result (Unit {0}) Refusal → (Result Registry Fault → Type 0) → Registry → Registry → Type 0
-ConfiguresOneOf (Ok u) Meant old new = Meant (Ok new)
-ConfiguresOneOf (Err e) Meant old new = SaysOneOf e Meant × (new ≡ old)
-
-abbrev pub is_empty : {A : Type 0} → List A → Bool
-is_empty [] = true
-is_empty (a ∷ as') = false
 
 -- other delimiters, where no template is there yet and they can be told apart
 abbrev pub with_delimiters : Delims → Registry → Result Registry Fault

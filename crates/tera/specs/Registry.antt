@@ -1,33 +1,53 @@
 -- What an engine holds, as the definitions see it.
-use Rattle.std.specs.Prelude.{Bool, [], map, string_bytes, Result}
-use Rattle.tera_errors.specs.Site.{Text}
+use Rattle.std.specs.Prelude.{Bool, map, string_bytes, Option, Some, None, Result}
+use Rattle.tera_errors.specs.Site.{Text, Name}
 use Rattle.tera_errors.specs.Fault.{Fault}
 use Rattle.tera_values.specs.Val.{Val}
 use Rattle.tera_values.specs.Named.{Named}
 use Rattle.tera_values.specs.Escape.{escape_html}
 use Rattle.tera_tree.specs.Delimiters.{delimiters_of}
-use Rattle.tera_tree.specs.Tree.{Nodes}
+use Rattle.tera_tree.specs.Tree.{Nodes, NoNodes}
 use Rattle.tera_state.specs.Scope.{nothing_set}
 use Rattle.tera_meaning.specs.Run.{begun}
-use Rattle.tera_meaning.specs.Registry.{Registry}
-use Rattle.tera_meaning.specs.Rendering.{alone, one_off_place, text_of}
+use Rattle.tera_meaning.specs.Registry.{Entry, Registry}
+use Rattle.tera_meaning.specs.Resolve.{entry_at}
+use Rattle.tera_meaning.specs.Rendering.{alone, outermost, text_of}
+use Rattle.tera_meaning.specs.Whole.{Place}
+use Rattle.tera_registry.specs.Templates.{templates_of, prefixes_of}
 use Rattle.tera_machine.specs.Subject.{Subject, meant}
 use Rattle.tera.specs.declared.engine.Tera.{Tera}
 
 abbrev pub registry_of : Tera → Registry
 registry_of t = record {
-  templates = [];
-  prefixes = map string_bytes t.prefixes.items;
+  templates = templates_of t.templates;
+  prefixes = prefixes_of t.templates;
   suffixes = map string_bytes t.suffixes.items;
   delimiters = delimiters_of t.delimiters;
   global = t.global_context;
   engine = record { escape = escape_html };
 }
 
--- a text beside the registry, as what a run of the machine is about
-abbrev pub subject_of : Tera → Nodes → Named Val → Bool → Subject
-subject_of t nodes context autoescape =
-    record { world = alone (registry_of t); place = one_off_place (registry_of t) context autoescape; tree = nodes }
+-- where a body stands that a rendering begins with
+abbrev pub place_at : Tera → Name → Named Val → Bool → Place
+place_at t file context autoescape =
+    record { file = file; around = outermost (registry_of t) context; autoescape = autoescape }
+
+-- nodes of this template's text, as what a run of the machine is about
+abbrev pub subject_of : Tera → Name → Nodes → Named Val → Bool → Subject
+subject_of t file nodes context autoescape =
+    record { world = alone (registry_of t); place = place_at t file context autoescape; tree = nodes }
+
+abbrev pub nodes_in : Option Entry → Nodes
+nodes_in None = NoNodes
+nodes_in (Some t) = t.1.tree.nodes
+
+-- the nodes of the template that has this name
+abbrev pub nodes_of_file : Registry → Name → Nodes
+nodes_of_file r file = nodes_in (entry_at file r.templates)
+
+abbrev pub subject_of_file : Tera → Name → Named Val → Bool → Subject
+subject_of_file t file context autoescape =
+    subject_of t file (nodes_of_file (registry_of t) file) context autoescape
 
 -- the text that a body means where it begins a rendering, or its fault
 abbrev pub text_meant : Subject → Result Text Fault

@@ -1,22 +1,25 @@
 // An engine, and what it renders.
-ghost use Rattle.std.specs.Prelude.{◌≡◌, Ok, IsTrue, string_bytes};
+ghost use Rattle.std.specs.Prelude.{◌≡◌, [], Ok, IsTrue, OnOk, IfErr, false, string_bytes};
 ghost use Rattle.std.specs.Borrow.{sem};
-ghost use Rattle.tera_errors.specs.Answer.{Gives, GivesOneOf};
+ghost use Rattle.tera_errors.specs.Answer.{Gives, GivesOneOf, Tells};
+ghost use Rattle.tera_errors.specs.Fault.{message};
 ghost use Rattle.tera_tree.specs.Delimiters.{delimiters_of, accepted};
 ghost use Rattle.tera_meaning.specs.Registry.{new_registry};
+ghost use Rattle.tera_registry.specs.Templates.{is_empty};
 ghost use Rattle.tera.specs.Rendering.{OneOff, AppendsOneOf};
 ghost use Rattle.tera.specs.Configuring.{Configures, with_delimiters, with_prefixes, with_suffixes};
 ghost use Rattle.tera.specs.Lent.{texts_of};
 
 use crate::texts::{copied, standard_suffixes};
 use std::alloc::Global;
+use tera_registry::Templates;
 use tera_tree::Delimiters;
-use tera_values::{Context, TeraResult};
+use tera_values::{Context, Error, TeraResult};
 
 /// An engine: what templates are read by, and what every rendering reads. Definitions see it as a registry.
 pub struct Tera {
     pub(crate) alloc: Global,
-    pub(crate) prefixes: Vec<String>,
+    pub(crate) templates: Templates,
     pub(crate) suffixes: Vec<String>,
     pub(crate) delimiters: Delimiters,
     pub(crate) global_context: Context,
@@ -28,12 +31,12 @@ impl Drop for Tera {
     fn drop(self) {
         let Tera {
             alloc: _,
-            prefixes,
+            templates,
             suffixes,
             delimiters,
             global_context,
         } = self;
-        drop(prefixes);
+        drop(templates);
         drop(suffixes);
         drop(delimiters);
         drop(global_context);
@@ -51,7 +54,7 @@ impl Tera {
     {
         Ok(Tera {
             alloc,
-            prefixes: Vec::new(alloc),
+            templates: Templates::new(alloc, Vec::new(alloc)),
             suffixes: standard_suffixes(alloc)?,
             delimiters: Delimiters::standard(alloc)?,
             global_context: Context::new(alloc),
@@ -72,6 +75,7 @@ impl Tera {
     pub fn set_delimiters(&mut self, delimiters: Delimiters) -> TeraResult<()>
         ensures { Configures result (with_delimiters (delimiters_of delimiters) (registry_of self.old)) (registry_of self.old) (registry_of self.new) }
     {
+        self.refuse_once_filled()?;
         delimiters.validate(self.alloc)?;
         self.delimiters = delimiters;
         Ok(())
@@ -82,8 +86,23 @@ impl Tera {
     pub fn set_fallback_prefixes(&mut self, prefixes: &[&str]) -> TeraResult<()>
         ensures { Configures result (with_prefixes (texts_of prefixes.now) (registry_of self.old)) (registry_of self.old) (registry_of self.new) }
     {
-        self.prefixes = copied(self.alloc, prefixes)?;
+        self.refuse_once_filled()?;
+        self.templates = Templates::new(self.alloc, copied(self.alloc, prefixes)?);
         Ok(())
+    }
+
+    // What templates were read and linked by cannot change.
+    fn refuse_once_filled(&self) -> TeraResult<()>
+        ensures ok { OnOk result ((registry_of self.now).templates ≡ []) }
+        ensures err { IfErr result (λ e. Tells e message × (is_empty (registry_of self.now).templates ≡ false)) }
+    {
+        if self.templates.is_empty() {
+            return Ok(());
+        }
+        Err(Error::message(
+            self.alloc,
+            "this cannot be changed once a template is there",
+        ))
     }
 
     /// Templates whose names end with one of these suffixes escape from now on, also those that are there.

@@ -1,9 +1,9 @@
-// From a text to what it renders to.
+// From a text, or the code of a body, to what it renders to.
 ghost use Rattle.std.specs.Prelude.{◌≡◌, string_bytes};
 ghost use Rattle.tera_errors.specs.Answer.{Gives, GivesOneOf, Lacks};
 ghost use Rattle.std.specs.Prelude.{IfOk, IfErr};
 ghost use Rattle.tera_tree.specs.View.{nodes_of};
-ghost use Rattle.tera_code.specs.Code.{listing_of};
+ghost use Rattle.tera_code.specs.Code.{listing_of, nodes_code};
 ghost use Rattle.tera.specs.Rendering.{OneOff};
 ghost use Rattle.tera_meaning.specs.Rendering.{one_off_name};
 ghost use Rattle.tera_machine.specs.Subject.{Subject};
@@ -23,7 +23,7 @@ use tera_values::{Context, TeraResult};
 const ONE_OFF: &str = "__tera_one_off";
 
 impl Tera {
-    ghost use Rattle.tera.specs.Registry.{registry_of, subject_of, text_meant};
+    ghost use Rattle.tera.specs.Registry.{registry_of, nodes_of_file, subject_of, subject_of_file, text_meant};
 
     pub(crate) fn read_and_render(
         &self,
@@ -46,7 +46,7 @@ impl Tera {
         }
     }
 
-    // The text of these nodes. The subject is theirs: it tells the machine what they mean.
+    // The text of these nodes, which stand beside the registry. The subject is theirs.
     fn render_nodes<L: Ledger>(
         &self,
         nodes: &[Node],
@@ -56,15 +56,45 @@ impl Tera {
     ) -> TeraResult<String>
         ghost about: { Subject }
         requires ledger { (blank.name ≡ L.name) × (blank.parts ≡ L.parts) × (L.parts ≡ 1) }
-        requires subject { about ≡ subject_of self.now (nodes_of nodes.now) context.now autoescape }
+        requires subject { about ≡ subject_of self.now one_off_name (nodes_of nodes.now) context.now autoescape }
         ensures { Gives string_bytes result (text_meant about) }
     {
         let chunk = compiled(self.alloc, nodes)?;
+        self.run_body::<L>(&chunk, context, autoescape, blank)
+    }
+
+    // The text of the body of a template: the file that its code names says of which.
+    pub(crate) fn render_body(
+        &self,
+        chunk: &Chunk,
+        context: &Context,
+        autoescape: bool,
+    ) -> TeraResult<String>
+        requires { chunk.now.code ≡ nodes_code (nodes_of_file (registry_of self.now) chunk.now.file) 0 }
+        ensures { Gives string_bytes result (text_meant (subject_of_file self.now chunk.now.file context.now autoescape)) }
+    {
+        self.run_body::<Brand>(chunk, context, autoescape, Blank::new(1))
+    }
+
+    // The text of a body. The subject is the body's: it tells the machine what it means.
+    fn run_body<L: Ledger>(
+        &self,
+        chunk: &Chunk,
+        context: &Context,
+        autoescape: bool,
+        blank: Blank,
+    ) -> TeraResult<String>
+        ghost about: { Subject }
+        requires ledger { (blank.name ≡ L.name) × (blank.parts ≡ L.parts) × (L.parts ≡ 1) }
+        requires subject { about ≡ subject_of self.now chunk.now.file about.tree context.now autoescape }
+        requires code { chunk.now.code ≡ nodes_code about.tree 0 }
+        ensures { Gives string_bytes result (text_meant about) }
+    {
         let machine = VirtualMachine::new_with_autoescape(self.alloc, autoescape);
         let scopes = Scopes::new(self.alloc, context, Some(&self.global_context));
         let mut configuration = Configuration::new(self.alloc, scopes);
         let mut steps = Steps::<L>::new(blank);
-        match machine.run::<L>(&chunk, &mut configuration, &mut steps) {
+        match machine.run::<L>(chunk, &mut configuration, &mut steps) {
             Ok(()) => Ok(configuration.texts.into_string()),
             Err(error) => Err(error),
         }

@@ -2,12 +2,11 @@
 ghost use Rattle.std.specs.Prelude.{◌≡◌, Ok, [], ◌∷◌, is_some, map, string_bytes};
 ghost use Rattle.tera_errors.specs.Answer.{Gives, GivesOneOf};
 ghost use Rattle.tera_meaning.specs.Resolve.{resolve};
-ghost use Rattle.tera.specs.Adding.{Adds};
-ghost use Rattle.tera.specs.Configuring.{ConfiguresOneOf};
-ghost use Rattle.tera.specs.Lent.{pairs_of};
+ghost use Rattle.tera_registry.specs.Batch.{Adds, ConfiguresOneOf, pairs_of};
 ghost use Rattle.tera.specs.Rendering.{ByName, AppendsOneOf};
 
 use crate::engine::Tera;
+use crate::texts::ends_with_one_of;
 use tera_values::{Context, Error, TeraResult};
 
 impl Tera {
@@ -26,28 +25,34 @@ impl Tera {
     pub fn add_raw_templates(&mut self, templates: &[(&str, &str)]) -> TeraResult<()>
         ensures { ConfiguresOneOf result (Adds (registry_of self.old) (pairs_of templates.now)) (registry_of self.old) (registry_of self.new) }
     {
-        Err(Error::out_of_memory())
+        self.templates.add(&self.delimiters, templates)
     }
 
     /// Whether the name resolves to a template. Takes no memory.
     pub fn contains_template(&self, name: &str) -> bool
         ensures { result ≡ is_some (resolve (registry_of self.now) name.now) }
     {
-        false
+        self.templates.contains(name)
     }
 
     /// The names of the templates, each once, in byte order.
     pub fn get_template_names(&self) -> TeraResult<Vec<String>>
         ensures { Gives (λ v. map string_bytes v.items) result (Ok (map (λ t. t.0) (registry_of self.now).templates)) }
     {
-        Err(Error::out_of_memory())
+        self.templates.names()
     }
 
     /// Renders the template to which the name resolves: the text of the last of its parents, or its own where it has none.
     pub fn render(&self, name: &str, context: &Context) -> TeraResult<String>
         ensures { GivesOneOf string_bytes result (ByName (registry_of self.now) name.now context.now) }
     {
-        Err(Error::out_of_memory())
+        match self.templates.find(name) {
+            Some(found) => {
+                let autoescape = ends_with_one_of(found.name, self.suffixes.as_slice());
+                self.render_body(found.chunk, context, autoescape)
+            }
+            None => Err(Error::template_not_found()),
+        }
     }
 
     /// Appends what `render` answers. After a refusal the vector is as before.

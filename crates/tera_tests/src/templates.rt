@@ -174,7 +174,7 @@ fn appends(alloc: Global, engine: &Tera, context: &Context) -> bool {
     engine.render_to("child.html", context, &mut out).is_ok()
         && is_refused(engine.render_to("no", context, &mut out), "TemplateNotFound")
         && engine.render_to("child.txt", context, &mut out).is_ok()
-        && out.as_slice() == b"&lt;<"
+        && out.as_slice() == b"&lt;<".as_slice()
 }
 
 /// Whether a child escapes as its own name says, in its parent's text too.

@@ -1,0 +1,126 @@
+-- What an adding call makes of a whole registry.
+use Rattle.std.proofs.Common.{◌≡◌, ℕ, List, [], ◌∷◌, length, map, Some, None, Result, Ok, Err, String, string_bytes, Global, refl, sym, ap, ◌∙◌}
+use Rattle.std.specs.declared.rc.Rc.{Rc}
+use Rattle.std.specs.List.{AllZip}
+use Rattle.std.specs.Option.{option_or}
+use Rattle.tera_errors.specs.Site.{Name, Text}
+use Rattle.tera_errors.specs.Fault.{Fault}
+use Rattle.tera_errors.specs.Answer.{Refusal, Says, SaysOneOf}
+use Rattle.tera_tree.specs.Delimiters.{Delims}
+use Rattle.tera_values.specs.Named.{Named, put_all}
+use Rattle.tera_meaning.specs.Registry.{Template, Entry, Registry, new_registry}
+use Rattle.tera_meaning.specs.Accepted.{template_fault, first_fault, fault}
+use Rattle.tera_meaning.specs.Adding.{unless_faulty, accepted}
+use Rattle.tera_registry.specs.declared.template.Template.{Template as Stored}
+use Rattle.tera_registry.specs.Batch.{ReadsBatch, Adds}
+use Rattle.tera_registry.specs.Put.{put_among, Puts}
+use Rattle.tera_registry.specs.Order.{Rises}
+use Rattle.tera_registry.specs.Links.{AreRoots, IsLinked}
+use Rattle.tera_registry.specs.Kept.{entry_of, entries_of, seen}
+use Rattle.tera_registry.proofs.Checked.{faultless, faulty}
+use Rattle.tera_registry.proofs.Linked.{linked}
+
+-- Templates and prefixes alone decide on faults.
+
+abbrev pub bare : Named Template → List Text → Registry
+bare ts ps = record new_registry { templates = ts; prefixes = ps }
+
+first-same : (r : Registry) (es : List Entry) → first_fault r es ≡ first_fault (bare r.templates r.prefixes) es
+unfolding first_fault template_fault
+first-same r [] = refl
+first-same r (t ∷ es) =
+    ap (option_or (template_fault r t)) (first-same r es)
+
+pub fault-same : (r : Registry) → fault r ≡ fault (bare r.templates r.prefixes)
+unfolding fault
+fault-same r = first-same r r.templates
+
+accepted-ok : (r : Registry) → accepted (bare r.templates r.prefixes) ≡ Ok (bare r.templates r.prefixes) → accepted r ≡ Ok r
+accepted-ok r e = ap (unless_faulty r) (fault-same r ∙ faultless (bare r.templates r.prefixes) e)
+
+accepted-err : (r : Registry) (f : Fault) → accepted (bare r.templates r.prefixes) ≡ Err f → accepted r ≡ Err f
+accepted-err r f e = ap (unless_faulty r) (fault-same r ∙ faulty (bare r.templates r.prefixes) f e)
+
+-- A refusal of a text is that of the call.
+pub refused-adds : (e : Refusal) (r : Registry) (d : Delims) (batch : List (Name × Text)) → r.delimiters ≡ d → SaysOneOf e (Puts d r.templates batch) → SaysOneOf e (Adds r batch)
+refused-adds None r d batch same p = tt
+refused-adds (Some f) r d batch same p = by_reading p.reading (rw same p.read) p.is
+  where
+    by_reading : (reading : Result (Named Template) Fault) → ReadsBatch r.delimiters batch reading → Err f ≡ put_among r.templates reading → Adds r batch (Err f)
+    by_reading (Ok es) read is = (let q : Err f ≡ Ok (put_all es r.templates) = is in cc)
+    by_reading (Err g) read is =
+        (let q : Err f ≡ put_among r.templates (Err g) = is in
+        let e : f ≡ g = cc in
+        record { reading = Err g; read = read; is = ap Err e })
+
+-- Where the batch reads, the call ends as its registry does.
+pub put-adds : (r : Registry) (d : Delims) (batch : List (Name × Text)) (new : Named Template) (answer : Result Registry Fault) → r.delimiters ≡ d → Puts d r.templates batch (Ok new) → accepted (record r { templates = new }) ≡ answer → Adds r batch answer
+put-adds r d batch new answer same p ends = by_reading p.reading (rw same p.read) p.is
+  where
+    by_reading : (reading : Result (Named Template) Fault) → ReadsBatch r.delimiters batch reading → Ok new ≡ put_among r.templates reading → Adds r batch answer
+    by_reading (Ok es) read is =
+        (let q : Ok new ≡ Ok (put_all es r.templates) = is in
+        let e : new ≡ put_all es r.templates = cc in
+        record { reading = Ok es; read = read; is = sym ends ∙ ap (λ ts. accepted (record r { templates = ts })) e })
+    by_reading (Err g) read is = (let q : Ok new ≡ Err g = is in cc)
+
+pub linked-adds : (r : Registry) (d : Delims) (batch : List (Name × Text)) (new : Named Template) → r.delimiters ≡ d → Puts d r.templates batch (Ok new) → accepted (bare new r.prefixes) ≡ Ok (bare new r.prefixes) → Adds r batch (Ok (record r { templates = new }))
+linked-adds r d batch new same p ok =
+    put-adds r d batch new _ same p (accepted-ok (record r { templates = new }) ok)
+
+pub unlinked-adds : (e : Refusal) (r : Registry) (d : Delims) (batch : List (Name × Text)) (new : Named Template) → r.delimiters ≡ d → Puts d r.templates batch (Ok new) → Says e (accepted (bare new r.prefixes)) → SaysOneOf e (Adds r batch)
+unlinked-adds None r d batch new same p says = tt
+unlinked-adds (Some f) r d batch new same p says =
+    put-adds r d batch new _ same p (accepted-err (record r { templates = new }) f says)
+
+-- Templates as they are kept: a batch is put among copies of the old ones, which are the same.
+
+same-entries : (ts us : List (Rc Stored Global)) → AllZip (λ (t : Rc Stored Global) (u : Rc Stored Global). u.value ≡ t.value) ts us → entries_of us ≡ entries_of ts
+same-entries [] [] z = refl
+same-entries [] (u ∷ us) z = absurd z
+same-entries (t ∷ ts) [] z = absurd z
+same-entries (t ∷ ts) (u ∷ us) z =
+    ap (λ v. entry_of v ∷ entries_of us) z.0 ∙ ap (λ l. entry_of t.value ∷ l) (same-entries ts us z.1)
+
+abbrev pub Copies : List (Rc Stored Global) → List (Rc Stored Global) → Type 0
+Copies = AllZip (λ (t : Rc Stored Global) (u : Rc Stored Global). u.value ≡ t.value)
+
+pub copies-rise : (old all : List (Rc Stored Global)) → Copies old all → Rises (entries_of old) → Rises (entries_of all)
+copies-rise old all z h = rw (same-entries old all z) h
+
+module _ (r : Registry) (d : Delims) (batch : List (Name × Text)) (old all : List (Rc Stored Global)) (ps : List (String Global)) (same : r.delimiters ≡ d) (z : Copies old all) where
+  abbrev with : List (Rc Stored Global) → Registry
+  with ts = record r { templates = entries_of ts; prefixes = map string_bytes ps }
+
+  abbrev PutsTo : Result (Named Template) Fault → Type 0
+  PutsTo = Puts d (entries_of all) batch
+
+  pub add-unread : (e : Refusal) → SaysOneOf e PutsTo → SaysOneOf e (Adds (with old) batch)
+  add-unread e p =
+      let from_old : SaysOneOf e (Puts d (entries_of old) batch) = rw (sym (same-entries old all z)) p in
+      refused-adds e (with old) d batch same from_old
+
+  module _ (new lent : List (Rc Stored Global)) (lent_ps : List (String Global)) (e : lent ≡ new) (f : lent_ps ≡ ps) (p : PutsTo (Ok (entries_of new))) where
+    from_old : Puts d (entries_of old) batch (Ok (entries_of new))
+    from_old = rw (sym (same-entries old all z)) p
+
+    pub add-unlinked : (refusal : Refusal) → Says refusal (accepted (seen lent lent_ps)) → SaysOneOf refusal (Adds (with old) batch)
+    add-unlinked refusal says =
+        let meant : Says refusal (accepted (seen new ps)) = rw (e, f) at says in
+        unlinked-adds refusal (with old) d batch (entries_of new) same from_old meant
+
+    pub add-linked : accepted (seen lent lent_ps) ≡ Ok (seen lent lent_ps) → Adds (with old) batch (Ok (with new))
+    add-linked ok =
+        let meant : accepted (seen new ps) ≡ Ok (seen new ps) = rw (e, f) at ok in
+        linked-adds (with old) d batch (entries_of new) same from_old meant
+
+-- What is known of templates that are linked.
+module _ (ts lent : List (Rc Stored Global)) (ps lent_ps : List (String Global)) (e : lent ≡ ts) (f : lent_ps ≡ ps) where
+  pub kept-accepted : accepted (seen lent lent_ps) ≡ Ok (seen lent lent_ps) → fault (seen ts ps) ≡ None
+  kept-accepted ok =
+      let meant : accepted (seen ts ps) ≡ Ok (seen ts ps) = rw (e, f) at ok in
+      faultless (seen ts ps) meant
+
+  pub kept-linked : (roots : List ℕ) → AreRoots (seen lent lent_ps) roots (length lent) → IsLinked ts ps roots
+  kept-linked roots a =
+      let meant : AreRoots (seen ts ps) roots (length ts) = rw (e, f) at a in linked ts ps roots meant

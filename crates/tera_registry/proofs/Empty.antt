@@ -1,0 +1,25 @@
+-- No templates.
+use Rattle.std.proofs.Common.{◌≡◌, ℕ, List, [], Some, None, Global, String, refl}
+use Rattle.std.specs.declared.rc.Rc.{Rc}
+use Rattle.tera_meaning.specs.Accepted.{fault, first_fault}
+use Rattle.tera_registry.specs.declared.template.Template.{Template as Stored}
+use Rattle.tera_registry.specs.Order.{Rises}
+use Rattle.tera_registry.specs.Links.{IsLinked}
+use Rattle.tera_registry.specs.Kept.{entries_of, seen}
+
+pub none-rises : (ts : List (Rc Stored Global)) → ts ≡ [] → Rises (entries_of ts)
+none-rises ts e = rw e tt
+
+bare-accepted : (ps : List (String Global)) → fault (seen [] ps) ≡ None
+unfolding fault first_fault
+bare-accepted ps = refl
+
+pub none-accepted : (ts : List (Rc Stored Global)) (ps : List (String Global)) → ts ≡ [] → fault (seen ts ps) ≡ None
+none-accepted ts ps e = rw e (bare-accepted ps)
+
+pub none-linked : (ts : List (Rc Stored Global)) (ps : List (String Global)) (roots : List ℕ) → ts ≡ [] → roots ≡ [] → IsLinked ts ps roots
+none-linked ts ps roots e f = rw (e, f) (record {
+  as_many = refl;
+  inside = λ i k got. (let q : None ≡ Some k = got in cc);
+  those = λ i k t u got. (let q : None ≡ Some k = got in cc);
+})

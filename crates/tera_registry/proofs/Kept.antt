@@ -1,0 +1,36 @@
+-- Templates as they are kept, and the entries that definitions see.
+use Rattle.std.proofs.Common.{◌≡◌, ℕ, ◌<◌, set, sym, suc, List, [], ◌∷◌, length, get_or, Some, Ok, Err, Equal, Global, option_map, refl, ap, ◌∙◌, slice_get}
+use Rattle.std.specs.declared.rc.Rc.{Rc}
+use Rattle.std.proofs.lemmas.Option.{slice_get_read, slice_get-map}
+use Rattle.tera_registry.specs.declared.template.Template.{Template as Stored}
+use Rattle.std.specs.List.{insert}
+use Rattle.tera_errors.specs.Site.{Name}
+use Rattle.tera_values.specs.Named.{name_cmp, put}
+use Rattle.tera_registry.specs.Order.{Rises}
+use Rattle.tera_registry.specs.Places.{IsFound}
+use Rattle.tera_registry.proofs.Placed.{named, put-set, put-insert, map-set, map-insert, itself}
+use Rattle.tera_registry.proofs.Element.{element}
+use Rattle.tera_registry.specs.Kept.{entry_of, entries_of}
+
+pub entry-at-place : (ts : List (Rc Stored Global)) (m : ℕ) (t : Rc Stored Global) → m < length ts → t ≡ get_or ts m t → slice_get (entries_of ts) m ≡ Some (entry_of t.value)
+entry-at-place ts m t lt is =
+    slice_get-map (λ (u : Rc Stored Global). entry_of u.value) ts m ∙ ap (option_map (λ (u : Rc Stored Global). entry_of u.value)) (slice_get_read ts (length ts) m t refl lt is)
+
+pub length-entries : (ts : List (Rc Stored Global)) → length (entries_of ts) ≡ length ts
+length-entries [] = refl
+length-entries (t ∷ ts) = ap suc (length-entries ts)
+
+-- a template in the place of one of its name
+pub put-in-place : (ts : List (Rc Stored Global)) (t : Rc Stored Global) (n : Name) (i : ℕ) → Rises (entries_of ts) → n ≡ (entry_of t.value).0 → IsFound (entries_of ts) n (Ok i) → entries_of (set ts i t) ≡ put (entry_of t.value).0 (entry_of t.value).1 (entries_of ts)
+put-in-place ts t n i rises is found =
+    let es = entries_of ts in
+    let e = element es i found.1 in
+    let same : n ≡ (e.0).0 = named es n e.0 (found.0 ∙ e.1) in
+    let tie : name_cmp (e.0).0 (entry_of t.value).0 ≡ Equal = rw (← is, ← same) (itself n) in
+    map-set (λ (u : Rc Stored Global). entry_of u.value) ts i t ∙ sym (put-set es (entry_of t.value).0 (entry_of t.value).1 i e.0 rises e.1 tie)
+
+-- a template put between those of lesser and greater names
+pub put-between : (ts : List (Rc Stored Global)) (t : Rc Stored Global) (n : Name) (i : ℕ) → n ≡ (entry_of t.value).0 → IsFound (entries_of ts) n (Err i) → entries_of (insert ts i t) ≡ put (entry_of t.value).0 (entry_of t.value).1 (entries_of ts)
+put-between ts t n i is found =
+    let es = entries_of ts in
+    map-insert (λ (u : Rc Stored Global). entry_of u.value) ts i t ∙ sym (rw (← is) (put-insert es n (entry_of t.value).1 i found.1 found.2 found.3))

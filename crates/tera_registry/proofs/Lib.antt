@@ -1,0 +1,12 @@
+pub mod Compared
+pub mod Element
+pub mod Rows
+pub mod Placed
+pub mod Kept
+pub mod Resolved
+pub mod Climb
+pub mod Linked
+pub mod Checked
+pub mod Batches
+pub mod Adds
+pub mod Empty

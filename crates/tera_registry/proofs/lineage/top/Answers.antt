@@ -1,0 +1,67 @@
+use Rattle.std.proofs.Common.{◌≡◌, ◌-◌, ◌+◌, suc, length, Some, sym, ap, ◌∙◌, arith}
+use Rattle.std.proofs.lemmas.Option.{slice_get-get_or}
+use Rattle.tera_registry.specs.declared.lineage.Up.TheVariants as up
+use Rattle.tera_registry.proofs.Element.{element}
+use Rattle.tera_registry.proofs.Climb.{climb-begins, climb-ends, climb-misses, climb-on, climb-again}
+use Rattle.tera_registry.proofs.lineage.top.Goals as goal
+
+pub loop-step-init : goal.loop-step-init
+loop-step-init c = record {
+  last_there = c.requires.there;
+  climbed = λ r t u a at u_at.
+      (let same : t ≡ u = (let q : Some t ≡ Some u = sym at ∙ u_at in cc) in
+      rw (← same) (climb-begins r t (length c.args.ups.now - 0) (omega (arith, a.as_many))));
+}
+
+pub returns-in-Nothing : goal.returns-in-Nothing
+returns-in-Nothing c = λ r t a at.
+    let i = c.loop-step.invariant in
+    let got = slice_get-get_or c.args.ups.now c.loop-step.last up.Nothing i.last_there ∙ ap Some c.in-Nothing.is in
+    let e = element r.templates c.loop-step.last (omega (arith, i.last_there, a.as_many)) in
+    let ends = climb-ends r t e.0 _ (i.climbed r t e.0 a at e.1) (a.those _ up.Nothing e.0 got e.1) in
+    (ends.0, ends.1, e.1 ∙ ap Some (sym ends.2))
+
+pub returns-in-Missing : goal.returns-in-Missing
+returns-in-Missing c = λ r t a at.
+    let i = c.loop-step.invariant in
+    let got = slice_get-get_or c.args.ups.now c.loop-step.last up.Nothing i.last_there ∙ ap Some c.in-Missing.is in
+    let e = element r.templates c.loop-step.last (omega (arith, i.last_there, a.as_many)) in
+    let above = a.those _ up.Missing e.0 got e.1 in
+    rw c.missing_parent.ensures (climb-misses r t e.0 _ above.0 (i.climbed r t e.0 a at e.1) (omega (arith, c.loop-step-test.true)) above.1 above.2)
+
+pub loop-step-preserved : goal.loop-step-preserved
+loop-step-preserved c =
+    let i = c.loop-step.invariant in
+    let got = slice_get-get_or c.args.ups.now c.loop-step.last up.Nothing i.last_there ∙ ap Some c.in-At.is in
+    record {
+      last_there = c.requires.inside.inside _ c.in-At.next got;
+      climbed = λ r t v a at v_at.
+          (let e = element r.templates c.loop-step.last (omega (arith, i.last_there, a.as_many)) in
+          let above = a.those _ (up.At c.in-At.next) e.0 got e.1 in
+          let left : length c.args.ups.now - c.loop-step._step ≡ suc (length c.args.ups.now - (c.loop-step._step + 1)) = omega (arith, c.loop-step-test.true) in
+          climb-on r t e.0 v _ _ above.0 (i.climbed r t e.0 a at e.1) left above.1 (above.2.0 ∙ v_at));
+    }
+
+pub returns-in-Nothing-ups : goal.returns-in-Nothing-ups
+returns-in-Nothing-ups c = λ r t a at.
+    let i = c.loop-step.invariant in
+    let got = slice_get-get_or c.args.ups.now c.loop-step.last up.Nothing i.last_there ∙ ap Some c.in-Nothing-ups.is in
+    let e = element r.templates c.loop-step.last (omega (arith, i.last_there, a.as_many)) in
+    let ends = climb-ends r t e.0 _ (i.climbed r t e.0 a at e.1) (a.those _ up.Nothing e.0 got e.1) in
+    (ends.0, ends.1, e.1 ∙ ap Some (sym ends.2))
+
+pub returns-in-Missing-ups : goal.returns-in-Missing-ups
+returns-in-Missing-ups c = λ r t a at.
+    let i = c.loop-step.invariant in
+    let got = slice_get-get_or c.args.ups.now c.loop-step.last up.Nothing i.last_there ∙ ap Some c.in-Missing-ups.is in
+    let e = element r.templates c.loop-step.last (omega (arith, i.last_there, a.as_many)) in
+    let above = a.those _ up.Missing e.0 got e.1 in
+    rw c.circular_extend.ensures (climb-again r t e.0 _ above.0 (i.climbed r t e.0 a at e.1) (omega (arith, c.loop-step-test.false)) above.1)
+
+pub returns-in-At-ups : goal.returns-in-At-ups
+returns-in-At-ups c = λ r t a at.
+    let i = c.loop-step.invariant in
+    let got = slice_get-get_or c.args.ups.now c.loop-step.last up.Nothing i.last_there ∙ ap Some c.in-At-ups.is in
+    let e = element r.templates c.loop-step.last (omega (arith, i.last_there, a.as_many)) in
+    let above = a.those _ (up.At c.in-At-ups.field-0) e.0 got e.1 in
+    rw c.circular_extend-in-At-ups.ensures (climb-again r t e.0 _ above.0 (i.climbed r t e.0 a at e.1) (omega (arith, c.loop-step-test.false)) above.1)

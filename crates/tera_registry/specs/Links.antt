@@ -1,0 +1,46 @@
+-- What templates are linked to, by place. No public contract speaks of it.
+use Rattle.std.specs.Prelude.{◌≡◌, ◌<◌, ℕ, List, length, slice_get, Option, Some, None, Result, Ok, Err, String}
+use Rattle.std.specs.declared.alloc.Global.{Global}
+use Rattle.std.specs.declared.rc.Rc.{Rc}
+use Rattle.tera_errors.specs.Site.{Name}
+use Rattle.tera_errors.specs.Answer.{Refusal, Says}
+use Rattle.tera_meaning.specs.Registry.{Entry, Registry}
+use Rattle.tera_meaning.specs.Resolve.{resolve, parents, root, last_of}
+use Rattle.tera_code.specs.Code.{listing_of}
+use Rattle.tera_registry.specs.declared.template.Template.{Template as Stored}
+use Rattle.tera_registry.specs.declared.lineage.Up.{Up}
+use Rattle.tera_registry.specs.declared.lineage.Up.TheVariants as up
+use Rattle.tera_registry.specs.Places.{IsPlace}
+use Rattle.tera_registry.specs.Kept.{entries_of, seen}
+
+-- the place of the template that one extends
+abbrev pub IsUp : Registry → Up → Option Name → Type 0
+IsUp r up.Nothing parent = parent ≡ None
+IsUp r up.Missing parent = (n : Name) × (parent ≡ Some n) × (resolve r n ≡ None)
+IsUp r (up.At i) parent = (n : Name) × (parent ≡ Some n) × IsPlace r.templates (Some i) (resolve r n)
+
+-- these are those of the first so many templates
+pub record AreUps (r : Registry) (ups : List Up) (many : ℕ) : Type 0 where
+  pub as_many : length ups ≡ many
+  pub those : (i : ℕ) (u : Up) (t : Entry) → slice_get ups i ≡ Some u → slice_get r.templates i ≡ Some t → IsUp r u t.1.tree.parent
+
+-- what they name is there
+pub record Inside (ups : List Up) : Type 0 where
+  pub inside : (i j : ℕ) → slice_get ups i ≡ Some (up.At j) → j < length ups
+
+-- the place of a template's root, or the fault of its parents
+abbrev pub IsTop : Registry → Entry → Result ℕ Refusal → Type 0
+IsTop r t (Ok i) = (ps : List Entry) × (parents r t ≡ Ok ps) × (slice_get r.templates i ≡ Some (last_of t ps))
+IsTop r t (Err e) = Says e (parents r t)
+
+-- these are the places of the roots of the first so many templates
+pub record AreRoots (r : Registry) (roots : List ℕ) (many : ℕ) : Type 0 where
+  pub as_many : length roots ≡ many
+  pub those : (i k : ℕ) (t : Entry) → slice_get roots i ≡ Some k → slice_get r.templates i ≡ Some t → slice_get r.templates k ≡ Some (root r t)
+
+-- the code at the place of each template's root is that of its root
+pub record IsLinked (ts : List (Rc Stored Global)) (ps : List (String Global)) (roots : List ℕ) : Type 0 where
+  pub as_many : length roots ≡ length ts
+  pub inside : (i k : ℕ) → slice_get roots i ≡ Some k → k < length ts
+  pub those : (i k : ℕ) (t : Entry) (u : Rc Stored Global) → slice_get roots i ≡ Some k → slice_get (entries_of ts) i ≡ Some t → slice_get ts k ≡ Some u
+      → u.value.body ≡ listing_of (root (seen ts ps) t).0 (root (seen ts ps) t).1.tree.nodes

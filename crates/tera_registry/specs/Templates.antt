@@ -1,0 +1,36 @@
+-- What definitions see of all templates.
+use Rattle.std.specs.Prelude.{◌≡◌, Bool, true, false, List, [], ◌∷◌, map, string_bytes, Option, Some, None}
+use Rattle.tera_errors.specs.Site.{Text, Name}
+use Rattle.tera_values.specs.Named.{Named}
+use Rattle.tera_meaning.specs.Registry.{Template, Entry, Registry}
+use Rattle.tera_meaning.specs.Resolve.{resolve, root}
+use Rattle.tera_code.specs.Code.{listing_of}
+use Rattle.tera_registry.specs.declared.templates.Templates.{Templates}
+use Rattle.tera_registry.specs.declared.templates.Found.{Found}
+use Rattle.tera_registry.specs.Kept.{entries_of}
+
+abbrev pub templates_of : Templates → Named Template
+templates_of t = entries_of t.all.items
+
+abbrev pub prefixes_of : Templates → List Text
+prefixes_of t = map string_bytes t.prefixes.items
+
+abbrev pub is_empty : {A : Type 0} → List A → Bool
+is_empty [] = true
+is_empty (a ∷ as') = false
+
+-- a registry with these templates and prefixes, and else as it was
+abbrev pub with_templates : Registry → Templates → Registry
+with_templates r t = record r { templates = templates_of t; prefixes = prefixes_of t }
+
+-- what is found is the template: its name, and the code of the nodes that a rendering of it begins with
+pub record Leads (r : Registry) (name : Name) (found : Found) : Type 0 where
+  pub entry : Entry
+  pub resolves : resolve r name ≡ Some entry
+  pub named : found.name.now ≡ entry.0
+  pub code : found.chunk.now ≡ listing_of (root r entry).0 (root r entry).1.tree.nodes
+
+-- what is found under a name
+abbrev pub Finds : Registry → Name → Option Found → Type 0
+Finds r name None = resolve r name ≡ None
+Finds r name (Some found) = Leads r name found

@@ -1,0 +1,134 @@
+// All templates of an engine, linked.
+ghost use Rattle.std.specs.Prelude.{◌≡◌, None, Ok, map, is_some, string_bytes, IsTrue, []};
+ghost use Rattle.tera_errors.specs.Answer.{Gives};
+ghost use Rattle.tera_tree.specs.Delimiters.{delimiters_of, accepted};
+ghost use Rattle.tera_meaning.specs.Accepted.{fault};
+ghost use Rattle.tera_meaning.specs.Resolve.{resolve};
+ghost use Rattle.tera_meaning.specs.Registry.{Registry};
+ghost use Rattle.std.specs.Coded.{codes};
+ghost use Rattle.tera_code.specs.contracts.chunk.Chunk as chunk;
+ghost use Rattle.tera_registry.specs.Order.{Rises, Rises-prop};
+ghost use Rattle.tera_registry.specs.Links.{IsLinked};
+ghost use Rattle.tera_registry.specs.Kept.{entries_of, seen};
+ghost use Rattle.tera_registry.specs.Batch.{ConfiguresOneOf, Adds, pairs_of};
+
+use crate::batch::put_all;
+use crate::lineage::link;
+use crate::names::resolve;
+use crate::template::Template;
+use std::alloc::Global;
+use std::rc::Rc;
+use tera_code::Chunk;
+use tera_errors::TeraResult;
+use tera_tree::Delimiters;
+
+/// Templates by name, and the prefixes by which a name is looked up that none of them has.
+pub struct Templates {
+    alloc: Global,
+    all: Vec<Rc<Template>>,
+    prefixes: Vec<String>,
+    roots: Vec<usize>,
+    ghost rises: { Rises (entries_of all.items) } by { Rises-prop _ },
+    ghost accepted: { fault (seen all.items prefixes.items) ≡ None },
+    ghost linked: { IsLinked all.items prefixes.items roots.items } by { Prim.hlevel (codes, chunk.the_row.coded) },
+}
+
+// By hand, so that templates that go out of scope are one call.
+impl Drop for Templates {
+    fn drop(self) {
+        let Templates {
+            alloc: _,
+            all,
+            prefixes,
+            roots,
+        } = self;
+        drop(all);
+        drop(prefixes);
+        drop(roots);
+    }
+}
+
+/// A template that was found by a name.
+#[derive(Clone, Copy)]
+pub struct Found<'t> {
+    pub name: &'t str,
+    /// The code that a rendering of it begins with: that of the last of its parents, or its own.
+    pub chunk: &'t Chunk,
+}
+
+impl Templates {
+    ghost use Rattle.tera_registry.specs.Templates.{templates_of, prefixes_of, with_templates, is_empty, Finds};
+
+    /// None yet. Takes no memory.
+    pub fn new(alloc: Global, prefixes: Vec<String>) -> Templates
+        ensures templates { templates_of result ≡ [] }
+        ensures prefixes { prefixes_of result ≡ map string_bytes prefixes.items }
+    {
+        Templates {
+            alloc,
+            all: Vec::new(alloc),
+            prefixes,
+            roots: Vec::new(alloc),
+        }
+    }
+
+    /// Adds templates, all or none: each text is read and put at its name, in place of one that stood there. Refused
+    /// where a text spells no tree, and where the templates do not go together; then all is as before.
+    ///
+    /// Templates that stay are shared, so that nothing of them is copied but a count and a reference.
+    pub fn add(&mut self, delimiters: &Delimiters, batch: &[(&str, &str)]) -> TeraResult<()>
+        requires { IsTrue (accepted (delimiters_of delimiters.now)) }
+        ensures { (r : Registry) → r.delimiters ≡ delimiters_of delimiters.now → ConfiguresOneOf result (Adds (with_templates r self.old) (pairs_of batch.now)) (with_templates r self.old) (with_templates r self.new) }
+    {
+        let mut all = self.all.clone()?;
+        match put_all(self.alloc, delimiters, &mut all, batch) {
+            Ok(()) => {}
+            Err(refusal) => return Err(refusal),
+        }
+        let roots = match link(self.alloc, all.as_slice(), self.prefixes.as_slice()) {
+            Ok(roots) => roots,
+            Err(fault) => return Err(fault),
+        };
+        self.all = all;
+        self.roots = roots;
+        Ok(())
+    }
+
+    /// The template to which a name resolves. Takes no memory.
+    pub fn find(&self, name: &str) -> Option<Found<'_>>
+        ensures { (r : Registry) → Finds (with_templates r self.now) name.now result }
+    {
+        let place = resolve(self.all.as_slice(), self.prefixes.as_slice(), name)?;
+        let template: &Template = &self.all[place];
+        let root: &Template = &self.all[self.roots[place]];
+        Some(Found {
+            name: template.name.as_str(),
+            chunk: &root.body,
+        })
+    }
+
+    /// Whether a name resolves to a template. Takes no memory.
+    pub fn contains(&self, name: &str) -> bool
+        ensures { (r : Registry) → result ≡ is_some (resolve (with_templates r self.now) name.now) }
+    {
+        resolve(self.all.as_slice(), self.prefixes.as_slice(), name).is_some()
+    }
+
+    /// The names of the templates, in byte order.
+    pub fn names(&self) -> TeraResult<Vec<String>>
+        ensures { Gives (λ v. map string_bytes v.items) result (Ok (map (λ t. t.0) (templates_of self.now))) }
+    {
+        let mut names = Vec::new(self.alloc);
+        for template in &self.all {
+            names.push(template.name.clone()?)?;
+        }
+        Ok(names)
+    }
+
+    /// Whether there is no template.
+    pub fn is_empty(&self) -> bool
+        ensures { result ≡ is_empty (templates_of self.now) }
+    {
+        self.all.is_empty()
+    }
+}

@@ -6,7 +6,7 @@ use std::marker::Model;
 use tera_tree::OwnedKey;
 use tera_values::{Name, TeraResult};
 
-/// A piece of a template's text, or a name that is read. A contract sees its bytes.
+/// A piece of a template's text, or the name of an attribute. A contract sees its bytes.
 #[derive(Drop)]
 pub struct Text<'a> {
     text: &'a str,

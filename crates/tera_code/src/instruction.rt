@@ -2,7 +2,7 @@
 use crate::constant::Constant;
 use crate::content::{Keys, LentName, Spreads, Text};
 use tera_tree::BinaryOperator;
-use tera_values::Span;
+use tera_values::{Sought, Span};
 
 /// One instruction, as a chunk hands it out: it borrows texts, names, constants and lists from the chunk, and no part of a
 /// tree. A jump says how many instructions it passes; a span is where a fault of the instruction, or of the value that it
@@ -14,11 +14,11 @@ pub enum Instruction<'a> {
     /// Takes the topmost operand and puts it out.
     WriteTop,
     /// Puts the value out that the name stands for, where it lies.
-    WriteName(Text<'a>, Span),
+    WriteName(Sought<'a>, Span),
     /// Puts the constant on top of the operands.
     LoadConst(Constant<'a>, Span),
     /// Puts the value that the name stands for on top of the operands.
-    LoadName(Text<'a>, Span),
+    LoadName(Sought<'a>, Span),
     /// The attribute of the topmost operand in its place.
     LoadAttribute {
         name: Text<'a>,

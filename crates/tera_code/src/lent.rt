@@ -64,12 +64,12 @@ impl<'a> LentInstruction<'a> {
 
     /// The name whose value it puts out.
     #[inline(always)]
-    pub fn as_written_name(&self) -> Option<(Text<'a>, Span)>
-        ensures { IfSome result (λ p. self.now ≡ instruction.WriteName p.0 p.1) }
+    pub fn as_written_name(&self) -> Option<(&'a Name, Span)>
+        ensures { IfSome result (λ p. self.now ≡ instruction.WriteName p.0.now p.1) }
     {
         match *self.packed {
             Packed::WriteName { name, span } => {
-                Some((self.tables.name(name), self.tables.span(span)))
+                Some((self.tables.whole_name(name), self.tables.span(span)))
             }
             _ => None,
         }
@@ -77,12 +77,12 @@ impl<'a> LentInstruction<'a> {
 
     /// The name whose value it puts on top of the operands.
     #[inline(always)]
-    pub fn as_loaded_name(&self) -> Option<(Text<'a>, Span)>
-        ensures { IfSome result (λ p. self.now ≡ instruction.LoadName p.0 p.1) }
+    pub fn as_loaded_name(&self) -> Option<(&'a Name, Span)>
+        ensures { IfSome result (λ p. self.now ≡ instruction.LoadName p.0.now p.1) }
     {
         match *self.packed {
             Packed::LoadName { name, span } => {
-                Some((self.tables.name(name), self.tables.span(span)))
+                Some((self.tables.whole_name(name), self.tables.span(span)))
             }
             _ => None,
         }
@@ -109,7 +109,7 @@ impl<'a> LentInstruction<'a> {
                 name,
                 optional,
                 span,
-            } => Some((self.tables.name(name), optional, self.tables.span(span))),
+            } => Some((self.tables.attribute(name), optional, self.tables.span(span))),
             _ => None,
         }
     }

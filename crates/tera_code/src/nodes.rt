@@ -12,7 +12,7 @@ use crate::instruction::Instruction;
 use crate::parts::is_context;
 use std::alloc::Global;
 use tera_tree::{Expression, Node};
-use tera_values::{Span, TeraResult};
+use tera_values::{Sought, Span, TeraResult};
 
 impl Compiler {
     /// The instructions of the nodes, one after another, behind those that are there. After a refusal some may be missing.
@@ -103,7 +103,7 @@ impl Compiler {
         ensures lacks { IfErr result Lacks }
     {
         match named(value) {
-            Some((name, span)) => self.emit(Instruction::WriteName(Text::new(name), span)),
+            Some((name, span)) => self.emit(Instruction::WriteName(Sought::new(name), span)),
             None => {
                 self.expression(value)?;
                 self.emit(Instruction::WriteTop)

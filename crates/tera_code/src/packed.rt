@@ -13,7 +13,7 @@ use crate::parts::copied;
 use std::alloc::Global;
 use tera_errors::Error;
 use tera_tree::{BinaryOperator, OwnedKey};
-use tera_values::{Name, Span, TeraResult, Value};
+use tera_values::{Name, Sought, Span, TeraResult, Value};
 
 /// An instruction that names by number what it needs.
 #[derive(Clone, Copy)]
@@ -145,42 +145,25 @@ fn number<T: Drop>(items: &mut Vec<T>, item: T) -> TeraResult<u32>
     Ok(place)
 }
 
-/// Where a name may have been seen: a guess that tells most names apart.
-fn slot_of(name: &str) -> usize
-    ensures { result < 64 }
-{
-    let bytes = name.as_bytes();
-    let first = match bytes.first() {
-        Some(byte) => *byte as usize,
-        None => 0,
-    };
-    let last = match bytes.last() {
-        Some(byte) => *byte as usize,
-        None => 0,
-    };
-    (bytes.len() % 64 * 7 + first + last * 3) % 64
-}
-
 /// The place of the name among the names, to which it is added where it isn't found at the place that was seen last.
 fn name_number(
     alloc: Global,
     names: &mut Vec<Name>,
     seen: &mut [u32; 64],
-    name: &str,
+    name: &Sought<'_>,
 ) -> TeraResult<u32>
     ensures grows { Longer names.old.items names.new.items }
     ensures ok { IfOk result (λ n. IsAt names.new.items n name.now) }
     ensures lacks { IfErr result Lacks }
 {
-    let slot = slot_of(name);
+    let slot = (name.hash() % 64) as usize;
     let place = seen[slot];
     if let Some(known) = names.get(place as usize) {
-        if known.as_str() == name {
+        if name.is(known) {
             return Ok(place);
         }
     }
-    let name = Name::new(alloc, name)?;
-    let place = number(names, name)?;
+    let place = number(names, Name::from_sought(alloc, name)?)?;
     seen[slot] = place;
     Ok(place)
 }
@@ -235,7 +218,7 @@ impl Tables {
         &mut self,
         alloc: Global,
         seen: &mut [u32; 64],
-        name: &Text<'_>,
+        name: &Sought<'_>,
         span: Span,
     ) -> TeraResult<(u32, u32)>
         ensures grows { Grows (shelf_of self.old) (shelf_of self.new) }
@@ -243,7 +226,7 @@ impl Tables {
         ensures span { IfOk result (λ p. IsAt (shelf_of self.new).spans p.1 span) }
         ensures lacks { IfErr result Lacks }
     {
-        let name = name_number(alloc, &mut self.names, seen, name.as_str())?;
+        let name = name_number(alloc, &mut self.names, seen, name)?;
         let span = number(&mut self.spans, span)?;
         Ok((name, span))
     }
@@ -335,6 +318,7 @@ impl Tables {
                 optional,
                 span,
             } => {
+                let name = Sought::new(name.as_str());
                 let (name, span) = self.name_and_span(alloc, seen, &name, span)?;
                 Ok(Packed::LoadAttribute {
                     name,
@@ -392,7 +376,15 @@ impl Tables {
     }
 
     #[inline(always)]
-    pub(crate) fn name(&self, number: u32) -> Text<'_>
+    pub(crate) fn name(&self, number: u32) -> Sought<'_>
+        requires { number < length self.now.names.items }
+        ensures { result ≡ name_at (shelf_of self.now) number }
+    {
+        self.whole_name(number).sought()
+    }
+
+    #[inline(always)]
+    pub(crate) fn attribute(&self, number: u32) -> Text<'_>
         requires { number < length self.now.names.items }
         ensures { result ≡ name_at (shelf_of self.now) number }
     {
@@ -450,7 +442,7 @@ impl Tables {
                 optional,
                 span,
             } => Instruction::LoadAttribute {
-                name: self.name(name),
+                name: self.attribute(name),
                 optional,
                 span: self.span(span),
             },

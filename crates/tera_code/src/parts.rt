@@ -14,7 +14,7 @@ use crate::content::{Keys, Spreads, Text};
 use crate::instruction::Instruction;
 use std::alloc::Global;
 use tera_tree::{Entry, Item, LiteralKey, OwnedKey};
-use tera_values::{Span, TeraResult, Value};
+use tera_values::{Sought, Span, TeraResult, Value};
 
 impl Compiler {
     pub(crate) fn text(&mut self, text: &str, span: Span) -> TeraResult<()>
@@ -32,7 +32,7 @@ impl Compiler {
         if is_context(name) {
             self.emit(Instruction::LoadContext(span))
         } else {
-            self.emit(Instruction::LoadName(Text::new(name), span))
+            self.emit(Instruction::LoadName(Sought::new(name), span))
         }
     }
 

@@ -16,7 +16,7 @@ use tera_code::{Instruction, Keys, Spreads};
 use tera_operators::Operand;
 use tera_state::Found;
 use tera_tree::BinaryOperator;
-use tera_values::{Error, Name, Span, TeraResult, Value};
+use tera_values::{Error, Name, Sought, Span, TeraResult, Value};
 
 impl<'c> Configuration<'c> {
     /// Does what the instruction says, which stands in this file's text in front of the next place, and tells where to go on.
@@ -35,14 +35,9 @@ impl<'c> Configuration<'c> {
         match instruction {
             Instruction::WriteText(text) => self.write_text(text.as_str()),
             Instruction::WriteTop => self.write_top(machine, file),
-            Instruction::WriteName(name, span) => self.write_name(
-                machine,
-                file,
-                name.as_str(),
-                *span,
-            ),
+            Instruction::WriteName(name, span) => self.write_name(machine, file, name, *span),
             Instruction::LoadConst(constant, span) => self.push(constant.load()?, *span),
-            Instruction::LoadName(name, span) => self.load_name(alloc, name.as_str(), *span),
+            Instruction::LoadName(name, span) => self.load_name(alloc, name, *span),
             Instruction::LoadAttribute {
                 name,
                 optional,
@@ -105,12 +100,12 @@ impl<'c> Configuration<'c> {
     }
 
     // The value is read where it lies.
-    #[inline(never)]
+    #[inline(always)]
     pub(crate) fn write_name(
         &mut self,
         machine: &VirtualMachine,
         file: &str,
-        name: &str,
+        name: &Sought<'_>,
         span: Span,
     ) -> TeraResult<Flow>
         ensures { Does (name_written (here_of machine.now file.now self.old) name.now span) self.old result self.new }
@@ -146,8 +141,8 @@ impl<'c> Configuration<'c> {
         self.put(Operand::new(value, span))
     }
 
-    #[inline(never)]
-    pub(crate) fn load_name(&mut self, alloc: Global, name: &str, span: Span) -> TeraResult<Flow>
+    #[inline(always)]
+    pub(crate) fn load_name(&mut self, alloc: Global, name: &Sought<'_>, span: Span) -> TeraResult<Flow>
         ensures { Does (name_loaded (around_of self.old.scopes) name.now span) self.old result self.new }
     {
         let value = self.scopes.look(name).to_value(alloc)?;

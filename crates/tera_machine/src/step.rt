@@ -2,13 +2,15 @@
 ghost use Rattle.tera_values.specs.Val.{int};
 ghost use Rattle.tera_machine.specs.Config.{config_of};
 ghost use Rattle.tera_machine.specs.Did.{pushed};
-ghost use Rattle.tera_machine.specs.Act.{act, IsReady, IsSmall, Does};
+ghost use Rattle.tera_machine.specs.Act.{act, IsReady, IsSmall, Does, name_written, name_loaded};
 ghost use Rattle.tera_machine.specs.Subject.{here_of};
+ghost use Rattle.tera_state.specs.Scopes.{around_of};
 
 use crate::configuration::Configuration;
 use crate::machine::{Flow, VirtualMachine};
+use std::alloc::Global;
 use tera_code::LentInstruction;
-use tera_values::{Span, TeraResult, Value};
+use tera_values::{Name, Span, TeraResult, Value};
 
 impl<'c> Configuration<'c> {
     /// The same as `act`. What is run most is told apart first and needs no more of the instruction than its parts: all else
@@ -29,7 +31,7 @@ impl<'c> Configuration<'c> {
             return self.write_text(text);
         }
         if let Some((name, span)) = instruction.as_written_name() {
-            return self.write_name(machine, file, name.as_str(), span);
+            return self.write_named(machine, file, name, span);
         }
         if instruction.is_next_turn() {
             return self.next_turn();
@@ -41,7 +43,7 @@ impl<'c> Configuration<'c> {
             return Ok(Flow::Skip(skip));
         }
         if let Some((name, span)) = instruction.as_loaded_name() {
-            return self.load_name(machine.alloc, name.as_str(), span);
+            return self.load_named(machine.alloc, name, span);
         }
         if let Some((number, span)) = instruction.as_integer() {
             return self.load_integer(number, span);
@@ -81,5 +83,25 @@ impl<'c> Configuration<'c> {
         ensures { Does (pushed (int number) span) self.old result self.new }
     {
         self.push(Value::from_int(i128::from(number)), span)
+    }
+
+    #[inline(never)]
+    fn write_named(
+        &mut self,
+        machine: &VirtualMachine,
+        file: &str,
+        name: &Name,
+        span: Span,
+    ) -> TeraResult<Flow>
+        ensures { Does (name_written (here_of machine.now file.now self.old) name.now span) self.old result self.new }
+    {
+        self.write_name(machine, file, &name.sought(), span)
+    }
+
+    #[inline(never)]
+    fn load_named(&mut self, alloc: Global, name: &Name, span: Span) -> TeraResult<Flow>
+        ensures { Does (name_loaded (around_of self.old.scopes) name.now span) self.old result self.new }
+    {
+        self.load_name(alloc, &name.sought(), span)
     }
 }

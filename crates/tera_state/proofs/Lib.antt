@@ -8,3 +8,4 @@ pub mod Dumped
 pub mod Beyond
 pub mod Started
 pub mod Stacks
+pub mod Ends

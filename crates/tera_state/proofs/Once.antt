@@ -39,7 +39,7 @@ unlike f l n v b e = either (is_for b.frame b.layer b.name (new f l n v))
     absurd (true≢false (sym same ∙ e)))
     (λ g. g)
 
-past : (t : Bool) (v : Val) (o : Option Val) → t ≡ false → o ≡ None → (if t then Some v else o) ≡ None
+pub past : (t : Bool) (v : Val) (o : Option Val) → t ≡ false → o ≡ None → (if t then Some v else o) ≡ None
 past true v o e h = absurd (true≢false e)
 past false v o e h = h
 

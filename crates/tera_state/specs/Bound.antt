@@ -1,9 +1,10 @@
 -- One list of bindings, by frame and layer.
-use Rattle.std.specs.Prelude.{◌≡◌, ℕ, Bool, ◌&&◌, ◌||◌, not, nat_eq, List, [], ◌∷◌, Option, Some, None, filter, ◌+◌, bytes_eq, if◌then◌else◌}
+use Rattle.std.specs.Prelude.{◌≡◌, ℕ, ◌<◌, ◌≤◌, ◌⊎◌, Bool, ◌&&◌, ◌||◌, not, nat_eq, nat_lt, cond, ◌-◌, List, [], ◌∷◌, Option, Some, None, filter, ◌+◌, bytes_eq, if◌then◌else◌}
 use Rattle.tera_errors.specs.Site.{Name}
 use Rattle.tera_values.specs.Val.{Val}
 use Rattle.tera_state.specs.Scope.{Bindings}
 use Rattle.tera_state.specs.declared.bindings.Binding.{Binding}
+use Rattle.tera_state.specs.declared.bindings.Layer.{Layer}
 
 abbrev pub is_for : ℕ → ℕ → Name → Binding → Bool
 is_for f l n b = nat_eq b.frame f && nat_eq b.layer l && bytes_eq n b.name
@@ -38,3 +39,24 @@ IsOnce (b ∷ bs) = (value_in bs b.frame b.layer b.name ≡ None) × IsOnce bs
 abbrev pub layer_of : List Binding → ℕ → ℕ → Bindings
 layer_of [] f l = []
 layer_of (b ∷ bs) f l = if nat_eq b.frame f && nat_eq b.layer l then (b.name, b.value) ∷ layer_of bs f l else layer_of bs f l
+
+-- layer l of frame f comes after layer j of frame g
+abbrev pub is_beyond : ℕ → ℕ → ℕ → ℕ → Bool
+is_beyond f l g j = nat_lt g f || (nat_eq f g && nat_lt j l)
+
+-- layer l of frame f comes before layer j of frame g, or is that layer
+abbrev pub IsUpTo : ℕ → ℕ → ℕ → ℕ → Type 0
+IsUpTo f l g j = (f < g) ⊎ ((f ≡ g) × (l ≤ j))
+
+-- no binding comes after layer j of frame g
+abbrev pub EndsBy : List Binding → ℕ → ℕ → Type 0
+EndsBy [] g j = Unit {0}
+EndsBy (b ∷ bs) g j = IsUpTo b.frame b.layer g j × EndsBy bs g j
+
+-- an end for the bindings and one more in layer l of frame f
+abbrev pub end_with : ℕ → ℕ → Layer → Layer
+end_with f l end = cond (is_beyond f l end.frame end.layer) (record { frame = f; layer = l }) end
+
+-- an end for what is left without layer l of frame f
+abbrev pub end_without : ℕ → ℕ → Layer → Layer
+end_without f l end = cond (nat_eq f end.frame && nat_eq l end.layer && nat_lt 0 l) (record { frame = f; layer = l - 1 }) end

@@ -2,11 +2,11 @@
 ghost use Rattle.std.specs.Prelude.{◌≡◌, [], OnOk, OnErr, IfErr, option_copied};
 ghost use Rattle.tera_errors.specs.Answer.{Lacks};
 ghost use Rattle.tera_values.specs.Named.{put_all};
-ghost use Rattle.tera_state.specs.Bound.{value_in, with_binding, without, without_frame, place_from, layer_of};
+ghost use Rattle.tera_state.specs.Bound.{value_in, with_binding, without, without_frame, place_from, layer_of, is_beyond, end_with, end_without};
 
 use std::alloc::Global;
 use std::marker::Model;
-use tera_values::{Context, Name, TeraResult, Value};
+use tera_values::{Context, Name, Sought, TeraResult, Value};
 
 /// A name with its value, in a layer of a frame.
 #[derive(Drop)]
@@ -17,17 +17,26 @@ pub struct Binding {
     pub value: Value,
 }
 
-/// The bindings of all frames. A name stands at most once in a layer of a frame.
+/// The bindings of all frames. A name stands at most once in a layer of a frame. None stands beyond the end that is
+/// kept, so that an empty turn is known to bind nothing without a search.
 #[derive(Drop)]
 pub struct Bindings {
     items: Vec<Binding>,
+    end: Layer,
+}
+
+/// A layer of a frame.
+#[derive(Clone, Copy)]
+pub(crate) struct Layer {
+    pub(crate) frame: usize,
+    pub(crate) layer: usize,
 }
 
 impl Model for Bindings {
     ghost use Rattle.std.specs.Prelude.{List};
     ghost use Rattle.std.specs.Coded.{codes};
     ghost use Rattle.tera_values.specs.Code.{val_code};
-    ghost use Rattle.tera_state.specs.Bound.{IsOnce};
+    ghost use Rattle.tera_state.specs.Bound.{IsOnce, EndsBy};
     ghost use Rattle.tera_state.specs.declared.bindings.Binding.{Binding as Datum};
 
     ghost Value = { List Datum };
@@ -36,7 +45,7 @@ impl Model for Bindings {
 
     ghost view = { λ b. b.items.items };
 
-    ghost invariant = { λ b. IsOnce b.items.items };
+    ghost invariant = { λ b. IsOnce b.items.items × EndsBy b.items.items b.end.frame b.end.layer };
 }
 
 impl Bindings {
@@ -46,13 +55,17 @@ impl Bindings {
     {
         Bindings {
             items: Vec::new(alloc),
+            end: Layer { frame: 0, layer: 0 },
         }
     }
 
     /// The value of the name in the layer.
-    pub fn get(&self, frame: usize, layer: usize, name: &str) -> Option<&Value>
+    pub fn get(&self, frame: usize, layer: usize, name: &Sought<'_>) -> Option<&Value>
         ensures { option_copied result ≡ value_in self.now frame layer name.now }
     {
+        if is_beyond(frame, layer, self.end) {
+            return None;
+        }
         find(self.items.as_slice(), frame, layer, name)
     }
 
@@ -62,7 +75,8 @@ impl Bindings {
         ensures err { OnErr result (self.new ≡ self.old) }
         ensures lacks { IfErr result Lacks }
     {
-        match place(self.items.as_slice(), frame, layer, name.as_str()) {
+        self.end = end_with(frame, layer, self.end);
+        match place(self.items.as_slice(), frame, layer, &name.sought()) {
             Some(at) => self.items[at].value = value,
             None => self.items.push(Binding {
                 frame,
@@ -86,34 +100,78 @@ impl Bindings {
     pub fn clear(&mut self, frame: usize, layer: usize)
         ensures { self.new ≡ without self.old frame layer }
     {
+        if is_beyond(frame, layer, self.end) {
+            return;
+        }
         self.items
             .retain(|b: &Binding| b.frame != frame || b.layer != layer);
+        self.end = end_without(frame, layer, self.end);
     }
 
     /// Takes out what a frame binds.
     pub fn clear_frame(&mut self, frame: usize)
         ensures { self.new ≡ without_frame self.old frame }
     {
+        if frame > self.end.frame {
+            return;
+        }
         self.items.retain(|b: &Binding| b.frame != frame);
     }
 }
 
-fn find<'a>(items: &'a [Binding], frame: usize, layer: usize, name: &str) -> Option<&'a Value>
+// Whether the layer comes after the end.
+fn is_beyond(frame: usize, layer: usize, end: Layer) -> bool
+    ensures { result ≡ is_beyond frame layer end.frame end.layer }
+{
+    frame > end.frame || (frame == end.frame && layer > end.layer)
+}
+
+// An end for the bindings and one more in the layer.
+fn end_with(frame: usize, layer: usize, end: Layer) -> Layer
+    ensures { result ≡ end_with frame layer end }
+{
+    if is_beyond(frame, layer, end) {
+        Layer { frame, layer }
+    } else {
+        end
+    }
+}
+
+// An end for the bindings that are left when a layer is taken out.
+fn end_without(frame: usize, layer: usize, end: Layer) -> Layer
+    ensures { result ≡ end_without frame layer end }
+{
+    if frame == end.frame && layer == end.layer && layer > 0 {
+        Layer {
+            frame,
+            layer: layer - 1,
+        }
+    } else {
+        end
+    }
+}
+
+fn find<'a>(
+    items: &'a [Binding],
+    frame: usize,
+    layer: usize,
+    name: &Sought<'_>,
+) -> Option<&'a Value>
     ensures { option_copied result ≡ value_in items.now frame layer name.now }
 {
     for b in items {
-        if b.frame == frame && b.layer == layer && name == b.name.as_str() {
+        if b.frame == frame && b.layer == layer && name.is(&b.name) {
             return Some(&b.value);
         }
     }
     None
 }
 
-fn place(items: &[Binding], frame: usize, layer: usize, name: &str) -> Option<usize>
+fn place(items: &[Binding], frame: usize, layer: usize, name: &Sought<'_>) -> Option<usize>
     ensures { result ≡ place_from 0 items.now frame layer name.now }
 {
     for (at, b) in items.iter().enumerate() {
-        if b.frame == frame && b.layer == layer && name == b.name.as_str() {
+        if b.frame == frame && b.layer == layer && name.is(&b.name) {
             return Some(at);
         }
     }

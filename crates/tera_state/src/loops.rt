@@ -12,7 +12,7 @@ ghost use Rattle.tera_state.specs.Opened.{items_of, item_at, heading, heading_of
 use crate::found::Found;
 use crate::items::{ForLoopIterator, gone_over, key_at, size_of, value_at};
 use std::alloc::Global;
-use tera_values::{Name, TeraResult, Value};
+use tera_values::{Counter, Name, Sought, TeraResult, Value};
 
 /// An open loop, which stands at one of its items. Nothing of the item is copied: its names are places in the items.
 #[derive(Drop)]
@@ -103,37 +103,34 @@ impl ForLoop {
     }
 
     /// What the turn counts. Takes no memory.
-    pub fn counter(&self, name: &str) -> Found<'_>
+    pub fn counter(&self, name: &Sought<'_>) -> Found<'_>
         ensures { found_value result ≡ at_name name.now (counters_of self.now) }
     {
+        let Some(counter) = name.counter() else {
+            return Found::Nothing;
+        };
         if !self.counts {
             return Found::Nothing;
         }
-        if name == "__tera_loop_index" {
-            Found::After(self.index)
-        } else if name == "__tera_loop_index0" {
-            Found::Number(self.index)
-        } else if name == "__tera_loop_first" {
-            Found::Flag(self.index == 0)
-        } else if name == "__tera_loop_last" {
-            Found::Flag(self.index as i128 + 1 == self.size() as i128)
-        } else if name == "__tera_loop_length" {
-            Found::Number(self.size())
-        } else {
-            Found::Nothing
+        match counter {
+            Counter::Index => Found::After(self.index),
+            Counter::Index0 => Found::Number(self.index),
+            Counter::First => Found::Flag(self.index == 0),
+            Counter::Last => Found::Flag(self.index as i128 + 1 == self.size() as i128),
+            Counter::Length => Found::Number(self.size()),
         }
     }
 
     /// The value and the key of the turn, by their names. Takes no memory.
-    pub fn named(&self, name: &str) -> Found<'_>
+    pub fn named(&self, name: &Sought<'_>) -> Found<'_>
         ensures { found_value result ≡ at_name name.now (names_of (heading_of self.now) (item_at self.now)) }
     {
-        if name == self.name.as_str() {
+        if name.is(&self.name) {
             return value_at(&self.items, self.index);
         }
         match &self.key {
             Some(key) => {
-                if name == key.as_str() {
+                if name.is(key) {
                     key_at(&self.items, self.index)
                 } else {
                     Found::Nothing

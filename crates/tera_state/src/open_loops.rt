@@ -13,7 +13,7 @@ use crate::loops::ForLoop;
 use crate::stack::Stack;
 use std::alloc::Global;
 use std::marker::Model;
-use tera_values::TeraResult;
+use tera_values::{Sought, TeraResult};
 
 /// The open loops of a body. A contract sees the list of them, the innermost first. The innermost stands apart, so that
 /// its turns are found first and one loop alone takes no memory.
@@ -89,7 +89,7 @@ impl OpenLoops {
     }
 
     /// What the turns of the loops of this frame bind. Takes no memory.
-    pub fn look<'a>(&'a self, bindings: &'a Bindings, frame: usize, name: &str) -> Found<'a>
+    pub fn look<'a>(&'a self, bindings: &'a Bindings, frame: usize, name: &Sought<'_>) -> Found<'a>
         ensures { found_value result ≡ in_turns name.now (turns_of bindings.now frame self.now) }
     {
         match &self.innermost {
@@ -113,7 +113,7 @@ fn in_turn<'a>(
     frame: usize,
     layer: usize,
     turn: &'a ForLoop,
-    name: &str,
+    name: &Sought<'_>,
 ) -> Found<'a>
     ensures { found_value result ≡ in_turn name.now (turn_of (layer_of bindings.now frame layer) turn.now) }
 {
@@ -132,7 +132,7 @@ fn in_outer<'a>(
     frame: usize,
     loops: &'a Stack<ForLoop>,
     layer: usize,
-    name: &str,
+    name: &Sought<'_>,
 ) -> Found<'a>
     requires { layer ≤ length loops.now }
     ensures { found_value result ≡ in_turns name.now (turns_of bindings.now frame (lower layer loops.now)) }

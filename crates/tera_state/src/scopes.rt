@@ -20,7 +20,7 @@ use crate::open_loops::OpenLoops;
 use crate::stack::Stack;
 use std::alloc::Global;
 use std::mem::replace;
-use tera_values::{Context, Name, TeraResult, Value};
+use tera_values::{Context, Name, Sought, TeraResult, Value};
 
 /// The body that runs, those above it, and all that they set.
 #[derive(Drop)]
@@ -32,7 +32,7 @@ pub struct Scopes<'c> {
 }
 
 // What a body binds.
-fn in_body<'a>(bindings: &'a Bindings, frame: usize, body: &'a Frame<'_>, name: &str) -> Found<'a>
+fn in_body<'a>(bindings: &'a Bindings, frame: usize, body: &'a Frame<'_>, name: &Sought<'_>) -> Found<'a>
     ensures { found_value result ≡ in_variables name.now (variables_at bindings.now frame body.now) }
 {
     match body.loops.look(bindings, frame, name) {
@@ -52,24 +52,24 @@ fn kept<'a>(value: Option<&'a Value>) -> Found<'a>
 
 impl<'c> Scopes<'c> {
     /// What the name stands for. Takes no memory and copies nothing.
-    pub fn look(&self, name: &str) -> Found<'_>
+    pub fn look(&self, name: &Sought<'_>) -> Found<'_>
         ensures { unwrap_or (found_value result) undefined ≡ look name.now (around_of self.now) (variables_of self.now) }
     {
         self.bound_at(self.below.len(), &self.frame, name)
     }
 
     // What a body with so many frames below it has the name stand for.
-    fn bound_at<'a>(&'a self, height: usize, body: &'a Frame<'c>, name: &str) -> Found<'a>
+    fn bound_at<'a>(&'a self, height: usize, body: &'a Frame<'c>, name: &Sought<'_>) -> Found<'a>
         requires { height ≤ length self.now.below }
         ensures { found_value result ≡ bound_at self.now height body.now name.now }
     {
         match in_body(&self.bindings, height, body, name) {
             Found::Nothing => match &body.standing {
-                Standing::Whole(context, global) => match context.get(name) {
+                Standing::Whole(context, global) => match context.get(name.as_str()) {
                     Some(value) => Found::Kept(value),
-                    None => kept(global.get(name)),
+                    None => kept(global.get(name.as_str())),
                 },
-                Standing::Called(context) => kept(context.get(name)),
+                Standing::Called(context) => kept(context.get(name.as_str())),
                 Standing::Included => {
                     if height == 0 {
                         return Found::Nothing;
@@ -78,7 +78,7 @@ impl<'c> Scopes<'c> {
                         Some(includer) => {
                             let found = self.bound_at(height - 1, includer, name);
                             if found.is_undefined() {
-                                kept(self.context_at(height - 1, includer).get(name))
+                                kept(self.context_at(height - 1, includer).get(name.as_str()))
                             } else {
                                 found
                             }
@@ -93,14 +93,14 @@ impl<'c> Scopes<'c> {
 
     /// What the name stands for here, or else in the bodies above this one: the first value that is not undefined. Takes no
     /// memory.
-    pub fn look_implicit(&self, name: &str) -> Found<'_>
+    pub fn look_implicit(&self, name: &Sought<'_>) -> Found<'_>
         ensures { unwrap_or (found_value result) undefined ≡ look_implicit name.now (around_of self.now) (variables_of self.now) }
     {
         self.implicit_at(self.below.len(), &self.frame, name)
     }
 
     // The same from a body with so many frames below it.
-    fn implicit_at<'a>(&'a self, height: usize, body: &'a Frame<'c>, name: &str) -> Found<'a>
+    fn implicit_at<'a>(&'a self, height: usize, body: &'a Frame<'c>, name: &Sought<'_>) -> Found<'a>
         requires { height ≤ length self.now.below }
         ensures { found_value result ≡ bound_above_at self.now height body.now name.now }
     {

@@ -10,7 +10,7 @@ use crate::found::Found;
 use crate::rendered::write_value;
 use crate::scopes::Scopes;
 use std::alloc::Global;
-use tera_values::{ArgFromValue, Context, Error, TeraResult, Value, escape_html};
+use tera_values::{ArgFromValue, Context, Error, Sought, TeraResult, Value, escape_html};
 
 /// Where names are looked up: in a context alone, or in the scopes of a rendering.
 #[derive(Drop)]
@@ -30,7 +30,7 @@ impl<'a, 'c> Source<'a, 'c> {
                 Some(value) => Found::Kept(value),
                 None => Found::Nothing,
             },
-            Source::Open(scopes) => scopes.look(name),
+            Source::Open(scopes) => scopes.look(&Sought::new(name)),
         }
     }
 }

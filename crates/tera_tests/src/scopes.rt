@@ -2,7 +2,7 @@
 use std::alloc::Global;
 use tera::{Context, Value};
 use tera_state::{ForLoop, Scopes};
-use tera_values::Name;
+use tera_values::{Name, Sought};
 
 fn name(alloc: Global, text: &str) -> Option<Name> {
     Name::new(alloc, text).ok()
@@ -24,7 +24,7 @@ fn sets_global(alloc: Global, scopes: &mut Scopes<'_>, text: &str, number: i128)
 
 /// Whether the name stands for this number, or for nothing.
 fn finds(alloc: Global, scopes: &Scopes<'_>, text: &str, want: Option<i128>) -> bool {
-    match scopes.look(text).to_value(alloc) {
+    match scopes.look(&Sought::new(text)).to_value(alloc) {
         Ok(value) => value.as_i128() == want,
         Err(_) => false,
     }
@@ -97,7 +97,7 @@ fn called(alloc: Global, scopes: &mut Scopes<'_>) -> bool {
 }
 
 fn finds_above(alloc: Global, scopes: &Scopes<'_>, text: &str, want: Option<i128>) -> bool {
-    match scopes.look_implicit(text).to_value(alloc) {
+    match scopes.look_implicit(&Sought::new(text)).to_value(alloc) {
         Ok(value) => value.as_i128() == want,
         Err(_) => false,
     }

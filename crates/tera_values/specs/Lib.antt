@@ -20,6 +20,7 @@ pub use Rattle.tera_values_data.specs.Escape
 pub use Rattle.tera_values_data.specs.Promises
 pub mod Named
 pub mod Names
+pub mod Naming
 pub mod Contexts
 pub mod Arguments
 pub mod Number

@@ -1,25 +1,33 @@
-// Names, shared by all that hold them.
-ghost use Rattle.std.specs.Prelude.{◌≡◌, Ok};
+// Names, shared by all that hold them, and what is known of them beside their text.
+ghost use Rattle.std.specs.Prelude.{◌≡◌, Ok, bytes_eq};
 ghost use Rattle.tera_errors.specs.Answer.{Gives};
+ghost use Rattle.tera_values.specs.Naming.{counter_of, name_hash};
 
+use crate::counter::Counter;
 use std::alloc::Global;
+use std::hash::{FoldHasher, Hash, Hasher};
 use std::marker::Model;
 use std::rc::RcStr;
 use tera_errors::TeraResult;
 
-/// A name; a copy shares its text.
+/// A name; a copy shares its text. Its hash and what it counts are found once, when it is made.
 #[derive(Drop)]
 pub struct Name {
     text: RcStr,
+    hash: u64,
+    counter: Option<Counter>,
 }
 
 impl Model for Name {
     ghost use Rattle.std.specs.Prelude.{ℕ, List};
     ghost use Rattle.std.specs.Rc.{rc_str_bytes};
+    ghost use Rattle.tera_values.specs.Naming.{IsOf};
 
     ghost Value = { List ℕ };
 
     ghost view = { λ n. rc_str_bytes n.text };
+
+    ghost invariant = { λ n. IsOf (rc_str_bytes n.text) n.hash n.counter };
 }
 
 impl Name {
@@ -27,8 +35,17 @@ impl Name {
     pub fn new(alloc: Global, text: &str) -> TeraResult<Name>
         ensures { Gives (λ n. n) result (Ok text.now) }
     {
+        Name::from_sought(alloc, &Sought::new(text))
+    }
+
+    /// A name of its own with this text.
+    pub fn from_sought(alloc: Global, sought: &Sought<'_>) -> TeraResult<Name>
+        ensures { Gives (λ n. n) result (Ok sought.now) }
+    {
         Ok(Name {
-            text: RcStr::from_str(alloc, text)?,
+            text: RcStr::from_str(alloc, sought.text)?,
+            hash: sought.hash,
+            counter: sought.counter,
         })
     }
 
@@ -38,6 +55,8 @@ impl Name {
     {
         Ok(Name {
             text: self.text.clone()?,
+            hash: self.hash,
+            counter: self.counter,
         })
     }
 
@@ -47,4 +66,84 @@ impl Name {
     {
         self.text.as_str()
     }
+
+    /// The name to look for: nothing is copied, and nothing is found anew.
+    pub fn sought(&self) -> Sought<'_>
+        ensures { result ≡ self.now }
+    {
+        Sought {
+            text: self.text.as_str(),
+            hash: self.hash,
+            counter: self.counter,
+        }
+    }
+}
+
+/// A name that is looked for. Its text lies elsewhere; its hash and what it counts are found once, so that a look-up
+/// compares texts only where their hashes are the same. Takes no memory.
+#[derive(Drop)]
+pub struct Sought<'a> {
+    text: &'a str,
+    hash: u64,
+    counter: Option<Counter>,
+}
+
+impl<'a> Model for Sought<'a> {
+    ghost use Rattle.std.specs.Prelude.{ℕ, List};
+    ghost use Rattle.tera_values.specs.Naming.{IsOf};
+
+    ghost Value = { List ℕ };
+
+    ghost view = { λ s. s.text.now };
+
+    ghost invariant = { λ s. IsOf s.text.now s.hash s.counter };
+}
+
+impl<'a> Sought<'a> {
+    /// The text as a name to look for.
+    pub fn new(text: &'a str) -> Sought<'a>
+        ensures { result ≡ text.now }
+    {
+        Sought {
+            text,
+            hash: hash_of(text),
+            counter: Counter::named(text),
+        }
+    }
+
+    /// The text of the name.
+    pub fn as_str(&self) -> &'a str
+        ensures { result.now ≡ self.now }
+    {
+        self.text
+    }
+
+    /// The hash of the text, which is the same for the same text.
+    pub fn hash(&self) -> u64
+        ensures { result ≡ name_hash self.now }
+    {
+        self.hash
+    }
+
+    /// What a loop counts under the name, if anything.
+    pub fn counter(&self) -> Option<Counter>
+        ensures { result ≡ counter_of self.now }
+    {
+        self.counter
+    }
+
+    /// Whether this is the name.
+    pub fn is(&self, name: &Name) -> bool
+        ensures { result ≡ bytes_eq self.now name.now }
+    {
+        self.hash == name.hash && self.text == name.text.as_str()
+    }
+}
+
+fn hash_of(text: &str) -> u64
+    ensures { result ≡ name_hash text.now }
+{
+    let mut state = FoldHasher::default();
+    text.hash(&mut state);
+    state.finish()
 }

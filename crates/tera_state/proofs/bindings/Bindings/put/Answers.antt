@@ -1,7 +1,8 @@
-use Rattle.std.proofs.Common.{rules, ◌≡◌, ◌∙◌, ap, sym, subst, Some, None, arith, ◌+◌}
-use Rattle.tera_state.specs.Bound.{with_binding, place_from, IsOnce}
+use Rattle.std.proofs.Common.{rules, ◌≡◌, ◌∙◌, ap, Some, None, arith, ◌+◌}
+use Rattle.tera_state.specs.Bound.{with_binding, place_from, end_with}
 use Rattle.tera_state.proofs.Puts.{bind-new, at_place, bind-at}
 use Rattle.tera_state.proofs.Once.{once-with}
+use Rattle.tera_state.proofs.Ends.{ends-end_with, ends_put, holds_of}
 use Rattle.tera_state.proofs.bindings.Bindings.put.Goals as goal
 use Rattle.tera_state.proofs.bindings.Bindings.put.Goals.{in-Some, in-None+in_ok-push-in-None}
 
@@ -13,14 +14,33 @@ index_mut-requires c =
 
 pub invariant_of-self : goal.invariant_of-self
 invariant_of-self c =
-    let h : place_from 0 c.self.inside.items.items c.args.frame c.args.layer c.args.name ≡ Some c.in-Some.at = search rules in
+    let items = c.self.inside.items.items in
+    let end = c.self.inside.end in
+    let h : place_from 0 items c.args.frame c.args.layer c.args.name ≡ Some c.in-Some.at = search rules in
     let m : c.in-Some.at ≡ 0 + c.in-Some.at = omega arith in
-    subst IsOnce (sym (bind-at 0 c.in-Some.at c.self.inside.items.items c.args.frame c.args.layer c.args.name c.args.value c.index_mut.result.now (h ∙ ap Some m) c.index_mut.ensures.value)) (once-with c.self.inside.items.items c.args.frame c.args.layer c.args.name c.args.value c.self.invariant)
+    holds_of _ (with_binding items c.args.frame c.args.layer c.args.name c.args.value) c.end_with-self-inside.result (end_with c.args.frame c.args.layer end)
+    (bind-at 0 c.in-Some.at items c.args.frame c.args.layer c.args.name c.args.value c.index_mut.result.now (h ∙ ap Some m) c.index_mut.ensures.value)
+    c.end_with-self-inside.ensures
+    (once-with items c.args.frame c.args.layer c.args.name c.args.value c.self.invariant.0)
+    (ends_put items c.args.frame c.args.layer end c.args.name c.args.value c.self.invariant.1)
 
 pub invariant_of-self-in-Continue-1 : goal.invariant_of-self-in-Continue-1
 invariant_of-self-in-Continue-1 c =
-    let h : place_from 0 c.self.inside.items.items c.args.frame c.args.layer c.args.name ≡ None = search rules in
-    subst IsOnce (sym (c.in_ok-push-in-None.ensures.items ∙ bind-new 0 c.self.inside.items.items c.args.frame c.args.layer c.args.name c.args.value h)) (once-with c.self.inside.items.items c.args.frame c.args.layer c.args.name c.args.value c.self.invariant)
+    let items = c.self.inside.items.items in
+    let end = c.self.inside.end in
+    let h : place_from 0 items c.args.frame c.args.layer c.args.name ≡ None = search rules in
+    holds_of _ (with_binding items c.args.frame c.args.layer c.args.name c.args.value) c.end_with-self-inside.result (end_with c.args.frame c.args.layer end)
+    (c.in_ok-push-in-None.ensures.items ∙ bind-new 0 items c.args.frame c.args.layer c.args.name c.args.value h)
+    c.end_with-self-inside.ensures
+    (once-with items c.args.frame c.args.layer c.args.name c.args.value c.self.invariant.0)
+    (ends_put items c.args.frame c.args.layer end c.args.name c.args.value c.self.invariant.1)
+
+pub invariant_of-self-in_err-push-in-None : goal.invariant_of-self-in_err-push-in-None
+invariant_of-self-in_err-push-in-None c =
+    let items = c.self.inside.items.items in
+    let end = c.self.inside.end in
+    holds_of c.push.new.self.items items c.end_with-self-inside.result (end_with c.args.frame c.args.layer end) c.in_err-push-in-None.ensures.items c.end_with-self-inside.ensures c.self.invariant.0
+    (ends-end_with items c.args.frame c.args.layer end c.self.invariant.1)
 
 pub returns-clause-ok : goal.returns-clause-ok
 returns-clause-ok c = elim c.match-place.branch [

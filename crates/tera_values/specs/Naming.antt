@@ -1,0 +1,26 @@
+-- What is known of a name beside its text.
+use Rattle.std.specs.Prelude.{◌≡◌, ℕ, Option, Some, None, cond, codes}
+use Rattle.std.specs.List.{fold}
+use Rattle.std.specs.Str.{bytes_eq}
+use Rattle.std.specs.Hash as fed
+use Rattle.std.specs.Hash.FoldHasher as folding
+use Rattle.tera_errors.specs.Site.{Name}
+use Rattle.tera_values.specs.declared.counter.Counter.{Counter}
+use Rattle.tera_values.specs.declared.counter.Counter.TheVariants as counter
+
+-- the hash of a text
+unfoldable pub name_hash : Name → ℕ
+name_hash n = folding.finish (fold folding.write folding.initial (fed.str n))
+
+-- what a loop counts under this name
+abbrev pub counter_of : Name → Option Counter
+counter_of n =
+    cond (bytes_eq n (codes "__tera_loop_index")) (Some counter.Index)
+    (cond (bytes_eq n (codes "__tera_loop_index0")) (Some counter.Index0)
+    (cond (bytes_eq n (codes "__tera_loop_first")) (Some counter.First)
+    (cond (bytes_eq n (codes "__tera_loop_last")) (Some counter.Last)
+    (cond (bytes_eq n (codes "__tera_loop_length")) (Some counter.Length) None))))
+
+-- what is kept of the name is that
+abbrev pub IsOf : Name → ℕ → Option Counter → Type 0
+IsOf n hash counts = (hash ≡ name_hash n) × (counts ≡ counter_of n)

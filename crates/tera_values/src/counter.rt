@@ -1,0 +1,35 @@
+// What the names of a loop count.
+ghost use Rattle.std.specs.Prelude.{◌≡◌};
+ghost use Rattle.tera_values.specs.Naming.{counter_of};
+
+/// What a loop counts: its turns so far, with this one and without, whether this is the first or the last, and how many
+/// there are.
+#[derive(Clone, Copy)]
+pub enum Counter {
+    Index,
+    Index0,
+    First,
+    Last,
+    Length,
+}
+
+impl Counter {
+    /// What the name counts, if anything.
+    pub fn named(name: &str) -> Option<Counter>
+        ensures { result ≡ counter_of name.now }
+    {
+        if name == "__tera_loop_index" {
+            Some(Counter::Index)
+        } else if name == "__tera_loop_index0" {
+            Some(Counter::Index0)
+        } else if name == "__tera_loop_first" {
+            Some(Counter::First)
+        } else if name == "__tera_loop_last" {
+            Some(Counter::Last)
+        } else if name == "__tera_loop_length" {
+            Some(Counter::Length)
+        } else {
+            None
+        }
+    }
+}

@@ -1,8 +1,9 @@
 // Nodes.
-ghost use Rattle.std.specs.Prelude.{◌≡◌, [], ◌∷◌, OnOk, IfErr, MatchOption, Some, None};
+ghost use Rattle.std.specs.Prelude.{◌≡◌, [], ◌∷◌, OnOk, IfErr, MatchOption, Some, None, true};
 ghost use Rattle.tera_errors.specs.Answer.{Lacks};
 ghost use Rattle.tera_code.specs.declared.instruction.Instruction.TheVariants as instruction;
 ghost use Rattle.tera_code.specs.Code.{named, node_code, nodes_code, lengthened};
+ghost use Rattle.tera_code.specs.Group.{is_choice, is_loop};
 ghost use Rattle.tera_tree.specs.Tree.{Print};
 ghost use Rattle.tera_tree.specs.View.{expr_of, node_of, nodes_of};
 
@@ -51,6 +52,31 @@ impl Compiler {
         match node {
             Node::Content { text, span: _ } => self.content(text),
             Node::Print { value } => self.print(value),
+            Node::If { .. } => self.choice(node, drops),
+            Node::Set {
+                name,
+                value,
+                is_global,
+            } => self.set(name, value, *is_global),
+            Node::Capture {
+                name,
+                body,
+                is_global,
+            } => self.capture(name, body.as_slice(), *is_global, drops),
+            Node::For { .. } => self.for_loop(node, drops),
+            Node::Break => self.emit(Instruction::LeaveLoop(drops)),
+            Node::Continue => self.emit(Instruction::LeaveTurn(drops)),
+        }
+    }
+
+    // One of two bodies.
+    #[cycle(nodes)]
+    fn choice(&mut self, node: &Node, drops: usize) -> TeraResult<()>
+        requires { is_choice (node_of node.now) ≡ true }
+        ensures ok { OnOk result (self.new ≡ lengthened self.old (node_code (node_of node.now) drops)) }
+        ensures lacks { IfErr result Lacks }
+    {
+        match node {
             Node::If {
                 condition,
                 body,
@@ -63,16 +89,18 @@ impl Compiler {
                 self.nodes(other.as_slice(), drops)?;
                 self.fill(place, Instruction::Jump(self.behind(place)))
             }
-            Node::Set {
-                name,
-                value,
-                is_global,
-            } => self.set(name, value, *is_global),
-            Node::Capture {
-                name,
-                body,
-                is_global,
-            } => self.capture(name, body.as_slice(), *is_global, drops),
+            _ => unreachable!(),
+        }
+    }
+
+    // The body for each item, and the other one where there is none.
+    #[cycle(nodes)]
+    fn for_loop(&mut self, node: &Node, drops: usize) -> TeraResult<()>
+        requires { is_loop (node_of node.now) ≡ true }
+        ensures ok { OnOk result (self.new ≡ lengthened self.old (node_code (node_of node.now) drops)) }
+        ensures lacks { IfErr result Lacks }
+    {
+        match node {
             Node::For {
                 heading,
                 body,
@@ -86,8 +114,7 @@ impl Compiler {
                 self.nodes(other.as_slice(), drops)?;
                 self.fill(place, Instruction::EndLoop(self.behind(place)))
             }
-            Node::Break => self.emit(Instruction::LeaveLoop(drops)),
-            Node::Continue => self.emit(Instruction::LeaveTurn(drops)),
+            _ => unreachable!(),
         }
     }
 

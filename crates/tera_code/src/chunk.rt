@@ -5,6 +5,7 @@ ghost use Rattle.tera_code.specs.Code.{lengthened};
 ghost use Rattle.tera_code.specs.Places.{filled};
 
 use crate::instruction::Instruction;
+use crate::lent::LentInstruction;
 use crate::packed::{Packed, Tables};
 use crate::steps::Steps;
 use std::alloc::Global;
@@ -58,7 +59,8 @@ impl Chunk {
     }
 
     /// The instruction at this place, from 0, which is counted where there is one. No other call hands one out.
-    pub fn get<L: Ledger>(&self, at: usize, steps: &mut Steps<L>) -> Option<Instruction<'_>>
+    #[inline(always)]
+    pub fn get<L: Ledger>(&self, at: usize, steps: &mut Steps<L>) -> Option<LentInstruction<'_>>
         ensures found { MatchOption result (slice_get self.now.code at ≡ None) (λ i. slice_get self.now.code at ≡ Some i) }
         ensures small { IfSome result (λ _. length self.now.code < 2 ^ 64) }
         ensures count { MatchOption result (steps.new ≡ steps.old) (λ _. steps.new ≡ steps.old + 1) }
@@ -67,7 +69,7 @@ impl Chunk {
             None => None,
             Some(packed) => {
                 steps.tick();
-                Some(self.tables.unpack(*packed))
+                Some(LentInstruction::new(packed, &self.tables))
             }
         }
     }

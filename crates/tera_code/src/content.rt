@@ -68,6 +68,13 @@ impl<'a> LentName<'a> {
         }
     }
 
+    /// The name itself, which is not copied.
+    pub fn as_name(&self) -> &'a Name
+        ensures { result.now ≡ self.now }
+    {
+        self.name
+    }
+
     /// The name once more: a count, and no copy of its text.
     pub fn share(&self) -> TeraResult<Name>
         ensures { Gives (λ n. n) result (Ok self.now) }

@@ -1,5 +1,6 @@
 // How a body's instructions are kept: small ones in a row, and beside them what they name by number.
-ghost use Rattle.std.specs.Prelude.{◌≡◌, ◌<◌, ◌^◌, Ok, OnOk, IfOk, IfErr, length};
+ghost use Rattle.std.specs.Prelude.{◌≡◌, ◌<◌, ◌≤◌, ◌-◌, ◌^◌, Ok, OnOk, IfOk, IfErr, length, take, drop, string_bytes};
+ghost use Rattle.std.specs.Str.{IsCharBoundary};
 ghost use Rattle.tera_errors.specs.Answer.{Gives, Lacks};
 ghost use Rattle.tera_code.specs.Packed.{Grows, Longer, IsAt, Packs, Within, shelf_of, span_at, name_at, unpacked};
 ghost use Rattle.tera_tree.specs.View.{keys_of};
@@ -366,25 +367,46 @@ impl Tables {
         }
     }
 
-    fn span(&self, number: u32) -> Span
+    #[inline(always)]
+    pub(crate) fn span(&self, number: u32) -> Span
         requires { number < length self.now.spans.items }
         ensures { result ≡ span_at (shelf_of self.now) number }
     {
         self.spans[number as usize]
     }
 
-    fn name(&self, number: u32) -> Sought<'_>
+    #[inline(always)]
+    pub(crate) fn name(&self, number: u32) -> Sought<'_>
         requires { number < length self.now.names.items }
         ensures { result ≡ name_at (shelf_of self.now) number }
     {
-        self.names[number as usize].sought()
+        self.whole_name(number).sought()
     }
 
-    fn attribute(&self, number: u32) -> Text<'_>
+    #[inline(always)]
+    pub(crate) fn attribute(&self, number: u32) -> Text<'_>
         requires { number < length self.now.names.items }
         ensures { result ≡ name_at (shelf_of self.now) number }
     {
-        Text::new(self.names[number as usize].as_str())
+        Text::new(self.whole_name(number).as_str())
+    }
+
+    #[inline(always)]
+    pub(crate) fn whole_name(&self, number: u32) -> &Name
+        requires { number < length self.now.names.items }
+        ensures { result.now ≡ name_at (shelf_of self.now) number }
+    {
+        &self.names[number as usize]
+    }
+
+    #[inline(always)]
+    pub(crate) fn text_between(&self, start: u32, end: u32) -> &str
+        requires order { start ≤ end }
+        requires start { IsCharBoundary (string_bytes self.now.pool) start }
+        requires end { IsCharBoundary (string_bytes self.now.pool) end }
+        ensures { result.now ≡ take (end - start) (drop start (string_bytes self.now.pool)) }
+    {
+        &self.pool[start as usize..end as usize]
     }
 
     /// The instruction that is meant.
@@ -394,7 +416,7 @@ impl Tables {
     {
         match packed {
             Packed::WriteText { start, end } => {
-                Instruction::WriteText(Text::new(&self.pool[start as usize..end as usize]))
+                Instruction::WriteText(Text::new(self.text_between(start, end)))
             }
             Packed::WriteTop => Instruction::WriteTop,
             Packed::WriteName { name, span } => {
@@ -444,7 +466,7 @@ impl Tables {
                 Instruction::MakeMap(Keys::new(keys.as_slice()), self.span(span))
             }
             Packed::Store { name, is_global } => Instruction::Store {
-                name: LentName::new(&self.names[name as usize]),
+                name: LentName::new(self.whole_name(name)),
                 is_global,
             },
             Packed::StartLoop {

@@ -12,11 +12,11 @@ ghost use Rattle.tera_tree.specs.declared.expression.BinaryOperator.{BinaryOpera
 use crate::configuration::Configuration;
 use crate::machine::{Flow, VirtualMachine};
 use std::alloc::Global;
-use tera_code::{Instruction, Keys, LentName, Spreads, Text};
+use tera_code::{Instruction, Keys, Spreads};
 use tera_operators::Operand;
 use tera_state::Found;
 use tera_tree::BinaryOperator;
-use tera_values::{Error, Sought, Span, TeraResult, Value};
+use tera_values::{Error, Name, Sought, Span, TeraResult, Value};
 
 impl<'c> Configuration<'c> {
     /// Does what the instruction says, which stands in this file's text in front of the next place, and tells where to go on.
@@ -33,7 +33,7 @@ impl<'c> Configuration<'c> {
     {
         let alloc = machine.alloc;
         match instruction {
-            Instruction::WriteText(text) => self.write_text(text),
+            Instruction::WriteText(text) => self.write_text(text.as_str()),
             Instruction::WriteTop => self.write_top(machine, file),
             Instruction::WriteName(name, span) => self.write_name(machine, file, name, *span),
             Instruction::LoadConst(constant, span) => self.push(constant.load()?, *span),
@@ -42,7 +42,7 @@ impl<'c> Configuration<'c> {
                 name,
                 optional,
                 span,
-            } => self.load_attribute(alloc, file, name, *optional, *span),
+            } => self.load_attribute(alloc, file, name.as_str(), *optional, *span),
             Instruction::LoadItem { optional, span } => {
                 self.load_item(alloc, file, *optional, *span)
             }
@@ -57,7 +57,7 @@ impl<'c> Configuration<'c> {
             Instruction::JumpIfFalseOrPop(skip) => self.jump_if_false_or_pop(*skip),
             Instruction::JumpIfTrueOrPop(skip) => self.jump_if_true_or_pop(*skip),
             Instruction::LoadContext(span) => self.load_context(alloc, *span),
-            Instruction::Store { name, is_global } => self.store(alloc, name, *is_global),
+            Instruction::Store { name, is_global } => self.store(alloc, name.as_name(), *is_global),
             Instruction::StartLoop {
                 key,
                 name,
@@ -75,14 +75,16 @@ impl<'c> Configuration<'c> {
         }
     }
 
-    fn write_text(&mut self, text: &Text<'_>) -> TeraResult<Flow>
+    #[inline(always)]
+    pub(crate) fn write_text(&mut self, text: &str) -> TeraResult<Flow>
         ensures { Does (text_written text.now) self.old result self.new }
     {
-        self.texts.append(text.as_str())?;
+        self.texts.append(text)?;
         Ok(Flow::On)
     }
 
-    fn write_top(&mut self, machine: &VirtualMachine, file: &str) -> TeraResult<Flow>
+    #[inline(never)]
+    pub(crate) fn write_top(&mut self, machine: &VirtualMachine, file: &str) -> TeraResult<Flow>
         requires { IsReady (top_written (here_of machine.now file.now self.old)) self.old }
         ensures { Does (top_written (here_of machine.now file.now self.old)) self.old result self.new }
     {
@@ -98,7 +100,8 @@ impl<'c> Configuration<'c> {
     }
 
     // The value is read where it lies.
-    fn write_name(
+    #[inline(always)]
+    pub(crate) fn write_name(
         &mut self,
         machine: &VirtualMachine,
         file: &str,
@@ -138,7 +141,8 @@ impl<'c> Configuration<'c> {
         self.put(Operand::new(value, span))
     }
 
-    fn load_name(&mut self, alloc: Global, name: &Sought<'_>, span: Span) -> TeraResult<Flow>
+    #[inline(always)]
+    pub(crate) fn load_name(&mut self, alloc: Global, name: &Sought<'_>, span: Span) -> TeraResult<Flow>
         ensures { Does (name_loaded (around_of self.old.scopes) name.now span) self.old result self.new }
     {
         let value = self.scopes.look(name).to_value(alloc)?;
@@ -153,7 +157,8 @@ impl<'c> Configuration<'c> {
     }
 
     // What is bound is kept in shared form, so that a copy of it is a count.
-    fn store(&mut self, alloc: Global, name: &LentName<'_>, is_global: bool) -> TeraResult<Flow>
+    #[inline(never)]
+    pub(crate) fn store(&mut self, alloc: Global, name: &Name, is_global: bool) -> TeraResult<Flow>
         requires { IsReady (stored is_global name.now) self.old }
         ensures { Does (stored is_global name.now) self.old result self.new }
     {
@@ -169,11 +174,12 @@ impl<'c> Configuration<'c> {
         Ok(Flow::On)
     }
 
-    fn load_attribute(
+    #[inline(never)]
+    pub(crate) fn load_attribute(
         &mut self,
         alloc: Global,
         file: &str,
-        name: &Text<'_>,
+        name: &str,
         optional: bool,
         span: Span,
     ) -> TeraResult<Flow>
@@ -183,17 +189,11 @@ impl<'c> Configuration<'c> {
         let Some(target) = self.operands.pop() else {
             unreachable!()
         };
-        let operand = tera_operators::attribute(
-            alloc,
-            file,
-            &target,
-            name.as_str(),
-            optional,
-            span,
-        )?;
+        let operand = tera_operators::attribute(alloc, file, &target, name, optional, span)?;
         self.put(operand)
     }
 
+    #[inline(never)]
     fn load_item(
         &mut self,
         alloc: Global,
@@ -258,7 +258,8 @@ impl<'c> Configuration<'c> {
         self.put(operand)
     }
 
-    fn operate(
+    #[inline(never)]
+    pub(crate) fn operate(
         &mut self,
         alloc: Global,
         file: &str,
@@ -316,7 +317,8 @@ impl<'c> Configuration<'c> {
         self.put(operand)
     }
 
-    fn pop_jump_if_false(&mut self, skip: usize) -> TeraResult<Flow>
+    #[inline(always)]
+    pub(crate) fn pop_jump_if_false(&mut self, skip: usize) -> TeraResult<Flow>
         requires { IsReady (popped_branch skip) self.old }
         ensures { Does (popped_branch skip) self.old result self.new }
     {

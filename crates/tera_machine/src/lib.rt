@@ -8,6 +8,7 @@ pub mod ended;
 mod loops;
 pub mod machine;
 pub mod place;
+mod step;
 pub mod texts;
 
 pub use configuration::Configuration;

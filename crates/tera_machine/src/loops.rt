@@ -97,6 +97,7 @@ impl<'c> Configuration<'c> {
     }
 
     // The start of the body stands with the loop: nothing is looked for.
+    #[inline(always)]
     pub(crate) fn next_turn(&mut self) -> TeraResult<Flow>
         requires { IsReady turned self.old }
         ensures { Does turned self.old result self.new }

@@ -101,7 +101,7 @@ impl VirtualMachine {
         let mut at = 0;
         while let Some(instruction) = chunk.get(at, steps) {
             let next = at + 1;
-            let flow = match configuration.act(self, chunk.file(), next, &instruction) {
+            let flow = match configuration.step(self, chunk.file(), next, &instruction) {
                 Ok(flow) => flow,
                 Err(error) => return Err(error),
             };

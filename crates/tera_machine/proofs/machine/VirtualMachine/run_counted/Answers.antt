@@ -2,12 +2,12 @@ use Rattle.std.proofs.Common.{arith, ◌∙◌}
 use Rattle.tera_machine.proofs.Runs.{here_is, not_stuck, small, one_left, went_on, skipped, skip_within, went_to, place_within, went_out, finished, act_failed}
 use Rattle.tera_machine.proofs.machine.VirtualMachine.run_counted.Goals as goal
 
-pub act-requires-clause-ready : goal.act-requires-clause-ready
-act-requires-clause-ready g c =
+pub step-requires-clause-ready : goal.step-requires-clause-ready
+step-requires-clause-ready g c =
     not_stuck c.loop-instruction.invariant.progress (here_is g.M.Limit.world c.args.self.now _ _ c.loop-instruction.configuration c.args.configuration.now c.requires.engine c.file.ensures c.loop-instruction.invariant.stays) c.in-Some.ensures.found
 
-pub act-requires-clause-small : goal.act-requires-clause-small
-act-requires-clause-small g c =
+pub step-requires-clause-small : goal.step-requires-clause-small
+step-requires-clause-small g c =
     small c.loop-instruction.invariant.progress (here_is g.M.Limit.world c.args.self.now _ _ c.loop-instruction.configuration c.args.configuration.now c.requires.engine c.file.ensures c.loop-instruction.invariant.stays) c.in-Some.ensures.found c.in-Some.ensures.small
 
 pub overflow_add-at : goal.overflow_add-at

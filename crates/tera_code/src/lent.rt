@@ -1,0 +1,182 @@
+// Instructions as a chunk hands them out.
+ghost use Rattle.std.specs.Prelude.{◌≡◌, IfSome, IsTrue};
+ghost use Rattle.tera_values.specs.Val as val;
+ghost use Rattle.tera_code.specs.declared.instruction.Instruction.TheVariants as instruction;
+
+use crate::content::Text;
+use crate::instruction::Instruction;
+use crate::packed::{Packed, Tables};
+use std::marker::Model;
+use tera_tree::BinaryOperator;
+use tera_values::{Name, Span};
+
+/// An instruction that lies in its chunk. A contract sees the instruction that is meant. What is run most can be asked for
+/// part by part, so that nothing else of it is built.
+#[derive(Drop)]
+pub struct LentInstruction<'a> {
+    packed: &'a Packed,
+    tables: &'a Tables,
+}
+
+impl<'a> Model for LentInstruction<'a> {
+    ghost use Rattle.std.specs.Coded.{codes};
+    ghost use Rattle.tera_values.specs.Code.{val_code};
+    ghost use Rattle.tera_code.specs.declared.instruction.Instruction.{Instruction as Datum};
+    ghost use Rattle.tera_code.specs.Packed.{Within, shelf_of, unpacked};
+
+    ghost Value = { Datum };
+
+    ghost coded = { Prim.hlevel (codes, val_code) };
+
+    ghost view = { λ l. unpacked (shelf_of l.tables.now) l.packed.now };
+
+    ghost invariant = { λ l. Within (shelf_of l.tables.now) l.packed.now };
+}
+
+impl<'a> LentInstruction<'a> {
+    ghost use Rattle.tera_code.specs.Packed.{Within, shelf_of, unpacked};
+
+    #[inline(always)]
+    pub(crate) fn new(packed: &'a Packed, tables: &'a Tables) -> LentInstruction<'a>
+        requires { Within (shelf_of tables.now) packed.now }
+        ensures { result ≡ unpacked (shelf_of tables.now) packed.now }
+    {
+        LentInstruction { packed, tables }
+    }
+
+    /// The instruction, with all its parts.
+    pub fn unpack(&self) -> Instruction<'a>
+        ensures { result ≡ self.now }
+    {
+        self.tables.unpack(*self.packed)
+    }
+
+    /// The text that it puts out.
+    #[inline(always)]
+    pub fn as_text(&self) -> Option<&'a str>
+        ensures { IfSome result (λ text. self.now ≡ instruction.WriteText text.now) }
+    {
+        match *self.packed {
+            Packed::WriteText { start, end } => Some(self.tables.text_between(start, end)),
+            _ => None,
+        }
+    }
+
+    /// The name whose value it puts out.
+    #[inline(always)]
+    pub fn as_written_name(&self) -> Option<(&'a Name, Span)>
+        ensures { IfSome result (λ p. self.now ≡ instruction.WriteName p.0.now p.1) }
+    {
+        match *self.packed {
+            Packed::WriteName { name, span } => {
+                Some((self.tables.whole_name(name), self.tables.span(span)))
+            }
+            _ => None,
+        }
+    }
+
+    /// The name whose value it puts on top of the operands.
+    #[inline(always)]
+    pub fn as_loaded_name(&self) -> Option<(&'a Name, Span)>
+        ensures { IfSome result (λ p. self.now ≡ instruction.LoadName p.0.now p.1) }
+    {
+        match *self.packed {
+            Packed::LoadName { name, span } => {
+                Some((self.tables.whole_name(name), self.tables.span(span)))
+            }
+            _ => None,
+        }
+    }
+
+    /// The integer that it puts on top of the operands.
+    #[inline(always)]
+    pub fn as_integer(&self) -> Option<(i64, Span)>
+        ensures { IfSome result (λ p. self.now ≡ instruction.LoadConst (val.int p.0) p.1) }
+    {
+        match *self.packed {
+            Packed::LoadInt { span, number } => Some((number, self.tables.span(span))),
+            _ => None,
+        }
+    }
+
+    /// The attribute that it takes, and whether it may be missing.
+    #[inline(always)]
+    pub fn as_attribute(&self) -> Option<(Text<'a>, bool, Span)>
+        ensures { IfSome result (λ p. self.now ≡ instruction.LoadAttribute p.0 p.1 p.2) }
+    {
+        match *self.packed {
+            Packed::LoadAttribute {
+                name,
+                optional,
+                span,
+            } => Some((self.tables.attribute(name), optional, self.tables.span(span))),
+            _ => None,
+        }
+    }
+
+    /// The operator that it applies to two operands.
+    #[inline(always)]
+    pub fn as_binary(&self) -> Option<(BinaryOperator, Span)>
+        ensures { IfSome result (λ p. self.now ≡ instruction.Binary p.0 p.1) }
+    {
+        match *self.packed {
+            Packed::Binary { operator, span } => Some((operator, self.tables.span(span))),
+            _ => None,
+        }
+    }
+
+    /// The name that it binds, and whether that is outside of all turns.
+    #[inline(always)]
+    pub fn as_store(&self) -> Option<(&'a Name, bool)>
+        ensures { IfSome result (λ p. self.now ≡ instruction.Store p.0.now p.1) }
+    {
+        match *self.packed {
+            Packed::Store { name, is_global } => Some((self.tables.whole_name(name), is_global)),
+            _ => None,
+        }
+    }
+
+    /// How many instructions it passes, in any case.
+    #[inline(always)]
+    pub fn as_jump(&self) -> Option<usize>
+        ensures { IfSome result (λ skip. self.now ≡ instruction.Jump skip) }
+    {
+        match *self.packed {
+            Packed::Jump(skip) => Some(skip),
+            _ => None,
+        }
+    }
+
+    /// How many instructions it passes where the operand that it takes is falsy.
+    #[inline(always)]
+    pub fn as_pop_jump_if_false(&self) -> Option<usize>
+        ensures { IfSome result (λ skip. self.now ≡ instruction.PopJumpIfFalse skip) }
+    {
+        match *self.packed {
+            Packed::PopJumpIfFalse(skip) => Some(skip),
+            _ => None,
+        }
+    }
+
+    /// Whether it puts out the topmost operand.
+    #[inline(always)]
+    pub fn is_write_top(&self) -> bool
+        ensures { IsTrue result → self.now ≡ instruction.WriteTop }
+    {
+        match *self.packed {
+            Packed::WriteTop => true,
+            _ => false,
+        }
+    }
+
+    /// Whether it goes on to the next turn of a loop.
+    #[inline(always)]
+    pub fn is_next_turn(&self) -> bool
+        ensures { IsTrue result → self.now ≡ instruction.NextTurn }
+    {
+        match *self.packed {
+            Packed::NextTurn => true,
+            _ => false,
+        }
+    }
+}

@@ -1,0 +1,107 @@
+// One instruction, as it lies in its chunk.
+ghost use Rattle.tera_values.specs.Val.{int};
+ghost use Rattle.tera_machine.specs.Config.{config_of};
+ghost use Rattle.tera_machine.specs.Did.{pushed};
+ghost use Rattle.tera_machine.specs.Act.{act, IsReady, IsSmall, Does, name_written, name_loaded};
+ghost use Rattle.tera_machine.specs.Subject.{here_of};
+ghost use Rattle.tera_state.specs.Scopes.{around_of};
+
+use crate::configuration::Configuration;
+use crate::machine::{Flow, VirtualMachine};
+use std::alloc::Global;
+use tera_code::LentInstruction;
+use tera_values::{Name, Span, TeraResult, Value};
+
+impl<'c> Configuration<'c> {
+    /// The same as `act`. What is run most is told apart first and needs no more of the instruction than its parts: all else
+    /// stays out of the loop, whose frame is small.
+    #[inline(always)]
+    pub(crate) fn step(
+        &mut self,
+        machine: &VirtualMachine,
+        file: &str,
+        next: usize,
+        instruction: &LentInstruction<'_>,
+    ) -> TeraResult<Flow>
+        requires ready { IsReady (act (here_of machine.now file.now self.old) next instruction.now) self.old }
+        requires small { IsSmall (act (here_of machine.now file.now self.old) next instruction.now (config_of self.old)) }
+        ensures { Does (act (here_of machine.now file.now self.old) next instruction.now) self.old result self.new }
+    {
+        if let Some(text) = instruction.as_text() {
+            return self.write_text(text);
+        }
+        if let Some((name, span)) = instruction.as_written_name() {
+            return self.write_named(machine, file, name, span);
+        }
+        if instruction.is_next_turn() {
+            return self.next_turn();
+        }
+        if let Some(skip) = instruction.as_pop_jump_if_false() {
+            return self.pop_jump_if_false(skip);
+        }
+        if let Some(skip) = instruction.as_jump() {
+            return Ok(Flow::Skip(skip));
+        }
+        if let Some((name, span)) = instruction.as_loaded_name() {
+            return self.load_named(machine.alloc, name, span);
+        }
+        if let Some((number, span)) = instruction.as_integer() {
+            return self.load_integer(number, span);
+        }
+        if let Some((operator, span)) = instruction.as_binary() {
+            return self.operate(machine.alloc, file, operator, span);
+        }
+        if instruction.is_write_top() {
+            return self.write_top(machine, file);
+        }
+        if let Some((name, optional, span)) = instruction.as_attribute() {
+            return self.load_attribute(machine.alloc, file, name.as_str(), optional, span);
+        }
+        if let Some((name, is_global)) = instruction.as_store() {
+            return self.store(machine.alloc, name, is_global);
+        }
+        self.act_unpacked(machine, file, next, instruction)
+    }
+
+    #[inline(never)]
+    fn act_unpacked(
+        &mut self,
+        machine: &VirtualMachine,
+        file: &str,
+        next: usize,
+        instruction: &LentInstruction<'_>,
+    ) -> TeraResult<Flow>
+        requires ready { IsReady (act (here_of machine.now file.now self.old) next instruction.now) self.old }
+        requires small { IsSmall (act (here_of machine.now file.now self.old) next instruction.now (config_of self.old)) }
+        ensures { Does (act (here_of machine.now file.now self.old) next instruction.now) self.old result self.new }
+    {
+        self.act(machine, file, next, &instruction.unpack())
+    }
+
+    #[inline(never)]
+    fn load_integer(&mut self, number: i64, span: Span) -> TeraResult<Flow>
+        ensures { Does (pushed (int number) span) self.old result self.new }
+    {
+        self.push(Value::from_int(i128::from(number)), span)
+    }
+
+    #[inline(never)]
+    fn write_named(
+        &mut self,
+        machine: &VirtualMachine,
+        file: &str,
+        name: &Name,
+        span: Span,
+    ) -> TeraResult<Flow>
+        ensures { Does (name_written (here_of machine.now file.now self.old) name.now span) self.old result self.new }
+    {
+        self.write_name(machine, file, &name.sought(), span)
+    }
+
+    #[inline(never)]
+    fn load_named(&mut self, alloc: Global, name: &Name, span: Span) -> TeraResult<Flow>
+        ensures { Does (name_loaded (around_of self.old.scopes) name.now span) self.old result self.new }
+    {
+        self.load_name(alloc, &name.sought(), span)
+    }
+}

@@ -1,12 +1,10 @@
 -- An operand that nothing goes on with.
-use Rattle.std.proofs.Common.{◌≡◌, ℕ, zero, suc, ◌≤◌, ◌+◌, ◌⊎◌, inl, inr, List, [], Bool, true, false, not, ◌&&◌, ◌||◌, nat_le, nat_lt, ℤ, Option, Some, None, option_map, if◌then◌else◌, refl, sym, ◌∙◌, ap, arith}
+use Rattle.std.proofs.Common.{◌≡◌, ℕ, zero, suc, ◌≤◌, ◌+◌, ◌⊎◌, inl, inr, List, [], Bool, true, false, not, ◌&&◌, ◌||◌, nat_le, nat_lt, Option, Some, None, refl, sym, ◌∙◌, ap, arith}
 use Rattle.std.proofs.lemmas.Grind.{common_steps}
-use Rattle.tera_errors.specs.Site as site
-use Rattle.tera_tree.specs.Tree.{Expr, Integer}
+use Rattle.tera_tree.specs.Tree.{Expr}
 use Rattle.tera_tokens.specs.declared.token.Kind.{Kind}
 use Rattle.tera_tokens.specs.declared.token.Kind.TheVariants as k
-use Rattle.tera_tokens.specs.Input.{Input, Outcome, Parser, and_then, same, kind, text, start, next, left, span}
-use Rattle.tera_tokens.specs.Literal.{integer}
+use Rattle.tera_tokens.specs.Input.{Input, Outcome, Parser, and_then, same, kind, start, next, left}
 use Rattle.tera_expressions.specs.Loops.{loop_name}
 use Rattle.tera_expressions.specs.Expressions.{Deep, needs, gives, begins, goes_on, opened, node, leaf, name_by, head, head_by, climb, level, level_with}
 use Rattle.tera_expressions.proofs.Steps as steps

@@ -106,7 +106,8 @@ fn is_alone(floor: u8, first: Kind, second: Kind) -> bool
 #[inline]
 pub(crate) fn stands_alone(tokens: &Tokens<'_, '_>, floor: u8) -> bool
     ensures { let here = input tokens.now in
-        IsTrue result → (limit : ℕ) → (sub : ℕ → Parser spec.Deep) → spec.level limit sub floor here ≡ spec.head limit sub here }
+        IsTrue result → (limit : ℕ) → (sub : ℕ → Parser spec.Deep) →
+        spec.level limit sub floor here ≡ spec.head limit sub here }
 {
     let (first, second) = kinds(tokens);
     is_alone(floor, first, second)

@@ -110,8 +110,10 @@ fn may_open(delimiters: &Delimiters, text: &[u8]) -> bool
     requires usable { IsTrue (accepted (delimiters_of delimiters.now)) }
     requires some { 0 < length text.now }
     ensures { let d = delimiters_of delimiters.now in
-        let test = is_byte3 (get_or d.variable_start 0 0) (get_or d.block_start 0 0) (get_or d.comment_start 0 0) in
-        result ≡ test (get_or text.now 0 0) }
+        let a = get_or d.variable_start 0 0 in
+        let b = get_or d.block_start 0 0 in
+        let c = get_or d.comment_start 0 0 in
+        result ≡ is_byte3 a b c (get_or text.now 0 0) }
 {
     let byte = text[0];
     byte == delimiters.variable_start.as_bytes()[0]

@@ -10,3 +10,4 @@ pub mod Checked
 pub mod Batches
 pub mod Adds
 pub mod Empty
+pub mod Noted

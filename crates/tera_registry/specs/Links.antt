@@ -1,13 +1,15 @@
 -- What templates are linked to, by place. No public contract speaks of it.
-use Rattle.std.specs.Prelude.{◌≡◌, ◌<◌, ℕ, List, length, slice_get, Option, Some, None, Result, Ok, Err, String}
+use Rattle.std.specs.Prelude.{◌≡◌, ◌<◌, ◌≤◌, ◌+◌, ℕ, List, [], ◌∷◌, length, slice_get, Option, Some, None, Result, Ok, Err, String}
 use Rattle.std.specs.declared.alloc.Global.{Global}
 use Rattle.std.specs.declared.rc.Rc.{Rc}
 use Rattle.tera_errors.specs.Site.{Name}
+use Rattle.tera_errors.specs.Fault.{circular_extend}
 use Rattle.tera_errors.specs.Answer.{Refusal, Says}
 use Rattle.tera_meaning.specs.Registry.{Entry, Registry}
 use Rattle.tera_meaning.specs.Resolve.{resolve, parents, root, last_of}
 use Rattle.tera_code.specs.Code.{listing_of}
 use Rattle.tera_registry.specs.declared.template.Template.{Template as Stored}
+use Rattle.tera_registry.specs.declared.lineage.Top.{Top}
 use Rattle.tera_registry.specs.declared.lineage.Up.{Up}
 use Rattle.tera_registry.specs.declared.lineage.Up.TheVariants as up
 use Rattle.tera_registry.specs.Places.{IsPlace}
@@ -28,10 +30,31 @@ pub record AreUps (r : Registry) (ups : List Up) (many : ℕ) : Type 0 where
 pub record Inside (ups : List Up) : Type 0 where
   pub inside : (i j : ℕ) → slice_get ups i ≡ Some (up.At j) → j < length ups
 
--- the place of a template's root, or the fault of its parents
-abbrev pub IsTop : Registry → Entry → Result ℕ Refusal → Type 0
-IsTop r t (Ok i) = (ps : List Entry) × (parents r t ≡ Ok ps) × (slice_get r.templates i ≡ Some (last_of t ps))
+-- These are the parents, nearest first, for what a template extends: each extends the next, and the last nothing.
+abbrev pub IsChain : Registry → Option Name → List Entry → Type 0
+IsChain r parent [] = parent ≡ None
+IsChain r parent (p ∷ ps) = (n : Name) × (parent ≡ Some n) × (resolve r n ≡ Some p) × IsChain r p.1.tree.parent ps
+
+-- that is at the top above a template
+pub record Stands (r : Registry) (t : Entry) (top : Top) : Type 0 where
+  pub above : List Entry
+  pub chain : IsChain r t.1.tree.parent above
+  pub as_many : length above ≡ top.parents
+  pub root_at : slice_get r.templates top.root ≡ Some (last_of t above)
+
+-- what is at the top, or the fault of a template's parents
+abbrev pub IsTop : Registry → Entry → Result Top Refusal → Type 0
+IsTop r t (Ok top) = (top.parents ≤ length r.templates) × Stands r t top
 IsTop r t (Err e) = Says e (parents r t)
+
+-- of some templates it is known what is at the top
+pub record AreTops (r : Registry) (tops : List (Option Top)) : Type 0 where
+  pub those : (i : ℕ) (top : Top) (t : Entry) → slice_get tops i ≡ Some (Some top) → slice_get r.templates i ≡ Some t → Stands r t top
+
+-- a top from so many steps below it, or a fault where that is too far
+abbrev pub IsFurther : Top → ℕ → ℕ → Result Top Refusal → Type 0
+IsFurther top steps most (Ok far) = (far.root ≡ top.root) × (far.parents ≡ steps + top.parents) × (far.parents ≤ most)
+IsFurther top steps most (Err e) = (e ≡ Some circular_extend) × (most < steps + top.parents)
 
 -- these are the places of the roots of the first so many templates
 pub record AreRoots (r : Registry) (roots : List ℕ) (many : ℕ) : Type 0 where

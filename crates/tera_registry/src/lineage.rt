@@ -1,10 +1,10 @@
 // Which template stands at the top above each, by place.
-ghost use Rattle.std.specs.Prelude.{◌≡◌, ◌<◌, length, slice_get, IfOk, Some};
+ghost use Rattle.std.specs.Prelude.{◌≡◌, ◌<◌, ◌≤◌, length, slice_get, IfOk, Some};
 ghost use Rattle.tera_errors.specs.Answer.{Gives};
 ghost use Rattle.tera_meaning.specs.Adding.{accepted};
 ghost use Rattle.tera_meaning.specs.Registry.{Registry, Entry};
 ghost use Rattle.tera_registry.specs.Order.{Rises};
-ghost use Rattle.tera_registry.specs.Links.{IsUp, AreUps, Inside, IsTop, AreRoots};
+ghost use Rattle.tera_registry.specs.Links.{IsUp, AreUps, Inside, Stands, IsTop, AreTops, IsFurther, AreRoots};
 ghost use Rattle.tera_registry.specs.Kept.{entry_of, entries_of, seen};
 
 use crate::names::resolve;
@@ -51,25 +51,87 @@ fn all_above(
     Ok(all)
 }
 
-/// The place of the last parent of the template at a place, or that place where it has none.
-fn top(ups: &[Up], of: usize) -> TeraResult<usize>
+/// The place of a template's last parent, or its own where it has none, and how many parents it has.
+#[derive(Clone, Copy)]
+pub struct Top {
+    pub root: usize,
+    pub parents: usize,
+}
+
+/// Goes up from a place, to a template that extends nothing or whose top is known.
+fn climb(ups: &[Up], tops: &[Option<Top>], of: usize) -> TeraResult<Top>
     requires there { of < length ups.now }
     requires inside { Inside ups.now }
-    ensures { (r : Registry) (t : Entry) → AreUps r ups.now (length r.templates) → slice_get r.templates of ≡ Some t → IsTop r t result }
+    requires as_many { length tops.now ≡ length ups.now }
+    ensures { (r : Registry) (t : Entry) → AreUps r ups.now (length r.templates) → AreTops r tops.now → slice_get r.templates of ≡ Some t → IsTop r t result }
 {
     let mut last = of;
-    for _step in 0..ups.len() {
+    for step in 0..ups.len() {
+        if let Some(top) = tops[last] {
+            return further(top, step, ups.len());
+        }
         match ups[last] {
-            Up::Nothing => return Ok(last),
+            Up::Nothing => {
+                return Ok(Top {
+                    root: last,
+                    parents: step,
+                });
+            }
             Up::Missing => return Err(Error::missing_parent()),
             Up::At(next) => last = next,
         }
     }
     match ups[last] {
-        Up::Nothing => Ok(last),
+        Up::Nothing => Ok(Top {
+            root: last,
+            parents: ups.len(),
+        }),
         Up::Missing => Err(Error::circular_extend()),
         Up::At(_) => Err(Error::circular_extend()),
     }
+}
+
+/// A top seen from so many steps below it, where there are no more than so many parents.
+fn further(top: Top, steps: usize, most: usize) -> TeraResult<Top>
+    requires { steps ≤ most }
+    ensures { IsFurther top steps most result }
+{
+    if top.parents > most - steps {
+        return Err(Error::circular_extend());
+    }
+    Ok(Top {
+        root: top.root,
+        parents: steps + top.parents,
+    })
+}
+
+/// Notes the top of a place, and of those above it that is not known yet.
+fn note(ups: &[Up], tops: &mut [Option<Top>], of: usize, top: Top)
+    requires there { of < length ups.now }
+    requires inside { Inside ups.now }
+    requires as_many { length tops.old ≡ length ups.now }
+    ensures as_many { length tops.new ≡ length ups.now }
+    ensures known { (r : Registry) (t : Entry) → AreUps r ups.now (length r.templates) → AreTops r tops.old → slice_get r.templates of ≡ Some t → Stands r t top → AreTops r tops.new }
+{
+    let mut last = of;
+    for passed in 0..top.parents {
+        tops[last] = Some(Top {
+            root: top.root,
+            parents: top.parents - passed,
+        });
+        match ups[last] {
+            Up::At(next) => last = next,
+            Up::Nothing => return,
+            Up::Missing => return,
+        }
+        if tops[last].is_some() {
+            return;
+        }
+    }
+    tops[last] = Some(Top {
+        root: top.root,
+        parents: 0,
+    });
 }
 
 /// Links templates: the place of the last parent of each. Refuses those that do not go together, with the first fault by
@@ -85,10 +147,15 @@ pub fn link(
 {
     let all = all_above(alloc, templates, prefixes)?;
     let ups = all.as_slice();
+    let mut known = vec![in alloc; None; templates.len()]?;
+    let tops = known.as_mut_slice();
     let mut roots = Vec::new(alloc);
     for place in 0..templates.len() {
-        match top(ups, place) {
-            Ok(root) => roots.push(root)?,
+        match climb(ups, tops, place) {
+            Ok(top) => {
+                note(ups, tops, place, top);
+                roots.push(top.root)?;
+            }
             Err(fault) => return Err(fault),
         }
     }

@@ -1,9 +1,9 @@
-use Rattle.std.proofs.Common.{◌≡◌, ◌-◌, ◌+◌, suc, length, Some, sym, ap, ◌∙◌, arith}
+use Rattle.std.proofs.Common.{◌≡◌, ◌-◌, ◌+◌, suc, length, Some, None, sym, ap, ◌∙◌, arith}
 use Rattle.std.proofs.lemmas.Option.{slice_get-get_or}
 use Rattle.tera_registry.specs.declared.lineage.Up.TheVariants as up
 use Rattle.tera_registry.proofs.Element.{element}
-use Rattle.tera_registry.proofs.Climb.{climb-begins, climb-ends, climb-misses, climb-on, climb-again}
-use Rattle.tera_registry.proofs.lineage.top.Goals as goal
+use Rattle.tera_registry.proofs.Climb.{climb-begins, climb-ends, climb-misses, climb-on, climb-again, climb-meets}
+use Rattle.tera_registry.proofs.lineage.climb.Goals as goal
 
 pub loop-step-init : goal.loop-step-init
 loop-step-init c = record {
@@ -14,20 +14,19 @@ loop-step-init c = record {
 }
 
 pub returns-in-Nothing : goal.returns-in-Nothing
-returns-in-Nothing c = λ r t a at.
+returns-in-Nothing c = λ r t a known at.
     let i = c.loop-step.invariant in
     let got = slice_get-get_or c.args.ups.now c.loop-step.last up.Nothing i.last_there ∙ ap Some c.in-Nothing.is in
     let e = element r.templates c.loop-step.last (omega (arith, i.last_there, a.as_many)) in
-    let ends = climb-ends r t e.0 _ (i.climbed r t e.0 a at e.1) (a.those _ up.Nothing e.0 got e.1) in
-    (ends.0, ends.1, e.1 ∙ ap Some (sym ends.2))
+    climb-ends r t e.0 _ _ c.loop-step.last (i.climbed r t e.0 a at e.1) (omega (arith, a.as_many, c.loop-step-test.true)) (a.those _ up.Nothing e.0 got e.1) e.1
 
 pub returns-in-Missing : goal.returns-in-Missing
-returns-in-Missing c = λ r t a at.
+returns-in-Missing c = λ r t a known at.
     let i = c.loop-step.invariant in
     let got = slice_get-get_or c.args.ups.now c.loop-step.last up.Nothing i.last_there ∙ ap Some c.in-Missing.is in
     let e = element r.templates c.loop-step.last (omega (arith, i.last_there, a.as_many)) in
     let above = a.those _ up.Missing e.0 got e.1 in
-    rw c.missing_parent.ensures (climb-misses r t e.0 _ above.0 (i.climbed r t e.0 a at e.1) (omega (arith, c.loop-step-test.true)) above.1 above.2)
+    rw c.missing_parent.ensures (climb-misses r t e.0 _ _ above.0 (i.climbed r t e.0 a at e.1) (omega (arith, c.loop-step-test.true)) above.1 above.2)
 
 pub loop-step-preserved : goal.loop-step-preserved
 loop-step-preserved c =
@@ -38,30 +37,37 @@ loop-step-preserved c =
       climbed = λ r t v a at v_at.
           (let e = element r.templates c.loop-step.last (omega (arith, i.last_there, a.as_many)) in
           let above = a.those _ (up.At c.in-At.next) e.0 got e.1 in
-          let left : length c.args.ups.now - c.loop-step._step ≡ suc (length c.args.ups.now - (c.loop-step._step + 1)) = omega (arith, c.loop-step-test.true) in
-          climb-on r t e.0 v _ _ above.0 (i.climbed r t e.0 a at e.1) left above.1 (above.2.0 ∙ v_at));
+          let left : length c.args.ups.now - c.loop-step.step ≡ suc (length c.args.ups.now - (c.loop-step.step + 1)) = omega (arith, c.loop-step-test.true) in
+          climb-on r t e.0 v _ _ _ above.0 (i.climbed r t e.0 a at e.1) left above.1 (above.2.0 ∙ v_at));
     }
 
 pub returns-in-Nothing-ups : goal.returns-in-Nothing-ups
-returns-in-Nothing-ups c = λ r t a at.
+returns-in-Nothing-ups c = λ r t a known at.
     let i = c.loop-step.invariant in
     let got = slice_get-get_or c.args.ups.now c.loop-step.last up.Nothing i.last_there ∙ ap Some c.in-Nothing-ups.is in
     let e = element r.templates c.loop-step.last (omega (arith, i.last_there, a.as_many)) in
-    let ends = climb-ends r t e.0 _ (i.climbed r t e.0 a at e.1) (a.those _ up.Nothing e.0 got e.1) in
-    (ends.0, ends.1, e.1 ∙ ap Some (sym ends.2))
+    let all : length c.args.ups.now ≡ c.loop-step.step = omega (arith, c.loop-step-test.false, c.loop-step.auto.step-end) in
+    rw all (climb-ends r t e.0 _ _ c.loop-step.last (i.climbed r t e.0 a at e.1) (omega (arith, a.as_many, all)) (a.those _ up.Nothing e.0 got e.1) e.1)
 
 pub returns-in-Missing-ups : goal.returns-in-Missing-ups
-returns-in-Missing-ups c = λ r t a at.
+returns-in-Missing-ups c = λ r t a known at.
     let i = c.loop-step.invariant in
     let got = slice_get-get_or c.args.ups.now c.loop-step.last up.Nothing i.last_there ∙ ap Some c.in-Missing-ups.is in
     let e = element r.templates c.loop-step.last (omega (arith, i.last_there, a.as_many)) in
     let above = a.those _ up.Missing e.0 got e.1 in
-    rw c.circular_extend.ensures (climb-again r t e.0 _ above.0 (i.climbed r t e.0 a at e.1) (omega (arith, c.loop-step-test.false)) above.1)
+    rw c.circular_extend.ensures (climb-again r t e.0 _ _ above.0 (i.climbed r t e.0 a at e.1) (omega (arith, c.loop-step-test.false)) above.1)
 
 pub returns-in-At-ups : goal.returns-in-At-ups
-returns-in-At-ups c = λ r t a at.
+returns-in-At-ups c = λ r t a known at.
     let i = c.loop-step.invariant in
     let got = slice_get-get_or c.args.ups.now c.loop-step.last up.Nothing i.last_there ∙ ap Some c.in-At-ups.is in
     let e = element r.templates c.loop-step.last (omega (arith, i.last_there, a.as_many)) in
     let above = a.those _ (up.At c.in-At-ups.field-0) e.0 got e.1 in
-    rw c.circular_extend-in-At-ups.ensures (climb-again r t e.0 _ above.0 (i.climbed r t e.0 a at e.1) (omega (arith, c.loop-step-test.false)) above.1)
+    rw c.circular_extend-in-At-ups.ensures (climb-again r t e.0 _ _ above.0 (i.climbed r t e.0 a at e.1) (omega (arith, c.loop-step-test.false)) above.1)
+
+pub returns-in-Some : goal.returns-in-Some
+returns-in-Some c = λ r t a known at.
+    let i = c.loop-step.invariant in
+    let got = slice_get-get_or c.args.tops.now c.loop-step.last None (omega (arith, i.last_there, c.requires.as_many)) ∙ ap Some c.in-Some.is in
+    let e = element r.templates c.loop-step.last (omega (arith, i.last_there, a.as_many)) in
+    climb-meets r t e.0 c.loop-step.step _ (length c.args.ups.now) c.in-Some.top c.further.result (i.climbed r t e.0 a at e.1) a.as_many (omega (arith, c.loop-step-test.true)) (known.those c.loop-step.last c.in-Some.top e.0 got e.1) c.further.ensures

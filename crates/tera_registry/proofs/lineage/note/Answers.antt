@@ -1,0 +1,32 @@
+use Rattle.std.proofs.Common.{◌≡◌, ◌-◌, ◌+◌, suc, Some, ap, ◌∙◌, arith}
+use Rattle.std.proofs.lemmas.Option.{slice_get-get_or}
+use Rattle.tera_registry.specs.declared.lineage.Up.TheVariants as up
+use Rattle.tera_registry.specs.Links.{Stands}
+use Rattle.tera_registry.proofs.Element.{element}
+use Rattle.tera_registry.proofs.Noted.{noted, one-nearer, length-set}
+use Rattle.tera_registry.proofs.lineage.note.Goals as goal
+
+pub loop-passed-preserved : goal.loop-passed-preserved
+loop-passed-preserved c =
+    let i = c.loop-passed.invariant in
+    let got = slice_get-get_or c.args.ups.now c.loop-passed.last up.Nothing i.last_there ∙ ap Some c.in-At.is in
+    record {
+      last_there = c.requires.inside.inside _ c.in-At.next got;
+      as_many = length-set c.loop-passed.tops c.loop-passed.last _ ∙ i.as_many;
+      known = λ r t a k at s.
+          (let e = element r.templates c.loop-passed.last (omega (arith, i.last_there, a.as_many)) in
+          noted r _ c.loop-passed.last _ e.0 (i.known r t a k at s) e.1 (i.stands r t e.0 a at s e.1));
+      stands = λ r t v a at s v_at.
+          (let e = element r.templates c.loop-passed.last (omega (arith, i.last_there, a.as_many)) in
+          let above = a.those _ (up.At c.in-At.next) e.0 got e.1 in
+          let nearer : c.args.top.parents - c.loop-passed.passed ≡ suc (c.args.top.parents - (c.loop-passed.passed + 1)) = omega (arith, c.loop-passed-test.true) in
+          one-nearer r e.0 v above.0 c.in-At.next _ _ _ (i.stands r t e.0 a at s e.1) nearer above.1 above.2.0 v_at);
+    }
+
+pub returns-clause-known : goal.returns-clause-known
+returns-clause-known c = λ r t a k at s.
+    let i = c.loop-passed.invariant in
+    let e = element r.templates c.loop-passed.last (omega (arith, i.last_there, a.as_many)) in
+    let none : c.args.top.parents - c.loop-passed.passed ≡ 0 = omega (arith, c.loop-passed-test.false) in
+    let stands : Stands r e.0 (record { root = c.args.top.root; parents = 0 }) = rw none at (i.stands r t e.0 a at s e.1) in
+    noted r _ c.loop-passed.last _ e.0 (i.known r t a k at s) e.1 stands

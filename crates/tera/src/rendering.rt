@@ -17,7 +17,7 @@ use tera_machine::{Configuration, VirtualMachine};
 use tera_state::Scopes;
 use tera_syntax::parse;
 use tera_tree::Node;
-use tera_values::{Context, TeraResult};
+use tera_values::{Context, Error, TeraResult};
 
 /// The name that faults give to a text that is no template of the engine.
 const ONE_OFF: &str = "__tera_one_off";
@@ -35,6 +35,9 @@ impl Tera {
     {
         match parse(self.alloc, ONE_OFF, input, &self.delimiters) {
             Ok(output) => {
+                if output.parent.is_some() {
+                    return Err(Error::message(self.alloc, "no template may be extended here"));
+                }
                 self.render_nodes::<Brand>(
                     output.nodes.as_slice(),
                     context,

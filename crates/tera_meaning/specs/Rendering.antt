@@ -1,8 +1,8 @@
 -- What the rendering calls answer.
-use Rattle.std.specs.Prelude.{Bool, List, codes, nat_eq, Option, Some, None, Result, Ok, Err}
+use Rattle.std.specs.Prelude.{Bool, List, codes, is_some, nat_eq, Option, Some, None, Result, Ok, Err, if◌then◌else◌}
 use Rattle.std.specs.List.{list_any, ends_with}
 use Rattle.tera_errors.specs.Site.{Text, Name}
-use Rattle.tera_errors.specs.Fault.{Fault, template_not_found}
+use Rattle.tera_errors.specs.Fault.{Fault, message, template_not_found}
 use Rattle.tera_values.specs.Alphabet.{Alphabet, plain}
 use Rattle.tera_values.specs.Val.{Val}
 use Rattle.tera_values.specs.Named.{Named}
@@ -41,10 +41,11 @@ module _ {C : Type 0} (alphabet : Alphabet C) where
   one_off_meaning_in r tree context autoescape =
       meaning_in alphabet (alone r) (one_off_place_in r context autoescape) nothing_set tree.nodes
 
-  -- the reader's fault, or the text of what it answered
+  -- the reader's fault; a text beside the registry may extend no template; else the text of what was read
   abbrev pub render_str_in : Registry → Result Tree Fault → Named Val → Bool → Result (List C) Fault
   render_str_in r (Err fault) context autoescape = Err fault
-  render_str_in r (Ok tree) context autoescape = text_of (one_off_meaning_in r tree context autoescape)
+  render_str_in r (Ok tree) context autoescape =
+      if is_some tree.parent then Err message else text_of (one_off_meaning_in r tree context autoescape)
 
   -- Nodes stand in the text of the template that has no parent, and texts are escaped as in the template that is rendered.
   abbrev pub template_place_in : Registry → Entry → Named Val → PlaceOf C

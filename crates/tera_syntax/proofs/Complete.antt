@@ -81,7 +81,7 @@ module _ (limit : ℕ) where
   unfolding statement
   statement-by s tokens t e = ap (option_and_then (taken limit s tokens)) e
 
-  put-read : (q : Bool) (fs : List Frame) (found : Nodes) (n : Node) → length fs < limit → put limit (at q fs found) n ≡ Some (at q fs (join found (one n)))
+  pub put-read : (q : Bool) (fs : List Frame) (found : Nodes) (n : Node) → length fs < limit → put limit (at q fs found) n ≡ Some (at q fs (join found (one n)))
   put-read q fs found n lt = has-room fs (Some (at q fs (join found (one n)))) lt
 
   opened-read : (q c : Bool) (fs : List Frame) (found : Nodes) (h : Head) → length fs < limit → opened limit c (at q fs found) h ≡ Some (at (inside h q) (asking found h c q ∷ fs) NoNodes)

@@ -1,5 +1,5 @@
 -- All spans of a tree lie inside the text that spells it.
-use Rattle.std.proofs.Common.{ℕ, List, Bool, length, IsTrue}
+use Rattle.std.proofs.Common.{ℕ, List, Bool, Option, length, IsTrue}
 use Rattle.std.specs.Str.{IsUtf8}
 use Rattle.tera_errors.specs.Site.{Name, Text}
 use Rattle.tera_tree.specs.Delimiters.{delimiters_of, accepted}
@@ -14,7 +14,7 @@ use Rattle.tera_tokens.proofs.Stretches.{PiecesInside, pieces_inside}
 use Rattle.tera_expressions.proofs.Calls.{calls_lie}
 use Rattle.tera_expressions.proofs.Inside.{expr_lies}
 use Rattle.tera_syntax.specs.Heads.{Head, IfHead, ForHead, SetHead, make}
-use Rattle.tera_syntax.specs.Grammar.{DerivesWhole, whole, Simple, set, breaks, continues, Opens, choice, loop, capture, GoesOn, elif, DerivesNodes, empty, content, blank, comment, print, single, bodied, DerivesRest, ended, split, chained}
+use Rattle.tera_syntax.specs.Grammar.{DerivesWhole, whole, Simple, set, breaks, continues, Opens, choice, loop, capture, GoesOn, elif, DerivesNodes, empty, content, blank, comment, print, single, bodied, DerivesRest, ended, split, chained, Front, nothing, space, remark, DerivesFile, root, child}
 use Rattle.tera_syntax.specs.Spells.{Spells}
 
 -- nodes that were read between two places lie inside, and so do the pieces that are left
@@ -77,5 +77,14 @@ mutual
       let e = rest_lie size o b.rest in
       record { inside = (made_inside size further body other (goes_on_inside size g h.0) b.inside e.inside, tt); rest = e.rest }
 
+front_lies : (size : ℕ) {i j : List Piece} → Front i j → PiecesInside size i → PiecesInside size j
+front_lies size nothing h = h
+front_lies size (space f r) h = front_lies size r h.1
+front_lies size (remark r) h = front_lies size r h.1
+
+file_lies : (size : ℕ) {parent : Option Name} {nodes : Nodes} {i : List Piece} → DerivesFile parent nodes i → PiecesInside size i → NodesInside size nodes
+file_lies size (root d) h = (nodes_lie size d h).inside
+file_lies size (child r e d) h = (nodes_lie size d (front_lies size r h).1).inside
+
 pub tree_inside : (name : Name) (d : Delimiters) (text : Text) (tree : Tree) → IsTrue (accepted (delimiters_of d)) → IsUtf8 text → Spells name (delimiters_of d) text tree → Inside (length text) tree
-tree_inside name d text tree usable u spelled = (nodes_lie (length text) spelled.1 (pieces_inside d usable text u)).inside
+tree_inside name d text tree usable u spelled = file_lies (length text) spelled (pieces_inside d usable text u)

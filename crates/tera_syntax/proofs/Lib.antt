@@ -5,5 +5,6 @@ pub mod OneTag
 pub mod Complete
 pub mod Sound
 pub mod Placed
+pub mod Extending
 pub mod Plain
 pub mod Inside

@@ -230,6 +230,10 @@ module _ (limit : ℕ) (q outer : Bool) (tokens : List Token) where
   end-read (ForHead key n c) e h = by-end e (codes "endfor") refl h
   end-read (SetHead n is_global) e h = set-end e is_global (is_alone (codes "endset") tokens) refl h
 
+  pub extends_read : Begins (codes "extends") tokens → tag limit q outer tokens ≡ Some Closing
+  unfolding named
+  extends_read b = by-word (codes "extends") b
+
   pub ends_read : (head : Head) → IsTrue (ends head tokens) → tag limit q outer tokens ≡ Some Closing
   ends_read head h =
       let p = both (same k.Name (first tokens)) (is_end head tokens) h in

@@ -1,5 +1,5 @@
 -- What is refused, and what never is.
-use Rattle.std.proofs.Common.{max, ◌≡◌, ℕ, ◌+◌, ◌-◌, ◌<◌, ◌≤◌, [], ◌∷◌, Bool, true, false, length, drop, is_some, Option, Some, None, Result, Err, IsTrue, refl, ap, ap₂, sym, ◌∙◌, subst, arith}
+use Rattle.std.proofs.Common.{max, ◌≡◌, ℕ, suc, ◌+◌, ◌-◌, ◌<◌, ◌≤◌, [], ◌∷◌, Bool, true, false, length, drop, is_some, Option, Some, None, Result, Err, IsTrue, refl, ap, sym, ◌∙◌, subst, arith}
 use Rattle.std.proofs.lemmas.List.{drop_all}
 use Rattle.tera_errors.specs.Site.{Text, Name}
 use Rattle.tera_errors.specs.Fault.{Fault}
@@ -12,13 +12,13 @@ use Rattle.tera_tokens.specs.Bytes.{place}
 use Rattle.tera_tokens.specs.Cut.{Piece, Words, Found, words, trims_before, opening_at, opens, piece, cut, pieces}
 use Rattle.tera_tree.specs.Delimiters.{Delims}
 use Rattle.tera_tree.specs.Depth.{nodes_depth}
-use Rattle.tera_syntax.specs.Reader.{nodes}
+use Rattle.tera_syntax.specs.File.{file}
 use Rattle.tera_syntax.specs.Reads.{SpellsNone}
 use Rattle.tera_syntax.specs.Spells.{Spells}
-use Rattle.tera_tree.specs.Tree.{Tree, Nodes, NoNodes}
+use Rattle.tera_tree.specs.Tree.{Tree, NoNodes}
 use Rattle.tera_tokens.proofs.Places.{by_order, place_le, place_here, place_passes}
 use Rattle.tera_tokens.proofs.Cuts.{cut_step, cut_nothing}
-use Rattle.tera_syntax.proofs.Complete.{complete_nodes}
+use Rattle.tera_syntax.proofs.Extending.{file_complete}
 
 -- what an error that tells a fault says
 pub says_one : {Y : Type 0} (r : Refusal) (told : Fault) (Meant : Result Y Fault → Type 0) → Tells r told → Meant (Err told) → SaysOneOf r Meant
@@ -28,10 +28,10 @@ says_one (Some fault) told Meant e m = let P : Fault → Type 0 = λ f. Meant (E
 pub refused_by : {Y : Type 0} (meant : Option Y) (why : _) (at : Span) (r : reader.Refusal) → r ≡ Syntax why at → Refuses meant r → meant ≡ None
 refused_by meant why at r e h = let P : reader.Refusal → Type 0 = Refuses meant in subst P e h
 
-pub spells_none : (name : Name) (d : Delims) (text : Text) → nodes 200 (pieces d text) ≡ None → SpellsNone name d text
-spells_none name d text h tree flat spelled = let e = complete_nodes 200 tree.nodes (pieces d text) spelled.1 flat.0 in absurd (cc)
+pub spells_none : (name : Name) (d : Delims) (text : Text) → file 200 (pieces d text) ≡ None → SpellsNone name d text
+spells_none name d text h tree flat spelled = let e = file_complete 200 spelled (omega arith) flat.0 in absurd (cc)
 
-words_read : (words : Text) (at : Span) → (n : Nodes) × (nodes 200 (Words words at ∷ []) ≡ Some n)
+words_read : (words : Text) (at : Span) → (n : Tree) × (file 200 (Words words at ∷ []) ≡ Some n)
 words_read [] at = (_, refl)
 words_read (b ∷ bs) at = (_, refl)
 
@@ -39,7 +39,7 @@ abbrev IsWords : Piece → Type 0
 IsWords (Words text at) = Unit {0}
 IsWords _ = ⊥
 
-piece_read : (p : Piece) → IsWords p → (n : Nodes) × (nodes 200 (p ∷ []) ≡ Some n)
+piece_read : (p : Piece) → IsWords p → (n : Tree) × (file 200 (p ∷ []) ≡ Some n)
 piece_read (Words text at) h = words_read text at
 piece_read _ h = absurd h
 
@@ -69,18 +69,18 @@ one_piece d text o l e =
     ∙ ap (λ rest. (all_words d text).piece ∷ cut d false 0 (all_words d text).next rest) r
     ∙ ap (λ rest. (all_words d text).piece ∷ rest) (cut_nothing d false (all_words d text).next [] refl)
 
-unread_by : (q : Bool) (d : Delims) (text : Text) → opens d text ≡ q → 0 < length text → place (opens d) text ≡ length text → nodes 200 (pieces d text) ≡ None → ⊥
+unread_by : (q : Bool) (d : Delims) (text : Text) → opens d text ≡ q → 0 < length text → place (opens d) text ≡ length text → file 200 (pieces d text) ≡ None → ⊥
 unread_by true d text o l e h = let z = place_here (opens d) 0 text l o in absurd (omega arith)
 unread_by false d text o l e h =
     let p = one_piece d text (unopened d text o) l e in
     let w = piece_read (all_words d text).piece tt in
-    let f : nodes 200 (pieces d text) ≡ Some w.0 = ap (nodes 200) p ∙ w.1 in cc
+    let f : file 200 (pieces d text) ≡ Some w.0 = ap (file 200) p ∙ w.1 in cc
 
-unread_opens : (d : Delims) (text : Text) → place (opens d) text ≡ length text → nodes 200 (pieces d text) ≡ None → ⊥
-unread_opens d [] e h = let f : nodes 200 (pieces d []) ≡ Some NoNodes = ap (nodes 200) (cut_nothing d false 0 [] refl) in cc
+unread_opens : (d : Delims) (text : Text) → place (opens d) text ≡ length text → file 200 (pieces d text) ≡ None → ⊥
+unread_opens d [] e h = let f : file 200 (pieces d []) ≡ Some (record { parent = None; nodes = NoNodes }) = ap (file 200) (cut_nothing d false 0 [] refl) in cc
 unread_opens d (b ∷ bs) e h = unread_by (opens d (b ∷ bs)) d (b ∷ bs) refl (omega arith) e h
 
-pub plain : (d : Delims) (text : Text) → nodes 200 (pieces d text) ≡ None → (at : ℕ) × IsTrue (opens d (drop at text))
+pub plain : (d : Delims) (text : Text) → file 200 (pieces d text) ≡ None → (at : ℕ) × IsTrue (opens d (drop at text))
 plain d text h =
     let m = place_le (opens d) text in
     by_order (place (opens d) text) (length text)
@@ -90,9 +90,7 @@ plain d text h =
 -- a text spells one tree at most
 pub one_tree : (name : Name) (d : Delims) (text : Text) (one other : Tree) → Spells name d text one → Spells name d text other → one ≡ other
 one_tree name d text one other h k =
-    let m = max (nodes_depth one.nodes) (nodes_depth other.nodes) in
-    let a = complete_nodes m one.nodes (pieces d text) h.1 (omega arith) in
-    let b = complete_nodes m other.nodes (pieces d text) k.1 (omega arith) in
-    let e : one.nodes ≡ other.nodes = cc in
-    let p : one.parent ≡ other.parent = h.0 ∙ sym k.0 in
-    ap₂ (λ p x. record { parent = p; nodes = x }) p e
+    let m = suc (max (nodes_depth one.nodes) (nodes_depth other.nodes)) in
+    let a : file m (pieces d text) ≡ Some one = file_complete m h (omega arith) (omega arith) in
+    let b : file m (pieces d text) ≡ Some other = file_complete m k (omega arith) (omega arith) in
+    let e : Some one ≡ Some other = sym a ∙ b in cc

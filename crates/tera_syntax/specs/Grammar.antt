@@ -1,5 +1,6 @@
--- What pieces derive: nodes.
-use Rattle.std.specs.Prelude.{◌≡◌, ◌≢◌, List, [], ◌∷◌, Bool, true, false, Option, codes, IsTrue}
+-- What pieces derive: nodes, and what they extend.
+use Rattle.std.specs.Prelude.{◌≡◌, ◌≢◌, List, [], ◌∷◌, length, ◌==◌, Bool, true, false, Option, Some, None, codes, IsTrue}
+use Rattle.std.specs.Str.{trim_start}
 use Rattle.tera_errors.specs.Site as site
 use Rattle.tera_errors.specs.declared.span.Span.{Span}
 use Rattle.tera_tree.specs.Tree.{Expr, Content, Print, Set, Break, Continue, Node, Nodes, NoNodes, MoreNodes}
@@ -7,6 +8,7 @@ use Rattle.tera_tokens.specs.declared.token.Kind.{Kind}
 use Rattle.tera_tokens.specs.declared.token.Kind.TheVariants as k
 use Rattle.tera_tokens.specs.Token.{Token}
 use Rattle.tera_tokens.specs.Input.{Input, begin, kind, text, next}
+use Rattle.tera_tokens.specs.Literal.{literal}
 use Rattle.tera_tokens.specs.Cut.{Piece, Words, Comment, Variable, Block, is_alone}
 use Rattle.tera_expressions.specs.Grammar.{Derives}
 use Rattle.tera_expressions.specs.Headings.{Names, Calls}
@@ -71,3 +73,25 @@ mutual
         → DerivesNodes q body i (Block last ∷ j) → IsTrue (ends head last) → DerivesRest q head body (Block tokens ∷ i) j
     chained : {q : Bool} {head further : Head} {tokens : List Token} {body other : Nodes} {i m j : List Piece} → IsTrue (chains head) → GoesOn q further tokens
         → DerivesNodes (inside further q) body i m → DerivesRest q further other m j → DerivesRest q head (MoreNodes (make further body other) NoNodes) (Block tokens ∷ i) j
+
+-- the tag is `extends` and this name in quotes
+abbrev pub Extends : site.Name → List Token → Type 0
+Extends name tokens =
+    let i = next (begin false tokens) in
+    Begins (codes "extends") tokens × (kind i ≡ k.Text) × (literal (text i) ≡ Some name) × (kind (next i) ≡ k.End)
+
+-- nothing but white space
+abbrev pub is_space : site.Text → Bool
+is_space words = length (trim_start words) == 0
+
+-- The pieces from the first place to the second are white space and comments.
+pub data Front : List Piece → List Piece → Type 0 where
+  nothing : {i : List Piece} → Front i i
+  space : {words : site.Text} {place : Span} {i j : List Piece} → IsTrue (is_space words) → Front i j → Front (Words words place ∷ i) j
+  remark : {i j : List Piece} → Front i j → Front (Comment ∷ i) j
+
+-- All pieces of a text are nodes. Where it extends a template, the tag stands before them, and what stands before the tag is no node.
+pub data DerivesFile : Option site.Name → Nodes → List Piece → Type 0 where
+  root : {nodes : Nodes} {i : List Piece} → DerivesNodes false nodes i [] → DerivesFile None nodes i
+  child : {name : site.Name} {tokens : List Token} {nodes : Nodes} {i j : List Piece} → Front i (Block tokens ∷ j) → Extends name tokens → DerivesNodes false nodes j []
+      → DerivesFile (Some name) nodes i

@@ -1,11 +1,10 @@
 -- What the text of a template spells.
-use Rattle.std.specs.Prelude.{◌≡◌, [], false, None}
 use Rattle.tera_errors.specs.Site.{Text, Name}
 use Rattle.tera_tokens.specs.Cut.{pieces}
 use Rattle.tera_tree.specs.Delimiters.{Delims}
-use Rattle.tera_syntax.specs.Grammar.{DerivesNodes}
+use Rattle.tera_syntax.specs.Grammar.{DerivesFile}
 use Rattle.tera_tree.specs.Tree.{Tree}
 
--- All pieces of the text are the nodes of the tree.
+-- All pieces of the text are the nodes of the tree, and what it extends.
 abbrev pub Spells : Name → Delims → Text → Tree → Type 0
-Spells name d text tree = (tree.parent ≡ None) × DerivesNodes false tree.nodes (pieces d text) []
+Spells name d text tree = DerivesFile tree.parent tree.nodes (pieces d text)

@@ -6,9 +6,11 @@ use Rattle.tera_tree.specs.declared.node.Node as declared
 use Rattle.tera_tokens.specs.declared.refusal.Refusal.{Refusal}
 use Rattle.tera_tokens.specs.Answers.{Refuses}
 use Rattle.tera_tree.specs.Tree.{Nodes}
-use Rattle.tera_tree.specs.View.{expr_of, nodes_of}
+use Rattle.tera_tree.specs.View.{expr_of, nodes_of, quoted_option}
 use Rattle.tera_syntax.specs.Heads.{Head, IfHead, ForHead, SetHead}
 use Rattle.tera_syntax.specs.Reader.{Frame, Progress}
+use Rattle.tera_syntax.specs.File.{File}
+use Rattle.tera_syntax.specs.declared.file.File as file
 use Rattle.tera_syntax.specs.declared.heads.Head as head
 use Rattle.tera_syntax.specs.declared.heads.Head.TheVariants as variant
 use Rattle.tera_syntax.specs.declared.progress.Frame as frame
@@ -36,7 +38,15 @@ frames_of fs = map frame_of (reverse fs)
 abbrev pub progress_of : progress.Progress → Progress
 progress_of s = record { frames = frames_of s.frames.items; found = nodes_of s.found.items; in_loop = s.in_loop }
 
+abbrev pub file_of : file.File → File
+file_of f = record { parent = quoted_option f.parent; is_front = f.is_front; progress = progress_of f.progress }
+
 -- What is read becomes what is meant. After a refusal nothing is said of it.
 abbrev pub Becomes : Option Progress → Result (Unit {0}) Refusal → progress.Progress → Type 0
 Becomes meant (Ok done) new = meant ≡ Some (progress_of new)
 Becomes meant (Err refusal) new = Refuses meant refusal
+
+-- the same of a whole text
+abbrev pub FileBecomes : Option File → Result (Unit {0}) Refusal → file.File → Type 0
+FileBecomes meant (Ok done) new = meant ≡ Some (file_of new)
+FileBecomes meant (Err refusal) new = Refuses meant refusal

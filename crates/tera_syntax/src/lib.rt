@@ -1,6 +1,7 @@
 //! The reader: from a template's text to its tree.
 #![tactic(auto)]
 
+mod file;
 mod heads;
 pub mod laws;
 mod progress;

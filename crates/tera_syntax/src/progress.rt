@@ -16,6 +16,9 @@ use tera_tokens::refusal::{Reason, Refusal};
 use tera_tokens::token::Token;
 use tera_tree::Node;
 
+/// The word of the tag that names another template.
+pub(crate) const EXTENDS: &str = "extends";
+
 /// How deep a tree may be.
 const MAX_DEPTH: usize = 200;
 
@@ -48,6 +51,15 @@ pub(crate) fn refused(tag: &[Token<'_>], why: Reason) -> Refusal
     ensures { IsSyntax result }
 {
     Tokens::begin(tag, false).refuse(why)
+}
+
+/// Why a tag is refused that begins no statement and ends none.
+fn stray(tag: &[Token<'_>]) -> Reason {
+    if Tokens::begin(tag, false).text() == EXTENDS {
+        Reason::LateExtends
+    } else {
+        Reason::NoStatement
+    }
 }
 
 /// What the end of a statement makes of what was read last.
@@ -198,7 +210,7 @@ impl<'s> Progress<'s> {
     {
         match self.frames.last() {
             Some(frame) if frame.head.is_ended_by(tag) => self.close(alloc, tag),
-            _ => Err(refused(tag, Reason::NoStatement)),
+            _ => Err(refused(tag, stray(tag))),
         }
     }
 

@@ -1,32 +1,31 @@
 // From a template's text to its tree.
 ghost use Rattle.std.specs.Prelude.{IfOk, IsTrue, length};
 ghost use Rattle.tera_errors.specs.Answer.{GivesOneOf};
-ghost use Rattle.tera_syntax.specs.Reader as spec;
+ghost use Rattle.tera_syntax.specs.File as spec;
 ghost use Rattle.tera_syntax.specs.Reads.{Reads, ReadsPlainText};
 ghost use Rattle.tera_tokens.specs.Answers.{Answers};
 ghost use Rattle.tera_tokens.specs.Cut.{pieces};
 ghost use Rattle.tera_tree.specs.Delimiters.{accepted, delimiters_of};
 ghost use Rattle.tera_tree.specs.Inside.{Inside, Within};
-ghost use Rattle.tera_tree.specs.View.{nodes_of, tree_of};
+ghost use Rattle.tera_tree.specs.View.{tree_of};
 
-use crate::progress::Progress;
-use crate::statements::step;
+use crate::file::File;
 use std::alloc::Global;
 use tera_errors::{Error, Span, TeraResult};
 use tera_tokens::cut::next_piece;
 use tera_tokens::refusal::Refusal;
-use tera_tree::{Delimiters, Node, ParserOutput};
+use tera_tree::{Delimiters, ParserOutput};
 
-/// The nodes of a text.
-fn nodes<'s>(
+/// The tree of a text.
+fn read<'s>(
     alloc: Global,
     delimiters: &Delimiters,
     source: &'s str,
-) -> Result<Vec<Node<'s>>, Refusal>
+) -> Result<ParserOutput<'s>, Refusal>
     requires { IsTrue (accepted (delimiters_of delimiters.now)) }
-    ensures { Answers (λ found. nodes_of found.items) (spec.nodes 200 (pieces (delimiters_of delimiters.now) source.now)) result }
+    ensures { Answers tree_of (spec.file 200 (pieces (delimiters_of delimiters.now) source.now)) result }
 {
-    let mut progress = Progress::begin(alloc);
+    let mut file = File::begin(alloc);
     let mut tokens = Vec::new(alloc);
     let mut rest = source;
     let mut at = 0;
@@ -41,12 +40,12 @@ fn nodes<'s>(
         at = piece.next;
         trims = piece.trims;
         opening = piece.opening;
-        match step(&mut progress, alloc, piece.piece, tokens.as_slice()) {
+        match file.step(alloc, piece.piece, tokens.as_slice()) {
             Ok(()) => {}
             Err(refusal) => return Err(refusal),
         }
     }
-    progress.finish(at)
+    file.finish(at)
 }
 
 /// The stretch that lies in a text of this size.
@@ -73,11 +72,8 @@ pub fn parse<'s>(
     ensures inside { IfOk result (λ output. Inside (length source.now) (tree_of output)) }
     ensures plain { GivesOneOf tree_of result (ReadsPlainText (delimiters_of delimiters.now) source.now) }
 {
-    match nodes(alloc, delimiters, source) {
-        Ok(nodes) => Ok(ParserOutput {
-            parent: None,
-            nodes,
-        }),
+    match read(alloc, delimiters, source) {
+        Ok(output) => Ok(output),
         Err(Refusal::Syntax(why, span)) => {
             let span = clipped(span, source.len());
             Err(Error::syntax(alloc, why.words(), name, span))

@@ -6,11 +6,14 @@ use crate::rows::{NESTS, Nest, OTHERS, Other, REFUSED, Row, TREES, UNUSABLE, Unu
 use crate::shown::Shown;
 use std::alloc::Global;
 use tera_errors::ErrorKind;
-use tera_syntax::{Delimiters, Node, parse};
+use tera_syntax::{Delimiters, ParserOutput, parse};
 
-fn are_shown(alloc: Global, nodes: &[Node], want: &str) -> bool {
+fn is_shown(alloc: Global, output: &ParserOutput, want: &str) -> bool {
     let mut shown = Shown::new(alloc);
-    shown.nodes(nodes);
+    if let Some(parent) = &output.parent {
+        shown.parent(parent.as_str());
+    }
+    shown.nodes(output.nodes.as_slice());
     shown.is(want)
 }
 
@@ -18,7 +21,7 @@ fn agrees(alloc: Global, delimiters: &Delimiters, row: Row) -> bool
     requires { IsTrue (accepted (delimiters_of delimiters.now)) }
 {
     match parse(alloc, "t", row.0, delimiters) {
-        Ok(output) => are_shown(alloc, output.nodes.as_slice(), row.1),
+        Ok(output) => is_shown(alloc, &output, row.1),
         Err(_) => false,
     }
 }

@@ -21,7 +21,7 @@ pub struct Other(pub &'static str, pub &'static str, pub Row);
 pub struct Unusable(pub &'static str, pub &'static str);
 
 /// Between the standard delimiters.
-pub static TREES: [Row; 49] = [
+pub static TREES: [Row; 65] = [
     Row("", ""),
     Row("Hello {{ name }}!", "(Hello  0-6)(name 9-13)(! 16-17)"),
     Row("a{# b #}c{# d }} #}", "(a 0-1)(c 8-9)"),
@@ -169,13 +169,48 @@ pub static TREES: [Row; 49] = [
         "{{ [x * 2 for x in e if x > 1] }}",
         "(each(Multiply(x 4-5)(2 8-9) 4-9) for x in (e 19-20) if (Greater(x 24-25)(1 28-29) 24-29) 3-30)",
     ),
+    Row("{% extends \"a\" %}", "<a>"),
+    Row("{% extends '' %}x", "<>(x 16-17)"),
+    Row("{%extends`a.html`%}", "<a.html>"),
+    Row("{% extends 'a\\'\\n\\e' %}", "<a'\n\\e>"),
+    Row(
+        " \n\t{# a #}\u{a0}{%- extends 'é' -%} \n x{{ y }}",
+        "<é>(x 35-36)(y 39-40)",
+    ),
+    Row("{#- a -#} {# b #}{% extends 'c' %} ", "<c>(  34-35)"),
+    Row(
+        "{% extends 'a' %}{% if b %}c{% endif %}",
+        "<a>(if (b 23-24) then (c 27-28) else )",
+    ),
+    Row("{% extends 'a' %}{% raw %}b{% endraw %}", "<a>(b 26-27)"),
+    Row(
+        "{% extends 'a' %}{% set extends = 1 %}",
+        "<a>(set extends(1 34-35))",
+    ),
+    // white space is white space, by `raw` or not
+    Row("{% raw %} {% endraw %}{% extends 'a' %}", "<a>"),
+    Row("{% raw %}{% endraw %}{% extends 'a' %}b", "<a>(b 38-39)"),
+    Row(" {# a #}\n{{ b }}", "(  0-1)(\n 8-9)(b 12-13)"),
+    Row(
+        "{% set extends %}{{ extends }}{% endset %}",
+        "(set extends to (extends 20-27))",
+    ),
+    Row(
+        "{% for extends in extends.extends %}{% endfor %}",
+        "(for extends in (.(extends 18-25)extends 18-33) do  else )",
+    ),
+    Row("{{ extends }}", "(extends 3-10)"),
+    Row(
+        "{% raw %}{% extends 'a' %}{% endraw %}",
+        "({% extends 'a' %} 9-26)",
+    ),
     Row(
         "{% for v in [w for k, w in e] %}{{ [loop.last for x in loop.first] }}{% endfor %}",
         "(for v in (each(w 13-14) for k, w in (e 27-28) if _ 12-29) do (each(__tera_loop_last 36-45) for x in (__tera_loop_first 55-65) if _ 35-66) else )",
     ),
 ];
 
-pub static REFUSED: [Text; 107] = [
+pub static REFUSED: [Text; 132] = [
     Text("{{ }}"),
     Text("{{ a"),
     Text("b {# open"),
@@ -285,6 +320,31 @@ pub static REFUSED: [Text; 107] = [
     Text("{{ [x for x in e }}"),
     Text("{{ set a }}"),
     Text("{{ for v in e }}"),
+    Text("{% extends %}"),
+    Text("{% extends a %}"),
+    Text("{% extends 1 %}"),
+    Text("{% extends 'a' 'b' %}"),
+    Text("{% extends 'a' ~ 'b' %}"),
+    Text("{% extends ('a') %}"),
+    Text("{% extends 'a"),
+    Text("{% extends = 'a' %}"),
+    Text("{% extend 'a' %}"),
+    Text("{% 'a' %}"),
+    Text("{% extends 'a' %}{% endextends %}"),
+    Text("{% extends 'a' %}{% extends 'a' %}"),
+    Text("{% extends 'a' %} {# b #}{% extends 'c' %}"),
+    Text("a{% extends 'a' %}"),
+    Text(" . {% extends 'a' %}"),
+    Text("\u{200b}{% extends 'a' %}"),
+    Text("{{ a }}{% extends 'a' %}"),
+    Text("{{ '' }}{% extends 'a' %}"),
+    Text("{% set a = 1 %}{% extends 'a' %}"),
+    Text("{% if a %}{% endif %}{% extends 'a' %}"),
+    Text("{% if a %}{% extends 'a' %}{% endif %}"),
+    Text("{% set a %}{% extends 'a' %}{% endset %}"),
+    Text("{% for v in e %}{% extends 'a' %}{% endfor %}"),
+    Text("{% raw %}a{% endraw %}{% extends 'a' %}"),
+    Text("{% extends 'a' %}{% if %}"),
 ];
 
 const PARENTHESES: [&str; 5] = ["{{ ", "(", "a", ")", " }}"];
@@ -338,7 +398,7 @@ pub static NESTS: [Nest; 22] = [
     Nest(EMPTY_CAPTURES, 201, false),
 ];
 
-pub static OTHERS: [Other; 2] = [
+pub static OTHERS: [Other; 3] = [
     // one start begins another
     Other(
         "<<#",
@@ -354,6 +414,14 @@ pub static OTHERS: [Other; 2] = [
         Row(
             "Hello, <# This is a comment #><% if show %><< name >>!<% endif %>",
             "(Hello,  0-7)(if (show 36-40) then (name 46-50)(! 53-54) else )",
+        ),
+    ),
+    Other(
+        "<#",
+        "#>",
+        Row(
+            " <# a #> <%- extends \"b\" -%> {% extends 'c' %}",
+            "<b>({% extends 'c' %} 29-46)",
         ),
     ),
 ];

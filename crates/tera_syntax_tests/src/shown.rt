@@ -38,6 +38,11 @@ impl Shown {
         }
     }
 
+    /// What a text extends.
+    pub fn parent(&mut self, name: &str) {
+        self.put_made(format!(in self.alloc; "<{name}>"));
+    }
+
     fn put_span(&mut self, span: Span) {
         let Span { start, end } = span;
         self.put_made(format!(in self.alloc; " {start}-{end})"));

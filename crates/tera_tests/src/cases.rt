@@ -1,8 +1,8 @@
 //! Tables of texts that stand beside the registry, and of what they render to.
 //!
 //! A line of a table is `INPUT => TEXT`, where the input renders to the text; `INPUT !! START END`, where it faults with a
-//! `RenderingError` at these bytes; or `INPUT !! syntax`, where it is refused with a `SyntaxError` inside of it. One text
-//! is far cheaper to prove safe than an array of rows.
+//! `RenderingError` at these bytes; `INPUT !! syntax`, where it is refused with a `SyntaxError` inside of it; or
+//! `INPUT !! message`, where it is refused with a `Message`. One text is far cheaper to prove safe than an array of rows.
 use std::alloc::Global;
 use tera::{Context, Error, ErrorKind, ReportError, Tera, TeraResult, Value};
 
@@ -56,6 +56,7 @@ pub fn is_refused(error: &Error, want: &str, size: usize) -> bool {
     match error.kind() {
         ErrorKind::RenderingError(report) => reports_fault(report, want),
         ErrorKind::SyntaxError(report) => want == "syntax" && reports_syntax(report, size),
+        ErrorKind::Message(_) => want == "message",
         _ => false,
     }
 }

@@ -14,6 +14,12 @@ a{# not this #}b => ab
 {{ name }}: {{ nope }} !! 15 19
 {{ name !! syntax
 {{ }} !! syntax
+{% extends "base" %} !! message
+ {# a #}{%- extends "__tera_one_off" -%} {{ nope }} !! message
+{% extends "base" %}{% if %} !! syntax
+{% extends "base" %}{% extends "base" %} !! syntax
+{{ nope }}{% extends "base" %} !! syntax
+{% extends base %} !! syntax
 "#;
 
 const PLAIN: &str = r#"

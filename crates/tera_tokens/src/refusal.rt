@@ -14,6 +14,8 @@ pub enum Reason {
     /// What follows an operand neither goes on with it nor ends it.
     NoOperation,
     NoStatement,
+    /// A tag `extends` with more in front of it than white space and comments.
+    LateExtends,
     /// The end of a statement, or of a part of it, that is not open.
     NotOpen,
     /// A statement is open at the end of the text.
@@ -37,6 +39,7 @@ impl Reason {
             Reason::NoExpression => "no expression begins here",
             Reason::NoOperation => "no operation goes on here",
             Reason::NoStatement => "no statement begins here",
+            Reason::LateExtends => "only white space and comments may stand before `extends`",
             Reason::NotOpen => "what this tag ends or goes on with is not open here",
             Reason::NoEnd => "the end of a statement is due here",
             Reason::TagGoesOn => "the tag goes on where its end is due",
@@ -50,6 +53,7 @@ impl Reason {
             Reason::Expected(Kind::Else) => "`else` is due here",
             Reason::Expected(Kind::In) => "`in` is due here",
             Reason::Expected(Kind::Name) => "a name is due here",
+            Reason::Expected(Kind::Text) => "a text in quotes is due here",
             Reason::Expected(_) => "another token is due here",
         }
     }

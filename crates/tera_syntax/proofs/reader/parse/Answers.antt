@@ -1,22 +1,23 @@
-use Rattle.std.proofs.Common.{None, refl}
+use Rattle.std.proofs.Common.{refl}
 use Rattle.tera_tree.specs.Delimiters.{delimiters_of}
 use Rattle.tera_syntax.specs.Reads.{Reads, ReadsPlainText}
-use Rattle.tera_tree.specs.View.{nodes_of}
-use Rattle.tera_syntax.proofs.Sound.{sound}
-use Rattle.tera_syntax.proofs.Placed.{derived_placed}
+use Rattle.tera_tree.specs.View.{tree_of}
+use Rattle.tera_syntax.proofs.Extending.{file_sound, file_placed}
 use Rattle.tera_syntax.proofs.Inside.{tree_inside}
 use Rattle.tera_syntax.proofs.Plain.{says_one, refused_by, spells_none, plain, one_tree}
 use Rattle.tera_syntax.proofs.reader.parse.Goals as goal
 
 pub returns-in-Ok-clause-reads : goal.returns-in-Ok-clause-reads
 returns-in-Ok-clause-reads c =
-    let s = sound 200 _ (nodes_of c.in-Ok.nodes.items) c.in-Ok.ensures in
-    ((refl, s.0), (s.1, derived_placed s.0), λ other w h. one_tree c.args.name.now (delimiters_of c.args.delimiters.now) c.args.source.now other (record { parent = None; nodes = nodes_of c.in-Ok.nodes.items }) h (refl, s.0))
+    let tree = tree_of c.in-Ok.output in
+    let s = file_sound 200 _ tree c.in-Ok.ensures in
+    (s.0, (s.1, file_placed s.0), λ other w h. one_tree c.args.name.now (delimiters_of c.args.delimiters.now) c.args.source.now other tree h s.0)
 
 pub returns-in-Ok-clause-inside : goal.returns-in-Ok-clause-inside
 returns-in-Ok-clause-inside c =
-    let s = sound 200 _ (nodes_of c.in-Ok.nodes.items) c.in-Ok.ensures in
-    tree_inside c.args.name.now c.args.delimiters.now c.args.source.now (record { parent = None; nodes = nodes_of c.in-Ok.nodes.items }) c.requires c.utf8.source (refl, s.0)
+    let tree = tree_of c.in-Ok.output in
+    let s = file_sound 200 _ tree c.in-Ok.ensures in
+    tree_inside c.args.name.now c.args.delimiters.now c.args.source.now tree c.requires c.utf8.source s.0
 
 pub returns-in-Err-Syntax-clause-reads : goal.returns-in-Err-Syntax-clause-reads
 returns-in-Err-Syntax-clause-reads c =

@@ -7,14 +7,15 @@ use Rattle.tera_tokens.specs.declared.cut.Found as found
 use Rattle.tera_tokens.specs.declared.token.Token.{Token}
 use Rattle.tera_tokens.specs.Answers.{Answers}
 use Rattle.tera_tree.specs.Delimiters.{delimiters_of}
-use Rattle.tera_tree.specs.View.{nodes_of}
+use Rattle.tera_tree.specs.View.{tree_of}
 use Rattle.tera_tokens.specs.Found.{found_of}
-use Rattle.tera_syntax.specs.Reader as spec
-use Rattle.tera_syntax.specs.View.{progress_of}
+use Rattle.tera_syntax.specs.File as spec
+use Rattle.tera_syntax.specs.View.{file_of}
 use Rattle.tera_tokens.proofs.Cuts.{cut_step, cut_broken, cut_nothing}
 use Rattle.tera_expressions.proofs.Turns.{refused}
+use Rattle.tera_syntax.proofs.Extending.{file_broken}
 use Rattle.tera_syntax.proofs.Rows.{some_bytes}
-use Rattle.tera_syntax.proofs.reader.nodes.Goals as goal
+use Rattle.tera_syntax.proofs.reader.read.Goals as goal
 
 found_in : (meant : Option Found) (ts us : List Token) (x : found.Found) → ts ≡ us → meant ≡ Some (found_of ts x) → meant ≡ Some (found_of us x)
 found_in meant ts us x e h = h ∙ ap (λ ts. Some (found_of ts x)) e
@@ -23,7 +24,8 @@ pub returns-in-Err : goal.returns-in-Err
 returns-in-Err c =
     let l = some_bytes c.loop-rest.rest.now (sym c.is_empty.ensures ∙ c.loop-rest-test.true) in
     refused c.in-Err.refusal (λ n. c.loop-rest.invariant.so_far
-    ∙ ap (spec.run 200 (progress_of c.loop-rest.progress)) (cut_broken (delimiters_of c.args.delimiters.now) c.loop-rest.trims c.loop-rest.at c.loop-rest.rest.now l n))
+    ∙ ap (spec.file_run 200 (file_of c.loop-rest.file)) (cut_broken (delimiters_of c.args.delimiters.now) c.loop-rest.trims c.loop-rest.at c.loop-rest.rest.now l n)
+    ∙ file_broken 200 (file_of c.loop-rest.file))
     c.in-Err.ensures.value
 
 pub returns-in-Err-step : goal.returns-in-Err-step
@@ -32,8 +34,8 @@ returns-in-Err-step c =
     let l = some_bytes c.loop-rest.rest.now (sym c.is_empty.ensures ∙ c.loop-rest-test.true) in
     let s = cut_step d c.loop-rest.trims c.loop-rest.at c.loop-rest.rest.now (found_of c.as_slice.result.now c.in-Ok.piece) l (found_in _ _ _ c.in-Ok.piece (sym c.as_slice.ensures.value) c.in-Ok.ensures.value) c.in-Ok.ensures.moves in
     refused c.in-Err-step.refusal (λ n. c.loop-rest.invariant.so_far
-    ∙ ap (spec.run 200 (progress_of c.loop-rest.progress)) s
-    ∙ ap (option_and_then (λ t. spec.run 200 t (cut d c.in-Ok.piece.trims 0 c.in-Ok.piece.next _))) n)
+    ∙ ap (spec.file_run 200 (file_of c.loop-rest.file)) s
+    ∙ ap (option_and_then (λ t. spec.file_run 200 t (cut d c.in-Ok.piece.trims 0 c.in-Ok.piece.next _))) n)
     c.in-Err-step.ensures
 
 pub loop-rest-preserved : goal.loop-rest-preserved
@@ -48,14 +50,14 @@ loop-rest-preserved c =
       place = omega (arith, f.0, f.1, k, c.loop-rest.invariant.place);
       known = c.in-Ok.ensures.known;
       so_far = c.loop-rest.invariant.so_far
-          ∙ ap (spec.run 200 (progress_of c.loop-rest.progress)) s
-          ∙ ap (option_and_then (λ t. spec.run 200 t (cut d c.in-Ok.piece.trims 0 c.in-Ok.piece.next _))) c.in-Ok-step.ensures
-          ∙ ap (λ text. spec.run 200 (progress_of c.step.new.progress) (cut d c.in-Ok.piece.trims 0 c.in-Ok.piece.next text)) (sym f.2);
+          ∙ ap (spec.file_run 200 (file_of c.loop-rest.file)) s
+          ∙ ap (option_and_then (λ t. spec.file_run 200 t (cut d c.in-Ok.piece.trims 0 c.in-Ok.piece.next _))) c.in-Ok-step.ensures
+          ∙ ap (λ text. spec.file_run 200 (file_of c.step.new.self) (cut d c.in-Ok.piece.trims 0 c.in-Ok.piece.next text)) (sym f.2);
     }
 
 pub returns : goal.returns
 returns c =
     let z : length c.loop-rest.rest.now ≡ 0 = (Decides-eqb (length c.loop-rest.rest.now) 0).0 (sym c.is_empty.ensures ∙ c.loop-rest-test.false) in
     let e = c.loop-rest.invariant.so_far
-    ∙ ap (spec.run 200 (progress_of c.loop-rest.progress)) (cut_nothing (delimiters_of c.args.delimiters.now) c.loop-rest.trims c.loop-rest.at c.loop-rest.rest.now z) in
-    subst (λ o. Answers (λ found. nodes_of found.items) o c.finish.result) (sym e) c.finish.ensures.value
+    ∙ ap (spec.file_run 200 (file_of c.loop-rest.file)) (cut_nothing (delimiters_of c.args.delimiters.now) c.loop-rest.trims c.loop-rest.at c.loop-rest.rest.now z) in
+    subst (λ o. Answers tree_of o c.finish.result) (sym e) c.finish.ensures.value

@@ -1,0 +1,215 @@
+-- The reader of a whole text: what is read is spelled, and the other way round.
+use Rattle.std.proofs.Common.{◌≡◌, ℕ, ◌<◌, ◌≤◌, List, [], ◌∷◌, Bool, true, false, ◌&&◌, Option, Some, None, IsTrue, if◌then◌else◌, bytes_eq, codes, refl, ap, ap₂, sym, ◌∙◌, subst}
+use Rattle.std.specs.Prelude.{option_map, option_and_then}
+use Rattle.std.proofs.lemmas.Slice.Eq.{bytes_eq-Decides}
+use Rattle.tera_errors.specs.Site.{Name}
+use Rattle.tera_tree.specs.Tree.{Content, Nodes, NoNodes, Tree}
+use Rattle.tera_tree.specs.Depth.{nodes_depth}
+use Rattle.tera_tree.specs.Places.{in_place}
+use Rattle.tera_tokens.specs.declared.token.Kind.TheVariants as k
+use Rattle.tera_tokens.specs.Token.{Token}
+use Rattle.tera_tokens.specs.Input.{begin, kind, text, next, same}
+use Rattle.tera_tokens.specs.Literal.{literal}
+use Rattle.tera_tokens.specs.Cut.{Piece, Words, Comment, Variable, Block, Broken}
+use Rattle.tera_expressions.proofs.Steps.{guard, same-is, alike}
+use Rattle.tera_syntax.specs.Heads.{first}
+use Rattle.tera_syntax.specs.Grammar.{Begins, Extends, is_space, Front, nothing, space, remark, DerivesFile, root, child}
+use Rattle.tera_syntax.specs.Reader.{Progress, begun, join, one, has_room, step, taken, room, statement, finished, run, nodes}
+use Rattle.tera_syntax.specs.File.{File, is_extends, parent_of, extending, is_front_piece, kept, file_run, file}
+use Rattle.tera_syntax.proofs.OneTag.{extends_read}
+use Rattle.tera_syntax.proofs.Complete.{at, put-read, complete_nodes}
+use Rattle.tera_syntax.proofs.Sound.{sound}
+use Rattle.tera_syntax.proofs.Placed.{derived_placed}
+
+abbrev tree_with : Option Name → Nodes → Tree
+tree_with parent found = record { parent = parent; nodes = found }
+
+abbrev state : Option Name → Bool → Progress → File
+state parent is_front s = record { parent = parent; is_front = is_front; progress = s }
+
+-- The tag
+
+both : (a b : Bool) → (a && b) ≡ true → (a ≡ true) × (b ≡ true)
+both true b h = (refl, h)
+both false b h = absurd (cc)
+
+begins : (tokens : List Token) → is_extends tokens ≡ true → Begins (codes "extends") tokens
+begins tokens e =
+    let p = both (same k.Name (first tokens)) (bytes_eq (text (begin false tokens)) (codes "extends")) e in
+    (same-is k.Name (first tokens) p.0, (bytes_eq-Decides (text (begin false tokens)) (codes "extends")).0 p.1)
+
+extends-got : (tokens : List Token) (name : Name) → is_extends tokens ≡ true → parent_of tokens ≡ Some name → Extends name tokens
+extends-got tokens name e h =
+    let i = next (begin false tokens) in
+    let g = guard (same k.Text (kind i)) (if same k.End (kind (next i)) then literal (text i) else None) name h in
+    let l = guard (same k.End (kind (next i))) (literal (text i)) name g.1 in
+    (begins tokens e, same-is k.Text (kind i) g.0, l.1, same-is k.End (kind (next i)) l.0)
+
+word-is : (tokens : List Token) → Begins (codes "extends") tokens → is_extends tokens ≡ true
+word-is tokens b = ap₂ (λ x y. x && y) (alike k.Name (first tokens) b.0) (ap (λ w. bytes_eq w (codes "extends")) b.1)
+
+parent-is : (tokens : List Token) (name : Name) → Extends name tokens → parent_of tokens ≡ Some name
+parent-is tokens name e =
+    let i = next (begin false tokens) in
+    ap (λ (b : Bool). if b then (if same k.End (kind (next i)) then literal (text i) else None) else None) (alike k.Text (kind i) e.1)
+    ∙ ap (λ (b : Bool). if b then literal (text i) else None) (alike k.End (kind (next i)) e.3)
+    ∙ e.2
+
+front-more : {i j : List Piece} (p : Piece) → is_front_piece p ≡ true → Front i j → Front (p ∷ i) j
+front-more (Words words place) f r = space f r
+front-more Comment f r = remark r
+front-more (Variable tokens) f r = absurd (cc)
+front-more (Block tokens) f r = absurd (cc)
+front-more Broken f r = absurd (cc)
+
+module _ (limit : ℕ) where
+  -- Behind the front the nodes are read as ever
+
+  behind-step : (parent : Option Name) (i : List Piece) (o : Option Progress) → ((s : Progress) → file_run limit (state parent false s) i ≡ option_map (tree_with parent) (run limit s i))
+      → option_and_then (λ g. file_run limit g i) (option_map (state parent false) o) ≡ option_map (tree_with parent) (option_and_then (λ t. run limit t i) o)
+  behind-step parent i None again = refl
+  behind-step parent i (Some t) again = again t
+
+  behind : (parent : Option Name) (i : List Piece) (s : Progress) → file_run limit (state parent false s) i ≡ option_map (tree_with parent) (run limit s i)
+  behind parent [] s = refl
+  behind parent (p ∷ i) s = behind-step parent i (step limit s p) (λ t. behind parent i t)
+
+  mapped : (parent : Option Name) (o : Option Nodes) (tree : Tree) → option_map (tree_with parent) o ≡ Some tree → (o ≡ Some tree.nodes) × (parent ≡ tree.parent)
+  mapped parent None tree h = absurd (cc)
+  mapped parent (Some x) tree h = let e : tree_with parent x ≡ tree = cc in (ap (λ t. Some t.nodes) e, ap (λ t. t.parent) e)
+
+  behind-got : (parent : Option Name) (i : List Piece) (s : Progress) (tree : Tree) → file_run limit (state parent false s) i ≡ Some tree → (run limit s i ≡ Some tree.nodes) × (parent ≡ tree.parent)
+  behind-got parent i s tree h = mapped parent (run limit s i) tree (sym (behind parent i s) ∙ h)
+
+  -- What is read is spelled
+
+  -- what is said of the pieces, where white space and comments alone were read
+  data Says : Progress → List Piece → Option Name → Nodes → Type 0 where
+    alone : {s : Progress} {i : List Piece} {x : Nodes} → run limit s i ≡ Some x → Says s i None x
+    below : {s : Progress} {i j : List Piece} {tokens : List Token} {name : Name} {x : Nodes} → Front i (Block tokens ∷ j) → Extends name tokens → nodes limit j ≡ Some x → Says s i (Some name) x
+
+  passed : {parent : Option Name} {x : Nodes} (p : Piece) (i : List Piece) (s t : Progress) → is_front_piece p ≡ true → step limit s p ≡ Some t → Says t i parent x → Says s (p ∷ i) parent x
+  passed p i s t f e (alone h) = alone (ap (option_and_then (λ t. run limit t i)) e ∙ h)
+  passed p i s t f e (below r x h) = below (front-more p f r) x h
+
+  kept-got : (p : Piece) (i : List Piece) (tree : Tree) → ((s : Progress) → file_run limit (state None true s) i ≡ Some tree → Says s i tree.parent tree.nodes) → (b : Bool) → is_front_piece p ≡ b
+      → (s : Progress) (o : Option Progress) → step limit s p ≡ o → option_and_then (λ g. file_run limit g i) (option_map (state None b) o) ≡ Some tree → Says s (p ∷ i) tree.parent tree.nodes
+  kept-got p i tree again b f s None e h = absurd (cc)
+  kept-got p i tree again true f s (Some t) e h = passed p i s t f e (again t h)
+  kept-got p i tree again false f s (Some t) e h =
+      let g = behind-got None i t tree h in
+      subst (λ parent. Says s (p ∷ i) parent tree.nodes) g.1 (alone (ap (option_and_then (λ t. run limit t i)) e ∙ g.0))
+
+  child-got : (tokens : List Token) (i : List Piece) (s : Progress) (tree : Tree) → is_extends tokens ≡ true → (o : Option Name) → parent_of tokens ≡ o
+      → option_and_then (λ g. file_run limit g i) (extending o) ≡ Some tree → Says s (Block tokens ∷ i) tree.parent tree.nodes
+  child-got tokens i s tree e None f h = absurd (cc)
+  child-got tokens i s tree e (Some name) f h =
+      let g = behind-got (Some name) i begun tree h in
+      subst (λ parent. Says s (Block tokens ∷ i) parent tree.nodes) g.1 (below nothing (extends-got tokens name e f) g.0)
+
+  module _ (i : List Piece) (tree : Tree) where
+    -- what holds of the pieces behind the first
+    abbrev Again : Type 0
+    Again = (s : Progress) → file_run limit (state None true s) i ≡ Some tree → Says s i tree.parent tree.nodes
+
+    block-got : Again → (tokens : List Token) (s : Progress) (b : Bool) → is_extends tokens ≡ b
+        → option_and_then (λ g. file_run limit g i) (if b then extending (parent_of tokens) else kept limit (state None true s) (Block tokens)) ≡ Some tree → Says s (Block tokens ∷ i) tree.parent tree.nodes
+    block-got again tokens s true e h = child-got tokens i s tree e (parent_of tokens) refl h
+    block-got again tokens s false e h = kept-got (Block tokens) i tree again false refl s (step limit s (Block tokens)) refl h
+
+    piece-got : Again → (p : Piece) (s : Progress) → file_run limit (state None true s) (p ∷ i) ≡ Some tree → Says s (p ∷ i) tree.parent tree.nodes
+    piece-got again (Words words place) s h = kept-got (Words words place) i tree again (is_space words) refl s (step limit s (Words words place)) refl h
+    piece-got again Comment s h = kept-got Comment i tree again true refl s (step limit s Comment) refl h
+    piece-got again (Variable tokens) s h = kept-got (Variable tokens) i tree again false refl s (step limit s (Variable tokens)) refl h
+    piece-got again (Block tokens) s h = block-got again tokens s (is_extends tokens) refl h
+    piece-got again Broken s h = absurd (cc)
+
+  says : (i : List Piece) (s : Progress) (tree : Tree) → file_run limit (state None true s) i ≡ Some tree → Says s i tree.parent tree.nodes
+  says [] s tree h = let g = mapped None (finished s.frames s.found) tree h in subst (λ parent. Says s [] parent tree.nodes) g.1 (alone g.0)
+  says (p ∷ i) s tree h = piece-got i tree (λ s h. says i s tree h) p s h
+
+  derived : {i : List Piece} {parent : Option Name} {x : Nodes} → Says begun i parent x → DerivesFile parent x i × (nodes_depth x ≤ limit)
+  derived {i = i} {x = x} (alone h) = let d = sound limit i x h in (root d.0, d.1)
+  derived {x = x} (below {j = j} r e h) = let d = sound limit j x h in (child r e d.0, d.1)
+
+  pub file_sound : (i : List Piece) (tree : Tree) → file limit i ≡ Some tree → DerivesFile tree.parent tree.nodes i × (nodes_depth tree.nodes ≤ limit)
+  file_sound i tree h = derived (says i begun tree h)
+
+  -- What is spelled is read
+
+  extends-unread : (q : Bool) (found : Nodes) (tokens : List Token) → is_extends tokens ≡ true → statement limit (at q [] found) tokens ≡ None
+  unfolding statement
+  extends-unread q found tokens e =
+      let s = at q [] found in
+      ap (option_and_then (taken limit s tokens)) (extends_read (room limit s) q false tokens (begins tokens e))
+
+  either-way : (i : List Piece) (b : Bool) (s : Progress) (x : Nodes) → file_run limit (state None true s) i ≡ Some (tree_with None x) → run limit s i ≡ Some x
+      → file_run limit (state None b s) i ≡ Some (tree_with None x)
+  either-way i true s x h r = h
+  either-way i false s x h r = behind None i s ∙ ap (option_map (tree_with None)) r
+
+  node-read : (i : List Piece) (o : Option Progress) (x : Nodes) → option_and_then (λ t. run limit t i) o ≡ Some x
+      → option_and_then (λ g. file_run limit g i) (option_map (state None false) o) ≡ Some (tree_with None x)
+  node-read i o x h = behind-step None i o (λ s. behind None i s) ∙ ap (option_map (tree_with None)) h
+
+  words-read : (i : List Piece) (b c : Bool) (t : Progress) (x : Nodes) → (run limit t i ≡ Some x → file_run limit (state None true t) i ≡ Some (tree_with None x))
+      → option_and_then (λ t. run limit t i) (if c then Some t else None) ≡ Some x
+      → option_and_then (λ g. file_run limit g i) (option_map (state None b) (if c then Some t else None)) ≡ Some (tree_with None x)
+  words-read i b true t x again h = either-way i b t x (again h) h
+  words-read i b false t x again h = absurd (cc)
+
+  block-read : (i : List Piece) (q : Bool) (found : Nodes) (tokens : List Token) (x : Nodes) (b : Bool) → is_extends tokens ≡ b
+      → option_and_then (λ t. run limit t i) (statement limit (at q [] found) tokens) ≡ Some x
+      → option_and_then (λ g. file_run limit g i) (if b then extending (parent_of tokens) else kept limit (state None true (at q [] found)) (Block tokens)) ≡ Some (tree_with None x)
+  block-read i q found tokens x true e h =
+      let n = ap (option_and_then (λ t. run limit t i)) (extends-unread q found tokens e) in
+      let m : None ≡ Some x = sym n ∙ h in absurd (cc)
+  block-read i q found tokens x false e h = node-read i (statement limit (at q [] found) tokens) x h
+
+  root-read : (i : List Piece) (q : Bool) (found x : Nodes) → run limit (at q [] found) i ≡ Some x → file_run limit (state None true (at q [] found)) i ≡ Some (tree_with None x)
+  root-read [] q found x h = ap (option_map (tree_with None)) h
+  root-read (Words [] place ∷ i) q found x h = either-way i (is_space []) (at q [] found) x (root-read i q found x h) h
+  root-read (Words (b ∷ bs) place ∷ i) q found x h =
+      let more = join found (one (Content (b ∷ bs) place)) in
+      words-read i (is_space (b ∷ bs)) (has_room limit (at q [] found)) (at q [] more) x (root-read i q more x) h
+  root-read (Comment ∷ i) q found x h = root-read i q found x h
+  root-read (Variable tokens ∷ i) q found x h = node-read i (step limit (at q [] found) (Variable tokens)) x h
+  root-read (Block tokens ∷ i) q found x h = block-read i q found tokens x (is_extends tokens) refl h
+  root-read (Broken ∷ i) q found x h = absurd (cc)
+
+  front-read : {i j : List Piece} → Front i j → (q : Bool) (found : Nodes) (tree : Tree) → 0 < limit → ((found : Nodes) → file_run limit (state None true (at q [] found)) j ≡ Some tree)
+      → file_run limit (state None true (at q [] found)) i ≡ Some tree
+  front-read nothing q found tree lt end = end found
+  front-read (space {words = []} {i = i} f r) q found tree lt end =
+      ap (λ b. file_run limit (state None b (at q [] found)) i) f ∙ front-read r q found tree lt end
+  front-read (space {words = b ∷ bs} {place = place} {i = i} f r) q found tree lt end =
+      let n = Content (b ∷ bs) place in
+      ap (λ o. option_and_then (λ g. file_run limit g i) (option_map (state None (is_space (b ∷ bs))) o)) (put-read limit q [] found n lt)
+      ∙ ap (λ b. file_run limit (state None b (at q [] (join found (one n)))) i) f
+      ∙ front-read r q (join found (one n)) tree lt end
+  front-read (remark r) q found tree lt end = front-read r q found tree lt end
+
+  tag-read : (j : List Piece) (tokens : List Token) (name : Name) (x : Nodes) → Extends name tokens → nodes limit j ≡ Some x → (s : Progress)
+      → file_run limit (state None true s) (Block tokens ∷ j) ≡ Some (tree_with (Some name) x)
+  tag-read j tokens name x e h s =
+      ap (λ (b : Bool). option_and_then (λ g. file_run limit g j) (if b then extending (parent_of tokens) else kept limit (state None true s) (Block tokens))) (word-is tokens e.0)
+      ∙ ap (λ o. option_and_then (λ g. file_run limit g j) (extending o)) (parent-is tokens name e)
+      ∙ behind (Some name) j begun
+      ∙ ap (option_map (tree_with (Some name))) h
+
+  pub file_complete : {parent : Option Name} {x : Nodes} {i : List Piece} → DerivesFile parent x i → 0 < limit → nodes_depth x ≤ limit → file limit i ≡ Some (tree_with parent x)
+  file_complete {x = x} {i = i} (root d) lt le = root-read i false NoNodes x (complete_nodes limit x i d le)
+  file_complete {x = x} (child {name = name} {tokens = tokens} {j = j} r e d) lt le =
+      front-read r false NoNodes (tree_with (Some name) x) lt (λ found. tag-read j tokens name x e (complete_nodes limit x j d le) (at false [] found))
+
+-- where no piece begins, nothing is read
+pub file_broken : (limit : ℕ) (f : File) → file_run limit f (Broken ∷ []) ≡ None
+file_broken limit f = by f.is_front
+  where
+    by : (b : Bool) → option_and_then (λ g. file_run limit g []) (if b && false then extending None else kept limit f Broken) ≡ None
+    by true = refl
+    by false = refl
+
+pub file_placed : {parent : Option Name} {x : Nodes} {i : List Piece} → DerivesFile parent x i → IsTrue (in_place false x)
+file_placed (root d) = derived_placed d
+file_placed (child r e d) = derived_placed d

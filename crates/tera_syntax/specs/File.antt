@@ -1,0 +1,79 @@
+-- The reader of a whole text, as a function: nodes, and in front of them what the text extends.
+use Rattle.std.specs.Prelude.{ℕ, List, [], ◌∷◌, Bool, true, false, ◌&&◌, Option, Some, None, option_map, option_and_then, bytes_eq, codes, if◌then◌else◌}
+use Rattle.tera_errors.specs.Site.{Name}
+use Rattle.tera_tree.specs.Tree.{Tree}
+use Rattle.tera_tokens.specs.declared.token.Kind.TheVariants as k
+use Rattle.tera_tokens.specs.Token.{Token}
+use Rattle.tera_tokens.specs.Input.{Input, begin, kind, text, next, same}
+use Rattle.tera_tokens.specs.Literal.{literal}
+use Rattle.tera_tokens.specs.Cut.{Piece, Words, Comment, Variable, Block, Broken}
+use Rattle.tera_syntax.specs.Heads.{first}
+use Rattle.tera_syntax.specs.Grammar.{is_space}
+use Rattle.tera_syntax.specs.Reader.{Progress, begun, step, finished}
+
+-- how far the reading is: what the text extends, whether white space and comments alone were read, and what was read
+pub record File : Type 0 where
+  pub parent : Option Name
+  pub is_front : Bool
+  pub progress : Progress
+
+abbrev pub file_begun : File
+file_begun = record { parent = None; is_front = true; progress = begun }
+
+-- a tag that begins with the word `extends`
+abbrev pub is_extends : List Token → Bool
+is_extends tokens = same k.Name (first tokens) && bytes_eq (text (begin false tokens)) (codes "extends")
+
+-- the name in quotes that ends a tag
+abbrev pub parent_at : Input → Option Name
+parent_at i = if same k.Text (kind i) then (if same k.End (kind (next i)) then literal (text i) else None) else None
+
+-- the same behind the first token
+abbrev pub parent_of : List Token → Option Name
+parent_of tokens = parent_at (next (begin false tokens))
+
+-- what was read in front of the tag is no node
+abbrev pub extending : Option Name → Option File
+extending = option_map (λ name. record { parent = Some name; is_front = false; progress = begun })
+
+abbrev pub is_front_piece : Piece → Bool
+is_front_piece (Words words place) = is_space words
+is_front_piece Comment = true
+is_front_piece (Variable tokens) = false
+is_front_piece (Block tokens) = false
+is_front_piece Broken = false
+
+-- a piece that is no tag `extends`, or stands too late to be one
+abbrev pub kept : ℕ → File → Piece → Option File
+kept limit f piece = option_map (λ s. record { parent = f.parent; is_front = f.is_front && is_front_piece piece; progress = s }) (step limit f.progress piece)
+
+abbrev pub is_extends_piece : Piece → Bool
+is_extends_piece (Words words place) = false
+is_extends_piece Comment = false
+is_extends_piece (Variable tokens) = false
+is_extends_piece (Block tokens) = is_extends tokens
+is_extends_piece Broken = false
+
+abbrev pub parent_in : Piece → Option Name
+parent_in (Words words place) = None
+parent_in Comment = None
+parent_in (Variable tokens) = None
+parent_in (Block tokens) = parent_of tokens
+parent_in Broken = None
+
+-- a piece more, where nodes are no deeper than this
+abbrev pub file_step : ℕ → File → Piece → Option File
+file_step limit f piece = if f.is_front && is_extends_piece piece then extending (parent_in piece) else kept limit f piece
+
+-- the tree, at the end of the text
+abbrev pub file_finished : File → Option Tree
+file_finished f = option_map (λ nodes. record { parent = f.parent; nodes = nodes }) (finished f.progress.frames f.progress.found)
+
+-- the tree of all pieces behind what was read
+abbrev pub file_run : ℕ → File → List Piece → Option Tree
+file_run limit f [] = file_finished f
+file_run limit f (piece ∷ rest) = option_and_then (λ g. file_run limit g rest) (file_step limit f piece)
+
+-- the tree of all pieces, no deeper than this
+abbrev pub file : ℕ → List Piece → Option Tree
+file limit pieces = file_run limit file_begun pieces

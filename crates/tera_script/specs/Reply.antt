@@ -1,5 +1,6 @@
 -- What commands are answered, as plain data, and how it is written.
-use Rattle.std.specs.Prelude.{List, ◌++◌, codes, decimal, Some, None, Result, Ok, Err, string_bytes, map}
+use Rattle.std.specs.Prelude.{List, ◌++◌, codes, decimal, Some, None, Result, Ok, Err, String, string_bytes, map}
+use Rattle.std.specs.Global.{Global}
 use Rattle.tera_errors.specs.Site.{Site, Text}
 use Rattle.tera_errors.specs.Fault.{syntax_error, message, rendering_error, circular_extend, circular_include, missing_parent, template_not_found, component_not_found, invalid_argument, missing_argument}
 use Rattle.tera_errors.specs.Answer.{Refusal}
@@ -16,10 +17,15 @@ reply_seen reply.Done = done
 reply_seen (reply.Text text) = says (string_bytes text)
 reply_seen (reply.Fault error) = refuses error
 
--- what is told of a value that was to be put into the context
-abbrev pub put_seen : Result (Unit {0}) Refusal → Replied
-put_seen (Ok u) = done
-put_seen (Err refusal) = refuses refusal
+-- what is told of a call that has nothing to tell
+abbrev pub done_seen : Result (Unit {0}) Refusal → Replied
+done_seen (Ok u) = done
+done_seen (Err refusal) = refuses refusal
+
+-- what is told of a call that answers a text
+abbrev pub rendered_seen : Result (String Global) Refusal → Replied
+rendered_seen (Ok text) = says (string_bytes text)
+rendered_seen (Err refusal) = refuses refusal
 
 abbrev pub replies_seen : List Reply → List Replied
 replies_seen replies = map reply_seen replies

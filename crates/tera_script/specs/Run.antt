@@ -16,37 +16,37 @@ status_of NoMemory = 4
 
 -- The input was read to its end, and the replies to its commands were written and handed on. Neither stream failed.
 -- The first unreadable line is this one, if there is one.
-pub record Finishes (registry : Registry) (reader_old reader_new : Passage) (ended : Type 0) (writer_old writer_new : Passage) (settled : Type 0) (unreadable : Option ℕ) : Type 0 where
+pub record Finishes (registry_old registry_new : Registry) (reader_old reader_new : Passage) (ended : Type 0) (writer_old writer_new : Passage) (settled : Type 0) (unreadable : Option ℕ) : Type 0 where
   pub input : List ℕ
   pub output : List ℕ
   pub read : PassesAll reader_old reader_new input
   pub at_end : ended
-  pub program : Program registry input output
+  pub program : Program registry_old registry_new input output
   pub written : PassesAll writer_old writer_new output
   pub handed_on : settled
   pub stops : (script_of input).unreadable ≡ unreadable
 
 -- the same, but the writer failed behind a beginning of the replies
-pub record BreaksOff (registry : Registry) (reader_old reader_new : Passage) (ended : Type 0) (writer_old writer_new : Passage) : Type 0 where
+pub record BreaksOff (registry_old registry_new : Registry) (reader_old reader_new : Passage) (ended : Type 0) (writer_old writer_new : Passage) : Type 0 where
   pub input : List ℕ
   pub output : List ℕ
   pub read : PassesAll reader_old reader_new input
   pub at_end : ended
-  pub program : Program registry input output
+  pub program : Program registry_old registry_new input output
   pub written : PassesPart writer_old writer_new output
 
 -- a stream failed
-pub data Fails (registry : Registry) (reader_old reader_new : Passage) (ended : Type 0) (writer_old writer_new : Passage) : Type 0 where
+pub data Fails (registry_old registry_new : Registry) (reader_old reader_new : Passage) (ended : Type 0) (writer_old writer_new : Passage) : Type 0 where
   -- Of an input that was not read, nothing is run or written.
-  at_read : (failed : reader_old.failures < reader_new.failures) (unwritten : writer_new ≡ writer_old) → Fails registry reader_old reader_new ended writer_old writer_new
-  at_write : (broken : BreaksOff registry reader_old reader_new ended writer_old writer_new) → Fails registry reader_old reader_new ended writer_old writer_new
+  at_read : (failed : reader_old.failures < reader_new.failures) (unrun : registry_new ≡ registry_old) (unwritten : writer_new ≡ writer_old) → Fails registry_old registry_new reader_old reader_new ended writer_old writer_new
+  at_write : (broken : BreaksOff registry_old registry_new reader_old reader_new ended writer_old writer_new) → Fails registry_old registry_new reader_old reader_new ended writer_old writer_new
 
 -- A run of the program, by what it comes to.
-abbrev pub Ran : Registry → Passage → Passage → Type 0 → Passage → Passage → Type 0 → Outcome → Type 0
-Ran registry reader_old reader_new ended writer_old writer_new settled Done = Finishes registry reader_old reader_new ended writer_old writer_new settled None
-Ran registry reader_old reader_new ended writer_old writer_new settled (Unreadable line) = Finishes registry reader_old reader_new ended writer_old writer_new settled (Some line)
-Ran registry reader_old reader_new ended writer_old writer_new settled Device = Fails registry reader_old reader_new ended writer_old writer_new
-Ran registry reader_old reader_new ended writer_old writer_new settled NoMemory = writer_new ≡ writer_old
+abbrev pub Ran : Registry → Registry → Passage → Passage → Type 0 → Passage → Passage → Type 0 → Outcome → Type 0
+Ran registry_old registry_new reader_old reader_new ended writer_old writer_new settled Done = Finishes registry_old registry_new reader_old reader_new ended writer_old writer_new settled None
+Ran registry_old registry_new reader_old reader_new ended writer_old writer_new settled (Unreadable line) = Finishes registry_old registry_new reader_old reader_new ended writer_old writer_new settled (Some line)
+Ran registry_old registry_new reader_old reader_new ended writer_old writer_new settled Device = Fails registry_old registry_new reader_old reader_new ended writer_old writer_new
+Ran registry_old registry_new reader_old reader_new ended writer_old writer_new settled NoMemory = (registry_new ≡ registry_old) × (writer_new ≡ writer_old)
 
 abbrev pub complaint_line : ℕ → Text
 complaint_line line = codes "unreadable command at line " ++ decimal line ++ codes "\n"

@@ -8,7 +8,7 @@ use Rattle.std.specs.Str.Parse.{starts_with_minus, signed_digits_value}
 use Rattle.tera_errors.specs.Site.{Name, Text}
 use Rattle.tera_values.specs.Number.{in_range}
 use Rattle.tera_values.specs.Val.{int, text}
-use Rattle.tera_script.specs.Act.{Act, put_value, render_text}
+use Rattle.tera_script.specs.Act.{Act, put_value, render_text, join_batch, add_batch, set_suffixes, set_prefixes, render_named}
 use Rattle.tera_script.specs.Lines.{lines_of, joined}
 use Rattle.tera_script.specs.Words.{words_of}
 
@@ -17,6 +17,7 @@ pub data Opening : Type 0 where
   text_opening : (name : Name) → Opening
   safe_opening : (name : Name) → Opening
   str_opening : (autoescape : Bool) → Opening
+  template_opening : (name : Name) → Opening
 
 -- a command line: a command by itself, or one that opens a body
 pub data Head : Type 0 where
@@ -26,6 +27,10 @@ pub data Head : Type 0 where
 -- no white space but spaces
 abbrev pub is_plain : Text → Bool
 is_plain line = list_all (λ c. c == 32 || not (is_whitespace c)) (chars line)
+
+abbrev pub is_filled : Text → Bool
+is_filled [] = false
+is_filled (byte ∷ bytes) = true
 
 -- a field is not empty
 abbrev pub checked_field : Text → Option Text
@@ -38,13 +43,13 @@ only_field [] = None
 only_field (field ∷ []) = checked_field field
 only_field (field ∷ next ∷ fields) = None
 
+-- all of the fields
+abbrev pub checked_fields : List Text → Option (List Text)
+checked_fields fields = if list_all is_filled fields then Some fields else None
+
 -- `on` or `off`
 abbrev pub switch : Text → Option Bool
 switch field = if bytes_eq field (codes "on") then Some true else if bytes_eq field (codes "off") then Some false else None
-
-abbrev pub str_opening_of : Option Text → Option Opening
-str_opening_of None = None
-str_opening_of (Some field) = option_map str_opening (switch field)
 
 -- one digit or more
 abbrev pub is_digits : Text → Bool
@@ -76,14 +81,51 @@ int_of (name ∷ []) = None
 int_of (name ∷ number ∷ []) = int_act (checked_field name) (integer number)
 int_of (name ∷ number ∷ next ∷ fields) = None
 
+-- no field
+abbrev pub add_of : List Text → Option Act
+add_of [] = Some add_batch
+add_of (field ∷ fields) = None
+
+abbrev pub suffix_of : List Text → Option Act
+suffix_of fields = option_map set_suffixes (checked_fields fields)
+
+abbrev pub prefix_of : List Text → Option Act
+prefix_of fields = option_map set_prefixes (checked_fields fields)
+
+abbrev pub render_of : List Text → Option Act
+render_of fields = option_map render_named (only_field fields)
+
+-- the word and the field of a command with a body
+abbrev pub opening_of : Text → Option Text → Option Opening
+opening_of word None = None
+opening_of word (Some field) =
+    if bytes_eq word (codes "text") then Some (text_opening field)
+    else if bytes_eq word (codes "safe") then Some (safe_opening field)
+    else if bytes_eq word (codes "str") then option_map str_opening (switch field)
+    else if bytes_eq word (codes "template") then Some (template_opening field)
+    else None
+
+abbrev pub opening_named : Text → List Text → Option Opening
+opening_named word fields = opening_of word (only_field fields)
+
+-- the word and the fields of a command without one
+abbrev pub act_named : Text → List Text → Option Act
+act_named word fields =
+    if bytes_eq word (codes "int") then int_of fields
+    else if bytes_eq word (codes "add") then add_of fields
+    else if bytes_eq word (codes "suffix") then suffix_of fields
+    else if bytes_eq word (codes "prefix") then prefix_of fields
+    else if bytes_eq word (codes "render") then render_of fields
+    else None
+
+-- a command has a body, or has none
+abbrev pub either_head : Option Opening → Option Act → Option Head
+either_head (Some opening) act = Some (opens opening)
+either_head None act = option_map alone act
+
 -- each command has its word
 abbrev pub head_named : Text → List Text → Option Head
-head_named word fields =
-    if bytes_eq word (codes "text") then option_map (λ name. opens (text_opening name)) (only_field fields)
-    else if bytes_eq word (codes "safe") then option_map (λ name. opens (safe_opening name)) (only_field fields)
-    else if bytes_eq word (codes "int") then option_map alone (int_of fields)
-    else if bytes_eq word (codes "str") then option_map opens (str_opening_of (only_field fields))
-    else None
+head_named word fields = either_head (opening_named word fields) (act_named word fields)
 
 abbrev pub head_of_words : List Text → Option Head
 head_of_words [] = None
@@ -98,6 +140,7 @@ abbrev pub with_body : Opening → Text → Act
 with_body (text_opening name) body = put_value name (text body false)
 with_body (safe_opening name) body = put_value name (text body true)
 with_body (str_opening autoescape) body = render_text autoescape body
+with_body (template_opening name) body = join_batch name body
 
 abbrev pub ends_body : Text → Bool
 ends_body line = bytes_eq line (codes "@@ end")

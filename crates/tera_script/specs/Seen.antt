@@ -1,23 +1,41 @@
 -- What the definitions see of the code's types.
-use Rattle.std.specs.Prelude.{Option}
+use Rattle.std.specs.Prelude.{Option, List}
 use Rattle.std.specs.Borrow.{Bor}
+use Rattle.std.specs.Global.{Vec}
 use Rattle.std.specs.Option.{option_map}
 use Rattle.tera_errors.specs.Site.{Text}
-use Rattle.tera_script.specs.Act.{act_of, acts_of}
+use Rattle.tera_script.specs.Act.{Act, act_of, acts_of}
+use Rattle.tera_script.specs.declared.command.Command.{Command}
 use Rattle.tera_script.specs.declared.script.Opening.{Opening}
 use Rattle.tera_script.specs.declared.script.Opening.TheVariants as opening
 use Rattle.tera_script.specs.declared.script.Head.{Head}
 use Rattle.tera_script.specs.declared.script.Head.TheVariants as head
 use Rattle.tera_script.specs.declared.script.Script.{Script}
 use Rattle.tera_script.specs.Script as script
+use Rattle.tera_script.specs.Session.{Session, session}
+use Rattle.tera_script.specs.declared.execute.Session.{Session as Kept}
+use Rattle.tera.specs.Lent.{texts_of}
+use Rattle.tera_registry.specs.Batch.{pairs_of}
+use Rattle.tera.specs.Registry.{registry_of}
+use Rattle.tera.specs.declared.engine.Tera.{Tera}
 
 abbrev pub text_seen : Option (Bor Text) → Option Text
 text_seen text = option_map (λ t. t.now) text
+
+abbrev pub fields_seen : Option (Vec (Bor Text)) → Option (List Text)
+fields_seen fields = option_map (λ texts. texts_of texts.items) fields
+
+abbrev pub act_seen : Option Command → Option Act
+act_seen found = option_map act_of found
 
 abbrev pub plain_opening : Opening → script.Opening
 plain_opening (opening.Text name) = script.text_opening name.now
 plain_opening (opening.Safe name) = script.safe_opening name.now
 plain_opening (opening.Str autoescape) = script.str_opening autoescape
+plain_opening (opening.Template name) = script.template_opening name.now
+
+abbrev pub opening_seen : Option Opening → Option script.Opening
+opening_seen found = option_map plain_opening found
 
 abbrev pub plain_head : Head → script.Head
 plain_head (head.Alone command) = script.alone (act_of command)
@@ -28,3 +46,6 @@ head_seen found = option_map plain_head found
 
 abbrev pub script_seen : Script → script.Script
 script_seen read = record { acts = acts_of read.commands.items; unreadable = read.unreadable }
+
+abbrev pub session_of : Tera → Kept → Session
+session_of engine kept = session (registry_of engine) kept.context (pairs_of kept.batch.items)

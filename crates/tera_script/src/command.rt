@@ -1,7 +1,7 @@
 // The commands of a script.
 
 /// What a script asks of the engine. The texts are borrowed from where they stand in the script.
-#[derive(Clone, Copy, Debug, PartialEq, Eq)]
+#[derive(Drop, Debug, PartialEq, Eq)]
 pub enum Command<'a> {
     /// Puts a text into the context, under this name.
     Text { name: &'a str, body: &'a str },
@@ -11,4 +11,14 @@ pub enum Command<'a> {
     Int { name: &'a str, number: i128 },
     /// Renders a text beside the registry, with the context.
     Str { autoescape: bool, body: &'a str },
+    /// Lets a template wait for the batch that `Add` adds.
+    Template { name: &'a str, body: &'a str },
+    /// Adds the templates that wait, in the order in which they came, all or none. Then none waits.
+    Add,
+    /// Autoescapes the templates whose names end in one of these, and no others.
+    Suffix { suffixes: Vec<&'a str> },
+    /// Puts these in front of a name that is no template, in turn.
+    Prefix { prefixes: Vec<&'a str> },
+    /// Renders a template, with the context.
+    Render { name: &'a str },
 }

@@ -2,9 +2,11 @@
 ghost use Rattle.std.specs.Prelude.{◌≡◌, IfOk, IfErr, OnOk, OnErr, ◌<◌, ◌≤◌, ◌+◌, ◌++◌, ◌∷◌, [], vec_len, vec_capacity};
 ghost use Rattle.tera.specs.Registry.{registry_of};
 ghost use Rattle.tera_errors.specs.Answer.{Lacks};
+ghost use Rattle.tera_registry.specs.Batch.{Adds, ConfiguresOneOf, pairs_of};
 ghost use Rattle.tera_script.specs.Act.{act_of, acts_of};
-ghost use Rattle.tera_script.specs.Reply.{reply_seen, replies_seen, put_seen};
-ghost use Rattle.tera_script.specs.Session.{MayAnswer, Replies, after, fresh, session};
+ghost use Rattle.tera_script.specs.Reply.{reply_seen, replies_seen, done_seen, rendered_seen};
+ghost use Rattle.tera_script.specs.Seen.{session_of};
+ghost use Rattle.tera_script.specs.Session.{Answers, Leads};
 ghost use Rattle.tera_values.specs.Named.{put};
 ghost use Rattle.tera_values.specs.Val.{text};
 
@@ -13,21 +15,32 @@ use crate::reply::Reply;
 use std::alloc::Global;
 use tera::{Context, Tera, TeraResult, Value};
 
-/// Runs the commands in order, each in what those before it left; the context is empty at first. There is one reply a
-/// command, whatever it is. An error says that the replies found no room: then no command was run.
+/// What a run keeps beside the engine: the context, and the templates that wait for the next adding.
+#[derive(Drop)]
+struct Session<'a> {
+    context: Context,
+    batch: Vec<(&'a str, &'a str)>,
+}
+
+/// Runs the commands in order, each in what those before it left; at first the context is empty and no template waits. There
+/// is one reply a command, whatever it is. An error says that the replies found no room: then no command was run.
 pub fn run_commands(
     alloc: Global,
     engine: &mut Tera,
     commands: &[Command<'_>],
 ) -> TeraResult<Vec<Reply>>
-    ensures replies { IfOk result (λ replies. Replies (fresh (registry_of engine.old)) (acts_of commands.now) (replies_seen replies.items)) }
-    ensures engine { registry_of engine.new ≡ registry_of engine.old }
+    ensures replies { IfOk result (λ replies. Leads (registry_of engine.old)
+        (acts_of commands.now) (replies_seen replies.items) (registry_of engine.new)) }
     ensures memory { IfErr result (λ e. Lacks e) }
+    ensures unchanged { OnErr result (registry_of engine.new ≡ registry_of engine.old) }
 {
     let mut replies = Vec::with_capacity(alloc, commands.len())?;
-    let mut context = Context::new(alloc);
+    let mut session = Session {
+        context: Context::new(alloc),
+        batch: Vec::new(alloc),
+    };
     for command in commands {
-        let reply = reply_to(alloc, engine, &mut context, command);
+        let reply = reply_to(alloc, engine, &mut session, command);
         append(&mut replies, reply);
     }
     Ok(replies)
@@ -46,29 +59,51 @@ fn append(replies: &mut Vec<Reply>, reply: Reply)
     }
 }
 
-fn reply_to(alloc: Global, engine: &Tera, context: &mut Context, command: &Command<'_>) -> Reply
-    ensures reply { MayAnswer (session (registry_of engine.now) context.old) (act_of command.now) (reply_seen result) }
-    ensures context { context.new ≡ (after (session (registry_of engine.now) context.old) (act_of command.now) (reply_seen result)).context }
+fn reply_to<'a>(
+    alloc: Global,
+    engine: &mut Tera,
+    session: &mut Session<'a>,
+    command: &Command<'a>,
+) -> Reply
+    ensures { Answers (session_of engine.old session.old)
+        (act_of command.now) (reply_seen result) (session_of engine.new session.new) }
 {
-    match *command {
-        Command::Text { name, body } => put_reply(put_text(alloc, context, name, body, false)),
-        Command::Safe { name, body } => put_reply(put_text(alloc, context, name, body, true)),
+    let context = &mut session.context;
+    match command {
+        Command::Text { name, body } => done_reply(put_text(alloc, context, name, body, false)),
+        Command::Safe { name, body } => done_reply(put_text(alloc, context, name, body, true)),
         Command::Int { name, number } => {
-            put_reply(context.insert(name, Value::from_int(number)))
+            done_reply(context.insert(name, Value::from_int(*number)))
         }
-        Command::Str { autoescape, body } => match engine.render_str(body, context, autoescape) {
-            Ok(text) => Reply::Text(text),
-            Err(error) => Reply::Fault(error),
-        },
+        Command::Str { autoescape, body } => {
+            text_reply(engine.render_str(body, context, *autoescape))
+        }
+        Command::Template { name, body } => done_reply(join(&mut session.batch, name, body)),
+        Command::Add => done_reply(add(engine, &mut session.batch)),
+        Command::Suffix { suffixes } => done_reply(engine.autoescape_on(suffixes.as_slice())),
+        Command::Prefix { prefixes } => {
+            done_reply(engine.set_fallback_prefixes(prefixes.as_slice()))
+        }
+        Command::Render { name } => text_reply(engine.render(name, context)),
     }
 }
 
-// The reply to a command that puts a value into the context.
-fn put_reply(answer: TeraResult<()>) -> Reply
-    ensures { reply_seen result ≡ put_seen answer }
+// The reply to a command that has nothing to tell.
+fn done_reply(answer: TeraResult<()>) -> Reply
+    ensures { reply_seen result ≡ done_seen answer }
 {
     match answer {
         Ok(()) => Reply::Done,
+        Err(error) => Reply::Fault(error),
+    }
+}
+
+// The reply to a command that renders.
+fn text_reply(answer: TeraResult<String>) -> Reply
+    ensures { reply_seen result ≡ rendered_seen answer }
+{
+    match answer {
+        Ok(text) => Reply::Text(text),
         Err(error) => Reply::Fault(error),
     }
 }
@@ -90,4 +125,27 @@ fn put_text(
         Value::string(alloc, body)?
     };
     context.insert(name, value)
+}
+
+// Lets a template wait.
+fn join<'a>(batch: &mut Vec<(&'a str, &'a str)>, name: &'a str, body: &'a str) -> TeraResult<()>
+    ensures ok { OnOk result
+        (pairs_of batch.new.items ≡ pairs_of batch.old.items ++ (name.now, body.now) ∷ []) }
+    ensures err { IfErr result (λ e. Lacks e) }
+    ensures unchanged { OnErr result (pairs_of batch.new.items ≡ pairs_of batch.old.items) }
+{
+    batch.push((name, body))?;
+    Ok(())
+}
+
+// Adds the templates that wait. Then none waits, whatever the answer is.
+fn add(engine: &mut Tera, batch: &mut Vec<(&str, &str)>) -> TeraResult<()>
+    ensures engine { ConfiguresOneOf result
+        (Adds (registry_of engine.old) (pairs_of batch.old.items))
+        (registry_of engine.old) (registry_of engine.new) }
+    ensures batch { batch.new.items ≡ [] }
+{
+    let answer = engine.add_raw_templates(batch.as_slice());
+    batch.clear();
+    answer
 }

@@ -1,5 +1,5 @@
 // A whole run, from the bytes of a script to the bytes of its replies.
-ghost use Rattle.std.specs.Prelude.{◌≡◌, OnOk};
+ghost use Rattle.std.specs.Prelude.{OnOk};
 ghost use Rattle.std.specs.List.{flat_map};
 ghost use Rattle.tera.specs.Registry.{registry_of};
 ghost use Rattle.tera_script.specs.Device.{FromDevice, HasEnded, ToDevice, Writes};
@@ -23,12 +23,11 @@ pub fn run<R: Input, W: Output>(
     writer: &mut W,
     engine: &mut Tera,
 ) -> Outcome
-    ensures ran { Ran (registry_of engine.old)
+    ensures ran { Ran (registry_of engine.old) (registry_of engine.new)
         (R.passed reader.old) (R.passed reader.new) (HasEnded R.ended R.remaining reader.new)
         (W.passed writer.old) (W.passed writer.new) (W.settled writer.new) result }
     ensures input { FromDevice R.passed R.remaining reader.old reader.new }
     ensures output { ToDevice W.passed W.contents writer.old writer.new }
-    ensures engine { registry_of engine.new ≡ registry_of engine.old }
 {
     let bytes = match read_all(alloc, reader) {
         Ok(bytes) => bytes,

@@ -1,10 +1,10 @@
 // Commands from the text of a script.
-ghost use Rattle.std.specs.Prelude.{◌≡◌, ◌==◌, MatchOption, IfOk, option_map, slice_index};
+ghost use Rattle.std.specs.Prelude.{◌≡◌, ◌==◌, MatchOption, IfOk, slice_index};
 ghost use Rattle.tera_script.specs.Act.{act_of};
 ghost use Rattle.tera_script.specs.Found.{IsCommand, IsNone};
 ghost use Rattle.tera_script.specs.Lines.{lines_of};
-ghost use Rattle.tera_script.specs.Script.{is_plain, head_of, head_named, only_field, switch, integer, int_of, with_body, script_of_lines, script_of};
-ghost use Rattle.tera_script.specs.Seen.{head_seen, plain_opening, script_seen, text_seen};
+ghost use Rattle.tera_script.specs.Script.{is_plain, head_of, head_named, only_field, checked_fields, switch, integer, int_of, add_of, suffix_of, prefix_of, render_of, opening_named, act_named, with_body, script_of_lines, script_of};
+ghost use Rattle.tera_script.specs.Seen.{act_seen, fields_seen, head_seen, opening_seen, plain_opening, script_seen, text_seen};
 ghost use Rattle.tera_script.specs.Words.{words_after};
 
 use crate::body::first_body;
@@ -26,10 +26,11 @@ pub enum Opening<'a> {
     Text(&'a str),
     Safe(&'a str),
     Str(bool),
+    Template(&'a str),
 }
 
 /// What a command line says: a command by itself, or one whose body follows.
-#[derive(Clone, Copy)]
+#[derive(Drop)]
 pub enum Head<'a> {
     Alone(Command<'a>),
     Opens(Opening<'a>),
@@ -50,6 +51,26 @@ fn only_field(fields: Option<&str>) -> Option<&str>
         None => None,
         Some(_) => None,
     }
+}
+
+// All of the fields, where each is one.
+fn checked_fields<'a>(
+    alloc: Global,
+    fields: Option<&'a str>,
+) -> Result<Option<Vec<&'a str>>, AllocError>
+    ensures { IfOk result (λ found. fields_seen found ≡ checked_fields (words_after fields.entry)) }
+{
+    let mut found = Vec::new(alloc);
+    let mut rest = fields;
+    while let Some(text) = rest {
+        let (field, more) = first_word(text);
+        if field.is_empty() {
+            return Ok(None);
+        }
+        found.push(field)?;
+        rest = more;
+    }
+    Ok(Some(found))
 }
 
 fn switch(field: &str) -> Option<bool>
@@ -86,7 +107,7 @@ fn integer(field: &str) -> Option<i128>
 
 // `int`, with a name and a number.
 fn int_of(fields: Option<&str>) -> Option<Command<'_>>
-    ensures { option_map act_of result ≡ int_of (words_after fields.entry) }
+    ensures { act_seen result ≡ int_of (words_after fields.entry) }
 {
     let (name, rest) = first_word(fields?);
     let (number, more) = first_word(rest?);
@@ -101,30 +122,105 @@ fn int_of(fields: Option<&str>) -> Option<Command<'_>>
     }
 }
 
-fn head_named<'a>(word: &str, fields: Option<&'a str>) -> Option<Head<'a>>
-    ensures { head_seen result ≡ head_named word.now (words_after fields.entry) }
+fn add_of(fields: Option<&str>) -> Option<Command<'static>>
+    ensures { act_seen result ≡ add_of (words_after fields.entry) }
 {
+    match fields {
+        None => Some(Command::Add),
+        Some(_) => None,
+    }
+}
+
+fn suffix_of<'a>(alloc: Global, fields: Option<&'a str>) -> Result<Option<Command<'a>>, AllocError>
+    ensures { IfOk result (λ found. act_seen found ≡ suffix_of (words_after fields.entry)) }
+{
+    match checked_fields(alloc, fields)? {
+        Some(suffixes) => Ok(Some(Command::Suffix { suffixes })),
+        None => Ok(None),
+    }
+}
+
+fn prefix_of<'a>(alloc: Global, fields: Option<&'a str>) -> Result<Option<Command<'a>>, AllocError>
+    ensures { IfOk result (λ found. act_seen found ≡ prefix_of (words_after fields.entry)) }
+{
+    match checked_fields(alloc, fields)? {
+        Some(prefixes) => Ok(Some(Command::Prefix { prefixes })),
+        None => Ok(None),
+    }
+}
+
+fn render_of(fields: Option<&str>) -> Option<Command<'_>>
+    ensures { act_seen result ≡ render_of (words_after fields.entry) }
+{
+    Some(Command::Render {
+        name: only_field(fields)?,
+    })
+}
+
+// The word of a command with a body, and its field.
+fn opening_named<'a>(word: &str, fields: Option<&'a str>) -> Option<Opening<'a>>
+    ensures { opening_seen result ≡ opening_named word.now (words_after fields.entry) }
+{
+    let field = only_field(fields)?;
     match word {
-        "text" => Some(Head::Opens(Opening::Text(only_field(fields)?))),
-        "safe" => Some(Head::Opens(Opening::Safe(only_field(fields)?))),
-        "int" => Some(Head::Alone(int_of(fields)?)),
-        "str" => Some(Head::Opens(Opening::Str(switch(only_field(fields)?)?))),
+        "text" => Some(Opening::Text(field)),
+        "safe" => Some(Opening::Safe(field)),
+        "str" => Some(Opening::Str(switch(field)?)),
+        "template" => Some(Opening::Template(field)),
         _ => None,
     }
 }
 
-fn head_of(line: &str) -> Option<Head<'_>>
-    ensures { head_seen result ≡ head_of line.now }
+// The word of a command without a body, and its fields.
+fn command_named<'a>(
+    alloc: Global,
+    word: &str,
+    fields: Option<&'a str>,
+) -> Result<Option<Command<'a>>, AllocError>
+    ensures { IfOk result (λ found.
+        act_seen found ≡ act_named word.now (words_after fields.entry)) }
+{
+    match word {
+        "int" => Ok(int_of(fields)),
+        "add" => Ok(add_of(fields)),
+        "suffix" => suffix_of(alloc, fields),
+        "prefix" => prefix_of(alloc, fields),
+        "render" => Ok(render_of(fields)),
+        _ => Ok(None),
+    }
+}
+
+fn head_named<'a>(
+    alloc: Global,
+    word: &str,
+    fields: Option<&'a str>,
+) -> Result<Option<Head<'a>>, AllocError>
+    ensures { IfOk result (λ found.
+        head_seen found ≡ head_named word.now (words_after fields.entry)) }
+{
+    if let Some(opening) = opening_named(word, fields) {
+        return Ok(Some(Head::Opens(opening)));
+    }
+    match command_named(alloc, word, fields)? {
+        Some(command) => Ok(Some(Head::Alone(command))),
+        None => Ok(None),
+    }
+}
+
+fn head_of(alloc: Global, line: &str) -> Result<Option<Head<'_>>, AllocError>
+    ensures { IfOk result (λ found. head_seen found ≡ head_of line.now) }
 {
     if !is_plain(line) {
-        return None;
+        return Ok(None);
     }
     let (mark, rest) = first_word(line);
-    if mark != "@@" {
-        return None;
+    match rest {
+        Some(rest) if mark == "@@" => {
+            let (word, fields) = first_word(rest);
+            head_named(alloc, word, fields)
+        }
+        _ => Ok(None),
     }
-    let (word, fields) = first_word(rest?);
-    head_named(word, fields)
 }
 
 fn with_body<'a>(opening: Opening<'a>, body: &'a str) -> Command<'a>
@@ -134,34 +230,41 @@ fn with_body<'a>(opening: Opening<'a>, body: &'a str) -> Command<'a>
         Opening::Text(name) => Command::Text { name, body },
         Opening::Safe(name) => Command::Safe { name, body },
         Opening::Str(autoescape) => Command::Str { autoescape, body },
+        Opening::Template(name) => Command::Template { name, body },
     }
 }
 
 /// A command, how many lines behind its command line belong to it, and what follows them.
-#[derive(Clone, Copy)]
+#[derive(Drop)]
 pub struct Found<'a> {
     pub command: Command<'a>,
     pub lines: usize,
     pub rest: &'a str,
 }
 
-fn command_at<'a>(line: &'a str, after: &'a str) -> Option<Found<'a>>
-    ensures { MatchOption result (IsNone line.now after.now) (IsCommand line.now after.now) }
+fn command_at<'a>(
+    alloc: Global,
+    line: &'a str,
+    after: &'a str,
+) -> Result<Option<Found<'a>>, AllocError>
+    ensures { IfOk result (λ found.
+        MatchOption found (IsNone line.now after.now) (IsCommand line.now after.now)) }
 {
-    match head_of(line)? {
-        Head::Alone(command) => Some(Found {
+    match head_of(alloc, line)? {
+        None => Ok(None),
+        Some(Head::Alone(command)) => Ok(Some(Found {
             command,
             lines: 0,
             rest: after,
-        }),
-        Head::Opens(opening) => {
-            let body = first_body(after)?;
-            Some(Found {
+        })),
+        Some(Head::Opens(opening)) => match first_body(after) {
+            Some(body) => Ok(Some(Found {
                 command: with_body(opening, body.text),
                 lines: body.lines,
                 rest: body.rest,
-            })
-        }
+            })),
+            None => Ok(None),
+        },
     }
 }
 
@@ -177,7 +280,7 @@ fn script_of_text(alloc: Global, text: &str) -> Result<Script<'_>, AllocError>
             number += 1;
             continue;
         }
-        let Some(found) = command_at(line, after) else {
+        let Some(found) = command_at(alloc, line, after)? else {
             return Ok(Script {
                 commands,
                 unreadable: Some(number),

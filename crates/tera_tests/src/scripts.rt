@@ -8,7 +8,7 @@ use tera_script::Outcome::{Done, Unreadable};
 #[derive(Clone, Copy)]
 struct Script(&'static [u8], &'static [u8], Outcome);
 
-const SCRIPTS: [Script; 27] = [
+const SCRIPTS: [Script; 29] = [
     Script(
         b"@@ text name\nworld\n@@ end\n@@ str off\nHello {{ name }}!\n@@ end\n",
         b"ok\nHello world!\n",
@@ -60,6 +60,8 @@ const SCRIPTS: [Script; 27] = [
         Unreadable(8),
     ),
     Script(b"@@ text x\nbody\n@@ end\n\xff", b"", Unreadable(1)),
+    Script(b"@@ add\n@@ template a\nopen\n", b"ok\n", Unreadable(2)),
+    Script(b"@@ template a b\n@@ end\n", b"", Unreadable(1)),
 ];
 
 fn is_answered(alloc: Global, script: Script) -> bool {

@@ -1,11 +1,12 @@
 use Rattle.std.proofs.Common.{◌≡◌, ◌≤◌, length, vec_len, vec_capacity}
 use Rattle.tera.specs.Registry.{registry_of}
+use Rattle.tera_script.specs.Seen.{session_of}
 use Rattle.tera_script.proofs.Sessions.{Answered}
 use Rattle.tera_script.proofs.execute.run_commands.Given as goal
 
 abbrev pub invariant-loop-command : goal.invariant-loop-command
 invariant-loop-command l = record {
-  answered : Answered (registry_of l.engine) l.commands l.command-index l.replies.items l.context;
+  answered : Answered (registry_of l.fn.engine) l.commands l.command-index l.replies.items (session_of l.engine l.session);
   counted : vec_len l.replies ≡ l.command-index;
   room : length l.commands ≤ vec_capacity l.replies;
 }

@@ -10,8 +10,8 @@ use Rattle.tera_script.proofs.script.script_of_text.Goals as goal
 pub loop-line-preserved : goal.loop-line-preserved
 loop-line-preserved c =
     let some : 0 < length c.in-Some.line.now = grind (arith, nat_tests, c.is_empty.ensures, c.if-is_empty.false) in
-    let found = c.in-Some-command_at.ensures in
-    let next = c.in-Some-command_at.found in
+    let found = rw c.in-Some-2.is at c.in_ok-found.ensures in
+    let next = c.in-Some-2.found in
     record {
       is_text = search rules;
       read =
@@ -24,13 +24,13 @@ loop-line-preserved c =
     }
 
 -- a line that is no command ends the script
-pub returns-in_default-command_at : goal.returns-in_default-command_at
-returns-in_default-command_at c =
+pub returns-in_default-2 : goal.returns-in_default-2
+returns-in_default-2 c =
     let some : 0 < length c.in-Some.line.now = grind (arith, nat_tests, c.is_empty.ensures, c.if-is_empty.false) in
     let acts = acts_of c.loop-line.commands.items in
     let number = c.loop-line.number in
     let after = lines_of c.in-Some.after.now in
     sym (c.loop-line.invariant.read
     ∙ ap (λ lines. onto acts (script_of_lines number 0 lines)) c.in-Some.ensures.lines
-    ∙ ap (onto acts) (script_of_lines-line number c.in-Some.line.now after some ∙ c.in_default-command_at.ensures number (λ taken. script_of_lines (number + 1) taken after))
+    ∙ ap (onto acts) (script_of_lines-line number c.in-Some.line.now after some ∙ (rw c.in_default-2.is at c.in_ok-found.ensures) number (λ taken. script_of_lines (number + 1) taken after))
     ∙ ap (λ done. let s : Script = record { acts = done; unreadable = Some number } in s) (append-nil acts))

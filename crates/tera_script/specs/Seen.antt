@@ -14,7 +14,8 @@ use Rattle.tera_script.specs.declared.script.Script.{Script}
 use Rattle.tera_script.specs.Script as script
 use Rattle.tera_script.specs.Session.{Session, session}
 use Rattle.tera_script.specs.declared.execute.Session.{Session as Kept}
-use Rattle.tera.specs.Lent.{texts_of, pairs_of}
+use Rattle.tera.specs.Lent.{texts_of}
+use Rattle.tera_registry.specs.Batch.{pairs_of}
 use Rattle.tera.specs.Registry.{registry_of}
 use Rattle.tera.specs.declared.engine.Tera.{Tera}
 

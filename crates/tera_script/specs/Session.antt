@@ -7,7 +7,7 @@ use Rattle.tera_errors.specs.Site.{Name, Text}
 use Rattle.tera_values.specs.Named.{Named, put}
 use Rattle.tera_values.specs.Val.{Val}
 use Rattle.tera_meaning.specs.Registry.{Registry}
-use Rattle.tera.specs.Adding.{Adds}
+use Rattle.tera_registry.specs.Batch.{Adds}
 use Rattle.tera.specs.Configuring.{with_prefixes, with_suffixes}
 use Rattle.tera.specs.Rendering.{ByName, OneOff}
 use Rattle.tera_script.specs.Act.{Act, put_value, render_text, join_batch, add_batch, set_suffixes, set_prefixes, render_named}

@@ -1,10 +1,8 @@
 // Commands on an engine.
 ghost use Rattle.std.specs.Prelude.{◌≡◌, IfOk, IfErr, OnOk, OnErr, ◌<◌, ◌≤◌, ◌+◌, ◌++◌, ◌∷◌, [], vec_len, vec_capacity};
-ghost use Rattle.tera.specs.Adding.{Adds};
-ghost use Rattle.tera.specs.Configuring.{ConfiguresOneOf};
-ghost use Rattle.tera.specs.Lent.{pairs_of};
 ghost use Rattle.tera.specs.Registry.{registry_of};
 ghost use Rattle.tera_errors.specs.Answer.{Lacks};
+ghost use Rattle.tera_registry.specs.Batch.{Adds, ConfiguresOneOf, pairs_of};
 ghost use Rattle.tera_script.specs.Act.{act_of, acts_of};
 ghost use Rattle.tera_script.specs.Reply.{reply_seen, replies_seen, done_seen, rendered_seen};
 ghost use Rattle.tera_script.specs.Seen.{session_of};

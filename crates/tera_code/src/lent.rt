@@ -109,7 +109,11 @@ impl<'a> LentInstruction<'a> {
                 name,
                 optional,
                 span,
-            } => Some((self.tables.attribute(name), optional, self.tables.span(span))),
+            } => Some((
+                self.tables.attribute(name),
+                optional,
+                self.tables.span(span),
+            )),
             _ => None,
         }
     }

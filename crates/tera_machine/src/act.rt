@@ -142,7 +142,12 @@ impl<'c> Configuration<'c> {
     }
 
     #[inline(always)]
-    pub(crate) fn load_name(&mut self, alloc: Global, name: &Sought<'_>, span: Span) -> TeraResult<Flow>
+    pub(crate) fn load_name(
+        &mut self,
+        alloc: Global,
+        name: &Sought<'_>,
+        span: Span,
+    ) -> TeraResult<Flow>
         ensures { Does (name_loaded (around_of self.old.scopes) name.now span) self.old result self.new }
     {
         let value = self.scopes.look(name).to_value(alloc)?;

@@ -32,7 +32,12 @@ pub struct Scopes<'c> {
 }
 
 // What a body binds.
-fn in_body<'a>(bindings: &'a Bindings, frame: usize, body: &'a Frame<'_>, name: &Sought<'_>) -> Found<'a>
+fn in_body<'a>(
+    bindings: &'a Bindings,
+    frame: usize,
+    body: &'a Frame<'_>,
+    name: &Sought<'_>,
+) -> Found<'a>
     ensures { found_value result ≡ in_variables name.now (variables_at bindings.now frame body.now) }
 {
     match body.loops.look(bindings, frame, name) {

@@ -9,8 +9,14 @@ use tera::{Context, Error, ErrorKind, Key, Map, Tera, TeraResult, Value};
 /// A user, as a template reads it.
 fn user(alloc: Global, name: &str, age: i128) -> TeraResult<Value> {
     let mut map = Map::new(alloc);
-    map.insert(Key::Text(String::from_str(alloc, "name")?), Value::string(alloc, name)?)?;
-    map.insert(Key::Text(String::from_str(alloc, "age")?), Value::from_int(age))?;
+    map.insert(
+        Key::Text(String::from_str(alloc, "name")?),
+        Value::string(alloc, name)?,
+    )?;
+    map.insert(
+        Key::Text(String::from_str(alloc, "age")?),
+        Value::from_int(age),
+    )?;
     Value::map(map).shared(alloc)
 }
 

@@ -30,5 +30,7 @@ pub fn standard_suffixes(alloc: Global) -> TeraResult<Vec<String>>
 pub fn ends_with_one_of(name: &str, suffixes: &[String]) -> bool
     ensures { result ≡ list_any (λ s. ends_with nat_eq name.now s) (map string_bytes suffixes.now) }
 {
-    suffixes.iter().any(|suffix| name.ends_with(suffix.as_str()))
+    suffixes
+        .iter()
+        .any(|suffix| name.ends_with(suffix.as_str()))
 }

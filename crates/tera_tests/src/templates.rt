@@ -20,7 +20,8 @@ const FAMILY: [(&str, &str); 3] = [
     ("child.txt", "{% extends 'base.txt' %}"),
 ];
 
-const USERS: &str = "{% for user in users %}<a href=\"{{ user.url }}\">{{ user.username }}</a>{% endfor %}";
+const USERS: &str =
+    "{% for user in users %}<a href=\"{{ user.url }}\">{{ user.username }}</a>{% endfor %}";
 
 fn kind(error: &Error) -> &'static str {
     match error.kind() {
@@ -61,7 +62,9 @@ fn fails(engine: &Tera, context: &Context, name: &str, want: &str) -> bool {
 }
 
 fn falls_back(engine: &mut Tera, context: &Context) -> bool {
-    engine.set_fallback_prefixes(&["other/", "themes/cool/"]).is_ok()
+    engine
+        .set_fallback_prefixes(&["other/", "themes/cool/"])
+        .is_ok()
         && adds(engine, "themes/cool/base.html", "fallback")
         && adds(engine, "child.html", "{% extends \"base.html\" %}")
         && engine.contains_template("base.html")
@@ -99,14 +102,26 @@ fn has_names(engine: &Tera, count: usize) -> bool {
 fn refuses_batches(engine: &mut Tera, context: &Context) -> bool {
     is_refused(engine.add_raw_templates(&CIRCLE), "CircularExtend")
         && has_names(engine, 0)
-        && is_refused(engine.add_raw_template("a", "{% extends \"no\" %}"), "MissingParent")
-        && is_refused(engine.add_raw_template("a", "{% extends 'a' %}"), "CircularExtend")
+        && is_refused(
+            engine.add_raw_template("a", "{% extends \"no\" %}"),
+            "MissingParent",
+        )
+        && is_refused(
+            engine.add_raw_template("a", "{% extends 'a' %}"),
+            "CircularExtend",
+        )
         && !engine.contains_template("a")
         && fails(engine, context, "no", "TemplateNotFound")
         && engine.add_raw_templates(&TWICE).is_ok()
         && shows(engine, context, "a", "2")
-        && is_refused(engine.add_raw_template("a", "{% if x %}oops"), "SyntaxError")
-        && is_refused(engine.add_raw_template("b", "{% extends 'no' %}"), "MissingParent")
+        && is_refused(
+            engine.add_raw_template("a", "{% if x %}oops"),
+            "SyntaxError",
+        )
+        && is_refused(
+            engine.add_raw_template("b", "{% extends 'no' %}"),
+            "MissingParent",
+        )
         && shows(engine, context, "a", "2")
         && has_names(engine, 1)
 }
@@ -172,7 +187,10 @@ fn suffixes_say_what_escapes(rt: HostRuntime) {
 fn appends(alloc: Global, engine: &Tera, context: &Context) -> bool {
     let mut out = Vec::new(alloc);
     engine.render_to("child.html", context, &mut out).is_ok()
-        && is_refused(engine.render_to("no", context, &mut out), "TemplateNotFound")
+        && is_refused(
+            engine.render_to("no", context, &mut out),
+            "TemplateNotFound",
+        )
         && engine.render_to("child.txt", context, &mut out).is_ok()
         && out.as_slice() == b"&lt;<".as_slice()
 }

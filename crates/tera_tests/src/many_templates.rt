@@ -11,7 +11,7 @@ fn put_number(text: &mut String, number: usize) -> bool {
 fn put_child(lines: &mut String, number: usize) -> bool {
     put_number(lines, number)
         && lines.push_str(" {% extends '").is_ok()
-        && put_number(lines, number + 1)
+        && put_number(lines, number.saturating_add(1))
         && lines.push_str("' %}\n").is_ok()
 }
 

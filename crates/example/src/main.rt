@@ -33,7 +33,7 @@ fn context(alloc: Global) -> TeraResult<Context> {
 fn engine(alloc: Global) -> TeraResult<Tera> {
     let mut engine = Tera::new(alloc)?;
     let page = "{% for user in users %}<li>{{ user.name }}: {{ user.age }}</li>\n{% endfor %}";
-    engine.add_raw_templates(&[("page.html", page), ("wrong.html", "{{ users.0 + 1 }}")])?;
+    engine.add_raw_templates(&[("page.html", page), ("wrong.html", "{{ users + 1 }}")])?;
     Ok(engine)
 }
 
@@ -60,7 +60,7 @@ fn explain(rt: &HostRuntime, error: &Error) -> io::Result<()> {
 
 fn main(rt: HostRuntime) -> io::Result<()> {
     let (Ok(engine), Ok(context)) = (engine(rt.alloc()), context(rt.alloc())) else {
-        return println!(rt; "out of memory");
+        return println!(rt; "the templates or the values were refused");
     };
     print(&rt, engine.render("page.html", &context))?;
     print(&rt, engine.render("wrong.html", &context))?;

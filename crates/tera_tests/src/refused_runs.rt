@@ -5,39 +5,53 @@ use std::alloc::Global;
 use tera::Tera;
 use tera_script::Outcome;
 
-/// A script, its replies, and what is written where a command itself finds no memory.
+/// A script that is run.
 #[derive(Clone, Copy)]
-struct Case(&'static [u8], &'static [u8], &'static [&'static [u8]]);
+enum Case {
+    Texts,
+    Templates,
+}
 
-const TEXTS: Case = Case(
-    b"@@ text name\n<world>\n@@ end\n@@ str on\nHello {{ name }}!\n@@ end\n",
-    b"ok\nHello &lt;world&gt;!\n",
-    &[
-        b"ok\nfault OutOfMemory\n",
-        b"fault OutOfMemory\nfault OutOfMemory\n",
-        b"fault OutOfMemory\nfault RenderingError __tera_one_off 9 13\n",
-    ],
-);
+const TEXTS: &[u8] = b"@@ text name\n<world>\n@@ end\n@@ str on\nHello {{ name }}!\n@@ end\n";
+
+const TEMPLATES: &[u8] = b"@@ template a\nA\n@@ end\n@@ add\n@@ render a\n";
+
+/// What is written where a command itself finds no memory.
+const FAULTS_OF_TEXTS: [&[u8]; 3] = [
+    b"ok\nfault OutOfMemory\n",
+    b"fault OutOfMemory\nfault OutOfMemory\n",
+    b"fault OutOfMemory\nfault RenderingError __tera_one_off 9 13\n",
+];
 
 /// A template that found no room does not wait, and none waits once an adding was refused.
-const TEMPLATES: Case = Case(
-    b"@@ template a\nA\n@@ end\n@@ add\n@@ render a\n",
-    b"ok\nok\nA\n",
-    &[
-        b"ok\nok\nfault OutOfMemory\n",
-        b"ok\nfault OutOfMemory\nfault OutOfMemory\n",
-        b"ok\nfault OutOfMemory\nfault TemplateNotFound\n",
-        b"fault OutOfMemory\nok\nfault OutOfMemory\n",
-        b"fault OutOfMemory\nok\nfault TemplateNotFound\n",
-        b"fault OutOfMemory\nfault OutOfMemory\nfault OutOfMemory\n",
-        b"fault OutOfMemory\nfault OutOfMemory\nfault TemplateNotFound\n",
-    ],
-);
+const FAULTS_OF_TEMPLATES: [&[u8]; 7] = [
+    b"ok\nok\nfault OutOfMemory\n",
+    b"ok\nfault OutOfMemory\nfault OutOfMemory\n",
+    b"ok\nfault OutOfMemory\nfault TemplateNotFound\n",
+    b"fault OutOfMemory\nok\nfault OutOfMemory\n",
+    b"fault OutOfMemory\nok\nfault TemplateNotFound\n",
+    b"fault OutOfMemory\nfault OutOfMemory\nfault OutOfMemory\n",
+    b"fault OutOfMemory\nfault OutOfMemory\nfault TemplateNotFound\n",
+];
+
+fn is_answered(case: Case, written: &[u8]) -> bool {
+    match case {
+        Case::Texts => written == b"ok\nHello &lt;world&gt;!\n".as_slice(),
+        Case::Templates => written == b"ok\nok\nA\n".as_slice(),
+    }
+}
+
+fn is_refused(case: Case, written: &[u8]) -> bool {
+    match case {
+        Case::Texts => FAULTS_OF_TEXTS.iter().any(|faults| written == *faults),
+        Case::Templates => FAULTS_OF_TEMPLATES.iter().any(|faults| written == *faults),
+    }
+}
 
 fn judged(case: Case, outcome: Option<Outcome>, written: &[u8]) -> Tried {
     match outcome {
-        Some(Outcome::Done) if written == case.1 => Tried::Answered,
-        Some(Outcome::Done) if case.2.iter().any(|faults| written == *faults) => Tried::Refused,
+        Some(Outcome::Done) if is_answered(case, written) => Tried::Answered,
+        Some(Outcome::Done) if is_refused(case, written) => Tried::Refused,
         Some(Outcome::NoMemory) if written.is_empty() => Tried::Refused,
         _ => Tried::Wrong,
     }
@@ -45,7 +59,10 @@ fn judged(case: Case, outcome: Option<Outcome>, written: &[u8]) -> Tried {
 
 fn try_running_on(alloc: Global, engine: &mut Tera, case: Case, budget: usize) -> Tried {
     let mut sink = Sink::new();
-    let source = Source::new(case.0);
+    let source = match case {
+        Case::Texts => Source::new(TEXTS),
+        Case::Templates => Source::new(TEMPLATES),
+    };
     let outcome = with_budget(alloc, budget, || run_on(alloc, engine, source, &mut sink));
     judged(case, outcome, sink.written())
 }
@@ -60,7 +77,7 @@ fn try_running(alloc: Global, case: Case, budget: usize) -> Tried {
 #[test]
 fn runs_are_refused_in_turn(rt: HostRuntime) {
     assert!(rt;
-        refusals(|budget| try_running(rt.alloc(), TEXTS, budget)) > Some(0)
-            && refusals(|budget| try_running(rt.alloc(), TEMPLATES, budget)) > Some(0)
+        refusals(|budget| try_running(rt.alloc(), Case::Texts, budget)) > Some(0)
+            && refusals(|budget| try_running(rt.alloc(), Case::Templates, budget)) > Some(0)
     );
 }

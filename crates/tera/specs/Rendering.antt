@@ -10,7 +10,7 @@ use Rattle.tera_tree.specs.Tree.{Tree}
 use Rattle.tera_syntax.specs.Reads.{Reads}
 use Rattle.tera_meaning.specs.Registry.{Entry, Registry}
 use Rattle.tera_meaning.specs.Resolve.{resolve}
-use Rattle.tera_meaning.specs.Rendering.{autoescapes, one_off_name, render, render_in, render_str, render_str_in}
+use Rattle.tera_meaning.specs.Rendering.{autoescapes, one_off_name, render, render_in, render_block, render_block_in, render_str, render_str_in}
 use Rattle.tera_marks.specs.Origin.{Traces}
 
 -- what the rendering of a text beside the registry may answer: what its tree means, and where texts are escaped, no markup
@@ -26,6 +26,11 @@ pub record OneOff (r : Registry) (text : Text) (context : Named Val) (autoescape
 pub record ByName (r : Registry) (name : Name) (context : Named Val) (answer : Result Text Fault) : Type 0 where
   pub is : answer ≡ render r name context
   pub origin : (t : Entry) → resolve r name ≡ Some t → IsTrue (autoescapes r t.0) → Traces (render_in marking r name context) answer
+
+-- what the rendering of a block may answer, likewise
+pub record BlockByName (r : Registry) (name block : Name) (context : Named Val) (answer : Result Text Fault) : Type 0 where
+  pub is : answer ≡ render_block r name block context
+  pub origin : (t : Entry) → resolve r name ≡ Some t → IsTrue (autoescapes r t.0) → Traces (render_block_in marking r name block context) answer
 
 -- how a call ends that appends what it renders to these bytes: they are followed by the text, or are as before
 abbrev pub AppendsOneOf : Result (Unit {0}) Refusal → Text → Text → (Result Text Fault → Type 0) → Type 0

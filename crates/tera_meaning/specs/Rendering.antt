@@ -9,7 +9,7 @@ use Rattle.tera_values.specs.Named.{Named}
 use Rattle.tera_tree.specs.Tree.{Tree, Nodes}
 use Rattle.tera_tree.specs.Blocks.{blocks}
 use Rattle.tera_state.specs.Scope.{AroundOf, Around, outside, nothing_set}
-use Rattle.tera_meaning.specs.Run.{Signal, Answer, AnswerOf, RunOf, Failed, Gave}
+use Rattle.tera_meaning.specs.Run.{Signal, Answer, AnswerOf, Failed, Gave}
 use Rattle.tera_meaning.specs.Registry.{Entry, Registry}
 use Rattle.tera_meaning.specs.Resolve.{resolve, root}
 use Rattle.tera_meaning.specs.Lineage.{Definer, definers}

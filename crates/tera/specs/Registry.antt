@@ -1,5 +1,5 @@
 -- What an engine holds, as the definitions see it.
-use Rattle.std.specs.Prelude.{Bool, map, string_bytes, Option, Some, None, Result}
+use Rattle.std.specs.Prelude.{Bool, [], map, string_bytes, Option, Some, None, Result}
 use Rattle.tera_errors.specs.Site.{Text, Name}
 use Rattle.tera_errors.specs.Fault.{Fault}
 use Rattle.tera_values.specs.Val.{Val}
@@ -27,15 +27,21 @@ registry_of t = record {
   engine = record { escape = escape_html };
 }
 
--- where a body stands that a rendering begins with
-abbrev pub place_at : Tera → Name → Named Val → Bool → Place
-place_at t file context autoescape =
-    record { file = file; around = outermost (registry_of t) context; autoescape = autoescape }
+-- where a body stands that a rendering begins with: that of a template, or of a text beside the registry
+abbrev pub place_at : Tera → Option Name → Name → Named Val → Bool → Place
+place_at t template file context autoescape = record {
+  template = template;
+  file = file;
+  around = outermost (registry_of t) context;
+  autoescape = autoescape;
+  opened = [];
+  above = [];
+}
 
--- nodes of this template's text, as what a run of the machine is about
-abbrev pub subject_of : Tera → Name → Nodes → Named Val → Bool → Subject
-subject_of t file nodes context autoescape =
-    record { world = alone (registry_of t); place = place_at t file context autoescape; tree = nodes }
+-- nodes of a template's text, as what a run of the machine is about
+abbrev pub subject_of : Tera → Option Name → Name → Nodes → Named Val → Bool → Subject
+subject_of t template file nodes context autoescape =
+    record { world = alone (registry_of t); place = place_at t template file context autoescape; tree = nodes }
 
 abbrev pub nodes_in : Option Entry → Nodes
 nodes_in None = NoNodes
@@ -45,9 +51,10 @@ nodes_in (Some t) = t.1.tree.nodes
 abbrev pub nodes_of_file : Registry → Name → Nodes
 nodes_of_file r file = nodes_in (entry_at file r.templates)
 
-abbrev pub subject_of_file : Tera → Name → Named Val → Bool → Subject
-subject_of_file t file context autoescape =
-    subject_of t file (nodes_of_file (registry_of t) file) context autoescape
+-- the nodes of a template's text with which the rendering of a template begins
+abbrev pub subject_of_file : Tera → Name → Name → Named Val → Bool → Subject
+subject_of_file t template file context autoescape =
+    subject_of t (Some template) file (nodes_of_file (registry_of t) file) context autoescape
 
 -- the text that a body means where it begins a rendering, or its fault
 abbrev pub text_meant : Subject → Result Text Fault

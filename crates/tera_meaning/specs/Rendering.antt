@@ -7,7 +7,7 @@ use Rattle.tera_values.specs.Alphabet.{Alphabet, plain}
 use Rattle.tera_values.specs.Val.{Val}
 use Rattle.tera_values.specs.Named.{Named}
 use Rattle.tera_tree.specs.Tree.{Tree, Nodes}
-use Rattle.tera_tree.specs.Blocks.{blocks}
+use Rattle.tera_tree.specs.Blocks.{top_blocks}
 use Rattle.tera_state.specs.Scope.{AroundOf, Around, outside, nothing_set}
 use Rattle.tera_meaning.specs.Run.{Signal, Answer, AnswerOf, Failed, Gave}
 use Rattle.tera_meaning.specs.Registry.{Entry, Registry}
@@ -40,13 +40,13 @@ one_off_name = codes "__tera_one_off"
 abbrev pub autoescapes : Registry → Name → Bool
 autoescapes r name = list_any (λ suffix. ends_with nat_eq name suffix) r.suffixes
 
+abbrev pub has_some : {A : Type 0} → List A → Bool
+has_some [] = false
+has_some (a ∷ as') = true
+
 -- whether nodes have a block
 abbrev pub has_a_block : Nodes → Bool
-has_a_block nodes = is_filled (blocks nodes)
-  where
-    is_filled : {A : Type 0} → List A → Bool
-    is_filled [] = false
-    is_filled (a ∷ as') = true
+has_a_block nodes = has_some (top_blocks nodes)
 
 module _ {C : Type 0} (alphabet : Alphabet C) where
   -- around the variables of a rendering: the caller's context, and the global one

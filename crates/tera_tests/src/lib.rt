@@ -4,6 +4,8 @@
 #[cfg(test)]
 mod batches;
 #[cfg(test)]
+mod blocks;
+#[cfg(test)]
 mod cases;
 #[cfg(test)]
 mod commands;
@@ -24,9 +26,13 @@ mod faults;
 #[cfg(test)]
 mod global_context;
 #[cfg(test)]
+mod inheritance;
+#[cfg(test)]
 mod language;
 #[cfg(test)]
 mod loops;
+#[cfg(test)]
+mod many_blocks;
 #[cfg(test)]
 mod many_items;
 #[cfg(test)]

@@ -81,7 +81,7 @@ pub(crate) fn begins(kind: Kind) -> u8
 
 /// The kinds of the next two tokens.
 #[tactic(auto, unfolding(tera_tokens::specs::Input::kind, tera_tokens::specs::Input::next))]
-fn kinds(tokens: &Tokens<'_, '_>) -> (Kind, Kind)
+pub(crate) fn kinds(tokens: &Tokens<'_, '_>) -> (Kind, Kind)
     ensures first { result.0 ≡ kind (input tokens.now) }
     ensures second { result.1 ≡ kind (next (input tokens.now)) }
 {
@@ -92,14 +92,17 @@ fn kinds(tokens: &Tokens<'_, '_>) -> (Kind, Kind)
     }
 }
 
-/// Whether the first of two tokens is a name or an integer, and the second doesn't go on with it to this level.
+/// Whether the first of two tokens is a name or an integer, and the second neither goes on with it to this level nor
+/// makes a call of it.
 fn is_alone(floor: u8, first: Kind, second: Kind) -> bool
     ensures { let is_leaf = spec_same Kind.Name first || spec_same Kind.Int first in
-        result ≡ ((is_leaf && nat_le floor 11) && not (spec.goes_on floor 11 second)) }
+        let ends = not (spec.goes_on floor 11 second) in
+        result ≡ (((is_leaf && nat_le floor 11) && ends) && not (spec_same Kind.LeftParenthesis second)) }
 {
     (same(Kind::Name, first) || same(Kind::Int, first))
         && floor <= 11
         && !goes_on(floor, 11, second)
+        && !same(Kind::LeftParenthesis, second)
 }
 
 /// Whether the next operand is a name or an integer, and nothing goes on with it to this level. Most are.

@@ -78,7 +78,6 @@ mutual
   shorter (comprehension {i = i} {a = a} {d = e} h d f c t o g) =
       let p1 = shorter d in let p2 = shorter-calls c in let p3 = shorter t in let p4 = shorter-condition o in
       let t1 = token k.LeftBracket i h (λ e. cc) in let t2 = token k.For a f (λ e. cc) in let t3 = token k.RightBracket e g (λ e. cc) in omega arith
-
   shorter (call {i = i} {a = a} h e d g) = let p1 = shorter-arguments d in let t1 = token k.Name i h (λ e. cc) in let t2 = next-le (next i) in let t3 = token k.RightParenthesis a g (λ e. cc) in omega arith
 
   pub shorter-argument : {found all : Arguments} {i j : Input} → DerivesArgument found all i j → left j < left i

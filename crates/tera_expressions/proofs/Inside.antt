@@ -141,7 +141,6 @@ module _ (size : ℕ) where
         let s = condition_lies q r.onward.orderly in
         begins k.LeftBracket i h (λ e. cc) o (onward_then p.onward (onward_then n (onward_then m (onward_then r.onward (onward_then s.onward (past e s.onward.orderly))))))
         (λ w. (p.inside, r.inside, s.inside, w))
-
     expr_lies (call {i = i} {a = a} h e d g) o =
         let n = past i o in
         let m = past (next i) n.orderly in

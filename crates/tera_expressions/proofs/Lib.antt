@@ -7,6 +7,7 @@ pub mod Sound
 pub mod Extent
 pub mod Forms
 pub mod ArgumentRows
+pub mod ArgumentOrder
 pub mod Placed
 pub mod Turning
 pub mod Complete

@@ -1,6 +1,7 @@
 -- Calls, and their arguments in order.
-use Rattle.std.specs.Prelude.{◌&&◌, bytes_eq, codes, Bool, Option, Some, None, option_map, if◌then◌else◌}
+use Rattle.std.specs.Prelude.{◌≡◌, ◌&&◌, bytes_eq, codes, Bool, Option, Some, None, option_map, if◌then◌else◌}
 use Rattle.std.specs.declared.cmp.Ordering.{Ordering}
+use Rattle.std.specs.declared.cmp.Ordering.TheVariants.{Less}
 use Rattle.std.specs.Ordering.{nat_cmp, match_ordering}
 use Rattle.std.specs.Cmp.Lexicographic.{slice_cmp}
 use Rattle.tera_errors.specs.Site.{Name}
@@ -21,6 +22,15 @@ abbrev pub put_argument : Name → Expr → Arguments → Option Arguments
 put_argument n x NoArguments = Some (MoreArguments n x NoArguments)
 put_argument n x (MoreArguments m y rest) = match_ordering (name_cmp n m)
     (Some (MoreArguments n x (MoreArguments m y rest))) None (option_map (MoreArguments m y) (put_argument n x rest))
+
+-- in the order of their names, so that no name stands twice
+abbrev pub IsBefore : Name → Arguments → Type 0
+IsBefore n NoArguments = Unit {0}
+IsBefore n (MoreArguments m y rest) = name_cmp n m ≡ Less
+
+abbrev pub AreInOrder : Arguments → Type 0
+AreInOrder NoArguments = Unit {0}
+AreInOrder (MoreArguments n x rest) = IsBefore n rest × AreInOrder rest
 
 -- the name of an argument, any word, and the place behind the sign that follows
 unfoldable pub argument_name : Parser Name

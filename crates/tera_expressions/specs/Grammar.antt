@@ -70,6 +70,7 @@ mutual
     nothing : {i : Input} → kind i ≡ k.Nothing → Derives 11 (Nothing (span (start i) (next i))) i (next i)
     name : {i : Input} → kind i ≡ k.Name → loop_name i ≡ None → is_call i ≡ false → Derives 11 (Name (text i) (span (start i) (next i))) i (next i)
     of_loop : {n : site.Name} {i : Input} → kind i ≡ k.Name → loop_name i ≡ Some n → Derives 11 (Name n (span (start i) (behind_loop i))) i (behind_loop i)
+    -- a call of `super`
     call : {all : Arguments} {i a : Input} → kind i ≡ k.Name → is_call i ≡ true → DerivesArguments NoArguments all (next (next i)) a → kind a ≡ k.RightParenthesis
         → Derives 11 (Super all (span (start i) (next a))) i (next a)
     -- parentheses are no part of what they are around

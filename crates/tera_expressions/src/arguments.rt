@@ -23,7 +23,8 @@ impl<'s, F: Fn(Global, &mut Tokens<'_, 's>, usize, u8) -> Result<Deep<'s>, Refus
     #[tactic(auto, unfolding(crate::specs::Expressions::call))]
     pub(crate) fn call(&self, tokens: &mut Tokens<'_, 's>) -> Result<Deep<'s>, Refusal>
         requires { Nests self.now.below (F.pre self.now.expr) (F.post self.now.expr) }
-        ensures { Takes deep_of (spec.call self.now.limit (spec.expr self.now.below) (input tokens.old)) result tokens.new }
+        ensures { let meant = spec.call self.now.limit (spec.expr self.now.below) in
+            Takes deep_of (meant (input tokens.old)) result tokens.new }
     {
         let start = tokens.start();
         tokens.take();
@@ -41,8 +42,8 @@ impl<'s, F: Fn(Global, &mut Tokens<'_, 's>, usize, u8) -> Result<Deep<'s>, Refus
     ) -> Result<(Vec<Argument<'s>>, usize), Refusal>
         requires { Nests self.now.below (F.pre self.now.expr) (F.post self.now.expr) }
         ensures { let meant = spec.arguments_from self.now.limit (spec.expr self.now.below)
-            (left (input tokens.old)) NoArguments 0 in
-            Takes (λ p. (arguments_of p.0.items, p.1)) (meant (input tokens.old)) result tokens.new }
+            (left (input tokens.old)) NoArguments 0 (input tokens.old) in
+            Takes (λ p. (arguments_of p.0.items, p.1)) meant result tokens.new }
     {
         let mut found = Vec::new(self.alloc);
         let mut depth = 0usize;
@@ -76,13 +77,13 @@ impl<'s, F: Fn(Global, &mut Tokens<'_, 's>, usize, u8) -> Result<Deep<'s>, Refus
     ) -> Result<usize, Refusal>
         requires { Nests self.now.below (F.pre self.now.expr) (F.post self.now.expr) }
         ensures { let meant = spec.argument self.now.limit (spec.expr self.now.below)
-            (arguments_of found.old.items) in
-            Takes (λ d. (arguments_of found.new.items, d)) (meant (input tokens.old)) result tokens.new }
+            (arguments_of found.old.items) (input tokens.old) in
+            Takes (λ d. (arguments_of found.new.items, d)) meant result tokens.new }
     {
         let name = tokens.text();
         let at = match place(found.as_slice(), name) {
             Some(at) => at,
-            None => return Err(tokens.refuse(Reason::Expected(Kind::Name))),
+            None => return Err(tokens.refuse(Reason::Expected(Kind::RightParenthesis))),
         };
         match argument_name(tokens) {
             Ok(()) => {}
@@ -106,7 +107,8 @@ impl<'s, F: Fn(Global, &mut Tokens<'_, 's>, usize, u8) -> Result<Deep<'s>, Refus
 /// Goes past the name of an argument and the sign behind it.
 #[tactic(auto, unfolding(crate::specs::Arguments::argument_name))]
 fn argument_name(tokens: &mut Tokens<'_, '_>) -> Result<(), Refusal>
-    ensures { Takes (λ done. text (input tokens.old)) (call.argument_name (input tokens.old)) result tokens.new }
+    ensures { let meant = call.argument_name (input tokens.old) in
+        Takes (λ done. text (input tokens.old)) meant result tokens.new }
 {
     if !is_word(tokens.kind()) {
         return Err(tokens.refuse(Reason::Expected(Kind::Name)));

@@ -1,18 +1,16 @@
 -- The arguments of a call are in the order of their names.
 use Rattle.std.proofs.Common.{◌≡◌, Option, Some, None, option_map, refl, ◌∙◌, ap, subst, Ordering, Less, Equal, Greater}
-use Rattle.std.specs.Ordering.{match_ordering, ordering_reverse}
+use Rattle.std.specs.Ordering.{ordering_reverse}
 use Rattle.std.proofs.lemmas.Cmp.{nat_list_cmp_total}
 use Rattle.tera_errors.specs.Site.{Name}
 use Rattle.tera_tree.specs.Tree.{Expr, Arguments, NoArguments, MoreArguments}
 use Rattle.tera_tokens.specs.Input.{Input, text}
 use Rattle.tera_expressions.specs.Arguments.{name_cmp, put_argument, IsBefore, AreInOrder}
-use Rattle.tera_expressions.specs.Grammar.{DerivesArgument, argument, DerivesArguments, no_arguments, one_argument, more_arguments}
+use Rattle.tera_expressions.specs.Grammar.{argument, DerivesArguments, no_arguments, one_argument, more_arguments}
+use Rattle.tera_expressions.proofs.ArgumentRows.{put_by}
 
 turned : (n m : Name) → name_cmp n m ≡ Greater → name_cmp m n ≡ Less
 turned n m h = nat_list_cmp_total.antisymm m n ∙ ap ordering_reverse h
-
-abbrev put_by : Ordering → Name → Expr → Name → Expr → Arguments → Option Arguments
-put_by o n x m y rest = match_ordering o (Some (MoreArguments n x (MoreArguments m y rest))) None (option_map (MoreArguments m y) (put_argument n x rest))
 
 -- what is put behind a name
 put-behind : (k n : Name) (x : Expr) (found all : Arguments) → put_argument n x found ≡ Some all → name_cmp k n ≡ Less → IsBefore k found → IsBefore k all

@@ -15,8 +15,8 @@ use Rattle.tera_expressions.specs.Expressions.{Deep, deep}
 use Rattle.tera_expressions.proofs.Steps.{and_then-some, guard, chosen, same-is, expect-some, some-pair, either, differ, unlike, alike}
 use Rattle.tera_expressions.proofs.Forms.{deep-node}
 
--- what an argument is put among, by how its name compares
-abbrev put_by : Ordering → Name → Expr → Name → Expr → Arguments → Option Arguments
+-- an argument that is put before or behind another, by how their names compare
+abbrev pub put_by : Ordering → Name → Expr → Name → Expr → Arguments → Option Arguments
 put_by o n x m y rest = match_ordering o (Some (MoreArguments n x (MoreArguments m y rest))) None (option_map (MoreArguments m y) (put_argument n x rest))
 
 pub put-depth : (n : Name) (x : Expr) (found all : Arguments) → put_argument n x found ≡ Some all → arguments_depth all ≡ max (arguments_depth found) (depth x)

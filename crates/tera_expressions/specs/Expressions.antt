@@ -262,11 +262,12 @@ module _ (limit : ℕ) (sub : ℕ → Parser Deep) where
   unfoldable pub map : Parser Deep
   map = λ i. ((λ j. entries_from (left j) NoEntries 0 j) >>= (λ xs. λ j. node limit xs.1 (Map xs.0 (span (start i) j)) j)) (next i)
 
-  -- an argument of this name among those that were found, and the depth of its value
+  -- all arguments with one that was put among them, and the depth of its value
   abbrev pub placed : Option Arguments → ℕ → Parser (Arguments × ℕ)
   placed None d = refuse
   placed (Some all) d = λ i. Some ((all, d), i)
 
+  -- an argument, put among those that were found
   unfoldable pub argument : Arguments → Parser (Arguments × ℕ)
   argument found = argument_name >>= (λ name. sub 0 >>= (λ x. placed (put_argument name x.expr found) x.depth))
 
@@ -281,9 +282,11 @@ module _ (limit : ℕ) (sub : ℕ → Parser Deep) where
   arguments_from (suc n) found d = λ i. if same k.RightParenthesis (kind i) then Some ((found, d), next i) else
       and_then (argument found i) (behind_argument (arguments_from n) d)
 
+  -- a call of these arguments, which its parenthesis closes
   abbrev pub call_of : ℕ → Arguments × ℕ → Parser Deep
   call_of from xs = λ j. node limit xs.1 (Super xs.0 (span from j)) j
 
+  -- from its name on
   unfoldable pub call : Parser Deep
   call = λ i. ((λ j. arguments_from (left j) NoArguments 0 j) >>= call_of (start i)) (next (next i))
 

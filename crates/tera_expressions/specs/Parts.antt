@@ -1,5 +1,5 @@
 -- How the reader's parts of expressions stand to their definitions.
-use Rattle.std.specs.Prelude.{◌≡◌, ℕ, List, Bool, zero, Option, Some, None, option_map, suc, Result, Ok, Err, option_copied}
+use Rattle.std.specs.Prelude.{◌≡◌, ℕ, List, Bool, Option, Some, None, option_map, suc, Result, Ok, Err, option_copied}
 use Rattle.std.specs.declared.alloc.Global.{Global}
 use denote.Ref.{MutBor}
 use Rattle.tera_errors.specs.Site.{Name}

@@ -43,8 +43,11 @@ fn gather_node<'s>(names: &mut Vec<BlockName<'s>>, node: &Node<'s>) -> Result<()
             condition: _,
             body,
             other,
+        } => {
+            gather(names, body.as_slice())?;
+            gather(names, other.as_slice())
         }
-        | Node::For {
+        Node::For {
             heading: _,
             body,
             other,
@@ -52,7 +55,11 @@ fn gather_node<'s>(names: &mut Vec<BlockName<'s>>, node: &Node<'s>) -> Result<()
             gather(names, body.as_slice())?;
             gather(names, other.as_slice())
         }
-        Node::Capture { body, .. } => gather(names, body.as_slice()),
+        Node::Capture {
+            name: _,
+            body,
+            is_global: _,
+        } => gather(names, body.as_slice()),
         Node::Block { name, body, span } => {
             names.push(BlockName { name, span: *span })?;
             gather(names, body.as_slice())

@@ -1,5 +1,5 @@
 -- All spans of a tree lie inside the text that spells it.
-use Rattle.std.proofs.Common.{◌≡◌, ℕ, List, Bool, Option, length, IsTrue}
+use Rattle.std.proofs.Common.{◌≡◌, ℕ, List, Option, length, IsTrue}
 use Rattle.std.specs.Str.{IsUtf8}
 use Rattle.tera_errors.specs.Site.{Name, Text}
 use Rattle.tera_tree.specs.Delimiters.{delimiters_of, accepted}

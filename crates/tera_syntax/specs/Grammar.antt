@@ -32,7 +32,7 @@ abbrev pub set_word : Bool → site.Text
 set_word true = codes "set_global"
 set_word false = codes "set"
 
--- A tag that is a statement, with what it stands in.
+-- A tag that is a statement in these surroundings.
 pub data Simple : Surroundings → Node → List Token → Type 0 where
   set : {q : Surroundings} {is_global : Bool} {e : Expr} {tokens : List Token} → Begins (set_word is_global) tokens → Names (next (begin q.in_loop tokens)) k.Assign → DerivesWhole e (next (next (next (begin q.in_loop tokens))))
       → Simple q (Set (text (next (begin q.in_loop tokens))) e is_global) tokens
@@ -54,7 +54,7 @@ pub data GoesOn : Surroundings → Head → List Token → Type 0 where
   elif : {q : Surroundings} {c : Expr} {tokens : List Token} → first tokens ≡ k.Elif → DerivesWhole c (next (begin q.in_loop tokens)) → GoesOn q (IfHead c) tokens
 
 mutual
-  -- The pieces from the first place to the second are nodes, which stand in this.
+  -- The pieces from the first place to the second are nodes in these surroundings.
   pub data DerivesNodes : Surroundings → Nodes → List Piece → List Piece → Type 0 where
     empty : {q : Surroundings} {i : List Piece} → DerivesNodes q NoNodes i i
     content : {q : Surroundings} {words : site.Text} {place : Span} {rest : Nodes} {i j : List Piece} → words ≢ [] → DerivesNodes q rest i j

@@ -14,9 +14,9 @@ use tera_tree::{Expression, Heading, Node};
 /// What a tag stands in.
 #[derive(Clone, Copy)]
 pub(crate) struct Surroundings {
-    /// Whether it is a loop's body, so that `loop.index` and its like are the loop's here.
+    /// Whether it is inside a loop's body, where `loop.index` and its like are the loop's.
     pub in_loop: bool,
-    /// Whether `break` and `continue` may stand here: in a loop's body, but not in that of a block inside it.
+    /// Whether `break` and `continue` may stand here: inside a loop's body, with no block between.
     pub may_leave: bool,
 }
 

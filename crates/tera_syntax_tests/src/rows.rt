@@ -444,9 +444,17 @@ const CAPTURES: [&str; 5] = ["", "{% set a %}", "x", "{% endset %}", ""];
 
 const EMPTY_CAPTURES: [&str; 5] = ["", "{% set a %}", "", "{% endset %}", ""];
 
+const EMPTY_BLOCKS: [&str; 5] = [
+    "",
+    "{% set a %}",
+    "{% block b %}{% endblock %}",
+    "{% endset %}",
+    "",
+];
+
 const CONDITIONS: [&str; 5] = ["{% if ", "not ", "a", "", " %}x{% endif %}"];
 
-pub static NESTS: [Nest; 22] = [
+pub static NESTS: [Nest; 24] = [
     Nest(PARENTHESES, 20_000, true),
     Nest(OPEN_PARENTHESES, 20_000, false),
     Nest(NOTS, 198, true),
@@ -471,6 +479,8 @@ pub static NESTS: [Nest; 22] = [
     // a statement without an expression may stand at the limit
     Nest(EMPTY_CAPTURES, 200, true),
     Nest(EMPTY_CAPTURES, 201, false),
+    Nest(EMPTY_BLOCKS, 199, true),
+    Nest(EMPTY_BLOCKS, 200, false),
 ];
 
 pub static OTHERS: [Other; 3] = [

@@ -15,7 +15,7 @@ use Rattle.tera_tokens.proofs.Cuts.{cut_step, cut_broken, cut_nothing}
 use Rattle.tera_expressions.proofs.Turns.{refused}
 use Rattle.tera_syntax.proofs.Extending.{file_broken}
 use Rattle.tera_syntax.proofs.Rows.{some_bytes}
-use Rattle.tera_syntax.proofs.reader.read.Goals as goal
+use Rattle.tera_syntax.proofs.reader.spelled.Goals as goal
 
 found_in : (meant : Option Found) (ts us : List Token) (x : found.Found) → ts ≡ us → meant ≡ Some (found_of ts x) → meant ≡ Some (found_of us x)
 found_in meant ts us x e h = h ∙ ap (λ ts. Some (found_of ts x)) e

@@ -5,3 +5,4 @@ pub mod Code
 pub mod Places
 pub mod Group
 pub mod Blocks
+pub mod Asked

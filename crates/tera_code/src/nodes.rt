@@ -1,11 +1,10 @@
 // Nodes.
-ghost use Rattle.std.specs.Prelude.{◌≡◌, [], ◌∷◌, OnOk, IfOk, IfErr, MatchOption, Some, None, true};
+ghost use Rattle.std.specs.Prelude.{◌≡◌, [], ◌∷◌, OnOk, IfOk, IfErr, MatchOption, Some, None};
 ghost use Rattle.tera_errors.specs.Answer.{Lacks};
 ghost use Rattle.tera_code.specs.declared.instruction.Instruction.TheVariants as instruction;
 ghost use Rattle.tera_code.specs.Code.{named, node_code, nodes_code, listing_of, lengthened};
-ghost use Rattle.tera_code.specs.Group.{is_choice, is_loop};
-ghost use Rattle.tera_tree.specs.Tree.{Print};
-ghost use Rattle.tera_tree.specs.View.{expr_of, node_of, nodes_of};
+ghost use Rattle.tera_tree.specs.Tree.{If, Print};
+ghost use Rattle.tera_tree.specs.View.{expr_of, for_of, node_of, nodes_of};
 
 use crate::chunk::Chunk;
 use crate::compiler::Compiler;
@@ -13,7 +12,7 @@ use crate::content::{LentName, Text};
 use crate::instruction::Instruction;
 use crate::parts::is_context;
 use std::alloc::Global;
-use tera_tree::{Expression, Node};
+use tera_tree::{Expression, Heading, Node};
 use tera_values::{Name, Sought, Span, TeraResult};
 
 impl Compiler {
@@ -53,7 +52,11 @@ impl Compiler {
         match node {
             Node::Content { text, span: _ } => self.content(text),
             Node::Print { value } => self.print(value),
-            Node::If { .. } => self.choice(node, drops),
+            Node::If {
+                condition,
+                body,
+                other,
+            } => self.choice(condition, body.as_slice(), other.as_slice(), drops),
             Node::Set {
                 name,
                 value,
@@ -64,7 +67,11 @@ impl Compiler {
                 body,
                 is_global,
             } => self.capture(name, body.as_slice(), *is_global, drops),
-            Node::For { .. } => self.for_loop(node, drops),
+            Node::For {
+                heading,
+                body,
+                other,
+            } => self.for_loop(heading, body.as_slice(), other.as_slice(), drops),
             Node::Block {
                 name,
                 body: _,
@@ -77,51 +84,45 @@ impl Compiler {
 
     // One of two bodies.
     #[cycle(nodes)]
-    fn choice(&mut self, node: &Node, drops: usize) -> TeraResult<()>
-        requires { is_choice (node_of node.now) ≡ true }
-        ensures ok { OnOk result (self.new ≡ lengthened self.old (node_code (node_of node.now) drops)) }
+    fn choice(
+        &mut self,
+        condition: &Expression,
+        body: &[Node],
+        other: &[Node],
+        drops: usize,
+    ) -> TeraResult<()>
+        ensures ok { OnOk result (self.new ≡ lengthened self.old (node_code
+            (If (expr_of condition.now) (nodes_of body.now) (nodes_of other.now)) drops)) }
         ensures lacks { IfErr result Lacks }
     {
-        match node {
-            Node::If {
-                condition,
-                body,
-                other,
-            } => {
-                self.expression(condition)?;
-                let place = self.keep_place()?;
-                self.nodes(body.as_slice(), drops)?;
-                let place = self.divide(place)?;
-                self.nodes(other.as_slice(), drops)?;
-                self.fill(place, Instruction::Jump(self.behind(place)))
-            }
-            _ => unreachable!(),
-        }
+        self.expression(condition)?;
+        let place = self.keep_place()?;
+        self.nodes(body, drops)?;
+        let place = self.divide(place)?;
+        self.nodes(other, drops)?;
+        self.fill(place, Instruction::Jump(self.behind(place)))
     }
 
     // The body for each item, and the other one where there is none.
     #[cycle(nodes)]
-    fn for_loop(&mut self, node: &Node, drops: usize) -> TeraResult<()>
-        requires { is_loop (node_of node.now) ≡ true }
-        ensures ok { OnOk result (self.new ≡ lengthened self.old (node_code (node_of node.now) drops)) }
+    fn for_loop(
+        &mut self,
+        heading: &Heading,
+        body: &[Node],
+        other: &[Node],
+        drops: usize,
+    ) -> TeraResult<()>
+        ensures ok { OnOk result (self.new
+            ≡ lengthened self.old (node_code (for_of heading.now body.now other.now) drops)) }
         ensures lacks { IfErr result Lacks }
     {
-        match node {
-            Node::For {
-                heading,
-                body,
-                other,
-            } => {
-                self.expression(&heading.target)?;
-                let place = self.keep_place()?;
-                self.nodes(body.as_slice(), 0)?;
-                self.end_turns(place, heading, true)?;
-                let place = self.keep_place()?;
-                self.nodes(other.as_slice(), drops)?;
-                self.fill(place, Instruction::EndLoop(self.behind(place)))
-            }
-            _ => unreachable!(),
-        }
+        self.expression(&heading.target)?;
+        let place = self.keep_place()?;
+        self.nodes(body, 0)?;
+        self.end_turns(place, heading, true)?;
+        let place = self.keep_place()?;
+        self.nodes(other, drops)?;
+        self.fill(place, Instruction::EndLoop(self.behind(place)))
     }
 
     fn content(&mut self, text: &str) -> TeraResult<()>

@@ -79,7 +79,8 @@ impl<'s> Head<'s> {
         }
     }
 
-    /// What its body stands in. A block's body keeps the names of a loop around it, and can't leave a turn of that loop.
+    /// What its body stands in. A block's body keeps the names of a loop around it, and can't leave
+    /// a turn of that loop.
     pub fn inside(&self, around: Surroundings) -> Surroundings
         ensures { result ≡ spec.inside (head_of self.now) around }
     {

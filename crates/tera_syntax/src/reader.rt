@@ -57,7 +57,8 @@ fn read<'s>(
     source: &'s str,
 ) -> Result<ParserOutput<'s>, Refusal>
     requires { IsTrue (accepted (delimiters_of delimiters.now)) }
-    ensures { Answers tree_of (spec.file 200 (pieces (delimiters_of delimiters.now) source.now)) result }
+    ensures { let all = pieces (delimiters_of delimiters.now) source.now in
+        Answers tree_of (spec.file 200 all) result }
 {
     let output = spelled(alloc, delimiters, source)?;
     once(alloc, output)

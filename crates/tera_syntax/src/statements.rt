@@ -127,7 +127,8 @@ fn put_words<'s>(progress: &mut Progress<'s>, text: &'s str, span: Span) -> Resu
 /// `{{ value }}`
 fn print<'s>(progress: &mut Progress<'s>, alloc: Global, tag: &[Token<'s>]) -> Result<(), Refusal>
     ensures { let s = progress_of progress.old in
-        let value = spec.whole (spec.room 200 s) (begin s.surroundings.in_loop (tokens_of tag.now)) in
+        let tokens = tokens_of tag.now in
+        let value = spec.whole (spec.room 200 s) (begin s.surroundings.in_loop tokens) in
         Becomes (spec.printed 200 s value) result progress.new }
 {
     let mut ahead = Tokens::begin(tag, progress.surroundings.in_loop);

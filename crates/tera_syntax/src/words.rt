@@ -75,8 +75,9 @@ fn leave<'s>(
     node: Node<'s>,
 ) -> Result<(), Refusal>
     ensures { let s = progress_of progress.old in
-        let meant = spec.leaving s.surroundings.may_leave word.now (tokens_of tag.now) (node_of node.entry) in
-        Becomes (option_and_then (spec.taken 200 s (tokens_of tag.now)) meant) result progress.new }
+        let tokens = tokens_of tag.now in
+        let meant = spec.leaving s.surroundings.may_leave word.now tokens (node_of node.entry) in
+        Becomes (option_and_then (spec.taken 200 s tokens) meant) result progress.new }
 {
     if !progress.surroundings.may_leave {
         return Err(refused(tag, Reason::NotOpen));
@@ -119,8 +120,9 @@ pub(crate) fn named<'s>(
     word: &str,
 ) -> Result<(), Refusal>
     ensures { let s = progress_of progress.old in
-        let meant = spec.named (spec.room 200 s) s.surroundings (tokens_of tag.now) word.now in
-        Becomes (option_and_then (spec.taken 200 s (tokens_of tag.now)) meant) result progress.new }
+        let tokens = tokens_of tag.now in
+        let meant = spec.named (spec.room 200 s) s.surroundings tokens word.now in
+        Becomes (option_and_then (spec.taken 200 s tokens) meant) result progress.new }
 {
     if may_begin(first_byte(word), word.len()) {
         begun(progress, alloc, tag, word)
@@ -138,8 +140,9 @@ fn begun<'s>(
     word: &str,
 ) -> Result<(), Refusal>
     ensures { let s = progress_of progress.old in
-        let meant = spec.named (spec.room 200 s) s.surroundings (tokens_of tag.now) word.now in
-        Becomes (option_and_then (spec.taken 200 s (tokens_of tag.now)) meant) result progress.new }
+        let tokens = tokens_of tag.now in
+        let meant = spec.named (spec.room 200 s) s.surroundings tokens word.now in
+        Becomes (option_and_then (spec.taken 200 s tokens) meant) result progress.new }
 {
     match word {
         "set" | "set_global" => {

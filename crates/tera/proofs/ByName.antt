@@ -33,13 +33,14 @@ module _ (r : Registry) (name : Name) (found : Found) (leads : Leads r name foun
 
 -- what the body that was found means is what the name renders to
 pub text-found : (t : Tera) (name : Name) (context : Named Val) (found : Found) (flag : Bool) → Leads (registry_of t) name found → flag ≡ autoescapes (registry_of t) found.name.now
-    → text_meant (subject_of_file t found.chunk.now.file context flag) ≡ render (registry_of t) name context
+    → text_meant (subject_of_file t found.name.now found.chunk.now.file context flag) ≡ render (registry_of t) name context
 text-found t name context found flag leads is =
     let r = registry_of t in
     let top = root r leads.entry in
-    ap (λ file. text_meant (subject_of t file (nodes_of_file r found.chunk.now.file) context flag)) (file-found r name found leads)
-    ∙ ap (λ ns. text_meant (subject_of t top.0 ns context flag)) (nodes-found r name found leads)
-    ∙ ap (λ b. text_meant (subject_of t top.0 top.1.tree.nodes context b)) (is ∙ ap (autoescapes r) leads.named)
+    ap (λ file. text_meant (subject_of t (Some found.name.now) file (nodes_of_file r found.chunk.now.file) context flag)) (file-found r name found leads)
+    ∙ ap (λ ns. text_meant (subject_of t (Some found.name.now) top.0 ns context flag)) (nodes-found r name found leads)
+    ∙ ap (λ b. text_meant (subject_of t (Some found.name.now) top.0 top.1.tree.nodes context b)) (is ∙ ap (autoescapes r) leads.named)
+    ∙ ap (λ n. text_meant (subject_of t (Some n) top.0 top.1.tree.nodes context (autoescapes r leads.entry.0))) leads.named
     ∙ sym (ap (λ o. render_template r o context) leads.resolves)
 
 module _ (r : Registry) (by_html : r.engine.escape ≡ escape_html) (name : Name) (context : Named Val) where

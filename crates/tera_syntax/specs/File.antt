@@ -75,10 +75,10 @@ file_run limit f (piece ∷ rest) = option_and_then (λ g. file_run limit g rest
 abbrev pub spelled : ℕ → List Piece → Option Tree
 spelled limit pieces = file_run limit file_begun pieces
 
--- the tree, where no two of its blocks have one name
+-- a tree, if no two of its blocks have one name
 abbrev pub once : Tree → Option Tree
 once tree = if has_each_block_once tree.nodes then Some tree else None
 
--- the tree of all pieces that may stand in a file
+-- the tree of all pieces, no deeper than this, if no two of its blocks have one name
 abbrev pub file : ℕ → List Piece → Option Tree
 file limit pieces = option_and_then once (spelled limit pieces)

@@ -1,20 +1,22 @@
 // All templates of an engine, linked.
-ghost use Rattle.std.specs.Prelude.{◌≡◌, None, Ok, map, is_some, string_bytes, IsTrue, []};
+ghost use Rattle.std.specs.Prelude.{◌≡◌, ◌<◌, Some, None, Ok, map, length, slice_get, is_some, string_bytes, IsTrue, [], ◌∷◌};
 ghost use Rattle.tera_errors.specs.Answer.{Gives};
 ghost use Rattle.tera_tree.specs.Delimiters.{delimiters_of, accepted};
 ghost use Rattle.tera_meaning.specs.Accepted.{fault};
-ghost use Rattle.tera_meaning.specs.Resolve.{resolve};
-ghost use Rattle.tera_meaning.specs.Registry.{Registry};
+ghost use Rattle.tera_meaning.specs.Lineage.{ancestors, definers_in};
+ghost use Rattle.tera_meaning.specs.Resolve.{parents, resolve};
+ghost use Rattle.tera_meaning.specs.Registry.{Entry, Registry};
 ghost use Rattle.std.specs.Coded.{codes};
 ghost use Rattle.tera_code.specs.contracts.chunk.Chunk as chunk;
 ghost use Rattle.tera_registry.specs.Order.{Rises, Rises-prop};
 ghost use Rattle.tera_registry.specs.Links.{IsLinked};
-ghost use Rattle.tera_registry.specs.Kept.{entries_of, seen};
+ghost use Rattle.tera_registry.specs.Kept.{entry_of, entries_of, seen};
 ghost use Rattle.tera_registry.specs.Batch.{ConfiguresOneOf, Adds, pairs_of};
 
 use crate::batch::put_all;
+use crate::definers::{At, first, first_above};
 use crate::lineage::link;
-use crate::names::resolve;
+use crate::names::{find, resolve};
 use crate::template::Template;
 use std::alloc::Global;
 use std::rc::Rc;
@@ -54,10 +56,89 @@ pub struct Found<'t> {
     pub name: &'t str,
     /// The code that a rendering of it begins with: that of the last of its parents, or its own.
     pub chunk: &'t Chunk,
+    /// Those among which it was found.
+    pub templates: &'t Templates,
+}
+
+impl<'t> Found<'t> {
+    ghost use Rattle.tera_meaning.specs.Lineage.{definers};
+    ghost use Rattle.tera_registry.specs.Templates.{with_templates, definers_of};
+
+    /// Those who define a block for the template, nearest first. Takes no memory.
+    pub fn definers(&self, block: &str) -> Definers<'t>
+        ensures { (r : Registry) → definers_of result
+            ≡ definers (with_templates r self.now.templates.now) (Some self.now.name.now) block.now }
+    {
+        match find(self.templates.all.as_slice(), "", self.name) {
+            Err(_) => Definers::none(),
+            Ok(place) => Definers {
+                start: self.templates.first(place, block),
+            },
+        }
+    }
+}
+
+/// Those who define a block, from one on, nearest first.
+#[derive(Clone, Copy)]
+pub struct Definers<'t> {
+    start: Option<Start<'t>>,
+}
+
+/// Where the first of them stands.
+#[derive(Clone, Copy)]
+pub struct Start<'t> {
+    templates: &'t Templates,
+    at: At,
+}
+
+/// A block as one template defines it, and those who define it above.
+#[derive(Clone, Copy)]
+pub struct Definer<'t> {
+    pub chunk: &'t Chunk,
+    pub above: Definers<'t>,
+}
+
+impl<'t> Definers<'t> {
+    ghost use Rattle.tera_registry.specs.Templates.{definers_of, AreNext};
+
+    /// Nobody.
+    pub fn none() -> Definers<'t>
+        ensures { definers_of result ≡ [] }
+    {
+        Definers { start: None }
+    }
+
+    /// The first of them, with those above. Takes no memory.
+    pub fn next(&self) -> Option<Definer<'t>>
+        ensures { AreNext self.now result }
+    {
+        let start = match self.start {
+            None => return None,
+            Some(start) => start,
+        };
+        let templates: &'t Templates = start.templates;
+        let all = templates.all.as_slice();
+        if start.at.template >= all.len() {
+            return None;
+        }
+        let template: &Template = &all[start.at.template];
+        let blocks = template.blocks.as_slice();
+        if start.at.block >= blocks.len() {
+            return None;
+        }
+        let block = &blocks[start.at.block];
+        let name = block.name.as_str();
+        Some(Definer {
+            chunk: &block.code,
+            above: Definers {
+                start: templates.first_above(template, name),
+            },
+        })
+    }
 }
 
 impl Templates {
-    ghost use Rattle.tera_registry.specs.Templates.{templates_of, prefixes_of, with_templates, is_empty, Finds};
+    ghost use Rattle.tera_registry.specs.Templates.{templates_of, prefixes_of, with_templates, is_empty, Finds, registry_in, started};
 
     /// None yet. Takes no memory.
     pub fn new(alloc: Global, prefixes: Vec<String>) -> Templates
@@ -104,7 +185,39 @@ impl Templates {
         Some(Found {
             name: template.name.as_str(),
             chunk: &root.body,
+            templates: self,
         })
+    }
+
+    /// Where the first of those stands who define a block, from a template on.
+    fn first(&self, from: usize, block: &str) -> Option<Start<'_>>
+        requires { from < length self.now.all.items }
+        ensures { (t : Entry) → slice_get (templates_of self.now) from ≡ Some t
+            → started result ≡ definers_in block.now (t ∷ ancestors (registry_in self.now) t) }
+    {
+        match first(self.all.as_slice(), self.prefixes.as_slice(), from, block) {
+            None => None,
+            Some(at) => Some(Start {
+                templates: self,
+                at,
+            }),
+        }
+    }
+
+    /// Where the first of those stands who define a block above a template.
+    fn first_above(&self, of: &Template, block: &str) -> Option<Start<'_>>
+        requires { parents (registry_in self.now) (entry_of of.now)
+            ≡ Ok (ancestors (registry_in self.now) (entry_of of.now)) }
+        ensures { started result
+            ≡ definers_in block.now (ancestors (registry_in self.now) (entry_of of.now)) }
+    {
+        match first_above(self.all.as_slice(), self.prefixes.as_slice(), of, block) {
+            None => None,
+            Some(at) => Some(Start {
+                templates: self,
+                at,
+            }),
+        }
     }
 
     /// Whether a name resolves to a template. Takes no memory.

@@ -21,7 +21,7 @@ use Rattle.tera_registry.specs.declared.template.Template.{Template as Stored}
 use Rattle.tera_registry.specs.Kept.{entries_of, seen}
 use Rattle.tera_registry.specs.declared.lineage.Up.TheVariants as which
 use Rattle.tera_registry.specs.Links.{IsUp}
-use Rattle.tera_registry.specs.Definers.{blocks_of, from_block, from_template, from_place, IsFirst, Grounded, ancestors_at}
+use Rattle.tera_registry.specs.Definers.{blocks_of, from_block, from_template, from_place, from_found, above_block, above_template, above_place, IsFirst, Grounded, ancestors_at}
 use Rattle.tera_registry.proofs.Element.{element}
 use Rattle.tera_registry.proofs.Placed.{named}
 use Rattle.tera_registry.proofs.Checked.{no-first-fault}
@@ -124,6 +124,14 @@ nobody r block t none alone =
 pub at-place : (r : Registry) (t : Entry) (at : At) (b : Name × Nodes) → slice_get r.templates at.template ≡ Some t → slice_get (blocks_of t) at.block ≡ Some b → from_place r at ≡ record { file = t.0; body = b.1 } ∷ definers_in b.0 (ancestors r t)
 at-place r t at b here there =
     ap (from_template r at.block) here ∙ ap (from_block r t) there
+
+pub at-above : (r : Registry) (t : Entry) (at : At) (b : Name × Nodes) → slice_get r.templates at.template ≡ Some t → slice_get (blocks_of t) at.block ≡ Some b → above_place r at ≡ definers_in b.0 (ancestors r t)
+at-above r t at b here there =
+    ap (above_template r at.block) here ∙ ap (above_block r t) there
+
+pub found-first : (r : Registry) (o : Option At) (ds : List Definer) → IsFirst r o ds → from_found r o ≡ ds
+found-first r None ds f = sym f
+found-first r (Some at) ds f = sym f.0
 
 -- the first is a template's own, where it has the block
 pub first-own : (r : Registry) (block : Name) (t : Entry) (at : At) → slice_get r.templates at.template ≡ Some t → IsPlace (blocks_of t) (Some at.block) (entry_at block (blocks_of t)) → IsFirst r (Some at) (definers_in block (t ∷ ancestors r t))

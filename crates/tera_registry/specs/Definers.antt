@@ -25,6 +25,22 @@ from_template r k (Some t) = from_block r t (slice_get (blocks_of t) k)
 abbrev pub from_place : Registry → At → List Definer
 from_place r at = from_template r at.block (slice_get r.templates at.template)
 
+abbrev pub from_found : Registry → Option At → List Definer
+from_found r None = []
+from_found r (Some at) = from_place r at
+
+abbrev pub above_block : Registry → Entry → Option (Name × Nodes) → List Definer
+above_block r t None = []
+above_block r t (Some b) = definers_in b.0 (ancestors r t)
+
+abbrev pub above_template : Registry → ℕ → Option Entry → List Definer
+above_template r k None = []
+above_template r k (Some t) = above_block r t (slice_get (blocks_of t) k)
+
+-- those who define a block above the template in which it stands
+abbrev pub above_place : Registry → At → List Definer
+above_place r at = above_template r at.block (slice_get r.templates at.template)
+
 -- the first of those who define a block stands there, or nowhere where there is none
 abbrev pub IsFirst : Registry → Option At → List Definer → Type 0
 IsFirst r None ds = ds ≡ []

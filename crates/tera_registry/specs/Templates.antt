@@ -1,5 +1,5 @@
 -- What definitions see of all templates.
-use Rattle.std.specs.Prelude.{◌≡◌, Bool, true, false, List, [], ◌∷◌, map, string_bytes, Option, Some, None}
+use Rattle.std.specs.Prelude.{◌≡◌, Bool, true, false, List, [], ◌∷◌, map, string_bytes, Option, Some, None, cond}
 use Rattle.tera_errors.specs.Site.{Text, Name}
 use Rattle.tera_values.specs.Named.{Named}
 use Rattle.tera_meaning.specs.Registry.{Template, Entry, Registry}
@@ -12,7 +12,7 @@ use Rattle.tera_registry.specs.declared.templates.Start.{Start}
 use Rattle.tera_registry.specs.declared.templates.Definers.{Definers}
 use Rattle.tera_registry.specs.declared.templates.Definer.{Definer as Nearest}
 use Rattle.tera_registry.specs.Kept.{entries_of, seen}
-use Rattle.tera_registry.specs.Definers.{from_place}
+use Rattle.tera_registry.specs.Definers.{from_place, above_place}
 
 abbrev pub templates_of : Templates → Named Template
 templates_of t = entries_of t.all.items
@@ -47,19 +47,20 @@ registry_in t = seen t.all.items t.prefixes.items
 
 abbrev pub started : Option Start → List Definer
 started None = []
-started (Some s) = from_place (registry_in s.templates.now) s.at
+started (Some s) =
+    cond s.is_above (above_place (registry_in s.templates.now) s.at) (from_place (registry_in s.templates.now) s.at)
 
 -- those who define a block, nearest first
 abbrev pub definers_of : Definers → List Definer
 definers_of ds = started ds.start
 
 -- the first of those who define a block, with its code, and those above it
-pub record IsNearest (ds : Definers) (nearest : Nearest) : Type 0 where
+pub record IsNearest (ds : List Definer) (nearest : Nearest) : Type 0 where
   pub definer : Definer
-  pub is : definers_of ds ≡ definer ∷ definers_of nearest.above
+  pub is : ds ≡ definer ∷ definers_of nearest.above
   pub code : nearest.chunk.now ≡ listing_of definer.file definer.body
 
 -- the first of those who define a block, if there is one
-abbrev pub AreNext : Definers → Option Nearest → Type 0
-AreNext ds None = definers_of ds ≡ []
+abbrev pub AreNext : List Definer → Option Nearest → Type 0
+AreNext ds None = ds ≡ []
 AreNext ds (Some nearest) = IsNearest ds nearest

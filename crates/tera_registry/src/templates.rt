@@ -4,13 +4,13 @@ ghost use Rattle.tera_errors.specs.Answer.{Gives};
 ghost use Rattle.tera_tree.specs.Delimiters.{delimiters_of, accepted};
 ghost use Rattle.tera_meaning.specs.Accepted.{fault};
 ghost use Rattle.tera_meaning.specs.Lineage.{ancestors, definers_in};
-ghost use Rattle.tera_meaning.specs.Resolve.{parents, resolve};
+ghost use Rattle.tera_meaning.specs.Resolve.{resolve};
 ghost use Rattle.tera_meaning.specs.Registry.{Entry, Registry};
 ghost use Rattle.std.specs.Coded.{codes};
 ghost use Rattle.tera_code.specs.contracts.chunk.Chunk as chunk;
 ghost use Rattle.tera_registry.specs.Order.{Rises, Rises-prop};
 ghost use Rattle.tera_registry.specs.Links.{IsLinked};
-ghost use Rattle.tera_registry.specs.Kept.{entry_of, entries_of, seen};
+ghost use Rattle.tera_registry.specs.Kept.{entries_of, seen};
 ghost use Rattle.tera_registry.specs.Batch.{ConfiguresOneOf, Adds, pairs_of};
 
 use crate::batch::put_all;
@@ -84,11 +84,12 @@ pub struct Definers<'t> {
     start: Option<Start<'t>>,
 }
 
-/// Where the first of them stands.
+/// The block that the first of them defines, or the one above which they all stand.
 #[derive(Clone, Copy)]
 pub struct Start<'t> {
     templates: &'t Templates,
     at: At,
+    is_above: bool,
 }
 
 /// A block as one template defines it, and those who define it above.
@@ -108,37 +109,29 @@ impl<'t> Definers<'t> {
         Definers { start: None }
     }
 
-    /// The first of them, with those above. Takes no memory.
+    /// The first of them, with those above, which are looked for when they are asked for. Takes no memory.
     pub fn next(&self) -> Option<Definer<'t>>
-        ensures { AreNext self.now result }
+        ensures { AreNext (definers_of self.now) result }
     {
-        let start = match self.start {
-            None => return None,
-            Some(start) => start,
-        };
-        let templates: &'t Templates = start.templates;
-        let all = templates.all.as_slice();
-        if start.at.template >= all.len() {
-            return None;
+        match self.start {
+            None => None,
+            Some(start) => {
+                let templates: &'t Templates = start.templates;
+                if !start.is_above {
+                    return templates.definer(start.at);
+                }
+                match templates.above(start.at) {
+                    None => None,
+                    Some(at) => templates.definer(at),
+                }
+            }
         }
-        let template: &Template = &all[start.at.template];
-        let blocks = template.blocks.as_slice();
-        if start.at.block >= blocks.len() {
-            return None;
-        }
-        let block = &blocks[start.at.block];
-        let name = block.name.as_str();
-        Some(Definer {
-            chunk: &block.code,
-            above: Definers {
-                start: templates.first_above(template, name),
-            },
-        })
     }
 }
 
 impl Templates {
-    ghost use Rattle.tera_registry.specs.Templates.{templates_of, prefixes_of, with_templates, is_empty, Finds, registry_in, started};
+    ghost use Rattle.tera_registry.specs.Templates.{templates_of, prefixes_of, with_templates, is_empty, Finds, registry_in, started, AreNext};
+    ghost use Rattle.tera_registry.specs.Definers.{from_place, above_place, from_found};
 
     /// None yet. Takes no memory.
     pub fn new(alloc: Global, prefixes: Vec<String>) -> Templates
@@ -200,24 +193,53 @@ impl Templates {
             Some(at) => Some(Start {
                 templates: self,
                 at,
+                is_above: false,
             }),
         }
     }
 
-    /// Where the first of those stands who define a block above a template.
-    fn first_above(&self, of: &Template, block: &str) -> Option<Start<'_>>
-        requires { parents (registry_in self.now) (entry_of of.now)
-            ≡ Ok (ancestors (registry_in self.now) (entry_of of.now)) }
-        ensures { started result
-            ≡ definers_in block.now (ancestors (registry_in self.now) (entry_of of.now)) }
+    /// The block that stands there, with those who define it above.
+    fn definer(&self, at: At) -> Option<Definer<'_>>
+        ensures { AreNext (from_place (registry_in self.now) at) result }
     {
-        match first_above(self.all.as_slice(), self.prefixes.as_slice(), of, block) {
-            None => None,
-            Some(at) => Some(Start {
-                templates: self,
-                at,
-            }),
+        let all = self.all.as_slice();
+        if at.template >= all.len() {
+            return None;
         }
+        let template: &Template = &all[at.template];
+        let blocks = template.blocks.as_slice();
+        if at.block >= blocks.len() {
+            return None;
+        }
+        let block = &blocks[at.block];
+        Some(Definer {
+            chunk: &block.code,
+            above: Definers {
+                start: Some(Start {
+                    templates: self,
+                    at,
+                    is_above: true,
+                }),
+            },
+        })
+    }
+
+    /// Where the first of those stands who define a block above the template in which it stands.
+    fn above(&self, at: At) -> Option<At>
+        ensures { from_found (registry_in self.now) result ≡ above_place (registry_in self.now) at }
+    {
+        let all = self.all.as_slice();
+        if at.template >= all.len() {
+            return None;
+        }
+        let template: &Template = &all[at.template];
+        let blocks = template.blocks.as_slice();
+        if at.block >= blocks.len() {
+            return None;
+        }
+        let block = &blocks[at.block];
+        let name = block.name.as_str();
+        first_above(all, self.prefixes.as_slice(), template, name)
     }
 
     /// Whether a name resolves to a template. Takes no memory.

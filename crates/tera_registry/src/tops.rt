@@ -22,7 +22,8 @@ pub fn top_blocks(alloc: Global, nodes: &[Node]) -> TeraResult<Vec<Name>>
 // Puts those of the nodes behind those that were found.
 #[cycle(tops)]
 fn add_all(alloc: Global, nodes: &[Node], found: &mut Vec<Name>) -> TeraResult<()>
-    ensures ok { OnOk result (found.new.items ≡ found.old.items ++ top_blocks (nodes_of nodes.now)) }
+    ensures ok { OnOk result
+        (found.new.items ≡ found.old.items ++ top_blocks (nodes_of nodes.now)) }
     ensures lacks { IfErr result Lacks }
 {
     for node in nodes {
@@ -34,7 +35,8 @@ fn add_all(alloc: Global, nodes: &[Node], found: &mut Vec<Name>) -> TeraResult<(
 // Puts those of the node behind those that were found.
 #[cycle(tops)]
 fn add(alloc: Global, node: &Node, found: &mut Vec<Name>) -> TeraResult<()>
-    ensures ok { OnOk result (found.new.items ≡ found.old.items ++ node_top_blocks (node_of node.now)) }
+    ensures ok { OnOk result
+        (found.new.items ≡ found.old.items ++ node_top_blocks (node_of node.now)) }
     ensures lacks { IfErr result Lacks }
 {
     match node {

@@ -16,7 +16,7 @@ ghost use Rattle.tera_registry.specs.Batch.{ConfiguresOneOf, Adds, pairs_of};
 use crate::batch::put_all;
 use crate::definers::{At, first, first_above};
 use crate::lineage::link;
-use crate::names::{find, resolve};
+use crate::names::resolve;
 use crate::template::Template;
 use std::alloc::Global;
 use std::rc::Rc;
@@ -58,6 +58,9 @@ pub struct Found<'t> {
     pub chunk: &'t Chunk,
     /// Those among which it was found.
     pub templates: &'t Templates,
+    place: usize,
+    ghost stands: { slice_get (map (λ t. t.0) (entries_of templates.now.all.items)) place
+        ≡ Some name.now } by { Prim.hlevel codes },
 }
 
 impl<'t> Found<'t> {
@@ -69,11 +72,8 @@ impl<'t> Found<'t> {
         ensures { (r : Registry) → definers_of result
             ≡ definers (with_templates r self.now.templates.now) (Some self.now.name.now) block.now }
     {
-        match find(self.templates.all.as_slice(), "", self.name) {
-            Err(_) => Definers::none(),
-            Ok(place) => Definers {
-                start: self.templates.first(place, block),
-            },
+        Definers {
+            start: self.templates.first(self.place, block),
         }
     }
 }
@@ -179,6 +179,7 @@ impl Templates {
             name: template.name.as_str(),
             chunk: &root.body,
             templates: self,
+            place,
         })
     }
 

@@ -13,6 +13,7 @@ ghost use Rattle.tera_registry.specs.Kept.{entry_of, entries_of, seen};
 use crate::lineage::{Up, above};
 use crate::template::Template;
 use std::rc::Rc;
+use tera_values::Sought;
 
 /// Where a block stands: the place of its template, and which of its blocks it is.
 #[derive(Clone, Copy)]
@@ -22,12 +23,12 @@ pub struct At {
 }
 
 /// Where a block of this name stands among those of a template.
-fn own(template: &Template, block: &str) -> Option<usize>
+fn own(template: &Template, block: &Sought<'_>) -> Option<usize>
     ensures { IsPlace (blocks_of (entry_of template.now)) result
         (entry_at block.now (blocks_of (entry_of template.now))) }
 {
     for place in 0..template.blocks.len() {
-        if block == template.blocks[place].name.as_str() {
+        if block.is(&template.blocks[place].name) {
             return Some(place);
         }
     }
@@ -39,7 +40,7 @@ pub fn first(
     templates: &[Rc<Template>],
     prefixes: &[String],
     from: usize,
-    block: &str,
+    block: &Sought<'_>,
 ) -> Option<At>
     requires rises { Rises (entries_of templates.now) }
     requires grounded { Grounded (seen templates.now prefixes.now) }
@@ -70,7 +71,7 @@ pub fn first_above(
     templates: &[Rc<Template>],
     prefixes: &[String],
     of: &Template,
-    block: &str,
+    block: &Sought<'_>,
 ) -> Option<At>
     requires rises { Rises (entries_of templates.now) }
     requires grounded { Grounded (seen templates.now prefixes.now) }
@@ -98,7 +99,8 @@ fn loses(templates: &[Rc<Template>], prefixes: &[String], of: &Template) -> bool
         return false;
     }
     for name in &of.tops {
-        match first_above(templates, prefixes, of, name.as_str()) {
+        let sought = name.sought();
+        match first_above(templates, prefixes, of, &sought) {
             None => return true,
             Some(_) => {}
         }

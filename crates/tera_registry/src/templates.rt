@@ -23,6 +23,7 @@ use std::rc::Rc;
 use tera_code::Chunk;
 use tera_errors::TeraResult;
 use tera_tree::Delimiters;
+use tera_values::Sought;
 
 /// Templates by name, and the prefixes by which a name is looked up that none of them has.
 pub struct Templates {
@@ -72,8 +73,9 @@ impl<'t> Found<'t> {
         ensures { (r : Registry) → definers_of result
             ≡ definers (with_templates r self.now.templates.now) (Some self.now.name.now) block.now }
     {
+        let sought = Sought::new(block);
         Definers {
-            start: self.templates.first(self.place, block),
+            start: self.templates.first(self.place, &sought),
         }
     }
 }
@@ -184,7 +186,7 @@ impl Templates {
     }
 
     /// Where the first of those stands who define a block, from a template on.
-    fn first(&self, from: usize, block: &str) -> Option<Start<'_>>
+    fn first(&self, from: usize, block: &Sought<'_>) -> Option<Start<'_>>
         requires { from < length self.now.all.items }
         ensures { (t : Entry) → slice_get (templates_of self.now) from ≡ Some t
             → started result ≡ definers_in block.now (t ∷ ancestors (registry_in self.now) t) }
@@ -239,8 +241,8 @@ impl Templates {
             return None;
         }
         let block = &blocks[at.block];
-        let name = block.name.as_str();
-        first_above(all, self.prefixes.as_slice(), template, name)
+        let name = block.name.sought();
+        first_above(all, self.prefixes.as_slice(), template, &name)
     }
 
     /// Whether a name resolves to a template. Takes no memory.

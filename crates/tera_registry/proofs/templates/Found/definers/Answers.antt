@@ -1,4 +1,4 @@
-use Rattle.std.proofs.Common.{sym, ap, ◌∙◌, arith}
+use Rattle.std.proofs.Common.{Some, sym, ap, ◌∙◌, arith}
 use Rattle.std.proofs.lemmas.Option.{slice_get_within}
 use Rattle.tera_meaning.specs.Lineage.{definers_from}
 use Rattle.tera_registry.specs.Kept.{entries_of}
@@ -16,4 +16,4 @@ pub returns : goal.returns
 returns c = λ r.
     let ts = c.args.self.now.templates.now in
     let e = named-place (entries_of ts.all.items) c.args.self.now.place c.args.self.now.name.now ts.rises c.args.self.now.stands in
-    c.first.ensures e.0 e.1 ∙ sym (ap (definers_from (with_templates r ts) c.args.block.now) e.2)
+    c.first.ensures e.0 e.1 ∙ ap (λ b. definers_from (with_templates r ts) b (Some e.0)) c.new-sought.ensures ∙ sym (ap (definers_from (with_templates r ts) c.args.block.now) e.2)

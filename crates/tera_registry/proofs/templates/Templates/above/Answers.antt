@@ -32,5 +32,5 @@ returns c =
     let at = c.args.at in
     let here : slice_get (entries_of all) at.template ≡ Some t = ap (λ l. slice_get (entries_of l) at.template) (sym c.as_slice-all.ensures.value) ∙ entry-at-place c.as_slice-all.result.now at.template c.index-all-at.result c.if-at-all.false c.index-all-at.is ∙ ap (λ t. Some (entry_of t)) (sym c.deref-template.ensures) in
     let n = lent-block kept.blocks.items c.as_slice-blocks.result.now (string_bytes kept.name) (blocks_of t) at.block c.index-blocks-at.result c.as_slice-blocks.ensures.value kept.divided c.if-at-blocks.false c.index-blocks-at.is in
-    let first = lent-above all c.as_slice-all.result.now c.args.self.now.prefixes.items c.as_slice.result.now c.as_slice-all.ensures.value c.as_slice.ensures.value c.first_above.result c.as_str-name.result.now t c.first_above.ensures in
-    found-first r c.first_above.result _ first ∙ ap (λ m. definers_in m (ancestors r t)) (c.as_str-name.ensures ∙ n.2) ∙ sym (at-above r t at n.0 here n.1)
+    let first = lent-above all c.as_slice-all.result.now c.args.self.now.prefixes.items c.as_slice.result.now c.as_slice-all.ensures.value c.as_slice.ensures.value c.first_above.result c.sought-name.result t c.first_above.ensures in
+    found-first r c.first_above.result _ first ∙ ap (λ m. definers_in m (ancestors r t)) (c.sought-name.ensures ∙ n.2) ∙ sym (at-above r t at n.0 here n.1)

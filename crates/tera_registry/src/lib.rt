@@ -3,7 +3,7 @@
 #![tactic(auto)]
 
 mod batch;
-pub mod definers;
+mod definers;
 mod lineage;
 mod meant;
 mod names;

@@ -88,7 +88,7 @@ pub struct Definers<'t> {
 
 /// The block that the first of them defines, or the one above which they all stand.
 #[derive(Clone, Copy)]
-pub struct Start<'t> {
+struct Start<'t> {
     templates: &'t Templates,
     at: At,
     is_above: bool,

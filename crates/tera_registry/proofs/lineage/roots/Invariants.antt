@@ -2,7 +2,7 @@ use Rattle.std.proofs.Common.{◌≡◌, length}
 use Rattle.tera_registry.specs.Links.{AreTops, AreRoots}
 use Rattle.tera_registry.specs.Kept.{seen}
 use Rattle.tera_registry.proofs.Checked.{Checked}
-use Rattle.tera_registry.proofs.lineage.link.Given as goal
+use Rattle.tera_registry.proofs.lineage.roots.Given as goal
 
 abbrev pub invariant-loop-place : goal.invariant-loop-place
 invariant-loop-place l = record {

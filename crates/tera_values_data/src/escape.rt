@@ -201,6 +201,7 @@ pub(crate) fn append_quoted(text: &str, out: &mut String) -> TeraResult<()>
 }
 
 /// The same as `escape_html`, for a text in which something has a form of its own.
+#[inline(never)]
 fn append_marked(text: &str, out: &mut String) -> TeraResult<()>
     ensures ok { OnOk result (string_bytes out.new ≡ string_bytes out.old ++ escape_html text.now) }
     ensures err { OnErr result (string_bytes out.new ≡ string_bytes out.old) }

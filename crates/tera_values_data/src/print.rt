@@ -80,6 +80,7 @@ impl Value {
     }
 
     /// Appends the printed text. Where memory is refused, what was there is there alone.
+    #[inline(always)]
     pub fn print_to(&self, out: &mut String) -> TeraResult<()>
         ensures ok { OnOk result (string_bytes out.new ≡ string_bytes out.old ++ printed self.now) }
         ensures err { OnErr result (string_bytes out.new ≡ string_bytes out.old) }

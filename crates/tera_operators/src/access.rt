@@ -57,13 +57,13 @@ pub fn attribute(
     ensures ready { IsOkAnd (attribute_of file.now optional target.now name.now span)
         (λ o. IsScalar o.value) → IsOk result }
 {
-    if let Some(value) = target.value().get_attr(name) {
-        return Ok(Operand::new(value.try_clone()?, span));
-    }
     if let Some(answer) = without_parts(alloc, file, target, optional, span)? {
         return Ok(answer);
     }
-    Ok(Operand::new(Value::undefined(), span))
+    match target.value().get_attr(name) {
+        Some(value) => Ok(Operand::new(value.try_clone()?, span)),
+        None => Ok(Operand::new(Value::undefined(), span)),
+    }
 }
 
 /// `target[index]`, or `target?[index]` where it is optional.

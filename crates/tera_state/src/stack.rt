@@ -31,21 +31,16 @@ impl<T: Drop> Stack<T> {
     }
 
     /// One more value on top.
-    #[inline(always)]
     pub fn push(&mut self, value: T) -> TeraResult<()>
         ensures ok { OnOk result (self.new ≡ value ∷ self.old) }
         ensures err { OnErr result (self.new ≡ self.old) }
         ensures lacks { IfErr result Lacks }
     {
-        if self.items.len() == self.items.capacity() {
-            self.items.reserve(1)?;
-        }
-        self.items.push_reserved(value);
+        self.items.push(value)?;
         Ok(())
     }
 
     /// Takes the topmost value off.
-    #[inline(always)]
     pub fn pop(&mut self) -> Option<T>
         ensures { MatchOption result ((self.old ≡ []) × (self.new ≡ [])) (λ value. self.old ≡ value ∷ self.new) }
     {
@@ -53,7 +48,6 @@ impl<T: Drop> Stack<T> {
     }
 
     /// How many values there are.
-    #[inline(always)]
     pub fn len(&self) -> usize
         ensures count { result ≡ length self.now }
         ensures small { result < 2 ^ 63 }

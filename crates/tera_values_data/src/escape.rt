@@ -219,7 +219,6 @@ fn append_marked(text: &str, out: &mut String) -> TeraResult<()>
 
 /// Appends the text with `& < > " '` in their forms for markup, and every other character as it is.
 /// Where memory is refused, what was there is there alone.
-#[inline(always)]
 pub fn escape_html(text: &str, out: &mut String) -> TeraResult<()>
     ensures ok { OnOk result (string_bytes out.new ≡ string_bytes out.old ++ escape_html text.now) }
     ensures err { OnErr result (string_bytes out.new ≡ string_bytes out.old) }

@@ -6,7 +6,7 @@ ghost use Rattle.tera_code.specs.Packed.{Grows, Longer, IsAt, Packs, Within, she
 ghost use Rattle.tera_tree.specs.View.{keys_of};
 ghost use Rattle.tera_code.specs.declared.instruction.Instruction.TheVariants as instruction;
 
-use crate::constant::{Constant, Kept};
+use crate::constant::{Constant, Kept, small_integer};
 use crate::content::{Keys, LentName, Spreads, Text};
 use crate::instruction::Instruction;
 use crate::parts::copied;
@@ -211,11 +211,14 @@ impl Tables {
             Kept::None => Ok(Packed::LoadNone { span }),
             Kept::Bool(flag) => Ok(Packed::LoadBool { flag, span }),
             Kept::Int(number) => Ok(Packed::LoadInt { span, number }),
-            Kept::Shared(value) => {
-                let value = value.try_clone()?;
-                let constant = number(&mut self.constants, value)?;
-                Ok(Packed::LoadConst { constant, span })
-            }
+            Kept::Shared(value) => match small_integer(value) {
+                Some(number) => Ok(Packed::LoadInt { span, number }),
+                None => {
+                    let value = value.try_clone()?;
+                    let constant = number(&mut self.constants, value)?;
+                    Ok(Packed::LoadConst { constant, span })
+                }
+            },
         }
     }
 }

@@ -190,7 +190,7 @@ impl Tables {
         }
     }
 
-    fn text(&mut self, text: &str) -> TeraResult<Packed>
+    pub(crate) fn text(&mut self, text: &str) -> TeraResult<Packed>
         ensures grows { Grows (shelf_of self.old) (shelf_of self.new) }
         ensures ok { IfOk result (λ p. Packs (shelf_of self.new) p (instruction.WriteText text.now)) }
         ensures lacks { IfErr result Lacks }
@@ -240,6 +240,22 @@ impl Tables {
         let name = name_number(alloc, &mut self.names, seen, name)?;
         let span = number(&mut self.spans, span)?;
         Ok((name, span))
+    }
+
+    pub(crate) fn written_name(
+        &mut self,
+        alloc: Global,
+        seen: &mut [u32; 64],
+        name: &Sought<'_>,
+        span: Span,
+    ) -> TeraResult<Packed>
+        ensures grows { Grows (shelf_of self.old) (shelf_of self.new) }
+        ensures ok { IfOk result
+            (λ p. Packs (shelf_of self.new) p (instruction.WriteName name.now span)) }
+        ensures lacks { IfErr result Lacks }
+    {
+        let (name, span) = self.name_and_span(alloc, seen, name, span)?;
+        Ok(Packed::WriteName { name, span })
     }
 
     fn make_array(&mut self, alloc: Global, spreads: &Spreads<'_>, span: Span) -> TeraResult<Packed>
@@ -321,10 +337,7 @@ impl Tables {
         match instruction {
             Instruction::WriteText(text) => self.text(text.as_str()),
             Instruction::WriteTop => Ok(Packed::WriteTop),
-            Instruction::WriteName(name, span) => {
-                let (name, span) = self.name_and_span(alloc, seen, &name, span)?;
-                Ok(Packed::WriteName { name, span })
-            }
+            Instruction::WriteName(name, span) => self.written_name(alloc, seen, &name, span),
             Instruction::LoadConst(constant, span) => self.constant(&constant, span),
             Instruction::LoadName(name, span) => {
                 let (name, span) = self.name_and_span(alloc, seen, &name, span)?;

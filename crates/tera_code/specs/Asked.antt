@@ -1,8 +1,9 @@
 -- What an instruction tells where it is asked for its parts; none where it is another one.
-use Rattle.std.specs.Prelude.{ℕ, Bool, true, false, Option, Some, None}
+use Rattle.std.specs.Prelude.{ℕ, ℤ, Bool, true, false, Option, Some, None, option_map}
 use Rattle.tera_errors.specs.Site as site
 use Rattle.tera_errors.specs.declared.span.Span.{Span}
 use Rattle.tera_tree.specs.declared.expression.BinaryOperator.{BinaryOperator}
+use Rattle.tera_code.specs.Constant.{small_integer}
 use Rattle.tera_code.specs.declared.instruction.Instruction.{Instruction}
 use Rattle.tera_code.specs.declared.instruction.Instruction.TheVariants as instruction
 
@@ -20,6 +21,11 @@ written_name other = None
 abbrev pub loaded_name : Instruction → Option (site.Name × Span)
 loaded_name (instruction.LoadName name span) = Some (name, span)
 loaded_name other = None
+
+-- the integer that it puts on top of the operands, if it has at most 64 bits with its sign
+abbrev pub loaded_integer : Instruction → Option (ℤ × Span)
+loaded_integer (instruction.LoadConst value span) = option_map (λ z. (z, span)) (small_integer value)
+loaded_integer other = None
 
 -- the attribute that it takes, and whether it may be missing
 abbrev pub loaded_attribute : Instruction → Option (site.Name × Bool × Span)

@@ -7,6 +7,7 @@ use Rattle.tera_values.specs.Val.{Val}
 use Rattle.tera_values.specs.Val as val
 use Rattle.tera_tree.specs.Tree.{Key}
 use Rattle.tera_tree.specs.View.{keys_of}
+use Rattle.tera_code.specs.Constant.{small_integer}
 use Rattle.tera_code.specs.declared.instruction.Instruction.{Instruction}
 use Rattle.tera_code.specs.declared.instruction.Instruction.TheVariants as instruction
 use Rattle.tera_code.specs.declared.packed.Packed.{Packed}
@@ -88,7 +89,9 @@ Within s packed.WriteTop = Unit {0}
 Within s (packed.LoadNone span) = span < length s.spans
 Within s (packed.LoadBool flag span) = span < length s.spans
 Within s (packed.LoadInt span number) = span < length s.spans
-Within s (packed.LoadConst constant span) = (constant < length s.constants) × (span < length s.spans)
+-- a small integer stands in the instruction itself
+Within s (packed.LoadConst constant span) =
+    (constant < length s.constants) × (span < length s.spans) × (small_integer (get_or s.constants constant val.none) ≡ None)
 Within s (packed.WriteName name span) = (name < length s.names) × (span < length s.spans)
 Within s (packed.LoadName name span) = (name < length s.names) × (span < length s.spans)
 Within s (packed.LoadContext span) = span < length s.spans

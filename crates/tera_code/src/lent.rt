@@ -2,8 +2,8 @@
 ghost use Rattle.std.specs.Prelude.{◌≡◌, IfSome, IsTrue, option_map};
 ghost use Rattle.tera_values.specs.Val as val;
 ghost use Rattle.tera_code.specs.declared.instruction.Instruction.TheVariants as instruction;
-ghost use Rattle.tera_code.specs.Asked.{written_text, written_name, loaded_name, loaded_attribute};
-ghost use Rattle.tera_code.specs.Asked.{applied_operator, bound_name, taken_block, jump_length};
+ghost use Rattle.tera_code.specs.Asked.{written_text, written_name, loaded_name, loaded_integer};
+ghost use Rattle.tera_code.specs.Asked.{loaded_attribute, applied_operator, bound_name, taken_block, jump_length};
 ghost use Rattle.tera_code.specs.Asked.{jump_length_if_false, is_write_top, is_next_turn};
 
 use crate::content::Text;
@@ -97,10 +97,12 @@ impl<'a> LentInstruction<'a> {
     /// The integer that it puts on top of the operands.
     #[inline(always)]
     pub fn as_integer(&self) -> Option<(i64, Span)>
-        ensures { IfSome result (λ p. self.now ≡ instruction.LoadConst (val.int p.0) p.1) }
+        ensures means { IfSome result (λ p. self.now ≡ instruction.LoadConst (val.int p.0) p.1) }
+        ensures exact { option_map (λ p. (p.0, p.1)) result ≡ loaded_integer self.now }
     {
         match *self.packed {
             Packed::LoadInt { span, number } => Some((number, self.tables.span(span))),
+            Packed::LoadConst { .. } => None,
             _ => None,
         }
     }

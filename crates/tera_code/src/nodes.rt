@@ -8,12 +8,12 @@ ghost use Rattle.tera_tree.specs.View.{expr_of, for_of, node_of, nodes_of};
 
 use crate::chunk::Chunk;
 use crate::compiler::Compiler;
-use crate::content::{LentName, Text};
+use crate::content::LentName;
 use crate::instruction::Instruction;
 use crate::parts::is_context;
 use std::alloc::Global;
 use tera_tree::{Expression, Heading, Node};
-use tera_values::{Name, Sought, Span, TeraResult};
+use tera_values::{Name, Span, TeraResult};
 
 impl Compiler {
     /// The instructions of the nodes, one after another, behind those that are there. After a refusal some may be missing.
@@ -50,7 +50,7 @@ impl Compiler {
         ensures lacks { IfErr result Lacks }
     {
         match node {
-            Node::Content { text, span: _ } => self.content(text),
+            Node::Content { text, span: _ } => self.emit_text(text),
             Node::Print { value } => self.print(value),
             Node::If {
                 condition,
@@ -125,13 +125,6 @@ impl Compiler {
         self.fill(place, Instruction::EndLoop(self.behind(place)))
     }
 
-    fn content(&mut self, text: &str) -> TeraResult<()>
-        ensures ok { OnOk result (self.new ≡ lengthened self.old (instruction.WriteText text.now ∷ [])) }
-        ensures lacks { IfErr result Lacks }
-    {
-        self.emit(Instruction::WriteText(Text::new(text)))
-    }
-
     // The block is put out as the template that is rendered has it: its body is compiled by itself.
     fn block(&mut self, name: &str, span: Span) -> TeraResult<()>
         ensures ok { OnOk result
@@ -150,7 +143,7 @@ impl Compiler {
         ensures lacks { IfErr result Lacks }
     {
         match named(value) {
-            Some((name, span)) => self.emit(Instruction::WriteName(Sought::new(name), span)),
+            Some((name, span)) => self.emit_name(name, span),
             None => {
                 self.expression(value)?;
                 self.emit(Instruction::WriteTop)

@@ -9,6 +9,6 @@ mod meant;
 mod names;
 mod template;
 pub mod templates;
-mod tops;
+pub mod tops;
 
 pub use templates::{Definer, Definers, Found, Templates};

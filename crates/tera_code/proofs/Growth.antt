@@ -120,6 +120,8 @@ module _ (s t : Shelf) (u : IsUtf8 s.pool) (v : IsUtf8 t.pool) (g : Grows s t) w
   within_stays (packed.PopJumpIfFalse skip) w = tt
   within_stays (packed.JumpIfFalseOrPop skip) w = tt
   within_stays (packed.JumpIfTrueOrPop skip) w = tt
+  within_stays (packed.TakeBlock name span) w = (below_name name w.0, below_span span w.1)
+  within_stays (packed.TakeAbove span arguments) w = below_span span w
 
   unpacked_stays : (p : Packed) → Within s p → unpacked t p ≡ unpacked s p
   unpacked_stays (packed.WriteText start end) w = ap (λ x. instruction.WriteText x) (slice_longer s.pool t.pool start end g.0 w.0 w.1.1.0)
@@ -154,6 +156,8 @@ module _ (s t : Shelf) (u : IsUtf8 s.pool) (v : IsUtf8 t.pool) (g : Grows s t) w
   unpacked_stays (packed.PopJumpIfFalse skip) w = refl
   unpacked_stays (packed.JumpIfFalseOrPop skip) w = refl
   unpacked_stays (packed.JumpIfTrueOrPop skip) w = refl
+  unpacked_stays (packed.TakeBlock name span) w = ap₂ (λ x y. instruction.TakeBlock x y) (name_same name w.0) (span_same span w.1)
+  unpacked_stays (packed.TakeAbove span arguments) w = ap (λ y. instruction.TakeAbove arguments y) (span_same span w)
 
   pub all_stay : (ps : List Packed) → All (Within s) ps → All (Within t) ps
   all_stay [] h = All-nil (Within t)

@@ -4,3 +4,4 @@ pub mod Listing
 pub mod Code
 pub mod Places
 pub mod Group
+pub mod Blocks

@@ -78,6 +78,8 @@ unpacked s (packed.Jump skip) = instruction.Jump skip
 unpacked s (packed.PopJumpIfFalse skip) = instruction.PopJumpIfFalse skip
 unpacked s (packed.JumpIfFalseOrPop skip) = instruction.JumpIfFalseOrPop skip
 unpacked s (packed.JumpIfTrueOrPop skip) = instruction.JumpIfTrueOrPop skip
+unpacked s (packed.TakeBlock name span) = instruction.TakeBlock (name_at s name) (span_at s span)
+unpacked s (packed.TakeAbove span arguments) = instruction.TakeAbove arguments (span_at s span)
 
 -- what it names is there
 abbrev pub Within : Shelf → Packed → Type 0
@@ -112,6 +114,8 @@ Within s (packed.Jump skip) = Unit {0}
 Within s (packed.PopJumpIfFalse skip) = Unit {0}
 Within s (packed.JumpIfFalseOrPop skip) = Unit {0}
 Within s (packed.JumpIfTrueOrPop skip) = Unit {0}
+Within s (packed.TakeBlock name span) = (name < length s.names) × (span < length s.spans)
+Within s (packed.TakeAbove span arguments) = span < length s.spans
 
 -- these, and then others
 abbrev pub Longer : {X : Type 0} → List X → List X → Type 0

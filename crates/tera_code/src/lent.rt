@@ -140,6 +140,19 @@ impl<'a> LentInstruction<'a> {
         }
     }
 
+    /// The name of the block that it puts out.
+    #[inline(always)]
+    pub fn as_block(&self) -> Option<(&'a Name, Span)>
+        ensures { IfSome result (λ p. self.now ≡ instruction.TakeBlock p.0.now p.1) }
+    {
+        match *self.packed {
+            Packed::TakeBlock { name, span } => {
+                Some((self.tables.whole_name(name), self.tables.span(span)))
+            }
+            _ => None,
+        }
+    }
+
     /// How many instructions it passes, in any case.
     #[inline(always)]
     pub fn as_jump(&self) -> Option<usize>

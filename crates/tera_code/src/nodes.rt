@@ -1,19 +1,20 @@
 // Nodes.
-ghost use Rattle.std.specs.Prelude.{◌≡◌, [], ◌∷◌, OnOk, IfErr, MatchOption, Some, None, true};
+ghost use Rattle.std.specs.Prelude.{◌≡◌, [], ◌∷◌, OnOk, IfOk, IfErr, MatchOption, Some, None, true};
 ghost use Rattle.tera_errors.specs.Answer.{Lacks};
 ghost use Rattle.tera_code.specs.declared.instruction.Instruction.TheVariants as instruction;
-ghost use Rattle.tera_code.specs.Code.{named, node_code, nodes_code, lengthened};
+ghost use Rattle.tera_code.specs.Code.{named, node_code, nodes_code, listing_of, lengthened};
 ghost use Rattle.tera_code.specs.Group.{is_choice, is_loop};
 ghost use Rattle.tera_tree.specs.Tree.{Print};
 ghost use Rattle.tera_tree.specs.View.{expr_of, node_of, nodes_of};
 
+use crate::chunk::Chunk;
 use crate::compiler::Compiler;
-use crate::content::Text;
+use crate::content::{LentName, Text};
 use crate::instruction::Instruction;
 use crate::parts::is_context;
 use std::alloc::Global;
 use tera_tree::{Expression, Node};
-use tera_values::{Sought, Span, TeraResult};
+use tera_values::{Name, Sought, Span, TeraResult};
 
 impl Compiler {
     /// The instructions of the nodes, one after another, behind those that are there. After a refusal some may be missing.
@@ -64,6 +65,11 @@ impl Compiler {
                 is_global,
             } => self.capture(name, body.as_slice(), *is_global, drops),
             Node::For { .. } => self.for_loop(node, drops),
+            Node::Block {
+                name,
+                body: _,
+                span,
+            } => self.block(name, *span),
             Node::Break => self.emit(Instruction::LeaveLoop(drops)),
             Node::Continue => self.emit(Instruction::LeaveTurn(drops)),
         }
@@ -125,6 +131,19 @@ impl Compiler {
         self.emit(Instruction::WriteText(Text::new(text)))
     }
 
+    // The block is put out as the template that is rendered has it: its body is compiled by itself.
+    fn block(&mut self, name: &str, span: Span) -> TeraResult<()>
+        ensures ok { OnOk result
+            (self.new ≡ lengthened self.old (instruction.TakeBlock name.now span ∷ [])) }
+        ensures lacks { IfErr result Lacks }
+    {
+        let name = Name::new(self.alloc(), name)?;
+        self.emit(Instruction::TakeBlock {
+            name: LentName::new(&name),
+            span,
+        })
+    }
+
     fn print(&mut self, value: &Expression) -> TeraResult<()>
         ensures ok { OnOk result (self.new ≡ lengthened self.old (node_code (Print (expr_of value.now)) 0)) }
         ensures lacks { IfErr result Lacks }
@@ -137,6 +156,16 @@ impl Compiler {
             }
         }
     }
+}
+
+/// The code of these nodes, which stand in the text of the template of this name.
+pub fn compiled(alloc: Global, file: &str, nodes: &[Node]) -> TeraResult<Chunk>
+    ensures ok { IfOk result (λ c. c ≡ listing_of file.now (nodes_of nodes.now)) }
+    ensures lacks { IfErr result Lacks }
+{
+    let mut compiler = Compiler::new(alloc, file)?;
+    compiler.compile(nodes)?;
+    Ok(compiler.into_chunk())
 }
 
 // The name that an expression is, if it is one that is looked up.

@@ -99,6 +99,14 @@ pub(crate) enum Packed {
     PopJumpIfFalse(usize),
     JumpIfFalseOrPop(usize),
     JumpIfTrueOrPop(usize),
+    TakeBlock {
+        name: u32,
+        span: u32,
+    },
+    TakeAbove {
+        span: u32,
+        arguments: usize,
+    },
 }
 
 // The layout follows the order of the fields.
@@ -263,6 +271,16 @@ impl Tables {
         Ok(Packed::Store { name, is_global })
     }
 
+    fn take_block(&mut self, name: &LentName<'_>, span: Span) -> TeraResult<Packed>
+        ensures grows { Grows (shelf_of self.old) (shelf_of self.new) }
+        ensures ok { IfOk result (λ p. Packs (shelf_of self.new) p (instruction.TakeBlock name.now span)) }
+        ensures lacks { IfErr result Lacks }
+    {
+        let name = number(&mut self.names, name.share()?)?;
+        let span = number(&mut self.spans, span)?;
+        Ok(Packed::TakeBlock { name, span })
+    }
+
     fn start_loop(
         &mut self,
         key: &Option<LentName<'_>>,
@@ -364,6 +382,11 @@ impl Tables {
             Instruction::PopJumpIfFalse(skip) => Ok(Packed::PopJumpIfFalse(skip)),
             Instruction::JumpIfFalseOrPop(skip) => Ok(Packed::JumpIfFalseOrPop(skip)),
             Instruction::JumpIfTrueOrPop(skip) => Ok(Packed::JumpIfTrueOrPop(skip)),
+            Instruction::TakeBlock { name, span } => self.take_block(&name, span),
+            Instruction::TakeAbove { arguments, span } => {
+                let span = number(&mut self.spans, span)?;
+                Ok(Packed::TakeAbove { span, arguments })
+            }
         }
     }
 
@@ -494,6 +517,14 @@ impl Tables {
             Packed::PopJumpIfFalse(skip) => Instruction::PopJumpIfFalse(skip),
             Packed::JumpIfFalseOrPop(skip) => Instruction::JumpIfFalseOrPop(skip),
             Packed::JumpIfTrueOrPop(skip) => Instruction::JumpIfTrueOrPop(skip),
+            Packed::TakeBlock { name, span } => Instruction::TakeBlock {
+                name: LentName::new(self.whole_name(name)),
+                span: self.span(span),
+            },
+            Packed::TakeAbove { span, arguments } => Instruction::TakeAbove {
+                arguments,
+                span: self.span(span),
+            },
         }
     }
 }

@@ -1,5 +1,9 @@
 pub mod Ends
+pub mod Taking
 pub mod Runs
+pub mod Took
+pub mod Ways
+pub mod Opened
 pub mod Looping
 pub mod Literals
 pub mod Places

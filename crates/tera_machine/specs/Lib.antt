@@ -8,3 +8,4 @@ pub mod Act
 pub mod Exec
 pub mod Progress
 pub mod Subject
+pub mod Bodies

@@ -2,6 +2,9 @@
 #![tactic(auto)]
 
 pub mod act;
+pub mod asked;
+pub mod blocks;
+pub mod bodies;
 mod captures;
 pub mod configuration;
 pub mod ended;
@@ -11,6 +14,8 @@ pub mod place;
 mod step;
 pub mod texts;
 
+pub use asked::Asked;
+pub use blocks::OpenBlocks;
 pub use configuration::Configuration;
 pub use ended::Ended;
 pub use machine::VirtualMachine;

@@ -49,7 +49,7 @@ module _ (w : World) (p : Place) (v : Variables) where
   is_missing name span r ds e f g t =
       told (ABlock name span) span r (way_is name span false [] e (sym f ∙ g)) t
 
-  pub is_found : (name : Name) (span : Span) (ds : Definers) (nearest : Nearest) → is_among name p.opened ≡ false → definers_of ds ≡ definers w.registry p.template name → IsNearest ds nearest → IsBody w p (ABlock name span) v nearest
+  pub is_found : (name : Name) (span : Span) (ds : Definers) (nearest : Nearest) → is_among name p.opened ≡ false → definers_of ds ≡ definers w.registry p.template name → IsNearest (definers_of ds) nearest → IsBody w p (ABlock name span) v nearest
   is_found name span ds nearest e f h = record {
     definer = h.definer;
     takes = way_is name span false (h.definer ∷ definers_of nearest.above) e (sym f ∙ h.is);
@@ -60,7 +60,7 @@ module _ (w : World) (p : Place) (v : Variables) where
   pub none_above : (span : Span) (r : Refusal) → p.above ≡ [] → Tells r (fault_in p span) → FindsBody w p (Above span) v (Err r)
   none_above span r e t = told (Above span) span r (ap (takes_definer p p.opened v (fault_in p span)) e) t
 
-  pub is_above : (span : Span) (ds : Definers) (nearest : Nearest) → p.above ≡ definers_of ds → IsNearest ds nearest → IsBody w p (Above span) v nearest
+  pub is_above : (span : Span) (ds : Definers) (nearest : Nearest) → p.above ≡ definers_of ds → IsNearest (definers_of ds) nearest → IsBody w p (Above span) v nearest
   is_above span ds nearest e h = record {
     definer = h.definer;
     takes = ap (takes_definer p p.opened v (fault_in p span)) (e ∙ h.is);

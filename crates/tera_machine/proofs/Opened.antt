@@ -1,5 +1,5 @@
 -- Names of open blocks, from the top down.
-use Rattle.std.proofs.Common.{◌≡◌, ℕ, ◌-◌, ◌<◌, true, false, List, Some, refl, sym, ap, ◌∙◌}
+use Rattle.std.proofs.Common.{◌≡◌, ℕ, ◌-◌, ◌<◌, true, false, List, Some, sym, ap, ◌∙◌}
 use Rattle.std.specs.Prelude.{slice_get, reverse, ◌||◌, bytes_eq}
 use Rattle.tera_errors.specs.Site.{Name}
 use Rattle.tera_tree.specs.Blocks.{is_among}

@@ -11,7 +11,7 @@ use Rattle.tera_machine.specs.Flow.{Use, Ask}
 use Rattle.tera_machine.specs.Did.{Goes}
 use Rattle.tera_machine.specs.Act.{act}
 use Rattle.tera_machine.specs.Exec.{Code, End, Finished, Broken, Unfinished, Stuck, then_on, entered, left, back, leaving, taken, body_by, exec, Within, IsOver, Ends, EndsWithin, BodyEnds}
-use Rattle.tera_machine.specs.Progress.{Leads, Progress, BodyWithin}
+use Rattle.tera_machine.specs.Progress.{Progress, BodyWithin}
 use Rattle.tera_machine.specs.Bodies.{Entered}
 use Rattle.tera_machine.proofs.Ends.{within_less, within_step, body_deeper, same_end, further, ask_leads, ask_breaks}
 

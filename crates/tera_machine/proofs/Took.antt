@@ -24,7 +24,7 @@ use Rattle.tera_machine.specs.Act.{beneath, beneath_in}
 use Rattle.tera_machine.specs.Exec.{Code, End, Finished, entered, used, left, left_in, Ends, EndsWithin, BodyEnds, Ran}
 use Rattle.tera_machine.specs.Progress.{BodyWithin}
 use Rattle.tera_machine.specs.Subject.{template_of, place_at, place_of}
-use Rattle.tera_machine.specs.Bodies.{opened_by, closed_by, IsBody, FindsBody, Entered, Keeps, Enters, closed_in, Leaves, Stays, BodyRan}
+use Rattle.tera_machine.specs.Bodies.{opened_by, closed_by, IsBody, FindsBody, Entered, Enters, closed_in, Leaves, Stays, BodyRan}
 use Rattle.tera_machine.proofs.Taking.{AtAsk, body_failed, refused, inner_within, can_leave, body_done, body_broke}
 
 pub place_same : (m : VirtualMachine) (file file0 : Name) {b0 b : OpenBlocks} {c0 c : Configuration} → file ≡ file0 → Stays b0 c0 b c → place_at m file b c ≡ place_at m file0 b0 c0
@@ -36,9 +36,6 @@ place_same m file file0 {b0} {b} {c0} {c} e s =
 pub place_none : (m : VirtualMachine) (file : Name) (b : OpenBlocks) (c : Configuration) → b.names ≡ [] → definers_of b.above ≡ [] → place_at m file b c ≡ place_of m file c
 place_none m file b c e f =
     ap₂ (λ ns ds. record { template = template_of m; file = file; around = around_of c.scopes; autoescape = m.autoescape; opened = ns; above = ds }) e f
-
-pub stays_none : (b : OpenBlocks) (c : Configuration) → Stays b c b c
-stays_none b c = record { names = refl; above = refl; around = refl; beneath = refl }
 
 pub stays_then : {b0 b1 b2 : OpenBlocks} {c0 c1 c2 : Configuration} → Stays b0 c0 b1 c1 → Stays b1 c1 b2 c2 → Stays b0 c0 b2 c2
 stays_then s t = record {

@@ -51,7 +51,8 @@ impl<'t> OpenBlocks<'t> {
 
     /// Opens the body of this definer, and hands those out who were above.
     pub fn enter(&mut self, asked: Asked<'_>, definer: &Definer<'t>) -> TeraResult<Definers<'t>>
-        ensures names { OnOk result (self.new.names ≡ opened_by (request_of asked.entry) self.old.names) }
+        ensures names { OnOk result (self.new.names ≡ opened_by
+            (request_of asked.entry) self.old.names) }
         ensures above { OnOk result (self.new.above ≡ definer.now.above) }
         ensures before { IfOk result (λ above. above ≡ self.old.above) }
         ensures lacks { IfErr result Lacks }

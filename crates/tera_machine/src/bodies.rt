@@ -43,7 +43,8 @@ pub struct Inside<'t> {
 impl<'c> Configuration<'c> {
     // A body begins: it has a text of its own, no open loop, and no block that ended.
     fn begin_body(&mut self) -> TeraResult<Outer>
-        ensures config { OnOk result (config_of self.new ≡ entered (config_of self.old).run.vars (config_of self.old)) }
+        ensures config { OnOk result (config_of self.new ≡ entered (config_of self.old).run.vars
+            (config_of self.old)) }
         ensures none { OnOk result (self.new.places ≡ []) }
         ensures places { IfOk result (λ o. o.places ≡ self.old.places) }
         ensures ended { IfOk result (λ o. o.ended.all ≡ self.old.ended.all) }
@@ -113,7 +114,9 @@ impl<'t> VirtualMachine<'t> {
         blocks: &OpenBlocks<'t>,
     ) -> TeraResult<Definer<'t>>
         requires { IsLinked self.now M.world.registry }
-        ensures { (c : Configuration) → FindsBody M.world (place_at self.now chunk.now.file blocks.now c) (request_of asked.entry) (config_of c).run.vars result }
+        ensures { (c : Configuration) → FindsBody M.world
+            (place_at self.now chunk.now.file blocks.now c) (request_of asked.entry)
+            (config_of c).run.vars result }
     {
         match asked {
             Asked::Block(name, span) => {
@@ -156,7 +159,8 @@ impl<'t> VirtualMachine<'t> {
         configuration: &mut Configuration<'_>,
     ) -> TeraResult<Inside<'t>>
         requires { IsLinked self.now M.world.registry }
-        ensures { Enters M.world self.now chunk.now.file asked.entry blocks.old configuration.old result blocks.new configuration.new }
+        ensures { Enters M.world self.now chunk.now.file asked.entry blocks.old configuration.old
+            result blocks.new configuration.new }
     {
         let definer = match self.definer::<M>(chunk, asked, blocks) {
             Ok(definer) => definer,
@@ -180,7 +184,8 @@ impl<'t> VirtualMachine<'t> {
         configuration: &mut Configuration<'_>,
     ) -> TeraResult<()>
         requires { (config_of configuration.old).captures ≢ [] }
-        ensures ok { OnOk result (Leaves asked.entry inside.entry blocks.old configuration.old blocks.new configuration.new) }
+        ensures ok { OnOk result (Leaves asked.entry inside.entry blocks.old configuration.old
+            blocks.new configuration.new) }
         ensures lacks { IfErr result Lacks }
     {
         let Inside {

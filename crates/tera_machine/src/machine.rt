@@ -106,8 +106,10 @@ impl<'t> VirtualMachine<'t> {
         requires code { chunk.now.code ≡ nodes_code about.tree 0 }
         requires own { (config_of configuration.old).loops ≡ [] }
         ensures few { steps.new ≤ steps.old + 8 * visits_of (meant_from about configuration.old) }
-        ensures means { Means (meant_from about configuration.old) (config_of configuration.old) result (config_of configuration.new) }
-        ensures stays { OnOk result (around_of configuration.new.scopes ≡ around_of configuration.old.scopes) }
+        ensures means { Means (meant_from about configuration.old)
+            (config_of configuration.old) result (config_of configuration.new) }
+        ensures stays { OnOk result (around_of configuration.new.scopes
+            ≡ around_of configuration.old.scopes) }
     {
         let mut blocks = OpenBlocks::new(self.alloc);
         self.run_counted::<Brand, L>(chunk, &mut blocks, configuration, steps)
@@ -124,11 +126,16 @@ impl<'t> VirtualMachine<'t> {
     ) -> TeraResult<()>
         requires engine { engine_of self.now ≡ M.world.registry.engine }
         requires linked { IsLinked self.now M.world.registry }
-        requires within { EndsWithin M.world (place_at self.now chunk.now.file blocks.old configuration.old) chunk.now.code 0 (config_of configuration.old) (M.most - steps.old) }
+        requires within { EndsWithin M.world
+            (place_at self.now chunk.now.file blocks.old configuration.old) chunk.now.code 0
+            (config_of configuration.old) (M.most - steps.old) }
         ensures counted { steps.old ≤ steps.new }
         ensures bounded { steps.old ≤ M.most → steps.new ≤ M.most }
-        ensures ends { Ran M.world (place_at self.now chunk.now.file blocks.old configuration.old) chunk.now.code (config_of configuration.old) result (config_of configuration.new) (steps.new - steps.old) }
-        ensures stays { OnOk result (Stays blocks.old configuration.old blocks.new configuration.new) }
+        ensures ends { Ran M.world (place_at self.now chunk.now.file blocks.old configuration.old)
+            chunk.now.code (config_of configuration.old) result (config_of configuration.new)
+            (steps.new - steps.old) }
+        ensures stays { OnOk result (Stays blocks.old configuration.old blocks.new
+            configuration.new) }
     {
         let mut at = 0;
         while let Some(instruction) = chunk.get(at, steps) {
@@ -166,11 +173,17 @@ impl<'t> VirtualMachine<'t> {
     ) -> TeraResult<()>
         requires engine { engine_of self.now ≡ M.world.registry.engine }
         requires linked { IsLinked self.now M.world.registry }
-        requires within { BodyWithin M.world (place_at self.now chunk.now.file blocks.old configuration.old) (request_of asked) (use_of asked) (config_of configuration.old) (M.most - steps.old) }
+        requires within { BodyWithin M.world
+            (place_at self.now chunk.now.file blocks.old configuration.old) (request_of asked)
+            (use_of asked) (config_of configuration.old) (M.most - steps.old) }
         ensures counted { steps.old ≤ steps.new }
         ensures bounded { steps.old ≤ M.most → steps.new ≤ M.most }
-        ensures ends { BodyRan M.world (place_at self.now chunk.now.file blocks.old configuration.old) (request_of asked.entry) (use_of asked.entry) (config_of configuration.old) result (config_of configuration.new) (steps.new - steps.old) }
-        ensures stays { OnOk result (Stays blocks.old configuration.old blocks.new configuration.new) }
+        ensures ends { BodyRan M.world (place_at self.now chunk.now.file blocks.old
+            configuration.old) (request_of asked.entry) (use_of asked.entry)
+            (config_of configuration.old) result (config_of configuration.new)
+            (steps.new - steps.old) }
+        ensures stays { OnOk result (Stays blocks.old configuration.old blocks.new
+            configuration.new) }
     {
         let inside = match self.enter::<M>(chunk, asked, blocks, configuration) {
             Ok(inside) => inside,

@@ -36,7 +36,7 @@ fault-means (Failed meant n) (Some fault) before after h = ap Err (sym h)
 -- what is barred is refused, in place of any text that is meant
 barred-says : (b : Bool) (e : Refusal) (meant : Result Text Fault) → (let done : Result (Unit {0}) Fault = if b then Err message else Ok tt in Says e done) → Says e (if b then Err message else meant)
 barred-says b None meant h = tt
-barred-says true (Some fault) meant h = (let q : Err {Unit {0}} message ≡ Err fault = h in cc)
+barred-says true (Some fault) meant h = (let q : (let done : Result (Unit {0}) Fault = Err message in done ≡ Err fault) = h in cc)
 barred-says false (Some fault) meant h = (let q : Ok tt ≡ Err fault = h in cc)
 
 free-gives : {X : Type 0} (view : X → Text) (result : Result X Refusal) (b : Bool) (meant : Result Text Fault) → (let done : Result (Unit {0}) Fault = if b then Err message else Ok tt in done ≡ Ok tt) → Gives view result meant
@@ -53,7 +53,7 @@ quoted-is_some : (o : Option Quoted) → is_some (quoted_option o) ≡ is_some o
 quoted-is_some None = refl
 quoted-is_some (Some q) = refl
 
-barred : Bool → Result (Unit {0}) Fault
+abbrev barred : Bool → Result (Unit {0}) Fault
 barred b = if b then Err message else Ok tt
 
 or-true : (b c : Bool) → c ≡ true → (b || c) ≡ true

@@ -74,8 +74,8 @@ impl Tera {
         context: &Context,
         autoescape: bool,
     ) -> TeraResult<String>
-        requires linked { with_templates (registry_of self.now) found.entry.templates.now ≡ registry_of self.now }
-        requires code { found.entry.chunk.now.code ≡ nodes_code (nodes_of_file (registry_of self.now) found.entry.chunk.now.file) 0 }
+        requires linked { with_templates (registry_of self.now) found.templates.now ≡ registry_of self.now }
+        requires code { found.chunk.now.code ≡ nodes_code (nodes_of_file (registry_of self.now) found.chunk.now.file) 0 }
         ensures { Gives string_bytes result (text_meant (subject_of_file self.now found.entry.name.now found.entry.chunk.now.file context.now autoescape)) }
     {
         let machine = VirtualMachine::for_template(self.alloc, autoescape, found);

@@ -9,7 +9,8 @@ use Rattle.tera.proofs.engine.Tera.render.Goals as goal
 pub render_found-requires : goal.render_found-requires
 render_found-requires c =
     let r = registry_of c.args.self.now in
-    code-found r c.args.name.now c.in-Some.found (c.in-Some.ensures r)
+    let leads = c.in-Some.ensures r in
+    record { linked = leads.among; code = code-found r c.args.name.now c.in-Some.found leads }
 
 pub returns-in-Some : goal.returns-in-Some
 returns-in-Some c =

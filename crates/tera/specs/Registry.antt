@@ -11,7 +11,7 @@ use Rattle.tera_state.specs.Scope.{nothing_set}
 use Rattle.tera_meaning.specs.Run.{begun}
 use Rattle.tera_meaning.specs.Registry.{Entry, Registry}
 use Rattle.tera_meaning.specs.Resolve.{entry_at}
-use Rattle.tera_meaning.specs.Rendering.{alone, outermost, text_of}
+use Rattle.tera_meaning.specs.Rendering.{alone, outermost, text_of, block_of}
 use Rattle.tera_meaning.specs.Whole.{Place}
 use Rattle.tera_registry.specs.Templates.{templates_of, prefixes_of}
 use Rattle.tera_machine.specs.Subject.{Subject, meant}
@@ -59,3 +59,7 @@ subject_of_file t template file context autoescape =
 -- the text that a body means where it begins a rendering, or its fault
 abbrev pub text_meant : Subject → Result Text Fault
 text_meant s = text_of (meant s (begun nothing_set))
+
+-- and the text that a block has when it ends last in it
+abbrev pub block_meant : Name → Subject → Result Text Fault
+block_meant block s = block_of block (meant s (begun nothing_set))

@@ -124,5 +124,11 @@ render_template = render_template_in plain
 abbrev pub render : Registry → Name → Named Val → Result Text Fault
 render = render_in plain
 
+abbrev pub block_among : List Definer → Name → Answer Signal → Result Text Fault
+block_among = block_among_in plain
+
+abbrev pub render_template_block : Registry → Option Entry → Name → Named Val → Result Text Fault
+render_template_block = render_template_block_in plain
+
 abbrev pub render_block : Registry → Name → Name → Named Val → Result Text Fault
 render_block = render_block_in plain

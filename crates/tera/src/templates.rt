@@ -1,12 +1,14 @@
 // Templates by name.
 ghost use Rattle.std.specs.Prelude.{◌≡◌, Ok, [], ◌∷◌, is_some, map, string_bytes};
 ghost use Rattle.tera_errors.specs.Answer.{Gives, GivesOneOf};
+ghost use Rattle.tera_meaning.specs.Rendering.{autoescapes};
 ghost use Rattle.tera_meaning.specs.Resolve.{resolve};
 ghost use Rattle.tera_registry.specs.Batch.{Adds, ConfiguresOneOf, pairs_of};
 ghost use Rattle.tera.specs.Rendering.{ByName, BlockByName, AppendsOneOf};
 
 use crate::engine::Tera;
 use crate::texts::ends_with_one_of;
+use tera_registry::Found;
 use tera_values::{Context, Error, Name, TeraResult};
 
 impl Tera {
@@ -49,12 +51,16 @@ impl Tera {
         ensures { GivesOneOf string_bytes result (ByName (registry_of self.now) name.now context.now) }
     {
         match self.templates.find(name) {
-            Some(found) => {
-                let autoescape = ends_with_one_of(found.name, self.suffixes.as_slice());
-                self.render_found(found, context, autoescape)
-            }
+            Some(found) => { self.render_found(found, context, self.escapes(found)) }
             None => Err(Error::template_not_found()),
         }
+    }
+
+    // Whether texts are escaped where the template that was found is rendered.
+    fn escapes(&self, found: Found<'_>) -> bool
+        ensures { result ≡ autoescapes (registry_of self.now) found.entry.name.now }
+    {
+        ends_with_one_of(found.name, self.suffixes.as_slice())
     }
 
     /// Appends what `render` answers. After a refusal the vector is as before.
@@ -78,8 +84,7 @@ impl Tera {
                     return Err(Error::message(self.alloc, "no template has this block"));
                 }
                 let wanted = Name::new(self.alloc, block)?;
-                let autoescape = ends_with_one_of(found.name, self.suffixes.as_slice());
-                self.render_found_block(found, &wanted, context, autoescape)
+                self.render_found_block(found, &wanted, context, self.escapes(found))
             }
             None => Err(Error::template_not_found()),
         }

@@ -95,7 +95,11 @@ fn is_many_shown(alloc: Global, engine: &mut Tera, count: usize) -> bool {
     match (many(alloc, count), dotted(alloc, "", count)) {
         (Some(text), Some(want)) => {
             adds(engine, "many", text.as_str())
-                && adds(engine, "child", "{% extends 'many' %}{% block b7 %}.{% endblock %}")
+                && adds(
+                    engine,
+                    "child",
+                    "{% extends 'many' %}{% block b7 %}.{% endblock %}",
+                )
                 && shows(engine, &context, "many", want.as_str())
                 && shows(engine, &context, "child", want.as_str())
         }

@@ -15,8 +15,7 @@ render_found-requires c =
 pub returns-in-Some : goal.returns-in-Some
 returns-in-Some c =
     let r = registry_of c.args.self.now in
-    let flag = rw c.as_slice.ensures.value at c.ends_with_one_of-autoescape.ensures in
-    let is = text-found c.args.self.now c.args.name.now c.args.context.now c.in-Some.found c.ends_with_one_of-autoescape.result (c.in-Some.ensures r) flag in
+    let is = text-found c.args.self.now c.args.name.now c.args.context.now c.in-Some.found c.escapes.result (c.in-Some.ensures r) c.escapes.ensures in
     let P : Result Text Fault → Type 0 = Gives (string_bytes {Z = Global}) c.render_found.result in
     renders r refl c.args.name.now c.args.context.now (string_bytes {Z = Global}) c.render_found.result (subst P is c.render_found.ensures)
 

@@ -96,7 +96,7 @@ ok
 @@ add
 =>
 ok
-fault SyntaxError t 35 40
+fault SyntaxError t 37 42
 
 @@ template t
 {% block b %}{% for x in [1, 2] %}{{ x }}{% break %}{% endfor %}{% endblock %}.
@@ -359,11 +359,11 @@ fault MissingParent
 @@ add
 =>
 ok
-fault SyntaxError a 0 75
+fault SyntaxError a 46 47
 ok
-fault SyntaxError a 0 54
+fault SyntaxError a 22 23
 ok
-fault SyntaxError a 13 29
+fault SyntaxError a 16 24
 
 @@ template themes/base.html
 {% block content %}default{% endblock %}

@@ -1,5 +1,7 @@
 pub mod Ends
 pub mod Taking
+pub mod Still
+pub mod Noting
 pub mod Runs
 pub mod Took
 pub mod Ways

@@ -1,5 +1,5 @@
 -- Real bodies that are entered and left follow the pure machine.
-use Rattle.std.proofs.Common.{◌≡◌, ◌≢◌, ℕ, ◌-◌, ◌≤◌, true, List, [], ◌∷◌, ◌++◌, Some, None, Result, Ok, Err, refl, sym, ap, ap₂, ◌∙◌, subst}
+use Rattle.std.proofs.Common.{◌≡◌, ◌≢◌, ℕ, ◌-◌, ◌≤◌, true, List, [], ◌∷◌, ◌++◌, Some, None, Result, Ok, Err, refl, sym, ap, ap₂, ◌∙◌, subst, append_assoc, append-nil}
 use Rattle.tera_errors.specs.Site.{Name, Text}
 use Rattle.std.specs.Prelude.{OnOk, IfErr}
 use Rattle.tera_errors.specs.Answer.{Refusal, Lacks}
@@ -25,6 +25,8 @@ use Rattle.tera_machine.specs.Exec.{Code, End, Finished, entered, used, left, le
 use Rattle.tera_machine.specs.Progress.{BodyWithin}
 use Rattle.tera_machine.specs.Subject.{template_of, place_at, place_of}
 use Rattle.tera_machine.specs.Bodies.{opened_by, closed_by, IsBody, FindsBody, Entered, Enters, closed_in, Leaves, Stays, BodyRan}
+use Rattle.tera_machine.specs.Wanted.{ended_by}
+use Rattle.tera_machine.proofs.Noting.{noted_then, noted_from}
 use Rattle.tera_machine.proofs.Taking.{AtAsk, body_failed, refused, inner_within, can_leave, body_done, body_broke}
 
 pub place_same : (m : VirtualMachine) (file file0 : Name) {b0 b : OpenBlocks} {c0 c : Configuration} → file ≡ file0 → Stays b0 c0 b c → place_at m file b c ≡ place_at m file0 b0 c0
@@ -43,15 +45,21 @@ stays_then s t = record {
   above = t.above ∙ s.above;
   around = t.around ∙ s.around;
   beneath = t.beneath ∙ s.beneath;
+  since = s.since ++ t.since;
+  ended = t.ended ∙ ap (λ bs. bs ++ t.since) s.ended ∙ append_assoc _ s.since t.since;
+  noted = noted_then s.since t.since s.noted t.noted;
 }
 
 -- what an instruction leaves as it is
-pub moved : {b0 b : OpenBlocks} {c0 c : Configuration} (c1 : Configuration) → Stays b0 c0 b c → around_of c1.scopes ≡ around_of c.scopes → beneath c1 ≡ beneath c → Stays b0 c0 b c1
-moved c1 s e f = record {
+pub moved : {b0 b : OpenBlocks} {c0 c : Configuration} (c1 : Configuration) → Stays b0 c0 b c → around_of c1.scopes ≡ around_of c.scopes → beneath c1 ≡ beneath c → (config_of c1).run.blocks ≡ (config_of c).run.blocks → Stays b0 c0 b c1
+moved c1 s e f g = record {
   names = s.names;
   above = s.above;
   around = e ∙ s.around;
   beneath = f ∙ s.beneath;
+  since = s.since;
+  ended = g ∙ s.ended;
+  noted = s.noted;
 }
 
 -- a body that is asked for in one place, and in the same
@@ -89,6 +97,12 @@ left_closed [] (t ∷ ts) (asked.Block name span) c0 c3 bs loops e f h =
     ap₂ (λ ls xs. Some (used Written (record c3.run { blocks = c3.run.blocks ++ (name.now, c3.run.text) ∷ [] }) (record { operands = c3.operands; captures = ts; loops = ls; run = record { vars = c3.run.vars; text = t; blocks = xs } }))) e f
 left_closed [] (t ∷ ts) (asked.Above span) c0 c3 bs loops e f h =
     ap₂ (λ ls xs. Some (used (Pushed true span) c3.run (record { operands = c3.operands; captures = ts; loops = ls; run = record { vars = c3.run.vars; text = t; blocks = xs } }))) e f
+
+-- the blocks that ended around the body, those that ended in it, and its own
+closed_blocks : (cs : List Text) (a : Asked) (bs : List (Name × Text)) (loops : List Loop) (c : Config) → cs ≢ [] → (closed_in cs (request_of a) (use_of a) bs loops c).run.blocks ≡ bs ++ (c.run.blocks ++ ended_by (request_of a) c.run.text)
+closed_blocks [] a bs loops c h = absurd (h refl)
+closed_blocks (t ∷ ts) (asked.Block name span) bs loops c h = refl
+closed_blocks (t ∷ ts) (asked.Above span) bs loops c h = ap (λ xs. bs ++ xs) (sym (append-nil c.run.blocks))
 
 -- where a body has no open loop, those around it are as they were
 coming_back : (places : List LoopPlace) (coming coming1 : List (List Turn)) → loops_at places coming ≡ [] → beneath_in places coming ≡ coming1 → coming ≡ coming1
@@ -137,12 +151,24 @@ module _ (w : World) (m : VirtualMachine) (file : Name) (a : Asked) (b0 : OpenBl
             let loops = ap₂ (λ ps tss. loops_at ps tss) (sym entry.1.places) (sym same_coming) in
             body_done entry.0 (config_of c3) (config_of c4) j over (left_closed (config_of c3).loops (config_of c3).captures a (config_of c0) (config_of c3) inside.outer.ended.all (loops_at inside.outer.places (coming_of c3.scopes)) loops (sym entry.1.ended) ended ∙ ap Some (sym leaves.config))
 
+        none_before : (config_of c1).run.blocks ≡ []
+        none_before = ap (λ (c : Config). c.run.blocks) entry.0.config
+
+        ended_since : Leaves a inside b3 c3 b4 c4 → c4.ended.all ≡ c0.ended.all ++ (stay.since ++ ended_by (request_of a) (config_of c3).run.text)
+        ended_since leaves =
+            ap (λ (c : Config). c.run.blocks) leaves.config
+            ∙ closed_blocks (config_of c3).captures a inside.outer.ended.all (loops_at inside.outer.places (coming_of c3.scopes)) (config_of c3) may_leave
+            ∙ ap₂ (λ xs ys. xs ++ (ys ++ ended_by (request_of a) (config_of c3).run.text)) entry.1.ended (stay.ended ∙ ap (λ xs. xs ++ stay.since) none_before)
+
         stayed : Leaves a inside b3 c3 b4 c4 → Stays b0 c0 b4 c4
         stayed leaves = record {
           names = leaves.names ∙ ap (closed_by (request_of a)) (stay.names ∙ entry.1.names) ∙ closed_opened a b0.names;
           above = leaves.above ∙ entry.1.above;
           around = leaves.around ∙ stay.around ∙ entry.1.around;
           beneath = ap₂ (λ ps tss. beneath_in ps tss) (leaves.places ∙ entry.1.places) (leaves.coming ∙ same_coming);
+          since = stay.since ++ ended_by (request_of a) (config_of c3).run.text;
+          ended = ended_since leaves;
+          noted = noted_from _ entry.1.wanted (noted_then stay.since _ stay.noted leaves.noted);
         }
 
         -- the body is over, unless memory was refused

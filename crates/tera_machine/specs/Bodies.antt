@@ -1,5 +1,5 @@
 -- How the machine takes the body of a request, and how it leaves it.
-use Rattle.std.specs.Prelude.{◌≡◌, ℕ, List, [], ◌∷◌, drop, Some, None, Result, Ok, Err}
+use Rattle.std.specs.Prelude.{◌≡◌, ℕ, List, [], ◌∷◌, ◌++◌, drop, Some, None, Result, Ok, Err}
 use Rattle.tera_errors.specs.Site.{Name, Text}
 use Rattle.tera_errors.specs.Answer.{Refusal}
 use Rattle.tera_tree.specs.Tree.{Nodes}
@@ -21,6 +21,7 @@ use Rattle.tera_machine.specs.Flow.{Use, request_of, use_of}
 use Rattle.tera_machine.specs.Act.{beneath}
 use Rattle.tera_machine.specs.Exec.{Code, Finished, Broken, entered, used, BodyEnds}
 use Rattle.tera_machine.specs.Subject.{place_at}
+use Rattle.tera_machine.specs.Wanted.{ended_by, Noted}
 
 -- the blocks that are open in a body, by those that are open where it is asked for, and the other way round
 abbrev pub opened_by : Request → List Name → List Name
@@ -55,6 +56,7 @@ pub record Entered (w : World) (p : Place) (q : Request) (c : Config) (p' : Plac
 pub record Keeps (a : Asked) (inside : Inside) (blocks0 : OpenBlocks) (c0 : Configuration) (blocks : OpenBlocks) (c : Configuration) : Type 0 where
   pub names : blocks.names ≡ opened_by (request_of a) blocks0.names
   pub above : inside.above ≡ blocks0.above
+  pub wanted : blocks.wanted ≡ blocks0.wanted
   pub places : inside.outer.places ≡ c0.places
   pub ended : inside.outer.ended.all ≡ c0.ended.all
   pub none : c.places ≡ []
@@ -79,16 +81,20 @@ pub record Leaves (a : Asked) (inside : Inside) (blocks0 : OpenBlocks) (c0 : Con
   pub config : config_of c ≡ closed_in (config_of c0).captures (request_of a) (use_of a) inside.outer.ended.all (loops_at inside.outer.places (coming_of c0.scopes)) (config_of c0)
   pub names : blocks.names ≡ closed_by (request_of a) blocks0.names
   pub above : blocks.above ≡ inside.above
+  pub noted : Noted blocks0.wanted (ended_by (request_of a) (config_of c0).run.text) blocks.wanted
   pub places : c.places ≡ inside.outer.places
   pub coming : coming_of c.scopes ≡ coming_of c0.scopes
   pub around : around_of c.scopes ≡ around_of c0.scopes
 
--- what stays while a body runs
+-- what stays while a body runs, and the blocks that ended in it
 pub record Stays (blocks0 : OpenBlocks) (c0 : Configuration) (blocks : OpenBlocks) (c : Configuration) : Type 0 where
   pub names : blocks.names ≡ blocks0.names
   pub above : blocks.above ≡ blocks0.above
   pub around : around_of c.scopes ≡ around_of c0.scopes
   pub beneath : beneath c ≡ beneath c0
+  pub since : List (Name × Text)
+  pub ended : c.ended.all ≡ c0.ended.all ++ since
+  pub noted : Noted blocks0.wanted since blocks.wanted
 
 -- a request was answered as the machine does, unless memory was refused
 abbrev pub BodyRan : World → Place → Request → Use → Config → Result (Unit {0}) Refusal → Config → ℕ → Type 0

@@ -7,28 +7,32 @@ ghost use Rattle.tera_machine.specs.Flow.{request_of};
 ghost use Rattle.tera_machine.specs.Bodies.{opened_by, closed_by};
 
 use crate::asked::Asked;
+use crate::wanted::Wanted;
 use std::alloc::Global;
 use tera_registry::{Definer, Definers};
 use tera_state::Stack;
 use tera_values::{Name, TeraResult};
 
-/// The names of the blocks that are open, the innermost on top, and those who define the innermost above the body that
-/// runs.
+/// The names of the blocks that are open, the innermost on top, those who define the innermost above the body that runs,
+/// and the block that is wanted.
 #[derive(Drop)]
 pub struct OpenBlocks<'t> {
     pub names: Stack<Name>,
     pub above: Definers<'t>,
+    pub wanted: Wanted,
 }
 
 impl<'t> OpenBlocks<'t> {
     /// No block is open; takes no memory.
-    pub fn new(alloc: Global) -> OpenBlocks<'t>
+    pub fn new(alloc: Global, wanted: Wanted) -> OpenBlocks<'t>
         ensures names { result.names ≡ [] }
         ensures above { definers_of result.above ≡ [] }
+        ensures wanted { result.wanted ≡ wanted }
     {
         OpenBlocks {
             names: Stack::new(alloc),
             above: Definers::none(),
+            wanted,
         }
     }
 
@@ -54,6 +58,7 @@ impl<'t> OpenBlocks<'t> {
         ensures names { OnOk result (self.new.names ≡ opened_by
             (request_of asked.entry) self.old.names) }
         ensures above { OnOk result (self.new.above ≡ definer.now.above) }
+        ensures wanted { self.new.wanted ≡ self.old.wanted }
         ensures before { IfOk result (λ above. above ≡ self.old.above) }
         ensures lacks { IfErr result Lacks }
     {
@@ -70,6 +75,7 @@ impl<'t> OpenBlocks<'t> {
     pub fn leave(&mut self, asked: Asked<'_>, above: Definers<'t>)
         ensures names { self.new.names ≡ closed_by (request_of asked.entry) self.old.names }
         ensures above { self.new.above ≡ above.entry }
+        ensures wanted { self.new.wanted ≡ self.old.wanted }
     {
         match asked {
             Asked::Block(_, _) => drop(self.names.pop()),

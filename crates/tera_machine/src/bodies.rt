@@ -9,6 +9,7 @@ ghost use Rattle.tera_machine.specs.Config.{Config, config_of, loops_at};
 ghost use Rattle.tera_machine.specs.Exec.{entered};
 ghost use Rattle.tera_machine.specs.Flow.{request_of, use_of};
 ghost use Rattle.tera_machine.specs.Subject.{IsLinked, template_of, place_at};
+ghost use Rattle.tera_machine.specs.Wanted.{ended_by, Noted};
 ghost use Rattle.tera_machine.specs.Bodies.{FindsBody, Enters, Leaves, closed_in};
 
 use crate::asked::Asked;
@@ -17,6 +18,7 @@ use crate::configuration::Configuration;
 use crate::ended::Ended;
 use crate::machine::{Limit, VirtualMachine};
 use crate::place::LoopPlace;
+use crate::wanted::Wanted;
 use std::mem::replace;
 use tera_code::Chunk;
 use tera_errors::Error;
@@ -60,13 +62,15 @@ impl<'c> Configuration<'c> {
         })
     }
 
-    // The body ends: its text joins the one around it, or becomes a safe operand.
-    fn end_body(&mut self, asked: Asked<'_>, outer: Outer) -> TeraResult<()>
+    // The body ends: its text joins the one around it, or becomes a safe operand. That of a block is kept where it is wanted.
+    fn end_body(&mut self, asked: Asked<'_>, outer: Outer, wanted: &mut Wanted) -> TeraResult<()>
         requires { (config_of self.old).captures ≢ [] }
         ensures config { OnOk result (config_of self.new ≡ closed_in (config_of self.old).captures
             (request_of asked.entry) (use_of asked.entry) outer.ended.all
             (loops_at outer.places (coming_of self.old.scopes)) (config_of self.old)) }
         ensures places { OnOk result (self.new.places ≡ outer.places) }
+        ensures noted { OnOk result (Noted wanted.old
+            (ended_by (request_of asked.entry) self.old.texts.now) wanted.new) }
         ensures coming { OnOk result (coming_of self.new.scopes ≡ coming_of self.old.scopes) }
         ensures around { OnOk result (around_of self.new.scopes ≡ around_of self.old.scopes) }
         ensures lacks { IfErr result Lacks }
@@ -83,6 +87,7 @@ impl<'c> Configuration<'c> {
                     name.as_str().as_bytes(),
                     text.as_bytes(),
                 );
+                wanted.note(name, text);
                 Ok(())
             }
             Asked::Above(span) => {
@@ -193,7 +198,7 @@ impl<'t> VirtualMachine<'t> {
             above,
             outer,
         } = inside;
-        configuration.end_body(asked, outer)?;
+        configuration.end_body(asked, outer, &mut blocks.wanted)?;
         blocks.leave(asked, above);
         Ok(())
     }

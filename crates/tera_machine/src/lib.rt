@@ -13,6 +13,7 @@ pub mod machine;
 pub mod place;
 mod step;
 pub mod texts;
+pub mod wanted;
 
 pub use asked::Asked;
 pub use blocks::OpenBlocks;
@@ -21,3 +22,4 @@ pub use ended::Ended;
 pub use machine::VirtualMachine;
 pub use place::LoopPlace;
 pub use texts::Texts;
+pub use wanted::Wanted;

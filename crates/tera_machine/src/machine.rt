@@ -1,8 +1,9 @@
 // A run of a body, and of those that it takes.
-ghost use Rattle.std.specs.Prelude.{◌≡◌, ℕ, ◌+◌, ◌-◌, ◌*◌, ◌≤◌, [], None, Some, IsTrue, OnOk};
+ghost use Rattle.std.specs.Prelude.{◌≡◌, ℕ, ◌+◌, ◌-◌, ◌*◌, ◌≤◌, [], None, Some, IsTrue, OnOk, string_bytes};
 ghost use Rattle.tera_meaning.specs.Run.{visits_of};
 ghost use Rattle.tera_meaning.specs.Registry.{new_registry};
-ghost use Rattle.tera_meaning.specs.Rendering.{alone};
+ghost use Rattle.tera_errors.specs.Answer.{Gives};
+ghost use Rattle.tera_meaning.specs.Rendering.{alone, block_of};
 ghost use Rattle.tera_meaning.specs.Whole.{World};
 ghost use Rattle.tera_state.specs.Scopes.{around_of};
 ghost use Rattle.tera_code.specs.Code.{nodes_code};
@@ -16,6 +17,7 @@ ghost use Rattle.tera_machine.specs.Subject.{Subject, IsLinked, meant_from, engi
 use crate::asked::Asked;
 use crate::blocks::OpenBlocks;
 use crate::configuration::Configuration;
+use crate::wanted::Wanted;
 use std::alloc::Global;
 use std::marker::Brand;
 use std::sync::ledger::Ledger;
@@ -111,8 +113,42 @@ impl<'t> VirtualMachine<'t> {
         ensures stays { OnOk result (around_of configuration.new.scopes
             ≡ around_of configuration.old.scopes) }
     {
-        let mut blocks = OpenBlocks::new(self.alloc);
+        let mut blocks = OpenBlocks::new(self.alloc, Wanted::none());
         self.run_counted::<Brand, L>(chunk, &mut blocks, configuration, steps)
+    }
+
+    /// The same, where no block ended before: the text of the block of this name as it ended last, or the empty text.
+    pub fn run_for_block<L: Ledger>(
+        &self,
+        chunk: &Chunk,
+        block: &str,
+        configuration: &mut Configuration<'_>,
+        steps: &mut Steps<L>,
+    ) -> TeraResult<String>
+        ghost about: { Subject }
+        requires engine { engine_of self.now ≡ about.world.registry.engine }
+        requires linked { IsLinked self.now about.world.registry }
+        requires place { place_of self.now chunk.now.file configuration.old ≡ about.place }
+        requires code { chunk.now.code ≡ nodes_code about.tree 0 }
+        requires own { (config_of configuration.old).loops ≡ [] }
+        requires none { (config_of configuration.old).run.blocks ≡ [] }
+        ensures few { steps.new ≤ steps.old + 8 * visits_of (meant_from about configuration.old) }
+        ensures text { Gives string_bytes result
+            (block_of block.now (meant_from about configuration.old)) }
+    {
+        let wanted = Wanted::block(self.alloc, block)?;
+        let mut blocks = OpenBlocks::new(self.alloc, wanted);
+        match self.run_counted::<Brand, L>(chunk, &mut blocks, configuration, steps) {
+            Ok(()) => {}
+            Err(error) => return Err(error),
+        }
+        let OpenBlocks {
+            names,
+            above: _,
+            wanted,
+        } = blocks;
+        drop(names);
+        Ok(wanted.into_text(self.alloc))
     }
 
     // The same, in the machine's own terms, and where blocks may be open.

@@ -1,24 +1,29 @@
 -- A rendering of a template, from what was found by its name.
-use Rattle.std.proofs.Common.{◌≡◌, Bool, IsTrue, Option, Some, None, Result, Ok, Err, refl, sym, ap, ◌∙◌, subst}
+use Rattle.std.proofs.Common.{◌≡◌, Bool, List, [], ◌∷◌, Some, None, Result, Ok, Err, refl, sym, ap, ap₂, ◌∙◌, subst}
 use Rattle.tera_errors.specs.Site.{Text, Name}
-use Rattle.tera_errors.specs.Fault.{Fault, template_not_found}
-use Rattle.tera_errors.specs.Answer.{Refusal, Gives, GivesOneOf, SaysOneOf}
+use Rattle.tera_errors.specs.Fault.{Fault, message, template_not_found}
+use Rattle.tera_errors.specs.Answer.{Refusal, Tells, Gives, GivesOneOf, SaysOneOf}
 use Rattle.tera_values.specs.Alphabet.{marking}
 use Rattle.tera_values.specs.Escape.{escape_html}
 use Rattle.tera_values.specs.Val.{Val}
 use Rattle.tera_values.specs.Named.{Named}
-use Rattle.tera_meaning.specs.Registry.{Template, Entry, Registry}
+use Rattle.tera_meaning.specs.Registry.{Registry}
 use Rattle.tera_meaning.specs.Resolve.{resolve, root}
-use Rattle.tera_meaning.specs.Rendering.{autoescapes, render, render_in, render_template}
+use Rattle.tera_state.specs.Scope.{nothing_set}
+use Rattle.tera_meaning.specs.Run.{Signal, Answer, begun}
+use Rattle.tera_meaning.specs.Lineage.{Definer, definers}
+use Rattle.tera_meaning.specs.Rendering.{autoescapes, text_of, template_meaning, render, render_in, render_template, block_among, render_template_block, render_block, render_block_in}
 use Rattle.tera_code.specs.Code.{nodes_code}
 use Rattle.tera_code.specs.Listing.{Listing}
 use Rattle.tera_marks.specs.Origin.{Traces}
-use Rattle.tera_marks.proofs.Traced.{templates_are_traced}
-use Rattle.tera_registry.specs.Templates.{Leads}
+use Rattle.tera_marks.proofs.Traced.{templates_are_traced, blocks_are_traced}
+use Rattle.tera_machine.specs.Subject.{Subject, meant}
+use Rattle.tera_registry.specs.Templates.{Leads, with_templates, definers_of}
 use Rattle.tera_registry.specs.declared.templates.Found.{Found}
+use Rattle.tera_registry.specs.declared.templates.Definers.{Definers}
 use Rattle.tera.specs.declared.engine.Tera.{Tera}
-use Rattle.tera.specs.Registry.{registry_of, nodes_in, nodes_of_file, subject_of, subject_of_file, text_meant}
-use Rattle.tera.specs.Rendering.{ByName}
+use Rattle.tera.specs.Registry.{registry_of, nodes_in, nodes_of_file, subject_of, subject_of_file, text_meant, block_meant}
+use Rattle.tera.specs.Rendering.{ByName, BlockByName}
 use Rattle.tera.proofs.Owned.{owns-root}
 
 module _ (r : Registry) (name : Name) (found : Found) (leads : Leads r name found) where
@@ -31,16 +36,46 @@ module _ (r : Registry) (name : Name) (found : Found) (leads : Leads r name foun
   pub code-found : found.chunk.now.code ≡ nodes_code (nodes_of_file r found.chunk.now.file) 0
   code-found = ap (λ (l : Listing). l.code) leads.code ∙ ap (λ ns. nodes_code ns 0) (sym nodes-found)
 
--- what the body that was found means is what the name renders to
-pub text-found : (t : Tera) (name : Name) (context : Named Val) (found : Found) (flag : Bool) → Leads (registry_of t) name found → flag ≡ autoescapes (registry_of t) found.name.now
-    → text_meant (subject_of_file t found.chunk.now.file context flag) ≡ render (registry_of t) name context
-text-found t name context found flag leads is =
+-- what the body that was found means is what the template means
+answer-found : (t : Tera) (name : Name) (context : Named Val) (found : Found) (flag : Bool) (leads : Leads (registry_of t) name found) → flag ≡ autoescapes (registry_of t) found.name.now
+    → meant (subject_of_file t found.name.now found.chunk.now.file context flag) (begun nothing_set) ≡ template_meaning (registry_of t) leads.entry context
+answer-found t name context found flag leads is =
     let r = registry_of t in
     let top = root r leads.entry in
-    ap (λ file. text_meant (subject_of t file (nodes_of_file r found.chunk.now.file) context flag)) (file-found r name found leads)
-    ∙ ap (λ ns. text_meant (subject_of t top.0 ns context flag)) (nodes-found r name found leads)
-    ∙ ap (λ b. text_meant (subject_of t top.0 top.1.tree.nodes context b)) (is ∙ ap (autoescapes r) leads.named)
-    ∙ sym (ap (λ o. render_template r o context) leads.resolves)
+    let m : Subject → Answer Signal = λ s. meant s (begun nothing_set) in
+    ap (λ file. m (subject_of t (Some found.name.now) file (nodes_of_file r found.chunk.now.file) context flag)) (file-found r name found leads)
+    ∙ ap (λ ns. m (subject_of t (Some found.name.now) top.0 ns context flag)) (nodes-found r name found leads)
+    ∙ ap (λ b. m (subject_of t (Some found.name.now) top.0 top.1.tree.nodes context b)) (is ∙ ap (autoescapes r) leads.named)
+    ∙ ap (λ n. m (subject_of t (Some n) top.0 top.1.tree.nodes context (autoescapes r leads.entry.0))) leads.named
+
+-- so its text is what the name renders to
+pub text-found : (t : Tera) (name : Name) (context : Named Val) (found : Found) (flag : Bool) → Leads (registry_of t) name found → flag ≡ autoescapes (registry_of t) found.name.now
+    → text_meant (subject_of_file t found.name.now found.chunk.now.file context flag) ≡ render (registry_of t) name context
+text-found t name context found flag leads is =
+    ap text_of (answer-found t name context found flag leads is)
+    ∙ sym (ap (λ o. render_template (registry_of t) o context) leads.resolves)
+
+module _ (t : Tera) (name block : Name) (context : Named Val) (found : Found) (leads : Leads (registry_of t) name found) (ds : Definers) (of_block : (r : Registry) → definers_of ds ≡ definers (with_templates r found.templates.now) (Some found.name.now) block) where
+  defined : definers_of ds ≡ definers (registry_of t) (Some leads.entry.0) block
+  defined =
+      of_block (registry_of t)
+      ∙ ap (λ r. definers r (Some found.name.now) block) leads.among
+      ∙ ap (λ n. definers (registry_of t) (Some n) block) leads.named
+
+  meant-by : (answer : Answer Signal) (bs : List Definer) → template_meaning (registry_of t) leads.entry context ≡ answer → definers_of ds ≡ bs → render_block (registry_of t) name block context ≡ block_among bs block answer
+  meant-by answer bs is e =
+      ap (λ o. render_template_block (registry_of t) o block context) leads.resolves
+      ∙ ap₂ (λ xs a. block_among xs block a) (sym defined ∙ e) is
+
+  -- a block that nobody defines
+  pub block-missing : definers_of ds ≡ [] → render_block (registry_of t) name block context ≡ Err message
+  block-missing e = meant-by (template_meaning (registry_of t) leads.entry context) [] refl e
+
+  -- any other has the text of the last one that ended
+  pub block-found : (flag : Bool) (d : Definer) (more : List Definer) → flag ≡ autoescapes (registry_of t) found.name.now → definers_of ds ≡ d ∷ more
+      → block_meant block (subject_of_file t found.name.now found.chunk.now.file context flag) ≡ render_block (registry_of t) name block context
+  block-found flag d more is e =
+      sym (meant-by (meant (subject_of_file t found.name.now found.chunk.now.file context flag) (begun nothing_set)) (d ∷ more) (sym (answer-found t name context found flag leads is)) e)
 
 module _ (r : Registry) (by_html : r.engine.escape ≡ escape_html) (name : Name) (context : Named Val) where
   by_name : (answer : Result Text Fault) → answer ≡ render r name context → ByName r name context answer
@@ -59,3 +94,30 @@ module _ (r : Registry) (by_html : r.engine.escape ≡ escape_html) (name : Name
   not_there e is none =
       let P : Refusal → Type 0 = λ x. SaysOneOf x (ByName r name context) in
       subst P (sym is) (by_name (Err template_not_found) (sym (ap (λ o. render_template r o context) none)))
+
+module _ (r : Registry) (by_html : r.engine.escape ≡ escape_html) (name block : Name) (context : Named Val) where
+  block_by_name : (answer : Result Text Fault) → answer ≡ render_block r name block context → BlockByName r name block context answer
+  block_by_name answer e = record {
+    is = e;
+    origin = λ t found on. let P : Result Text Fault → Type 0 = Traces (render_block_in marking r name block context) in
+        subst P (sym e) (blocks_are_traced r name block context t by_html found on);
+  }
+
+  pub renders-block : {X : Type 0} (view : X → Text) (result : Result X Refusal) → Gives view result (render_block r name block context) → GivesOneOf view result (BlockByName r name block context)
+  renders-block view (Ok x) g = block_by_name (Ok (view x)) (sym g)
+  renders-block view (Err None) g = tt
+  renders-block view (Err (Some fault)) g = block_by_name (Err fault) (sym g)
+
+  refuses-with : (e : Refusal) (fault : Fault) → Tells e fault → render_block r name block context ≡ Err fault → SaysOneOf e (BlockByName r name block context)
+  refuses-with None fault h is = tt
+  refuses-with (Some told) fault h is = block_by_name (Err told) (ap Err h ∙ sym is)
+
+  -- a block that is not there is refused
+  pub no_block : (e : Refusal) → Tells e message → render_block r name block context ≡ Err message → SaysOneOf e (BlockByName r name block context)
+  no_block e h is = refuses-with e message h is
+
+  -- and so is a template that is not
+  pub no_template : (e : Refusal) → e ≡ Some template_not_found → resolve r name ≡ None → SaysOneOf e (BlockByName r name block context)
+  no_template e is none =
+      let P : Refusal → Type 0 = λ x. SaysOneOf x (BlockByName r name block context) in
+      subst P (sym is) (block_by_name (Err template_not_found) (sym (ap (λ o. render_template_block r o block context) none)))

@@ -1,5 +1,5 @@
 -- A rendering beside the registry, from what the reader answered.
-use Rattle.std.proofs.Common.{◌≡◌, Bool, true, false, IsTrue, Option, Some, None, is_some, Result, Ok, Err, if◌then◌else◌, refl, sym, ap, ◌∙◌, subst}
+use Rattle.std.proofs.Common.{◌≡◌, Bool, true, false, ◌||◌, IsTrue, Option, Some, None, is_some, Result, Ok, Err, if◌then◌else◌, refl, sym, ap, ◌∙◌}
 use Rattle.tera_errors.specs.Site.{Text}
 use Rattle.tera_errors.specs.Fault.{Fault, message}
 use Rattle.tera_errors.specs.Answer.{Refusal, Says, Tells, Gives, GivesOneOf, SaysOneOf}
@@ -17,8 +17,8 @@ use Rattle.tera_meaning.specs.Registry.{Registry}
 use Rattle.tera_machine.specs.Config.{Config, config_of, starting}
 use Rattle.tera_machine.specs.Subject.{Subject, meant, meant_from, Means}
 use Rattle.tera_machine.specs.declared.configuration.Configuration.{Configuration}
-use Rattle.tera.specs.Rendering.{OneOff}
-use Rattle.tera_meaning.specs.Rendering.{text_of, one_off_meaning, render_str, render_str_in, one_off_name}
+use Rattle.tera.specs.Rendering.{OneOff, allowed}
+use Rattle.tera_meaning.specs.Rendering.{has_a_block, text_of, one_off_meaning, render_str, render_str_in, one_off_name}
 use Rattle.tera_marks.specs.Origin.{Traces}
 use Rattle.tera_marks.proofs.Traced.{markup_is_traced}
 
@@ -33,14 +33,46 @@ fault-means (Gave signal run n) (Some fault) before after h = absurd h
 fault-means (Failed meant n) None before after h = tt
 fault-means (Failed meant n) (Some fault) before after h = ap Err (sym h)
 
-told-says : (e : Refusal) → Tells e message → let meant : Result Text Fault = Err message in Says e meant
-told-says None h = tt
-told-says (Some fault) h = ap Err (sym h)
+-- what is barred is refused, in place of any text that is meant
+barred-says : (b : Bool) (e : Refusal) (meant : Result Text Fault) → (let done : Result (Unit {0}) Fault = if b then Err message else Ok tt in Says e done) → Says e (if b then Err message else meant)
+barred-says b None meant h = tt
+barred-says true (Some fault) meant h = (let q : (let done : Result (Unit {0}) Fault = Err message in done ≡ Err fault) = h in cc)
+barred-says false (Some fault) meant h = (let q : Ok tt ≡ Err fault = h in cc)
+
+free-gives : {X : Type 0} (view : X → Text) (result : Result X Refusal) (b : Bool) (meant : Result Text Fault) → (let done : Result (Unit {0}) Fault = if b then Err message else Ok tt in done ≡ Ok tt) → Gives view result meant
+    → Gives view result (if b then Err message else meant)
+free-gives view result true meant h g = (let q : Err message ≡ Ok tt = h in cc)
+free-gives view result false meant h g = g
+
+told-says : (e : Refusal) (done : Result (Unit {0}) Fault) → Tells e message → done ≡ Err message → Says e done
+told-says None done t h = tt
+told-says (Some fault) done t h = h ∙ ap Err (sym t)
 
 -- whether a text extends a template
-pub quoted-is_some : (o : Option Quoted) → is_some (quoted_option o) ≡ is_some o
+quoted-is_some : (o : Option Quoted) → is_some (quoted_option o) ≡ is_some o
 quoted-is_some None = refl
 quoted-is_some (Some q) = refl
+
+abbrev barred : Bool → Result (Unit {0}) Fault
+barred b = if b then Err message else Ok tt
+
+or-true : (b c : Bool) → c ≡ true → (b || c) ≡ true
+or-true true c h = refl
+or-true false c h = h
+
+-- a text that extends a template is not allowed
+pub child-says : (o : Option Quoted) (tree : Tree) (e : Refusal) → tree.parent ≡ quoted_option o → is_some o ≡ true → Tells e message → Says e (allowed tree)
+child-says o tree e parent some t =
+    told-says e (allowed tree) t (ap (λ b. barred (b || has_a_block tree.nodes)) (ap is_some parent ∙ quoted-is_some o ∙ some))
+
+-- nor is one with a block
+pub block-says : (tree : Tree) (e : Refusal) → has_a_block tree.nodes ≡ true → Tells e message → Says e (allowed tree)
+block-says tree e some t =
+    told-says e (allowed tree) t (ap barred (or-true (is_some tree.parent) (has_a_block tree.nodes) some))
+
+pub allows : (o : Option Quoted) (tree : Tree) → tree.parent ≡ quoted_option o → is_some o ≡ false → has_a_block tree.nodes ≡ false → allowed tree ≡ Ok tt
+allows o tree parent none no_block =
+    ap (λ b. barred (b || has_a_block tree.nodes)) (ap is_some parent ∙ quoted-is_some o ∙ none) ∙ ap barred no_block
 
 module _ (r : Registry) (by_html : r.engine.escape ≡ escape_html) (text : Text) (context : Named Val) where
   -- the law, where the answer is what the reading means
@@ -62,17 +94,14 @@ module _ (r : Registry) (by_html : r.engine.escape ≡ escape_html) (text : Text
   answered view autoescape tree (Err None) h g = tt
   answered view autoescape tree (Err (Some fault)) h g = means (Ok tree) _ autoescape h (sym g)
 
-  -- a text that extends a template is refused
-  pub refused-child : {X : Type 0} (view : X → Text) (autoescape : Bool) (tree : Tree) (e : Refusal) → Reads one_off_name r.delimiters text (Ok tree) → is_some tree.parent ≡ true → Tells e message
+  -- a text that may not be rendered is refused
+  pub refused-tree : {X : Type 0} (view : X → Text) (autoescape : Bool) (tree : Tree) (e : Refusal) → Reads one_off_name r.delimiters text (Ok tree) → Says e (allowed tree)
       → GivesOneOf view (Err e) (OneOff r text context autoescape)
-  refused-child view autoescape tree e h p t =
-      let meant = text_of (one_off_meaning r tree context autoescape) in
-      answered view autoescape tree (Err e) h
-      (subst (λ o. Says e o) (sym (ap (λ (b : Bool). if b then Err message else meant) p)) (told-says e t))
+  refused-tree view autoescape tree e h says =
+      answered view autoescape tree (Err e) h (barred-says (is_some tree.parent || has_a_block tree.nodes) e (text_of (one_off_meaning r tree context autoescape)) says)
 
   -- any other is rendered
-  pub rendered : {X : Type 0} (view : X → Text) (autoescape : Bool) (tree : Tree) (result : Result X Refusal) → Reads one_off_name r.delimiters text (Ok tree) → is_some tree.parent ≡ false
+  pub rendered : {X : Type 0} (view : X → Text) (autoescape : Bool) (tree : Tree) (result : Result X Refusal) → Reads one_off_name r.delimiters text (Ok tree) → allowed tree ≡ Ok tt
       → Gives view result (text_of (one_off_meaning r tree context autoescape)) → GivesOneOf view result (OneOff r text context autoescape)
-  rendered view autoescape tree result h p g =
-      let meant = text_of (one_off_meaning r tree context autoescape) in
-      answered view autoescape tree result h (subst (λ o. Gives view result o) (sym (ap (λ (b : Bool). if b then Err message else meant) p)) g)
+  rendered view autoescape tree result h allows g =
+      answered view autoescape tree result h (free-gives view result (is_some tree.parent || has_a_block tree.nodes) (text_of (one_off_meaning r tree context autoescape)) allows g)

@@ -1,5 +1,5 @@
 -- What an engine holds, as the definitions see it.
-use Rattle.std.specs.Prelude.{Bool, map, string_bytes, Option, Some, None, Result}
+use Rattle.std.specs.Prelude.{Bool, [], map, string_bytes, Option, Some, None, Result}
 use Rattle.tera_errors.specs.Site.{Text, Name}
 use Rattle.tera_errors.specs.Fault.{Fault}
 use Rattle.tera_values.specs.Val.{Val}
@@ -11,7 +11,7 @@ use Rattle.tera_state.specs.Scope.{nothing_set}
 use Rattle.tera_meaning.specs.Run.{begun}
 use Rattle.tera_meaning.specs.Registry.{Entry, Registry}
 use Rattle.tera_meaning.specs.Resolve.{entry_at}
-use Rattle.tera_meaning.specs.Rendering.{alone, outermost, text_of}
+use Rattle.tera_meaning.specs.Rendering.{alone, outermost, text_of, block_of}
 use Rattle.tera_meaning.specs.Whole.{Place}
 use Rattle.tera_registry.specs.Templates.{templates_of, prefixes_of}
 use Rattle.tera_machine.specs.Subject.{Subject, meant}
@@ -27,15 +27,21 @@ registry_of t = record {
   engine = record { escape = escape_html };
 }
 
--- where a body stands that a rendering begins with
-abbrev pub place_at : Tera → Name → Named Val → Bool → Place
-place_at t file context autoescape =
-    record { file = file; around = outermost (registry_of t) context; autoescape = autoescape }
+-- where a body stands that a rendering begins with: that of a template, or of a text beside the registry
+abbrev pub place_at : Tera → Option Name → Name → Named Val → Bool → Place
+place_at t template file context autoescape = record {
+  template = template;
+  file = file;
+  around = outermost (registry_of t) context;
+  autoescape = autoescape;
+  opened = [];
+  above = [];
+}
 
--- nodes of this template's text, as what a run of the machine is about
-abbrev pub subject_of : Tera → Name → Nodes → Named Val → Bool → Subject
-subject_of t file nodes context autoescape =
-    record { world = alone (registry_of t); place = place_at t file context autoescape; tree = nodes }
+-- nodes of a template's text, as what a run of the machine is about
+abbrev pub subject_of : Tera → Option Name → Name → Nodes → Named Val → Bool → Subject
+subject_of t template file nodes context autoescape =
+    record { world = alone (registry_of t); place = place_at t template file context autoescape; tree = nodes }
 
 abbrev pub nodes_in : Option Entry → Nodes
 nodes_in None = NoNodes
@@ -45,10 +51,15 @@ nodes_in (Some t) = t.1.tree.nodes
 abbrev pub nodes_of_file : Registry → Name → Nodes
 nodes_of_file r file = nodes_in (entry_at file r.templates)
 
-abbrev pub subject_of_file : Tera → Name → Named Val → Bool → Subject
-subject_of_file t file context autoescape =
-    subject_of t file (nodes_of_file (registry_of t) file) context autoescape
+-- the nodes of a template's text with which the rendering of a template begins
+abbrev pub subject_of_file : Tera → Name → Name → Named Val → Bool → Subject
+subject_of_file t template file context autoescape =
+    subject_of t (Some template) file (nodes_of_file (registry_of t) file) context autoescape
 
 -- the text that a body means where it begins a rendering, or its fault
 abbrev pub text_meant : Subject → Result Text Fault
 text_meant s = text_of (meant s (begun nothing_set))
+
+-- and the text that a block has when it ends last in it
+abbrev pub block_meant : Name → Subject → Result Text Fault
+block_meant block s = block_of block (meant s (begun nothing_set))

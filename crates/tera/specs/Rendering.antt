@@ -1,7 +1,7 @@
 -- What the rendering calls may answer.
-use Rattle.std.specs.Prelude.{◌≡◌, Bool, IsTrue, ◌++◌, Some, Result, Ok, Err}
+use Rattle.std.specs.Prelude.{◌≡◌, Bool, IsTrue, ◌||◌, ◌++◌, Some, is_some, Result, Ok, Err, if◌then◌else◌}
 use Rattle.tera_errors.specs.Site.{Text, Name}
-use Rattle.tera_errors.specs.Fault.{Fault}
+use Rattle.tera_errors.specs.Fault.{Fault, message}
 use Rattle.tera_errors.specs.Answer.{Refusal, SaysOneOf}
 use Rattle.tera_values.specs.Alphabet.{marking}
 use Rattle.tera_values.specs.Val.{Val}
@@ -10,8 +10,12 @@ use Rattle.tera_tree.specs.Tree.{Tree}
 use Rattle.tera_syntax.specs.Reads.{Reads}
 use Rattle.tera_meaning.specs.Registry.{Entry, Registry}
 use Rattle.tera_meaning.specs.Resolve.{resolve}
-use Rattle.tera_meaning.specs.Rendering.{autoescapes, one_off_name, render, render_in, render_str, render_str_in}
+use Rattle.tera_meaning.specs.Rendering.{autoescapes, has_a_block, one_off_name, render, render_in, render_block, render_block_in, render_str, render_str_in}
 use Rattle.tera_marks.specs.Origin.{Traces}
+
+-- whether a text may be rendered beside the registry: it extends no template and has no block
+abbrev pub allowed : Tree → Result (Unit {0}) Fault
+allowed tree = if is_some tree.parent || has_a_block tree.nodes then Err message else Ok tt
 
 -- what the rendering of a text beside the registry may answer: what its tree means, and where texts are escaped, no markup
 -- but from template text or a value marked safe. Only the place of a syntax error is left open
@@ -26,6 +30,11 @@ pub record OneOff (r : Registry) (text : Text) (context : Named Val) (autoescape
 pub record ByName (r : Registry) (name : Name) (context : Named Val) (answer : Result Text Fault) : Type 0 where
   pub is : answer ≡ render r name context
   pub origin : (t : Entry) → resolve r name ≡ Some t → IsTrue (autoescapes r t.0) → Traces (render_in marking r name context) answer
+
+-- what the rendering of a block may answer, likewise
+pub record BlockByName (r : Registry) (name block : Name) (context : Named Val) (answer : Result Text Fault) : Type 0 where
+  pub is : answer ≡ render_block r name block context
+  pub origin : (t : Entry) → resolve r name ≡ Some t → IsTrue (autoescapes r t.0) → Traces (render_block_in marking r name block context) answer
 
 -- how a call ends that appends what it renders to these bytes: they are followed by the text, or are as before
 abbrev pub AppendsOneOf : Result (Unit {0}) Refusal → Text → Text → (Result Text Fault → Type 0) → Type 0

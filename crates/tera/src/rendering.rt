@@ -1,22 +1,24 @@
 // From a text, or the code of a body, to what it renders to.
-ghost use Rattle.std.specs.Prelude.{◌≡◌, string_bytes};
-ghost use Rattle.tera_errors.specs.Answer.{Gives, GivesOneOf, Lacks};
-ghost use Rattle.std.specs.Prelude.{IfOk, IfErr};
-ghost use Rattle.tera_tree.specs.View.{nodes_of};
-ghost use Rattle.tera_code.specs.Code.{listing_of, nodes_code};
-ghost use Rattle.tera.specs.Rendering.{OneOff};
+ghost use Rattle.std.specs.Prelude.{◌≡◌, None, string_bytes};
+ghost use Rattle.tera_errors.specs.Answer.{Gives, GivesOneOf};
+ghost use Rattle.tera_tree.specs.View.{nodes_of, tree_of};
+ghost use Rattle.tera_code.specs.Code.{nodes_code};
+ghost use Rattle.tera_registry.specs.Templates.{with_templates};
+ghost use Rattle.tera.specs.Rendering.{OneOff, allowed};
 ghost use Rattle.tera_meaning.specs.Rendering.{one_off_name};
-ghost use Rattle.tera_machine.specs.Subject.{Subject};
+ghost use Rattle.tera_machine.specs.Subject.{Subject, IsLinked, template_of};
 
 use crate::engine::Tera;
 use std::alloc::Global;
 use std::marker::Brand;
 use std::sync::ledger::{Blank, Ledger};
-use tera_code::{Chunk, Compiler, Steps};
+use tera_code::{Chunk, Steps, compiled};
 use tera_machine::{Configuration, VirtualMachine};
+use tera_registry::Found;
+use tera_registry::tops::top_blocks;
 use tera_state::Scopes;
 use tera_syntax::parse;
-use tera_tree::Node;
+use tera_tree::{Node, ParserOutput};
 use tera_values::{Context, Error, TeraResult};
 
 /// The name that faults give to a text that is no template of the engine.
@@ -34,17 +36,15 @@ impl Tera {
         ensures { GivesOneOf string_bytes result (OneOff (registry_of self.now) input.now context.now autoescape) }
     {
         match parse(self.alloc, ONE_OFF, input, &self.delimiters) {
-            Ok(output) => {
-                if output.parent.is_some() {
-                    return Err(Error::message(self.alloc, "no template may be extended here"));
-                }
-                self.render_nodes::<Brand>(
+            Ok(output) => match allow(self.alloc, &output) {
+                Ok(()) => self.render_nodes::<Brand>(
                     output.nodes.as_slice(),
                     context,
                     autoescape,
                     Blank::new(1),
-                )
-            }
+                ),
+                Err(error) => Err(error),
+            },
             Err(error) => Err(error),
         }
     }
@@ -59,41 +59,44 @@ impl Tera {
     ) -> TeraResult<String>
         ghost about: { Subject }
         requires ledger { (blank.name ≡ L.name) × (blank.parts ≡ L.parts) × (L.parts ≡ 1) }
-        requires subject { about ≡ subject_of self.now one_off_name (nodes_of nodes.now) context.now autoescape }
+        requires subject { about ≡ subject_of self.now None one_off_name (nodes_of nodes.now) context.now autoescape }
         ensures { Gives string_bytes result (text_meant about) }
     {
-        let chunk = compiled(self.alloc, nodes)?;
-        self.run_body::<L>(&chunk, context, autoescape, blank)
+        let chunk = compiled(self.alloc, ONE_OFF, nodes)?;
+        let machine = VirtualMachine::new_with_autoescape(self.alloc, autoescape);
+        self.run_body::<L>(&machine, &chunk, context, blank)
     }
 
-    // The text of the body of a template: the file that its code names says of which.
-    pub(crate) fn render_body(
+    // The text of a template that was found, from the body of its root on: the file that its code names says of which.
+    pub(crate) fn render_found(
         &self,
-        chunk: &Chunk,
+        found: Found<'_>,
         context: &Context,
         autoescape: bool,
     ) -> TeraResult<String>
-        requires { chunk.now.code ≡ nodes_code (nodes_of_file (registry_of self.now) chunk.now.file) 0 }
-        ensures { Gives string_bytes result (text_meant (subject_of_file self.now chunk.now.file context.now autoescape)) }
+        requires linked { with_templates (registry_of self.now) found.templates.now ≡ registry_of self.now }
+        requires code { found.chunk.now.code ≡ nodes_code (nodes_of_file (registry_of self.now) found.chunk.now.file) 0 }
+        ensures { Gives string_bytes result (text_meant (subject_of_file self.now found.entry.name.now found.entry.chunk.now.file context.now autoescape)) }
     {
-        self.run_body::<Brand>(chunk, context, autoescape, Blank::new(1))
+        let machine = VirtualMachine::for_template(self.alloc, autoescape, found);
+        self.run_body::<Brand>(&machine, found.chunk, context, Blank::new(1))
     }
 
     // The text of a body. The subject is the body's: it tells the machine what it means.
     fn run_body<L: Ledger>(
         &self,
+        machine: &VirtualMachine<'_>,
         chunk: &Chunk,
         context: &Context,
-        autoescape: bool,
         blank: Blank,
     ) -> TeraResult<String>
         ghost about: { Subject }
         requires ledger { (blank.name ≡ L.name) × (blank.parts ≡ L.parts) × (L.parts ≡ 1) }
-        requires subject { about ≡ subject_of self.now chunk.now.file about.tree context.now autoescape }
+        requires linked { IsLinked machine.now (registry_of self.now) }
+        requires subject { about ≡ subject_of self.now (template_of machine.now) chunk.now.file about.tree context.now machine.now.autoescape }
         requires code { chunk.now.code ≡ nodes_code about.tree 0 }
         ensures { Gives string_bytes result (text_meant about) }
     {
-        let machine = VirtualMachine::new_with_autoescape(self.alloc, autoescape);
         let scopes = Scopes::new(self.alloc, context, Some(&self.global_context));
         let mut configuration = Configuration::new(self.alloc, scopes);
         let mut steps = Steps::<L>::new(blank);
@@ -104,11 +107,15 @@ impl Tera {
     }
 }
 
-fn compiled(alloc: Global, nodes: &[Node]) -> TeraResult<Chunk>
-    ensures ok { IfOk result (λ c. c ≡ listing_of one_off_name (nodes_of nodes.now)) }
-    ensures lacks { IfErr result Lacks }
+// Refuses a text that extends a template, and one that has a block.
+fn allow(alloc: Global, output: &ParserOutput) -> TeraResult<()>
+    ensures { Gives (λ done. done) result (allowed (tree_of output.now)) }
 {
-    let mut compiler = Compiler::new(alloc, ONE_OFF)?;
-    compiler.compile(nodes)?;
-    Ok(compiler.into_chunk())
+    if output.parent.is_some() {
+        return Err(Error::message(alloc, "no template may be extended here"));
+    }
+    if !top_blocks(alloc, output.nodes.as_slice())?.is_empty() {
+        return Err(Error::message(alloc, "no block may stand here"));
+    }
+    Ok(())
 }

@@ -1,12 +1,14 @@
 // Templates by name.
 ghost use Rattle.std.specs.Prelude.{◌≡◌, Ok, [], ◌∷◌, is_some, map, string_bytes};
 ghost use Rattle.tera_errors.specs.Answer.{Gives, GivesOneOf};
+ghost use Rattle.tera_meaning.specs.Rendering.{autoescapes};
 ghost use Rattle.tera_meaning.specs.Resolve.{resolve};
 ghost use Rattle.tera_registry.specs.Batch.{Adds, ConfiguresOneOf, pairs_of};
 ghost use Rattle.tera.specs.Rendering.{ByName, AppendsOneOf};
 
 use crate::engine::Tera;
 use crate::texts::ends_with_one_of;
+use tera_registry::Found;
 use tera_values::{Context, Error, TeraResult};
 
 impl Tera {
@@ -21,7 +23,8 @@ impl Tera {
 
     /// Adds templates, all or none, each in place of one that has its name; of several with one name the last stays. Refused with
     /// a `SyntaxError` where a text spells no tree, and where the templates do not go together: a template extends one that
-    /// is not there, or some extend one another in a circle. Then all is as before.
+    /// is not there, some extend one another in a circle, or a child has a block, inside no other one, that no parent has
+    /// (`Message`). Then all is as before.
     pub fn add_raw_templates(&mut self, templates: &[(&str, &str)]) -> TeraResult<()>
         ensures { ConfiguresOneOf result (Adds (registry_of self.old) (pairs_of templates.now)) (registry_of self.old) (registry_of self.new) }
     {
@@ -42,17 +45,22 @@ impl Tera {
         self.templates.names()
     }
 
-    /// Renders the template to which the name resolves: the text of the last of its parents, or its own where it has none.
+    /// Renders the template to which the name resolves: the text of the last of its parents, or its own where it has none, with the
+    /// blocks as the template and its parents define them.
     pub fn render(&self, name: &str, context: &Context) -> TeraResult<String>
         ensures { GivesOneOf string_bytes result (ByName (registry_of self.now) name.now context.now) }
     {
         match self.templates.find(name) {
-            Some(found) => {
-                let autoescape = ends_with_one_of(found.name, self.suffixes.as_slice());
-                self.render_body(found.chunk, context, autoescape)
-            }
+            Some(found) => { self.render_found(found, context, self.escapes(found)) }
             None => Err(Error::template_not_found()),
         }
+    }
+
+    // Whether texts are escaped where the template that was found is rendered.
+    fn escapes(&self, found: Found<'_>) -> bool
+        ensures { result ≡ autoescapes (registry_of self.now) found.entry.name.now }
+    {
+        ends_with_one_of(found.name, self.suffixes.as_slice())
     }
 
     /// Appends what `render` answers. After a refusal the vector is as before.

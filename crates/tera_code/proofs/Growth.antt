@@ -12,6 +12,7 @@ use Rattle.tera_values.specs.Val as val
 use Rattle.tera_tree.specs.declared.expression.OwnedKey.{OwnedKey}
 use Rattle.tera_tree.specs.Tree.{Key}
 use Rattle.tera_tree.specs.View.{key_option, keys_of}
+use Rattle.tera_code.specs.Constant.{small_integer}
 use Rattle.tera_code.specs.declared.instruction.Instruction.{Instruction}
 use Rattle.tera_code.specs.declared.instruction.Instruction.TheVariants as instruction
 use Rattle.tera_code.specs.declared.packed.Packed.{Packed}
@@ -94,7 +95,8 @@ module _ (s t : Shelf) (u : IsUtf8 s.pool) (v : IsUtf8 t.pool) (g : Grows s t) w
   within_stays (packed.LoadNone span) w = below_span span w
   within_stays (packed.LoadBool flag span) w = below_span span w
   within_stays (packed.LoadInt span number) w = below_span span w
-  within_stays (packed.LoadConst constant span) w = (below_longer s.constants t.constants constant g.1.1.0 w.0, below_span span w.1)
+  within_stays (packed.LoadConst constant span) w =
+      (below_longer s.constants t.constants constant g.1.1.0 w.0, below_span span w.1, ap small_integer (at_longer s.constants t.constants constant _ g.1.1.0 w.0) ∙ w.2)
   within_stays (packed.WriteName name span) w = (below_name name w.0, below_span span w.1)
   within_stays (packed.LoadName name span) w = (below_name name w.0, below_span span w.1)
   within_stays (packed.LoadContext span) w = below_span span w
@@ -120,6 +122,8 @@ module _ (s t : Shelf) (u : IsUtf8 s.pool) (v : IsUtf8 t.pool) (g : Grows s t) w
   within_stays (packed.PopJumpIfFalse skip) w = tt
   within_stays (packed.JumpIfFalseOrPop skip) w = tt
   within_stays (packed.JumpIfTrueOrPop skip) w = tt
+  within_stays (packed.TakeBlock name span) w = (below_name name w.0, below_span span w.1)
+  within_stays (packed.TakeAbove span arguments) w = below_span span w
 
   unpacked_stays : (p : Packed) → Within s p → unpacked t p ≡ unpacked s p
   unpacked_stays (packed.WriteText start end) w = ap (λ x. instruction.WriteText x) (slice_longer s.pool t.pool start end g.0 w.0 w.1.1.0)
@@ -154,6 +158,8 @@ module _ (s t : Shelf) (u : IsUtf8 s.pool) (v : IsUtf8 t.pool) (g : Grows s t) w
   unpacked_stays (packed.PopJumpIfFalse skip) w = refl
   unpacked_stays (packed.JumpIfFalseOrPop skip) w = refl
   unpacked_stays (packed.JumpIfTrueOrPop skip) w = refl
+  unpacked_stays (packed.TakeBlock name span) w = ap₂ (λ x y. instruction.TakeBlock x y) (name_same name w.0) (span_same span w.1)
+  unpacked_stays (packed.TakeAbove span arguments) w = ap (λ y. instruction.TakeAbove arguments y) (span_same span w)
 
   pub all_stay : (ps : List Packed) → All (Within s) ps → All (Within t) ps
   all_stay [] h = All-nil (Within t)

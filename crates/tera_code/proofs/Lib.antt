@@ -1,4 +1,5 @@
 pub mod Filled
+pub mod Found
 pub mod Growth
 pub mod Lengthened
 pub mod Written

@@ -1,25 +1,26 @@
 -- Forms whose parts stand in a Vec.
-use Rattle.std.proofs.Common.{◌≡◌, ℕ, suc, Bool, false, Bor, option_copied, length, List, [], ◌∷◌, ◌++◌, Vec, Box, Global, Result, Ok, Err, OnOk, Option, None, Some, refl, sym, ap, ap₂, ◌∙◌, append_assoc}
+use Rattle.std.proofs.Common.{◌≡◌, ℕ, suc, ◌≤◌, drop, Bool, false, Bor, length, List, [], ◌∷◌, ◌++◌, Vec, Box, Global, Result, Ok, Err, OnOk, Option, None, Some, refl, sym, ap, ap₂, ◌∙◌, append_assoc}
 use Rattle.tera_errors.specs.declared.span.Span.{Span}
 use Rattle.tera_errors.specs.Fault.{Fault}
 use Rattle.tera_errors.specs.Answer.{Refusal}
 use Rattle.tera_tree.specs.declared.expression.Item.{Item}
 use Rattle.tera_tree.specs.declared.expression.Entry.{Entry}
+use Rattle.tera_tree.specs.declared.expression.Argument.{Argument}
 use Rattle.tera_tree.specs.declared.expression.OwnedKey.{OwnedKey}
 use Rattle.tera_tree.specs.declared.expression.Heading.{Heading}
 use Rattle.tera_tree.specs.declared.expression.Expression.{Expression}
 use Rattle.tera_tree.specs.declared.expression.Expression.TheVariants as expression
 use Rattle.tera_tree.specs.declared.node.Node.{Node}
 use Rattle.tera_tree.specs.declared.node.Node.TheVariants as variant
-use Rattle.tera_tree.specs.Tree.{Key, Capture}
-use Rattle.tera_tree.specs.View.{key_option, literal_option, comprehension_of, optional_of, expr_of, items_of, entries_of, node_of, nodes_of}
-use Rattle.tera_tree.proofs.Views.{view_array, view_map, view_if, view_capture, view_for}
+use Rattle.tera_tree.specs.Tree.{Key, If, Capture, Super}
+use Rattle.tera_tree.specs.View.{key_option, literal_option, comprehension_of, optional_of, expr_of, items_of, entries_of, arguments_of, node_of, nodes_of, for_of}
+use Rattle.tera_tree.proofs.Views.{view_array, view_map, view_super, view_if, view_capture, view_for}
 use Rattle.tera_code.specs.declared.instruction.Instruction.TheVariants as instruction
 use Rattle.tera_code.specs.Listing.{Listing}
 use Rattle.tera_tree.specs.View.{keys_of}
-use Rattle.tera_code.specs.Code.{expr_code, items_code, entries_code, node_code, nodes_code, choice_code, turn_code, loop_tail, spreads_of, keys_in, lengthened}
+use Rattle.tera_code.specs.Code.{expr_code, items_code, entries_code, arguments_code, arguments_length, node_code, turn_code, spreads_of, keys_in, lengthened}
 use Rattle.tera_code.specs.Places.{filled, behind, looped}
-use Rattle.tera_code.proofs.Lengthened.{lengthened-lengthened}
+use Rattle.tera_code.proofs.Lengthened.{lengthened-lengthened, all_written, drop-past}
 use Rattle.tera_code.proofs.Filled.{keep_written, comprehension_written}
 
 pub length_keys : (ks : List (Option OwnedKey)) → length (keys_of ks) ≡ length ks
@@ -69,25 +70,43 @@ map_written l m n e entries span xs ys r is a b h =
     ∙ ap (λ t. lengthened l (expr_code t)) (sym (view_map entries span))
     ∙ ap (λ t. lengthened l (expr_code (expr_of t))) (sym is))
 
+arguments_counted : (xs : List Argument) → length xs ≡ arguments_length (arguments_of xs)
+arguments_counted [] = refl
+arguments_counted (x ∷ xs) = ap (λ n. suc n) (arguments_counted xs)
+
+-- all arguments are written, and the text above is asked for behind them
+pub above_written : (l m n : Listing) (xs : List Argument) (i : ℕ) (span : Span) (r : Result (Unit {0}) Refusal) → length xs ≤ i → lengthened m (arguments_code (arguments_of (drop i xs))) ≡ lengthened l (arguments_code (arguments_of xs))
+    → OnOk r (n ≡ lengthened m (instruction.TakeAbove (length xs) span ∷ [])) → OnOk r (n ≡ lengthened l (expr_code (Super (arguments_of xs) span)))
+above_written l m n xs i span r past is h =
+    let all = all_written m _ _ (ap (λ x. arguments_code (arguments_of x)) (drop-past xs i past)) is in
+    on_ok_by r n _ _ (ap₂ (λ k count. lengthened k (instruction.TakeAbove count span ∷ [])) all (arguments_counted xs)
+    ∙ lengthened-lengthened l (arguments_code (arguments_of xs)) (instruction.TakeAbove (arguments_length (arguments_of xs)) span ∷ [])) h
+
+pub super_written : (l m : Listing) (e : Expression) (arguments : Vec Argument Global) (span : Span) (xs : List Argument) (r : Result (Unit {0}) Refusal) → e ≡ expression.Super arguments span → xs ≡ arguments.items
+    → OnOk r (m ≡ lengthened l (expr_code (Super (arguments_of xs) span))) → OnOk r (m ≡ lengthened l (expr_code (expr_of e)))
+super_written l m e arguments span xs r is a h =
+    on_ok_by r m _ _ (ap (λ x. lengthened l (expr_code (Super (arguments_of x) span))) a
+    ∙ ap (λ t. lengthened l (expr_code t)) (sym (view_super arguments span))
+    ∙ ap (λ t. lengthened l (expr_code (expr_of t))) (sym is)) h
+
 pub boxed_written : (l m : Listing) (x y : Expression) → m ≡ lengthened l (expr_code (expr_of x)) → x ≡ y → m ≡ lengthened l (expr_code (expr_of y))
 boxed_written l m x y h e = h ∙ ap (λ e. lengthened l (expr_code (expr_of e))) e
 
-pub if_written : (l m : Listing) (node : Node) (drops : ℕ) (condition : Box Expression Global) (body other : Vec Node Global) (xs ys : List Node) → node ≡ variant.If condition body other → xs ≡ body.items → ys ≡ other.items
-    → m ≡ lengthened l (choice_code (expr_code (expr_of condition.value)) (nodes_code (nodes_of xs) drops) (nodes_code (nodes_of ys) drops)) → m ≡ lengthened l (node_code (node_of node) drops)
-if_written l m node drops condition body other xs ys is a b h =
-    h
-    ∙ ap₂ (λ x y. lengthened l (choice_code (expr_code (expr_of condition.value)) (nodes_code (nodes_of x) drops) (nodes_code (nodes_of y) drops))) a b
+pub if_written : (l m : Listing) (node : Node) (drops : ℕ) (condition : Box Expression Global) (body other : Vec Node Global) (e : Expression) (xs ys : List Node) (r : Result (Unit {0}) Refusal) → node ≡ variant.If condition body other → e ≡ condition.value → xs ≡ body.items → ys ≡ other.items
+    → OnOk r (m ≡ lengthened l (node_code (If (expr_of e) (nodes_of xs) (nodes_of ys)) drops)) → OnOk r (m ≡ lengthened l (node_code (node_of node) drops))
+if_written l m node drops condition body other e xs ys r is c a b h =
+    on_ok_by r m _ _ (ap (λ x. lengthened l (node_code (If (expr_of x) (nodes_of xs) (nodes_of ys)) drops)) c
+    ∙ ap₂ (λ x y. lengthened l (node_code (If (expr_of condition.value) (nodes_of x) (nodes_of y)) drops)) a b
     ∙ ap (λ t. lengthened l (node_code t drops)) (sym (view_if condition body other))
-    ∙ ap (λ t. lengthened l (node_code (node_of t) drops)) (sym is)
+    ∙ ap (λ t. lengthened l (node_code (node_of t) drops)) (sym is)) h
 
-pub for_written : (l m : Listing) (node : Node) (drops : ℕ) (heading : Box Heading Global) (body other : Vec Node Global) (xs ys : List Node) → node ≡ variant.For heading body other → xs ≡ body.items → ys ≡ other.items
-    → m ≡ lengthened l (expr_code (expr_of heading.value.target) ++ loop_tail (option_copied heading.value.key) heading.value.name.now (nodes_code (nodes_of xs) 0) (nodes_code (nodes_of ys) drops)) → m ≡ lengthened l (node_code (node_of node) drops)
-for_written l m node drops heading body other xs ys is a b h =
-    let loop = λ (x y : List Node). expr_code (expr_of heading.value.target) ++ loop_tail (option_copied heading.value.key) heading.value.name.now (nodes_code (nodes_of x) 0) (nodes_code (nodes_of y) drops) in
-    h
-    ∙ ap₂ (λ x y. lengthened l (loop x y)) a b
+pub for_written : (l m : Listing) (node : Node) (drops : ℕ) (heading : Box Heading Global) (body other : Vec Node Global) (h : Heading) (xs ys : List Node) (r : Result (Unit {0}) Refusal) → node ≡ variant.For heading body other → h ≡ heading.value → xs ≡ body.items → ys ≡ other.items
+    → OnOk r (m ≡ lengthened l (node_code (for_of h xs ys) drops)) → OnOk r (m ≡ lengthened l (node_code (node_of node) drops))
+for_written l m node drops heading body other h xs ys r is c a b w =
+    on_ok_by r m _ _ (ap (λ x. lengthened l (node_code (for_of x xs ys) drops)) c
+    ∙ ap₂ (λ x y. lengthened l (node_code (for_of heading.value x y) drops)) a b
     ∙ ap (λ t. lengthened l (node_code t drops)) (sym (view_for heading body other))
-    ∙ ap (λ t. lengthened l (node_code (node_of t) drops)) (sym is)
+    ∙ ap (λ t. lengthened l (node_code (node_of t) drops)) (sym is)) w
 
 pub capture_written : (l m : Listing) (node : Node) (drops : ℕ) (name : Bor (List ℕ)) (body : Vec Node Global) (is_global : Bool) (xs : List Node) (r : Result (Unit {0}) Refusal) → node ≡ variant.Capture name body is_global → xs ≡ body.items
     → OnOk r (m ≡ lengthened l (node_code (Capture name.now (nodes_of xs) is_global) drops)) → OnOk r (m ≡ lengthened l (node_code (node_of node) drops))
@@ -95,10 +114,6 @@ capture_written l m node drops name body is_global xs r is a h =
     on_ok_by r m _ _ (ap (λ x. lengthened l (node_code (Capture name.now (nodes_of x) is_global) drops)) a
     ∙ ap (λ t. lengthened l (node_code t drops)) (sym (view_capture name body is_global))
     ∙ ap (λ t. lengthened l (node_code (node_of t) drops)) (sym is)) h
-
--- what a box holds, where it was read
-pub looped_as : (l m : Listing) (place : ℕ) (counts : Bool) (x y : Heading) → m ≡ looped place x counts l → x ≡ y → m ≡ looped place y counts l
-looped_as l m place counts x y h e = h ∙ ap (λ z. looped place z counts l) e
 
 view_comprehension : (value : Box Expression Global) (heading : Box Heading Global) (condition : Option (Box Expression Global)) (span : Span) → expr_of (expression.Comprehension value heading condition span) ≡ comprehension_of value.value heading.value condition span
 view_comprehension value heading None span = refl

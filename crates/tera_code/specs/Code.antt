@@ -3,7 +3,7 @@ use Rattle.std.specs.Prelude.{ℕ, suc, Bool, true, false, ◌+◌, cond, List, 
 use Rattle.tera_errors.specs.Site as site
 use Rattle.tera_errors.specs.declared.span.Span.{Span}
 use Rattle.tera_values.specs.Val as val
-use Rattle.tera_tree.specs.Tree.{Key, Expr, Nothing, Boolean, Integer, Text, Name, Attribute, Index, Slice, Not, Negate, Binary, And, Or, Ternary, Array, Map, Comprehension, Optional, Absent, Present, Items, NoItems, MoreItems, Entries, NoEntries, MoreEntries, Node, Content, Print, If, Set, Capture, For, Break, Continue, Nodes, NoNodes, MoreNodes}
+use Rattle.tera_tree.specs.Tree.{Key, Expr, Nothing, Boolean, Integer, Text, Name, Attribute, Index, Slice, Not, Negate, Binary, And, Or, Ternary, Array, Map, Comprehension, Super, Optional, Absent, Present, Items, NoItems, MoreItems, Entries, NoEntries, MoreEntries, Arguments, NoArguments, MoreArguments, Node, Content, Print, If, Set, Capture, For, Block, Break, Continue, Nodes, NoNodes, MoreNodes}
 use Rattle.tera_code.specs.declared.instruction.Instruction.{Instruction}
 use Rattle.tera_code.specs.declared.instruction.Instruction.TheVariants as instruction
 use Rattle.tera_code.specs.Listing.{Listing}
@@ -51,6 +51,10 @@ abbrev pub keys_in : Entries → List (Option Key)
 keys_in NoEntries = []
 keys_in (MoreEntries key value rest) = key ∷ keys_in rest
 
+abbrev pub arguments_length : Arguments → ℕ
+arguments_length NoArguments = 0
+arguments_length (MoreArguments name value rest) = suc (arguments_length rest)
+
 abbrev mutual
   pub expr_code : Expr → Code
   expr_code (Nothing span) = instruction.LoadConst val.none span ∷ []
@@ -78,6 +82,8 @@ abbrev mutual
   expr_code (Map entries span) = entries_code entries ++ instruction.MakeMap (keys_in entries) span ∷ []
   expr_code (Comprehension value key name target condition span) =
       expr_code target ++ comprehension_tail key name (turn_code condition (expr_code value)) span
+  expr_code (Super arguments span) =
+      arguments_code arguments ++ instruction.TakeAbove (arguments_length arguments) span ∷ []
 
   -- a bound that isn't written is none
   pub bound_code : Optional → Code
@@ -96,6 +102,10 @@ abbrev mutual
   pub entries_code : Entries → Code
   entries_code NoEntries = []
   entries_code (MoreEntries key value rest) = expr_code value ++ entries_code rest
+
+  pub arguments_code : Arguments → Code
+  arguments_code NoArguments = []
+  arguments_code (MoreArguments name value rest) = expr_code value ++ arguments_code rest
 
 -- an expression that is a name, other than that of the map of all that is bound
 abbrev pub named : Expr → Option (site.Name × Span)
@@ -123,6 +133,7 @@ abbrev mutual
   node_code (Capture name body is_global) drops = capture_code name (nodes_code body (suc drops)) is_global
   node_code (For key name target body other) drops =
       expr_code target ++ loop_tail key name (nodes_code body 0) (nodes_code other drops)
+  node_code (Block name body span) drops = instruction.TakeBlock name span ∷ []
   node_code Break drops = instruction.LeaveLoop drops ∷ []
   node_code Continue drops = instruction.LeaveTurn drops ∷ []
 

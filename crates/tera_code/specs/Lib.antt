@@ -4,3 +4,5 @@ pub mod Listing
 pub mod Code
 pub mod Places
 pub mod Group
+pub mod Blocks
+pub mod Asked

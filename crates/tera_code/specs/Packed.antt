@@ -7,6 +7,7 @@ use Rattle.tera_values.specs.Val.{Val}
 use Rattle.tera_values.specs.Val as val
 use Rattle.tera_tree.specs.Tree.{Key}
 use Rattle.tera_tree.specs.View.{keys_of}
+use Rattle.tera_code.specs.Constant.{small_integer}
 use Rattle.tera_code.specs.declared.instruction.Instruction.{Instruction}
 use Rattle.tera_code.specs.declared.instruction.Instruction.TheVariants as instruction
 use Rattle.tera_code.specs.declared.packed.Packed.{Packed}
@@ -78,6 +79,8 @@ unpacked s (packed.Jump skip) = instruction.Jump skip
 unpacked s (packed.PopJumpIfFalse skip) = instruction.PopJumpIfFalse skip
 unpacked s (packed.JumpIfFalseOrPop skip) = instruction.JumpIfFalseOrPop skip
 unpacked s (packed.JumpIfTrueOrPop skip) = instruction.JumpIfTrueOrPop skip
+unpacked s (packed.TakeBlock name span) = instruction.TakeBlock (name_at s name) (span_at s span)
+unpacked s (packed.TakeAbove span arguments) = instruction.TakeAbove arguments (span_at s span)
 
 -- what it names is there
 abbrev pub Within : Shelf → Packed → Type 0
@@ -86,7 +89,9 @@ Within s packed.WriteTop = Unit {0}
 Within s (packed.LoadNone span) = span < length s.spans
 Within s (packed.LoadBool flag span) = span < length s.spans
 Within s (packed.LoadInt span number) = span < length s.spans
-Within s (packed.LoadConst constant span) = (constant < length s.constants) × (span < length s.spans)
+-- a small integer stands in the instruction itself
+Within s (packed.LoadConst constant span) =
+    (constant < length s.constants) × (span < length s.spans) × (small_integer (get_or s.constants constant val.none) ≡ None)
 Within s (packed.WriteName name span) = (name < length s.names) × (span < length s.spans)
 Within s (packed.LoadName name span) = (name < length s.names) × (span < length s.spans)
 Within s (packed.LoadContext span) = span < length s.spans
@@ -112,6 +117,8 @@ Within s (packed.Jump skip) = Unit {0}
 Within s (packed.PopJumpIfFalse skip) = Unit {0}
 Within s (packed.JumpIfFalseOrPop skip) = Unit {0}
 Within s (packed.JumpIfTrueOrPop skip) = Unit {0}
+Within s (packed.TakeBlock name span) = (name < length s.names) × (span < length s.spans)
+Within s (packed.TakeAbove span arguments) = span < length s.spans
 
 -- these, and then others
 abbrev pub Longer : {X : Type 0} → List X → List X → Type 0

@@ -2,6 +2,7 @@
 ghost use Rattle.std.specs.Prelude.{◌≡◌, ◌+◌, ◌<◌, ◌^◌, [], ◌∷◌, length, slice_get, OnOk, IfErr, IfSome, MatchOption, Some, None};
 ghost use Rattle.tera_errors.specs.Answer.{Lacks};
 ghost use Rattle.tera_code.specs.Code.{lengthened};
+ghost use Rattle.tera_code.specs.declared.instruction.Instruction.TheVariants as instruction;
 ghost use Rattle.tera_code.specs.Places.{filled};
 
 use crate::instruction::Instruction;
@@ -11,7 +12,7 @@ use crate::steps::Steps;
 use std::alloc::Global;
 use std::marker::Model;
 use std::sync::ledger::Ledger;
-use tera_values::{Name, TeraResult};
+use tera_values::{Name, Sought, Span, TeraResult};
 
 /// The instructions of a body, and the name of the template in whose text it stands.
 #[derive(Drop)]
@@ -90,6 +91,34 @@ impl Chunk {
         ensures lacks { IfErr result Lacks }
     {
         let packed = self.tables.pack(alloc, seen, instruction)?;
+        self.code.push(packed)?;
+        Ok(())
+    }
+
+    // The same for a text that is put out, which is most of a template: no other form is looked for.
+    pub(crate) fn emit_text(&mut self, text: &str) -> TeraResult<()>
+        ensures ok { OnOk result
+            (self.new ≡ lengthened self.old (instruction.WriteText text.now ∷ [])) }
+        ensures lacks { IfErr result Lacks }
+    {
+        let packed = self.tables.text(text)?;
+        self.code.push(packed)?;
+        Ok(())
+    }
+
+    // The same for a name whose value is put out.
+    pub(crate) fn emit_name(
+        &mut self,
+        alloc: Global,
+        seen: &mut [u32; 64],
+        name: &Sought<'_>,
+        span: Span,
+    ) -> TeraResult<()>
+        ensures ok { OnOk result
+            (self.new ≡ lengthened self.old (instruction.WriteName name.now span ∷ [])) }
+        ensures lacks { IfErr result Lacks }
+    {
+        let packed = self.tables.written_name(alloc, seen, name, span)?;
         self.code.push(packed)?;
         Ok(())
     }

@@ -11,7 +11,7 @@ use crate::constant::Constant;
 use crate::instruction::Instruction;
 use std::alloc::Global;
 use std::marker::Model;
-use tera_values::{Name, Span, TeraResult, Value};
+use tera_values::{Name, Sought, Span, TeraResult, Value};
 
 /// Writes the instructions of one body. A contract sees those that are written so far.
 #[derive(Drop)]
@@ -70,6 +70,23 @@ impl Compiler {
         ensures lacks { IfErr result Lacks }
     {
         self.chunk.emit(self.alloc, &mut self.seen, instruction)
+    }
+
+    pub(crate) fn emit_text(&mut self, text: &str) -> TeraResult<()>
+        ensures ok { OnOk result
+            (self.new ≡ lengthened self.old (instruction.WriteText text.now ∷ [])) }
+        ensures lacks { IfErr result Lacks }
+    {
+        self.chunk.emit_text(text)
+    }
+
+    pub(crate) fn emit_name(&mut self, name: &str, span: Span) -> TeraResult<()>
+        ensures ok { OnOk result
+            (self.new ≡ lengthened self.old (instruction.WriteName name.now span ∷ [])) }
+        ensures lacks { IfErr result Lacks }
+    {
+        self.chunk
+            .emit_name(self.alloc, &mut self.seen, &Sought::new(name), span)
     }
 
     // Keeps a place for a jump, whose length is known once what it passes is written.

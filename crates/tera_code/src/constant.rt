@@ -2,6 +2,7 @@
 ghost use Rattle.std.specs.Prelude.{◌≡◌, Ok};
 ghost use Rattle.tera_errors.specs.Answer.{Gives};
 ghost use Rattle.tera_values.specs.Val as val;
+ghost use Rattle.tera_code.specs.Constant.{small_integer};
 
 use std::marker::Model;
 use tera_values::{TeraResult, Value};
@@ -20,6 +21,19 @@ pub(crate) enum Kept<'a> {
     Bool(bool),
     Int(i64),
     Shared(&'a Value),
+}
+
+/// The integer that a value is, if it has at most 64 bits with its sign.
+pub(crate) fn small_integer(value: &Value) -> Option<i64>
+    ensures { result ≡ small_integer value.now }
+{
+    match value.as_i128() {
+        None => None,
+        Some(number) => match i64::try_from(number) {
+            Ok(number) => Some(number),
+            Err(_) => None,
+        },
+    }
 }
 
 impl<'a> Model for Constant<'a> {

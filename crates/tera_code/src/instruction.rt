@@ -84,4 +84,15 @@ pub enum Instruction<'a> {
     JumpIfFalseOrPop(usize),
     /// Passes instructions where the topmost operand is truthy, and else takes it.
     JumpIfTrueOrPop(usize),
+    /// Puts the block of this name out, as the template that is rendered has it.
+    TakeBlock {
+        name: LentName<'a>,
+        span: Span,
+    },
+    /// Drops so many operands, and puts the text that the next template above makes of the block that runs on top of the
+    /// operands.
+    TakeAbove {
+        arguments: usize,
+        span: Span,
+    },
 }

@@ -1,7 +1,10 @@
 // Instructions as a chunk hands them out.
-ghost use Rattle.std.specs.Prelude.{◌≡◌, IfSome, IsTrue};
+ghost use Rattle.std.specs.Prelude.{◌≡◌, IfSome, IsTrue, option_map};
 ghost use Rattle.tera_values.specs.Val as val;
 ghost use Rattle.tera_code.specs.declared.instruction.Instruction.TheVariants as instruction;
+ghost use Rattle.tera_code.specs.Asked.{written_text, written_name, loaded_name, loaded_integer};
+ghost use Rattle.tera_code.specs.Asked.{loaded_attribute, applied_operator, bound_name, taken_block, jump_length};
+ghost use Rattle.tera_code.specs.Asked.{jump_length_if_false, is_write_top, is_next_turn};
 
 use crate::content::Text;
 use crate::instruction::Instruction;
@@ -54,7 +57,8 @@ impl<'a> LentInstruction<'a> {
     /// The text that it puts out.
     #[inline(always)]
     pub fn as_text(&self) -> Option<&'a str>
-        ensures { IfSome result (λ text. self.now ≡ instruction.WriteText text.now) }
+        ensures means { IfSome result (λ text. self.now ≡ instruction.WriteText text.now) }
+        ensures exact { option_map (λ text. text.now) result ≡ written_text self.now }
     {
         match *self.packed {
             Packed::WriteText { start, end } => Some(self.tables.text_between(start, end)),
@@ -65,7 +69,8 @@ impl<'a> LentInstruction<'a> {
     /// The name whose value it puts out.
     #[inline(always)]
     pub fn as_written_name(&self) -> Option<(&'a Name, Span)>
-        ensures { IfSome result (λ p. self.now ≡ instruction.WriteName p.0.now p.1) }
+        ensures means { IfSome result (λ p. self.now ≡ instruction.WriteName p.0.now p.1) }
+        ensures exact { option_map (λ p. (p.0.now, p.1)) result ≡ written_name self.now }
     {
         match *self.packed {
             Packed::WriteName { name, span } => {
@@ -78,7 +83,8 @@ impl<'a> LentInstruction<'a> {
     /// The name whose value it puts on top of the operands.
     #[inline(always)]
     pub fn as_loaded_name(&self) -> Option<(&'a Name, Span)>
-        ensures { IfSome result (λ p. self.now ≡ instruction.LoadName p.0.now p.1) }
+        ensures means { IfSome result (λ p. self.now ≡ instruction.LoadName p.0.now p.1) }
+        ensures exact { option_map (λ p. (p.0.now, p.1)) result ≡ loaded_name self.now }
     {
         match *self.packed {
             Packed::LoadName { name, span } => {
@@ -91,10 +97,12 @@ impl<'a> LentInstruction<'a> {
     /// The integer that it puts on top of the operands.
     #[inline(always)]
     pub fn as_integer(&self) -> Option<(i64, Span)>
-        ensures { IfSome result (λ p. self.now ≡ instruction.LoadConst (val.int p.0) p.1) }
+        ensures means { IfSome result (λ p. self.now ≡ instruction.LoadConst (val.int p.0) p.1) }
+        ensures exact { option_map (λ p. (p.0, p.1)) result ≡ loaded_integer self.now }
     {
         match *self.packed {
             Packed::LoadInt { span, number } => Some((number, self.tables.span(span))),
+            Packed::LoadConst { .. } => None,
             _ => None,
         }
     }
@@ -102,7 +110,8 @@ impl<'a> LentInstruction<'a> {
     /// The attribute that it takes, and whether it may be missing.
     #[inline(always)]
     pub fn as_attribute(&self) -> Option<(Text<'a>, bool, Span)>
-        ensures { IfSome result (λ p. self.now ≡ instruction.LoadAttribute p.0 p.1 p.2) }
+        ensures means { IfSome result (λ p. self.now ≡ instruction.LoadAttribute p.0 p.1 p.2) }
+        ensures exact { option_map (λ p. (p.0, p.1, p.2)) result ≡ loaded_attribute self.now }
     {
         match *self.packed {
             Packed::LoadAttribute {
@@ -121,7 +130,8 @@ impl<'a> LentInstruction<'a> {
     /// The operator that it applies to two operands.
     #[inline(always)]
     pub fn as_binary(&self) -> Option<(BinaryOperator, Span)>
-        ensures { IfSome result (λ p. self.now ≡ instruction.Binary p.0 p.1) }
+        ensures means { IfSome result (λ p. self.now ≡ instruction.Binary p.0 p.1) }
+        ensures exact { option_map (λ p. (p.0, p.1)) result ≡ applied_operator self.now }
     {
         match *self.packed {
             Packed::Binary { operator, span } => Some((operator, self.tables.span(span))),
@@ -132,7 +142,8 @@ impl<'a> LentInstruction<'a> {
     /// The name that it binds, and whether that is outside of all turns.
     #[inline(always)]
     pub fn as_store(&self) -> Option<(&'a Name, bool)>
-        ensures { IfSome result (λ p. self.now ≡ instruction.Store p.0.now p.1) }
+        ensures means { IfSome result (λ p. self.now ≡ instruction.Store p.0.now p.1) }
+        ensures exact { option_map (λ p. (p.0.now, p.1)) result ≡ bound_name self.now }
     {
         match *self.packed {
             Packed::Store { name, is_global } => Some((self.tables.whole_name(name), is_global)),
@@ -140,10 +151,25 @@ impl<'a> LentInstruction<'a> {
         }
     }
 
+    /// The name of the block that it puts out.
+    #[inline(always)]
+    pub fn as_block(&self) -> Option<(&'a Name, Span)>
+        ensures means { IfSome result (λ p. self.now ≡ instruction.TakeBlock p.0.now p.1) }
+        ensures exact { option_map (λ p. (p.0.now, p.1)) result ≡ taken_block self.now }
+    {
+        match *self.packed {
+            Packed::TakeBlock { name, span } => {
+                Some((self.tables.whole_name(name), self.tables.span(span)))
+            }
+            _ => None,
+        }
+    }
+
     /// How many instructions it passes, in any case.
     #[inline(always)]
     pub fn as_jump(&self) -> Option<usize>
-        ensures { IfSome result (λ skip. self.now ≡ instruction.Jump skip) }
+        ensures means { IfSome result (λ skip. self.now ≡ instruction.Jump skip) }
+        ensures exact { result ≡ jump_length self.now }
     {
         match *self.packed {
             Packed::Jump(skip) => Some(skip),
@@ -154,7 +180,8 @@ impl<'a> LentInstruction<'a> {
     /// How many instructions it passes where the operand that it takes is falsy.
     #[inline(always)]
     pub fn as_pop_jump_if_false(&self) -> Option<usize>
-        ensures { IfSome result (λ skip. self.now ≡ instruction.PopJumpIfFalse skip) }
+        ensures means { IfSome result (λ skip. self.now ≡ instruction.PopJumpIfFalse skip) }
+        ensures exact { result ≡ jump_length_if_false self.now }
     {
         match *self.packed {
             Packed::PopJumpIfFalse(skip) => Some(skip),
@@ -165,7 +192,8 @@ impl<'a> LentInstruction<'a> {
     /// Whether it puts out the topmost operand.
     #[inline(always)]
     pub fn is_write_top(&self) -> bool
-        ensures { IsTrue result → self.now ≡ instruction.WriteTop }
+        ensures means { IsTrue result → self.now ≡ instruction.WriteTop }
+        ensures exact { result ≡ is_write_top self.now }
     {
         match *self.packed {
             Packed::WriteTop => true,
@@ -176,7 +204,8 @@ impl<'a> LentInstruction<'a> {
     /// Whether it goes on to the next turn of a loop.
     #[inline(always)]
     pub fn is_next_turn(&self) -> bool
-        ensures { IsTrue result → self.now ≡ instruction.NextTurn }
+        ensures means { IsTrue result → self.now ≡ instruction.NextTurn }
+        ensures exact { result ≡ is_next_turn self.now }
     {
         match *self.packed {
             Packed::NextTurn => true,

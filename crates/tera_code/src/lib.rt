@@ -1,6 +1,7 @@
 //! The compiler: from a template's tree to a flat list of instructions.
 #![tactic(auto)]
 
+pub mod blocks;
 mod captures;
 pub mod chunk;
 pub mod compiler;
@@ -15,10 +16,12 @@ mod packed;
 mod parts;
 pub mod steps;
 
+pub use blocks::Block;
 pub use chunk::Chunk;
 pub use compiler::Compiler;
 pub use constant::Constant;
 pub use content::{Keys, LentName, Spreads, Text};
 pub use instruction::Instruction;
 pub use lent::LentInstruction;
+pub use nodes::compiled;
 pub use steps::Steps;

@@ -1,19 +1,19 @@
 // Nodes.
-ghost use Rattle.std.specs.Prelude.{◌≡◌, [], ◌∷◌, OnOk, IfErr, MatchOption, Some, None, true};
+ghost use Rattle.std.specs.Prelude.{◌≡◌, [], ◌∷◌, OnOk, IfOk, IfErr, MatchOption, Some, None};
 ghost use Rattle.tera_errors.specs.Answer.{Lacks};
 ghost use Rattle.tera_code.specs.declared.instruction.Instruction.TheVariants as instruction;
-ghost use Rattle.tera_code.specs.Code.{named, node_code, nodes_code, lengthened};
-ghost use Rattle.tera_code.specs.Group.{is_choice, is_loop};
-ghost use Rattle.tera_tree.specs.Tree.{Print};
-ghost use Rattle.tera_tree.specs.View.{expr_of, node_of, nodes_of};
+ghost use Rattle.tera_code.specs.Code.{named, node_code, nodes_code, listing_of, lengthened};
+ghost use Rattle.tera_tree.specs.Tree.{If, Print};
+ghost use Rattle.tera_tree.specs.View.{expr_of, for_of, node_of, nodes_of};
 
+use crate::chunk::Chunk;
 use crate::compiler::Compiler;
-use crate::content::Text;
+use crate::content::LentName;
 use crate::instruction::Instruction;
 use crate::parts::is_context;
 use std::alloc::Global;
-use tera_tree::{Expression, Node};
-use tera_values::{Sought, Span, TeraResult};
+use tera_tree::{Expression, Heading, Node};
+use tera_values::{Name, Span, TeraResult};
 
 impl Compiler {
     /// The instructions of the nodes, one after another, behind those that are there. After a refusal some may be missing.
@@ -50,9 +50,13 @@ impl Compiler {
         ensures lacks { IfErr result Lacks }
     {
         match node {
-            Node::Content { text, span: _ } => self.content(text),
+            Node::Content { text, span: _ } => self.emit_text(text),
             Node::Print { value } => self.print(value),
-            Node::If { .. } => self.choice(node, drops),
+            Node::If {
+                condition,
+                body,
+                other,
+            } => self.choice(condition, body.as_slice(), other.as_slice(), drops),
             Node::Set {
                 name,
                 value,
@@ -63,7 +67,16 @@ impl Compiler {
                 body,
                 is_global,
             } => self.capture(name, body.as_slice(), *is_global, drops),
-            Node::For { .. } => self.for_loop(node, drops),
+            Node::For {
+                heading,
+                body,
+                other,
+            } => self.for_loop(heading, body.as_slice(), other.as_slice(), drops),
+            Node::Block {
+                name,
+                body: _,
+                span,
+            } => self.block(name, *span),
             Node::Break => self.emit(Instruction::LeaveLoop(drops)),
             Node::Continue => self.emit(Instruction::LeaveTurn(drops)),
         }
@@ -71,58 +84,58 @@ impl Compiler {
 
     // One of two bodies.
     #[cycle(nodes)]
-    fn choice(&mut self, node: &Node, drops: usize) -> TeraResult<()>
-        requires { is_choice (node_of node.now) ≡ true }
-        ensures ok { OnOk result (self.new ≡ lengthened self.old (node_code (node_of node.now) drops)) }
+    fn choice(
+        &mut self,
+        condition: &Expression,
+        body: &[Node],
+        other: &[Node],
+        drops: usize,
+    ) -> TeraResult<()>
+        ensures ok { OnOk result (self.new ≡ lengthened self.old (node_code
+            (If (expr_of condition.now) (nodes_of body.now) (nodes_of other.now)) drops)) }
         ensures lacks { IfErr result Lacks }
     {
-        match node {
-            Node::If {
-                condition,
-                body,
-                other,
-            } => {
-                self.expression(condition)?;
-                let place = self.keep_place()?;
-                self.nodes(body.as_slice(), drops)?;
-                let place = self.divide(place)?;
-                self.nodes(other.as_slice(), drops)?;
-                self.fill(place, Instruction::Jump(self.behind(place)))
-            }
-            _ => unreachable!(),
-        }
+        self.expression(condition)?;
+        let place = self.keep_place()?;
+        self.nodes(body, drops)?;
+        let place = self.divide(place)?;
+        self.nodes(other, drops)?;
+        self.fill(place, Instruction::Jump(self.behind(place)))
     }
 
     // The body for each item, and the other one where there is none.
     #[cycle(nodes)]
-    fn for_loop(&mut self, node: &Node, drops: usize) -> TeraResult<()>
-        requires { is_loop (node_of node.now) ≡ true }
-        ensures ok { OnOk result (self.new ≡ lengthened self.old (node_code (node_of node.now) drops)) }
+    fn for_loop(
+        &mut self,
+        heading: &Heading,
+        body: &[Node],
+        other: &[Node],
+        drops: usize,
+    ) -> TeraResult<()>
+        ensures ok { OnOk result (self.new
+            ≡ lengthened self.old (node_code (for_of heading.now body.now other.now) drops)) }
         ensures lacks { IfErr result Lacks }
     {
-        match node {
-            Node::For {
-                heading,
-                body,
-                other,
-            } => {
-                self.expression(&heading.target)?;
-                let place = self.keep_place()?;
-                self.nodes(body.as_slice(), 0)?;
-                self.end_turns(place, heading, true)?;
-                let place = self.keep_place()?;
-                self.nodes(other.as_slice(), drops)?;
-                self.fill(place, Instruction::EndLoop(self.behind(place)))
-            }
-            _ => unreachable!(),
-        }
+        self.expression(&heading.target)?;
+        let place = self.keep_place()?;
+        self.nodes(body, 0)?;
+        self.end_turns(place, heading, true)?;
+        let place = self.keep_place()?;
+        self.nodes(other, drops)?;
+        self.fill(place, Instruction::EndLoop(self.behind(place)))
     }
 
-    fn content(&mut self, text: &str) -> TeraResult<()>
-        ensures ok { OnOk result (self.new ≡ lengthened self.old (instruction.WriteText text.now ∷ [])) }
+    // The block is put out as the template that is rendered has it: its body is compiled by itself.
+    fn block(&mut self, name: &str, span: Span) -> TeraResult<()>
+        ensures ok { OnOk result
+            (self.new ≡ lengthened self.old (instruction.TakeBlock name.now span ∷ [])) }
         ensures lacks { IfErr result Lacks }
     {
-        self.emit(Instruction::WriteText(Text::new(text)))
+        let name = Name::new(self.alloc(), name)?;
+        self.emit(Instruction::TakeBlock {
+            name: LentName::new(&name),
+            span,
+        })
     }
 
     fn print(&mut self, value: &Expression) -> TeraResult<()>
@@ -130,13 +143,23 @@ impl Compiler {
         ensures lacks { IfErr result Lacks }
     {
         match named(value) {
-            Some((name, span)) => self.emit(Instruction::WriteName(Sought::new(name), span)),
+            Some((name, span)) => self.emit_name(name, span),
             None => {
                 self.expression(value)?;
                 self.emit(Instruction::WriteTop)
             }
         }
     }
+}
+
+/// The code of these nodes, which stand in the text of the template of this name.
+pub fn compiled(alloc: Global, file: &str, nodes: &[Node]) -> TeraResult<Chunk>
+    ensures ok { IfOk result (λ c. c ≡ listing_of file.now (nodes_of nodes.now)) }
+    ensures lacks { IfErr result Lacks }
+{
+    let mut compiler = Compiler::new(alloc, file)?;
+    compiler.compile(nodes)?;
+    Ok(compiler.into_chunk())
 }
 
 // The name that an expression is, if it is one that is looked up.

@@ -6,7 +6,7 @@ ghost use Rattle.tera_code.specs.Packed.{Grows, Longer, IsAt, Packs, Within, she
 ghost use Rattle.tera_tree.specs.View.{keys_of};
 ghost use Rattle.tera_code.specs.declared.instruction.Instruction.TheVariants as instruction;
 
-use crate::constant::{Constant, Kept};
+use crate::constant::{Constant, Kept, small_integer};
 use crate::content::{Keys, LentName, Spreads, Text};
 use crate::instruction::Instruction;
 use crate::parts::copied;
@@ -99,6 +99,14 @@ pub(crate) enum Packed {
     PopJumpIfFalse(usize),
     JumpIfFalseOrPop(usize),
     JumpIfTrueOrPop(usize),
+    TakeBlock {
+        name: u32,
+        span: u32,
+    },
+    TakeAbove {
+        span: u32,
+        arguments: usize,
+    },
 }
 
 // The layout follows the order of the fields.
@@ -182,7 +190,7 @@ impl Tables {
         }
     }
 
-    fn text(&mut self, text: &str) -> TeraResult<Packed>
+    pub(crate) fn text(&mut self, text: &str) -> TeraResult<Packed>
         ensures grows { Grows (shelf_of self.old) (shelf_of self.new) }
         ensures ok { IfOk result (λ p. Packs (shelf_of self.new) p (instruction.WriteText text.now)) }
         ensures lacks { IfErr result Lacks }
@@ -203,11 +211,14 @@ impl Tables {
             Kept::None => Ok(Packed::LoadNone { span }),
             Kept::Bool(flag) => Ok(Packed::LoadBool { flag, span }),
             Kept::Int(number) => Ok(Packed::LoadInt { span, number }),
-            Kept::Shared(value) => {
-                let value = value.try_clone()?;
-                let constant = number(&mut self.constants, value)?;
-                Ok(Packed::LoadConst { constant, span })
-            }
+            Kept::Shared(value) => match small_integer(value) {
+                Some(number) => Ok(Packed::LoadInt { span, number }),
+                None => {
+                    let value = value.try_clone()?;
+                    let constant = number(&mut self.constants, value)?;
+                    Ok(Packed::LoadConst { constant, span })
+                }
+            },
         }
     }
 }
@@ -229,6 +240,22 @@ impl Tables {
         let name = name_number(alloc, &mut self.names, seen, name)?;
         let span = number(&mut self.spans, span)?;
         Ok((name, span))
+    }
+
+    pub(crate) fn written_name(
+        &mut self,
+        alloc: Global,
+        seen: &mut [u32; 64],
+        name: &Sought<'_>,
+        span: Span,
+    ) -> TeraResult<Packed>
+        ensures grows { Grows (shelf_of self.old) (shelf_of self.new) }
+        ensures ok { IfOk result
+            (λ p. Packs (shelf_of self.new) p (instruction.WriteName name.now span)) }
+        ensures lacks { IfErr result Lacks }
+    {
+        let (name, span) = self.name_and_span(alloc, seen, name, span)?;
+        Ok(Packed::WriteName { name, span })
     }
 
     fn make_array(&mut self, alloc: Global, spreads: &Spreads<'_>, span: Span) -> TeraResult<Packed>
@@ -261,6 +288,16 @@ impl Tables {
     {
         let name = number(&mut self.names, name.share()?)?;
         Ok(Packed::Store { name, is_global })
+    }
+
+    fn take_block(&mut self, name: &LentName<'_>, span: Span) -> TeraResult<Packed>
+        ensures grows { Grows (shelf_of self.old) (shelf_of self.new) }
+        ensures ok { IfOk result (λ p. Packs (shelf_of self.new) p (instruction.TakeBlock name.now span)) }
+        ensures lacks { IfErr result Lacks }
+    {
+        let name = number(&mut self.names, name.share()?)?;
+        let span = number(&mut self.spans, span)?;
+        Ok(Packed::TakeBlock { name, span })
     }
 
     fn start_loop(
@@ -300,10 +337,7 @@ impl Tables {
         match instruction {
             Instruction::WriteText(text) => self.text(text.as_str()),
             Instruction::WriteTop => Ok(Packed::WriteTop),
-            Instruction::WriteName(name, span) => {
-                let (name, span) = self.name_and_span(alloc, seen, &name, span)?;
-                Ok(Packed::WriteName { name, span })
-            }
+            Instruction::WriteName(name, span) => self.written_name(alloc, seen, &name, span),
             Instruction::LoadConst(constant, span) => self.constant(&constant, span),
             Instruction::LoadName(name, span) => {
                 let (name, span) = self.name_and_span(alloc, seen, &name, span)?;
@@ -364,6 +398,11 @@ impl Tables {
             Instruction::PopJumpIfFalse(skip) => Ok(Packed::PopJumpIfFalse(skip)),
             Instruction::JumpIfFalseOrPop(skip) => Ok(Packed::JumpIfFalseOrPop(skip)),
             Instruction::JumpIfTrueOrPop(skip) => Ok(Packed::JumpIfTrueOrPop(skip)),
+            Instruction::TakeBlock { name, span } => self.take_block(&name, span),
+            Instruction::TakeAbove { arguments, span } => {
+                let span = number(&mut self.spans, span)?;
+                Ok(Packed::TakeAbove { span, arguments })
+            }
         }
     }
 
@@ -494,6 +533,14 @@ impl Tables {
             Packed::PopJumpIfFalse(skip) => Instruction::PopJumpIfFalse(skip),
             Packed::JumpIfFalseOrPop(skip) => Instruction::JumpIfFalseOrPop(skip),
             Packed::JumpIfTrueOrPop(skip) => Instruction::JumpIfTrueOrPop(skip),
+            Packed::TakeBlock { name, span } => Instruction::TakeBlock {
+                name: LentName::new(self.whole_name(name)),
+                span: self.span(span),
+            },
+            Packed::TakeAbove { span, arguments } => Instruction::TakeAbove {
+                arguments,
+                span: self.span(span),
+            },
         }
     }
 }

@@ -1,20 +1,22 @@
 -- An operand that nothing goes on with.
 use Rattle.std.proofs.Common.{◌≡◌, ℕ, zero, suc, ◌≤◌, ◌+◌, ◌⊎◌, inl, inr, List, [], Bool, true, false, not, ◌&&◌, ◌||◌, nat_le, nat_lt, Option, Some, None, refl, sym, ◌∙◌, ap, arith}
 use Rattle.std.proofs.lemmas.Grind.{common_steps}
-use Rattle.tera_tree.specs.Tree.{Expr}
+use Rattle.tera_tree.specs.Tree.{Expr, Name}
 use Rattle.tera_tokens.specs.declared.token.Kind.{Kind}
 use Rattle.tera_tokens.specs.declared.token.Kind.TheVariants as k
-use Rattle.tera_tokens.specs.Input.{Input, Outcome, Parser, and_then, same, kind, start, next, left}
+use Rattle.tera_tokens.specs.Input.{Input, Outcome, Parser, and_then, same, kind, start, text, next, left, span}
 use Rattle.tera_expressions.specs.Loops.{loop_name}
+use Rattle.tera_expressions.specs.Arguments.{is_call}
 use Rattle.tera_expressions.specs.Expressions.{Deep, needs, gives, begins, goes_on, opened, node, leaf, name_by, head, head_by, climb, level, level_with}
 use Rattle.tera_expressions.proofs.Steps as steps
 use Rattle.tera_expressions.proofs.Extent.{next-left}
+use Rattle.tera_expressions.proofs.ArgumentRows.{no-call, call-opens}
 use Rattle.tera_expressions.proofs.Precedence.{le-true}
 use Rattle.tera_expressions.proofs.Turning.{stay}
 
 -- this operand, at this level, before this token
 abbrev pub alone : ℕ → Kind → Kind → Bool
-alone floor a b = ((same k.Name a || same k.Int a) && nat_le floor 11) && not (goes_on floor 11 b)
+alone floor a b = (((same k.Name a || same k.Int a) && nat_le floor 11) && not (goes_on floor 11 b)) && not (same k.LeftParenthesis b)
 
 all_three : (p q r s : Bool) → (((p || q) && r) && not s) ≡ true → ((p ≡ true) ⊎ (q ≡ true)) × (r ≡ true) × (s ≡ false)
 all_three true q true false h = (inl refl, refl, refl)
@@ -24,6 +26,11 @@ all_three true q false s h = absurd (cc)
 all_three false true true true h = absurd (cc)
 all_three false true false s h = absurd (cc)
 all_three false false r s h = absurd (cc)
+
+both : (p q : Bool) → (p && not q) ≡ true → (p ≡ true) × (q ≡ false)
+both true false h = (refl, refl)
+both true true h = absurd (cc)
+both false q h = absurd (cc)
 
 not_open : (n : ℕ) (os : List ℕ) (i : Input) → same k.LeftParenthesis (kind i) ≡ false → opened n os i ≡ Some (os, i)
 unfolding opened
@@ -45,9 +52,12 @@ and_off : (p : Bool) → (p && false) ≡ false
 and_off true = refl
 and_off false = refl
 
-no_loop : (i : Input) → same k.Dot (kind (next i)) ≡ false → loop_name i ≡ None
+pub no_loop : (i : Input) → same k.Dot (kind (next i)) ≡ false → loop_name i ≡ None
 unfolding loop_name
 no_loop i h = rw (h, and_off) refl
+
+pub called_no_loop : (i : Input) → is_call i ≡ true → loop_name i ≡ None
+called_no_loop i h = no_loop i (steps.differ k.Dot k.LeftParenthesis (kind (next i)) (call-opens i h) (λ e. cc))
 
 module _ (limit : ℕ) (sub : ℕ → Parser Deep) where
   node_stays : (d : ℕ) (e : Expr) (i : Input) (x : Deep) (j : Input) → node limit d e i ≡ Some (x, j) → j ≡ i
@@ -62,9 +72,12 @@ module _ (limit : ℕ) (sub : ℕ → Parser Deep) where
   unfolding head
   int_stays i x j e h = int_by _ (next i) x j (sym (ap (λ s. head_by limit sub s i) e) ∙ h)
 
-  name_stays : (i : Input) (x : Deep) (j : Input) → kind i ≡ k.Name → loop_name i ≡ None → head limit sub i ≡ Some (x, j) → j ≡ next i
+  named : (i : Input) → loop_name i ≡ None → is_call i ≡ false → name_by limit sub (loop_name i) i ≡ node limit 0 (Name (text i) (span (start i) (next i))) (next i)
+  named i l n = rw (l, n) refl
+
+  name_stays : (i : Input) (x : Deep) (j : Input) → kind i ≡ k.Name → loop_name i ≡ None → is_call i ≡ false → head limit sub i ≡ Some (x, j) → j ≡ next i
   unfolding head
-  name_stays i x j e l h = node_stays 0 _ (next i) x j (sym (ap (λ o. name_by limit sub o i) l) ∙ sym (ap (λ s. head_by limit sub s i) e) ∙ h)
+  name_stays i x j e l n h = node_stays 0 (Name (text i) (span (start i) (next i))) (next i) x j (sym (named i l n) ∙ sym (ap (λ s. head_by limit sub s i) e) ∙ h)
 
   level_by : (floor n : ℕ) (i : Input) → same k.LeftParenthesis (kind i) ≡ false → begins (kind i) ≡ 11 → floor ≤ 11 → left i ≡ suc n → goes_on floor 11 (kind (next i)) ≡ false
       → ((x : Deep) (j : Input) → head limit sub i ≡ Some (x, j) → j ≡ next i) → level limit sub floor i ≡ head limit sub i
@@ -78,8 +91,11 @@ module _ (limit : ℕ) (sub : ℕ → Parser Deep) where
   unfolding begins
   stands floor i h = steps.either t.0 by_name by_int
     where
+      u : ((((same k.Name (kind i) || same k.Int (kind i)) && nat_le floor 11) && not (goes_on floor 11 (kind (next i)))) ≡ true) × (same k.LeftParenthesis (kind (next i)) ≡ false)
+      u = both (((same k.Name (kind i) || same k.Int (kind i)) && nat_le floor 11) && not (goes_on floor 11 (kind (next i)))) (same k.LeftParenthesis (kind (next i))) h
+
       t : ((same k.Name (kind i) ≡ true) ⊎ (same k.Int (kind i) ≡ true)) × (nat_le floor 11 ≡ true) × (goes_on floor 11 (kind (next i)) ≡ false)
-      t = all_three (same k.Name (kind i)) (same k.Int (kind i)) (nat_le floor 11) (goes_on floor 11 (kind (next i))) h
+      t = all_three (same k.Name (kind i)) (same k.Int (kind i)) (nat_le floor 11) (goes_on floor 11 (kind (next i))) u.0
 
       le : floor ≤ 11
       le = let q = t.1 in grind (arith, common_steps, q)
@@ -88,7 +104,7 @@ module _ (limit : ℕ) (sub : ℕ → Parser Deep) where
       by_name s =
           let e = steps.same-is k.Name (kind i) s in
           level_by floor (left (next i)) i (steps.differ k.LeftParenthesis k.Name (kind i) e (λ q. cc)) (ap begins e) le (next-left k.Name i e (λ q. cc)) t.2
-          (λ x j. name_stays i x j e (no_loop i (no_dot floor (kind (next i)) le t.2)))
+          (λ x j. name_stays i x j e (no_loop i (no_dot floor (kind (next i)) le t.2)) (no-call i u.1))
 
       by_int : same k.Int (kind i) ≡ true → level limit sub floor i ≡ head limit sub i
       by_int s =

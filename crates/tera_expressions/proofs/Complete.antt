@@ -1,19 +1,21 @@
 -- What is derived is read.
-use Rattle.std.proofs.Common.{◌≡◌, ℕ, zero, suc, ◌≤◌, ◌⊎◌, inl, inr, max, ◌∷◌, Bool, true, false, Option, Some, refl, ◌∙◌, ap, arith}
+use Rattle.std.proofs.Common.{◌≡◌, ℕ, zero, suc, ◌≤◌, ◌⊎◌, inl, inr, max, ◌∷◌, Bool, true, false, Option, Some, refl, sym, ◌∙◌, ap, arith}
 use Rattle.tera_tree.specs.declared.expression.BinaryOperator.TheVariants as binary
-use Rattle.tera_tree.specs.Tree.{Expr, Nothing, Boolean, Integer, Text, Name, Attribute, Index, Slice, Optional, Not, Negate, Binary, Ternary, Array, Items, NoItems, MoreItems, Map, Comprehension, Key, Entries, NoEntries, MoreEntries}
-use Rattle.tera_tree.specs.Depth.{depth, items_depth, entries_depth, optional_depth}
+use Rattle.tera_tree.specs.Tree.{Expr, Nothing, Boolean, Integer, Text, Name, Attribute, Index, Slice, Optional, Not, Negate, Binary, Ternary, Array, Items, NoItems, MoreItems, Map, Comprehension, Super, Key, Entries, NoEntries, MoreEntries, Arguments}
+use Rattle.tera_tree.specs.Depth.{depth, items_depth, entries_depth, optional_depth, arguments_depth}
 use Rattle.tera_tokens.specs.declared.token.Kind.TheVariants as k
 use Rattle.tera_tokens.specs.Input.{Input, kind, start, text, next, left, span}
-use Rattle.tera_expressions.specs.Grammar.{Derives, quoted, tighter, choice, operation, not, not_in, minus, power, attribute, index, slice, DerivesPart, absent, present, DerivesStep, no_step, step, int, is_true, is_false, nothing, name, of_loop, parentheses, array, map, DerivesEntry, keyed, spread_map, DerivesEntries, no_entries, one_entry, more_entries, DerivesItem, plain, spread, DerivesItems, none, one, more, comprehension, DerivesCondition, no_condition, condition}
+use Rattle.tera_expressions.specs.Grammar.{Derives, quoted, tighter, choice, operation, not, not_in, minus, power, attribute, index, slice, DerivesPart, absent, present, DerivesStep, no_step, step, int, is_true, is_false, nothing, name, of_loop, parentheses, array, map, DerivesEntry, keyed, spread_map, DerivesEntries, no_entries, one_entry, more_entries, DerivesItem, plain, spread, DerivesItems, none, one, more, comprehension, DerivesCondition, no_condition, condition, call, DerivesArgument, argument, DerivesArguments, no_arguments, one_argument, more_arguments}
 use Rattle.tera_expressions.specs.Expressions as r
 use Rattle.tera_expressions.specs.Loops.{behind_loop}
 use Rattle.tera_expressions.specs.Expressions.{deep, needs, expr, behind_dots, join_items, one_item, join_entries}
 use Rattle.tera_expressions.proofs.Steps.{differ, unlike, alike}
 use Rattle.tera_expressions.proofs.Precedence.{operator-depth, is-no-end, operator-needs, dot-needs, bracket-needs, needs-some, not-three, not-eight, stops-up, ends-up, ends, eight-of-nine, if-kind, not-kind, power-kind, closing-kinds, needs-at, gives-at, begin-kinds, ends-bound, ends-target, at-most}
-use Rattle.tera_expressions.proofs.Extent.{next-left, token, word-left, shorter, shorter-entry, shorter-entries, shorter-part, shorter-step, shorter-item, shorter-all, starts-so, item-starts, entry-starts, step-begins, condition-begins}
+use Rattle.tera_expressions.proofs.Extent.{next-left, token, word-left, shorter, shorter-entry, shorter-entries, shorter-part, shorter-step, shorter-item, shorter-all, shorter-argument, starts-so, item-starts, entry-starts, argument-starts, step-begins, condition-begins}
 use Rattle.tera_expressions.proofs.Rows.{list-nil, list-one, list-more, list-only, row-nil, row-one, row-more, row-start}
 use Rattle.tera_expressions.proofs.Forms.{deep-node, some-depth, infixed-is, operator-is, power-is, not_in-is, choice-is, attribute-is, index-is, slice-is, prefixed-is, item-none, item-one, item-more, behind-last, behind-comma, empty-is, array-is, no-condition-is, condition-is, comprehension-is, key-is, dots-is, entry-none, entry-one, entry-more, map-is, int-is, quoted-is, part-colon, part-bracket, part-some, step-none, step-some}
+use Rattle.tera_expressions.proofs.Alone.{called_no_loop}
+use Rattle.tera_expressions.proofs.ArgumentRows.{put-depth, grown, argument-is, arguments-none, arguments-one, arguments-more, call-is}
 use Rattle.tera_expressions.proofs.Turning.{close, lower, reading-open, Goes, whole, part-read, goes-on, goes-first, head-is, goes-leaf}
 
 mutual
@@ -93,13 +95,18 @@ mutual
       goes-leaf k.False (Boolean false (span (start i) (next i))) i h (λ e. cc) (λ e. cc) begin-kinds.6 (λ b. deep-node (suc b) 0 (Boolean false (span (start i) (next i))) (next i) (omega arith) refl) b m n floor os y dep fl st fu c
   goes (nothing {i = i} h) b m n floor os y dep fl st fu c =
       goes-leaf k.Nothing (Nothing (span (start i) (next i))) i h (λ e. cc) (λ e. cc) begin-kinds.7 (λ b. deep-node (suc b) 0 (Nothing (span (start i) (next i))) (next i) (omega arith) refl) b m n floor os y dep fl st fu c
-  goes (name {i = i} h e) b m n floor os y dep fl st fu c =
+  goes (name {i = i} h e f) b m n floor os y dep fl st fu c =
       goes-leaf k.Name (Name (text i) (span (start i) (next i))) i h (λ e. cc) (λ e. cc) begin-kinds.3
-      (λ b. ap (λ o. r.name_by (suc b) (expr b) o i) e ∙ deep-node (suc b) 0 (Name (text i) (span (start i) (next i))) (next i) (omega arith) refl) b m n floor os y dep fl st fu c
+      (λ b. ap (λ o. r.name_by (suc b) (expr b) o i) e ∙ rw f (deep-node (suc b) 0 (Name (text i) (span (start i) (next i))) (next i) (omega arith) refl)) b m n floor os y dep fl st fu c
   goes (of_loop {n = word} {i = i} h e) b m n floor os y dep fl st fu c =
       let t1 = shorter (of_loop h e) in
       goes-first b m n floor 11 os k.Name (Name word (span (start i) (behind_loop i))) i (behind_loop i) y h (λ e. cc) begin-kinds.3 fl (omega arith)
       (head-is (suc b) (expr b) i k.Name h ∙ ap (λ o. r.name_by (suc b) (expr b) o i) e ∙ deep-node (suc b) 0 (Name word (span (start i) (behind_loop i))) (behind_loop i) (omega arith) refl) c
+  goes (call {all = all} {i = i} {a = a} h e d g) b m n floor os y dep fl st fu c =
+      let t1 = shorter (call h e d g) in
+      goes-first b m n floor 11 os k.Name (Super all (span (start i) (next a))) i (next a) y h (λ e. cc) begin-kinds.3 fl (omega arith)
+      (head-is (suc b) (expr b) i k.Name h ∙ ap (λ o. r.name_by (suc b) (expr b) o i) (called_no_loop i e)
+      ∙ rw e (call-is (suc b) (expr b) all i a (goes-arguments d g b (left (next (next i))) (omega arith) (omega arith)) dep)) c
   goes (parentheses {x = x} {i = i} {a = a} h d g) b m n floor os y dep fl st fu c =
       let n1 = needs-at (kind a) k.RightParenthesis 12 g closing-kinds.1 in
       let t1 = next-left k.LeftParenthesis i h (λ e. cc) in let t2 = next-left k.RightParenthesis a g (λ e. cc) in
@@ -148,6 +155,31 @@ mutual
       let w = goes-entry q n1 (suc b) b (omega arith) in
       entry-more (suc b) (expr b) n found d s x i w.0 v (Some ((join_entries found (MoreEntries s x xs), max d (entries_depth (MoreEntries s x xs))), next a)) (entry-starts q) w.1 w.2 h
       (goes-entries u g b n (join_entries found (r.one_entry s x)) (max d (depth x)) (omega arith) (omega arith) ∙ row-more found s x xs d (next a))
+
+  -- an argument is read, and put
+  goes-argument : {found all : Arguments} {i a : Input} → DerivesArgument found all i a → needs (kind a) ≡ 12 → (limit b : ℕ) → arguments_depth all ≤ b
+      → (d : ℕ) × (r.argument limit (expr b) found i ≡ Some ((all, d), a)) × (arguments_depth all ≡ max (arguments_depth found) d)
+  goes-argument (argument {found = found} {all = all} {x = x} {i = i} {j = a} h q d e) n1 limit b le =
+      let p = put-depth (text i) x found all e in
+      (depth x, argument-is limit (expr b) found all x i a h q (whole 0 x (next (next i)) a (goes d) (inr (omega arith)) (inr (omega arith)) (some-depth x) b (omega arith)) e, p)
+
+  goes-arguments : {found all : Arguments} {i a : Input} → DerivesArguments found all i a → kind a ≡ k.RightParenthesis → (b n : ℕ) → arguments_depth all ≤ b → left i ≤ n
+      → r.arguments_from (suc b) (expr b) n found (arguments_depth found) i ≡ Some ((all, arguments_depth all), next a)
+  goes-arguments (no_arguments {i = i}) g b zero le fu = let t1 = token k.RightParenthesis i g (λ e. cc) in absurd (omega arith)
+  goes-arguments (no_arguments {found = found} {i = i}) g b (suc n) le fu = arguments-none (suc b) (expr b) n found (arguments_depth found) i g
+  goes-arguments (one_argument q) g b zero le fu = let s1 = shorter-argument q in absurd (omega arith)
+  goes-arguments (one_argument {found = found} {all = all} {i = i} {j = a} q) g b (suc n) le fu =
+      let n1 = needs-at (kind a) k.RightParenthesis 12 g closing-kinds.1 in
+      let w = goes-argument q n1 (suc b) b le in
+      arguments-one (suc b) (expr b) n found (arguments_depth found) (all, w.0) i a (argument-starts q) w.1 g ∙ ap (λ m. Some ((all, m), next a)) (sym w.2)
+  goes-arguments (more_arguments q h u) g b zero le fu = let s1 = shorter-argument q in absurd (omega arith)
+  goes-arguments (more_arguments {found = found} {with_it = with_it} {all = all} {i = i} {a = v} {j = a} q h u) g b (suc n) le fu =
+      let n1 = needs-at (kind v) k.Comma 12 h closing-kinds.3 in
+      let s1 = shorter-argument q in let t1 = token k.Comma v h (λ e. cc) in
+      let p = grown u in
+      let w = goes-argument q n1 (suc b) b (omega arith) in
+      arguments-more (suc b) (expr b) n found (arguments_depth found) (with_it, w.0) i v (Some ((all, arguments_depth all), next a)) (argument-starts q) w.1 h
+      (ap (λ m. r.arguments_from (suc b) (expr b) n with_it m (next v)) (sym w.2) ∙ goes-arguments u g b n le (omega arith))
 
   -- a bound is read, where a colon or a bracket follows
   goes-part : {o : Optional} {i a : Input} → DerivesPart o i a → (kind a ≡ k.Colon) ⊎ (kind a ≡ k.RightBracket) → (limit b : ℕ) → optional_depth o ≤ b → r.part limit (expr b) i ≡ Some ((o, optional_depth o), a)

@@ -1,12 +1,12 @@
 -- How many tokens a derivation takes, and with which it begins.
 use Rattle.std.proofs.Common.{◌≡◌, ℕ, suc, ◌<◌, ◌≤◌, ◌⊎◌, inl, inr, List, [], ◌∷◌, Bool, true, Option, Some, None, refl, sym, ◌∙◌, ap, arith, length}
-use Rattle.tera_tree.specs.Tree.{Expr, Optional, Items, Key, Entries}
+use Rattle.tera_tree.specs.Tree.{Expr, Optional, Items, Key, Entries, Arguments}
 use Rattle.tera_tokens.specs.declared.token.Kind.{Kind}
 use Rattle.tera_tokens.specs.declared.token.Kind.TheVariants as k
 use Rattle.tera_tokens.specs.Token.{Token}
 use Rattle.tera_tokens.specs.Input.{Input, same, kind, kind_of, text, next, after, left, is_word}
 use Rattle.tera_expressions.specs.Keys.{key_at, key_by}
-use Rattle.tera_expressions.specs.Grammar.{Derives, quoted, tighter, choice, operation, not, not_in, minus, power, attribute, index, slice, DerivesPart, absent, present, DerivesStep, no_step, step, int, is_true, is_false, nothing, name, of_loop, parentheses, array, map, DerivesEntry, keyed, spread_map, DerivesEntries, no_entries, one_entry, more_entries, DerivesItem, plain, spread, DerivesItems, none, one, more, comprehension, DerivesCondition, no_condition, condition}
+use Rattle.tera_expressions.specs.Grammar.{Derives, quoted, tighter, choice, operation, not, not_in, minus, power, attribute, index, slice, DerivesPart, absent, present, DerivesStep, no_step, step, int, is_true, is_false, nothing, name, of_loop, parentheses, array, map, DerivesEntry, keyed, spread_map, DerivesEntries, no_entries, one_entry, more_entries, DerivesItem, plain, spread, DerivesItems, none, one, more, comprehension, DerivesCondition, no_condition, condition, call, DerivesArgument, argument, DerivesArguments, no_arguments, one_argument, more_arguments}
 use Rattle.tera_expressions.specs.Headings.{Calls, value, key_and_value}
 use Rattle.tera_errors.specs.Site as site
 use Rattle.tera_expressions.proofs.Steps.{unlike, alike}
@@ -70,7 +70,7 @@ mutual
   shorter (is_true {i = i} h) = token k.True i h (λ e. cc)
   shorter (is_false {i = i} h) = token k.False i h (λ e. cc)
   shorter (nothing {i = i} h) = token k.Nothing i h (λ e. cc)
-  shorter (name {i = i} h e) = token k.Name i h (λ e. cc)
+  shorter (name {i = i} h e g) = token k.Name i h (λ e. cc)
   shorter (of_loop {i = i} h e) = let t1 = token k.Name i h (λ e. cc) in let t2 = next-le (next i) in let t3 = next-le (next (next i)) in omega arith
   shorter (parentheses {i = i} {a = a} h d g) = let p1 = shorter d in let t1 = token k.LeftParenthesis i h (λ e. cc) in let t2 = token k.RightParenthesis a g (λ e. cc) in omega arith
   shorter (array {i = i} {a = a} h d g) = let p1 = shorter-all d in let t1 = token k.LeftBracket i h (λ e. cc) in let t2 = token k.RightBracket a g (λ e. cc) in omega arith
@@ -78,6 +78,15 @@ mutual
   shorter (comprehension {i = i} {a = a} {d = e} h d f c t o g) =
       let p1 = shorter d in let p2 = shorter-calls c in let p3 = shorter t in let p4 = shorter-condition o in
       let t1 = token k.LeftBracket i h (λ e. cc) in let t2 = token k.For a f (λ e. cc) in let t3 = token k.RightBracket e g (λ e. cc) in omega arith
+  shorter (call {i = i} {a = a} h e d g) = let p1 = shorter-arguments d in let t1 = token k.Name i h (λ e. cc) in let t2 = next-le (next i) in let t3 = token k.RightParenthesis a g (λ e. cc) in omega arith
+
+  pub shorter-argument : {found all : Arguments} {i j : Input} → DerivesArgument found all i j → left j < left i
+  shorter-argument (argument {i = i} h q d e) = let p1 = shorter d in let t1 = word-left i h in let t2 = token k.Assign (next i) q (λ e. cc) in omega arith
+
+  pub shorter-arguments : {found all : Arguments} {i j : Input} → DerivesArguments found all i j → left j ≤ left i
+  shorter-arguments no_arguments = omega arith
+  shorter-arguments (one_argument d) = let p1 = shorter-argument d in omega arith
+  shorter-arguments (more_arguments {a = a} d h q) = let p1 = shorter-argument d in let p2 = shorter-arguments q in let t1 = token k.Comma a h (λ e. cc) in omega arith
 
   pub shorter-condition : {o : Optional} {i j : Input} → DerivesCondition o i j → left j ≤ left i
   shorter-condition no_condition = omega arith
@@ -130,7 +139,8 @@ starts-so (quoted h e) = (λ e. cc, λ e. cc, λ e. cc)
 starts-so (is_true h) = (λ e. cc, λ e. cc, λ e. cc)
 starts-so (is_false h) = (λ e. cc, λ e. cc, λ e. cc)
 starts-so (nothing h) = (λ e. cc, λ e. cc, λ e. cc)
-starts-so (name h e) = (λ e. cc, λ e. cc, λ e. cc)
+starts-so (name h e g) = (λ e. cc, λ e. cc, λ e. cc)
+starts-so (call h e d g) = (λ e. cc, λ e. cc, λ e. cc)
 starts-so (of_loop h e) = (λ e. cc, λ e. cc, λ e. cc)
 starts-so (parentheses h d g) = (λ e. cc, λ e. cc, λ e. cc)
 starts-so (array h d g) = (λ e. cc, λ e. cc, λ e. cc)
@@ -143,6 +153,10 @@ item-starts (spread {i = i} h d) = (λ e. cc, alike k.Spread (kind i) h)
 pub entry-starts : {key : Option Key} {x : Expr} {i j : Input} → DerivesEntry key x i j → kind i ≡ k.RightBrace → ⊥
 entry-starts (keyed {key = key} {i = i} h q d) = key-kind k.RightBrace i key h refl
 entry-starts (spread_map h d) = λ e. cc
+
+pub argument-starts : {found all : Arguments} {i j : Input} → DerivesArgument found all i j → kind i ≡ k.RightParenthesis → ⊥
+unfolding is_word
+argument-starts (argument {i = i} h q d e) s = let f : is_word k.RightParenthesis ≡ true = ap is_word (sym s) ∙ h in cc
 
 pub step-begins : {o : Optional} {i a : Input} → DerivesStep o i a → kind a ≡ k.RightBracket → (kind i ≡ k.Colon) ⊎ (kind i ≡ k.RightBracket)
 step-begins no_step h = inr h

@@ -1,14 +1,15 @@
 -- All spans of an expression lie inside the text that its tokens stand in.
 use Rattle.std.proofs.Common.{◌≡◌, ℕ, ◌≤◌, Bool, Option, arith}
 use Rattle.tera_errors.specs.declared.span.Span.{Span}
-use Rattle.tera_tree.specs.Tree.{Expr, Optional, Items, Key, Entries}
-use Rattle.tera_tree.specs.Inside.{Within, ExprInside, OptionalInside, ItemsInside, EntriesInside}
+use Rattle.tera_tree.specs.Tree.{Expr, Optional, Items, Key, Entries, Arguments}
+use Rattle.tera_tree.specs.Inside.{Within, ExprInside, OptionalInside, ItemsInside, EntriesInside, ArgumentsInside}
 use Rattle.tera_tokens.specs.declared.token.Kind.{Kind}
 use Rattle.tera_tokens.specs.declared.token.Kind.TheVariants as k
-use Rattle.tera_tokens.specs.Input.{Input, kind, start, next, span}
+use Rattle.tera_tokens.specs.Input.{Input, kind, start, text, next, span}
 use Rattle.tera_tokens.proofs.Order.{Orderly, Onward, onward_none, onward_then, onward_next, start_le, in_order-le}
-use Rattle.tera_expressions.specs.Grammar.{Operator, or, and, equal, not_equal, less, greater, less_or_equal, greater_or_equal, is_in, concat, add, subtract, multiply, divide, floor_divide, remainder, Derives, quoted, tighter, choice, operation, not, not_in, minus, power, attribute, index, slice, DerivesPart, absent, present, DerivesStep, no_step, step, int, is_true, is_false, nothing, name, of_loop, parentheses, array, map, DerivesEntry, keyed, spread_map, DerivesEntries, no_entries, one_entry, more_entries, DerivesItem, plain, spread, DerivesItems, none, one, more, comprehension, DerivesCondition, no_condition, condition}
+use Rattle.tera_expressions.specs.Grammar.{Operator, or, and, equal, not_equal, less, greater, less_or_equal, greater_or_equal, is_in, concat, add, subtract, multiply, divide, floor_divide, remainder, Derives, quoted, tighter, choice, operation, not, not_in, minus, power, attribute, index, slice, DerivesPart, absent, present, DerivesStep, no_step, step, int, is_true, is_false, nothing, name, of_loop, parentheses, array, map, DerivesEntry, keyed, spread_map, DerivesEntries, no_entries, one_entry, more_entries, DerivesItem, plain, spread, DerivesItems, none, one, more, comprehension, DerivesCondition, no_condition, condition, call, DerivesArgument, argument, DerivesArguments, no_arguments, one_argument, more_arguments}
 use Rattle.tera_expressions.proofs.Calls.{calls_lie}
+use Rattle.tera_expressions.proofs.ArgumentRows.{put-inside}
 
 -- what was read between two places, in order, lies inside
 pub record Read (size : ℕ) (P : Type 0) (i j : Input) : Type 0 where
@@ -118,7 +119,7 @@ module _ (size : ℕ) where
     expr_lies (is_true {i = i} h) o = leaf k.True i h (λ e. cc) o (λ w. w)
     expr_lies (is_false {i = i} h) o = leaf k.False i h (λ e. cc) o (λ w. w)
     expr_lies (nothing {i = i} h) o = leaf k.Nothing i h (λ e. cc) o (λ w. w)
-    expr_lies (name {i = i} h e) o = leaf k.Name i h (λ e. cc) o (λ w. w)
+    expr_lies (name {i = i} h e g) o = leaf k.Name i h (λ e. cc) o (λ w. w)
     expr_lies (of_loop {i = i} h e) o =
         let n = past i o in
         let m = past (next i) n.orderly in
@@ -140,6 +141,27 @@ module _ (size : ℕ) where
         let s = condition_lies q r.onward.orderly in
         begins k.LeftBracket i h (λ e. cc) o (onward_then p.onward (onward_then n (onward_then m (onward_then r.onward (onward_then s.onward (past e s.onward.orderly))))))
         (λ w. (p.inside, r.inside, s.inside, w))
+    expr_lies (call {i = i} {a = a} h e d g) o =
+        let n = past i o in
+        let m = past (next i) n.orderly in
+        let p = arguments_lie d m.orderly tt in
+        begins k.Name i h (λ e. cc) o (onward_then m (onward_then p.onward (past a p.onward.orderly))) (λ w. (p.inside, w))
+
+    argument_lies : {found all : Arguments} {i j : Input} → DerivesArgument found all i j → Orderly size i → ArgumentsInside size found → Read size (ArgumentsInside size all) i j
+    argument_lies (argument {found = found} {all = all} {x = x} {i = i} h q d e) o before =
+        let n = past i o in
+        let m = past (next i) n.orderly in
+        let p = expr_lies d m.orderly in
+        record { inside = put-inside size (text i) x found all e p.inside before; onward = onward_then n (onward_then m p.onward) }
+
+    arguments_lie : {found all : Arguments} {i j : Input} → DerivesArguments found all i j → Orderly size i → ArgumentsInside size found → Read size (ArgumentsInside size all) i j
+    arguments_lie (no_arguments {i = i}) o before = record { inside = before; onward = onward_none size i o }
+    arguments_lie (one_argument d) o before = argument_lies d o before
+    arguments_lie (more_arguments {a = a} d h q) o before =
+        let p = argument_lies d o before in
+        let n = past a p.onward.orderly in
+        let r = arguments_lie q n.orderly p.inside in
+        record { inside = r.inside; onward = onward_then p.onward (onward_then n r.onward) }
 
     condition_lies : {p : Optional} {i j : Input} → DerivesCondition p i j → Orderly size i → Read size (OptionalInside size p) i j
     condition_lies (no_condition {i = i}) o = record { inside = tt; onward = onward_none size i o }

@@ -6,6 +6,9 @@ pub mod Calls
 pub mod Sound
 pub mod Extent
 pub mod Forms
+pub mod ArgumentRows
+pub mod ArgumentOrder
+pub mod Placed
 pub mod Turning
 pub mod Complete
 pub mod Inside

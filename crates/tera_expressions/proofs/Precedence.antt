@@ -7,7 +7,7 @@ use Rattle.tera_tree.specs.Depth.{depth}
 use Rattle.tera_tokens.specs.declared.token.Kind.{Kind}
 use Rattle.tera_tokens.specs.declared.token.Kind.TheVariants as k
 use Rattle.tera_tokens.specs.Input.{Input}
-use Rattle.tera_expressions.specs.Grammar.{Operator, or, and, equal, not_equal, less, greater, less_or_equal, greater_or_equal, is_in, concat, add, subtract, multiply, divide, floor_divide, remainder, Dot, dot, optional_dot, Bracket, bracket, optional_bracket, Derives, quoted, tighter, choice, operation, not, not_in, minus, power, attribute, index, slice, int, is_true, is_false, nothing, name, of_loop, parentheses, array, map, comprehension}
+use Rattle.tera_expressions.specs.Grammar.{Operator, or, and, equal, not_equal, less, greater, less_or_equal, greater_or_equal, is_in, concat, add, subtract, multiply, divide, floor_divide, remainder, Dot, dot, optional_dot, Bracket, bracket, optional_bracket, Derives, quoted, tighter, choice, operation, not, not_in, minus, power, attribute, index, slice, int, is_true, is_false, nothing, name, of_loop, parentheses, array, map, comprehension, call}
 use Rattle.tera_expressions.specs.Expressions.{needs, gives, begins, goes_on}
 
 -- No operator in this place binds more tightly than the level.
@@ -207,7 +207,8 @@ at-most (quoted h e) = omega arith
 at-most (is_true h) = omega arith
 at-most (is_false h) = omega arith
 at-most (nothing h) = omega arith
-at-most (name h e) = omega arith
+at-most (name h e g) = omega arith
+at-most (call h e d g) = omega arith
 at-most (of_loop h e) = omega arith
 at-most (parentheses h d g) = omega arith
 at-most (array h d g) = omega arith

@@ -5,7 +5,7 @@ use Rattle.tera_errors.specs.Site as site
 use Rattle.tera_errors.specs.declared.span.Span.{Span}
 use Rattle.tera_tree.specs.declared.expression.BinaryOperator.{BinaryOperator}
 use Rattle.tera_tree.specs.declared.expression.BinaryOperator.TheVariants as binary
-use Rattle.tera_tree.specs.Tree.{Expr, Nothing, Boolean, Integer, Text, Name, Attribute, Index, Slice, Optional, Absent, Present, Not, Negate, Binary, Ternary, Array, Items, NoItems, Map, Comprehension, Key, Entries, NoEntries}
+use Rattle.tera_tree.specs.Tree.{Expr, Nothing, Boolean, Integer, Text, Name, Attribute, Index, Slice, Optional, Absent, Present, Not, Negate, Binary, Ternary, Array, Items, NoItems, Map, Comprehension, Super, Key, Entries, NoEntries, NoArguments}
 use Rattle.tera_tree.specs.Depth.{depth, items_depth, entries_depth, optional_depth}
 use Rattle.tera_tokens.specs.declared.token.Kind.{Kind}
 use Rattle.tera_tokens.specs.declared.token.Kind.TheVariants as k
@@ -13,12 +13,14 @@ use Rattle.tera_tokens.specs.Input.{Input, Parser, and_then, same, kind, start, 
 use Rattle.tera_tokens.specs.Literal.{integer, literal}
 use Rattle.tera_expressions.specs.Keys.{key_at}
 use Rattle.tera_expressions.specs.Loops.{loop_name, behind_loop}
-use Rattle.tera_expressions.specs.Grammar.{Operator, or, and, equal, not_equal, less, greater, less_or_equal, greater_or_equal, is_in, concat, add, subtract, multiply, divide, floor_divide, remainder, Dot, dot, optional_dot, Bracket, bracket, optional_bracket, Derives, quoted, tighter, choice, operation, not, not_in, minus, power, attribute, index, slice, DerivesPart, absent, present, DerivesStep, no_step, step, int, is_true, is_false, nothing, name, of_loop, parentheses, array, map, DerivesEntry, keyed, spread_map, DerivesEntries, no_entries, one_entry, more_entries, DerivesItem, plain, spread, DerivesItems, none, one, more, comprehension, DerivesCondition, no_condition, condition}
+use Rattle.tera_expressions.specs.Grammar.{Operator, or, and, equal, not_equal, less, greater, less_or_equal, greater_or_equal, is_in, concat, add, subtract, multiply, divide, floor_divide, remainder, Dot, dot, optional_dot, Bracket, bracket, optional_bracket, Derives, quoted, tighter, choice, operation, not, not_in, minus, power, attribute, index, slice, DerivesPart, absent, present, DerivesStep, no_step, step, int, is_true, is_false, nothing, name, of_loop, parentheses, array, map, DerivesEntry, keyed, spread_map, DerivesEntries, no_entries, one_entry, more_entries, DerivesItem, plain, spread, DerivesItems, none, one, more, comprehension, DerivesCondition, no_condition, condition, call}
 use Rattle.tera_expressions.specs.Headings.{Calls, calls}
+use Rattle.tera_expressions.specs.Arguments.{is_call}
 use Rattle.tera_expressions.specs.Expressions as r
 use Rattle.tera_expressions.specs.Expressions.{Deep, deep, needs, gives, begins, goes_on, floor_in, opened, climb, level, level_with, expr, head, node, prefixed, infixed, applied, behind_dots, join_items, one_item, join_entries}
 use Rattle.tera_expressions.proofs.Precedence.{gives-below, on-means, operator-depth}
 use Rattle.tera_expressions.proofs.Calls.{calls-got}
+use Rattle.tera_expressions.proofs.ArgumentRows.{Reads, arguments-got}
 use Rattle.tera_expressions.proofs.Rows.{join-none, join-join, join-no-entries, join-entries}
 use Rattle.tera_expressions.proofs.Steps.{and_then-some, guard, chosen, same-is, expect-some, some-pair, either, same-value, node-got}
 
@@ -487,8 +489,28 @@ module _ (limit b : ℕ) (part : ℕ → Parser Deep) (sound : Sound b part) whe
   leaf-got : (i j : Input) (y : Deep) (x : Expr) → depth x ≡ 1 → Derives 11 x i (next i) → node limit 0 x (next i) ≡ Some (y, j) → Got limit 11 y i j
   leaf-got i j y x e d h = leaf-to i (next i) j y x e d h
 
+  reads : Reads part
+  reads i j x h = go (sound 0 i j x (omega arith) h)
+    where
+      go : {y : Deep} {a : Input} → Got b 0 y i a → Derives 0 y.expr i a × (y.depth ≡ depth y.expr)
+      go (got _ d) = (d, refl)
+
+  call-got : (i j : Input) (y : Deep) → kind i ≡ k.Name → is_call i ≡ true → r.call limit part i ≡ Some (y, j) → Got limit 11 y i j
+  unfolding r.call
+  call-got i j y h e hh =
+      let o = next (next i) in
+      let q = and_then-some (r.arguments_from limit part (left o) NoArguments 0 o) (r.call_of limit part (start i)) (y, j) hh in
+      let g = arguments-got limit part reads (left o) NoArguments 0 o q.1 q.0 refl q.2 in
+      let f = g.4 in
+      let P : Input → Type 0 = λ c. depth (Super q.0.0 (span (start i) c)) ≤ limit → Got limit 11 (deep (Super q.0.0 (span (start i) c))) i c in
+      node-got (λ y j. Got limit 11 y i j) limit q.0.1 (Super q.0.0 (span (start i) q.1)) q.1 j y q.3 (omega (arith, f))
+      (λ ok. subst P (sym g.3) (λ ok. got ok (call h e g.1 g.2)) ok)
+
   name-got : (o : Option site.Name) (i j : Input) (y : Deep) → loop_name i ≡ o → kind i ≡ k.Name → r.name_by limit part o i ≡ Some (y, j) → Got limit 11 y i j
-  name-got None i j y e h hh = leaf-got i j y (Name (text i) (span (start i) (next i))) refl (name h e) hh
+  name-got None i j y e h hh =
+      either (chosen (is_call i) (r.call limit part i) (node limit 0 (Name (text i) (span (start i) (next i))) (next i)) (Some (y, j)) hh)
+      (λ q. call-got i j y h q.0 q.1)
+      (λ q. leaf-got i j y (Name (text i) (span (start i) (next i))) refl (name h e q.0) q.1)
   name-got (Some n) i j y e h hh = leaf-to i (behind_loop i) j y (Name n (span (start i) (behind_loop i))) refl (of_loop h e) hh
 
   int-got : (o : Option ℤ) (i j : Input) (y : Deep) → integer (text i) ≡ o → kind i ≡ k.Int → r.leaf limit part (option_map (λ z. Integer z (span (start i) (next i))) o) (next i) ≡ Some (y, j) → Got limit 11 y i j

@@ -3,7 +3,7 @@ use Rattle.std.specs.Prelude.{ℕ, zero, suc, ◌+◌, max, List, [], ◌∷◌,
 use Rattle.tera_errors.specs.declared.span.Span.{Span}
 use Rattle.tera_tree.specs.declared.expression.BinaryOperator.{BinaryOperator}
 use Rattle.tera_tree.specs.declared.expression.BinaryOperator.TheVariants as binary
-use Rattle.tera_tree.specs.Tree.{Expr, Nothing, Boolean, Integer, Text, Name, Attribute, Index, Slice, Optional, Absent, Present, Not, Negate, Binary, And, Or, Ternary, Array, Items, NoItems, MoreItems, Map, Comprehension, Key, Entries, NoEntries, MoreEntries}
+use Rattle.tera_tree.specs.Tree.{Expr, Nothing, Boolean, Integer, Text, Name, Attribute, Index, Slice, Optional, Absent, Present, Not, Negate, Binary, And, Or, Ternary, Array, Items, NoItems, MoreItems, Map, Comprehension, Super, Key, Entries, NoEntries, MoreEntries, Arguments, NoArguments}
 use Rattle.tera_tree.specs.Depth.{depth}
 use Rattle.tera_tokens.specs.declared.token.Kind.{Kind}
 use Rattle.tera_tokens.specs.declared.token.Kind.TheVariants as k
@@ -12,6 +12,7 @@ use Rattle.tera_tokens.specs.Literal.{integer, literal}
 use Rattle.tera_expressions.specs.Keys.{key_at}
 use Rattle.tera_expressions.specs.Loops.{loop_name, behind_loop}
 use Rattle.tera_expressions.specs.Headings.{calls}
+use Rattle.tera_expressions.specs.Arguments.{is_call, put_argument, argument_name}
 use Rattle.tera_errors.specs.Site as site
 
 -- an expression, and how deep it is
@@ -261,12 +262,40 @@ module _ (limit : ℕ) (sub : ℕ → Parser Deep) where
   unfoldable pub map : Parser Deep
   map = λ i. ((λ j. entries_from (left j) NoEntries 0 j) >>= (λ xs. λ j. node limit xs.1 (Map xs.0 (span (start i) j)) j)) (next i)
 
+  -- all arguments with one that was put among them, and the depth of its value
+  abbrev pub placed : Option Arguments → ℕ → Parser (Arguments × ℕ)
+  placed None d = refuse
+  placed (Some all) d = λ i. Some ((all, d), i)
+
+  -- an argument, put among those that were found
+  unfoldable pub argument : Arguments → Parser (Arguments × ℕ)
+  argument found = argument_name >>= (λ name. sub 0 >>= (λ x. placed (put_argument name x.expr found) x.depth))
+
+  -- behind an argument stands a comma and more, or the parenthesis that closes
+  abbrev pub behind_argument : (Arguments → ℕ → Parser (Arguments × ℕ)) → ℕ → Arguments × ℕ → Parser (Arguments × ℕ)
+  behind_argument more d p = λ j. if same k.Comma (kind j) then more p.0 (max d p.1) (next j)
+      else and_then (expect k.RightParenthesis j) (λ _. λ a. Some ((p.0, max d p.1), a))
+
+  -- arguments with commas between, up to a parenthesis
+  unfoldable pub arguments_from : ℕ → Arguments → ℕ → Parser (Arguments × ℕ)
+  arguments_from zero found d = refuse
+  arguments_from (suc n) found d = λ i. if same k.RightParenthesis (kind i) then Some ((found, d), next i) else
+      and_then (argument found i) (behind_argument (arguments_from n) d)
+
+  -- a call of these arguments, which its parenthesis closes
+  abbrev pub call_of : ℕ → Arguments × ℕ → Parser Deep
+  call_of from xs = λ j. node limit xs.1 (Super xs.0 (span from j)) j
+
+  -- from its name on
+  unfoldable pub call : Parser Deep
+  call = λ i. ((λ j. arguments_from (left j) NoArguments 0 j) >>= call_of (start i)) (next (next i))
+
   abbrev pub leaf : Option Expr → Parser Deep
   leaf None = refuse
   leaf (Some x) = node limit 0 x
 
   abbrev pub name_by : Option site.Name → Parser Deep
-  name_by None = λ i. node limit 0 (Name (text i) (span (start i) (next i))) (next i)
+  name_by None = λ i. if is_call i then call i else node limit 0 (Name (text i) (span (start i) (next i))) (next i)
   name_by (Some n) = λ i. node limit 0 (Name n (span (start i) (behind_loop i))) (behind_loop i)
 
   abbrev pub head_by : Kind → Parser Deep

@@ -3,7 +3,7 @@ use Rattle.std.specs.Prelude.{◌≡◌, ℕ, suc, ℤ, Bool, true, false, Optio
 use Rattle.tera_errors.specs.Site as site
 use Rattle.tera_errors.specs.declared.span.Span.{Span}
 use Rattle.tera_tree.specs.declared.expression.BinaryOperator.TheVariants as binary
-use Rattle.tera_tree.specs.Tree.{Expr, Nothing, Boolean, Integer, Text, Name, Attribute, Index, Slice, Optional, Absent, Present, Not, Negate, Binary, And, Or, Ternary, Array, Items, NoItems, MoreItems, Map, Comprehension, Key, Entries, NoEntries, MoreEntries}
+use Rattle.tera_tree.specs.Tree.{Expr, Nothing, Boolean, Integer, Text, Name, Attribute, Index, Slice, Optional, Absent, Present, Not, Negate, Binary, And, Or, Ternary, Array, Items, NoItems, MoreItems, Map, Comprehension, Super, Key, Entries, NoEntries, MoreEntries, Arguments, NoArguments}
 use Rattle.tera_tokens.specs.declared.token.Kind.{Kind}
 use Rattle.tera_tokens.specs.declared.token.Kind.TheVariants as k
 use Rattle.tera_tokens.specs.Input.{Input, kind, text, start, next, span, is_word}
@@ -11,6 +11,7 @@ use Rattle.tera_tokens.specs.Literal.{integer, literal}
 use Rattle.tera_expressions.specs.Keys.{key_at}
 use Rattle.tera_expressions.specs.Loops.{loop_name, behind_loop}
 use Rattle.tera_expressions.specs.Headings.{Calls}
+use Rattle.tera_expressions.specs.Arguments.{is_call, put_argument}
 
 -- the operators that group to the left: a sign, the form that it makes of its operands, and a level
 pub data Operator : Kind → (Expr → Expr → Span → Expr) → ℕ → Type 0 where
@@ -67,8 +68,11 @@ mutual
     is_true : {i : Input} → kind i ≡ k.True → Derives 11 (Boolean true (span (start i) (next i))) i (next i)
     is_false : {i : Input} → kind i ≡ k.False → Derives 11 (Boolean false (span (start i) (next i))) i (next i)
     nothing : {i : Input} → kind i ≡ k.Nothing → Derives 11 (Nothing (span (start i) (next i))) i (next i)
-    name : {i : Input} → kind i ≡ k.Name → loop_name i ≡ None → Derives 11 (Name (text i) (span (start i) (next i))) i (next i)
+    name : {i : Input} → kind i ≡ k.Name → loop_name i ≡ None → is_call i ≡ false → Derives 11 (Name (text i) (span (start i) (next i))) i (next i)
     of_loop : {n : site.Name} {i : Input} → kind i ≡ k.Name → loop_name i ≡ Some n → Derives 11 (Name n (span (start i) (behind_loop i))) i (behind_loop i)
+    -- a call of `super`
+    call : {all : Arguments} {i a : Input} → kind i ≡ k.Name → is_call i ≡ true → DerivesArguments NoArguments all (next (next i)) a → kind a ≡ k.RightParenthesis
+        → Derives 11 (Super all (span (start i) (next a))) i (next a)
     -- parentheses are no part of what they are around
     parentheses : {x : Expr} {i a : Input} → kind i ≡ k.LeftParenthesis → Derives 0 x (next i) a → kind a ≡ k.RightParenthesis → Derives 11 x i (next a)
     array : {xs : Items} {i a : Input} → kind i ≡ k.LeftBracket → DerivesItems xs (next i) a → kind a ≡ k.RightBracket
@@ -116,3 +120,15 @@ mutual
     one_entry : {key : Option Key} {x : Expr} {i j : Input} → DerivesEntry key x i j → DerivesEntries (MoreEntries key x NoEntries) i j
     more_entries : {key : Option Key} {x : Expr} {xs : Entries} {i a j : Input} → DerivesEntry key x i a → kind a ≡ k.Comma → DerivesEntries xs (next a) j
         → DerivesEntries (MoreEntries key x xs) i j
+
+  -- An argument, put at its place among those before it. Its name may be a reserved word, and is the name of no other.
+  pub data DerivesArgument : Arguments → Arguments → Input → Input → Type 0 where
+    argument : {found all : Arguments} {x : Expr} {i j : Input} → is_word (kind i) ≡ true → kind (next i) ≡ k.Assign → Derives 0 x (next (next i)) j
+        → put_argument (text i) x found ≡ Some all → DerivesArgument found all i j
+
+  -- from the arguments before these to all: arguments with commas between, and at will one behind the last
+  pub data DerivesArguments : Arguments → Arguments → Input → Input → Type 0 where
+    no_arguments : {found : Arguments} {i : Input} → DerivesArguments found found i i
+    one_argument : {found all : Arguments} {i j : Input} → DerivesArgument found all i j → DerivesArguments found all i j
+    more_arguments : {found with_it all : Arguments} {i a j : Input} → DerivesArgument found with_it i a → kind a ≡ k.Comma → DerivesArguments with_it all (next a) j
+        → DerivesArguments found all i j

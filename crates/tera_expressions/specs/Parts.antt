@@ -1,5 +1,5 @@
 -- How the reader's parts of expressions stand to their definitions.
-use Rattle.std.specs.Prelude.{◌≡◌, ℕ, List, Bool, Option, Some, Result, Ok, Err, option_copied}
+use Rattle.std.specs.Prelude.{◌≡◌, ℕ, List, Bool, Option, Some, None, option_map, suc, Result, Ok, Err, option_copied}
 use Rattle.std.specs.declared.alloc.Global.{Global}
 use denote.Ref.{MutBor}
 use Rattle.tera_errors.specs.Site.{Name}
@@ -7,7 +7,7 @@ use Rattle.tera_errors.specs.declared.span.Span.{Span}
 use Rattle.tera_tree.specs.declared.expression.Expression.{Expression}
 use Rattle.tera_tree.specs.declared.expression.Item as item
 use Rattle.tera_tree.specs.declared.expression.Entry as entry
-use Rattle.tera_tree.specs.Tree.{Expr, Key, Optional, And, Or, Binary}
+use Rattle.tera_tree.specs.Tree.{Expr, Key, Optional, And, Or, Binary, Arguments, NoArguments, MoreArguments}
 use Rattle.tera_tree.specs.View.{expr_of, optional_of, items_of, entries_of}
 use Rattle.tera_tokens.specs.declared.refusal.Refusal.{Refusal}
 use Rattle.tera_tokens.specs.declared.refusal.Refusal.TheVariants.{Syntax, OutOfMemory}
@@ -20,6 +20,8 @@ use Rattle.tera_expressions.specs.declared.headings.LoopNames.{LoopNames}
 use Rattle.tera_expressions.specs.declared.reader.Part.{Part}
 use Rattle.tera_expressions.specs.declared.operators.Infix.{Infix}
 use Rattle.tera_expressions.specs.declared.operators.Infix.TheVariants as form
+use Rattle.std.specs.Ordering.{match_ordering}
+use Rattle.tera_expressions.specs.Arguments.{name_cmp}
 use Rattle.tera_expressions.specs.Expressions.{Deep, expr, join_items, one_item, join_entries, one_entry}
 
 abbrev pub deep_of : declared.Deep → Deep
@@ -59,3 +61,8 @@ abbrev pub Makes : Expr → Result Expression Refusal → Type 0
 Makes meant (Ok x) = expr_of x ≡ meant
 Makes meant (Err (Syntax why span)) = ⊥
 Makes meant (Err OutOfMemory) = Unit {0}
+
+-- how many of the arguments stand before the place of this name; none where one has it
+abbrev pub place_of : Name → Arguments → Option ℕ
+place_of n NoArguments = Some 0
+place_of n (MoreArguments m y rest) = match_ordering (name_cmp n m) (Some 0) None (option_map suc (place_of n rest))

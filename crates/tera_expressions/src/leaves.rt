@@ -7,6 +7,7 @@ ghost use Rattle.tera_expressions.specs.Loops as loops;
 ghost use Rattle.std.specs.Prelude.{◌≡◌, option_map};
 ghost use Rattle.tera_expressions.specs.Parts.{Nests, deep_of};
 
+use crate::arguments::is_call;
 use crate::expressions::Deep;
 use crate::reader::Reader;
 use std::alloc::Global;
@@ -91,9 +92,10 @@ impl<'s, F: Fn(Global, &mut Tokens<'_, 's>, usize, u8) -> Result<Deep<'s>, Refus
         }
     }
 
-    /// A name.
+    /// A name, or a call.
     #[inline(always)]
     pub(crate) fn name(&self, tokens: &mut Tokens<'_, 's>) -> Result<Deep<'s>, Refusal>
+        requires { Nests self.now.below (F.pre self.now.expr) (F.post self.now.expr) }
         ensures { Takes deep_of (spec.head_by self.now.limit (spec.expr self.now.below) Kind.Name (input tokens.old)) result tokens.new }
     {
         let start = tokens.start();
@@ -103,6 +105,9 @@ impl<'s, F: Fn(Global, &mut Tokens<'_, 's>, usize, u8) -> Result<Deep<'s>, Refus
             tokens.take();
             let span = tokens.span(start);
             return self.node(tokens, 0, Expression::Name { name, span });
+        }
+        if is_call(tokens) {
+            return self.call(tokens);
         }
         let name = tokens.text();
         tokens.take();

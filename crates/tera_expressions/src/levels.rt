@@ -80,8 +80,9 @@ pub(crate) fn begins(kind: Kind) -> u8
 }
 
 /// The kinds of the next two tokens.
+#[inline]
 #[tactic(auto, unfolding(tera_tokens::specs::Input::kind, tera_tokens::specs::Input::next))]
-fn kinds(tokens: &Tokens<'_, '_>) -> (Kind, Kind)
+pub(crate) fn kinds(tokens: &Tokens<'_, '_>) -> (Kind, Kind)
     ensures first { result.0 ≡ kind (input tokens.now) }
     ensures second { result.1 ≡ kind (next (input tokens.now)) }
 {
@@ -92,14 +93,18 @@ fn kinds(tokens: &Tokens<'_, '_>) -> (Kind, Kind)
     }
 }
 
-/// Whether the first of two tokens is a name or an integer, and the second doesn't go on with it to this level.
+/// Whether the first of two tokens is a name or an integer, and the second neither goes on with it to this level nor
+/// opens the arguments of a call.
 fn is_alone(floor: u8, first: Kind, second: Kind) -> bool
     ensures { let is_leaf = spec_same Kind.Name first || spec_same Kind.Int first in
-        result ≡ ((is_leaf && nat_le floor 11) && not (spec.goes_on floor 11 second)) }
+        let goes_on = spec.goes_on floor 11 second in
+        let is_called = spec_same Kind.LeftParenthesis second in
+        result ≡ (((is_leaf && nat_le floor 11) && not goes_on) && not is_called) }
 {
     (same(Kind::Name, first) || same(Kind::Int, first))
         && floor <= 11
         && !goes_on(floor, 11, second)
+        && !same(Kind::LeftParenthesis, second)
 }
 
 /// Whether the next operand is a name or an integer, and nothing goes on with it to this level. Most are.

@@ -2,6 +2,7 @@
 #![tactic(auto)]
 
 mod access;
+mod arguments;
 mod climb;
 mod collections;
 mod comprehensions;

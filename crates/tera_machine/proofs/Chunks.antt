@@ -4,28 +4,29 @@ use Rattle.std.specs.Prelude.{slice_get}
 use Rattle.tera_errors.specs.declared.span.Span.{Span}
 use Rattle.tera_errors.specs.Site as site
 use Rattle.tera_errors.specs.Fault.{Fault}
-use Rattle.tera_tree.specs.Tree.{Expr, Nothing, Boolean, Integer, Text, Name, Attribute, Index, Slice, Not, Negate, Binary, And, Or, Ternary, Array, Map, Comprehension, Node, Content, Print, If, Set, Capture, For, Break, Continue, Nodes, NoNodes, MoreNodes}
+use Rattle.tera_tree.specs.Tree.{Expr, Nothing, Boolean, Integer, Text, Name, Attribute, Index, Slice, Not, Negate, Binary, And, Or, Ternary, Array, Map, Comprehension, Super, Node, Content, Print, If, Set, Capture, For, Block, Break, Continue, Nodes, NoNodes, MoreNodes}
 use Rattle.tera_values.specs.Val as val
 use Rattle.tera_values.specs.Access.{truthy}
 use Rattle.tera_state.specs.Scope.{Turn, Heading, look, dump, assign}
 use Rattle.tera_operators.specs.Operand.{Evaluated}
 use Rattle.tera_meaning.specs.Here.{Here}
 use Rattle.tera_meaning.specs.Whole.{World, Place, here_at, whole}
-use Rattle.tera_meaning.specs.Run.{Run, Signal, On, Broke, Continued, Oracle, Meaning, ◌▹◌, visit, reads, value_at, answered, writes, changes, onward, go_on}
+use Rattle.tera_meaning.specs.Run.{Run, Signal, On, Broke, Continued, ABlock, Oracle, Meaning, ◌▹◌, visit, reads, value_at, answered, writes, changes, onward, go_on}
 use Rattle.tera_meaning.specs.Meaning.{output, written, turns_of, loop_or_else, node_meaning, nodes_meaning}
 use Rattle.tera_code.specs.declared.instruction.Instruction.{Instruction}
 use Rattle.tera_code.specs.declared.instruction.Instruction.TheVariants as instruction
 use Rattle.tera_code.specs.Code.{expr_code, node_code, nodes_code, choice_tail, loop_tail, print_code, capture_code, is_context}
+use Rattle.tera_machine.specs.Flow.{Written}
 use Rattle.tera_machine.specs.Loops.{begun_with}
 use Rattle.tera_machine.specs.Act.{act, put_out}
 use Rattle.tera_machine.specs.Exec.{Code}
 use Rattle.tera_machine.proofs.Places.{StandsAt, stands_front, stands_back, parts, round}
-use Rattle.tera_machine.proofs.Counted.{Runs, done, spend, step, first, fail, adjust, onward_runs, answered_runs, put_back_runs, choice_runs, jump_after}
+use Rattle.tera_machine.proofs.Counted.{Runs, Below, done, spend, step, first, fail, adjust, onward_runs, answered_runs, put_back_runs, choice_runs, jump_after, asked_runs}
 use Rattle.tera_machine.proofs.Arrivals.{Base, over, in_loop, captured_over, config_at, spot, writing, Fits, Arrive, arrive_at, go_on_runs, arrive_passes, leave_leads}
 use Rattle.tera_machine.proofs.Turns.{begin_runs}
 use Rattle.tera_machine.proofs.Expressions.{expr_runs}
 
-module _ (w : World) (place : Place) (code : Code) where
+module _ (w : World) (place : Place) (code : Code) (below : Below w place) where
   abbrev here : Here
   here = here_at w place
 
@@ -44,7 +45,7 @@ module _ (w : World) (place : Place) (code : Code) where
       let pe = ip + length ce in
       let len : pe + 1 ≡ ip + length (ce ++ instruction.WriteTop ∷ []) = omega (arith, length-append ce (instruction.WriteTop ∷ [])) in
       let i = (stands_back code ip ce (instruction.WriteTop ∷ []) has).0 in
-      arrive_at w place code drops _ len (spend w place code (onward_runs w place code (omega arith) (expr_runs w place code value ip base r (stands_front code ip ce _ has)) (λ a r1. put_out_runs pe (a ∷ base.operands) base r1 drops 8 (output here a) instruction.WriteTop i refl)))
+      arrive_at w place code drops _ len (spend w place code (onward_runs w place code (omega arith) (expr_runs w place code below value ip base r (stands_front code ip ce _ has)) (λ a r1. put_out_runs pe (a ∷ base.operands) base r1 drops 8 (output here a) instruction.WriteTop i refl)))
 
   -- what a name stands for is put out where it lies, the map of all names from the top
   name_printed : (b : Bool) (name : site.Name) (span : Span) (drops ip : ℕ) (base : Base) (r : Run) → StandsAt code ip (print_code (cond b None (Some (name, span))) (cond b (instruction.LoadContext span ∷ []) (instruction.LoadName name span ∷ []))) → Runs w place code (spot ip base r) 0 0 (Arrive code (ip + length (print_code (cond b None (Some (name, span))) (cond b (instruction.LoadContext span ∷ []) (instruction.LoadName name span ∷ [])))) base drops) (visit (visit (reads (λ v. cond b (dump place.around v) (look name place.around v)) ▹ λ v. value_at v span) ▹ written here) r)
@@ -83,6 +84,7 @@ module _ (w : World) (place : Place) (code : Code) where
     node_runs (Print (Ternary value condition other span)) drops ip base r fits has = print_runs (Ternary value condition other span) drops ip base r has
     node_runs (Print (Array items span)) drops ip base r fits has = print_runs (Array items span) drops ip base r has
     node_runs (Print (Map entries span)) drops ip base r fits has = print_runs (Map entries span) drops ip base r has
+    node_runs (Print (Super arguments span)) drops ip base r fits has = print_runs (Super arguments span) drops ip base r has
     node_runs (Print (Comprehension value key name target condition span)) drops ip base r fits has =
         print_runs (Comprehension value key name target condition span) drops ip base r has
     node_runs (If condition body other) drops ip base r fits has =
@@ -94,14 +96,14 @@ module _ (w : World) (place : Place) (code : Code) where
         let end = ip + length (cc ++ choice_tail cv co) in
         let len : p + 1 + (length cv + 1) + length co ≡ end = omega (arith, length-append cc (choice_tail cv co), length-append cv (instruction.Jump (length co) ∷ co)) in
         let pass : p + 1 + length cv + 1 + length co ≡ end = omega (arith, len) in
-        spend w place code (onward_runs w place code (omega arith) (expr_runs w place code condition ip base r (stands_front code ip cc _ has)) (λ c r1. choice_runs w place code _ _ 8 (length cv + 1) (truthy c.value) (nodes_meaning here call body) (nodes_meaning here call other) r1 (instruction.PopJumpIfFalse (length cv + 1)) h.branch refl h.within (adjust w place code 8 0 (omega arith) (jump_after w place code (arrive_passes w place code (p + 1 + length cv) end (length co) base drops h.jump h.ends pass) (nodes_runs body drops (p + 1) base r1 fits h.first))) (adjust w place code 8 0 (omega arith) (arrive_at w place code drops _ len (nodes_runs other drops (p + 1 + (length cv + 1)) base r1 fits h.second)))))
+        spend w place code (onward_runs w place code (omega arith) (expr_runs w place code below condition ip base r (stands_front code ip cc _ has)) (λ c r1. choice_runs w place code _ _ 8 (length cv + 1) (truthy c.value) (nodes_meaning here call body) (nodes_meaning here call other) r1 (instruction.PopJumpIfFalse (length cv + 1)) h.branch refl h.within (adjust w place code 8 0 (omega arith) (jump_after w place code (arrive_passes w place code (p + 1 + length cv) end (length co) base drops h.jump h.ends pass) (nodes_runs body drops (p + 1) base r1 fits h.first))) (adjust w place code 8 0 (omega arith) (arrive_at w place code drops _ len (nodes_runs other drops (p + 1 + (length cv + 1)) base r1 fits h.second)))))
     node_runs (Set name value is_global) drops ip base r fits has =
         let i = instruction.Store name is_global in
         let ce = expr_code value in
         let pe = ip + length ce in
         let len : pe + 1 ≡ ip + length (ce ++ i ∷ []) = omega (arith, length-append ce (i ∷ [])) in
         let at = (stands_back code ip ce (i ∷ []) has).0 in
-        arrive_at w place code drops _ len (spend w place code (onward_runs w place code (omega arith) (expr_runs w place code value ip base r (stands_front code ip ce _ has)) (λ a r1. first w place code _ 8 i at refl (done w place code (omega arith)))))
+        arrive_at w place code drops _ len (spend w place code (onward_runs w place code (omega arith) (expr_runs w place code below value ip base r (stands_front code ip ce _ has)) (λ a r1. first w place code _ 8 i at refl (done w place code (omega arith)))))
     node_runs (Capture name body is_global) drops ip base r fits has =
         let i = instruction.Store name is_global in
         let cb = nodes_code body (suc drops) in
@@ -131,7 +133,10 @@ module _ (w : World) (place : Place) (code : Code) where
         let turn = nodes_meaning here call body in
         let otherwise = nodes_meaning here call other in
         let begins = λ (turns : Result (List Turn) Fault) (r1 : Run). begun_with at size turns (config_at base r1) in
-        arrive_at w place code drops _ len (spend w place code (onward_runs w place code (omega arith) (expr_runs w place code target ip base r (stands_front code ip ct _ has)) (λ a r1. answered_runs w place code 8 (turns_of here heading a) r1 (λ turns. loop_or_else turn otherwise turns) start (omega arith) h.0 (λ f e. ap (λ o. begins o r1) e) (λ turns e. begin_runs w place code turn size lo at base drops g.next g.over g.within each p (config_at (over a base) r1) start turns otherwise r1 refl h.0 (ap (λ o. begins o r1) e) (nodes_runs other drops (at + (size + 1) + 1) base r1 fits g.rest)))))
+        arrive_at w place code drops _ len (spend w place code (onward_runs w place code (omega arith) (expr_runs w place code below target ip base r (stands_front code ip ct _ has)) (λ a r1. answered_runs w place code 8 (turns_of here heading a) r1 (λ turns. loop_or_else turn otherwise turns) start (omega arith) h.0 (λ f e. ap (λ o. begins o r1) e) (λ turns e. begin_runs w place code turn size lo at base drops g.next g.over g.within each p (config_at (over a base) r1) start turns otherwise r1 refl h.0 (ap (λ o. begins o r1) e) (nodes_runs other drops (at + (size + 1) + 1) base r1 fits g.rest)))))
+    node_runs (Block name body span) drops ip base r fits has =
+        let q = ABlock name span in
+        spend w place code (asked_runs w place code (config_at base r) 7 q Written r writes (instruction.TakeBlock name span) (call q r.vars) (omega arith) has.0 refl (below q Written (config_at base r)) (λ after. done w place code (omega arith)))
     node_runs Break drops ip base r fits has =
         spend w place code (step w place code _ 7 (leave_leads w place code ip 1 drops base r (instruction.LeaveLoop drops) (omega arith) fits has.0 refl) (done w place code (omega arith)))
     node_runs Continue drops ip base r fits has =

@@ -3,16 +3,16 @@ use Rattle.std.proofs.Common.{◌≡◌, ℕ, ◌+◌, ◌*◌, ◌≤◌, Bool,
 use Rattle.std.specs.Prelude.{slice_get}
 use Rattle.tera_errors.specs.Site.{Text}
 use Rattle.tera_errors.specs.Fault.{Fault}
-use Rattle.tera_meaning.specs.Run.{Run, Signal, Request, Answer, Failed, Gave, Meaning, more, onward, gives, answered, if_else, put_back}
-use Rattle.tera_meaning.specs.Whole.{World, Place, here_at}
+use Rattle.tera_meaning.specs.Run.{Run, Signal, Request, Answer, Failed, Gave, Meaning, more, onward, gives, answered, if_else, joined, joined_answer, put_back}
+use Rattle.tera_meaning.specs.Whole.{World, Place, here_at, whole}
 use Rattle.tera_code.specs.declared.instruction.Instruction.{Instruction}
 use Rattle.tera_machine.specs.Config.{Config}
-use Rattle.tera_machine.specs.Flow.{Use, On, Skip}
+use Rattle.tera_machine.specs.Flow.{Use, On, Skip, Ask}
 use Rattle.tera_machine.specs.Did.{Goes, Faults}
 use Rattle.tera_machine.specs.Act.{act, branched}
 use Rattle.tera_machine.specs.Exec.{Code, Finished, Broken, used, Ends, BodyEnds}
 use Rattle.tera_machine.specs.Progress.{Leads}
-use Rattle.tera_machine.proofs.Ends.{after-none, step_ends, further, on_leads, skip_leads}
+use Rattle.tera_machine.proofs.Ends.{after-none, step_ends, further, on_leads, skip_leads, ask_leads, ask_breaks}
 
 -- a place in the code, and what the machine works on there
 pub record Spot : Type 0 where
@@ -23,6 +23,10 @@ pub record Spot : Type 0 where
 abbrev pub Asked : World → Place → Request → Use → Config → Answer Signal → Type 0
 Asked w place q u c (Failed f n) = (k : ℕ) × (k ≤ 8 * n) × BodyEnds w place q u c (Broken f k)
 Asked w place q u c (Gave signal r n) = (k : ℕ) × (k ≤ 8 * n) × BodyEnds w place q u c (Finished (used u r c) k)
+
+-- the bodies that a place takes give what they mean
+abbrev pub Below : World → Place → Type 0
+Below w place = (q : Request) (u : Use) (c : Config) → Asked w place q u c (whole w place q c.run.vars)
 
 -- a fact of what an answer gives
 abbrev pub Holds : {A : Type 0} → (A → Type 0) → Answer A → Type 0
@@ -199,6 +203,24 @@ module _ (w : World) (place : Place) (code : Code) where
   pub put_back_runs : {A : Type 0} {from : Spot} (s : ℕ) (before : Text) (goal : Signal → Run → Spot) {goal' : A → Run → Spot} {x : Answer Signal} (go : Signal × Text → Meaning A) → Runs from 0 0 goal x → ((signal : Signal) (r : Run) → Runs (goal signal r) s 0 goal' (go (signal, r.text) (record r { text = before }))) → Runs from s 0 goal' (onward (put_back before x) go)
   put_back_runs {from = from} s before goal {goal' = goal'} {x = x} go h k =
       record { by = put_back_comes from s before goal goal' x go h.by k }
+
+  rest_asked : {A : Type 0} (a b : Spot) (k s t n : ℕ) (goal : A → Run → Spot) (y : Answer A) → k ≤ 8 * n → Reaches a (1 + k) b → Comes b s t goal y → Comes a (s + 1) t goal (more n y)
+  rest_asked a b k s t n goal (Failed f w) l g h = (1 + k + h.0, omega (arith, h.1, l), breaks_then a b (1 + k) h.0 f g h.2)
+  rest_asked a b k s t n goal (Gave x r w) l g h = (1 + k + h.0, omega (arith, h.1, l), reaches_then a b (goal x r) (1 + k) h.0 g h.2)
+
+  asked_comes : {B : Type 0} (ip s t : ℕ) (c c2 : Config) (goal : B → Run → Spot) (q : Request) (u : Use) (r : Run) (go : Text → Meaning B) (i : Instruction) (x : Answer Signal) → t ≤ s → slice_get code ip ≡ Some i → act (here_at w place) (ip + 1) i c ≡ Goes c2 (Ask q u) → Asked w place q u c2 x → ((after : Run) → Runs (record { ip = ip + 1; config = used u after c2 }) s t goal (go after.text (joined r after))) → Comes (record { ip = ip; config = c }) (s + 1) t goal (onward (joined_answer r x) go)
+  asked_comes ip s t c c2 goal q u r go i (Failed f n) l e a h k =
+      (1 + h.0, omega (arith, l, h.1), ask_breaks w place code ip c c2 i q u h.0 f e a h.2)
+  asked_comes ip s t c c2 goal q u r go i (Gave signal after n) l e a h k =
+      let from : Spot = record { ip = ip; config = c } in
+      let to : Spot = record { ip = ip + 1; config = used u after c2 } in
+      let at : Reaches from (1 + h.0) to = ask_leads w place code ip c c2 (used u after c2) i q u h.0 e a h.2 in
+      rest_asked from to h.0 s t n goal (go after.text (joined r after)) h.1 at (k after).by
+
+  -- one instruction, which takes another body
+  pub asked_runs : {B : Type 0} {ip : ℕ} {c : Config} (c2 : Config) (s : ℕ) {t : ℕ} {goal : B → Run → Spot} (q : Request) (u : Use) (r : Run) (go : Text → Meaning B) (i : Instruction) (x : Answer Signal) → t ≤ s → slice_get code ip ≡ Some i → act (here_at w place) (ip + 1) i c ≡ Goes c2 (Ask q u) → Asked w place q u c2 x → ((after : Run) → Runs (record { ip = ip + 1; config = used u after c2 }) s t goal (go after.text (joined r after))) → Runs (record { ip = ip; config = c }) (s + 1) t goal (onward (joined_answer r x) go)
+  asked_runs {ip = ip} {c = c} c2 s {t = t} {goal = goal} q u r go i x l e a h k =
+      record { by = asked_comes ip s t c c2 goal q u r go i x l e a h k }
 
   -- a result of which something is made
   pub mapped_runs : {A B : Type 0} {from : Spot} (s : ℕ) {t : ℕ} {goal : B → Run → Spot} (f : A → B) {x : Answer A} → Runs from s t (λ a r. goal (f a) r) x → Runs from s t goal (onward x (λ a. gives (f a)))

@@ -101,7 +101,7 @@ module _ (w : World) where
   deeper (suc m) (suc n) le p code ip c =
       fetched_extends (exec w m) (exec w n) (deeper m n (omega arith)) p code (slice_get code ip) ip c
 
-  body_deeper : (m n : ℕ) → m ≤ n → (p : Place) (q : Request) (u : Use) (c : Config) → Extends (body_by w (exec w m) p q u c) (body_by w (exec w n) p q u c)
+  pub body_deeper : (m n : ℕ) → m ≤ n → (p : Place) (q : Request) (u : Use) (c : Config) → Extends (body_by w (exec w m) p q u c) (body_by w (exec w n) p q u c)
   body_deeper m n le p q u c =
       taken_extends (exec w m) (exec w n) (deeper m n le) q u c (way w p q c.run.vars)
 

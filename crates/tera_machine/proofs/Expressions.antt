@@ -1,11 +1,11 @@
 -- The code of an expression gives what the expression means.
-use Rattle.std.proofs.Common.{◌≡◌, ℕ, ◌+◌, ◌≤◌, Bool, true, false, cond, List, [], ◌∷◌, ◌++◌, length, Option, Some, Result, Ok, Err, refl, sym, ap, ◌∙◌, subst, arith, length-append, append-nil}
+use Rattle.std.proofs.Common.{◌≡◌, ℕ, suc, ◌+◌, ◌≤◌, Bool, true, false, cond, List, [], ◌∷◌, ◌++◌, length, Option, Some, Result, Ok, Err, refl, sym, ap, ◌∙◌, subst, arith, length-append, append-nil}
 use Rattle.std.specs.Prelude.{slice_get}
 use Rattle.std.specs.List.{zip}
 use Rattle.tera_errors.specs.declared.span.Span.{Span}
 use Rattle.tera_errors.specs.Site as site
 use Rattle.tera_errors.specs.Fault.{Fault}
-use Rattle.tera_tree.specs.Tree.{Key, Expr, Nothing, Boolean, Integer, Text, Name, Attribute, Index, Slice, Not, Negate, Binary, And, Or, Ternary, Array, Map, Comprehension, Optional, Absent, Present, Items, NoItems, MoreItems, Entries, NoEntries, MoreEntries}
+use Rattle.tera_tree.specs.Tree.{Key, Expr, Nothing, Boolean, Integer, Text, Name, Attribute, Index, Slice, Not, Negate, Binary, And, Or, Ternary, Array, Map, Comprehension, Super, Optional, Absent, Present, Items, NoItems, MoreItems, Entries, NoEntries, MoreEntries, Arguments, NoArguments, MoreArguments}
 use Rattle.tera_values.specs.Val as val
 use Rattle.tera_values.specs.Access.{truthy}
 use Rattle.tera_state.specs.Scope.{Turn, Heading, look, dump}
@@ -15,23 +15,24 @@ use Rattle.tera_operators.specs.Operators.{not_of, negative_of, binary_of}
 use Rattle.tera_operators.specs.Literals.{array_of, map_of}
 use Rattle.tera_meaning.specs.Here.{Here}
 use Rattle.tera_meaning.specs.Whole.{World, Place, here_at, whole}
-use Rattle.tera_meaning.specs.Run.{Run, Gave, Oracle, Meaning, ◌▹◌, visit, reads, answered, onward, gives, value_at}
-use Rattle.tera_meaning.specs.Meaning.{turns_of, if_kept, comprehension, expr_meaning, condition_meaning, bound_meaning, items_meaning, entries_meaning}
+use Rattle.tera_meaning.specs.Run.{Run, Gave, Above, Oracle, Meaning, ◌▹◌, visit, reads, answered, onward, gives, value_at}
+use Rattle.tera_meaning.specs.Meaning.{turns_of, if_kept, comprehension, expr_meaning, condition_meaning, bound_meaning, items_meaning, entries_meaning, arguments_meaning}
 use Rattle.tera_code.specs.declared.instruction.Instruction.{Instruction}
 use Rattle.tera_code.specs.declared.instruction.Instruction.TheVariants as instruction
-use Rattle.tera_code.specs.Code.{expr_code, turn_code, keep_code, keep_tail, bound_code, items_code, entries_code, choice_tail, comprehension_tail, is_context, spreads_of, keys_in}
+use Rattle.tera_code.specs.Code.{expr_code, turn_code, keep_code, keep_tail, bound_code, items_code, entries_code, choice_tail, comprehension_tail, is_context, spreads_of, keys_in, arguments_code, arguments_length}
 use Rattle.tera_machine.specs.Config.{Config}
-use Rattle.tera_machine.specs.Did.{outcome}
+use Rattle.tera_machine.specs.Flow.{Pushed, Ask}
+use Rattle.tera_machine.specs.Did.{Goes, outcome}
 use Rattle.tera_machine.specs.Loops.{begun_with}
-use Rattle.tera_machine.specs.Act.{act, made_of, branched}
+use Rattle.tera_machine.specs.Act.{act, made_of, branched, above_in}
 use Rattle.tera_machine.specs.Exec.{Code}
-use Rattle.tera_machine.proofs.Literals.{push_all, firsts, seconds, zip-firsts, length-seconds, topmost-push_all}
+use Rattle.tera_machine.proofs.Literals.{push_all, firsts, seconds, zip-firsts, length-seconds, length-all-seconds, topmost-push_all}
 use Rattle.tera_machine.proofs.Places.{StandsAt, stands_front, stands_back, stands_within, parts, round}
-use Rattle.tera_machine.proofs.Counted.{Spot, Runs, Holds, holds_onward, holds_any, done, spend, none, first, jump, fail, adjust, onward_runs, onward_lent, onward_where, onward-onward, answered_runs, mapped_runs, choice_runs, choice_not_runs, jump_after}
+use Rattle.tera_machine.proofs.Counted.{Spot, Runs, Below, Holds, holds_onward, holds_any, done, spend, none, first, jump, fail, adjust, onward_runs, onward_lent, onward_where, onward-onward, answered_runs, mapped_runs, choice_runs, choice_not_runs, jump_after, asked_runs}
 use Rattle.tera_machine.proofs.Arrivals.{Base, over, in_loop, all_over, config_at, spot, Top, Tops, top_at, tops_at, top_passes}
 use Rattle.tera_machine.proofs.Gathered.{one_turn, gather_runs}
 
-module _ (w : World) (place : Place) (code : Code) where
+module _ (w : World) (place : Place) (code : Code) (below : Below w place) where
   abbrev here : Here
   here = here_at w place
 
@@ -65,6 +66,18 @@ module _ (w : World) (place : Place) (code : Code) where
       let c : Config = config_at (all_over (seconds all) base) r in
       ap (λ o. made_of (λ vs. map_of place.file (zip (keys_in entries) vs) span) o c) (topmost-push_all (length (keys_in entries)) (seconds all) base.operands (length-seconds (keys_in entries) all e))
       ∙ ap (λ ps. outcome (map_of place.file ps span) base.operands c) (zip-firsts (keys_in entries) all e)
+
+  -- as many operands as arguments are there
+  holds_arguments : (arguments : Arguments) (r : Run) → Holds (λ all. length all ≡ arguments_length arguments) (arguments_meaning here call arguments r)
+  holds_arguments NoArguments r = refl
+  holds_arguments (MoreArguments name value rest) r =
+      holds_onward _ _ (expr_meaning here call value r) _ (holds_any (expr_meaning here call value r)) (λ a r1 _. holds_onward _ _ (arguments_meaning here call rest r1) _ (holds_arguments rest r1) (λ all r2 h. ap (λ n. suc n) h))
+
+  -- they are dropped, and the body above is asked for
+  asks_above : (next n : ℕ) (all : List (site.Name × Evaluated)) (base : Base) (r : Run) (span : Span) → length all ≡ n → act here next (instruction.TakeAbove n span) (config_at (all_over (seconds all) base) r) ≡ Goes (config_at base r) (Ask (Above span) (Pushed true span))
+  asks_above next n all base r span e =
+      let c : Config = config_at (all_over (seconds all) base) r in
+      ap (λ o. above_in span o c) (topmost-push_all n (seconds all) base.operands (sym e ∙ sym (length-all-seconds all)))
 
   -- a name's value on top, or the map of all that is bound
   name_runs : (b : Bool) (name : site.Name) (span : Span) (ip : ℕ) (base : Base) (r : Run) → StandsAt code ip (cond b (instruction.LoadContext span ∷ []) (instruction.LoadName name span ∷ [])) → Runs w place code (spot ip base r) 0 1 (Top (ip + length (cond b (instruction.LoadContext span ∷ []) (instruction.LoadName name span ∷ []))) base) (visit (reads (λ v. cond b (dump place.around v) (look name place.around v)) ▹ λ v. value_at v span) r)
@@ -210,6 +223,15 @@ module _ (w : World) (place : Place) (code : Code) where
         let len : p + 1 ≡ ip + length (ci ++ i ∷ []) = omega (arith, length-append ci (i ∷ [])) in
         let at = (stands_back code ip ci (i ∷ []) has).0 in
         top_at w place code _ len (spend w place code (onward_where w place code (λ all. firsts all ≡ keys_in entries) (omega arith) (holds_entries entries r) (entries_runs entries ip base r (stands_front code ip ci _ has)) (λ all r1 e. outcome_runs p (push_all (seconds all) base.operands) base r1 7 (map_of here.file all span) i (omega arith) at (made_map (p + 1) entries all base r1 span e))))
+    expr_runs (Super arguments span) ip base r has =
+        let ca = arguments_code arguments in
+        let n = arguments_length arguments in
+        let i = instruction.TakeAbove n span in
+        let p = ip + length ca in
+        let len : p + 1 ≡ ip + length (ca ++ i ∷ []) = omega (arith, length-append ca (i ∷ [])) in
+        let at = (stands_back code ip ca (i ∷ []) has).0 in
+        let top : site.Text → Meaning Evaluated = λ t. value_at (val.text t true) span in
+        top_at w place code _ len (spend w place code (onward_where w place code (λ all. length all ≡ n) (omega arith) (holds_arguments arguments r) (arguments_runs arguments ip base r (stands_front code ip ca _ has)) (λ all r1 e. asked_runs w place code (config_at base r1) 7 (Above span) (Pushed true span) r1 top i (call (Above span) r1.vars) (omega arith) at (asks_above (p + 1) n all base r1 span e) (below (Above span) (Pushed true span) (config_at base r1)) (λ after. done w place code (omega arith)))))
     expr_runs (Comprehension value key name target condition span) ip base r has =
         let heading : Heading = record { name = name; key = key; counts = false } in
         let ct = expr_code target in
@@ -268,3 +290,12 @@ module _ (w : World) (place : Place) (code : Code) where
         let cr = entries_code rest in
         let len : ip + length cv + length cr ≡ ip + length (cv ++ cr) = omega (arith, length-append cv cr) in
         tops_at w place code _ len (onward_runs w place code (omega arith) (expr_runs value ip base r (stands_front code ip cv cr has)) (λ a r1. onward_runs w place code (omega arith) (entries_runs rest (ip + length cv) (over a base) r1 (stands_back code ip cv cr has)) (λ all r2. done w place code (omega arith))))
+
+    arguments_runs : (arguments : Arguments) (ip : ℕ) (base : Base) (r : Run) → StandsAt code ip (arguments_code arguments) → Runs w place code (spot ip base r) 0 0 (Tops (ip + length (arguments_code arguments)) base) (arguments_meaning here call arguments r)
+    arguments_runs NoArguments ip base r has =
+        let len : ip ≡ ip + 0 = omega arith in tops_at w place code _ len (done w place code (omega arith))
+    arguments_runs (MoreArguments name value rest) ip base r has =
+        let cv = expr_code value in
+        let cr = arguments_code rest in
+        let len : ip + length cv + length cr ≡ ip + length (cv ++ cr) = omega (arith, length-append cv cr) in
+        tops_at w place code _ len (onward_runs w place code (omega arith) (expr_runs value ip base r (stands_front code ip cv cr has)) (λ a r1. onward_runs w place code (omega arith) (arguments_runs rest (ip + length cv) (over a base) r1 (stands_back code ip cv cr has)) (λ all r2. done w place code (omega arith))))

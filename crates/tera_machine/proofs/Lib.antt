@@ -1,5 +1,11 @@
 pub mod Ends
+pub mod Taking
+pub mod Still
+pub mod Noting
 pub mod Runs
+pub mod Took
+pub mod Ways
+pub mod Opened
 pub mod Looping
 pub mod Literals
 pub mod Places

@@ -1,6 +1,6 @@
 -- Open loops, by their places and by their turns to come.
 use Rattle.std.proofs.Common.{◌≡◌, ◌≢◌, false, List, [], ◌∷◌, None, refl, sym, ap, ap₂, ◌∙◌, true≢false}
-use Rattle.std.specs.Prelude.{IsTrue, ◌↔◌}
+use Rattle.std.specs.Prelude.{IsTrue, ◌↔◌, Bool, ℕ, zero, suc, drop, length}
 use Rattle.tera_state.specs.Scope.{Turn, Variables}
 use Rattle.tera_state.specs.Scopes.{GoesRound}
 use Rattle.tera_machine.specs.declared.place.LoopPlace.{LoopPlace}
@@ -8,6 +8,7 @@ use Rattle.tera_machine.specs.Config.{Config, loops_at}
 use Rattle.tera_machine.specs.Flow.{On}
 use Rattle.tera_machine.specs.Did.{Goes, Sticks}
 use Rattle.tera_machine.specs.Loops.{turned, innermost}
+use Rattle.tera_machine.specs.Act.{beneath_in}
 
 -- with these loops and variables
 abbrev looping : Config → List LoopPlace → List (List Turn) → Variables → Config
@@ -37,3 +38,24 @@ goes_past c (p ∷ ps) [] coming' v v' h k = absurd (h refl)
 goes_past c (p ∷ ps) ([] ∷ outer) coming' v v' h k =
     ap₂ (λ tss w. Goes (looping c (p ∷ ps) tss w) On) (sym k.1) (sym k.2)
 goes_past c (p ∷ ps) ((t ∷ ts) ∷ outer) coming' v v' h k = absurd (true≢false (sym k.0))
+
+abbrev nothing : List (List Turn)
+nothing = []
+
+none_left : (n : ℕ) → drop n nothing ≡ nothing
+none_left zero = refl
+none_left (suc n) = refl
+
+-- without the innermost loop of the body, those around it are as before
+pub beneath_closed : {A : Type 0} (place : A) (places places' : List A) (coming coming' : List (List Turn)) → places ≡ place ∷ places' → coming' ≡ drop 1 coming → beneath_in places' coming' ≡ beneath_in places coming
+beneath_closed place places places' [] coming' e f =
+    ap (beneath_in places') f ∙ none_left (length places') ∙ sym (none_left (length places))
+beneath_closed place places places' (ts ∷ outer) coming' e f =
+    ap (beneath_in places') f ∙ sym (ap (λ ps. beneath_in ps (ts ∷ outer)) e)
+
+-- a turn that is over changes nothing of the loops around the body
+pub beneath_turned : (c : Config) (places : List LoopPlace) (coming coming' : List (List Turn)) (v v' : Variables) (more : Bool) → turned (looping c places coming v) ≢ Sticks → GoesRound more coming v coming' v' → beneath_in places coming' ≡ beneath_in places coming
+beneath_turned c [] coming coming' v v' more h k = absurd (h refl)
+beneath_turned c (p ∷ ps) [] coming' v v' more h k = ap (beneath_in (p ∷ ps)) k.1
+beneath_turned c (p ∷ ps) ([] ∷ outer) coming' v v' more h k = ap (beneath_in (p ∷ ps)) k.1
+beneath_turned c (p ∷ ps) ((t ∷ ts) ∷ outer) coming' v v' more h k = ap (beneath_in (p ∷ ps)) k.1

@@ -10,25 +10,28 @@ use Rattle.tera_meaning.specs.Whole.{World, Place, here_at}
 use Rattle.tera_code.specs.declared.instruction.Instruction.{Instruction}
 use Rattle.tera_machine.specs.declared.configuration.Configuration.{Configuration}
 use Rattle.tera_machine.specs.declared.machine.VirtualMachine.{VirtualMachine}
+use Rattle.tera_machine.specs.declared.blocks.OpenBlocks.{OpenBlocks}
+use Rattle.tera_machine.specs.declared.asked.Asked.{Asked}
 use Rattle.tera_machine.specs.declared.machine.Flow as declared
 use Rattle.tera_machine.specs.declared.machine.Flow.TheVariants as flow
 use Rattle.tera_machine.specs.Config.{Config}
-use Rattle.tera_machine.specs.Flow.{On, Skip, To, Out, Ask, flow_of}
+use Rattle.tera_machine.specs.Flow.{On, Skip, To, Out, Ask, request_of, use_of, flow_of}
 use Rattle.tera_machine.specs.Did.{Did, Goes, Faults, Sticks}
 use Rattle.tera_machine.specs.Act.{act, Acted, IsSmall}
 use Rattle.tera_machine.specs.Exec.{Code, End, Finished, Broken, Stuck, after, within_code, follow, body_by, exec, Within, Ends, EndsWithin, Ran}
 use Rattle.tera_machine.specs.Progress.{Leads, Progress}
-use Rattle.tera_machine.specs.Subject.{engine_of, place_of, here_of}
+use Rattle.tera_machine.specs.Subject.{engine_of, place_at, here_of}
 use Rattle.tera_machine.proofs.Ends.{after-none, ends_here, step_ends, within_step, further, on_leads, skip_leads, to_leads, out_leads}
 use Rattle.tera_machine.proofs.Places.{nothing_behind}
+use Rattle.tera_machine.proofs.Taking.{AtAsk}
 
 within_cond : (m : ℕ) (b : Bool) (x : End) → Within m (cond b x Stuck) → (b ≡ true) × Within m x
 within_cond m true x h = (refl, h)
 within_cond m false x h = absurd h
 
 -- where the machine stands with an engine is where the body stands in the world
-pub here_is : (w : World) (m : VirtualMachine) (file file0 : Name) (c c0 : Configuration) → engine_of m ≡ w.registry.engine → file ≡ file0 → around_of c.scopes ≡ around_of c0.scopes → here_of m file c ≡ here_at w (place_of m file0 c0)
-here_is w m file file0 c c0 e f a =
+pub here_is : (w : World) (m : VirtualMachine) (file file0 : Name) (blocks0 : OpenBlocks) (c c0 : Configuration) → engine_of m ≡ w.registry.engine → file ≡ file0 → around_of c.scopes ≡ around_of c0.scopes → here_of m file c ≡ here_at w (place_at m file0 blocks0 c0)
+here_is w m file file0 blocks0 c c0 e f a =
     ap (λ engine. record { file = file; around = around_of c.scopes; autoescape = m.autoescape; engine = engine }) e
     ∙ ap₂ (λ name around. record { file = name; around = around; autoescape = m.autoescape; engine = w.registry.engine }) f a
 
@@ -133,6 +136,10 @@ module _ {most : ℕ} {w : World} {place : Place} {code : Code} {c0 : Config} wh
             let led = out_leads w place code ip c c2 i e (at_place a flow.Out is) in
             let z : n - n0 + (1 + 0) ≡ n2 - n0 = omega arith in
             subst (λ k. Ends w place code 0 c0 (Finished c2 k)) z (g.leads.by (Finished c2 (1 + 0)) tt (led.by (Finished c2 0) tt (ends_here w place code (length code) c2 (nothing_behind code))))
+
+        -- at an instruction that takes another body
+        pub at_ask : {c2 : Config} {f : declared.Flow} {a : Asked} → act here (ip + 1) i c ≡ Goes c2 (flow_of f) → f ≡ flow.Ask a → AtAsk most w place code c0 n0 ip c n i c2 n2 (request_of a) (use_of a)
+        at_ask {c2} {f} {a} did is = record { progress = g; is = e; count = m; did = at_place did (flow.Ask a) is }
 
         pub act_failed : (r : Refusal) (c2 : Config) → Acted (act here (ip + 1) i c) (Err r) c2 → Ran w place code c0 (Err r) c2 (n2 - n0)
         act_failed None c2 a = tt

@@ -1,5 +1,5 @@
 -- What one instruction does.
-use Rattle.std.specs.Prelude.{◌≡◌, ◌≢◌, ℕ, ◌+◌, ◌<◌, ◌^◌, Bool, true, false, not, nat_le, cond, List, [], ◌∷◌, length, reverse, take, drop, Option, Some, None, Result, Ok, Err}
+use Rattle.std.specs.Prelude.{◌≡◌, ◌≢◌, ℕ, ◌+◌, ◌<◌, ◌^◌, Bool, true, false, not, nat_le, cond, List, [], ◌∷◌, length, reverse, take, drop, Option, Some, None, Result, Ok, Err, OnOk}
 use Rattle.std.specs.List.{zip}
 use Rattle.tera_errors.specs.declared.span.Span.{Span}
 use Rattle.tera_errors.specs.Site as site
@@ -13,16 +13,17 @@ use Rattle.tera_operators.specs.Operand.{Evaluated, Outcome}
 use Rattle.tera_operators.specs.Accesses.{attribute_of, item_of, slice_of}
 use Rattle.tera_operators.specs.Operators.{not_of, negative_of, binary_of}
 use Rattle.tera_operators.specs.Literals.{array_of, map_of}
-use Rattle.tera_state.specs.Scope.{Around, look, dump, assign}
-use Rattle.tera_state.specs.Scopes.{around_of}
+use Rattle.tera_state.specs.Scope.{Around, Turn, look, dump, assign}
+use Rattle.tera_state.specs.Scopes.{around_of, coming_of}
 use Rattle.tera_meaning.specs.Here.{Here}
+use Rattle.tera_meaning.specs.Run.{ABlock, Above}
 use Rattle.tera_meaning.specs.Meaning.{output}
 use Rattle.tera_code.specs.declared.instruction.Instruction.{Instruction}
-use Rattle.tera_code.specs.declared.instruction.Instruction.TheVariants.{WriteText, WriteTop, WriteName, LoadConst, LoadName, LoadAttribute, LoadItem, Slice, Not, Negate, Binary, MakeArray, MakeMap, Jump, PopJumpIfFalse, JumpIfFalseOrPop, JumpIfTrueOrPop, Store, LoadContext, StartLoop, NextTurn, EndLoop, Keep, EndComprehension, StartCapture, EndCapture, LeaveLoop, LeaveTurn}
+use Rattle.tera_code.specs.declared.instruction.Instruction.TheVariants.{WriteText, WriteTop, WriteName, LoadConst, LoadName, LoadAttribute, LoadItem, Slice, Not, Negate, Binary, MakeArray, MakeMap, Jump, PopJumpIfFalse, JumpIfFalseOrPop, JumpIfTrueOrPop, Store, LoadContext, StartLoop, NextTurn, EndLoop, Keep, EndComprehension, StartCapture, EndCapture, LeaveLoop, LeaveTurn, TakeBlock, TakeAbove}
 use Rattle.tera_machine.specs.declared.configuration.Configuration.{Configuration}
 use Rattle.tera_machine.specs.declared.machine.Flow as declared
 use Rattle.tera_machine.specs.Config.{Config, config_of}
-use Rattle.tera_machine.specs.Flow.{On, Skip, To, Out, Ask, flow_of}
+use Rattle.tera_machine.specs.Flow.{Written, Pushed, On, Skip, To, Out, Ask, flow_of}
 use Rattle.tera_machine.specs.Did.{Did, Goes, Faults, Sticks, holding, pushed, with_text, with_vars, outcome}
 use Rattle.tera_machine.specs.Loops.{loop_started, turned, loop_ended, kept, comprehension_ended}
 use Rattle.tera_machine.specs.Captures.{capture_started, capture_ended, loop_left, turn_left}
@@ -138,6 +139,18 @@ kept_if_falsy skip c = kept_if_falsy_in skip c.operands c
 abbrev pub kept_if_truthy : ℕ → Config → Did
 kept_if_truthy skip c = kept_if_truthy_in skip c.operands c
 
+-- the body of a block, whose text is written
+abbrev pub block_taken : site.Name → Span → Config → Did
+block_taken name span c = Goes c (Ask (ABlock name span) Written)
+
+abbrev pub above_in : Span → Option (List Evaluated × List Evaluated) → Config → Did
+above_in span None c = Sticks
+above_in span (Some (all, rest)) c = Goes (holding rest c) (Ask (Above span) (Pushed true span))
+
+-- the body above the block that runs, without so many operands; its text becomes a safe operand
+abbrev pub above_taken : ℕ → Span → Config → Did
+above_taken arguments span c = above_in span (topmost arguments c.operands) c
+
 -- next is the place behind the instruction
 abbrev pub act : Here → ℕ → Instruction → Config → Did
 act here next (WriteText text) = text_written text
@@ -168,6 +181,8 @@ act here next StartCapture = capture_started
 act here next EndCapture = capture_ended here.autoescape
 act here next (LeaveLoop drops) = loop_left drops
 act here next (LeaveTurn drops) = turn_left drops
+act here next (TakeBlock name span) = block_taken name span
+act here next (TakeAbove arguments span) = above_taken arguments span
 
 -- the code did so, unless memory was refused
 abbrev pub Acted : Did → Result declared.Flow Refusal → Config → Type 0
@@ -189,7 +204,15 @@ IsSmall (Goes c (Ask q u)) = Unit {0}
 IsSmall (Faults fault) = Unit {0}
 IsSmall Sticks = Unit {0}
 
--- the code does this to a configuration, and what is around its variables stays
+-- the turns to come of the loops that are open around the body that runs
+abbrev pub beneath_in : {A : Type 0} → List A → List (List Turn) → List (List Turn)
+beneath_in places coming = drop (length places) coming
+
+abbrev pub beneath : Configuration → List (List Turn)
+beneath c = beneath_in c.places (coming_of c.scopes)
+
+-- the code does this to a configuration; what is around its variables stays, and so do the loops around the body
 abbrev pub Does : (Config → Did) → Configuration → Result declared.Flow Refusal → Configuration → Type 0
 Does does before result after =
-    Acted (does (config_of before)) result (config_of after) × (around_of after.scopes ≡ around_of before.scopes)
+    Acted (does (config_of before)) result (config_of after)
+    × ((around_of after.scopes ≡ around_of before.scopes) × OnOk result (beneath after ≡ beneath before))

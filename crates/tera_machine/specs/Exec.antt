@@ -9,7 +9,7 @@ use Rattle.tera_meaning.specs.Run.{Run, Request, begun}
 use Rattle.tera_meaning.specs.Whole.{World, Place, Way, Refuses, Takes, way, left_of, here_at}
 use Rattle.tera_code.specs.declared.instruction.Instruction.{Instruction}
 use Rattle.tera_code.specs.Code.{nodes_code}
-use Rattle.tera_machine.specs.Config.{Config}
+use Rattle.tera_machine.specs.Config.{Config, Loop}
 use Rattle.tera_machine.specs.Flow.{Use, Written, Pushed, On, Skip, To, Out, Ask}
 use Rattle.tera_machine.specs.Did.{Did, Goes, Faults, Sticks}
 use Rattle.tera_machine.specs.Act.{act}
@@ -55,14 +55,15 @@ used (Pushed safe span) done c = record c {
   run = record { vars = done.vars; text = c.run.text; blocks = c.run.blocks ++ done.blocks };
 }
 
--- how a body is left, by the texts around it, from the configurations before it and at its end
-abbrev pub left_in : List Text → Request → Use → Config → Config → Option Config
-left_in [] q u c c' = None
-left_in (t ∷ ts) q u c c' =
+-- how a body is left, by its open loops and the texts around it, from the configurations before it and at its end
+abbrev pub left_in : List Loop → List Text → Request → Use → Config → Config → Option Config
+left_in (l ∷ ls) captures q u c c' = None
+left_in [] [] q u c c' = None
+left_in [] (t ∷ ts) q u c c' =
     Some (used u (left_of q c.run.vars c'.run) (record { operands = c'.operands; captures = ts; loops = c.loops; run = record c.run { text = t } }))
 
 abbrev pub left : Request → Use → Config → Config → Option Config
-left q u c c' = left_in c'.captures q u c c'
+left q u c c' = left_in c'.loops c'.captures q u c c'
 
 abbrev pub back : Option Config → ℕ → End
 back None n = Stuck

@@ -1,7 +1,9 @@
 -- Where the machine goes on.
-use Rattle.std.specs.Prelude.{ℕ, Bool}
+use Rattle.std.specs.Prelude.{ℕ, Bool, true}
 use Rattle.tera_errors.specs.declared.span.Span.{Span}
-use Rattle.tera_meaning.specs.Run.{Request}
+use Rattle.tera_meaning.specs.Run.{Request, ABlock, Above}
+use Rattle.tera_machine.specs.declared.asked.Asked.{Asked}
+use Rattle.tera_machine.specs.declared.asked.Asked.TheVariants as asked
 use Rattle.tera_machine.specs.declared.machine.Flow as declared
 use Rattle.tera_machine.specs.declared.machine.Flow.TheVariants as flow
 
@@ -19,9 +21,19 @@ pub data Flow : Type 0 where
   Out : Flow
   Ask : (request : Request) (use' : Use) → Flow
 
--- what instructions come to today
+-- what is asked of bodies that stand elsewhere, and what is made of the text
+abbrev pub request_of : Asked → Request
+request_of (asked.Block name span) = ABlock name.now span
+request_of (asked.Above span) = Above span
+
+abbrev pub use_of : Asked → Use
+use_of (asked.Block name span) = Written
+use_of (asked.Above span) = Pushed true span
+
+-- what instructions come to
 abbrev pub flow_of : declared.Flow → Flow
 flow_of flow.On = On
 flow_of (flow.Skip count) = Skip count
 flow_of (flow.To place count) = To place count
 flow_of flow.Out = Out
+flow_of (flow.Ask a) = Ask (request_of a) (use_of a)

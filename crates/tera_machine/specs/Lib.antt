@@ -8,3 +8,5 @@ pub mod Act
 pub mod Exec
 pub mod Progress
 pub mod Subject
+pub mod Wanted
+pub mod Bodies

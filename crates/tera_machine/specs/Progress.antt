@@ -2,7 +2,9 @@
 use Rattle.std.specs.Prelude.{ℕ, ◌-◌, ◌≤◌}
 use Rattle.tera_meaning.specs.Whole.{World, Place}
 use Rattle.tera_machine.specs.Config.{Config}
-use Rattle.tera_machine.specs.Exec.{Code, End, IsOver, after, Ends, EndsWithin}
+use Rattle.tera_meaning.specs.Run.{Request}
+use Rattle.tera_machine.specs.Flow.{Use}
+use Rattle.tera_machine.specs.Exec.{Code, End, IsOver, Within, after, exec, body_by, Ends, EndsWithin}
 
 -- what the machine does from the later place, it does from the earlier one, by k more instructions
 pub record Leads (w : World) (p : Place) (code : Code) (ip : ℕ) (c : Config) (k : ℕ) (ip' : ℕ) (c' : Config) : Type 0 where
@@ -14,3 +16,8 @@ pub record Progress (most : ℕ) (w : World) (p : Place) (code : Code) (c0 : Con
   pub bounded : n0 ≤ most → n ≤ most
   pub within : EndsWithin w p code ip c (most - n)
   pub leads : Leads w p code 0 c0 (n - n0) ip c
+
+-- a request's body ends by itself, after at most m instructions
+pub record BodyWithin (w : World) (p : Place) (q : Request) (u : Use) (c : Config) (m : ℕ) : Type 0 where
+  pub depth : ℕ
+  pub within : Within m (body_by w (exec w depth) p q u c)

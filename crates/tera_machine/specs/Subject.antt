@@ -1,14 +1,18 @@
 -- What a run of the machine is about.
-use Rattle.std.specs.Prelude.{◌≡◌, Some, None, Result, Ok, Err}
+use Rattle.std.specs.Prelude.{◌≡◌, [], Option, Some, None, Result, Ok, Err, option_map}
 use Rattle.tera_errors.specs.Site.{Name}
 use Rattle.tera_errors.specs.Answer.{Refusal}
 use Rattle.tera_values.specs.Escape.{escape_html}
 use Rattle.tera_tree.specs.Tree.{Nodes}
 use Rattle.tera_state.specs.Scopes.{around_of}
 use Rattle.tera_meaning.specs.Here.{Engine, Here}
+use Rattle.tera_meaning.specs.Registry.{Registry}
 use Rattle.tera_meaning.specs.Run.{Signal, Answer, Failed, Gave, Meaning, visit}
 use Rattle.tera_meaning.specs.Meaning.{nodes_meaning}
 use Rattle.tera_meaning.specs.Whole.{World, Place, here_at, whole}
+use Rattle.tera_registry.specs.Templates.{with_templates, definers_of}
+use Rattle.tera_registry.specs.declared.templates.Found.{Found}
+use Rattle.tera_machine.specs.declared.blocks.OpenBlocks.{OpenBlocks}
 use Rattle.tera_machine.specs.declared.configuration.Configuration.{Configuration}
 use Rattle.tera_machine.specs.declared.machine.VirtualMachine.{VirtualMachine}
 use Rattle.tera_machine.specs.Config.{Config, config_of}
@@ -31,10 +35,39 @@ meant_from s c = meant s (config_of c).run
 abbrev pub engine_of : VirtualMachine → Engine
 engine_of m = record { escape = escape_html }
 
--- where a body of this file stands while the machine runs it
+-- the template that is rendered; a text beside the registry is none
+abbrev pub template_of : VirtualMachine → Option Name
+template_of m = option_map (λ f. f.name.now) m.template
+
+abbrev pub is_from : Option Found → Registry → Type 0
+is_from None r = Unit {0}
+is_from (Some found) r = with_templates r found.templates.now ≡ r
+
+-- the template that is rendered is one of the registry's
+abbrev pub IsLinked : VirtualMachine → Registry → Type 0
+IsLinked m r = is_from m.template r
+
+-- where a body of this file stands while the machine runs it, with these blocks open
+abbrev pub place_at : VirtualMachine → Name → OpenBlocks → Configuration → Place
+place_at m file blocks c = record {
+  template = template_of m;
+  file = file;
+  around = around_of c.scopes;
+  autoescape = m.autoescape;
+  opened = blocks.names;
+  above = definers_of blocks.above;
+}
+
+-- where it stands while no block is open
 abbrev pub place_of : VirtualMachine → Name → Configuration → Place
-place_of m file c =
-    record { file = file; around = around_of c.scopes; autoescape = m.autoescape }
+place_of m file c = record {
+  template = template_of m;
+  file = file;
+  around = around_of c.scopes;
+  autoescape = m.autoescape;
+  opened = [];
+  above = [];
+}
 
 -- what is fixed for the nodes of that body
 abbrev pub here_of : VirtualMachine → Name → Configuration → Here

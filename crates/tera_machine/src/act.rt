@@ -4,11 +4,12 @@ ghost use Rattle.tera_errors.specs.Answer.{Tells};
 ghost use Rattle.tera_errors.specs.Fault.{rendering_error};
 ghost use Rattle.tera_machine.specs.Config.{config_of};
 ghost use Rattle.tera_machine.specs.Did.{pushed};
-ghost use Rattle.tera_machine.specs.Act.{act, IsReady, IsSmall, Does, text_written, outcome_put, top_written, name_written, name_loaded, context_loaded, stored, attribute_loaded, item_loaded, sliced, denied, negated, operated, array_made, map_made, popped_branch, kept_if_falsy, kept_if_truthy};
+ghost use Rattle.tera_machine.specs.Act.{act, IsReady, IsSmall, Does, text_written, outcome_put, top_written, name_written, name_loaded, context_loaded, stored, attribute_loaded, item_loaded, sliced, denied, negated, operated, array_made, map_made, popped_branch, kept_if_falsy, kept_if_truthy, above_taken};
 ghost use Rattle.tera_machine.specs.Subject.{here_of};
 ghost use Rattle.tera_state.specs.Scopes.{around_of};
 ghost use Rattle.tera_tree.specs.declared.expression.BinaryOperator.{BinaryOperator as Operator};
 
+use crate::asked::Asked;
 use crate::configuration::Configuration;
 use crate::machine::{Flow, VirtualMachine};
 use std::alloc::Global;
@@ -20,13 +21,13 @@ use tera_values::{Error, Name, Sought, Span, TeraResult, Value};
 
 impl<'c> Configuration<'c> {
     /// Does what the instruction says, which stands in this file's text in front of the next place, and tells where to go on.
-    pub(crate) fn act(
+    pub(crate) fn act<'f>(
         &mut self,
-        machine: &VirtualMachine,
+        machine: &VirtualMachine<'_>,
         file: &str,
         next: usize,
-        instruction: &Instruction<'_>,
-    ) -> TeraResult<Flow>
+        instruction: &Instruction<'f>,
+    ) -> TeraResult<Flow<'f>>
         requires ready { IsReady (act (here_of machine.now file.now self.old) next instruction.now) self.old }
         requires small { IsSmall (act (here_of machine.now file.now self.old) next instruction.now (config_of self.old)) }
         ensures { Does (act (here_of machine.now file.now self.old) next instruction.now) self.old result self.new }
@@ -72,11 +73,15 @@ impl<'c> Configuration<'c> {
             Instruction::EndCapture => self.end_capture(machine),
             Instruction::LeaveLoop(drops) => self.leave_loop(*drops),
             Instruction::LeaveTurn(drops) => self.leave_turn(*drops),
+            Instruction::TakeBlock { name, span } => {
+                Ok(Flow::Ask(Asked::Block(name.as_name(), *span)))
+            }
+            Instruction::TakeAbove { arguments, span } => self.take_above(*arguments, *span),
         }
     }
 
     #[inline(always)]
-    pub(crate) fn write_text(&mut self, text: &str) -> TeraResult<Flow>
+    pub(crate) fn write_text<'f>(&mut self, text: &str) -> TeraResult<Flow<'f>>
         ensures { Does (text_written text.now) self.old result self.new }
     {
         self.texts.append(text)?;
@@ -84,7 +89,11 @@ impl<'c> Configuration<'c> {
     }
 
     #[inline(never)]
-    pub(crate) fn write_top(&mut self, machine: &VirtualMachine, file: &str) -> TeraResult<Flow>
+    pub(crate) fn write_top<'f>(
+        &mut self,
+        machine: &VirtualMachine<'_>,
+        file: &str,
+    ) -> TeraResult<Flow<'f>>
         requires { IsReady (top_written (here_of machine.now file.now self.old)) self.old }
         ensures { Does (top_written (here_of machine.now file.now self.old)) self.old result self.new }
     {
@@ -101,13 +110,13 @@ impl<'c> Configuration<'c> {
 
     // The value is read where it lies.
     #[inline(always)]
-    pub(crate) fn write_name(
+    pub(crate) fn write_name<'f>(
         &mut self,
-        machine: &VirtualMachine,
+        machine: &VirtualMachine<'_>,
         file: &str,
         name: &Sought<'_>,
         span: Span,
-    ) -> TeraResult<Flow>
+    ) -> TeraResult<Flow<'f>>
         ensures { Does (name_written (here_of machine.now file.now self.old) name.now span) self.old result self.new }
     {
         let found = self.scopes.look(name);
@@ -128,33 +137,33 @@ impl<'c> Configuration<'c> {
         Ok(Flow::On)
     }
 
-    pub(crate) fn put(&mut self, operand: Operand) -> TeraResult<Flow>
+    pub(crate) fn put<'f>(&mut self, operand: Operand) -> TeraResult<Flow<'f>>
         ensures { Does (outcome_put (Ok operand)) self.old result self.new }
     {
         self.operands.push(operand)?;
         Ok(Flow::On)
     }
 
-    pub(crate) fn push(&mut self, value: Value, span: Span) -> TeraResult<Flow>
+    pub(crate) fn push<'f>(&mut self, value: Value, span: Span) -> TeraResult<Flow<'f>>
         ensures { Does (pushed value span) self.old result self.new }
     {
         self.put(Operand::new(value, span))
     }
 
     #[inline(always)]
-    pub(crate) fn load_name(
+    pub(crate) fn load_name<'f>(
         &mut self,
         alloc: Global,
         name: &Sought<'_>,
         span: Span,
-    ) -> TeraResult<Flow>
+    ) -> TeraResult<Flow<'f>>
         ensures { Does (name_loaded (around_of self.old.scopes) name.now span) self.old result self.new }
     {
         let value = self.scopes.look(name).to_value(alloc)?;
         self.push(value, span)
     }
 
-    fn load_context(&mut self, alloc: Global, span: Span) -> TeraResult<Flow>
+    fn load_context<'f>(&mut self, alloc: Global, span: Span) -> TeraResult<Flow<'f>>
         ensures { Does (context_loaded (around_of self.old.scopes) span) self.old result self.new }
     {
         let value = self.scopes.dump(alloc)?;
@@ -163,7 +172,12 @@ impl<'c> Configuration<'c> {
 
     // What is bound is kept in shared form, so that a copy of it is a count.
     #[inline(never)]
-    pub(crate) fn store(&mut self, alloc: Global, name: &Name, is_global: bool) -> TeraResult<Flow>
+    pub(crate) fn store<'f>(
+        &mut self,
+        alloc: Global,
+        name: &Name,
+        is_global: bool,
+    ) -> TeraResult<Flow<'f>>
         requires { IsReady (stored is_global name.now) self.old }
         ensures { Does (stored is_global name.now) self.old result self.new }
     {
@@ -180,14 +194,14 @@ impl<'c> Configuration<'c> {
     }
 
     #[inline(never)]
-    pub(crate) fn load_attribute(
+    pub(crate) fn load_attribute<'f>(
         &mut self,
         alloc: Global,
         file: &str,
         name: &str,
         optional: bool,
         span: Span,
-    ) -> TeraResult<Flow>
+    ) -> TeraResult<Flow<'f>>
         requires { IsReady (attribute_loaded file.now name.now optional span) self.old }
         ensures { Does (attribute_loaded file.now name.now optional span) self.old result self.new }
     {
@@ -199,13 +213,13 @@ impl<'c> Configuration<'c> {
     }
 
     #[inline(never)]
-    fn load_item(
+    fn load_item<'f>(
         &mut self,
         alloc: Global,
         file: &str,
         optional: bool,
         span: Span,
-    ) -> TeraResult<Flow>
+    ) -> TeraResult<Flow<'f>>
         requires { IsReady (item_loaded file.now optional span) self.old }
         ensures { Does (item_loaded file.now optional span) self.old result self.new }
     {
@@ -219,7 +233,13 @@ impl<'c> Configuration<'c> {
         self.put(operand)
     }
 
-    fn slice(&mut self, alloc: Global, file: &str, optional: bool, span: Span) -> TeraResult<Flow>
+    fn slice<'f>(
+        &mut self,
+        alloc: Global,
+        file: &str,
+        optional: bool,
+        span: Span,
+    ) -> TeraResult<Flow<'f>>
         requires { IsReady (sliced file.now optional span) self.old }
         ensures { Does (sliced file.now optional span) self.old result self.new }
     {
@@ -242,7 +262,7 @@ impl<'c> Configuration<'c> {
     }
 
     // The truth value that the topmost operand has not.
-    fn deny(&mut self) -> TeraResult<Flow>
+    fn deny<'f>(&mut self) -> TeraResult<Flow<'f>>
         requires { IsReady denied self.old }
         ensures { Does denied self.old result self.new }
     {
@@ -252,7 +272,7 @@ impl<'c> Configuration<'c> {
         self.put(tera_operators::not(&operand))
     }
 
-    fn negate(&mut self, alloc: Global, file: &str) -> TeraResult<Flow>
+    fn negate<'f>(&mut self, alloc: Global, file: &str) -> TeraResult<Flow<'f>>
         requires { IsReady (negated file.now) self.old }
         ensures { Does (negated file.now) self.old result self.new }
     {
@@ -264,13 +284,13 @@ impl<'c> Configuration<'c> {
     }
 
     #[inline(never)]
-    pub(crate) fn operate(
+    pub(crate) fn operate<'f>(
         &mut self,
         alloc: Global,
         file: &str,
         operator: BinaryOperator,
         span: Span,
-    ) -> TeraResult<Flow>
+    ) -> TeraResult<Flow<'f>>
         requires { IsReady (operated file.now operator span) self.old }
         ensures { Does (operated file.now operator span) self.old result self.new }
     {
@@ -284,13 +304,13 @@ impl<'c> Configuration<'c> {
         self.put(operand)
     }
 
-    fn make_array(
+    fn make_array<'f>(
         &mut self,
         alloc: Global,
         file: &str,
         spreads: &Spreads<'_>,
         span: Span,
-    ) -> TeraResult<Flow>
+    ) -> TeraResult<Flow<'f>>
         requires { IsReady (array_made file.now spreads.now span) self.old }
         ensures { Does (array_made file.now spreads.now span) self.old result self.new }
     {
@@ -303,13 +323,13 @@ impl<'c> Configuration<'c> {
         self.put(operand)
     }
 
-    fn make_map(
+    fn make_map<'f>(
         &mut self,
         alloc: Global,
         file: &str,
         keys: &Keys<'_>,
         span: Span,
-    ) -> TeraResult<Flow>
+    ) -> TeraResult<Flow<'f>>
         requires { IsReady (map_made file.now keys.now span) self.old }
         ensures { Does (map_made file.now keys.now span) self.old result self.new }
     {
@@ -322,8 +342,20 @@ impl<'c> Configuration<'c> {
         self.put(operand)
     }
 
+    // The arguments are read and dropped.
+    fn take_above<'f>(&mut self, arguments: usize, span: Span) -> TeraResult<Flow<'f>>
+        requires { IsReady (above_taken arguments span) self.old }
+        ensures { Does (above_taken arguments span) self.old result self.new }
+    {
+        if self.operands.len() < arguments {
+            unreachable!()
+        }
+        drop(self.operands.pop_many(arguments)?);
+        Ok(Flow::Ask(Asked::Above(span)))
+    }
+
     #[inline(always)]
-    pub(crate) fn pop_jump_if_false(&mut self, skip: usize) -> TeraResult<Flow>
+    pub(crate) fn pop_jump_if_false<'f>(&mut self, skip: usize) -> TeraResult<Flow<'f>>
         requires { IsReady (popped_branch skip) self.old }
         ensures { Does (popped_branch skip) self.old result self.new }
     {
@@ -337,7 +369,7 @@ impl<'c> Configuration<'c> {
         }
     }
 
-    fn jump_if_false_or_pop(&mut self, skip: usize) -> TeraResult<Flow>
+    fn jump_if_false_or_pop<'f>(&mut self, skip: usize) -> TeraResult<Flow<'f>>
         requires { IsReady (kept_if_falsy skip) self.old }
         ensures { Does (kept_if_falsy skip) self.old result self.new }
     {
@@ -352,7 +384,7 @@ impl<'c> Configuration<'c> {
         }
     }
 
-    fn jump_if_true_or_pop(&mut self, skip: usize) -> TeraResult<Flow>
+    fn jump_if_true_or_pop<'f>(&mut self, skip: usize) -> TeraResult<Flow<'f>>
         requires { IsReady (kept_if_truthy skip) self.old }
         ensures { Does (kept_if_truthy skip) self.old result self.new }
     {

@@ -1,6 +1,6 @@
 // Instructions of captures, and the ways out of them.
 ghost use Rattle.tera_machine.specs.Config.{config_of};
-ghost use Rattle.tera_machine.specs.Act.{IsReady, IsSmall, Does};
+ghost use Rattle.tera_machine.specs.Act.{IsReady, IsSmall, Does, beneath};
 ghost use Rattle.std.specs.Prelude.{◌≡◌};
 ghost use Rattle.tera_state.specs.Scopes.{around_of};
 ghost use Rattle.tera_machine.specs.Loops.{innermost};
@@ -11,7 +11,7 @@ use crate::machine::{Flow, VirtualMachine};
 use tera_values::{Span, TeraResult, Value};
 
 impl<'c> Configuration<'c> {
-    pub(crate) fn start_capture(&mut self) -> TeraResult<Flow>
+    pub(crate) fn start_capture<'f>(&mut self) -> TeraResult<Flow<'f>>
         ensures { Does capture_started self.old result self.new }
     {
         self.texts.begin()?;
@@ -19,7 +19,7 @@ impl<'c> Configuration<'c> {
     }
 
     // The text is safe where texts are escaped: what is put out in a capture is escaped already.
-    pub(crate) fn end_capture(&mut self, machine: &VirtualMachine) -> TeraResult<Flow>
+    pub(crate) fn end_capture<'f>(&mut self, machine: &VirtualMachine<'_>) -> TeraResult<Flow<'f>>
         requires { IsReady (capture_ended machine.now.autoescape) self.old }
         ensures { Does (capture_ended machine.now.autoescape) self.old result self.new }
     {
@@ -33,7 +33,7 @@ impl<'c> Configuration<'c> {
     }
 
     // At the instruction that closes the loop.
-    pub(crate) fn leave_loop(&mut self, drops: usize) -> TeraResult<Flow>
+    pub(crate) fn leave_loop<'f>(&mut self, drops: usize) -> TeraResult<Flow<'f>>
         requires { IsSmall (loop_left drops (config_of self.old)) }
         ensures { Does (loop_left drops) self.old result self.new }
     {
@@ -44,7 +44,7 @@ impl<'c> Configuration<'c> {
     }
 
     // At the instruction that begins the next turn.
-    pub(crate) fn leave_turn(&mut self, drops: usize) -> TeraResult<Flow>
+    pub(crate) fn leave_turn<'f>(&mut self, drops: usize) -> TeraResult<Flow<'f>>
         ensures { Does (turn_left drops) self.old result self.new }
     {
         match self.leave(drops) {
@@ -57,6 +57,7 @@ impl<'c> Configuration<'c> {
     fn leave(&mut self, drops: usize) -> Option<(usize, usize)>
         ensures dropped { config_of self.new ≡ dropped drops (config_of self.old) }
         ensures innermost { result ≡ innermost (config_of self.old).loops }
+        ensures beneath { beneath self.new ≡ beneath self.old }
         ensures stays { around_of self.new.scopes ≡ around_of self.old.scopes }
     {
         self.texts.drop_marks(drops);

@@ -9,6 +9,7 @@ use tera_state::{Scopes, Stack};
 /// Everything that an instruction may read or change. The places are those of the loops that the body which runs has open.
 #[derive(Drop)]
 pub struct Configuration<'c> {
+    pub alloc: Global,
     pub operands: Stack<Operand>,
     pub scopes: Scopes<'c>,
     pub texts: Texts,
@@ -28,6 +29,7 @@ impl<'c> Configuration<'c> {
         ensures around { around_of result.scopes ≡ around_of scopes.entry }
     {
         Configuration {
+            alloc,
             operands: Stack::new(alloc),
             scopes,
             texts: Texts::new(alloc),

@@ -1,5 +1,5 @@
 // The blocks that ended, for contracts alone.
-ghost use Rattle.std.specs.Prelude.{◌≡◌, [], List};
+ghost use Rattle.std.specs.Prelude.{◌≡◌, ◌++◌, [], ◌∷◌, List};
 ghost use Rattle.std.specs.Borrow.{ftrue};
 ghost use Rattle.tera_errors.specs.Site.{Name, Text};
 
@@ -20,6 +20,20 @@ impl Ended {
     /// No block ended yet.
     pub fn new() -> Ended
         ensures { result.all ≡ [] }
+    {
+        Ended {}
+    }
+
+    /// These, those that ended in a body, and the block of that body, with its text.
+    pub fn with(before: &Ended, inside: &Ended, name: &[u8], text: &[u8]) -> Ended
+        ensures { result.all ≡ before.now.all ++ (inside.now.all ++ (name.now, text.now) ∷ []) }
+    {
+        Ended {}
+    }
+
+    /// These, and those that ended in a body.
+    pub fn joined(before: &Ended, inside: &Ended) -> Ended
+        ensures { result.all ≡ before.now.all ++ inside.now.all }
     {
         Ended {}
     }

@@ -2,6 +2,9 @@
 #![tactic(auto)]
 
 pub mod act;
+pub mod asked;
+pub mod blocks;
+pub mod bodies;
 mod captures;
 pub mod configuration;
 pub mod ended;
@@ -10,9 +13,13 @@ pub mod machine;
 pub mod place;
 mod step;
 pub mod texts;
+pub mod wanted;
 
+pub use asked::Asked;
+pub use blocks::OpenBlocks;
 pub use configuration::Configuration;
 pub use ended::Ended;
 pub use machine::VirtualMachine;
 pub use place::LoopPlace;
 pub use texts::Texts;
+pub use wanted::Wanted;

@@ -6,7 +6,7 @@ ghost use Rattle.tera_state.specs.Scope.{Heading, loop_turns};
 ghost use Rattle.tera_state.specs.Scopes.{around_of};
 ghost use Rattle.tera_state.specs.Opened.{turns_left};
 ghost use Rattle.tera_machine.specs.Config.{config_of};
-ghost use Rattle.tera_machine.specs.Act.{IsReady, IsSmall, Does};
+ghost use Rattle.tera_machine.specs.Act.{IsReady, IsSmall, Does, beneath};
 ghost use Rattle.tera_machine.specs.Loops.{loop_started, turned, loop_ended, kept, comprehension_ended, innermost, Closes, first_of};
 ghost use Rattle.tera_machine.specs.Subject.{here_of};
 
@@ -60,16 +60,16 @@ fn opened(
 
 impl<'c> Configuration<'c> {
     // The body starts at the next place.
-    pub(crate) fn start_loop(
+    pub(crate) fn start_loop<'f>(
         &mut self,
-        machine: &VirtualMachine,
+        machine: &VirtualMachine<'_>,
         file: &str,
         next: usize,
         key: &Option<LentName<'_>>,
         name: &LentName<'_>,
         counts: bool,
         size: usize,
-    ) -> TeraResult<Flow>
+    ) -> TeraResult<Flow<'f>>
         requires ready { IsReady (loop_started (here_of machine.now file.now self.old)
             next key.now name.now counts size) self.old }
         requires small { IsSmall (loop_started (here_of machine.now file.now self.old)
@@ -98,7 +98,7 @@ impl<'c> Configuration<'c> {
 
     // The start of the body stands with the loop: nothing is looked for.
     #[inline(always)]
-    pub(crate) fn next_turn(&mut self) -> TeraResult<Flow>
+    pub(crate) fn next_turn<'f>(&mut self) -> TeraResult<Flow<'f>>
         requires { IsReady turned self.old }
         ensures { Does turned self.old result self.new }
     {
@@ -115,6 +115,7 @@ impl<'c> Configuration<'c> {
     fn close_loop(&mut self) -> Vec<Value>
         requires { (config_of self.old).loops ≢ [] }
         ensures closes { Closes (config_of self.old) result.items (config_of self.new) }
+        ensures beneath { beneath self.new ≡ beneath self.old }
         ensures stays { around_of self.new.scopes ≡ around_of self.old.scopes }
     {
         self.scopes.close_loop();
@@ -129,7 +130,7 @@ impl<'c> Configuration<'c> {
         kept
     }
 
-    pub(crate) fn end_loop(&mut self, skip: usize) -> TeraResult<Flow>
+    pub(crate) fn end_loop<'f>(&mut self, skip: usize) -> TeraResult<Flow<'f>>
         requires { IsReady (loop_ended skip) self.old }
         ensures { Does (loop_ended skip) self.old result self.new }
     {
@@ -137,7 +138,7 @@ impl<'c> Configuration<'c> {
         Ok(Flow::Skip(skip))
     }
 
-    pub(crate) fn keep(&mut self) -> TeraResult<Flow>
+    pub(crate) fn keep<'f>(&mut self) -> TeraResult<Flow<'f>>
         requires { IsReady kept self.old }
         ensures { Does kept self.old result self.new }
     {
@@ -152,7 +153,11 @@ impl<'c> Configuration<'c> {
         Ok(Flow::On)
     }
 
-    pub(crate) fn end_comprehension(&mut self, alloc: Global, span: Span) -> TeraResult<Flow>
+    pub(crate) fn end_comprehension<'f>(
+        &mut self,
+        alloc: Global,
+        span: Span,
+    ) -> TeraResult<Flow<'f>>
         requires { IsReady (comprehension_ended span) self.old }
         ensures { Does (comprehension_ended span) self.old result self.new }
     {

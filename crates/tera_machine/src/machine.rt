@@ -1,25 +1,33 @@
-// A run of a body.
-ghost use Rattle.std.specs.Prelude.{◌≡◌, ℕ, ◌+◌, ◌-◌, ◌*◌, ◌≤◌, [], IsTrue, OnOk};
+// A run of a body, and of those that it takes.
+ghost use Rattle.std.specs.Prelude.{◌≡◌, ℕ, ◌+◌, ◌-◌, ◌*◌, ◌≤◌, [], None, Some, IsTrue, OnOk, string_bytes};
 ghost use Rattle.tera_meaning.specs.Run.{visits_of};
 ghost use Rattle.tera_meaning.specs.Registry.{new_registry};
-ghost use Rattle.tera_meaning.specs.Rendering.{alone};
+ghost use Rattle.tera_errors.specs.Answer.{Gives};
+ghost use Rattle.tera_meaning.specs.Rendering.{alone, block_of};
 ghost use Rattle.tera_meaning.specs.Whole.{World};
 ghost use Rattle.tera_state.specs.Scopes.{around_of};
 ghost use Rattle.tera_code.specs.Code.{nodes_code};
 ghost use Rattle.tera_machine.specs.Config.{config_of};
 ghost use Rattle.tera_machine.specs.Exec.{EndsWithin, Ran};
-ghost use Rattle.tera_machine.specs.Subject.{Subject, meant_from, engine_of, place_of, Means};
+ghost use Rattle.tera_machine.specs.Flow.{request_of, use_of};
+ghost use Rattle.tera_machine.specs.Progress.{BodyWithin};
+ghost use Rattle.tera_machine.specs.Bodies.{Stays, BodyRan};
+ghost use Rattle.tera_machine.specs.Subject.{Subject, IsLinked, meant_from, engine_of, place_at, place_of, Means};
 
+use crate::asked::Asked;
+use crate::blocks::OpenBlocks;
 use crate::configuration::Configuration;
+use crate::wanted::Wanted;
 use std::alloc::Global;
 use std::marker::Brand;
 use std::sync::ledger::Ledger;
 use tera_code::{Chunk, Steps};
+use tera_registry::Found;
 use tera_values::TeraResult;
 
-/// Where the machine goes on: other bodies are further cases.
+/// Where the machine goes on.
 #[derive(Clone, Copy)]
-pub enum Flow {
+pub enum Flow<'f> {
     /// At the next instruction.
     On,
     /// So many instructions behind the next one.
@@ -28,6 +36,8 @@ pub enum Flow {
     To(usize, usize),
     /// At the end of the body.
     Out,
+    /// At the next instruction, when another body was taken.
+    Ask(Asked<'f>),
 }
 
 /// What a run stands on, and how high the count of instructions may rise. Contracts alone see it.
@@ -43,26 +53,45 @@ impl Limit for Brand {
     ghost most = { 0 };
 }
 
-/// Runs compiled bodies. It holds what no run changes.
+/// Runs compiled bodies. It holds what no run changes: of the template that is rendered, where one is, it takes blocks.
 #[derive(Clone, Copy)]
-pub struct VirtualMachine {
+pub struct VirtualMachine<'t> {
     pub(crate) alloc: Global,
     pub(crate) autoescape: bool,
+    pub(crate) template: Option<Found<'t>>,
 }
 
-impl VirtualMachine {
+impl<'t> VirtualMachine<'t> {
     /// A machine that escapes what it writes.
-    pub fn new(alloc: Global) -> VirtualMachine
-        ensures { IsTrue result.autoescape }
+    pub fn new(alloc: Global) -> VirtualMachine<'t>
+        ensures escapes { IsTrue result.autoescape }
+        ensures alone { result.template ≡ None }
     {
         VirtualMachine::new_with_autoescape(alloc, true)
     }
 
     /// A machine that escapes what it writes where the flag says so.
-    pub fn new_with_autoescape(alloc: Global, autoescape: bool) -> VirtualMachine
-        ensures { result.autoescape ≡ autoescape }
+    pub fn new_with_autoescape(alloc: Global, autoescape: bool) -> VirtualMachine<'t>
+        ensures escapes { result.autoescape ≡ autoescape }
+        ensures alone { result.template ≡ None }
     {
-        VirtualMachine { alloc, autoescape }
+        VirtualMachine {
+            alloc,
+            autoescape,
+            template: None,
+        }
+    }
+
+    /// A machine for a template of an engine: blocks are those of that template.
+    pub fn for_template(alloc: Global, autoescape: bool, template: Found<'t>) -> VirtualMachine<'t>
+        ensures escapes { result.autoescape ≡ autoescape }
+        ensures template { result.template ≡ Some template.entry }
+    {
+        VirtualMachine {
+            alloc,
+            autoescape,
+            template: Some(template),
+        }
     }
 
     /// Runs the code of a body to its end, within eight instructions a visit of the body's meaning.
@@ -74,29 +103,75 @@ impl VirtualMachine {
     ) -> TeraResult<()>
         ghost about: { Subject }
         requires engine { engine_of self.now ≡ about.world.registry.engine }
+        requires linked { IsLinked self.now about.world.registry }
         requires place { place_of self.now chunk.now.file configuration.old ≡ about.place }
         requires code { chunk.now.code ≡ nodes_code about.tree 0 }
         requires own { (config_of configuration.old).loops ≡ [] }
         ensures few { steps.new ≤ steps.old + 8 * visits_of (meant_from about configuration.old) }
-        ensures means { Means (meant_from about configuration.old) (config_of configuration.old) result (config_of configuration.new) }
-        ensures stays { OnOk result (around_of configuration.new.scopes ≡ around_of configuration.old.scopes) }
+        ensures means { Means (meant_from about configuration.old)
+            (config_of configuration.old) result (config_of configuration.new) }
+        ensures stays { OnOk result (around_of configuration.new.scopes
+            ≡ around_of configuration.old.scopes) }
     {
-        self.run_counted::<Brand, L>(chunk, configuration, steps)
+        let mut blocks = OpenBlocks::new(self.alloc, Wanted::none());
+        self.run_counted::<Brand, L>(chunk, &mut blocks, configuration, steps)
     }
 
-    // The same, in the machine's own terms.
+    /// The same, where no block ended before: the text of the block of this name as it ended last, or the empty text.
+    pub fn run_for_block<L: Ledger>(
+        &self,
+        chunk: &Chunk,
+        block: &str,
+        configuration: &mut Configuration<'_>,
+        steps: &mut Steps<L>,
+    ) -> TeraResult<String>
+        ghost about: { Subject }
+        requires engine { engine_of self.now ≡ about.world.registry.engine }
+        requires linked { IsLinked self.now about.world.registry }
+        requires place { place_of self.now chunk.now.file configuration.old ≡ about.place }
+        requires code { chunk.now.code ≡ nodes_code about.tree 0 }
+        requires own { (config_of configuration.old).loops ≡ [] }
+        requires none { (config_of configuration.old).run.blocks ≡ [] }
+        ensures few { steps.new ≤ steps.old + 8 * visits_of (meant_from about configuration.old) }
+        ensures text { Gives string_bytes result
+            (block_of block.now (meant_from about configuration.old)) }
+    {
+        let wanted = Wanted::block(self.alloc, block)?;
+        let mut blocks = OpenBlocks::new(self.alloc, wanted);
+        match self.run_counted::<Brand, L>(chunk, &mut blocks, configuration, steps) {
+            Ok(()) => {}
+            Err(error) => return Err(error),
+        }
+        let OpenBlocks {
+            names,
+            above: _,
+            wanted,
+        } = blocks;
+        drop(names);
+        Ok(wanted.into_text(self.alloc))
+    }
+
+    // The same, in the machine's own terms, and where blocks may be open.
+    #[cycle(run)]
     fn run_counted<M: Limit, L: Ledger>(
         &self,
         chunk: &Chunk,
+        blocks: &mut OpenBlocks<'t>,
         configuration: &mut Configuration<'_>,
         steps: &mut Steps<L>,
     ) -> TeraResult<()>
         requires engine { engine_of self.now ≡ M.world.registry.engine }
-        requires within { EndsWithin M.world (place_of self.now chunk.now.file configuration.old) chunk.now.code 0 (config_of configuration.old) (M.most - steps.old) }
+        requires linked { IsLinked self.now M.world.registry }
+        requires within { EndsWithin M.world
+            (place_at self.now chunk.now.file blocks.old configuration.old) chunk.now.code 0
+            (config_of configuration.old) (M.most - steps.old) }
         ensures counted { steps.old ≤ steps.new }
         ensures bounded { steps.old ≤ M.most → steps.new ≤ M.most }
-        ensures ends { Ran M.world (place_of self.now chunk.now.file configuration.old) chunk.now.code (config_of configuration.old) result (config_of configuration.new) (steps.new - steps.old) }
-        ensures stays { OnOk result (around_of configuration.new.scopes ≡ around_of configuration.old.scopes) }
+        ensures ends { Ran M.world (place_at self.now chunk.now.file blocks.old configuration.old)
+            chunk.now.code (config_of configuration.old) result (config_of configuration.new)
+            (steps.new - steps.old) }
+        ensures stays { OnOk result (Stays blocks.old configuration.old blocks.new
+            configuration.new) }
     {
         let mut at = 0;
         while let Some(instruction) = chunk.get(at, steps) {
@@ -110,8 +185,50 @@ impl VirtualMachine {
                 Flow::Skip(count) => at = next + count,
                 Flow::To(place, count) => at = place + count,
                 Flow::Out => return Ok(()),
+                Flow::Ask(asked) => {
+                    match self.take::<M, L>(chunk, asked, blocks, configuration, steps) {
+                        Ok(()) => at = next,
+                        Err(error) => return Err(error),
+                    }
+                }
             }
         }
         Ok(())
+    }
+
+    // The body that is asked for, from its beginning to its end.
+    #[cycle(run)]
+    #[inline(never)]
+    fn take<M: Limit, L: Ledger>(
+        &self,
+        chunk: &Chunk,
+        asked: Asked<'_>,
+        blocks: &mut OpenBlocks<'t>,
+        configuration: &mut Configuration<'_>,
+        steps: &mut Steps<L>,
+    ) -> TeraResult<()>
+        requires engine { engine_of self.now ≡ M.world.registry.engine }
+        requires linked { IsLinked self.now M.world.registry }
+        requires within { BodyWithin M.world
+            (place_at self.now chunk.now.file blocks.old configuration.old) (request_of asked)
+            (use_of asked) (config_of configuration.old) (M.most - steps.old) }
+        ensures counted { steps.old ≤ steps.new }
+        ensures bounded { steps.old ≤ M.most → steps.new ≤ M.most }
+        ensures ends { BodyRan M.world (place_at self.now chunk.now.file blocks.old
+            configuration.old) (request_of asked.entry) (use_of asked.entry)
+            (config_of configuration.old) result (config_of configuration.new)
+            (steps.new - steps.old) }
+        ensures stays { OnOk result (Stays blocks.old configuration.old blocks.new
+            configuration.new) }
+    {
+        let inside = match self.enter::<M>(chunk, asked, blocks, configuration) {
+            Ok(inside) => inside,
+            Err(error) => return Err(error),
+        };
+        match self.run_counted::<M, L>(inside.chunk, blocks, configuration, steps) {
+            Ok(()) => {}
+            Err(error) => return Err(error),
+        }
+        self.leave(asked, inside, blocks, configuration)
     }
 }

@@ -16,13 +16,13 @@ impl<'c> Configuration<'c> {
     /// The same as `act`. What is run most is told apart first and needs no more of the instruction than its parts: all else
     /// stays out of the loop, whose frame is small.
     #[inline(always)]
-    pub(crate) fn step(
+    pub(crate) fn step<'f>(
         &mut self,
-        machine: &VirtualMachine,
+        machine: &VirtualMachine<'_>,
         file: &str,
         next: usize,
-        instruction: &LentInstruction<'_>,
-    ) -> TeraResult<Flow>
+        instruction: &LentInstruction<'f>,
+    ) -> TeraResult<Flow<'f>>
         requires ready { IsReady (act (here_of machine.now file.now self.old) next instruction.now) self.old }
         requires small { IsSmall (act (here_of machine.now file.now self.old) next instruction.now (config_of self.old)) }
         ensures { Does (act (here_of machine.now file.now self.old) next instruction.now) self.old result self.new }
@@ -64,13 +64,13 @@ impl<'c> Configuration<'c> {
     }
 
     #[inline(never)]
-    fn act_unpacked(
+    fn act_unpacked<'f>(
         &mut self,
-        machine: &VirtualMachine,
+        machine: &VirtualMachine<'_>,
         file: &str,
         next: usize,
-        instruction: &LentInstruction<'_>,
-    ) -> TeraResult<Flow>
+        instruction: &LentInstruction<'f>,
+    ) -> TeraResult<Flow<'f>>
         requires ready { IsReady (act (here_of machine.now file.now self.old) next instruction.now) self.old }
         requires small { IsSmall (act (here_of machine.now file.now self.old) next instruction.now (config_of self.old)) }
         ensures { Does (act (here_of machine.now file.now self.old) next instruction.now) self.old result self.new }
@@ -79,27 +79,27 @@ impl<'c> Configuration<'c> {
     }
 
     #[inline(never)]
-    fn load_integer(&mut self, number: i64, span: Span) -> TeraResult<Flow>
+    fn load_integer<'f>(&mut self, number: i64, span: Span) -> TeraResult<Flow<'f>>
         ensures { Does (pushed (int number) span) self.old result self.new }
     {
         self.push(Value::from_int(i128::from(number)), span)
     }
 
     #[inline(never)]
-    fn write_named(
+    fn write_named<'f>(
         &mut self,
-        machine: &VirtualMachine,
+        machine: &VirtualMachine<'_>,
         file: &str,
         name: &Name,
         span: Span,
-    ) -> TeraResult<Flow>
+    ) -> TeraResult<Flow<'f>>
         ensures { Does (name_written (here_of machine.now file.now self.old) name.now span) self.old result self.new }
     {
         self.write_name(machine, file, &name.sought(), span)
     }
 
     #[inline(never)]
-    fn load_named(&mut self, alloc: Global, name: &Name, span: Span) -> TeraResult<Flow>
+    fn load_named<'f>(&mut self, alloc: Global, name: &Name, span: Span) -> TeraResult<Flow<'f>>
         ensures { Does (name_loaded (around_of self.old.scopes) name.now span) self.old result self.new }
     {
         self.load_name(alloc, &name.sought(), span)

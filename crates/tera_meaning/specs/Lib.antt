@@ -3,6 +3,7 @@ pub mod Here
 pub mod Meaning
 pub mod Registry
 pub mod Resolve
+pub mod Lineage
 pub mod Accepted
 pub mod Adding
 pub mod Whole

@@ -2,10 +2,11 @@
 use Rattle.std.specs.Prelude.{Bool, true, false, List, [], ◌∷◌, ◌++◌, Option, Result, Ok, codes, bytes_eq, if◌then◌else◌}
 use Rattle.tera_errors.specs.Site as site
 use Rattle.tera_errors.specs.Fault.{Fault}
-use Rattle.tera_tree.specs.Tree.{Key, Expr, Nothing, Boolean, Integer, Text, Name, Attribute, Index, Slice, Not, Negate, Binary, And, Or, Ternary, Array, Map, Comprehension, Optional, Absent, Present, Items, NoItems, MoreItems, Entries, NoEntries, MoreEntries, Node, Content, Print, If, Set, Capture, For, Break, Continue, Nodes, NoNodes, MoreNodes}
+use Rattle.tera_tree.specs.Tree.{Key, Expr, Nothing, Boolean, Integer, Text, Name, Attribute, Index, Slice, Not, Negate, Binary, And, Or, Ternary, Array, Map, Comprehension, Super, Optional, Absent, Present, Items, NoItems, MoreItems, Entries, NoEntries, MoreEntries, Arguments, NoArguments, MoreArguments, Node, Content, Print, If, Set, Capture, For, Block, Break, Continue, Nodes, NoNodes, MoreNodes}
 use Rattle.tera_values.specs.Alphabet.{Alphabet, plain, template, made}
 use Rattle.tera_values.specs.Val.{ValOf, none, bool, int, text, array, vals}
 use Rattle.tera_values.specs.Access.{is_undefined, truthy}
+use Rattle.tera_values.specs.Named.{Named}
 use Rattle.tera_operators.specs.Operand.{Evaluated, EvaluatedOf, fault_at, placed}
 use Rattle.tera_operators.specs.Accesses.{attribute_of, item_in, sliced_in}
 use Rattle.tera_operators.specs.Operators.{not_of, negative_in, binary_in}
@@ -13,7 +14,7 @@ use Rattle.tera_operators.specs.Literals.{array_of, map_of}
 use Rattle.tera_state.specs.Rendered.{rendered_in}
 use Rattle.tera_state.specs.Scope.{AroundOf, VariablesOf, TurnOf, Turn, Heading, look, dump, assign, open_turn, close_turn, loop_turns_in}
 use Rattle.tera_meaning.specs.Here.{Here, HereOf}
-use Rattle.tera_meaning.specs.Run.{Signal, On, Broke, Continued, Meaning, MeaningOf, Oracle, OracleOf, ◌▹◌, visit, gives, answered, value_at, if_else, reads, changes, writes, go_on, captured}
+use Rattle.tera_meaning.specs.Run.{Signal, On, Broke, Continued, Meaning, MeaningOf, Oracle, OracleOf, ABlock, Above, ◌▹◌, visit, gives, answered, value_at, if_else, reads, changes, writes, go_on, captured, asks}
 
 module _ {C : Type 0} (alphabet : Alphabet C) where
   -- the text that a value is put out as, at the operand's span; undefined has none
@@ -118,6 +119,11 @@ module _ {C : Type 0} (alphabet : Alphabet C) (here : HereOf C) (call : OracleOf
         ▹ λ a. answered (turns_of_in alphabet here (record { name = name; key = key; counts = false }) a)
         ▹ λ turns. comprehension (condition_meaning_in condition) (expr_meaning_in value) turns
         ▹ λ vs. value_at (array (vals vs)) span)
+    -- its text is safe
+    expr_meaning_in (Super arguments span) =
+        visit (arguments_meaning_in arguments
+        ▹ λ given. asks call (Above span)
+        ▹ λ t. value_at (text t true) span)
 
     pub bound_meaning_in : Optional → MeaningOf C (EvaluatedOf C)
     bound_meaning_in Absent = gives no_bound
@@ -138,6 +144,11 @@ module _ {C : Type 0} (alphabet : Alphabet C) (here : HereOf C) (call : OracleOf
     entries_meaning_in (MoreEntries key value rest) =
         expr_meaning_in value ▹ λ a. entries_meaning_in rest ▹ λ all. gives ((key, a) ∷ all)
 
+    pub arguments_meaning_in : Arguments → MeaningOf C (Named (EvaluatedOf C))
+    arguments_meaning_in NoArguments = gives []
+    arguments_meaning_in (MoreArguments name value rest) =
+        expr_meaning_in value ▹ λ a. arguments_meaning_in rest ▹ λ all. gives ((name, a) ∷ all)
+
   abbrev mutual
     pub node_meaning_in : Node → MeaningOf C Signal
     node_meaning_in (Content t span) = visit (writes (alphabet.spelled template t))
@@ -154,6 +165,7 @@ module _ {C : Type 0} (alphabet : Alphabet C) (here : HereOf C) (call : OracleOf
         visit (expr_meaning_in target
         ▹ λ a. answered (turns_of_in alphabet here (record { name = name; key = key; counts = true }) a)
         ▹ λ turns. loop_or_else (nodes_meaning_in body) (nodes_meaning_in other) turns)
+    node_meaning_in (Block name body span) = visit (asks call (ABlock name span) ▹ writes)
     node_meaning_in Break = visit (gives Broke)
     node_meaning_in Continue = visit (gives Continued)
 
@@ -185,6 +197,9 @@ items_meaning = items_meaning_in plain
 
 abbrev pub entries_meaning : Here → Oracle → Entries → Meaning (List (Option Key × Evaluated))
 entries_meaning = entries_meaning_in plain
+
+abbrev pub arguments_meaning : Here → Oracle → Arguments → Meaning (Named Evaluated)
+arguments_meaning = arguments_meaning_in plain
 
 abbrev pub node_meaning : Here → Oracle → Node → Meaning Signal
 node_meaning = node_meaning_in plain

@@ -1,21 +1,33 @@
 -- What the rendering calls answer.
-use Rattle.std.specs.Prelude.{Bool, List, codes, is_some, nat_eq, Option, Some, None, Result, Ok, Err, if◌then◌else◌}
+use Rattle.std.specs.Prelude.{Bool, true, false, ◌||◌, List, [], ◌∷◌, codes, is_some, nat_eq, bytes_eq, Option, Some, None, Result, Ok, Err, if◌then◌else◌}
 use Rattle.std.specs.List.{list_any, ends_with}
 use Rattle.tera_errors.specs.Site.{Text, Name}
 use Rattle.tera_errors.specs.Fault.{Fault, message, template_not_found}
 use Rattle.tera_values.specs.Alphabet.{Alphabet, plain}
 use Rattle.tera_values.specs.Val.{Val}
 use Rattle.tera_values.specs.Named.{Named}
-use Rattle.tera_tree.specs.Tree.{Tree}
+use Rattle.tera_tree.specs.Tree.{Tree, Nodes}
+use Rattle.tera_tree.specs.Blocks.{top_blocks}
 use Rattle.tera_state.specs.Scope.{AroundOf, Around, outside, nothing_set}
 use Rattle.tera_meaning.specs.Run.{Signal, Answer, AnswerOf, Failed, Gave}
 use Rattle.tera_meaning.specs.Registry.{Entry, Registry}
 use Rattle.tera_meaning.specs.Resolve.{resolve, root}
+use Rattle.tera_meaning.specs.Lineage.{Definer, definers}
 use Rattle.tera_meaning.specs.Whole.{World, Place, PlaceOf, meaning_in}
 
 abbrev pub text_of : {C : Type 0} → AnswerOf C Signal → Result (List C) Fault
 text_of (Failed fault n) = Err fault
 text_of (Gave signal run n) = Ok run.text
+
+-- the text of the last of these blocks that has this name, or the other one
+abbrev pub last_text : {C : Type 0} → Name → List C → List (Name × List C) → List C
+last_text block other [] = other
+last_text block other (b ∷ bs) = last_text block (if bytes_eq block b.0 then b.1 else other) bs
+
+-- the text of the last block of this name that ended, or the empty text
+abbrev pub block_of : {C : Type 0} → Name → AnswerOf C Signal → Result (List C) Fault
+block_of block (Failed fault n) = Err fault
+block_of block (Gave signal run n) = Ok (last_text block [] run.blocks)
 
 abbrev pub alone : Registry → World
 alone r = record { registry = r }
@@ -28,6 +40,14 @@ one_off_name = codes "__tera_one_off"
 abbrev pub autoescapes : Registry → Name → Bool
 autoescapes r name = list_any (λ suffix. ends_with nat_eq name suffix) r.suffixes
 
+abbrev pub has_some : {A : Type 0} → List A → Bool
+has_some [] = false
+has_some (a ∷ as') = true
+
+-- whether nodes have a block
+abbrev pub has_a_block : Nodes → Bool
+has_a_block nodes = has_some (top_blocks nodes)
+
 module _ {C : Type 0} (alphabet : Alphabet C) where
   -- around the variables of a rendering: the caller's context, and the global one
   abbrev pub outermost_in : Registry → Named Val → AroundOf C
@@ -35,22 +55,23 @@ module _ {C : Type 0} (alphabet : Alphabet C) where
 
   abbrev pub one_off_place_in : Registry → Named Val → Bool → PlaceOf C
   one_off_place_in r context autoescape =
-      record { file = one_off_name; around = outermost_in r context; autoescape = autoescape }
+      record { template = None; file = one_off_name; around = outermost_in r context; autoescape = autoescape; opened = []; above = [] }
 
   abbrev pub one_off_meaning_in : Registry → Tree → Named Val → Bool → AnswerOf C Signal
   one_off_meaning_in r tree context autoescape =
       meaning_in alphabet (alone r) (one_off_place_in r context autoescape) nothing_set tree.nodes
 
-  -- the reader's fault; a text beside the registry may extend no template; else the text of what was read
+  -- the reader's fault; a text beside the registry may extend no template and have no block; else the text of what was read
   abbrev pub render_str_in : Registry → Result Tree Fault → Named Val → Bool → Result (List C) Fault
   render_str_in r (Err fault) context autoescape = Err fault
   render_str_in r (Ok tree) context autoescape =
-      if is_some tree.parent then Err message else text_of (one_off_meaning_in r tree context autoescape)
+      if is_some tree.parent || has_a_block tree.nodes then Err message else text_of (one_off_meaning_in r tree context autoescape)
 
-  -- Nodes stand in the text of the template that has no parent, and texts are escaped as in the template that is rendered.
+  -- Nodes stand in the text of the template that has no parent; blocks are put out and texts are escaped as for the template
+  -- that is rendered.
   abbrev pub template_place_in : Registry → Entry → Named Val → PlaceOf C
   template_place_in r t context =
-      record { file = (root r t).0; around = outermost_in r context; autoescape = autoescapes r t.0 }
+      record { template = Some t.0; file = (root r t).0; around = outermost_in r context; autoescape = autoescapes r t.0; opened = []; above = [] }
 
   abbrev pub template_meaning_in : Registry → Entry → Named Val → AnswerOf C Signal
   template_meaning_in r t context =
@@ -63,6 +84,20 @@ module _ {C : Type 0} (alphabet : Alphabet C) where
   -- the text of the template to which a name resolves
   abbrev pub render_in : Registry → Name → Named Val → Result (List C) Fault
   render_in r name context = render_template_in r (resolve r name) context
+
+  abbrev pub block_among_in : List Definer → Name → AnswerOf C Signal → Result (List C) Fault
+  block_among_in [] block answer = Err message
+  block_among_in (d ∷ ds) block answer = block_of block answer
+
+  abbrev pub render_template_block_in : Registry → Option Entry → Name → Named Val → Result (List C) Fault
+  render_template_block_in r None block context = Err template_not_found
+  render_template_block_in r (Some t) block context =
+      block_among_in (definers r (Some t.0) block) block (template_meaning_in r t context)
+
+  -- The text of a block in the template to which a name resolves, as it ended last while all of the template was rendered.
+  -- A block that nobody defines is refused.
+  abbrev pub render_block_in : Registry → Name → Name → Named Val → Result (List C) Fault
+  render_block_in r name block context = render_template_block_in r (resolve r name) block context
 
 -- of texts of bytes: this is what runs
 abbrev pub outermost : Registry → Named Val → Around
@@ -88,3 +123,12 @@ render_template = render_template_in plain
 
 abbrev pub render : Registry → Name → Named Val → Result Text Fault
 render = render_in plain
+
+abbrev pub block_among : List Definer → Name → Answer Signal → Result Text Fault
+block_among = block_among_in plain
+
+abbrev pub render_template_block : Registry → Option Entry → Name → Named Val → Result Text Fault
+render_template_block = render_template_block_in plain
+
+abbrev pub render_block : Registry → Name → Name → Named Val → Result Text Fault
+render_block = render_block_in plain

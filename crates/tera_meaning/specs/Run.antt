@@ -101,8 +101,12 @@ put_back before (Gave signal r n) = Gave (signal, r.text) (record r { text = bef
 abbrev pub captured : {C : Type 0} → MeaningOf C Signal → MeaningOf C (Signal × List C)
 captured body r = put_back r.text (body (record r { text = [] }))
 
--- what is asked of a body that stands elsewhere: blocks, includes and components are its cases
+-- what is asked of a body that stands elsewhere: includes and components are further cases
 pub data RequestOf (C : Type 0) : Type 0 where
+  -- a block, at the span of its name
+  ABlock : (name : Name) (span : Span) → RequestOf C
+  -- what the next template above makes of the block that runs, at the span of the call
+  Above : (span : Span) → RequestOf C
 
 abbrev pub Request : Type 0
 Request = RequestOf ℕ
@@ -113,6 +117,18 @@ OracleOf C = RequestOf C → VariablesOf C → AnswerOf C Signal
 
 abbrev pub Oracle : Type 0
 Oracle = OracleOf ℕ
+
+-- what was done, and behind it what a body did, whose text is handed out
+abbrev pub joined : {C : Type 0} → RunOf C → RunOf C → RunOf C
+joined r done = record { vars = done.vars; text = r.text; blocks = r.blocks ++ done.blocks }
+
+abbrev pub joined_answer : {C : Type 0} → RunOf C → AnswerOf C Signal → AnswerOf C (List C)
+joined_answer r (Failed fault n) = Failed fault n
+joined_answer r (Gave signal done n) = Gave done.text (joined r done) n
+
+-- the text of a body that stands elsewhere, which is not written
+abbrev pub asks : {C : Type 0} → OracleOf C → RequestOf C → MeaningOf C (List C)
+asks call q r = joined_answer r (call q r.vars)
 
 -- how many visits an answer took
 abbrev pub visits_of : {C A : Type 0} → AnswerOf C A → ℕ

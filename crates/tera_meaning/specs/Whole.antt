@@ -1,37 +1,57 @@
 -- The meaning of bodies that take one another.
-use Rattle.std.specs.Prelude.{◌≡◌, ℕ, zero, suc, Bool}
+use Rattle.std.specs.Prelude.{◌≡◌, ℕ, zero, suc, ◌+◌, ◌*◌, Bool, List, [], ◌∷◌, ◌++◌, length, flat_map, Option, if◌then◌else◌}
 use Rattle.tera_errors.specs.Site.{Name}
-use Rattle.tera_errors.specs.Fault.{Fault, message}
+use Rattle.tera_errors.specs.declared.span.Span.{Span}
+use Rattle.tera_errors.specs.Fault.{Fault, message, rendering_error}
 use Rattle.tera_tree.specs.Tree.{Nodes}
+use Rattle.tera_tree.specs.Blocks.{block_names, is_among}
 use Rattle.tera_values.specs.Alphabet.{Alphabet, plain}
 use Rattle.tera_state.specs.Scope.{AroundOf, VariablesOf, Variables}
 use Rattle.tera_meaning.specs.Here.{HereOf}
-use Rattle.tera_meaning.specs.Run.{Signal, On, Answer, AnswerOf, Failed, Gave, RunOf, Request, RequestOf, Oracle, OracleOf, visit, begun}
+use Rattle.tera_meaning.specs.Run.{Signal, On, Answer, AnswerOf, Failed, Gave, RunOf, Request, RequestOf, ABlock, Above, Oracle, OracleOf, visit, begun}
 use Rattle.tera_meaning.specs.Registry.{Registry}
+use Rattle.tera_meaning.specs.Lineage.{Definer, definers}
 use Rattle.tera_meaning.specs.Meaning.{nodes_meaning_in}
 
 -- what a rendering stands on: the components of a text beside the registry are a further field
 pub record World : Type 0 where
   pub registry : Registry
 
--- where a body stands, its variables apart: the template in whose text it is, what is around it, and the autoescape flag
+-- where a body stands, its variables apart: the template whose blocks are put out, the template in whose text the body is,
+-- what is around it, the autoescape flag, the blocks that are open, and those who define the block that runs above this one
 pub record PlaceOf (C : Type 0) : Type 0 where
+  pub template : Option Name
   pub file : Name
   pub around : AroundOf C
   pub autoescape : Bool
+  pub opened : List Name
+  pub above : List Definer
 
 -- a body to take, with the variables that it begins with, or the fault of the request
 pub data WayOf (C : Type 0) : Type 0 where
   Refuses : (fault : Fault) → WayOf C
   Takes : (place : PlaceOf C) (vars : VariablesOf C) (body : Nodes) → WayOf C
 
--- which body a request takes: one clause for each kind of request
+-- the body of the first of those who define a block, where these blocks are open then
+abbrev pub takes_definer : {C : Type 0} → PlaceOf C → List Name → VariablesOf C → Fault → List Definer → WayOf C
+takes_definer p opened v fault [] = Refuses fault
+takes_definer p opened v fault (d ∷ ds) = Takes (record p { file = d.file; opened = opened; above = ds }) v d.body
+
+abbrev pub fault_in : {C : Type 0} → PlaceOf C → Span → Fault
+fault_in p span = rendering_error (record { file = p.file; span = span })
+
+-- Which body a request takes: one clause for each kind of request. A block that is open already, or that nobody defines, is
+-- a fault; so is what stands above where no block runs or nobody above defines it.
 abbrev pub way : {C : Type 0} → World → PlaceOf C → RequestOf C → VariablesOf C → WayOf C
-way w p q v = elim q [ ]
+way w p (ABlock name span) v =
+    if is_among name p.opened then Refuses (fault_in p span)
+    else takes_definer p (name ∷ p.opened) v (fault_in p span) (definers w.registry p.template name)
+way w p (Above span) v = takes_definer p p.opened v (fault_in p span) p.above
 
 -- what is left of a body that was taken for a request, where these were the variables: one clause for each kind of request
 abbrev pub left_of : {C : Type 0} → RequestOf C → VariablesOf C → RunOf C → RunOf C
-left_of q v r = elim q [ ]
+left_of (ABlock name span) v r = record r { blocks = r.blocks ++ (name, r.text) ∷ [] }
+left_of (Above span) v r = r
 
 abbrev pub ends : {C : Type 0} → RequestOf C → VariablesOf C → AnswerOf C Signal → AnswerOf C Signal
 ends q v (Failed fault n) = Failed fault n
@@ -41,9 +61,18 @@ abbrev pub here_at : {C : Type 0} → World → PlaceOf C → HereOf C
 here_at w p =
     record { file = p.file; around = p.around; autoescape = p.autoescape; engine = w.registry.engine }
 
--- how many levels can be below a place: no request takes a body yet
+-- how many of the names are not in the second list
+abbrev pub not_among : List Name → List Name → ℕ
+not_among [] taken = 0
+not_among (n ∷ ns) taken = (if is_among n taken then 0 else 1) + not_among ns taken
+
+abbrev pub all_blocks : Registry → List Name
+all_blocks r = flat_map (λ t. block_names t.1.tree.nodes) r.templates
+
+-- how many levels can be below a place: blocks that are not open, and at each those who define it
 abbrev pub rank : {C : Type 0} → World → PlaceOf C → ℕ
-rank w p = 0
+rank w p =
+    not_among (all_blocks w.registry) p.opened * suc (suc (length w.registry.templates)) + length p.above
 
 -- the meaning of the requests of each place
 abbrev pub FamilyOf : Type 0 → Type 0

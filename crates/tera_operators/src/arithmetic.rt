@@ -12,6 +12,7 @@ use std::alloc::Global;
 use tera_values::{Error, TeraResult, Value, number};
 
 /// The number; a fault at the operand where it is none.
+#[inline(always)]
 fn number_at(alloc: Global, file: &str, operand: &Operand) -> TeraResult<i128>
     ensures value { Gives (λ n. n) result (number_at file.now operand.now) }
     ensures ready { IsOk (number_at file.now operand.now) → IsOk result }
@@ -23,6 +24,7 @@ fn number_at(alloc: Global, file: &str, operand: &Operand) -> TeraResult<i128>
 }
 
 /// Both numbers; of two operands that are none the left one is the fault.
+#[inline(always)]
 fn numbers(alloc: Global, file: &str, left: &Operand, right: &Operand) -> TeraResult<(i128, i128)>
     ensures value { Gives (λ p. p) result (numbers file.now left.now right.now) }
     ensures ready { IsOk (numbers file.now left.now right.now) → IsOk result }
@@ -45,6 +47,7 @@ fn divisor(alloc: Global, file: &str, left: &Operand, right: &Operand) -> TeraRe
 }
 
 /// The number, or the fault, at the combined span.
+#[inline(always)]
 fn combined(
     alloc: Global,
     file: &str,

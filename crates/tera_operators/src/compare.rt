@@ -3,7 +3,7 @@ ghost use Rattle.std.specs.Prelude.{◌≡◌, not, IsOk};
 ghost use Rattle.std.specs.Ordering.{is_lt, is_gt, is_le, is_ge};
 ghost use Rattle.tera_errors.specs.Answer.{Gives};
 ghost use Rattle.tera_values.specs.Val.{bool};
-ghost use Rattle.tera_values.specs.Order.{same};
+ghost use Rattle.tera_values.specs.Order.{same, checked_order};
 ghost use Rattle.tera_operators.specs.Operand.{spanning};
 ghost use Rattle.tera_operators.specs.Operators.{not_of, standing_of, compared};
 
@@ -11,7 +11,7 @@ use crate::operand::Operand;
 use crate::place::spanning;
 use std::alloc::Global;
 use std::cmp::Ordering;
-use tera_values::{Error, TeraResult, Value};
+use tera_values::{Error, Shape, TeraResult, Value};
 
 /// `not operand`: a truth value, at the operand's span.
 pub fn not(operand: &Operand) -> Operand
@@ -24,6 +24,7 @@ pub fn not(operand: &Operand) -> Operand
 }
 
 /// A truth value at the combined span.
+#[inline(always)]
 fn truth(flag: bool, left: &Operand, right: &Operand) -> Operand
     ensures { result ≡ record { value = bool flag; span = spanning left.now right.now } }
 {
@@ -44,12 +45,27 @@ pub(crate) fn not_equal(left: &Operand, right: &Operand) -> Operand
     truth(left.value() != right.value(), left, right)
 }
 
+/// How the left value stands to the right one; none where the two are not comparable. Two integers are compared in place.
+#[inline(always)]
+fn order_of(left: &Value, right: &Value) -> Option<Ordering>
+    ensures { result ≡ checked_order left.now right.now }
+{
+    match left.shape() {
+        Shape::Int(a) => match right.shape() {
+            Shape::Int(b) => Some(a.cmp(&b)),
+            _ => left.checked_cmp(right),
+        },
+        _ => left.checked_cmp(right),
+    }
+}
+
 /// How the left operand stands to the right one; a fault at the combined span where the two are not comparable.
+#[inline(always)]
 fn standing(alloc: Global, file: &str, left: &Operand, right: &Operand) -> TeraResult<Ordering>
     ensures value { Gives (λ o. o) result (standing_of file.now left.now right.now) }
     ensures ready { IsOk (standing_of file.now left.now right.now) → IsOk result }
 {
-    match left.value().checked_cmp(right.value()) {
+    match order_of(left.value(), right.value()) {
         Some(standing) => Ok(standing),
         None => Err(Error::rendering(
             alloc,

@@ -24,6 +24,7 @@ impl Model for Operand {
 
 impl Operand {
     /// The value at its span.
+    #[inline(always)]
     pub fn new(value: Value, span: Span) -> Operand
         ensures { result ≡ record { value = value; span = span } }
     {
@@ -31,6 +32,7 @@ impl Operand {
     }
 
     /// The value.
+    #[inline(always)]
     pub fn value(&self) -> &Value
         ensures { result.now ≡ self.now.value }
     {
@@ -38,6 +40,7 @@ impl Operand {
     }
 
     /// The span.
+    #[inline(always)]
     pub fn span(&self) -> Span
         ensures { result ≡ self.now.span }
     {
@@ -45,6 +48,7 @@ impl Operand {
     }
 
     /// The value alone, which is moved and not copied.
+    #[inline(always)]
     pub fn into_value(self) -> Value
         ensures { result ≡ self.value }
     {

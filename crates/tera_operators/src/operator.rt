@@ -14,6 +14,7 @@ use tera_values::{Span, TeraResult};
 
 /// What the operator makes of the two operands. The span is that of the expression, which only `in` takes on: others run
 /// from the left operand's start to the right one's end. Of the answers that are no fault only a joined text takes memory.
+#[inline(always)]
 pub fn binary(
     alloc: Global,
     file: &str,

@@ -10,6 +10,7 @@ use std::alloc::Global;
 use tera_values::{Error, ErrorKind, Span, TeraResult, Value};
 
 /// From the start of the left operand to the end of the right one.
+#[inline(always)]
 pub(crate) fn spanning(left: &Operand, right: &Operand) -> Span
     ensures { result ≡ spanning left.now right.now }
 {
@@ -20,6 +21,7 @@ pub(crate) fn spanning(left: &Operand, right: &Operand) -> Span
 }
 
 /// The refusal as a fault at this span of the file, in the same words. Want of memory stays what it is.
+#[inline(never)]
 pub fn fault_at(alloc: Global, file: &str, refusal: &Error, span: Span) -> Error
     ensures { Retells refusal.now result (rendering_error (record { file = file.now; span = span })) }
 {
@@ -31,6 +33,7 @@ pub fn fault_at(alloc: Global, file: &str, refusal: &Error, span: Span) -> Error
 }
 
 /// The value as an operand at a span, or the refusal as a fault at another.
+#[inline(always)]
 pub(crate) fn operand_or_fault(
     alloc: Global,
     file: &str,

@@ -9,7 +9,7 @@ use Rattle.tera_errors.specs.Answer.{Refusal, Says, SaysOneOf}
 use Rattle.tera_tree.specs.Delimiters.{Delims}
 use Rattle.tera_values.specs.Named.{Named, put_all}
 use Rattle.tera_meaning.specs.Registry.{Template, Entry, Registry, new_registry}
-use Rattle.tera_meaning.specs.Accepted.{template_fault, first_fault, fault}
+use Rattle.tera_meaning.specs.Accepted.{template_fault, first_fault, missing, fault}
 use Rattle.tera_meaning.specs.Adding.{unless_faulty, accepted}
 use Rattle.tera_registry.specs.declared.template.Template.{Template as Stored}
 use Rattle.tera_registry.specs.Batch.{ReadsBatch, Adds}
@@ -32,8 +32,8 @@ first-same r (t ∷ es) =
     ap (option_or (template_fault r t)) (first-same r es)
 
 pub fault-same : (r : Registry) → fault r ≡ fault (bare r.templates r.prefixes)
-unfolding fault
-fault-same r = first-same r r.templates
+unfolding fault missing
+fault-same r = ap (λ o. option_or o (missing r)) (first-same r r.templates)
 
 accepted-ok : (r : Registry) → accepted (bare r.templates r.prefixes) ≡ Ok (bare r.templates r.prefixes) → accepted r ≡ Ok r
 accepted-ok r e = ap (unless_faulty r) (fault-same r ∙ faultless (bare r.templates r.prefixes) e)

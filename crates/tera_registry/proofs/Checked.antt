@@ -1,24 +1,25 @@
 -- The first fault of templates, one after another.
-use Rattle.std.proofs.Common.{◌≡◌, ℕ, ◌+◌, ◌≤◌, List, length, drop, Option, Some, None, Ok, Err, refl, ap, ◌∙◌, slice_get}
+use Rattle.std.proofs.Common.{◌≡◌, ℕ, ◌+◌, ◌≤◌, Bool, true, false, if◌then◌else◌, List, length, drop, Option, Some, None, Ok, Err, refl, ap, ◌∙◌, slice_get}
 use Rattle.std.specs.Option.{option_or}
+use Rattle.std.specs.List.{list_any}
 use Rattle.std.proofs.lemmas.List.{drop_all}
-use Rattle.tera_errors.specs.Fault.{Fault}
+use Rattle.tera_errors.specs.Fault.{Fault, message}
 use Rattle.tera_errors.specs.Answer.{Refusal, Says}
 use Rattle.tera_meaning.specs.Registry.{Registry, Entry}
 use Rattle.tera_meaning.specs.Resolve.{parents}
-use Rattle.tera_meaning.specs.Accepted.{fault_of_parents, template_fault, first_fault, fault}
+use Rattle.tera_meaning.specs.Accepted.{fault_of_parents, template_fault, first_fault, loses_a_block, missing, fault}
 use Rattle.tera_meaning.specs.Adding.{unless_faulty, accepted}
+use Rattle.tera_registry.specs.Links.{climbed}
 use Rattle.tera_registry.proofs.Rows.{drop-at}
 
 -- The templates before a place have no fault.
 pub record Checked (r : Registry) (i : ℕ) : Type 0 where
-  pub is : fault r ≡ first_fault r (drop i r.templates)
+  pub is : first_fault r r.templates ≡ first_fault r (drop i r.templates)
 
 pub checked-begins : (r : Registry) → Checked r 0
-unfolding fault
 checked-begins r = record { is = refl }
 
-next : (r : Registry) (i : ℕ) (t : Entry) → Checked r i → slice_get r.templates i ≡ Some t → fault r ≡ option_or (template_fault r t) (first_fault r (drop (i + 1) r.templates))
+next : (r : Registry) (i : ℕ) (t : Entry) → Checked r i → slice_get r.templates i ≡ Some t → first_fault r r.templates ≡ option_or (template_fault r t) (first_fault r (drop (i + 1) r.templates))
 unfolding first_fault
 next r i t c at = c.is ∙ ap (first_fault r) (drop-at r.templates i t at)
 
@@ -28,15 +29,15 @@ checked-on r i t ps c at e = record {
   is = next r i t c at ∙ ap (λ o. option_or (fault_of_parents o) (first_fault r (drop (i + 1) r.templates))) e;
 }
 
-checked-fault : (r : Registry) (i : ℕ) (t : Entry) (f : Fault) → Checked r i → slice_get r.templates i ≡ Some t → parents r t ≡ Err f → fault r ≡ Some f
+checked-fault : (r : Registry) (i : ℕ) (t : Entry) (f : Fault) → Checked r i → slice_get r.templates i ≡ Some t → parents r t ≡ Err f → first_fault r r.templates ≡ Some f
 unfolding template_fault
 checked-fault r i t f c at e = next r i t c at ∙ ap (λ o. option_or (fault_of_parents o) (first_fault r (drop (i + 1) r.templates))) e
 
-pub checked-says : (e : Refusal) (r : Registry) (i : ℕ) (t : Entry) → Checked r i → slice_get r.templates i ≡ Some t → Says e (parents r t) → Says e (accepted r)
+pub checked-says : (e : Refusal) (r : Registry) (i : ℕ) (t : Entry) → Checked r i → slice_get r.templates i ≡ Some t → Says e (parents r t) → Says e (climbed r)
 checked-says None r i t c at says = tt
 checked-says (Some f) r i t c at says = ap (unless_faulty r) (checked-fault r i t f c at says)
 
-pub checked-all : (r : Registry) (i : ℕ) → Checked r i → length r.templates ≤ i → accepted r ≡ Ok r
+pub checked-all : (r : Registry) (i : ℕ) → Checked r i → length r.templates ≤ i → climbed r ≡ Ok r
 unfolding first_fault
 checked-all r i c over = ap (unless_faulty r) (c.is ∙ ap (first_fault r) (drop_all i r.templates over))
 
@@ -53,3 +54,38 @@ faulty-by r (Some g) f e = (let q : Err g ≡ Err f = e in let s : g ≡ f = cc 
 
 pub faulty : (r : Registry) (f : Fault) → accepted r ≡ Err f → fault r ≡ Some f
 faulty r f e = faulty-by r (fault r) f e
+
+-- Parents first, and then what is missing.
+
+pub climbed-faultless : (r : Registry) → climbed r ≡ Ok r → first_fault r r.templates ≡ None
+climbed-faultless r e = faultless-by r (first_fault r r.templates) e
+
+pub climbed-says : (e : Refusal) (r : Registry) → Says e (climbed r) → Says e (accepted r)
+unfolding fault
+climbed-says None r says = tt
+climbed-says (Some f) r says =
+    ap (λ o. unless_faulty r (option_or o (missing r))) (faulty-by r (first_fault r r.templates) f says)
+
+missing-is : (r : Registry) (b : Bool) (o : Option Fault) → (if b then Some message else None) ≡ o → list_any (loses_a_block r) r.templates ≡ b → missing r ≡ o
+unfolding missing
+missing-is r b o e is = ap (λ x. if x then Some message else None) is ∙ e
+
+after-climbed : (r : Registry) (o : Option Fault) → climbed r ≡ Ok r → missing r ≡ o → accepted r ≡ unless_faulty r o
+unfolding fault
+after-climbed r o ok is =
+    ap (λ f. unless_faulty r (option_or f (missing r))) (climbed-faultless r ok) ∙ ap (unless_faulty r) is
+
+pub loses-says : (r : Registry) → climbed r ≡ Ok r → list_any (loses_a_block r) r.templates ≡ true → accepted r ≡ Err message
+loses-says r ok any = after-climbed r (Some message) ok (missing-is r true (Some message) refl any)
+
+pub keeps-all : (r : Registry) → climbed r ≡ Ok r → list_any (loses_a_block r) r.templates ≡ false → accepted r ≡ Ok r
+keeps-all r ok any = after-climbed r None ok (missing-is r false None refl any)
+
+none-first : (o p : Option Fault) → option_or o p ≡ None → o ≡ None
+none-first None p e = refl
+none-first (Some f) p e = (let q : Some f ≡ None = e in cc)
+
+-- where the whole has no fault, no template has one
+pub no-first-fault : (r : Registry) → fault r ≡ None → first_fault r r.templates ≡ None
+unfolding fault
+no-first-fault r none = none-first (first_fault r r.templates) (missing r) none

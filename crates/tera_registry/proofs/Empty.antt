@@ -1,7 +1,7 @@
 -- No templates.
 use Rattle.std.proofs.Common.{◌≡◌, ℕ, List, [], Some, None, Global, String, refl}
 use Rattle.std.specs.declared.rc.Rc.{Rc}
-use Rattle.tera_meaning.specs.Accepted.{fault, first_fault}
+use Rattle.tera_meaning.specs.Accepted.{fault, first_fault, missing}
 use Rattle.tera_registry.specs.declared.template.Template.{Template as Stored}
 use Rattle.tera_registry.specs.Order.{Rises}
 use Rattle.tera_registry.specs.Links.{IsLinked}
@@ -11,7 +11,7 @@ pub none-rises : (ts : List (Rc Stored Global)) → ts ≡ [] → Rises (entries
 none-rises ts e = rw e tt
 
 bare-accepted : (ps : List (String Global)) → fault (seen [] ps) ≡ None
-unfolding fault first_fault
+unfolding fault first_fault missing
 bare-accepted ps = refl
 
 pub none-accepted : (ts : List (Rc Stored Global)) (ps : List (String Global)) → ts ≡ [] → fault (seen ts ps) ≡ None

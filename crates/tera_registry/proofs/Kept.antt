@@ -1,14 +1,16 @@
 -- Templates as they are kept, and the entries that definitions see.
-use Rattle.std.proofs.Common.{◌≡◌, ℕ, ◌<◌, set, sym, suc, List, [], ◌∷◌, length, get_or, Some, Ok, Err, Equal, Global, option_map, refl, ap, ◌∙◌, slice_get}
+use Rattle.std.proofs.Common.{◌≡◌, ℕ, ◌<◌, set, sym, suc, List, [], ◌∷◌, length, get_or, map, Option, Some, None, Ok, Err, Equal, Global, option_map, refl, ap, ◌∙◌, slice_get}
 use Rattle.std.specs.declared.rc.Rc.{Rc}
 use Rattle.std.proofs.lemmas.Option.{slice_get_read, slice_get-map}
 use Rattle.tera_registry.specs.declared.template.Template.{Template as Stored}
 use Rattle.std.specs.List.{insert}
 use Rattle.tera_errors.specs.Site.{Name}
-use Rattle.tera_values.specs.Named.{name_cmp, put}
+use Rattle.tera_values.specs.Named.{Named, name_cmp, put}
 use Rattle.tera_registry.specs.Order.{Rises}
 use Rattle.tera_registry.specs.Places.{IsFound}
-use Rattle.tera_registry.proofs.Placed.{named, put-set, put-insert, map-set, map-insert, itself}
+use Rattle.tera_meaning.specs.Registry.{Template, Entry}
+use Rattle.tera_meaning.specs.Resolve.{entry_at}
+use Rattle.tera_registry.proofs.Placed.{named, entry-found, put-set, put-insert, map-set, map-insert, itself}
 use Rattle.tera_registry.proofs.Element.{element}
 use Rattle.tera_registry.specs.Kept.{entry_of, entries_of}
 
@@ -19,6 +21,18 @@ entry-at-place ts m t lt is =
 pub length-entries : (ts : List (Rc Stored Global)) → length (entries_of ts) ≡ length ts
 length-entries [] = refl
 length-entries (t ∷ ts) = ap suc (length-entries ts)
+
+-- the template of the name that stands at a place
+pub named-place : (es : Named Template) (place : ℕ) (name : Name) → Rises es → slice_get (map (λ t. t.0) es) place ≡ Some name → (e : Entry) × (slice_get es place ≡ Some e) × (entry_at name es ≡ Some e)
+named-place es place name rises is =
+    by_place (slice_get es place) refl (sym (slice_get-map (λ (t : Entry). t.0) es place) ∙ is)
+  where
+    by_place : (o : Option Entry) → slice_get es place ≡ o → option_map (λ (t : Entry). t.0) o ≡ Some name → (e : Entry) × (slice_get es place ≡ Some e) × (entry_at name es ≡ Some e)
+    by_place None at q = (let x : None ≡ Some name = q in cc)
+    by_place (Some e) at q =
+        (let x : Some e.0 ≡ Some name = q in
+        let same : e.0 ≡ name = cc in
+        (e, at, entry-found es name place e rises at (rw same (itself name))))
 
 -- a template in the place of one of its name
 pub put-in-place : (ts : List (Rc Stored Global)) (t : Rc Stored Global) (n : Name) (i : ℕ) → Rises (entries_of ts) → n ≡ (entry_of t.value).0 → IsFound (entries_of ts) n (Ok i) → entries_of (set ts i t) ≡ put (entry_of t.value).0 (entry_of t.value).1 (entries_of ts)

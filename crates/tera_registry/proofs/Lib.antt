@@ -11,3 +11,6 @@ pub mod Batches
 pub mod Adds
 pub mod Empty
 pub mod Noted
+pub mod Ancestors
+pub mod Absent
+pub mod Uppermost

@@ -5,4 +5,5 @@ pub mod Kept
 pub mod Batch
 pub mod Put
 pub mod Links
+pub mod Definers
 pub mod Templates

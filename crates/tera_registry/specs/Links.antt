@@ -3,10 +3,12 @@ use Rattle.std.specs.Prelude.{◌≡◌, ◌<◌, ◌≤◌, ◌+◌, ℕ, List,
 use Rattle.std.specs.declared.alloc.Global.{Global}
 use Rattle.std.specs.declared.rc.Rc.{Rc}
 use Rattle.tera_errors.specs.Site.{Name}
-use Rattle.tera_errors.specs.Fault.{circular_extend}
+use Rattle.tera_errors.specs.Fault.{Fault, circular_extend}
 use Rattle.tera_errors.specs.Answer.{Refusal, Says}
 use Rattle.tera_meaning.specs.Registry.{Entry, Registry}
 use Rattle.tera_meaning.specs.Resolve.{resolve, parents, root, last_of}
+use Rattle.tera_meaning.specs.Accepted.{first_fault}
+use Rattle.tera_meaning.specs.Adding.{unless_faulty}
 use Rattle.tera_code.specs.Code.{listing_of}
 use Rattle.tera_registry.specs.declared.template.Template.{Template as Stored}
 use Rattle.tera_registry.specs.declared.lineage.Top.{Top}
@@ -14,6 +16,10 @@ use Rattle.tera_registry.specs.declared.lineage.Up.{Up}
 use Rattle.tera_registry.specs.declared.lineage.Up.TheVariants as up
 use Rattle.tera_registry.specs.Places.{IsPlace}
 use Rattle.tera_registry.specs.Kept.{entries_of, seen}
+
+-- a registry in which each template has all its parents, or the first fault of one
+abbrev pub climbed : Registry → Result Registry Fault
+climbed r = unless_faulty r (first_fault r r.templates)
 
 -- the place of the template that one extends
 abbrev pub IsUp : Registry → Up → Option Name → Type 0

@@ -1,13 +1,18 @@
 -- What definitions see of all templates.
-use Rattle.std.specs.Prelude.{◌≡◌, Bool, true, false, List, [], ◌∷◌, map, string_bytes, Option, Some, None}
+use Rattle.std.specs.Prelude.{◌≡◌, Bool, true, false, List, [], ◌∷◌, map, string_bytes, Option, Some, None, cond}
 use Rattle.tera_errors.specs.Site.{Text, Name}
 use Rattle.tera_values.specs.Named.{Named}
 use Rattle.tera_meaning.specs.Registry.{Template, Entry, Registry}
 use Rattle.tera_meaning.specs.Resolve.{resolve, root}
+use Rattle.tera_meaning.specs.Lineage.{Definer}
 use Rattle.tera_code.specs.Code.{listing_of}
 use Rattle.tera_registry.specs.declared.templates.Templates.{Templates}
 use Rattle.tera_registry.specs.declared.templates.Found.{Found}
-use Rattle.tera_registry.specs.Kept.{entries_of}
+use Rattle.tera_registry.specs.declared.templates.Start.{Start}
+use Rattle.tera_registry.specs.declared.templates.Definers.{Definers}
+use Rattle.tera_registry.specs.declared.templates.Definer.{Definer as Nearest}
+use Rattle.tera_registry.specs.Kept.{entries_of, seen}
+use Rattle.tera_registry.specs.Definers.{from_place, above_place}
 
 abbrev pub templates_of : Templates → Named Template
 templates_of t = entries_of t.all.items
@@ -29,8 +34,33 @@ pub record Leads (r : Registry) (name : Name) (found : Found) : Type 0 where
   pub resolves : resolve r name ≡ Some entry
   pub named : found.name.now ≡ entry.0
   pub code : found.chunk.now ≡ listing_of (root r entry).0 (root r entry).1.tree.nodes
+  pub among : with_templates r found.templates.now ≡ r
 
 -- what is found under a name
 abbrev pub Finds : Registry → Name → Option Found → Type 0
 Finds r name None = resolve r name ≡ None
 Finds r name (Some found) = Leads r name found
+
+-- templates and prefixes alone
+abbrev pub registry_in : Templates → Registry
+registry_in t = seen t.all.items t.prefixes.items
+
+abbrev pub started : Option Start → List Definer
+started None = []
+started (Some s) =
+    cond s.is_above (above_place (registry_in s.templates.now) s.at) (from_place (registry_in s.templates.now) s.at)
+
+-- those who define a block, nearest first
+abbrev pub definers_of : Definers → List Definer
+definers_of ds = started ds.start
+
+-- the first of those who define a block, with its code, and those above it
+pub record IsNearest (ds : List Definer) (nearest : Nearest) : Type 0 where
+  pub definer : Definer
+  pub is : ds ≡ definer ∷ definers_of nearest.above
+  pub code : nearest.chunk.now ≡ listing_of definer.file definer.body
+
+-- the first of those who define a block, if there is one
+abbrev pub AreNext : List Definer → Option Nearest → Type 0
+AreNext ds None = ds ≡ []
+AreNext ds (Some nearest) = IsNearest ds nearest

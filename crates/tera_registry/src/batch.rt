@@ -2,8 +2,7 @@
 ghost use Rattle.std.specs.Prelude.{◌≡◌, IfOk, IfErr, IsTrue, option_map, string_bytes};
 ghost use Rattle.tera_errors.specs.Answer.{GivesOneOf, Lacks};
 ghost use Rattle.tera_tree.specs.Delimiters.{delimiters_of, accepted};
-ghost use Rattle.tera_tree.specs.View.{nodes_of, quoted_option, tree_of};
-ghost use Rattle.tera_code.specs.Code.{listing_of};
+ghost use Rattle.tera_tree.specs.View.{quoted_option, tree_of};
 ghost use Rattle.tera_registry.specs.Order.{Rises};
 ghost use Rattle.tera_registry.specs.Batch.{pairs_of};
 ghost use Rattle.tera_registry.specs.Put.{Makes, Puts};
@@ -12,12 +11,14 @@ ghost use Rattle.tera_registry.specs.Kept.{entry_of, entries_of};
 use crate::meant::Meant;
 use crate::names::put;
 use crate::template::Template;
+use crate::tops::top_blocks;
 use std::alloc::{AllocError, Global};
 use std::rc::Rc;
-use tera_code::{Chunk, Compiler};
+use tera_code::blocks::blocks;
+use tera_code::compiled;
 use tera_errors::TeraResult;
 use tera_syntax::parse;
-use tera_tree::{Delimiters, Node, ParserOutput, Quoted};
+use tera_tree::{Delimiters, ParserOutput, Quoted};
 
 /// Reads each text and puts it at its name, up to the first that spells no tree.
 pub fn put_all(
@@ -58,11 +59,15 @@ fn made(alloc: Global, name: &str, text: &str, output: &ParserOutput) -> TeraRes
     ensures lacks { IfErr result Lacks }
 {
     let body = compiled(alloc, name, output.nodes.as_slice())?;
+    let blocks = blocks(alloc, name, output.nodes.as_slice())?;
+    let tops = top_blocks(alloc, output.nodes.as_slice())?;
     Ok(Template {
         name: String::from_str(alloc, name)?,
         text: String::from_str(alloc, text)?,
         parent: owned(alloc, &output.parent)?,
         body,
+        blocks,
+        tops,
         meant: Meant::of(output.nodes.as_slice()),
     })
 }
@@ -74,13 +79,4 @@ fn owned(alloc: Global, text: &Option<Quoted>) -> Result<Option<String>, AllocEr
         None => Ok(None),
         Some(text) => Ok(Some(String::from_str(alloc, text.as_str())?)),
     }
-}
-
-fn compiled(alloc: Global, name: &str, nodes: &[Node]) -> TeraResult<Chunk>
-    ensures ok { IfOk result (λ c. c ≡ listing_of name.now (nodes_of nodes.now)) }
-    ensures lacks { IfErr result Lacks }
-{
-    let mut compiler = Compiler::new(alloc, name)?;
-    compiler.compile(nodes)?;
-    Ok(compiler.into_chunk())
 }

@@ -3,10 +3,12 @@
 #![tactic(auto)]
 
 mod batch;
+mod definers;
 mod lineage;
 mod meant;
 mod names;
 mod template;
 pub mod templates;
+pub mod tops;
 
-pub use templates::{Found, Templates};
+pub use templates::{Definer, Definers, Found, Templates};

@@ -4,9 +4,10 @@ ghost use Rattle.tera_errors.specs.Answer.{Gives};
 ghost use Rattle.tera_meaning.specs.Adding.{accepted};
 ghost use Rattle.tera_meaning.specs.Registry.{Registry, Entry};
 ghost use Rattle.tera_registry.specs.Order.{Rises};
-ghost use Rattle.tera_registry.specs.Links.{IsUp, AreUps, Inside, Stands, IsTop, AreTops, IsFurther, AreRoots};
+ghost use Rattle.tera_registry.specs.Links.{IsUp, AreUps, Inside, Stands, IsTop, AreTops, IsFurther, AreRoots, climbed};
 ghost use Rattle.tera_registry.specs.Kept.{entry_of, entries_of, seen};
 
+use crate::definers::any_loses;
 use crate::names::resolve;
 use crate::template::Template;
 use std::alloc::{AllocError, Global};
@@ -22,7 +23,7 @@ pub enum Up {
 }
 
 /// What a template extends, looked up once.
-fn above(templates: &[Rc<Template>], prefixes: &[String], of: &Template) -> Up
+pub fn above(templates: &[Rc<Template>], prefixes: &[String], of: &Template) -> Up
     requires { Rises (entries_of templates.now) }
     ensures { IsUp (seen templates.now prefixes.now) result (entry_of of.now).1.tree.parent }
 {
@@ -143,6 +144,22 @@ pub fn link(
 ) -> TeraResult<Vec<usize>>
     requires { Rises (entries_of templates.now) }
     ensures answer { Gives (λ _. seen templates.now prefixes.now) result (accepted (seen templates.now prefixes.now)) }
+    ensures roots { IfOk result (λ v. AreRoots (seen templates.now prefixes.now) v.items (length templates.now)) }
+{
+    let roots = match roots(alloc, templates, prefixes) {
+        Ok(roots) => roots,
+        Err(fault) => return Err(fault),
+    };
+    if any_loses(templates, prefixes) {
+        return Err(Error::message(alloc, "a template has a block that none of its parents has"));
+    }
+    Ok(roots)
+}
+
+/// The place of the last parent of each template, or the first fault by name.
+fn roots(alloc: Global, templates: &[Rc<Template>], prefixes: &[String]) -> TeraResult<Vec<usize>>
+    requires { Rises (entries_of templates.now) }
+    ensures answer { Gives (λ _. seen templates.now prefixes.now) result (climbed (seen templates.now prefixes.now)) }
     ensures roots { IfOk result (λ v. AreRoots (seen templates.now prefixes.now) v.items (length templates.now)) }
 {
     let all = all_above(alloc, templates, prefixes)?;

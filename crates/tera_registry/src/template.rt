@@ -1,11 +1,15 @@
 // Templates as they are kept.
-ghost use Rattle.std.specs.Prelude.{◌≡◌, string_bytes};
-ghost use Rattle.std.specs.Coded.{Coded-set};
+ghost use Rattle.std.specs.Prelude.{◌≡◌, map, string_bytes};
+ghost use Rattle.std.specs.Coded.{Coded-set, codes};
+ghost use Rattle.tera_tree.specs.Blocks as in_tree;
 ghost use Rattle.tera_tree.specs.View.{nodes_of};
+ghost use Rattle.tera_code.specs.Blocks.{block_of, block_listings};
 ghost use Rattle.tera_code.specs.Code.{listing_of};
+ghost use Rattle.tera_code.specs.contracts.chunk.Chunk as chunk;
 
 use crate::meant::Meant;
-use tera_code::Chunk;
+use tera_code::{Block, Chunk};
+use tera_values::Name;
 
 /// A template that was read and compiled. It is shared, so that a set of templates is copied without their texts.
 #[derive(Drop)]
@@ -16,6 +20,13 @@ pub struct Template {
     pub parent: Option<String>,
     /// The code of its nodes.
     pub body: Chunk,
+    /// Its blocks, each with code of its own.
+    pub blocks: Vec<Block>,
+    /// The names of those that are inside no other block.
+    pub tops: Vec<Name>,
     pub meant: Meant,
     ghost compiled: { body ≡ listing_of (string_bytes name) (nodes_of meant.nodes) } by { Coded-set body-code _ _ },
+    ghost divided: { map block_of blocks.items
+        ≡ block_listings (string_bytes name) (in_tree.blocks (nodes_of meant.nodes)) } by { Prim.hlevel (codes, chunk.the_row.coded) },
+    ghost topped: { tops.items ≡ in_tree.top_blocks (nodes_of meant.nodes) } by { Prim.hlevel codes },
 }

@@ -1,10 +1,11 @@
 // All templates of an engine, linked.
-ghost use Rattle.std.specs.Prelude.{◌≡◌, None, Ok, map, is_some, string_bytes, IsTrue, []};
+ghost use Rattle.std.specs.Prelude.{◌≡◌, ◌<◌, Some, None, Ok, map, length, slice_get, is_some, string_bytes, IsTrue, [], ◌∷◌};
 ghost use Rattle.tera_errors.specs.Answer.{Gives};
 ghost use Rattle.tera_tree.specs.Delimiters.{delimiters_of, accepted};
 ghost use Rattle.tera_meaning.specs.Accepted.{fault};
+ghost use Rattle.tera_meaning.specs.Lineage.{ancestors, definers_in};
 ghost use Rattle.tera_meaning.specs.Resolve.{resolve};
-ghost use Rattle.tera_meaning.specs.Registry.{Registry};
+ghost use Rattle.tera_meaning.specs.Registry.{Entry, Registry};
 ghost use Rattle.std.specs.Coded.{codes};
 ghost use Rattle.tera_code.specs.contracts.chunk.Chunk as chunk;
 ghost use Rattle.tera_registry.specs.Order.{Rises, Rises-prop};
@@ -13,6 +14,7 @@ ghost use Rattle.tera_registry.specs.Kept.{entries_of, seen};
 ghost use Rattle.tera_registry.specs.Batch.{ConfiguresOneOf, Adds, pairs_of};
 
 use crate::batch::put_all;
+use crate::definers::{At, first, first_above};
 use crate::lineage::link;
 use crate::names::resolve;
 use crate::template::Template;
@@ -21,6 +23,7 @@ use std::rc::Rc;
 use tera_code::Chunk;
 use tera_errors::TeraResult;
 use tera_tree::Delimiters;
+use tera_values::Sought;
 
 /// Templates by name, and the prefixes by which a name is looked up that none of them has.
 pub struct Templates {
@@ -54,10 +57,83 @@ pub struct Found<'t> {
     pub name: &'t str,
     /// The code that a rendering of it begins with: that of the last of its parents, or its own.
     pub chunk: &'t Chunk,
+    /// Those among which it was found.
+    pub templates: &'t Templates,
+    place: usize,
+    ghost stands: { slice_get (map (λ t. t.0) (entries_of templates.now.all.items)) place
+        ≡ Some name.now } by { Prim.hlevel codes },
+}
+
+impl<'t> Found<'t> {
+    ghost use Rattle.tera_meaning.specs.Lineage.{definers};
+    ghost use Rattle.tera_registry.specs.Templates.{with_templates, definers_of};
+
+    /// Those who define a block for the template, nearest first. Takes no memory.
+    pub fn definers(&self, block: &str) -> Definers<'t>
+        ensures { (r : Registry) → definers_of result
+            ≡ definers (with_templates r self.now.templates.now) (Some self.now.name.now) block.now }
+    {
+        let sought = Sought::new(block);
+        Definers {
+            start: self.templates.first(self.place, &sought),
+        }
+    }
+}
+
+/// Those who define a block, from one on, nearest first.
+#[derive(Clone, Copy)]
+pub struct Definers<'t> {
+    start: Option<Start<'t>>,
+}
+
+/// The block that the first of them defines, or the one above which they all stand.
+#[derive(Clone, Copy)]
+struct Start<'t> {
+    templates: &'t Templates,
+    at: At,
+    is_above: bool,
+}
+
+/// A block as one template defines it, and those who define it above.
+#[derive(Clone, Copy)]
+pub struct Definer<'t> {
+    pub chunk: &'t Chunk,
+    pub above: Definers<'t>,
+}
+
+impl<'t> Definers<'t> {
+    ghost use Rattle.tera_registry.specs.Templates.{definers_of, AreNext};
+
+    /// Nobody.
+    pub fn none() -> Definers<'t>
+        ensures { definers_of result ≡ [] }
+    {
+        Definers { start: None }
+    }
+
+    /// The first of them, with those above, which are looked for when they are asked for. Takes no memory.
+    pub fn next(&self) -> Option<Definer<'t>>
+        ensures { AreNext (definers_of self.now) result }
+    {
+        match self.start {
+            None => None,
+            Some(start) => {
+                let templates: &'t Templates = start.templates;
+                if !start.is_above {
+                    return templates.definer(start.at);
+                }
+                match templates.above(start.at) {
+                    None => None,
+                    Some(at) => templates.definer(at),
+                }
+            }
+        }
+    }
 }
 
 impl Templates {
-    ghost use Rattle.tera_registry.specs.Templates.{templates_of, prefixes_of, with_templates, is_empty, Finds};
+    ghost use Rattle.tera_registry.specs.Templates.{templates_of, prefixes_of, with_templates, is_empty, Finds, registry_in, started, AreNext};
+    ghost use Rattle.tera_registry.specs.Definers.{from_place, above_place, from_found};
 
     /// None yet. Takes no memory.
     pub fn new(alloc: Global, prefixes: Vec<String>) -> Templates
@@ -104,7 +180,69 @@ impl Templates {
         Some(Found {
             name: template.name.as_str(),
             chunk: &root.body,
+            templates: self,
+            place,
         })
+    }
+
+    /// Where the first of those stands who define a block, from a template on.
+    fn first(&self, from: usize, block: &Sought<'_>) -> Option<Start<'_>>
+        requires { from < length self.now.all.items }
+        ensures { (t : Entry) → slice_get (templates_of self.now) from ≡ Some t
+            → started result ≡ definers_in block.now (t ∷ ancestors (registry_in self.now) t) }
+    {
+        match first(self.all.as_slice(), self.prefixes.as_slice(), from, block) {
+            None => None,
+            Some(at) => Some(Start {
+                templates: self,
+                at,
+                is_above: false,
+            }),
+        }
+    }
+
+    /// The block that stands there, with those who define it above.
+    fn definer(&self, at: At) -> Option<Definer<'_>>
+        ensures { AreNext (from_place (registry_in self.now) at) result }
+    {
+        let all = self.all.as_slice();
+        if at.template >= all.len() {
+            return None;
+        }
+        let template: &Template = &all[at.template];
+        let blocks = template.blocks.as_slice();
+        if at.block >= blocks.len() {
+            return None;
+        }
+        let block = &blocks[at.block];
+        Some(Definer {
+            chunk: &block.code,
+            above: Definers {
+                start: Some(Start {
+                    templates: self,
+                    at,
+                    is_above: true,
+                }),
+            },
+        })
+    }
+
+    /// Where the first of those stands who define a block above the template in which it stands.
+    fn above(&self, at: At) -> Option<At>
+        ensures { from_found (registry_in self.now) result ≡ above_place (registry_in self.now) at }
+    {
+        let all = self.all.as_slice();
+        if at.template >= all.len() {
+            return None;
+        }
+        let template: &Template = &all[at.template];
+        let blocks = template.blocks.as_slice();
+        if at.block >= blocks.len() {
+            return None;
+        }
+        let block = &blocks[at.block];
+        let name = block.name.sought();
+        first_above(all, self.prefixes.as_slice(), template, &name)
     }
 
     /// Whether a name resolves to a template. Takes no memory.

@@ -2,7 +2,7 @@
 use Rattle.std.specs.Prelude.{ℕ, zero, suc, ◌+◌, ℤ, Bool, true, false, not, ◌||◌, ◌&&◌, ◌==◌, codes, List, [], ◌∷◌, length, drop, Option, Some, None, if◌then◌else◌}
 use Rattle.std.specs.Char.{is_whitespace}
 use Rattle.std.specs.List.{list_all}
-use Rattle.std.specs.Option.{option_map}
+use Rattle.std.specs.Option.{option_map, option_and_then}
 use Rattle.std.specs.Str.{all_ascii_digits, bytes_eq, chars, is_utf8}
 use Rattle.std.specs.Str.Parse.{starts_with_minus, signed_digits_value}
 use Rattle.tera_errors.specs.Site.{Name, Text}
@@ -43,6 +43,18 @@ only_field [] = None
 only_field (field ∷ []) = checked_field field
 only_field (field ∷ next ∷ fields) = None
 
+abbrev pub both : Option Text → Option Text → Option (Text × Text)
+both None second = None
+both (Some first) None = None
+both (Some first) (Some second) = Some (first, second)
+
+-- the two fields, where there are no more
+abbrev pub two_fields : List Text → Option (Text × Text)
+two_fields [] = None
+two_fields (first ∷ []) = None
+two_fields (first ∷ second ∷ []) = both (checked_field first) (checked_field second)
+two_fields (first ∷ second ∷ next ∷ fields) = None
+
 -- all of the fields
 abbrev pub checked_fields : List Text → Option (List Text)
 checked_fields fields = if list_all is_filled fields then Some fields else None
@@ -69,28 +81,25 @@ integer field =
     let number = signed_digits_value 10 field in
     if is_integer field && in_range number then Some number else None
 
-abbrev pub int_act : Option Text → Option ℤ → Option Act
-int_act None number = None
-int_act (Some name) None = None
-int_act (Some name) (Some number) = Some (put_value name (int number))
+abbrev pub int_act : Text × Text → Option Act
+int_act fields = option_map (λ number. put_value fields.0 (int number)) (integer fields.1)
 
 -- a name and a number
 abbrev pub int_of : List Text → Option Act
-int_of [] = None
-int_of (name ∷ []) = None
-int_of (name ∷ number ∷ []) = int_act (checked_field name) (integer number)
-int_of (name ∷ number ∷ next ∷ fields) = None
+int_of fields = option_and_then int_act (two_fields fields)
 
 -- no field
 abbrev pub add_of : List Text → Option Act
 add_of [] = Some add_batch
 add_of (field ∷ fields) = None
 
-abbrev pub suffix_of : List Text → Option Act
-suffix_of fields = option_map set_suffixes (checked_fields fields)
+abbrev pub list_act : Bool → List Text → Act
+list_act true fields = set_suffixes fields
+list_act false fields = set_prefixes fields
 
-abbrev pub prefix_of : List Text → Option Act
-prefix_of fields = option_map set_prefixes (checked_fields fields)
+-- suffixes, or else prefixes
+abbrev pub listed : Bool → List Text → Option Act
+listed is_suffix fields = option_map (list_act is_suffix) (checked_fields fields)
 
 abbrev pub render_of : List Text → Option Act
 render_of fields = option_map render_named (only_field fields)
@@ -113,8 +122,8 @@ abbrev pub act_named : Text → List Text → Option Act
 act_named word fields =
     if bytes_eq word (codes "int") then int_of fields
     else if bytes_eq word (codes "add") then add_of fields
-    else if bytes_eq word (codes "suffix") then suffix_of fields
-    else if bytes_eq word (codes "prefix") then prefix_of fields
+    else if bytes_eq word (codes "suffix") then listed true fields
+    else if bytes_eq word (codes "prefix") then listed false fields
     else if bytes_eq word (codes "render") then render_of fields
     else None
 

@@ -22,6 +22,9 @@ use Rattle.tera.specs.declared.engine.Tera.{Tera}
 abbrev pub text_seen : Option (Bor Text) → Option Text
 text_seen text = option_map (λ t. t.now) text
 
+abbrev pub texts_seen : Option (Bor Text × Bor Text) → Option (Text × Text)
+texts_seen pair = option_map (λ texts. (texts.0.now, texts.1.now)) pair
+
 abbrev pub fields_seen : Option (Vec (Bor Text)) → Option (List Text)
 fields_seen fields = option_map (λ texts. texts_of texts.items) fields
 

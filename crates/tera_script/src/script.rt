@@ -3,8 +3,8 @@ ghost use Rattle.std.specs.Prelude.{◌≡◌, ◌==◌, MatchOption, IfOk, slic
 ghost use Rattle.tera_script.specs.Act.{act_of};
 ghost use Rattle.tera_script.specs.Found.{IsCommand, IsNone};
 ghost use Rattle.tera_script.specs.Lines.{lines_of};
-ghost use Rattle.tera_script.specs.Script.{is_plain, head_of, head_named, only_field, checked_fields, switch, integer, int_of, add_of, suffix_of, prefix_of, render_of, opening_named, act_named, with_body, script_of_lines, script_of};
-ghost use Rattle.tera_script.specs.Seen.{act_seen, fields_seen, head_seen, opening_seen, plain_opening, script_seen, text_seen};
+ghost use Rattle.tera_script.specs.Script.{is_plain, head_of, head_named, only_field, two_fields, checked_fields, switch, integer, int_of, add_of, listed, render_of, opening_named, act_named, with_body, script_of_lines, script_of};
+ghost use Rattle.tera_script.specs.Seen.{act_seen, fields_seen, head_seen, opening_seen, plain_opening, script_seen, text_seen, texts_seen};
 ghost use Rattle.tera_script.specs.Words.{words_after};
 
 use crate::body::first_body;
@@ -105,21 +105,27 @@ fn integer(field: &str) -> Option<i128>
     }
 }
 
+fn two_fields(fields: Option<&str>) -> Option<(&str, &str)>
+    ensures { texts_seen result ≡ two_fields (words_after fields.entry) }
+{
+    let (first, rest) = first_word(fields?);
+    let (second, more) = first_word(rest?);
+    match more {
+        None if !first.is_empty() && !second.is_empty() => Some((first, second)),
+        None => None,
+        Some(_) => None,
+    }
+}
+
 // `int`, with a name and a number.
 fn int_of(fields: Option<&str>) -> Option<Command<'_>>
     ensures { act_seen result ≡ int_of (words_after fields.entry) }
 {
-    let (name, rest) = first_word(fields?);
-    let (number, more) = first_word(rest?);
-    let number = integer(number);
-    match more {
-        None if !name.is_empty() => Some(Command::Int {
-            name,
-            number: number?,
-        }),
-        None => None,
-        Some(_) => None,
-    }
+    let (name, number) = two_fields(fields)?;
+    Some(Command::Int {
+        name,
+        number: integer(number)?,
+    })
 }
 
 fn add_of(fields: Option<&str>) -> Option<Command<'static>>
@@ -131,19 +137,16 @@ fn add_of(fields: Option<&str>) -> Option<Command<'static>>
     }
 }
 
-fn suffix_of<'a>(alloc: Global, fields: Option<&'a str>) -> Result<Option<Command<'a>>, AllocError>
-    ensures { IfOk result (λ found. act_seen found ≡ suffix_of (words_after fields.entry)) }
+// `suffix`, or else `prefix`, with any number of fields.
+fn listed<'a>(
+    alloc: Global,
+    is_suffix: bool,
+    fields: Option<&'a str>,
+) -> Result<Option<Command<'a>>, AllocError>
+    ensures { IfOk result (λ found. act_seen found ≡ listed is_suffix (words_after fields.entry)) }
 {
     match checked_fields(alloc, fields)? {
-        Some(suffixes) => Ok(Some(Command::Suffix { suffixes })),
-        None => Ok(None),
-    }
-}
-
-fn prefix_of<'a>(alloc: Global, fields: Option<&'a str>) -> Result<Option<Command<'a>>, AllocError>
-    ensures { IfOk result (λ found. act_seen found ≡ prefix_of (words_after fields.entry)) }
-{
-    match checked_fields(alloc, fields)? {
+        Some(suffixes) if is_suffix => Ok(Some(Command::Suffix { suffixes })),
         Some(prefixes) => Ok(Some(Command::Prefix { prefixes })),
         None => Ok(None),
     }
@@ -183,8 +186,8 @@ fn command_named<'a>(
     match word {
         "int" => Ok(int_of(fields)),
         "add" => Ok(add_of(fields)),
-        "suffix" => suffix_of(alloc, fields),
-        "prefix" => prefix_of(alloc, fields),
+        "suffix" => listed(alloc, true, fields),
+        "prefix" => listed(alloc, false, fields),
         "render" => Ok(render_of(fields)),
         _ => Ok(None),
     }

@@ -60,6 +60,7 @@ impl Bindings {
     }
 
     /// The value of the name in the layer.
+    #[inline(always)]
     pub fn get(&self, frame: usize, layer: usize, name: &Sought<'_>) -> Option<&Value>
         ensures { option_copied result ≡ value_in self.now frame layer name.now }
     {
@@ -97,12 +98,21 @@ impl Bindings {
     }
 
     /// Takes out what a layer binds.
+    #[inline(always)]
     pub fn clear(&mut self, frame: usize, layer: usize)
         ensures { self.new ≡ without self.old frame layer }
     {
         if is_beyond(frame, layer, self.end) {
             return;
         }
+        self.clear_bound(frame, layer);
+    }
+
+    // The same for a layer that may bind something.
+    #[inline(never)]
+    fn clear_bound(&mut self, frame: usize, layer: usize)
+        ensures { self.new ≡ without self.old frame layer }
+    {
         self.items
             .retain(|b: &Binding| b.frame != frame || b.layer != layer);
         self.end = end_without(frame, layer, self.end);
@@ -120,6 +130,7 @@ impl Bindings {
 }
 
 // Whether the layer comes after the end.
+#[inline(always)]
 fn is_beyond(frame: usize, layer: usize, end: Layer) -> bool
     ensures { result ≡ is_beyond frame layer end.frame end.layer }
 {
@@ -151,6 +162,7 @@ fn end_without(frame: usize, layer: usize, end: Layer) -> Layer
     }
 }
 
+#[inline(never)]
 fn find<'a>(
     items: &'a [Binding],
     frame: usize,

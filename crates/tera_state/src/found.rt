@@ -6,7 +6,18 @@ ghost use Rattle.tera_values.specs.Access.{is_undefined};
 ghost use Rattle.tera_state.specs.Found.{found_value};
 
 use std::alloc::Global;
-use tera_values::{Key, TeraResult, Value};
+use tera_values::{Key, Shape, TeraResult, Value};
+
+// The value once more. An integer is made anew in place, since loops walk over many.
+#[inline(always)]
+fn copy_of(value: &Value) -> TeraResult<Value>
+    ensures { Gives (λ v. v) result (Ok value.now) }
+{
+    match value.shape() {
+        Shape::Int(number) => Ok(Value::from_int(number)),
+        _ => value.try_clone(),
+    }
+}
 
 /// What a name stands for: a value or a key that is kept elsewhere, or a number, the one after it or a flag that is made. Takes no memory.
 #[derive(Drop)]
@@ -21,6 +32,7 @@ pub enum Found<'a> {
 
 impl<'a> Found<'a> {
     /// Whether nothing is bound, or an undefined value.
+    #[inline(always)]
     pub fn is_undefined(&self) -> bool
         ensures { result ≡ is_undefined (unwrap_or (found_value self.now) undefined) }
     {
@@ -32,11 +44,12 @@ impl<'a> Found<'a> {
     }
 
     /// The value itself. Only a text key takes memory, and only what is not in shared form is copied.
+    #[inline(always)]
     pub fn to_value(&self, alloc: Global) -> TeraResult<Value>
         ensures { Gives (λ v. v) result (Ok (unwrap_or (found_value self.now) undefined)) }
     {
         match self {
-            Found::Kept(value) => value.try_clone(),
+            Found::Kept(value) => copy_of(value),
             Found::Key(key) => Value::from_key(alloc, *key),
             Found::Number(number) => Ok(Value::from_int(*number as i128)),
             Found::After(number) => Ok(Value::from_int(*number as i128 + 1)),

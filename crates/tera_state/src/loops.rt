@@ -103,6 +103,7 @@ impl ForLoop {
     }
 
     /// What the turn counts. Takes no memory.
+    #[inline(always)]
     pub fn counter(&self, name: &Sought<'_>) -> Found<'_>
         ensures { found_value result ≡ at_name name.now (counters_of self.now) }
     {
@@ -122,6 +123,7 @@ impl ForLoop {
     }
 
     /// The value and the key of the turn, by their names. Takes no memory.
+    #[inline(always)]
     pub fn named(&self, name: &Sought<'_>) -> Found<'_>
         ensures { found_value result ≡ at_name name.now (names_of (heading_of self.now) (item_at self.now)) }
     {

@@ -51,6 +51,7 @@ impl OpenLoops {
     }
 
     /// How many loops are open: the layer of the innermost.
+    #[inline(always)]
     pub fn len(&self) -> usize
         ensures { result ≡ length self.now }
     {
@@ -79,6 +80,7 @@ impl OpenLoops {
     }
 
     /// The innermost loop goes on to its next turn, where it has one. Takes no memory.
+    #[inline(always)]
     pub fn next(&mut self) -> bool
         ensures { InnermostGoesOn result self.old self.new }
     {
@@ -89,6 +91,7 @@ impl OpenLoops {
     }
 
     /// What the turns of the loops of this frame bind. Takes no memory.
+    #[inline(always)]
     pub fn look<'a>(&'a self, bindings: &'a Bindings, frame: usize, name: &Sought<'_>) -> Found<'a>
         ensures { found_value result ≡ in_turns name.now (turns_of bindings.now frame self.now) }
     {
@@ -108,6 +111,7 @@ impl OpenLoops {
 }
 
 // What a turn binds, which is the layer-th of its frame.
+#[inline(always)]
 fn in_turn<'a>(
     bindings: &'a Bindings,
     frame: usize,
@@ -127,6 +131,7 @@ fn in_turn<'a>(
 }
 
 // What the turns of the outer loops bind, up to a layer.
+#[inline(never)]
 fn in_outer<'a>(
     bindings: &'a Bindings,
     frame: usize,

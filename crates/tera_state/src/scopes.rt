@@ -32,6 +32,7 @@ pub struct Scopes<'c> {
 }
 
 // What a body binds.
+#[inline(always)]
 fn in_body<'a>(
     bindings: &'a Bindings,
     frame: usize,

@@ -5,25 +5,26 @@ use Rattle.std.specs.Prelude.{option_and_then, codes}
 use Rattle.tera_tokens.specs.declared.token.Kind.TheVariants as k
 use Rattle.tera_tokens.specs.Token.{Token}
 use Rattle.tera_tokens.specs.Cut.{Piece}
-use Rattle.tera_tree.specs.Tree.{Content, Print, If, Set, Capture, For, Break, Continue, Node, Nodes, NoNodes}
+use Rattle.tera_tree.specs.Tree.{Content, Print, If, Set, Capture, For, Block, Break, Continue, Node, Nodes, NoNodes}
 use Rattle.tera_tree.specs.Depth.{depth, node_depth, nodes_depth}
-use Rattle.tera_syntax.specs.Heads.{Head, IfHead, ForHead, SetHead, make, head_depth, splits, chains, inside, ends}
+use Rattle.tera_syntax.specs.declared.heads.Surroundings.{Surroundings}
+use Rattle.tera_syntax.specs.Heads.{Head, IfHead, ForHead, SetHead, BlockHead, outside, make, head_depth, splits, chains, inside, ends}
 use Rattle.tera_syntax.specs.Grammar.{IsWord, Simple, Opens, GoesOn, DerivesNodes, empty, content, blank, comment, print, single, bodied, DerivesRest, ended, split, chained}
 use Rattle.tera_syntax.specs.Reader.{Frame, Progress, Tag, Single, Opening, GoingOn, Turning, Closing, join, one, printed, put, room, opened, closed, around, tag, taken, statement, run, nodes}
 use Rattle.tera_syntax.proofs.Rows.{join-none, join-join}
 use Rattle.tera_syntax.proofs.Whole.{whole_complete}
 use Rattle.tera_syntax.proofs.OneTag.{simple_read, opens_read, goes_on_read, else_read, ends_read}
 
-abbrev pub at : Bool → List Frame → Nodes → Progress
-at q fs found = record { frames = fs; found = found; in_loop = q }
+abbrev pub at : Surroundings → List Frame → Nodes → Progress
+at q fs found = record { frames = fs; found = found; surroundings = q }
 
 -- a statement of which the body is being read
-abbrev pub asking : Nodes → Head → Bool → Bool → Frame
-asking before head is_chained q = record { before = before; head = head; body = None; is_chained = is_chained; in_loop = q }
+abbrev pub asking : Nodes → Head → Bool → Surroundings → Frame
+asking before head is_chained q = record { before = before; head = head; body = None; is_chained = is_chained; surroundings = q }
 
 -- a statement of which the body was read
-abbrev pub halved : Nodes → Head → Bool → Bool → Nodes → Frame
-halved before head is_chained q body = record { before = before; head = head; body = Some body; is_chained = is_chained; in_loop = q }
+abbrev pub halved : Nodes → Head → Bool → Surroundings → Nodes → Frame
+halved before head is_chained q body = record { before = before; head = head; body = Some body; is_chained = is_chained; surroundings = q }
 
 -- How deep the parts of a statement are
 
@@ -34,6 +35,7 @@ node-some (If c b o) = omega arith
 node-some (Set n e g) = omega arith
 node-some (Capture n b g) = omega arith
 node-some (For k n e b o) = omega arith
+node-some (Block n b s) = omega arith
 node-some Break = omega arith
 node-some Continue = omega arith
 
@@ -47,18 +49,21 @@ head-fits : (h : Head) (b o : Nodes) (m : ℕ) → node_depth (make h b o) ≤ s
 head-fits (IfHead c) b o m le = three-fit (depth c) (nodes_depth b) (nodes_depth o) m le
 head-fits (ForHead k n e) b o m le = three-fit (depth e) (nodes_depth b) (nodes_depth o) m le
 head-fits (SetHead n g) b o m le = (omega arith, omega (arith, le))
+head-fits (BlockHead n s) b o m le = (omega arith, omega (arith, le))
 
 other-fits : (h : Head) (b o : Nodes) (m : ℕ) → splits h ≡ true → node_depth (make h b o) ≤ suc m → nodes_depth o ≤ m
 other-fits (IfHead c) b o m q le = third-fits (depth c) (nodes_depth b) (nodes_depth o) m le
 other-fits (ForHead k n e) b o m q le = third-fits (depth e) (nodes_depth b) (nodes_depth o) m le
 other-fits (SetHead n g) b o m q le = absurd (cc)
+other-fits (BlockHead n s) b o m q le = absurd (cc)
 
 chains-split : (h : Head) → chains h ≡ true → splits h ≡ true
 chains-split (IfHead c) q = refl
 chains-split (ForHead k n e) q = refl
 chains-split (SetHead n g) q = absurd (cc)
+chains-split (BlockHead n s) q = absurd (cc)
 
-rest-fits : {q : Bool} {h : Head} {o : Nodes} {i j : List Piece} → DerivesRest q h o i j → (b : Nodes) (m : ℕ) → node_depth (make h b o) ≤ suc m → nodes_depth o ≤ m
+rest-fits : {q : Surroundings} {h : Head} {o : Nodes} {i j : List Piece} → DerivesRest q h o i j → (b : Nodes) (m : ℕ) → node_depth (make h b o) ≤ suc m → nodes_depth o ≤ m
 rest-fits (ended e) b m le = omega arith
 rest-fits {h = h} {o = o} (split s w d e) b m le = other-fits h b o m s le
 rest-fits {h = h} (chained {further = f} {body = x} {other = y} s g d o) b m le = other-fits h b (one (make f x y)) m (chains-split h s) le
@@ -77,22 +82,22 @@ module _ (limit : ℕ) where
       let t : nat_lt (length fs) limit ≡ true = grind (arith, common_steps) in
       ap (λ (b : Bool). if b then A else None) t
 
-  statement-by : (s : Progress) (tokens : List Token) (t : Tag) → tag (room limit s) s.in_loop (around s.frames) tokens ≡ Some t → statement limit s tokens ≡ taken limit s tokens t
+  statement-by : (s : Progress) (tokens : List Token) (t : Tag) → tag (room limit s) s.surroundings (around s.frames) tokens ≡ Some t → statement limit s tokens ≡ taken limit s tokens t
   unfolding statement
   statement-by s tokens t e = ap (option_and_then (taken limit s tokens)) e
 
-  pub put-read : (q : Bool) (fs : List Frame) (found : Nodes) (n : Node) → length fs < limit → put limit (at q fs found) n ≡ Some (at q fs (join found (one n)))
+  pub put-read : (q : Surroundings) (fs : List Frame) (found : Nodes) (n : Node) → length fs < limit → put limit (at q fs found) n ≡ Some (at q fs (join found (one n)))
   put-read q fs found n lt = has-room fs (Some (at q fs (join found (one n)))) lt
 
-  opened-read : (q c : Bool) (fs : List Frame) (found : Nodes) (h : Head) → length fs < limit → opened limit c (at q fs found) h ≡ Some (at (inside h q) (asking found h c q ∷ fs) NoNodes)
+  opened-read : (q : Surroundings) (c : Bool) (fs : List Frame) (found : Nodes) (h : Head) → length fs < limit → opened limit c (at q fs found) h ≡ Some (at (inside h q) (asking found h c q ∷ fs) NoNodes)
   opened-read q c fs found h lt = has-room fs (Some (at (inside h q) (asking found h c q ∷ fs) NoNodes)) lt
 
-  single-read : {q : Bool} {n : Node} {tokens : List Token} → Simple q n tokens → (fs : List Frame) (found : Nodes) → length fs < limit → node_depth n ≤ suc (limit - suc (length fs))
+  single-read : {q : Surroundings} {n : Node} {tokens : List Token} → Simple q n tokens → (fs : List Frame) (found : Nodes) → length fs < limit → node_depth n ≤ suc (limit - suc (length fs))
       → statement limit (at q fs found) tokens ≡ Some (at q fs (join found (one n)))
   single-read {q = q} {n = n} {tokens = tokens} a fs found lt le =
       statement-by (at q fs found) tokens (Single n) (simple_read (room limit (at q fs found)) q (around fs) tokens a le) ∙ put-read q fs found n lt
 
-  bodied-read : {q : Bool} {h : Head} {tokens : List Token} → Opens q h tokens → (fs : List Frame) (found : Nodes) → length fs < limit → head_depth h ≤ limit - suc (length fs)
+  bodied-read : {q : Surroundings} {h : Head} {tokens : List Token} → Opens q h tokens → (fs : List Frame) (found : Nodes) → length fs < limit → head_depth h ≤ limit - suc (length fs)
       → statement limit (at q fs found) tokens ≡ Some (at (inside h q) (asking found h false q ∷ fs) NoNodes)
   bodied-read {q = q} {h = h} {tokens = tokens} a fs found lt le =
       statement-by (at q fs found) tokens (Opening h) (opens_read (room limit (at q fs found)) q (around fs) tokens a le) ∙ opened-read q false fs found h lt
@@ -100,7 +105,7 @@ module _ (limit : ℕ) where
   may-turn : (b : Bool) (A : Option Progress) → b ≡ true → (if b then A else None) ≡ A
   may-turn b A e = ap (λ (b : Bool). if b then A else None) e
 
-  module _ (p q c : Bool) (before : Nodes) (h : Head) (fs : List Frame) (body : Nodes) (tokens : List Token) where
+  module _ (p q : Surroundings) (c : Bool) (before : Nodes) (h : Head) (fs : List Frame) (body : Nodes) (tokens : List Token) where
     abbrev here : Progress
     here = at p (asking before h c q ∷ fs) body
 
@@ -128,7 +133,7 @@ module _ (limit : ℕ) where
         ∙ may-turn (ends h tokens) (closed (halved before h c q body ∷ fs) other) e
 
   mutual
-    reads : {q : Bool} {x : Nodes} {i j : List Piece} → DerivesNodes q x i j → (fs : List Frame) (found : Nodes) → nodes_depth x ≤ limit - length fs
+    reads : {q : Surroundings} {x : Nodes} {i j : List Piece} → DerivesNodes q x i j → (fs : List Frame) (found : Nodes) → nodes_depth x ≤ limit - length fs
         → run limit (at q fs found) i ≡ run limit (at q fs (join found x)) j
     reads {q = q} {j = j} empty fs found le = ap (λ n. run limit (at q fs n) j) (sym (join-none found))
     reads (content {words = []} filled d) fs found le = absurd (filled refl)
@@ -161,7 +166,7 @@ module _ (limit : ℕ) where
         ∙ reads d fs (join found (one n)) s.2
         ∙ ap (λ n. run limit (at q fs n) j) (join-join found (one n) rest)
 
-    rests : {q : Bool} {h : Head} {x : Nodes} {i j : List Piece} → DerivesRest q h x i j → (p : Bool) (before : Nodes) (c : Bool) (fs : List Frame) (body : Nodes) → nodes_depth x ≤ limit - suc (length fs)
+    rests : {q : Surroundings} {h : Head} {x : Nodes} {i j : List Piece} → DerivesRest q h x i j → (p : Surroundings) (before : Nodes) (c : Bool) (fs : List Frame) (body : Nodes) → nodes_depth x ≤ limit - suc (length fs)
         → run limit (at p (asking before h c q ∷ fs) body) i ≡ option_and_then (λ t. run limit t j) (closed (halved before h c q body ∷ fs) x)
     rests {q = q} {h = h} (ended {tokens = tokens} {i = i} e) p before c fs body le =
         ap (option_and_then (λ t. run limit t i)) (ended-read p q c before h fs body tokens e)
@@ -178,5 +183,5 @@ module _ (limit : ℕ) where
         ∙ reads b (asking NoNodes f true q ∷ half) NoNodes v.1
         ∙ rests o (inside f q) NoNodes true half x (rest-fits o x (limit - suc (suc (length fs))) z.1)
 
-pub complete_nodes : (limit : ℕ) (x : Nodes) (i : List Piece) → DerivesNodes false x i [] → nodes_depth x ≤ limit → nodes limit i ≡ Some x
+pub complete_nodes : (limit : ℕ) (x : Nodes) (i : List Piece) → DerivesNodes outside x i [] → nodes_depth x ≤ limit → nodes limit i ≡ Some x
 complete_nodes limit x i d le = reads limit d [] NoNodes (omega arith)

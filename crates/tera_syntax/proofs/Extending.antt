@@ -6,16 +6,18 @@ use Rattle.tera_errors.specs.Site.{Name}
 use Rattle.tera_tree.specs.Tree.{Content, Nodes, NoNodes, Tree}
 use Rattle.tera_tree.specs.Depth.{nodes_depth}
 use Rattle.tera_tree.specs.Places.{in_place}
+use Rattle.tera_tree.specs.Blocks.{has_each_block_once}
 use Rattle.tera_tokens.specs.declared.token.Kind.TheVariants as k
 use Rattle.tera_tokens.specs.Token.{Token}
 use Rattle.tera_tokens.specs.Input.{begin, kind, text, next, same}
 use Rattle.tera_tokens.specs.Literal.{literal}
 use Rattle.tera_tokens.specs.Cut.{Piece, Words, Comment, Variable, Block, Broken}
 use Rattle.tera_expressions.proofs.Steps.{guard, same-is, alike}
-use Rattle.tera_syntax.specs.Heads.{first}
+use Rattle.tera_syntax.specs.declared.heads.Surroundings.{Surroundings}
+use Rattle.tera_syntax.specs.Heads.{outside, first, is_extends}
 use Rattle.tera_syntax.specs.Grammar.{Begins, Extends, is_space, Front, nothing, space, remark, DerivesFile, root, child}
 use Rattle.tera_syntax.specs.Reader.{Progress, begun, join, one, has_room, step, taken, room, statement, finished, run, nodes}
-use Rattle.tera_syntax.specs.File.{File, is_extends, parent_of, extending, is_front_piece, kept, file_run, file}
+use Rattle.tera_syntax.specs.File.{File, parent_of, extending, is_front_piece, kept, file_run, spelled, once, file}
 use Rattle.tera_syntax.proofs.OneTag.{extends_read}
 use Rattle.tera_syntax.proofs.Complete.{at, put-read, complete_nodes}
 use Rattle.tera_syntax.proofs.Sound.{sound}
@@ -132,16 +134,29 @@ module _ (limit : ℕ) where
   derived {i = i} {x = x} (alone h) = let d = sound limit i x h in (root d.0, d.1)
   derived {x = x} (below {j = j} r e h) = let d = sound limit j x h in (child r e d.0, d.1)
 
-  pub file_sound : (i : List Piece) (tree : Tree) → file limit i ≡ Some tree → DerivesFile tree.parent tree.nodes i × (nodes_depth tree.nodes ≤ limit)
-  file_sound i tree h = derived (says i begun tree h)
+  spelled_sound : (i : List Piece) (tree : Tree) → spelled limit i ≡ Some tree → DerivesFile tree.parent tree.nodes i × (nodes_depth tree.nodes ≤ limit)
+  spelled_sound i tree h = derived (says i begun tree h)
+
+  once-got : (o : Option Tree) (tree : Tree) → option_and_then once o ≡ Some tree → (o ≡ Some tree) × IsTrue (has_each_block_once tree.nodes)
+  once-got None tree h = absurd (cc)
+  once-got (Some t) tree h =
+      let g = guard (has_each_block_once t.nodes) (Some t) tree h in
+      let e : t ≡ tree = let s = g.1 in cc in
+      (g.1, subst (λ t. IsTrue (has_each_block_once t.nodes)) e g.0)
+
+  pub file_sound : (i : List Piece) (tree : Tree) → file limit i ≡ Some tree → DerivesFile tree.parent tree.nodes i × (nodes_depth tree.nodes ≤ limit) × IsTrue (has_each_block_once tree.nodes)
+  file_sound i tree h =
+      let o = once-got (spelled limit i) tree h in
+      let s = spelled_sound i tree o.0 in
+      (s.0, s.1, o.1)
 
   -- What is spelled is read
 
-  extends-unread : (q : Bool) (found : Nodes) (tokens : List Token) → is_extends tokens ≡ true → statement limit (at q [] found) tokens ≡ None
+  extends-unread : (q : Surroundings) (found : Nodes) (tokens : List Token) → is_extends tokens ≡ true → statement limit (at q [] found) tokens ≡ None
   unfolding statement
   extends-unread q found tokens e =
       let s = at q [] found in
-      ap (option_and_then (taken limit s tokens)) (extends_read (room limit s) q false tokens (begins tokens e))
+      ap (option_and_then (taken limit s tokens)) (extends_read (room limit s) q outside tokens (begins tokens e))
 
   either-way : (i : List Piece) (b : Bool) (s : Progress) (x : Nodes) → file_run limit (state None true s) i ≡ Some (tree_with None x) → run limit s i ≡ Some x
       → file_run limit (state None b s) i ≡ Some (tree_with None x)
@@ -158,7 +173,7 @@ module _ (limit : ℕ) where
   words-read i b true t x again h = either-way i b t x (again h) h
   words-read i b false t x again h = absurd (cc)
 
-  block-read : (i : List Piece) (q : Bool) (found : Nodes) (tokens : List Token) (x : Nodes) (b : Bool) → is_extends tokens ≡ b
+  block-read : (i : List Piece) (q : Surroundings) (found : Nodes) (tokens : List Token) (x : Nodes) (b : Bool) → is_extends tokens ≡ b
       → option_and_then (λ t. run limit t i) (statement limit (at q [] found) tokens) ≡ Some x
       → option_and_then (λ g. file_run limit g i) (if b then extending (parent_of tokens) else kept limit (state None true (at q [] found)) (Block tokens)) ≡ Some (tree_with None x)
   block-read i q found tokens x true e h =
@@ -166,7 +181,7 @@ module _ (limit : ℕ) where
       let m : None ≡ Some x = sym n ∙ h in absurd (cc)
   block-read i q found tokens x false e h = node-read i (statement limit (at q [] found) tokens) x h
 
-  root-read : (i : List Piece) (q : Bool) (found x : Nodes) → run limit (at q [] found) i ≡ Some x → file_run limit (state None true (at q [] found)) i ≡ Some (tree_with None x)
+  root-read : (i : List Piece) (q : Surroundings) (found x : Nodes) → run limit (at q [] found) i ≡ Some x → file_run limit (state None true (at q [] found)) i ≡ Some (tree_with None x)
   root-read [] q found x h = ap (option_map (tree_with None)) h
   root-read (Words [] place ∷ i) q found x h = either-way i (is_space []) (at q [] found) x (root-read i q found x h) h
   root-read (Words (b ∷ bs) place ∷ i) q found x h =
@@ -177,7 +192,7 @@ module _ (limit : ℕ) where
   root-read (Block tokens ∷ i) q found x h = block-read i q found tokens x (is_extends tokens) refl h
   root-read (Broken ∷ i) q found x h = absurd (cc)
 
-  front-read : {i j : List Piece} → Front i j → (q : Bool) (found : Nodes) (tree : Tree) → 0 < limit → ((found : Nodes) → file_run limit (state None true (at q [] found)) j ≡ Some tree)
+  front-read : {i j : List Piece} → Front i j → (q : Surroundings) (found : Nodes) (tree : Tree) → 0 < limit → ((found : Nodes) → file_run limit (state None true (at q [] found)) j ≡ Some tree)
       → file_run limit (state None true (at q [] found)) i ≡ Some tree
   front-read nothing q found tree lt end = end found
   front-read (space {words = []} {i = i} f r) q found tree lt end =
@@ -197,10 +212,13 @@ module _ (limit : ℕ) where
       ∙ behind (Some name) j begun
       ∙ ap (option_map (tree_with (Some name))) h
 
-  pub file_complete : {parent : Option Name} {x : Nodes} {i : List Piece} → DerivesFile parent x i → 0 < limit → nodes_depth x ≤ limit → file limit i ≡ Some (tree_with parent x)
-  file_complete {x = x} {i = i} (root d) lt le = root-read i false NoNodes x (complete_nodes limit x i d le)
-  file_complete {x = x} (child {name = name} {tokens = tokens} {j = j} r e d) lt le =
-      front-read r false NoNodes (tree_with (Some name) x) lt (λ found. tag-read j tokens name x e (complete_nodes limit x j d le) (at false [] found))
+  pub spelled_complete : {parent : Option Name} {x : Nodes} {i : List Piece} → DerivesFile parent x i → 0 < limit → nodes_depth x ≤ limit → spelled limit i ≡ Some (tree_with parent x)
+  spelled_complete {x = x} {i = i} (root d) lt le = root-read i outside NoNodes x (complete_nodes limit x i d le)
+  spelled_complete {x = x} (child {name = name} {tokens = tokens} {j = j} r e d) lt le =
+      front-read r outside NoNodes (tree_with (Some name) x) lt (λ found. tag-read j tokens name x e (complete_nodes limit x j d le) (at outside [] found))
+
+  pub file_complete : {i : List Piece} (tree : Tree) → DerivesFile tree.parent tree.nodes i → 0 < limit → nodes_depth tree.nodes ≤ limit → IsTrue (has_each_block_once tree.nodes) → file limit i ≡ Some tree
+  file_complete tree d lt le o = ap (option_and_then once) (spelled_complete d lt le) ∙ ap (λ (b : Bool). if b then Some tree else None) o
 
 -- where no piece begins, nothing is read
 pub file_broken : (limit : ℕ) (f : File) → file_run limit f (Broken ∷ []) ≡ None

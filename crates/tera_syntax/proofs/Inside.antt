@@ -1,20 +1,22 @@
 -- All spans of a tree lie inside the text that spells it.
-use Rattle.std.proofs.Common.{ℕ, List, Bool, Option, length, IsTrue}
+use Rattle.std.proofs.Common.{◌≡◌, ℕ, List, Option, length, IsTrue}
 use Rattle.std.specs.Str.{IsUtf8}
 use Rattle.tera_errors.specs.Site.{Name, Text}
 use Rattle.tera_tree.specs.Delimiters.{delimiters_of, accepted}
 use Rattle.tera_tree.specs.declared.delimiters.Delimiters.{Delimiters}
 use Rattle.tera_tree.specs.Tree.{Expr, Node, Nodes, Tree}
-use Rattle.tera_tree.specs.Inside.{ExprInside, NodeInside, NodesInside, Inside}
+use Rattle.tera_tree.specs.Inside.{Within, ExprInside, NodeInside, NodesInside, Inside}
+use Rattle.tera_tokens.specs.declared.token.Kind.TheVariants as k
 use Rattle.tera_tokens.specs.Token.{Token}
-use Rattle.tera_tokens.specs.Input.{Input, begin, next}
+use Rattle.tera_tokens.specs.Input.{Input, begin, kind, start, next, span}
 use Rattle.tera_tokens.specs.Cut.{Piece}
-use Rattle.tera_tokens.proofs.Order.{InOrder, Orderly, onward_next}
+use Rattle.tera_tokens.proofs.Order.{InOrder, in_order-le, Orderly, onward_next, start_le}
 use Rattle.tera_tokens.proofs.Stretches.{PiecesInside, pieces_inside}
 use Rattle.tera_expressions.proofs.Calls.{calls_lie}
 use Rattle.tera_expressions.proofs.Inside.{expr_lies}
-use Rattle.tera_syntax.specs.Heads.{Head, IfHead, ForHead, SetHead, make}
-use Rattle.tera_syntax.specs.Grammar.{DerivesWhole, whole, Simple, set, breaks, continues, Opens, choice, loop, capture, GoesOn, elif, DerivesNodes, empty, content, blank, comment, print, single, bodied, DerivesRest, ended, split, chained, Front, nothing, space, remark, DerivesFile, root, child}
+use Rattle.tera_syntax.specs.declared.heads.Surroundings.{Surroundings}
+use Rattle.tera_syntax.specs.Heads.{Head, IfHead, ForHead, SetHead, BlockHead, make}
+use Rattle.tera_syntax.specs.Grammar.{DerivesWhole, whole, Simple, set, breaks, continues, Opens, choice, loop, capture, block, GoesOn, elif, DerivesNodes, empty, content, blank, comment, print, single, bodied, DerivesRest, ended, split, chained, Front, nothing, space, remark, DerivesFile, root, child}
 use Rattle.tera_syntax.specs.Spells.{Spells}
 
 -- nodes that were read between two places lie inside, and so do the pieces that are left
@@ -31,32 +33,39 @@ behind size i o = (onward_next size i o).orderly
 behind_two : (size : ℕ) (i : Input) → Orderly size i → Orderly size (next (next i))
 behind_two size i o = behind size (next i) (behind size i o)
 
-simple_inside : (size : ℕ) {q : Bool} {node : Node} {tokens : List Token} → Simple q node tokens → InOrder size 0 tokens → NodeInside size node
-simple_inside size {q = q} {tokens = tokens} (set b n w) o = whole_inside size w (behind_two size (next (begin q tokens)) (behind size (begin q tokens) o))
+simple_inside : (size : ℕ) {q : Surroundings} {node : Node} {tokens : List Token} → Simple q node tokens → InOrder size 0 tokens → NodeInside size node
+simple_inside size {q = q} {tokens = tokens} (set b n w) o = whole_inside size w (behind_two size (next (begin q.in_loop tokens)) (behind size (begin q.in_loop tokens) o))
 simple_inside size (breaks l w) o = tt
 simple_inside size (continues l w) o = tt
 
--- the expressions of a head lie inside
+-- a name that stands here lies inside
+name_inside : (size : ℕ) (i : Input) → kind i ≡ k.Name → Orderly size i → Within size (span (start i) (next i))
+name_inside size i e o = (start_le size k.Name i e (λ q. cc) o, in_order-le size (next i).last (next i).ahead (behind size i o))
+
+-- the expressions of a head lie inside, and its name
 abbrev HeadInside : ℕ → Head → Type 0
 HeadInside size (IfHead c) = ExprInside size c
 HeadInside size (ForHead key n e) = ExprInside size e
 HeadInside size (SetHead n is_global) = Unit {0}
+HeadInside size (BlockHead n place) = Within size place
 
-opens_inside : (size : ℕ) {q : Bool} {head : Head} {tokens : List Token} → Opens q head tokens → InOrder size 0 tokens → HeadInside size head
-opens_inside size {q = q} {tokens = tokens} (choice e w) o = whole_inside size w (behind size (begin q tokens) o)
-opens_inside size {q = q} {tokens = tokens} (loop e c w) o = let n = calls_lie size c (behind size (begin q tokens) o) in whole_inside size w n.orderly
+opens_inside : (size : ℕ) {q : Surroundings} {head : Head} {tokens : List Token} → Opens q head tokens → InOrder size 0 tokens → HeadInside size head
+opens_inside size {q = q} {tokens = tokens} (choice e w) o = whole_inside size w (behind size (begin q.in_loop tokens) o)
+opens_inside size {q = q} {tokens = tokens} (loop e c w) o = let n = calls_lie size c (behind size (begin q.in_loop tokens) o) in whole_inside size w n.orderly
 opens_inside size (capture b n) o = tt
+opens_inside size {q = q} {tokens = tokens} (block b n) o = name_inside size (next (begin q.in_loop tokens)) n.0 (behind size (begin q.in_loop tokens) o)
 
-goes_on_inside : (size : ℕ) {q : Bool} {head : Head} {tokens : List Token} → GoesOn q head tokens → InOrder size 0 tokens → HeadInside size head
-goes_on_inside size {q = q} {tokens = tokens} (elif e w) o = whole_inside size w (behind size (begin q tokens) o)
+goes_on_inside : (size : ℕ) {q : Surroundings} {head : Head} {tokens : List Token} → GoesOn q head tokens → InOrder size 0 tokens → HeadInside size head
+goes_on_inside size {q = q} {tokens = tokens} (elif e w) o = whole_inside size w (behind size (begin q.in_loop tokens) o)
 
 made_inside : (size : ℕ) (head : Head) (body other : Nodes) → HeadInside size head → NodesInside size body → NodesInside size other → NodeInside size (make head body other)
 made_inside size (IfHead c) body other h b o = (h, b, o)
 made_inside size (ForHead key n e) body other h b o = (h, b, o)
 made_inside size (SetHead n is_global) body other h b o = b
+made_inside size (BlockHead n place) body other h b o = (b, h)
 
 mutual
-  nodes_lie : (size : ℕ) {q : Bool} {nodes : Nodes} {i j : List Piece} → DerivesNodes q nodes i j → PiecesInside size i → Lie size nodes j
+  nodes_lie : (size : ℕ) {q : Surroundings} {nodes : Nodes} {i j : List Piece} → DerivesNodes q nodes i j → PiecesInside size i → Lie size nodes j
   nodes_lie size empty h = record { inside = tt; rest = h }
   nodes_lie size (content n d) h = let p = nodes_lie size d h.1 in record { inside = (h.0, p.inside); rest = p.rest }
   nodes_lie size (blank d) h = nodes_lie size d h.1
@@ -69,7 +78,7 @@ mutual
       let rest = nodes_lie size r e.rest in
       record { inside = (made_inside size head body other (opens_inside size a h.0) b.inside e.inside, rest.inside); rest = rest.rest }
 
-  rest_lie : (size : ℕ) {q : Bool} {head : Head} {nodes : Nodes} {i j : List Piece} → DerivesRest q head nodes i j → PiecesInside size i → Lie size nodes j
+  rest_lie : (size : ℕ) {q : Surroundings} {head : Head} {nodes : Nodes} {i j : List Piece} → DerivesRest q head nodes i j → PiecesInside size i → Lie size nodes j
   rest_lie size (ended e) h = record { inside = tt; rest = h.1 }
   rest_lie size (split s w d e) h = let p = nodes_lie size d h.1 in record { inside = p.inside; rest = p.rest.1 }
   rest_lie size (chained {further = further} {body = body} {other = other} s g d o) h =

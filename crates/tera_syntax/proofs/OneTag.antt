@@ -6,20 +6,21 @@ use Rattle.tera_errors.specs.Site.{Text, Name}
 use Rattle.tera_tokens.specs.declared.token.Kind.{Kind}
 use Rattle.tera_tokens.specs.declared.token.Kind.TheVariants as k
 use Rattle.tera_tokens.specs.Token.{Token}
-use Rattle.tera_tokens.specs.Input.{Input, Outcome, begin, kind, text, next, same}
+use Rattle.tera_tokens.specs.Input.{Input, Outcome, begin, kind, text, start, next, span, same}
 use Rattle.tera_tokens.specs.Cut.{is_alone}
 use Rattle.tera_tree.specs.Tree.{Expr, Node, Set, Break, Continue}
 use Rattle.tera_tree.specs.Depth.{depth, node_depth}
 use Rattle.tera_expressions.specs.Headings.{Names, calls}
 use Rattle.tera_expressions.proofs.Calls.{calls-got, calls-is}
 use Rattle.tera_expressions.proofs.Steps.{guard, same-is, same-refl}
-use Rattle.tera_syntax.specs.Heads.{Head, IfHead, ForHead, SetHead, head_depth, is_end, first, ends}
-use Rattle.tera_syntax.specs.Grammar.{DerivesWhole, IsWord, Begins, set_word, Simple, set, breaks, continues, Opens, choice, loop, capture, GoesOn, elif}
-use Rattle.tera_syntax.specs.Reader.{Tag, Single, Opening, GoingOn, Turning, Closing, looping_by, setting, setting_by, alone, leaving, named, tag_by, tag, whole}
+use Rattle.tera_syntax.specs.declared.heads.Surroundings.{Surroundings}
+use Rattle.tera_syntax.specs.Heads.{Head, IfHead, ForHead, SetHead, BlockHead, head_depth, is_end, is_named, first, ends}
+use Rattle.tera_syntax.specs.Grammar.{DerivesWhole, IsWord, Begins, set_word, Simple, set, breaks, continues, Opens, choice, loop, capture, block, GoesOn, elif}
+use Rattle.tera_syntax.specs.Reader.{Tag, Single, Opening, GoingOn, Turning, Closing, looping_by, setting, setting_by, blocking, alone, leaving, named, tag_by, tag, whole}
 use Rattle.tera_syntax.proofs.Whole.{whole_sound, whole_complete}
 
 -- what is said of a tag with expressions no deeper than this, where it was read
-abbrev pub Meant : ℕ → Bool → Bool → List Token → Tag → Type 0
+abbrev pub Meant : ℕ → Surroundings → Surroundings → List Token → Tag → Type 0
 Meant limit q outer tokens (Single node) = Simple q node tokens × (node_depth node ≤ suc limit)
 Meant limit q outer tokens (Opening head) = Opens q head tokens × (head_depth head ≤ limit)
 Meant limit q outer tokens (GoingOn head) = GoesOn outer head tokens × (head_depth head ≤ limit)
@@ -46,86 +47,109 @@ alone-text word [] h = absurd (cc)
 alone-text word (t ∷ []) h = is-word t.text word h
 alone-text word (t ∷ u ∷ ts) h = absurd (cc)
 
+named-text : (word name : Text) (tokens : List Token) → is_named word name tokens ≡ true → text (begin false tokens) ≡ word
+unfolding text
+named-text word name [] h = absurd (cc)
+named-text word name (t ∷ []) h = absurd (cc)
+named-text word name (t ∷ u ∷ []) h = is-word t.text word (both (bytes_eq t.text word) (same k.Name u.kind && bytes_eq u.text name) h).0
+named-text word name (t ∷ u ∷ v ∷ ts) h = absurd (cc)
+
 -- Soundness, a form at a time
 
-module _ (limit : ℕ) (q outer : Bool) (tokens : List Token) (t : Tag) where
+module _ (limit : ℕ) (q outer : Surroundings) (tokens : List Token) (t : Tag) where
   abbrev Says : Type 0
   Says = Meant limit q outer tokens t
 
   said : (u : Tag) → Meant limit q outer tokens u → u ≡ t → Says
   said u m e = subst (Meant limit q outer tokens) e m
 
-  if-got : first tokens ≡ k.If → option_map (λ c. Opening (IfHead c)) (whole limit (next (begin q tokens))) ≡ Some t → Says
+  if-got : first tokens ≡ k.If → option_map (λ c. Opening (IfHead c)) (whole limit (next (begin q.in_loop tokens))) ≡ Some t → Says
   if-got e h =
-      let p = mapped (λ c. Opening (IfHead c)) (whole limit (next (begin q tokens))) t h in
-      let w = whole_sound limit (next (begin q tokens)) p.0 p.1 in
+      let p = mapped (λ c. Opening (IfHead c)) (whole limit (next (begin q.in_loop tokens))) t h in
+      let w = whole_sound limit (next (begin q.in_loop tokens)) p.0 p.1 in
       said (Opening (IfHead p.0)) (choice e w.0, w.1) p.2
 
-  elif-got : first tokens ≡ k.Elif → option_map (λ c. GoingOn (IfHead c)) (whole limit (next (begin outer tokens))) ≡ Some t → Says
+  elif-got : first tokens ≡ k.Elif → option_map (λ c. GoingOn (IfHead c)) (whole limit (next (begin outer.in_loop tokens))) ≡ Some t → Says
   elif-got e h =
-      let p = mapped (λ c. GoingOn (IfHead c)) (whole limit (next (begin outer tokens))) t h in
-      let w = whole_sound limit (next (begin outer tokens)) p.0 p.1 in
+      let p = mapped (λ c. GoingOn (IfHead c)) (whole limit (next (begin outer.in_loop tokens))) t h in
+      let w = whole_sound limit (next (begin outer.in_loop tokens)) p.0 p.1 in
       said (GoingOn (IfHead p.0)) (elif e w.0, w.1) p.2
 
-  for-got : first tokens ≡ k.For → (o : Outcome (Option Name × Name)) → calls (next (begin q tokens)) ≡ o → option_map Opening (looping_by limit o) ≡ Some t → Says
+  for-got : first tokens ≡ k.For → (o : Outcome (Option Name × Name)) → calls (next (begin q.in_loop tokens)) ≡ o → option_map Opening (looping_by limit o) ≡ Some t → Says
   for-got e None c h = absurd (cc)
   for-got e (Some n) c h =
       let head = mapped Opening (looping_by limit (Some n)) t h in
       let p = mapped (ForHead n.0.0 n.0.1) (whole limit n.1) head.0 head.1 in
       let w = whole_sound limit n.1 p.0 p.1 in
-      said (Opening (ForHead n.0.0 n.0.1 p.0)) (loop e (calls-got (next (begin q tokens)) n.1 n.0 c) w.0, w.1) (ap Opening p.2 ∙ head.2)
+      said (Opening (ForHead n.0.0 n.0.1 p.0)) (loop e (calls-got (next (begin q.in_loop tokens)) n.1 n.0 c) w.0, w.1) (ap Opening p.2 ∙ head.2)
 
-  set-by-got : (is_global : Bool) → Begins (set_word is_global) tokens → kind (next (begin q tokens)) ≡ k.Name → (s : Kind) → kind (next (next (begin q tokens))) ≡ s
-      → setting_by limit is_global (text (next (begin q tokens))) (next (next (begin q tokens))) s ≡ Some t → Says
+  set-by-got : (is_global : Bool) → Begins (set_word is_global) tokens → kind (next (begin q.in_loop tokens)) ≡ k.Name → (s : Kind) → kind (next (next (begin q.in_loop tokens))) ≡ s
+      → setting_by limit is_global (text (next (begin q.in_loop tokens))) (next (next (begin q.in_loop tokens))) s ≡ Some t → Says
   set-by-got is_global b n k.Assign f h =
-      let i = next (begin q tokens) in
+      let i = next (begin q.in_loop tokens) in
       let make : Expr → Tag = λ e. Single (Set (text i) e is_global) in
       let p = mapped make (whole limit (next (next i))) t h in
       let w = whole_sound limit (next (next i)) p.0 p.1 in
       said (make p.0) (set b (n, f) w.0, omega (arith, w.1)) p.2
-  set-by-got is_global b n k.End f h = said (Opening (SetHead (text (next (begin q tokens))) is_global)) (capture b (n, f), omega arith) (some-is _ _ h)
+  set-by-got is_global b n k.End f h = said (Opening (SetHead (text (next (begin q.in_loop tokens))) is_global)) (capture b (n, f), omega arith) (some-is _ _ h)
   set-by-got is_global b n _ f h = absurd (cc)
 
-  set-got : (is_global : Bool) → Begins (set_word is_global) tokens → setting limit is_global (next (begin q tokens)) ≡ Some t → Says
+  set-got : (is_global : Bool) → Begins (set_word is_global) tokens → setting limit is_global (next (begin q.in_loop tokens)) ≡ Some t → Says
   set-got is_global b h =
-      let i = next (begin q tokens) in
+      let i = next (begin q.in_loop tokens) in
       let g = guard (same k.Name (kind i)) (setting_by limit is_global (text i) (next i) (kind (next i))) t h in
       set-by-got is_global b (same-is k.Name (kind i) g.0) (kind (next i)) refl g.1
+
+  block-got : Begins (codes "block") tokens → blocking (next (begin q.in_loop tokens)) ≡ Some t → Says
+  block-got b h =
+      let i = next (begin q.in_loop tokens) in
+      let u = Opening (BlockHead (text i) (span (start i) (next i))) in
+      let g = guard (same k.Name (kind i)) (if same k.End (kind (next i)) then Some u else None) t h in
+      let f = guard (same k.End (kind (next i))) (Some u) t g.1 in
+      said u (block b (same-is k.Name (kind i) g.0, same-is k.End (kind (next i)) f.0), omega arith) (some-is u t f.1)
 
   alone-got : (s : Kind) (word : Text) (u : Tag) → first tokens ≡ s → (IsWord s word tokens → Meant limit q outer tokens u) → alone word tokens u ≡ Some t → Says
   alone-got s word u e m h =
       let g = guard (is_alone word tokens) (Some u) t h in
       said u (m (e, g.0)) (some-is u t g.1)
 
-  leaving-got : (word : Text) (n : Node) → first tokens ≡ k.Name → (IsTrue q → IsWord k.Name word tokens → Meant limit q outer tokens (Single n)) → leaving q word tokens n ≡ Some t → Says
+  leaving-got : (word : Text) (n : Node) → first tokens ≡ k.Name → (IsTrue q.may_leave → IsWord k.Name word tokens → Meant limit q outer tokens (Single n)) → leaving q.may_leave word tokens n ≡ Some t → Says
   leaving-got word n e m h =
-      let g = guard q (alone word tokens (Single n)) t h in
+      let g = guard q.may_leave (alone word tokens (Single n)) t h in
       alone-got k.Name word (Single n) e (m g.0) g.1
 
   abbrev by-continue : Text → Option Tag
-  by-continue word = if bytes_eq word (codes "continue") then leaving q (codes "continue") tokens Continue else Some Closing
+  by-continue word = if bytes_eq word (codes "continue") then leaving q.may_leave (codes "continue") tokens Continue else Some Closing
 
   abbrev by-break : Text → Option Tag
-  by-break word = if bytes_eq word (codes "break") then leaving q (codes "break") tokens Break else by-continue word
+  by-break word = if bytes_eq word (codes "break") then leaving q.may_leave (codes "break") tokens Break else by-continue word
+
+  abbrev by-block : Text → Option Tag
+  by-block word = if bytes_eq word (codes "block") then blocking (next (begin q.in_loop tokens)) else by-break word
 
   abbrev by-set_global : Text → Option Tag
-  by-set_global word = if bytes_eq word (codes "set_global") then setting limit true (next (begin q tokens)) else by-break word
+  by-set_global word = if bytes_eq word (codes "set_global") then setting limit true (next (begin q.in_loop tokens)) else by-block word
 
-  continue-by : first tokens ≡ k.Name → (b : Bool) → (if b then leaving q (codes "continue") tokens Continue else Some Closing) ≡ Some t → Says
+  continue-by : first tokens ≡ k.Name → (b : Bool) → (if b then leaving q.may_leave (codes "continue") tokens Continue else Some Closing) ≡ Some t → Says
   continue-by e true h = leaving-got (codes "continue") Continue e (λ l w. (continues l w, omega arith)) h
   continue-by e false h = said Closing tt (some-is Closing t h)
 
-  break-by : first tokens ≡ k.Name → (word : Text) → (b : Bool) → (if b then leaving q (codes "break") tokens Break else by-continue word) ≡ Some t → Says
+  break-by : first tokens ≡ k.Name → (word : Text) → (b : Bool) → (if b then leaving q.may_leave (codes "break") tokens Break else by-continue word) ≡ Some t → Says
   break-by e word true h = leaving-got (codes "break") Break e (λ l w. (breaks l w, omega arith)) h
   break-by e word false h = continue-by e (bytes_eq word (codes "continue")) h
 
+  block-by : first tokens ≡ k.Name → (word : Text) → text (begin false tokens) ≡ word → (b : Bool) → bytes_eq word (codes "block") ≡ b
+      → (if b then blocking (next (begin q.in_loop tokens)) else by-break word) ≡ Some t → Says
+  block-by e word f true w h = block-got (e, f ∙ is-word word (codes "block") w) h
+  block-by e word f false w h = break-by e word (bytes_eq word (codes "break")) h
+
   set_global-by : first tokens ≡ k.Name → (word : Text) → text (begin false tokens) ≡ word → (b : Bool) → bytes_eq word (codes "set_global") ≡ b
-      → (if b then setting limit true (next (begin q tokens)) else by-break word) ≡ Some t → Says
+      → (if b then setting limit true (next (begin q.in_loop tokens)) else by-block word) ≡ Some t → Says
   set_global-by e word f true w h = set-got true (e, f ∙ is-word word (codes "set_global") w) h
-  set_global-by e word f false w h = break-by e word (bytes_eq word (codes "break")) h
+  set_global-by e word f false w h = block-by e word f (bytes_eq word (codes "block")) refl h
 
   set-by : first tokens ≡ k.Name → (word : Text) → text (begin false tokens) ≡ word → (b : Bool) → bytes_eq word (codes "set") ≡ b
-      → (if b then setting limit false (next (begin q tokens)) else by-set_global word) ≡ Some t → Says
+      → (if b then setting limit false (next (begin q.in_loop tokens)) else by-set_global word) ≡ Some t → Says
   set-by e word f true w h = set-got false (e, f ∙ is-word word (codes "set") w) h
   set-by e word f false w h = set_global-by e word f (bytes_eq word (codes "set_global")) refl h
 
@@ -136,18 +160,18 @@ module _ (limit : ℕ) (q outer : Bool) (tokens : List Token) (t : Tag) where
   tag-by-got : (s : Kind) → first tokens ≡ s → tag_by limit q outer tokens s ≡ Some t → Says
   tag-by-got k.If e h = if-got e h
   tag-by-got k.Elif e h = elif-got e h
-  tag-by-got k.For e h = for-got e (calls (next (begin q tokens))) refl h
+  tag-by-got k.For e h = for-got e (calls (next (begin q.in_loop tokens))) refl h
   tag-by-got k.Else e h = alone-got k.Else (codes "else") Turning e (λ w. w) h
   tag-by-got k.Name e h = named-got e h
   tag-by-got _ e h = absurd (cc)
 
-pub tag_sound : (limit : ℕ) (q outer : Bool) (tokens : List Token) (t : Tag) → tag limit q outer tokens ≡ Some t → Meant limit q outer tokens t
+pub tag_sound : (limit : ℕ) (q outer : Surroundings) (tokens : List Token) (t : Tag) → tag limit q outer tokens ≡ Some t → Meant limit q outer tokens t
 unfolding tag
 tag_sound limit q outer tokens t h = tag-by-got limit q outer tokens t (first tokens) refl h
 
 -- Completeness, a form at a time
 
-module _ (limit : ℕ) (q outer : Bool) (tokens : List Token) where
+module _ (limit : ℕ) (q outer : Surroundings) (tokens : List Token) where
   -- the reading of a tag by its first kind, and by its first word
   by-kind : (s : Kind) → first tokens ≡ s → tag limit q outer tokens ≡ tag_by limit q outer tokens s
   unfolding tag
@@ -159,41 +183,55 @@ module _ (limit : ℕ) (q outer : Bool) (tokens : List Token) where
   name-stands : (i : Input) → kind i ≡ k.Name → (A : Option Tag) → (if same k.Name (kind i) then A else None) ≡ A
   name-stands i e A = ap (λ (b : Bool). if b then A else None) (ap (same k.Name) e ∙ same-refl k.Name)
 
-  set-named : (is_global : Bool) → named limit q tokens (set_word is_global) ≡ setting limit is_global (next (begin q tokens))
+  set-named : (is_global : Bool) → named limit q tokens (set_word is_global) ≡ setting limit is_global (next (begin q.in_loop tokens))
   unfolding named
   set-named true = refl
   set-named false = refl
 
-  break-named : named limit q tokens (codes "break") ≡ leaving q (codes "break") tokens Break
+  break-named : named limit q tokens (codes "break") ≡ leaving q.may_leave (codes "break") tokens Break
   unfolding named
   break-named = refl
 
-  continue-named : named limit q tokens (codes "continue") ≡ leaving q (codes "continue") tokens Continue
+  continue-named : named limit q tokens (codes "continue") ≡ leaving q.may_leave (codes "continue") tokens Continue
   unfolding named
   continue-named = refl
 
-  set-read : {is_global : Bool} (e : Expr) → Begins (set_word is_global) tokens → Names (next (begin q tokens)) k.Assign → DerivesWhole e (next (next (next (begin q tokens)))) → depth e ≤ limit
-      → tag limit q outer tokens ≡ Some (Single (Set (text (next (begin q tokens))) e is_global))
+  set-read : {is_global : Bool} (e : Expr) → Begins (set_word is_global) tokens → Names (next (begin q.in_loop tokens)) k.Assign → DerivesWhole e (next (next (next (begin q.in_loop tokens)))) → depth e ≤ limit
+      → tag limit q outer tokens ≡ Some (Single (Set (text (next (begin q.in_loop tokens))) e is_global))
   set-read {is_global = is_global} e b n w le =
-      let i = next (begin q tokens) in
+      let i = next (begin q.in_loop tokens) in
       by-word (set_word is_global) b
       ∙ set-named is_global
       ∙ name-stands i n.0 (setting_by limit is_global (text i) (next i) (kind (next i)))
       ∙ ap (setting_by limit is_global (text i) (next i)) n.1
       ∙ ap (option_map (λ e. Single (Set (text i) e is_global))) (whole_complete w limit le)
 
-  capture-read : {is_global : Bool} → Begins (set_word is_global) tokens → Names (next (begin q tokens)) k.End → tag limit q outer tokens ≡ Some (Opening (SetHead (text (next (begin q tokens))) is_global))
+  capture-read : {is_global : Bool} → Begins (set_word is_global) tokens → Names (next (begin q.in_loop tokens)) k.End → tag limit q outer tokens ≡ Some (Opening (SetHead (text (next (begin q.in_loop tokens))) is_global))
   capture-read {is_global = is_global} b n =
-      let i = next (begin q tokens) in
+      let i = next (begin q.in_loop tokens) in
       by-word (set_word is_global) b
       ∙ set-named is_global
       ∙ name-stands i n.0 (setting_by limit is_global (text i) (next i) (kind (next i)))
       ∙ ap (setting_by limit is_global (text i) (next i)) n.1
 
+  block-named : named limit q tokens (codes "block") ≡ blocking (next (begin q.in_loop tokens))
+  unfolding named
+  block-named = refl
+
+  block-read : Begins (codes "block") tokens → Names (next (begin q.in_loop tokens)) k.End
+      → tag limit q outer tokens ≡ Some (Opening (BlockHead (text (next (begin q.in_loop tokens))) (span (start (next (begin q.in_loop tokens))) (next (next (begin q.in_loop tokens))))))
+  block-read b n =
+      let i = next (begin q.in_loop tokens) in
+      let u = Some (Opening (BlockHead (text i) (span (start i) (next i)))) in
+      by-word (codes "block") b
+      ∙ block-named
+      ∙ name-stands i n.0 (if same k.End (kind (next i)) then u else None)
+      ∙ ap (λ (b : Bool). if b then u else None) (ap (same k.End) n.1 ∙ same-refl k.End)
+
   alone-is : (word : Text) (u : Tag) → IsTrue (is_alone word tokens) → alone word tokens u ≡ Some u
   alone-is word u h = ap (λ (b : Bool). if b then Some u else None) h
 
-  leaving-is : (word : Text) (n : Node) → IsTrue q → IsTrue (is_alone word tokens) → leaving q word tokens n ≡ Some (Single n)
+  leaving-is : (word : Text) (n : Node) → IsTrue q.may_leave → IsTrue (is_alone word tokens) → leaving q.may_leave word tokens n ≡ Some (Single n)
   leaving-is word n l h = ap (λ (b : Bool). if b then alone word tokens (Single n) else None) l ∙ alone-is word (Single n) h
 
   pub simple_read : {node : Node} → Simple q node tokens → node_depth node ≤ suc limit → tag limit q outer tokens ≡ Some (Single node)
@@ -208,6 +246,7 @@ module _ (limit : ℕ) (q outer : Bool) (tokens : List Token) where
       ∙ ap (λ o. option_map Opening (looping_by limit o)) (calls-is c)
       ∙ ap (λ o. option_map Opening (option_map (ForHead key name) o)) (whole_complete w limit le)
   opens_read (capture b n) le = capture-read b n
+  opens_read (block b n) le = block-read b n
 
   pub goes_on_read : {head : Head} → GoesOn outer head tokens → head_depth head ≤ limit → tag limit q outer tokens ≡ Some (GoingOn head)
   goes_on_read (elif e w) le = by-kind k.Elif e ∙ ap (option_map (λ c. GoingOn (IfHead c))) (whole_complete w limit le)
@@ -224,11 +263,17 @@ module _ (limit : ℕ) (q outer : Bool) (tokens : List Token) where
   set-end e is_global true f h = by-end e (codes "endset") refl f
   set-end e is_global false f h = by-end e (codes "endset_global") refl (both is_global (is_alone (codes "endset_global") tokens) h).1
 
+  block-end : first tokens ≡ k.Name → (name : Text) (b : Bool) → is_alone (codes "endblock") tokens ≡ b → (b || is_named (codes "endblock") name tokens) ≡ true → tag limit q outer tokens ≡ Some Closing
+  unfolding named
+  block-end e name true f h = by-end e (codes "endblock") refl f
+  block-end e name false f h = by-word (codes "endblock") (e, named-text (codes "endblock") name tokens h)
+
   end-read : (head : Head) → first tokens ≡ k.Name → is_end head tokens ≡ true → tag limit q outer tokens ≡ Some Closing
   unfolding named
   end-read (IfHead c) e h = by-end e (codes "endif") refl h
   end-read (ForHead key n c) e h = by-end e (codes "endfor") refl h
   end-read (SetHead n is_global) e h = set-end e is_global (is_alone (codes "endset") tokens) refl h
+  end-read (BlockHead n place) e h = block-end e n (is_alone (codes "endblock") tokens) refl h
 
   pub extends_read : Begins (codes "extends") tokens → tag limit q outer tokens ≡ Some Closing
   unfolding named

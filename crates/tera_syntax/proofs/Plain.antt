@@ -12,13 +12,13 @@ use Rattle.tera_tokens.specs.Bytes.{place}
 use Rattle.tera_tokens.specs.Cut.{Piece, Words, Found, words, trims_before, opening_at, opens, piece, cut, pieces}
 use Rattle.tera_tree.specs.Delimiters.{Delims}
 use Rattle.tera_tree.specs.Depth.{nodes_depth}
-use Rattle.tera_syntax.specs.File.{file}
+use Rattle.tera_syntax.specs.File.{spelled, file}
 use Rattle.tera_syntax.specs.Reads.{SpellsNone}
 use Rattle.tera_syntax.specs.Spells.{Spells}
 use Rattle.tera_tree.specs.Tree.{Tree, NoNodes}
 use Rattle.tera_tokens.proofs.Places.{by_order, place_le, place_here, place_passes}
 use Rattle.tera_tokens.proofs.Cuts.{cut_step, cut_nothing}
-use Rattle.tera_syntax.proofs.Extending.{file_complete}
+use Rattle.tera_syntax.proofs.Extending.{spelled_complete, file_complete}
 
 -- what an error that tells a fault says
 pub says_one : {Y : Type 0} (r : Refusal) (told : Fault) (Meant : Result Y Fault → Type 0) → Tells r told → Meant (Err told) → SaysOneOf r Meant
@@ -29,7 +29,7 @@ pub refused_by : {Y : Type 0} (meant : Option Y) (why : _) (at : Span) (r : read
 refused_by meant why at r e h = let P : reader.Refusal → Type 0 = Refuses meant in subst P e h
 
 pub spells_none : (name : Name) (d : Delims) (text : Text) → file 200 (pieces d text) ≡ None → SpellsNone name d text
-spells_none name d text h tree flat spelled = let e = file_complete 200 spelled (omega arith) flat.0 in absurd (cc)
+spells_none name d text h tree flat spells = let e = file_complete 200 tree spells (omega arith) flat.0 flat.2 in absurd (cc)
 
 words_read : (words : Text) (at : Span) → (n : Tree) × (file 200 (Words words at ∷ []) ≡ Some n)
 words_read [] at = (_, refl)
@@ -91,6 +91,6 @@ plain d text h =
 pub one_tree : (name : Name) (d : Delims) (text : Text) (one other : Tree) → Spells name d text one → Spells name d text other → one ≡ other
 one_tree name d text one other h k =
     let m = suc (max (nodes_depth one.nodes) (nodes_depth other.nodes)) in
-    let a : file m (pieces d text) ≡ Some one = file_complete m h (omega arith) (omega arith) in
-    let b : file m (pieces d text) ≡ Some other = file_complete m k (omega arith) (omega arith) in
+    let a : spelled m (pieces d text) ≡ Some one = spelled_complete m h (omega arith) (omega arith) in
+    let b : spelled m (pieces d text) ≡ Some other = spelled_complete m k (omega arith) (omega arith) in
     let e : Some one ≡ Some other = sym a ∙ b in cc

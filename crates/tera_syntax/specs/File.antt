@@ -1,13 +1,14 @@
 -- The reader of a whole text, as a function: nodes, and in front of them what the text extends.
-use Rattle.std.specs.Prelude.{ℕ, List, [], ◌∷◌, Bool, true, false, ◌&&◌, Option, Some, None, option_map, option_and_then, bytes_eq, codes, if◌then◌else◌}
+use Rattle.std.specs.Prelude.{ℕ, List, [], ◌∷◌, Bool, true, false, ◌&&◌, Option, Some, None, option_map, option_and_then, if◌then◌else◌}
 use Rattle.tera_errors.specs.Site.{Name}
 use Rattle.tera_tree.specs.Tree.{Tree}
+use Rattle.tera_tree.specs.Blocks.{has_each_block_once}
 use Rattle.tera_tokens.specs.declared.token.Kind.TheVariants as k
 use Rattle.tera_tokens.specs.Token.{Token}
 use Rattle.tera_tokens.specs.Input.{Input, begin, kind, text, next, same}
 use Rattle.tera_tokens.specs.Literal.{literal}
 use Rattle.tera_tokens.specs.Cut.{Piece, Words, Comment, Variable, Block, Broken}
-use Rattle.tera_syntax.specs.Heads.{first}
+use Rattle.tera_syntax.specs.Heads.{is_extends}
 use Rattle.tera_syntax.specs.Grammar.{is_space}
 use Rattle.tera_syntax.specs.Reader.{Progress, begun, step, finished}
 
@@ -19,10 +20,6 @@ pub record File : Type 0 where
 
 abbrev pub file_begun : File
 file_begun = record { parent = None; is_front = true; progress = begun }
-
--- a tag that begins with the word `extends`
-abbrev pub is_extends : List Token → Bool
-is_extends tokens = same k.Name (first tokens) && bytes_eq (text (begin false tokens)) (codes "extends")
 
 -- the name in quotes that ends a tag
 abbrev pub parent_at : Input → Option Name
@@ -75,5 +72,13 @@ file_run limit f [] = file_finished f
 file_run limit f (piece ∷ rest) = option_and_then (λ g. file_run limit g rest) (file_step limit f piece)
 
 -- the tree of all pieces, no deeper than this
+abbrev pub spelled : ℕ → List Piece → Option Tree
+spelled limit pieces = file_run limit file_begun pieces
+
+-- a tree, if no two of its blocks have one name
+abbrev pub once : Tree → Option Tree
+once tree = if has_each_block_once tree.nodes then Some tree else None
+
+-- the tree of all pieces, no deeper than this, if no two of its blocks have one name
 abbrev pub file : ℕ → List Piece → Option Tree
-file limit pieces = file_run limit file_begun pieces
+file limit pieces = option_and_then once (spelled limit pieces)

@@ -7,12 +7,13 @@ use Rattle.tera_tree.specs.Tree.{Expr, Content, Print, Set, Break, Continue, Nod
 use Rattle.tera_tokens.specs.declared.token.Kind.{Kind}
 use Rattle.tera_tokens.specs.declared.token.Kind.TheVariants as k
 use Rattle.tera_tokens.specs.Token.{Token}
-use Rattle.tera_tokens.specs.Input.{Input, begin, kind, text, next}
+use Rattle.tera_tokens.specs.Input.{Input, begin, kind, text, start, next, span}
 use Rattle.tera_tokens.specs.Literal.{literal}
 use Rattle.tera_tokens.specs.Cut.{Piece, Words, Comment, Variable, Block, is_alone}
 use Rattle.tera_expressions.specs.Grammar.{Derives}
 use Rattle.tera_expressions.specs.Headings.{Names, Calls}
-use Rattle.tera_syntax.specs.Heads.{Head, IfHead, ForHead, SetHead, make, splits, chains, inside, first, ends}
+use Rattle.tera_syntax.specs.declared.heads.Surroundings.{Surroundings}
+use Rattle.tera_syntax.specs.Heads.{Head, IfHead, ForHead, SetHead, BlockHead, outside, make, splits, chains, inside, first, ends}
 
 -- The tokens from here to the end of the tag are the expression.
 pub data DerivesWhole : Expr → Input → Type 0 where
@@ -31,47 +32,49 @@ abbrev pub set_word : Bool → site.Text
 set_word true = codes "set_global"
 set_word false = codes "set"
 
--- A tag that is a statement; the flag says whether it stands in a loop's body.
-pub data Simple : Bool → Node → List Token → Type 0 where
-  set : {q is_global : Bool} {e : Expr} {tokens : List Token} → Begins (set_word is_global) tokens → Names (next (begin q tokens)) k.Assign → DerivesWhole e (next (next (next (begin q tokens))))
-      → Simple q (Set (text (next (begin q tokens))) e is_global) tokens
-  breaks : {q : Bool} {tokens : List Token} → IsTrue q → IsWord k.Name (codes "break") tokens → Simple q Break tokens
-  continues : {q : Bool} {tokens : List Token} → IsTrue q → IsWord k.Name (codes "continue") tokens → Simple q Continue tokens
+-- A tag that is a statement in these surroundings.
+pub data Simple : Surroundings → Node → List Token → Type 0 where
+  set : {q : Surroundings} {is_global : Bool} {e : Expr} {tokens : List Token} → Begins (set_word is_global) tokens → Names (next (begin q.in_loop tokens)) k.Assign → DerivesWhole e (next (next (next (begin q.in_loop tokens))))
+      → Simple q (Set (text (next (begin q.in_loop tokens))) e is_global) tokens
+  breaks : {q : Surroundings} {tokens : List Token} → IsTrue q.may_leave → IsWord k.Name (codes "break") tokens → Simple q Break tokens
+  continues : {q : Surroundings} {tokens : List Token} → IsTrue q.may_leave → IsWord k.Name (codes "continue") tokens → Simple q Continue tokens
 
 -- The first tag of a statement with a body.
-pub data Opens : Bool → Head → List Token → Type 0 where
-  choice : {q : Bool} {c : Expr} {tokens : List Token} → first tokens ≡ k.If → DerivesWhole c (next (begin q tokens)) → Opens q (IfHead c) tokens
-  loop : {q : Bool} {key : Option site.Name} {name : site.Name} {e : Expr} {i : Input} {tokens : List Token} → first tokens ≡ k.For → Calls key name (next (begin q tokens)) i → DerivesWhole e i
+pub data Opens : Surroundings → Head → List Token → Type 0 where
+  choice : {q : Surroundings} {c : Expr} {tokens : List Token} → first tokens ≡ k.If → DerivesWhole c (next (begin q.in_loop tokens)) → Opens q (IfHead c) tokens
+  loop : {q : Surroundings} {key : Option site.Name} {name : site.Name} {e : Expr} {i : Input} {tokens : List Token} → first tokens ≡ k.For → Calls key name (next (begin q.in_loop tokens)) i → DerivesWhole e i
       → Opens q (ForHead key name e) tokens
-  capture : {q is_global : Bool} {tokens : List Token} → Begins (set_word is_global) tokens → Names (next (begin q tokens)) k.End
-      → Opens q (SetHead (text (next (begin q tokens))) is_global) tokens
+  capture : {q : Surroundings} {is_global : Bool} {tokens : List Token} → Begins (set_word is_global) tokens → Names (next (begin q.in_loop tokens)) k.End
+      → Opens q (SetHead (text (next (begin q.in_loop tokens))) is_global) tokens
+  block : {q : Surroundings} {tokens : List Token} → Begins (codes "block") tokens → Names (next (begin q.in_loop tokens)) k.End
+      → Opens q (BlockHead (text (next (begin q.in_loop tokens))) (span (start (next (begin q.in_loop tokens))) (next (next (begin q.in_loop tokens))))) tokens
 
 -- A tag that goes on with a statement: what follows is a statement that stands alone in the other body.
-pub data GoesOn : Bool → Head → List Token → Type 0 where
-  elif : {q : Bool} {c : Expr} {tokens : List Token} → first tokens ≡ k.Elif → DerivesWhole c (next (begin q tokens)) → GoesOn q (IfHead c) tokens
+pub data GoesOn : Surroundings → Head → List Token → Type 0 where
+  elif : {q : Surroundings} {c : Expr} {tokens : List Token} → first tokens ≡ k.Elif → DerivesWhole c (next (begin q.in_loop tokens)) → GoesOn q (IfHead c) tokens
 
 mutual
-  -- The pieces from the first place to the second are nodes; the flag says whether they stand in a loop's body.
-  pub data DerivesNodes : Bool → Nodes → List Piece → List Piece → Type 0 where
-    empty : {q : Bool} {i : List Piece} → DerivesNodes q NoNodes i i
-    content : {q : Bool} {words : site.Text} {place : Span} {rest : Nodes} {i j : List Piece} → words ≢ [] → DerivesNodes q rest i j
+  -- The pieces from the first place to the second are nodes in these surroundings.
+  pub data DerivesNodes : Surroundings → Nodes → List Piece → List Piece → Type 0 where
+    empty : {q : Surroundings} {i : List Piece} → DerivesNodes q NoNodes i i
+    content : {q : Surroundings} {words : site.Text} {place : Span} {rest : Nodes} {i j : List Piece} → words ≢ [] → DerivesNodes q rest i j
         → DerivesNodes q (MoreNodes (Content words place) rest) (Words words place ∷ i) j
     -- text of which trimming leaves nothing is no node
-    blank : {q : Bool} {place : Span} {nodes : Nodes} {i j : List Piece} → DerivesNodes q nodes i j → DerivesNodes q nodes (Words [] place ∷ i) j
-    comment : {q : Bool} {nodes : Nodes} {i j : List Piece} → DerivesNodes q nodes i j → DerivesNodes q nodes (Comment ∷ i) j
-    print : {q : Bool} {value : Expr} {tokens : List Token} {rest : Nodes} {i j : List Piece} → DerivesWhole value (begin q tokens) → DerivesNodes q rest i j
+    blank : {q : Surroundings} {place : Span} {nodes : Nodes} {i j : List Piece} → DerivesNodes q nodes i j → DerivesNodes q nodes (Words [] place ∷ i) j
+    comment : {q : Surroundings} {nodes : Nodes} {i j : List Piece} → DerivesNodes q nodes i j → DerivesNodes q nodes (Comment ∷ i) j
+    print : {q : Surroundings} {value : Expr} {tokens : List Token} {rest : Nodes} {i j : List Piece} → DerivesWhole value (begin q.in_loop tokens) → DerivesNodes q rest i j
         → DerivesNodes q (MoreNodes (Print value) rest) (Variable tokens ∷ i) j
-    single : {q : Bool} {node : Node} {tokens : List Token} {rest : Nodes} {i j : List Piece} → Simple q node tokens → DerivesNodes q rest i j
+    single : {q : Surroundings} {node : Node} {tokens : List Token} {rest : Nodes} {i j : List Piece} → Simple q node tokens → DerivesNodes q rest i j
         → DerivesNodes q (MoreNodes node rest) (Block tokens ∷ i) j
-    bodied : {q : Bool} {head : Head} {tokens : List Token} {body other rest : Nodes} {i m l j : List Piece} → Opens q head tokens → DerivesNodes (inside head q) body i m
+    bodied : {q : Surroundings} {head : Head} {tokens : List Token} {body other rest : Nodes} {i m l j : List Piece} → Opens q head tokens → DerivesNodes (inside head q) body i m
         → DerivesRest q head other m l → DerivesNodes q rest l j → DerivesNodes q (MoreNodes (make head body other) rest) (Block tokens ∷ i) j
 
   -- What follows the body of a statement with this head, up to its end.
-  pub data DerivesRest : Bool → Head → Nodes → List Piece → List Piece → Type 0 where
-    ended : {q : Bool} {head : Head} {tokens : List Token} {i : List Piece} → IsTrue (ends head tokens) → DerivesRest q head NoNodes (Block tokens ∷ i) i
-    split : {q : Bool} {head : Head} {tokens last : List Token} {body : Nodes} {i j : List Piece} → IsTrue (splits head) → IsWord k.Else (codes "else") tokens
+  pub data DerivesRest : Surroundings → Head → Nodes → List Piece → List Piece → Type 0 where
+    ended : {q : Surroundings} {head : Head} {tokens : List Token} {i : List Piece} → IsTrue (ends head tokens) → DerivesRest q head NoNodes (Block tokens ∷ i) i
+    split : {q : Surroundings} {head : Head} {tokens last : List Token} {body : Nodes} {i j : List Piece} → IsTrue (splits head) → IsWord k.Else (codes "else") tokens
         → DerivesNodes q body i (Block last ∷ j) → IsTrue (ends head last) → DerivesRest q head body (Block tokens ∷ i) j
-    chained : {q : Bool} {head further : Head} {tokens : List Token} {body other : Nodes} {i m j : List Piece} → IsTrue (chains head) → GoesOn q further tokens
+    chained : {q : Surroundings} {head further : Head} {tokens : List Token} {body other : Nodes} {i m j : List Piece} → IsTrue (chains head) → GoesOn q further tokens
         → DerivesNodes (inside further q) body i m → DerivesRest q further other m j → DerivesRest q head (MoreNodes (make further body other) NoNodes) (Block tokens ∷ i) j
 
 -- the tag is `extends` and this name in quotes
@@ -92,6 +95,6 @@ pub data Front : List Piece → List Piece → Type 0 where
 
 -- All pieces of a text are nodes. Where it extends a template, the tag stands before them, and what stands before the tag is no node.
 pub data DerivesFile : Option site.Name → Nodes → List Piece → Type 0 where
-  root : {nodes : Nodes} {i : List Piece} → DerivesNodes false nodes i [] → DerivesFile None nodes i
-  child : {name : site.Name} {tokens : List Token} {nodes : Nodes} {i j : List Piece} → Front i (Block tokens ∷ j) → Extends name tokens → DerivesNodes false nodes j []
+  root : {nodes : Nodes} {i : List Piece} → DerivesNodes outside nodes i [] → DerivesFile None nodes i
+  child : {name : site.Name} {tokens : List Token} {nodes : Nodes} {i j : List Piece} → Front i (Block tokens ∷ j) → Extends name tokens → DerivesNodes outside nodes j []
       → DerivesFile (Some name) nodes i

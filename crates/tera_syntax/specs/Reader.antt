@@ -5,12 +5,13 @@ use Rattle.tera_errors.specs.declared.span.Span.{Span}
 use Rattle.tera_tokens.specs.declared.token.Kind.{Kind}
 use Rattle.tera_tokens.specs.declared.token.Kind.TheVariants as k
 use Rattle.tera_tokens.specs.Token.{Token}
-use Rattle.tera_tokens.specs.Input.{Input, Outcome, begin, kind, text, next, same}
+use Rattle.tera_tokens.specs.Input.{Input, Outcome, begin, kind, text, start, next, span, same}
 use Rattle.tera_expressions.specs.Expressions.{Deep, expr}
 use Rattle.tera_expressions.specs.Headings.{calls}
 use Rattle.tera_tokens.specs.Cut.{Piece, Words, Comment, Variable, Block, Broken, is_alone}
 use Rattle.tera_tree.specs.Tree.{Expr, Content, Print, Set, Break, Continue, Node, Nodes, NoNodes, MoreNodes}
-use Rattle.tera_syntax.specs.Heads.{Head, IfHead, ForHead, SetHead, make, splits, chains, inside, first, ends}
+use Rattle.tera_syntax.specs.declared.heads.Surroundings.{Surroundings}
+use Rattle.tera_syntax.specs.Heads.{Head, IfHead, ForHead, SetHead, BlockHead, outside, make, splits, chains, inside, first, ends}
 
 abbrev pub ended : Outcome Deep → Option Expr
 ended None = None
@@ -36,17 +37,17 @@ pub record Frame : Type 0 where
   pub body : Option Nodes
   -- what ends it ends the statement around it too
   pub is_chained : Bool
-  -- whether it stands in a loop's body
-  pub in_loop : Bool
+  -- what it stands in
+  pub surroundings : Surroundings
 
--- how far the reading is: what is open, from the innermost on, the nodes that were read in it, and whether these stand in a loop's body
+-- how far the reading is: what is open, from the innermost on, the nodes that were read in it, and what these stand in
 pub record Progress : Type 0 where
   pub frames : List Frame
   pub found : Nodes
-  pub in_loop : Bool
+  pub surroundings : Surroundings
 
 abbrev pub begun : Progress
-begun = record { frames = []; found = NoNodes; in_loop = false }
+begun = record { frames = []; found = NoNodes; surroundings = outside }
 
 -- whether a node may stand here, where nodes may be as deep as the limit at the top
 abbrev pub has_room : ℕ → Progress → Bool
@@ -54,7 +55,7 @@ has_room limit s = nat_lt (length s.frames) limit
 
 -- a node more
 abbrev pub added : Progress → Node → Progress
-added s node = record { frames = s.frames; found = join s.found (one node); in_loop = s.in_loop }
+added s node = record { frames = s.frames; found = join s.found (one node); surroundings = s.surroundings }
 
 abbrev pub put : ℕ → Progress → Node → Option Progress
 put limit s node = if has_room limit s then Some (added s node) else None
@@ -76,15 +77,15 @@ row f found = join f.before (one (made f.head f.body found))
 abbrev pub opened : ℕ → Bool → Progress → Head → Option Progress
 opened limit is_chained s head =
     if has_room limit s then Some (record {
-      frames = record { before = s.found; head = head; body = None; is_chained = is_chained; in_loop = s.in_loop } ∷ s.frames;
+      frames = record { before = s.found; head = head; body = None; is_chained = is_chained; surroundings = s.surroundings } ∷ s.frames;
       found = NoNodes;
-      in_loop = inside head s.in_loop;
+      surroundings = inside head s.surroundings;
     }) else None
 
 abbrev pub turned_by : Frame → Option Nodes → List Frame → Nodes → Option Progress
 turned_by f (Some body) fs found = None
 turned_by f None fs found =
-    Some (record { frames = record { before = f.before; head = f.head; body = Some found; is_chained = f.is_chained; in_loop = f.in_loop } ∷ fs; found = NoNodes; in_loop = f.in_loop })
+    Some (record { frames = record { before = f.before; head = f.head; body = Some found; is_chained = f.is_chained; surroundings = f.surroundings } ∷ fs; found = NoNodes; surroundings = f.surroundings })
 
 -- `else`, or the first half of a tag that goes on, at a head that may have it: what was read is the body
 abbrev pub turned : (Head → Bool) → List Frame → Nodes → Option Progress
@@ -93,17 +94,17 @@ turned may (f ∷ fs) found = if may f.head then turned_by f f.body fs found els
 
 abbrev pub closed : List Frame → Nodes → Option Progress
 closed [] found = None
-closed (f ∷ fs) found = if f.is_chained then closed fs (row f found) else Some (record { frames = fs; found = row f found; in_loop = f.in_loop })
+closed (f ∷ fs) found = if f.is_chained then closed fs (row f found) else Some (record { frames = fs; found = row f found; surroundings = f.surroundings })
 
 -- the end of what is open
 abbrev pub shut : List Token → List Frame → Nodes → Option Progress
 shut tokens [] found = None
 shut tokens (f ∷ fs) found = if ends f.head tokens then closed (f ∷ fs) found else None
 
--- whether what is open stands in a loop's body
-abbrev pub around : List Frame → Bool
-around [] = false
-around (f ∷ fs) = f.in_loop
+-- what it stands in that is open
+abbrev pub around : List Frame → Surroundings
+around [] = outside
+around (f ∷ fs) = f.surroundings
 
 -- what a tag is
 pub data Tag : Type 0 where
@@ -133,6 +134,10 @@ setting_by limit is_global name i _ = None
 abbrev pub setting : ℕ → Bool → Input → Option Tag
 setting limit is_global i = if same k.Name (kind i) then setting_by limit is_global (text i) (next i) (kind (next i)) else None
 
+-- behind `block`
+abbrev pub blocking : Input → Option Tag
+blocking i = if same k.Name (kind i) then (if same k.End (kind (next i)) then Some (Opening (BlockHead (text i) (span (start i) (next i)))) else None) else None
+
 -- a tag that is one word
 abbrev pub alone : Text → List Token → Tag → Option Tag
 alone word tokens tag = if is_alone word tokens then Some tag else None
@@ -142,12 +147,13 @@ abbrev pub leaving : Bool → Text → List Token → Node → Option Tag
 leaving q word tokens node = if q then alone word tokens (Single node) else None
 
 -- a tag that begins with this word, which is not reserved
-unfoldable pub named : ℕ → Bool → List Token → Text → Option Tag
+unfoldable pub named : ℕ → Surroundings → List Token → Text → Option Tag
 named limit q tokens word =
-    if bytes_eq word (codes "set") then setting limit false (next (begin q tokens)) else (
-    if bytes_eq word (codes "set_global") then setting limit true (next (begin q tokens)) else (
-    if bytes_eq word (codes "break") then leaving q (codes "break") tokens Break else (
-    if bytes_eq word (codes "continue") then leaving q (codes "continue") tokens Continue else Some Closing)))
+    if bytes_eq word (codes "set") then setting limit false (next (begin q.in_loop tokens)) else (
+    if bytes_eq word (codes "set_global") then setting limit true (next (begin q.in_loop tokens)) else (
+    if bytes_eq word (codes "block") then blocking (next (begin q.in_loop tokens)) else (
+    if bytes_eq word (codes "break") then leaving q.may_leave (codes "break") tokens Break else (
+    if bytes_eq word (codes "continue") then leaving q.may_leave (codes "continue") tokens Continue else Some Closing))))
 
 -- whether a word that begins a statement begins with this byte and is this long
 abbrev pub may_begin : ℕ → ℕ → Bool
@@ -157,16 +163,16 @@ may_begin first size =
     if size == 8 then first == 99 else (
     if size == 10 then first == 115 else false)))
 
-abbrev pub tag_by : ℕ → Bool → Bool → List Token → Kind → Option Tag
-tag_by limit q outer tokens k.If = option_map (λ c. Opening (IfHead c)) (whole limit (next (begin q tokens)))
-tag_by limit q outer tokens k.For = option_map Opening (looping limit (next (begin q tokens)))
-tag_by limit q outer tokens k.Elif = option_map (λ c. GoingOn (IfHead c)) (whole limit (next (begin outer tokens)))
+abbrev pub tag_by : ℕ → Surroundings → Surroundings → List Token → Kind → Option Tag
+tag_by limit q outer tokens k.If = option_map (λ c. Opening (IfHead c)) (whole limit (next (begin q.in_loop tokens)))
+tag_by limit q outer tokens k.For = option_map Opening (looping limit (next (begin q.in_loop tokens)))
+tag_by limit q outer tokens k.Elif = option_map (λ c. GoingOn (IfHead c)) (whole limit (next (begin outer.in_loop tokens)))
 tag_by limit q outer tokens k.Else = alone (codes "else") tokens Turning
 tag_by limit q outer tokens k.Name = named limit q tokens (text (begin false tokens))
 tag_by limit q outer tokens _ = None
 
--- A tag with expressions no deeper than this; the flags say whether it, and what is open, stand in a loop's body.
-unfoldable pub tag : ℕ → Bool → Bool → List Token → Option Tag
+-- A tag with expressions no deeper than this, with what it stands in, and what that stands in that is open.
+unfoldable pub tag : ℕ → Surroundings → Surroundings → List Token → Option Tag
 tag limit q outer tokens = tag_by limit q outer tokens (first tokens)
 
 abbrev pub taken : ℕ → Progress → List Token → Tag → Option Progress
@@ -178,7 +184,7 @@ taken limit s tokens Closing = shut tokens s.frames s.found
 
 -- a statement, or a tag that belongs to one
 unfoldable pub statement : ℕ → Progress → List Token → Option Progress
-statement limit s tokens = option_and_then (taken limit s tokens) (tag (room limit s) s.in_loop (around s.frames) tokens)
+statement limit s tokens = option_and_then (taken limit s tokens) (tag (room limit s) s.surroundings (around s.frames) tokens)
 
 abbrev pub printed : ℕ → Progress → Option Expr → Option Progress
 printed limit s None = None
@@ -193,7 +199,7 @@ put_words limit s (b ∷ bs) place = put limit s (Content (b ∷ bs) place)
 abbrev pub step : ℕ → Progress → Piece → Option Progress
 step limit s (Words words place) = put_words limit s words place
 step limit s Comment = Some s
-step limit s (Variable tokens) = printed limit s (whole (room limit s) (begin s.in_loop tokens))
+step limit s (Variable tokens) = printed limit s (whole (room limit s) (begin s.surroundings.in_loop tokens))
 step limit s (Block tokens) = statement limit s tokens
 step limit s Broken = None
 

@@ -5,11 +5,14 @@ use Rattle.tera_tree.specs.declared.expression.Heading.{Heading}
 use Rattle.tera_tree.specs.declared.node.Node as declared
 use Rattle.tera_tokens.specs.declared.refusal.Refusal.{Refusal}
 use Rattle.tera_tokens.specs.Answers.{Refuses}
-use Rattle.tera_tree.specs.Tree.{Nodes}
+use Rattle.tera_errors.specs.Site.{Name}
+use Rattle.tera_tree.specs.Tree.{Node, Nodes}
+use Rattle.tera_tree.specs.Blocks.{node_blocks}
 use Rattle.tera_tree.specs.View.{expr_of, nodes_of, quoted_option}
-use Rattle.tera_syntax.specs.Heads.{Head, IfHead, ForHead, SetHead}
+use Rattle.tera_syntax.specs.Heads.{Head, IfHead, ForHead, SetHead, BlockHead}
 use Rattle.tera_syntax.specs.Reader.{Frame, Progress}
 use Rattle.tera_syntax.specs.File.{File}
+use Rattle.tera_syntax.specs.declared.blocks.BlockName.{BlockName}
 use Rattle.tera_syntax.specs.declared.file.File as file
 use Rattle.tera_syntax.specs.declared.heads.Head as head
 use Rattle.tera_syntax.specs.declared.heads.Head.TheVariants as variant
@@ -23,23 +26,31 @@ abbrev pub head_of : head.Head → Head
 head_of (variant.If c) = IfHead (expr_of c.value)
 head_of (variant.For h) = heading_of h.value
 head_of (variant.Set t is_global) = SetHead t.now is_global
+head_of (variant.Block t span) = BlockHead t.now span
 
 abbrev pub body_of : Option (Vec declared.Node Global) → Option Nodes
 body_of None = None
 body_of (Some nodes) = Some (nodes_of nodes.items)
 
 abbrev pub frame_of : frame.Frame → Frame
-frame_of f = record { before = nodes_of f.before.items; head = head_of f.head; body = body_of f.body; is_chained = f.is_chained; in_loop = f.in_loop }
+frame_of f = record { before = nodes_of f.before.items; head = head_of f.head; body = body_of f.body; is_chained = f.is_chained; surroundings = f.surroundings }
 
 -- the innermost stands last in memory
 abbrev pub frames_of : List frame.Frame → List Frame
 frames_of fs = map frame_of (reverse fs)
 
 abbrev pub progress_of : progress.Progress → Progress
-progress_of s = record { frames = frames_of s.frames.items; found = nodes_of s.found.items; in_loop = s.in_loop }
+progress_of s = record { frames = frames_of s.frames.items; found = nodes_of s.found.items; surroundings = s.surroundings }
 
 abbrev pub file_of : file.File → File
 file_of f = record { parent = quoted_option f.parent; is_front = f.is_front; progress = progress_of f.progress }
+
+abbrev pub names_of : List BlockName → List Name
+names_of names = map (λ n. n.name.now) names
+
+-- the names of the blocks of a node
+abbrev pub node_names : Node → List Name
+node_names node = map (λ b. b.0) (node_blocks node)
 
 -- What is read becomes what is meant. After a refusal nothing is said of it.
 abbrev pub Becomes : Option Progress → Result (Unit {0}) Refusal → progress.Progress → Type 0

@@ -10,8 +10,8 @@ ghost use Rattle.tera_tokens.specs.Token.{tokens_of};
 ghost use Rattle.tera_tokens.specs.declared.token.Token as token;
 ghost use Rattle.tera_tree.specs.View.{quoted_of, tree_of};
 
-use crate::heads::first;
-use crate::progress::{EXTENDS, Progress};
+use crate::heads::is_extends;
+use crate::progress::Progress;
 use crate::statements::step;
 use std::alloc::Global;
 use tera_tokens::cut::Piece;
@@ -28,13 +28,6 @@ pub(crate) struct File<'s> {
     /// Whether white space and comments alone were read.
     is_front: bool,
     progress: Progress<'s>,
-}
-
-/// Whether a tag begins with the word `extends`.
-fn is_extends(tag: &[Token<'_>]) -> bool
-    ensures { result ≡ spec.is_extends (tokens_of tag.now) }
-{
-    same(Kind::Name, first(tag)) && Tokens::begin(tag, false).text() == EXTENDS
 }
 
 /// The name in quotes that ends a tag.

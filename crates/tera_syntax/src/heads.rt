@@ -5,10 +5,32 @@ ghost use Rattle.tera_syntax.specs.View.{head_of};
 ghost use Rattle.tera_tokens.specs.Token.{tokens_of};
 ghost use Rattle.tera_tree.specs.View.{node_of, nodes_of};
 
+use tera_errors::Span;
 use tera_tokens::cut::is_alone;
 use tera_tokens::input::{Tokens, same};
 use tera_tokens::token::{Kind, Token};
 use tera_tree::{Expression, Heading, Node};
+
+/// What a tag stands in.
+#[derive(Clone, Copy)]
+pub(crate) struct Surroundings {
+    /// Whether it is inside a loop's body, where `loop.index` and its like are the loop's.
+    pub in_loop: bool,
+    /// Whether `break` and `continue` may stand here: inside a loop's body, with no block between.
+    pub may_leave: bool,
+}
+
+impl Surroundings {
+    /// No loop.
+    pub fn outside() -> Surroundings
+        ensures { result ≡ spec.outside }
+    {
+        Surroundings {
+            in_loop: false,
+            may_leave: false,
+        }
+    }
+}
 
 /// What begins a statement with a body.
 #[derive(Drop)]
@@ -19,6 +41,8 @@ pub(crate) enum Head<'s> {
     For(Box<Heading<'s>>),
     /// `set name`, or `set_global name` where it is global.
     Set(&'s str, bool),
+    /// `block name`, and where the name stands.
+    Block(&'s str, Span),
 }
 
 impl<'s> Head<'s> {
@@ -31,6 +55,7 @@ impl<'s> Head<'s> {
             Head::If(condition) => Node::choice(condition, body, other),
             Head::For(heading) => Node::each(heading, body, other),
             Head::Set(name, is_global) => Node::capture(name, body, is_global),
+            Head::Block(name, span) => Node::block(name, body, span),
         }
     }
 
@@ -40,7 +65,7 @@ impl<'s> Head<'s> {
     {
         match self {
             Head::If(_) | Head::For(_) => true,
-            Head::Set(_, _) => false,
+            Head::Set(_, _) | Head::Block(_, _) => false,
         }
     }
 
@@ -50,21 +75,29 @@ impl<'s> Head<'s> {
     {
         match self {
             Head::If(_) => true,
-            Head::For(_) | Head::Set(_, _) => false,
+            Head::For(_) | Head::Set(_, _) | Head::Block(_, _) => false,
         }
     }
 
-    /// Whether its body stands in a loop's body.
-    pub fn inside(&self, in_loop: bool) -> bool
-        ensures { result ≡ spec.inside (head_of self.now) in_loop }
+    /// What its body stands in. A block's body keeps the names of a loop around it, and can't leave
+    /// a turn of that loop.
+    pub fn inside(&self, around: Surroundings) -> Surroundings
+        ensures { result ≡ spec.inside (head_of self.now) around }
     {
         match self {
-            Head::If(_) | Head::Set(_, _) => in_loop,
-            Head::For(_) => true,
+            Head::If(_) | Head::Set(_, _) => around,
+            Head::For(_) => Surroundings {
+                in_loop: true,
+                may_leave: true,
+            },
+            Head::Block(_, _) => Surroundings {
+                in_loop: around.in_loop,
+                may_leave: false,
+            },
         }
     }
 
-    /// Whether the tokens are the word of its end.
+    /// Whether the tokens are the word of its end. Behind that of a block its name may stand.
     fn is_end(&self, tokens: &[Token<'_>]) -> bool
         ensures { result ≡ spec.is_end (head_of self.now) (tokens_of tokens.now) }
     {
@@ -73,6 +106,9 @@ impl<'s> Head<'s> {
             Head::For(_) => is_alone("endfor", tokens),
             Head::Set(_, is_global) => {
                 is_alone("endset", tokens) || *is_global && is_alone("endset_global", tokens)
+            }
+            Head::Block(name, _) => {
+                is_alone("endblock", tokens) || is_named("endblock", name, tokens)
             }
         }
     }
@@ -90,4 +126,23 @@ pub(crate) fn first(tokens: &[Token<'_>]) -> Kind
     ensures { result ≡ spec.first (tokens_of tokens.now) }
 {
     Tokens::begin(tokens, false).kind()
+}
+
+/// Whether a tag begins with the word `extends`.
+pub(crate) fn is_extends(tag: &[Token<'_>]) -> bool
+    ensures { result ≡ spec.is_extends (tokens_of tag.now) }
+{
+    same(Kind::Name, first(tag)) && Tokens::begin(tag, false).text() == "extends"
+}
+
+/// Whether the tokens are this word, and behind it this name.
+fn is_named(word: &str, name: &str, tokens: &[Token<'_>]) -> bool
+    ensures { result ≡ spec.is_named word.now name.now (tokens_of tokens.now) }
+{
+    match tokens {
+        [first, second] => {
+            first.text == word && same(Kind::Name, second.kind) && second.text == name
+        }
+        _ => false,
+    }
 }

@@ -1,6 +1,7 @@
 //! The reader: from a template's text to its tree.
 #![tactic(auto)]
 
+mod blocks;
 mod file;
 mod heads;
 pub mod laws;
@@ -11,5 +12,6 @@ mod words;
 
 pub use reader::parse;
 pub use tera_tree::{
-    BinaryOperator, Delimiters, Entry, Expression, Heading, Item, LiteralKey, Node, ParserOutput,
+    Argument, BinaryOperator, Delimiters, Entry, Expression, Heading, Item, LiteralKey, Node,
+    ParserOutput,
 };

@@ -7,7 +7,7 @@ ghost use Rattle.tera_tokens.specs.Answers.{Answers, IsSyntax};
 ghost use Rattle.tera_tokens.specs.Token.{tokens_of};
 ghost use Rattle.tera_tree.specs.View.{node_of, nodes_of};
 
-use crate::heads::Head;
+use crate::heads::{Head, Surroundings, is_extends};
 use std::alloc::Global;
 use std::mem::replace;
 use tera_errors::Span;
@@ -15,9 +15,6 @@ use tera_tokens::input::Tokens;
 use tera_tokens::refusal::{Reason, Refusal};
 use tera_tokens::token::Token;
 use tera_tree::Node;
-
-/// The word of the tag that names another template.
-pub(crate) const EXTENDS: &str = "extends";
 
 /// How deep a tree may be.
 const MAX_DEPTH: usize = 200;
@@ -32,8 +29,8 @@ pub(crate) struct Frame<'s> {
     body: Option<Vec<Node<'s>>>,
     /// What ends it ends the statement around it too.
     is_chained: bool,
-    /// Whether it stands in a loop's body.
-    in_loop: bool,
+    /// What it stands in.
+    surroundings: Surroundings,
 }
 
 /// How far the reading is: what is open, and the nodes that were read in it.
@@ -42,8 +39,8 @@ pub(crate) struct Progress<'s> {
     /// The innermost last.
     frames: Vec<Frame<'s>>,
     found: Vec<Node<'s>>,
-    /// Whether these nodes stand in a loop's body.
-    pub in_loop: bool,
+    /// What these nodes stand in.
+    pub surroundings: Surroundings,
 }
 
 /// A refusal that points at the first token of a tag.
@@ -55,7 +52,7 @@ pub(crate) fn refused(tag: &[Token<'_>], why: Reason) -> Refusal
 
 /// Why a tag is refused that begins no statement and ends none.
 fn stray(tag: &[Token<'_>]) -> Reason {
-    if Tokens::begin(tag, false).text() == EXTENDS {
+    if is_extends(tag) {
         Reason::LateExtends
     } else {
         Reason::NoStatement
@@ -100,7 +97,7 @@ impl<'s> Progress<'s> {
         Progress {
             frames: Vec::new(alloc),
             found: Vec::new(alloc),
-            in_loop: false,
+            surroundings: Surroundings::outside(),
         }
     }
 
@@ -111,13 +108,13 @@ impl<'s> Progress<'s> {
         MAX_DEPTH.saturating_sub(self.frames.len() + 1)
     }
 
-    /// Whether what is open stands in a loop's body.
-    pub fn around(&self) -> bool
+    /// What it stands in that is open.
+    pub fn around(&self) -> Surroundings
         ensures { result ≡ spec.around (progress_of self.now).frames }
     {
         match self.frames.last() {
-            Some(frame) => frame.in_loop,
-            None => false,
+            Some(frame) => frame.surroundings,
+            None => Surroundings::outside(),
         }
     }
 
@@ -152,16 +149,16 @@ impl<'s> Progress<'s> {
         if !self.has_room() {
             return Err(refused(tag, Reason::TooDeep));
         }
-        let inside = head.inside(self.in_loop);
+        let inside = head.inside(self.surroundings);
         let before = replace(&mut self.found, Vec::new(alloc));
         self.frames.push(Frame {
             before,
             head,
             body: None,
             is_chained,
-            in_loop: self.in_loop,
+            surroundings: self.surroundings,
         })?;
-        self.in_loop = inside;
+        self.surroundings = inside;
         Ok(())
     }
 
@@ -197,7 +194,7 @@ impl<'s> Progress<'s> {
         if frame.body.is_some() {
             return Err(refused(tag, Reason::NotOpen));
         }
-        self.in_loop = frame.in_loop;
+        self.surroundings = frame.surroundings;
         frame.body = Some(replace(&mut self.found, Vec::new(alloc)));
         self.frames.push(frame)?;
         Ok(())
@@ -220,7 +217,7 @@ impl<'s> Progress<'s> {
     {
         while let Some(frame) = self.frames.pop() {
             let is_chained = frame.is_chained;
-            self.in_loop = frame.in_loop;
+            self.surroundings = frame.surroundings;
             let found = replace(&mut self.found, Vec::new(alloc));
             self.found = match row(alloc, frame, found) {
                 Ok(found) => found,

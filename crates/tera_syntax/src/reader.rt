@@ -9,6 +9,7 @@ ghost use Rattle.tera_tree.specs.Delimiters.{accepted, delimiters_of};
 ghost use Rattle.tera_tree.specs.Inside.{Inside, Within};
 ghost use Rattle.tera_tree.specs.View.{tree_of};
 
+use crate::blocks::once;
 use crate::file::File;
 use std::alloc::Global;
 use tera_errors::{Error, Span, TeraResult};
@@ -16,14 +17,15 @@ use tera_tokens::cut::next_piece;
 use tera_tokens::refusal::Refusal;
 use tera_tree::{Delimiters, ParserOutput};
 
-/// The tree of a text.
-fn read<'s>(
+/// The tree that a text spells, in which two blocks may have one name.
+fn spelled<'s>(
     alloc: Global,
     delimiters: &Delimiters,
     source: &'s str,
 ) -> Result<ParserOutput<'s>, Refusal>
     requires { IsTrue (accepted (delimiters_of delimiters.now)) }
-    ensures { Answers tree_of (spec.file 200 (pieces (delimiters_of delimiters.now) source.now)) result }
+    ensures { let all = pieces (delimiters_of delimiters.now) source.now in
+        Answers tree_of (spec.spelled 200 all) result }
 {
     let mut file = File::begin(alloc);
     let mut tokens = Vec::new(alloc);
@@ -46,6 +48,20 @@ fn read<'s>(
         }
     }
     file.finish(at)
+}
+
+/// The tree of a text.
+fn read<'s>(
+    alloc: Global,
+    delimiters: &Delimiters,
+    source: &'s str,
+) -> Result<ParserOutput<'s>, Refusal>
+    requires { IsTrue (accepted (delimiters_of delimiters.now)) }
+    ensures { let all = pieces (delimiters_of delimiters.now) source.now in
+        Answers tree_of (spec.file 200 all) result }
+{
+    let output = spelled(alloc, delimiters, source)?;
+    once(alloc, output)
 }
 
 /// The stretch that lies in a text of this size.

@@ -53,7 +53,7 @@ fn heading<'s>(
 }
 
 /// What stands behind the first token of a tag.
-fn behind<'t, 's>(tag: &'t [Token<'s>], in_loop: bool) -> Tokens<'t, 's>
+pub(crate) fn behind<'t, 's>(tag: &'t [Token<'s>], in_loop: bool) -> Tokens<'t, 's>
     ensures { input result ≡ next (begin in_loop (tokens_of tag.now)) }
 {
     let mut ahead = Tokens::begin(tag, in_loop);
@@ -87,17 +87,17 @@ fn statement<'s>(
 {
     match first(tag) {
         Kind::If => {
-            let mut ahead = behind(tag, progress.in_loop);
+            let mut ahead = behind(tag, progress.surroundings.in_loop);
             let condition = whole(alloc, &mut ahead, progress.room())?;
             progress.open(alloc, false, Head::If(condition), tag)
         }
         Kind::For => {
-            let mut ahead = behind(tag, progress.in_loop);
+            let mut ahead = behind(tag, progress.surroundings.in_loop);
             let heading = heading(alloc, &mut ahead, progress.room())?;
             progress.open(alloc, false, Head::For(heading), tag)
         }
         Kind::Elif => {
-            let mut ahead = behind(tag, progress.around());
+            let mut ahead = behind(tag, progress.around().in_loop);
             let condition = whole(alloc, &mut ahead, progress.room())?;
             progress.go_on(alloc, tag)?;
             progress.open(alloc, true, Head::If(condition), tag)
@@ -127,10 +127,11 @@ fn put_words<'s>(progress: &mut Progress<'s>, text: &'s str, span: Span) -> Resu
 /// `{{ value }}`
 fn print<'s>(progress: &mut Progress<'s>, alloc: Global, tag: &[Token<'s>]) -> Result<(), Refusal>
     ensures { let s = progress_of progress.old in
-        let value = spec.whole (spec.room 200 s) (begin s.in_loop (tokens_of tag.now)) in
+        let tokens = tokens_of tag.now in
+        let value = spec.whole (spec.room 200 s) (begin s.surroundings.in_loop tokens) in
         Becomes (spec.printed 200 s value) result progress.new }
 {
-    let mut ahead = Tokens::begin(tag, progress.in_loop);
+    let mut ahead = Tokens::begin(tag, progress.surroundings.in_loop);
     let value = whole(alloc, &mut ahead, progress.room())?;
     progress.add(Node::Print { value })
 }

@@ -8,7 +8,7 @@ ghost use Rattle.tera_tree.specs.View.{node_of};
 
 use crate::heads::Head;
 use crate::progress::{Progress, refused};
-use crate::statements::{put, whole};
+use crate::statements::{behind, put, whole};
 use std::alloc::Global;
 use tera_tokens::cut::is_alone;
 use tera_tokens::input::{Tokens, same};
@@ -44,6 +44,29 @@ fn set<'s>(
     }
 }
 
+/// Behind `block`.
+fn block<'s>(
+    progress: &mut Progress<'s>,
+    alloc: Global,
+    tag: &[Token<'_>],
+    ahead: &mut Tokens<'_, 's>,
+) -> Result<(), Refusal>
+    ensures { let s = progress_of progress.old in
+        let meant = spec.blocking (input ahead.old) in
+        Becomes (option_and_then (spec.taken 200 s (tokens_of tag.now)) meant) result progress.new }
+{
+    if !same(Kind::Name, ahead.kind()) {
+        return Err(ahead.refuse(Reason::Expected(Kind::Name)));
+    }
+    let name = ahead.text();
+    let start = ahead.start();
+    ahead.take();
+    if !same(Kind::End, ahead.kind()) {
+        return Err(ahead.refuse(Reason::TagGoesOn));
+    }
+    progress.open(alloc, false, Head::Block(name, ahead.span(start)), tag)
+}
+
 /// A tag that is one word and leaves a turn of the loop that it stands in.
 fn leave<'s>(
     progress: &mut Progress<'s>,
@@ -52,10 +75,11 @@ fn leave<'s>(
     node: Node<'s>,
 ) -> Result<(), Refusal>
     ensures { let s = progress_of progress.old in
-        let meant = spec.leaving s.in_loop word.now (tokens_of tag.now) (node_of node.entry) in
-        Becomes (option_and_then (spec.taken 200 s (tokens_of tag.now)) meant) result progress.new }
+        let tokens = tokens_of tag.now in
+        let meant = spec.leaving s.surroundings.may_leave word.now tokens (node_of node.entry) in
+        Becomes (option_and_then (spec.taken 200 s tokens) meant) result progress.new }
 {
-    if !progress.in_loop {
+    if !progress.surroundings.may_leave {
         return Err(refused(tag, Reason::NotOpen));
     }
     if !is_alone(word, tag) {
@@ -96,8 +120,9 @@ pub(crate) fn named<'s>(
     word: &str,
 ) -> Result<(), Refusal>
     ensures { let s = progress_of progress.old in
-        let meant = spec.named (spec.room 200 s) s.in_loop (tokens_of tag.now) word.now in
-        Becomes (option_and_then (spec.taken 200 s (tokens_of tag.now)) meant) result progress.new }
+        let tokens = tokens_of tag.now in
+        let meant = spec.named (spec.room 200 s) s.surroundings tokens word.now in
+        Becomes (option_and_then (spec.taken 200 s tokens) meant) result progress.new }
 {
     if may_begin(first_byte(word), word.len()) {
         begun(progress, alloc, tag, word)
@@ -115,14 +140,18 @@ fn begun<'s>(
     word: &str,
 ) -> Result<(), Refusal>
     ensures { let s = progress_of progress.old in
-        let meant = spec.named (spec.room 200 s) s.in_loop (tokens_of tag.now) word.now in
-        Becomes (option_and_then (spec.taken 200 s (tokens_of tag.now)) meant) result progress.new }
+        let tokens = tokens_of tag.now in
+        let meant = spec.named (spec.room 200 s) s.surroundings tokens word.now in
+        Becomes (option_and_then (spec.taken 200 s tokens) meant) result progress.new }
 {
     match word {
         "set" | "set_global" => {
-            let mut ahead = Tokens::begin(tag, progress.in_loop);
-            ahead.take();
+            let mut ahead = behind(tag, progress.surroundings.in_loop);
             set(progress, alloc, tag, &mut ahead, word != "set")
+        }
+        "block" => {
+            let mut ahead = behind(tag, progress.surroundings.in_loop);
+            block(progress, alloc, tag, &mut ahead)
         }
         "break" => leave(progress, tag, "break", Node::Break),
         "continue" => leave(progress, tag, "continue", Node::Continue),

@@ -138,6 +138,49 @@ fn depths(rt: HostRuntime) {
     assert_eq!(rt; wrong, None);
 }
 
+/// Blocks without a body, each with its number for its name.
+fn put_blocks(alloc: Global, all: &mut String, count: usize) -> bool {
+    for number in 0..count {
+        let is_put = match format!(in alloc; "block_{number}") {
+            Ok(name) => {
+                put(all, "{% block ") && put(all, name.as_str()) && put(all, " %}{% endblock %}")
+            }
+            Err(_) => false,
+        };
+        if !is_put {
+            return false;
+        }
+    }
+    true
+}
+
+fn are_read(alloc: Global, delimiters: &Delimiters, text: &str) -> bool
+    requires { IsTrue (accepted (delimiters_of delimiters.now)) }
+{
+    parse(alloc, "t", text, delimiters).is_ok()
+}
+
+/// Whether many blocks are read, and refused with one more that has a name of theirs.
+fn are_told_apart(alloc: Global, delimiters: &Delimiters) -> bool
+    requires { IsTrue (accepted (delimiters_of delimiters.now)) }
+{
+    let mut all = String::new(alloc);
+    put_blocks(alloc, &mut all, 2_000)
+        && are_read(alloc, delimiters, all.as_str())
+        && put(&mut all, "{% block block_1999 %}{% endblock %}")
+        && is_refused(alloc, delimiters, all.as_str())
+}
+
+#[test]
+fn many_blocks(rt: HostRuntime) {
+    let alloc = rt.alloc();
+    let are_told = match standard(alloc) {
+        Some(delimiters) => are_told_apart(alloc, &delimiters),
+        None => false,
+    };
+    assert!(rt; are_told);
+}
+
 /// Delimiters of which no text is written yet.
 fn unwritten(alloc: Global) -> Delimiters {
     Delimiters {

@@ -21,7 +21,7 @@ pub struct Other(pub &'static str, pub &'static str, pub Row);
 pub struct Unusable(pub &'static str, pub &'static str);
 
 /// Between the standard delimiters.
-pub static TREES: [Row; 65] = [
+pub static TREES: [Row; 75] = [
     Row("", ""),
     Row("Hello {{ name }}!", "(Hello  0-6)(name 9-13)(! 16-17)"),
     Row("a{# b #}c{# d }} #}", "(a 0-1)(c 8-9)"),
@@ -208,9 +208,49 @@ pub static TREES: [Row; 65] = [
         "{% for v in [w for k, w in e] %}{{ [loop.last for x in loop.first] }}{% endfor %}",
         "(for v in (each(w 13-14) for k, w in (e 27-28) if _ 12-29) do (each(__tera_loop_last 36-45) for x in (__tera_loop_first 55-65) if _ 35-66) else )",
     ),
+    Row(
+        "{% block a %}x{% endblock %}y",
+        "(block a of (x 13-14) 9-10)(y 28-29)",
+    ),
+    Row(
+        "{% block a %}{% block b %}{% endblock b %}{% endblock a %}",
+        "(block a of (block b of  22-23) 9-10)",
+    ),
+    Row(
+        "{%- block a -%} x {%- endblock a -%} y",
+        "(block a of (x 16-17) 10-11)(y 37-38)",
+    ),
+    Row(
+        "{% block block %}{% endblock block %}",
+        "(block block of  9-14)",
+    ),
+    Row(
+        "{% set block %}{{ block }}{% endset %}{{ endblock }}",
+        "(set block to (block 18-23))(endblock 41-49)",
+    ),
+    Row(
+        "{% if b %}{% block a %}{% endblock %}{% else %}{% block c %}{% endblock %}{% endif %}",
+        "(if (b 6-7) then (block a of  19-20) else (block c of  56-57))",
+    ),
+    Row(
+        "{% block a %}{% for v in e %}{% break %}{% endfor %}{% endblock %}",
+        "(block a of (for v in (e 25-26) do (break) else ) 9-10)",
+    ),
+    Row(
+        "{% for v in e %}{% block a %}{{ loop.first }}{% endblock %}{% break %}{% endfor %}",
+        "(for v in (e 12-13) do (block a of (__tera_loop_first 32-42) 25-26)(break) else )",
+    ),
+    Row(
+        "{% for v in e %}{% else %}{% block a %}{{ loop.first }}{% endblock %}{% endfor %}",
+        "(for v in (e 12-13) do  else (block a of (.(loop 42-46)first 42-52) 35-36))",
+    ),
+    Row(
+        "{% extends 'a' %}{% block b %}c{% endblock %}",
+        "<a>(block b of (c 30-31) 26-27)",
+    ),
 ];
 
-pub static REFUSED: [Text; 132] = [
+pub static REFUSED: [Text; 163] = [
     Text("{{ }}"),
     Text("{{ a"),
     Text("b {# open"),
@@ -345,6 +385,41 @@ pub static REFUSED: [Text; 132] = [
     Text("{% for v in e %}{% extends 'a' %}{% endfor %}"),
     Text("{% raw %}a{% endraw %}{% extends 'a' %}"),
     Text("{% extends 'a' %}{% if %}"),
+    Text("{% block %}"),
+    Text("{% block %}{% endblock %}"),
+    Text("{% block a %}"),
+    Text("{% block a %}x"),
+    Text("{% block a b %}{% endblock %}"),
+    Text("{% block 'a' %}{% endblock %}"),
+    Text("{% block 1 %}{% endblock %}"),
+    Text("{% block if %}{% endblock %}"),
+    Text("{% block a = 1 %}"),
+    Text("{% block a.b %}{% endblock %}"),
+    Text("{% block a %}{% endblock b %}"),
+    Text("{% block a %}{% endblock 'a' %}"),
+    Text("{% block a %}{% endblock a a %}"),
+    Text("{% block a %}{% endblock endblock %}"),
+    Text("{% block a %}{% end a %}"),
+    Text("{% block a %}{% else %}{% endblock %}"),
+    Text("{% block a %}{% elif b %}{% endblock %}"),
+    Text("{% block a %}{% endif %}"),
+    Text("{% block a %}{% block b %}{% endblock a %}{% endblock b %}"),
+    Text("{% set a %}{% endblock a %}"),
+    Text("{% endblock %}"),
+    Text("{% endblock a %}"),
+    Text("{% block a %}{% endblock %}{% block a %}{% endblock %}"),
+    Text("{% block a %}{% block a %}{% endblock %}{% endblock %}"),
+    Text("{% if b %}{% block a %}{% endblock %}{% else %}{% block a %}{% endblock %}{% endif %}"),
+    Text(
+        "{% block a %}{% endblock %}{% for v in e %}{% set w %}{% block b %}{% block a %}{% endblock %}{% endblock %}{% endset %}{% endfor %}",
+    ),
+    Text("{% for v in e %}{% block a %}{% break %}{% endblock %}{% endfor %}"),
+    Text(
+        "{% for v in e %}{% block a %}{% if b %}{% continue %}{% endif %}{% endblock %}{% endfor %}",
+    ),
+    Text("{% block a %}{% continue %}{% endblock %}"),
+    Text("{% extends 'a' %}{% block b %}{% endblock %}{% block b %}{% endblock %}"),
+    Text("{% block a %}{% extends 'a' %}{% endblock %}"),
 ];
 
 const PARENTHESES: [&str; 5] = ["{{ ", "(", "a", ")", " }}"];
@@ -369,9 +444,17 @@ const CAPTURES: [&str; 5] = ["", "{% set a %}", "x", "{% endset %}", ""];
 
 const EMPTY_CAPTURES: [&str; 5] = ["", "{% set a %}", "", "{% endset %}", ""];
 
+const EMPTY_BLOCKS: [&str; 5] = [
+    "",
+    "{% set a %}",
+    "{% block b %}{% endblock %}",
+    "{% endset %}",
+    "",
+];
+
 const CONDITIONS: [&str; 5] = ["{% if ", "not ", "a", "", " %}x{% endif %}"];
 
-pub static NESTS: [Nest; 22] = [
+pub static NESTS: [Nest; 24] = [
     Nest(PARENTHESES, 20_000, true),
     Nest(OPEN_PARENTHESES, 20_000, false),
     Nest(NOTS, 198, true),
@@ -396,6 +479,8 @@ pub static NESTS: [Nest; 22] = [
     // a statement without an expression may stand at the limit
     Nest(EMPTY_CAPTURES, 200, true),
     Nest(EMPTY_CAPTURES, 201, false),
+    Nest(EMPTY_BLOCKS, 199, true),
+    Nest(EMPTY_BLOCKS, 200, false),
 ];
 
 pub static OTHERS: [Other; 3] = [

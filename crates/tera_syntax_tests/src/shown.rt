@@ -149,6 +149,13 @@ impl Shown {
                 self.put(" if ");
                 self.put_bound(condition);
             }
+            Expression::Super { arguments, .. } => {
+                for argument in arguments {
+                    self.put(argument.name);
+                    self.put("=");
+                    self.expression(&argument.value);
+                }
+            }
             _ => {}
         }
         self.put_span(span_of(expression));
@@ -215,6 +222,13 @@ impl Shown {
                     self.nodes(other);
                     self.put(")");
                 }
+                Node::Block { name, body, span } => {
+                    self.put("(block ");
+                    self.put(name);
+                    self.put(" of ");
+                    self.nodes(body);
+                    self.put_span(*span);
+                }
                 Node::Break => self.put("(break)"),
                 Node::Continue => self.put("(continue)"),
             }
@@ -240,7 +254,8 @@ fn span_of(expression: &Expression) -> Span {
         | Expression::Ternary { span, .. }
         | Expression::Array { span, .. }
         | Expression::Map { span, .. }
-        | Expression::Comprehension { span, .. } => *span
+        | Expression::Comprehension { span, .. }
+        | Expression::Super { span, .. } => *span
     }
 }
 
@@ -259,6 +274,7 @@ fn word(expression: &Expression) -> &'static str {
         Expression::Array { .. } => "array",
         Expression::Map { .. } => "map",
         Expression::Comprehension { .. } => "each",
+        Expression::Super { .. } => "super",
         _ => "",
     }
 }

@@ -241,7 +241,7 @@ fn is_answered(alloc: Global, case: &str) -> bool {
 }
 
 /// The first script that is answered otherwise.
-fn wrong(alloc: Global, cases: &str) -> Option<usize> {
+pub fn wrong(alloc: Global, cases: &str) -> Option<usize> {
     cases
         .split("\n\n")
         .position(|case| !is_answered(alloc, case))

@@ -24,9 +24,13 @@ mod faults;
 #[cfg(test)]
 mod global_context;
 #[cfg(test)]
+mod inheritance;
+#[cfg(test)]
 mod language;
 #[cfg(test)]
 mod loops;
+#[cfg(test)]
+mod many_blocks;
 #[cfg(test)]
 mod many_items;
 #[cfg(test)]

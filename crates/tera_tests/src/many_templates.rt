@@ -3,7 +3,7 @@ use crate::templates::{adds, shows};
 use std::alloc::Global;
 use tera::{Context, Tera};
 
-fn put_number(text: &mut String, number: usize) -> bool {
+pub fn put_number(text: &mut String, number: usize) -> bool {
     write!(text, "{number}").is_ok()
 }
 
@@ -30,7 +30,7 @@ fn row(alloc: Global, count: usize) -> Option<String> {
 }
 
 /// Whether the templates, each a line of its name and its text, are added in one batch.
-fn adds_all(alloc: Global, engine: &mut Tera, lines: &str) -> bool {
+pub fn adds_all(alloc: Global, engine: &mut Tera, lines: &str) -> bool {
     let mut batch = Vec::new(alloc);
     for line in lines.lines() {
         match line.split_once(' ') {

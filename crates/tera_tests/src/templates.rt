@@ -53,12 +53,16 @@ pub fn shows(engine: &Tera, context: &Context, name: &str, text: &str) -> bool {
     }
 }
 
-/// Whether the rendering is refused with an error of this kind.
-fn fails(engine: &Tera, context: &Context, name: &str, want: &str) -> bool {
-    match engine.render(name, context) {
+/// Whether a rendering is refused with an error of this kind.
+pub fn fails_with(answer: TeraResult<String>, want: &str) -> bool {
+    match answer {
         Ok(_) => false,
         Err(error) => kind(&error) == want,
     }
+}
+
+fn fails(engine: &Tera, context: &Context, name: &str, want: &str) -> bool {
+    fails_with(engine.render(name, context), want)
 }
 
 fn falls_back(engine: &mut Tera, context: &Context) -> bool {
@@ -205,10 +209,7 @@ fn inherits(alloc: Global, engine: &mut Tera, context: &Context) -> bool {
 }
 
 fn is_message(engine: &Tera, context: &Context, input: &str) -> bool {
-    match engine.render_str(input, context, true) {
-        Ok(_) => false,
-        Err(error) => kind(&error) == "Message",
-    }
+    fails_with(engine.render_str(input, context, true), "Message")
 }
 
 fn children_are_shown(alloc: Global) -> bool {

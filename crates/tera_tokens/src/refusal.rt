@@ -20,6 +20,8 @@ pub enum Reason {
     NotOpen,
     /// A statement is open at the end of the text.
     NoEnd,
+    /// Another block has the same name.
+    BlockTwice,
     /// A token follows what the tag is.
     TagGoesOn,
     TooDeep,
@@ -42,6 +44,7 @@ impl Reason {
             Reason::LateExtends => "only white space and comments may stand before `extends`",
             Reason::NotOpen => "what this tag ends or goes on with is not open here",
             Reason::NoEnd => "the end of a statement is due here",
+            Reason::BlockTwice => "another block has this name",
             Reason::TagGoesOn => "the tag goes on where its end is due",
             Reason::TooDeep => "what stands here is nested too deeply",
             Reason::LargeInteger => "the integer is too large",

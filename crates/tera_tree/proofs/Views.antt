@@ -6,13 +6,14 @@ use Rattle.tera_errors.specs.declared.span.Span.{Span}
 use Rattle.tera_tree.specs.declared.expression.Heading.{Heading}
 use Rattle.tera_tree.specs.declared.expression.Item as item
 use Rattle.tera_tree.specs.declared.expression.Entry as entry
-use Rattle.tera_tree.specs.declared.expression.Expression.{Expression, Row_of-Item, end_of-Item, more_of-Item, items-the_row-Item, items_hidden-the_row-Item-0, Row_of-Entry, end_of-Entry, more_of-Entry, items-the_row-Entry, items_hidden-the_row-Entry-1}
+use Rattle.tera_tree.specs.declared.expression.Argument as argument
+use Rattle.tera_tree.specs.declared.expression.Expression.{Expression, Row_of-Item, end_of-Item, more_of-Item, items-the_row-Item, items_hidden-the_row-Item-0, Row_of-Entry, end_of-Entry, more_of-Entry, items-the_row-Entry, items_hidden-the_row-Entry-1, Row_of-Argument, end_of-Argument, more_of-Argument, items-the_row-Argument, items_hidden-the_row-Argument-2}
 use Rattle.tera_tree.specs.declared.expression.Expression.TheVariants as expression
 use Rattle.tera_tree.specs.declared.node.Node.{Row_of-Node, end_of-Node, more_of-Node, items-the_row-Node, items_hidden-the_row-Node-0}
 use Rattle.tera_tree.specs.declared.node.Node as declared
 use Rattle.tera_tree.specs.declared.node.Node.TheVariants as variant
-use Rattle.tera_tree.specs.Tree.{Array, Map, MoreItems, MoreEntries, If, Capture, For, MoreNodes}
-use Rattle.tera_tree.specs.View.{literal_option, expr_of, row_items, items_of, row_entries, entries_of, node_of, row_nodes, nodes_of, for_of}
+use Rattle.tera_tree.specs.Tree.{Array, Map, Super, MoreItems, MoreEntries, MoreArguments, If, Capture, For, Block, MoreNodes}
+use Rattle.tera_tree.specs.View.{literal_option, expr_of, row_items, items_of, row_entries, entries_of, row_arguments, arguments_of, node_of, row_nodes, nodes_of, for_of}
 
 pub items_row : (m : _) (row : Row_of-Item m) → row_items row ≡ items_of (items-the_row-Item m row)
 items_row m end_of-Item = refl
@@ -21,6 +22,10 @@ items_row m (more_of-Item s e rest) = ap (λ r. MoreItems s (expr_of e) r) (item
 pub entries_row : (m : _) (row : Row_of-Entry m) → row_entries row ≡ entries_of (items-the_row-Entry m row)
 entries_row m end_of-Entry = refl
 entries_row m (more_of-Entry k e rest) = ap (λ r. MoreEntries (literal_option k) (expr_of e) r) (entries_row _ rest)
+
+pub arguments_row : (m : _) (row : Row_of-Argument m) → row_arguments row ≡ arguments_of (items-the_row-Argument m row)
+arguments_row m end_of-Argument = refl
+arguments_row m (more_of-Argument n e rest) = ap (λ r. MoreArguments n.now (expr_of e) r) (arguments_row _ rest)
 
 pub nodes_row : (m : _) (row : Row_of-Node m) → row_nodes row ≡ nodes_of (items-the_row-Node m row)
 nodes_row m end_of-Node = refl
@@ -34,10 +39,15 @@ abbrev entries_in : Expression → (n : Count) × Row_of-Entry n
 entries_in (expression.Map' _ row _) = (_, row)
 entries_in _ = (_, end_of-Entry)
 
+abbrev arguments_in : Expression → (n : Count) × Row_of-Argument n
+arguments_in (expression.Super' _ row _) = (_, row)
+arguments_in _ = (_, end_of-Argument)
+
 abbrev body_in : declared.Node → (n : Count) × Row_of-Node n
 body_in (variant.If' _ _ row _ _) = (_, row)
 body_in (variant.Capture' _ _ row _) = (_, row)
 body_in (variant.For' _ _ row _ _) = (_, row)
+body_in (variant.Block' _ _ row _) = (_, row)
 body_in _ = (_, end_of-Node)
 
 abbrev other_in : declared.Node → (n : Count) × Row_of-Node n
@@ -57,6 +67,14 @@ pub view_map : (all : Vec entry.Entry Global) (span : Span) → expr_of (express
 view_map all span =
     let r = entries_in (expression.Map all span) in
     ap (λ x. Map x span) (entries_row r.0 r.1 ∙ ap entries_of (items_hidden-the_row-Entry-1 all))
+
+pub view_super : (all : Vec argument.Argument Global) (span : Span) → expr_of (expression.Super all span) ≡ Super (arguments_of all.items) span
+view_super all span =
+    let r = arguments_in (expression.Super all span) in
+    ap (λ x. Super x span) (arguments_row r.0 r.1 ∙ ap arguments_of (items_hidden-the_row-Argument-2 all))
+
+pub view_block : (t : Bor Text) (body : Vec declared.Node Global) (span : Span) → node_of (variant.Block t body span) ≡ Block t.now (nodes_of body.items) span
+view_block t body span = ap (λ x. Block t.now x span) (nodes_is (body_in (variant.Block t body span)) body (items_hidden-the_row-Node-0 body))
 
 pub view_if : (c : Box Expression Global) (body other : Vec declared.Node Global) → node_of (variant.If c body other) ≡ If (expr_of c.value) (nodes_of body.items) (nodes_of other.items)
 view_if c body other =

@@ -1,7 +1,8 @@
 -- How deep trees are.
 use Rattle.std.specs.Prelude.{ℕ, suc, max, ◌≤◌, false, IsTrue}
-use Rattle.tera_tree.specs.Tree.{Expr, Nothing, Boolean, Integer, Text, Name, Attribute, Index, Slice, Not, Negate, Binary, And, Or, Ternary, Array, Map, Comprehension, Optional, Absent, Present, Items, NoItems, MoreItems, Entries, NoEntries, MoreEntries, Node, Content, Print, If, Set, Capture, For, Break, Continue, Nodes, NoNodes, MoreNodes, Tree}
+use Rattle.tera_tree.specs.Tree.{Expr, Nothing, Boolean, Integer, Text, Name, Attribute, Index, Slice, Not, Negate, Binary, And, Or, Ternary, Array, Map, Comprehension, Super, Optional, Absent, Present, Items, NoItems, MoreItems, Entries, NoEntries, MoreEntries, Arguments, NoArguments, MoreArguments, Node, Content, Print, If, Set, Capture, For, Block, Break, Continue, Nodes, NoNodes, MoreNodes, Tree}
 use Rattle.tera_tree.specs.Places.{in_place}
+use Rattle.tera_tree.specs.Blocks.{has_each_block_once}
 
 -- a leaf has depth 1, and anything else one more than its deepest part
 abbrev mutual
@@ -24,6 +25,7 @@ abbrev mutual
   depth (Array all span) = suc (items_depth all)
   depth (Map all span) = suc (entries_depth all)
   depth (Comprehension v key n e c span) = suc (max (depth v) (max (depth e) (optional_depth c)))
+  depth (Super all span) = suc (arguments_depth all)
 
   pub optional_depth : Optional → ℕ
   optional_depth Absent = 0
@@ -37,6 +39,10 @@ abbrev mutual
   entries_depth NoEntries = 0
   entries_depth (MoreEntries k e rest) = max (depth e) (entries_depth rest)
 
+  pub arguments_depth : Arguments → ℕ
+  arguments_depth NoArguments = 0
+  arguments_depth (MoreArguments n e rest) = max (depth e) (arguments_depth rest)
+
 abbrev mutual
   pub node_depth : Node → ℕ
   node_depth (Content t span) = 1
@@ -45,6 +51,7 @@ abbrev mutual
   node_depth (Set n e is_global) = suc (depth e)
   node_depth (Capture n body is_global) = suc (nodes_depth body)
   node_depth (For key n e body other) = suc (max (depth e) (max (nodes_depth body) (nodes_depth other)))
+  node_depth (Block n body span) = suc (nodes_depth body)
   node_depth Break = 1
   node_depth Continue = 1
 
@@ -52,6 +59,6 @@ abbrev mutual
   nodes_depth NoNodes = 0
   nodes_depth (MoreNodes n rest) = max (node_depth n) (nodes_depth rest)
 
--- what the grammar allows: at most 200 deep, and nothing out of its place
+-- what the grammar allows: at most 200 deep, nothing out of its place, and no two blocks of one name
 abbrev pub IsWellFormed : Tree → Type 0
-IsWellFormed t = (nodes_depth t.nodes ≤ 200) × IsTrue (in_place false t.nodes)
+IsWellFormed t = (nodes_depth t.nodes ≤ 200) × IsTrue (in_place false t.nodes) × IsTrue (has_each_block_once t.nodes)

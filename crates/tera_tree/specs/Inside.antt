@@ -1,7 +1,7 @@
 -- Trees of which every span is a stretch of the text.
 use Rattle.std.specs.Prelude.{ℕ, ◌≤◌}
 use Rattle.tera_errors.specs.declared.span.Span.{Span}
-use Rattle.tera_tree.specs.Tree.{Expr, Nothing, Boolean, Integer, Text, Name, Attribute, Index, Slice, Not, Negate, Binary, And, Or, Ternary, Array, Map, Comprehension, Optional, Absent, Present, Items, NoItems, MoreItems, Entries, NoEntries, MoreEntries, Node, Content, Print, If, Set, Capture, For, Break, Continue, Nodes, NoNodes, MoreNodes, Tree}
+use Rattle.tera_tree.specs.Tree.{Expr, Nothing, Boolean, Integer, Text, Name, Attribute, Index, Slice, Not, Negate, Binary, And, Or, Ternary, Array, Map, Comprehension, Super, Optional, Absent, Present, Items, NoItems, MoreItems, Entries, NoEntries, MoreEntries, Arguments, NoArguments, MoreArguments, Node, Content, Print, If, Set, Capture, For, Block, Break, Continue, Nodes, NoNodes, MoreNodes, Tree}
 
 -- a stretch of a text of this size
 abbrev pub Within : ℕ → Span → Type 0
@@ -27,6 +27,7 @@ abbrev mutual
   ExprInside size (Array all span) = ItemsInside size all × Within size span
   ExprInside size (Map all span) = EntriesInside size all × Within size span
   ExprInside size (Comprehension v key n e c span) = ExprInside size v × ExprInside size e × OptionalInside size c × Within size span
+  ExprInside size (Super all span) = ArgumentsInside size all × Within size span
 
   pub OptionalInside : ℕ → Optional → Type 0
   OptionalInside size Absent = Unit {0}
@@ -40,6 +41,10 @@ abbrev mutual
   EntriesInside size NoEntries = Unit {0}
   EntriesInside size (MoreEntries k e rest) = ExprInside size e × EntriesInside size rest
 
+  pub ArgumentsInside : ℕ → Arguments → Type 0
+  ArgumentsInside size NoArguments = Unit {0}
+  ArgumentsInside size (MoreArguments n e rest) = ExprInside size e × ArgumentsInside size rest
+
 abbrev mutual
   pub NodeInside : ℕ → Node → Type 0
   NodeInside size (Content t span) = Within size span
@@ -48,6 +53,7 @@ abbrev mutual
   NodeInside size (Set n e is_global) = ExprInside size e
   NodeInside size (Capture n body is_global) = NodesInside size body
   NodeInside size (For key n e body other) = ExprInside size e × NodesInside size body × NodesInside size other
+  NodeInside size (Block n body span) = NodesInside size body × Within size span
   NodeInside size Break = Unit {0}
   NodeInside size Continue = Unit {0}
 

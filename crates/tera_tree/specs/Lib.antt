@@ -2,5 +2,6 @@ pub mod Delimiters
 pub mod Tree
 pub mod View
 pub mod Places
+pub mod Blocks
 pub mod Depth
 pub mod Inside

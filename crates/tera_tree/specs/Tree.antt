@@ -29,6 +29,7 @@ mutual
     Array : (items : Items) (span : Span) → Expr
     Map : (entries : Entries) (span : Span) → Expr
     Comprehension : (value : Expr) (key : Option site.Name) (name : site.Name) (target : Expr) (condition : Optional) (span : Span) → Expr
+    Super : (arguments : Arguments) (span : Span) → Expr
 
   pub data Optional : Type 0 where
     Absent : Optional
@@ -43,6 +44,11 @@ mutual
     NoEntries : Entries
     MoreEntries : (key : Option Key) (value : Expr) (rest : Entries) → Entries
 
+  -- in byte order of their names, none of which stands twice
+  pub data Arguments : Type 0 where
+    NoArguments : Arguments
+    MoreArguments : (name : site.Name) (value : Expr) (rest : Arguments) → Arguments
+
 mutual
   pub data Node : Type 0 where
     Content : (text : site.Text) (span : Span) → Node
@@ -51,6 +57,7 @@ mutual
     Set : (name : site.Name) (value : Expr) (is_global : Bool) → Node
     Capture : (name : site.Name) (body : Nodes) (is_global : Bool) → Node
     For : (key : Option site.Name) (name : site.Name) (target : Expr) (body : Nodes) (other : Nodes) → Node
+    Block : (name : site.Name) (body : Nodes) (span : Span) → Node
     Break : Node
     Continue : Node
 

@@ -1,7 +1,7 @@
 -- The plain data that a tree in memory stands for.
 use Rattle.std.specs.Prelude.{List, [], ◌∷◌, Bool, Option, Some, None, string_bytes, option_copied, Box, map as map_list}
 use Rattle.std.specs.Global.{Global}
-use Rattle.tera_tree.specs.declared.expression.Expression.{Expression, Row_of-Item, end_of-Item, more_of-Item, Row_of-Entry, end_of-Entry, more_of-Entry, Held-Expression-Comprehension-2, Expression-Comprehension-2-None', Some'}
+use Rattle.tera_tree.specs.declared.expression.Expression.{Expression, Row_of-Item, end_of-Item, more_of-Item, Row_of-Entry, end_of-Entry, more_of-Entry, Row_of-Argument, end_of-Argument, more_of-Argument, Held-Expression-Comprehension-2, Expression-Comprehension-2-None', Some'}
 use Rattle.tera_tree.specs.declared.expression.Expression.TheVariants as expression
 use Rattle.tera_errors.specs.Site as site
 use Rattle.tera_errors.specs.declared.span.Span.{Span}
@@ -15,11 +15,12 @@ use Rattle.tera_tree.specs.declared.quoted.Quoted.{Quoted}
 use Rattle.tera_tree.specs.declared.quoted.Quoted.TheVariants as quoted
 use Rattle.tera_tree.specs.declared.expression.Item as item
 use Rattle.tera_tree.specs.declared.expression.Entry as entry
+use Rattle.tera_tree.specs.declared.expression.Argument as argument
 use Rattle.tera_tree.specs.declared.node.Node.{Row_of-Node, end_of-Node, more_of-Node}
 use Rattle.tera_tree.specs.declared.node.Node as declared
 use Rattle.tera_tree.specs.declared.node.Node.TheVariants as variant
 use Rattle.tera_tree.specs.declared.node.ParserOutput.{ParserOutput}
-use Rattle.tera_tree.specs.Tree.{Key, BoolKey, IntKey, TextKey, Expr, Nothing, Boolean, Integer, Text, Name, Attribute, Index, Slice, Not, Negate, Binary, And, Or, Ternary, Array, Map, Comprehension, Optional, Absent, Present, Items, NoItems, MoreItems, Entries, NoEntries, MoreEntries, Node, Content, Print, If, Set, Capture, For, Break, Continue, Nodes, NoNodes, MoreNodes, Tree}
+use Rattle.tera_tree.specs.Tree.{Key, BoolKey, IntKey, TextKey, Expr, Nothing, Boolean, Integer, Text, Name, Attribute, Index, Slice, Not, Negate, Binary, And, Or, Ternary, Array, Map, Comprehension, Super, Optional, Absent, Present, Items, NoItems, MoreItems, Entries, NoEntries, MoreEntries, Arguments, NoArguments, MoreArguments, Node, Content, Print, If, Set, Capture, For, Block, Break, Continue, Nodes, NoNodes, MoreNodes, Tree}
 
 abbrev pub quoted_of : Quoted → site.Text
 quoted_of (quoted.Lent t) = t.now
@@ -69,6 +70,7 @@ abbrev mutual
   expr_of (expression.Array' m all span) = Array (row_items all) span
   expr_of (expression.Map' m all span) = Map (row_entries all) span
   expr_of (expression.Comprehension' p v q key n e c span) = Comprehension (expr_of v) (option_copied key) n.now (expr_of e) (held_of c) span
+  expr_of (expression.Super' m all span) = Super (row_arguments all) span
 
   pub held_of : Held-Expression-Comprehension-2 → Optional
   held_of Expression-Comprehension-2-None' = Absent
@@ -81,6 +83,10 @@ abbrev mutual
   pub row_entries : {m : _} → Row_of-Entry m → Entries
   row_entries end_of-Entry = NoEntries
   row_entries (more_of-Entry k e rest) = MoreEntries (literal_option k) (expr_of e) (row_entries rest)
+
+  pub row_arguments : {m : _} → Row_of-Argument m → Arguments
+  row_arguments end_of-Argument = NoArguments
+  row_arguments (more_of-Argument n e rest) = MoreArguments n.now (expr_of e) (row_arguments rest)
 
 abbrev pub optional_of : Option (Box Expression Global) → Optional
 optional_of None = Absent
@@ -102,6 +108,10 @@ abbrev pub entries_of : List entry.Entry → Entries
 entries_of [] = NoEntries
 entries_of (a ∷ rest) = MoreEntries (literal_option a.key) (expr_of a.value) (entries_of rest)
 
+abbrev pub arguments_of : List argument.Argument → Arguments
+arguments_of [] = NoArguments
+arguments_of (a ∷ rest) = MoreArguments a.name.now (expr_of a.value) (arguments_of rest)
+
 abbrev mutual
   pub node_of : declared.Node → Node
   node_of (variant.Content t span) = Content t.now span
@@ -110,6 +120,7 @@ abbrev mutual
   node_of (variant.Set t e is_global) = Set t.now (expr_of e.value) is_global
   node_of (variant.Capture' t m body is_global) = Capture t.now (row_nodes body) is_global
   node_of (variant.For' h m body n other) = For (option_copied h.value.key) h.value.name.now (expr_of h.value.target) (row_nodes body) (row_nodes other)
+  node_of (variant.Block' t m body span) = Block t.now (row_nodes body) span
   node_of variant.Break = Break
   node_of variant.Continue = Continue
 

@@ -129,6 +129,11 @@ pub enum Expression<'s> {
         condition: Option<Box<Expression<'s>>>,
         span: Span,
     },
+    /// `super(name = value, ..)`: what the next template above makes of the block.
+    Super {
+        arguments: Vec<Argument<'s>>,
+        span: Span,
+    },
 }
 
 // By hand, so that a tree that goes out of scope is one call and not a match on every form.
@@ -200,6 +205,10 @@ impl<'s> Drop for Expression<'s> {
                 condition: _,
                 span: _,
             } => {}
+            Expression::Super {
+                arguments: _,
+                span: _,
+            } => {}
         }
     }
 }
@@ -217,6 +226,14 @@ pub struct Item<'s> {
 #[cycle(expression)]
 pub struct Entry<'s> {
     pub key: Option<LiteralKey<'s>>,
+    pub value: Expression<'s>,
+}
+
+/// An argument of a call. A call has its arguments in byte order of their names, in which they are evaluated.
+#[derive(Drop)]
+#[cycle(expression)]
+pub struct Argument<'s> {
+    pub name: &'s str,
     pub value: Expression<'s>,
 }
 

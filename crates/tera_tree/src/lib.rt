@@ -9,7 +9,7 @@ pub mod quoted;
 
 pub use delimiters::Delimiters;
 pub use expression::{
-    BinaryOperator, Bounds, Entry, Expression, Heading, Item, LiteralKey, OwnedKey,
+    Argument, BinaryOperator, Bounds, Entry, Expression, Heading, Item, LiteralKey, OwnedKey,
 };
 pub use node::{Node, ParserOutput};
 pub use quoted::Quoted;

@@ -1,9 +1,9 @@
 // Trees from their parts.
 ghost use Rattle.std.specs.Prelude.{◌≡◌};
-ghost use Rattle.tera_tree.specs.Tree.{Attribute, Index, Not, Negate, Binary, And, Or, Ternary, Array, Map, If, Set, Capture};
-ghost use Rattle.tera_tree.specs.View.{expr_of, slice_of, comprehension_of, items_of, entries_of, node_of, nodes_of, for_of};
+ghost use Rattle.tera_tree.specs.Tree.{Attribute, Index, Not, Negate, Binary, And, Or, Ternary, Array, Map, Super, If, Set, Capture, Block};
+ghost use Rattle.tera_tree.specs.View.{expr_of, slice_of, comprehension_of, items_of, entries_of, arguments_of, node_of, nodes_of, for_of};
 
-use crate::expression::{BinaryOperator, Bounds, Entry, Expression, Heading, Item};
+use crate::expression::{Argument, BinaryOperator, Bounds, Entry, Expression, Heading, Item};
 use crate::node::Node;
 use tera_errors::Span;
 
@@ -155,6 +155,13 @@ impl<'s> Expression<'s> {
             span,
         }
     }
+
+    /// `super(name = value, ..)`
+    pub fn above(arguments: Vec<Argument<'s>>, span: Span) -> Expression<'s>
+        ensures { expr_of result ≡ Super (arguments_of arguments.entry.items) span }
+    {
+        Expression::Super { arguments, span }
+    }
 }
 
 impl<'s> Node<'s> {
@@ -195,6 +202,13 @@ impl<'s> Node<'s> {
             body,
             is_global,
         }
+    }
+
+    /// `{% block name %}body{% endblock %}`
+    pub fn block(name: &'s str, body: Vec<Node<'s>>, span: Span) -> Node<'s>
+        ensures { node_of result ≡ Block name.now (nodes_of body.entry.items) span }
+    {
+        Node::Block { name, body, span }
     }
 
     /// `{% for heading %}body{% else %}other{% endfor %}`

@@ -38,6 +38,12 @@ pub enum Node<'s> {
         body: Vec<Node<'s>>,
         other: Vec<Node<'s>>,
     },
+    /// `{% block name %}body{% endblock %}`. The span is that of the name.
+    Block {
+        name: &'s str,
+        body: Vec<Node<'s>>,
+        span: Span,
+    },
     /// `{% break %}`
     Break,
     /// `{% continue %}`
@@ -69,6 +75,11 @@ impl<'s> Drop for Node<'s> {
                 heading: _,
                 body: _,
                 other: _,
+            } => {}
+            Node::Block {
+                name: _,
+                body: _,
+                span: _,
             } => {}
             Node::Break => {}
             Node::Continue => {}

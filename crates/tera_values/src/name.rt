@@ -133,11 +133,20 @@ impl<'a> Sought<'a> {
     }
 
     /// Whether this is the name.
+    #[inline(always)]
     pub fn is(&self, name: &Name) -> bool
         ensures { result ≡ bytes_eq self.now name.now }
     {
-        self.hash == name.hash && self.text == name.text.as_str()
+        self.hash == name.hash && are_same(self.text, name.text.as_str())
     }
+}
+
+// Not inlined, so that only the hashes are compared where a name is looked for.
+#[inline(never)]
+fn are_same(a: &str, b: &str) -> bool
+    ensures { result ≡ bytes_eq a.now b.now }
+{
+    a == b
 }
 
 fn hash_of(text: &str) -> u64

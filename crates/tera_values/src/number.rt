@@ -8,6 +8,7 @@ use tera_errors::{Error, TeraResult};
 use tera_values_data::{Shape, Value};
 
 /// The two integers, or none where there are not two.
+#[inline(always)]
 fn integers(left: &Value, right: &Value) -> Option<(i128, i128)>
     ensures { result ≡ integers left.now right.now }
 {
@@ -21,6 +22,7 @@ fn integers(left: &Value, right: &Value) -> Option<(i128, i128)>
 }
 
 /// The number as a value, or a refusal.
+#[inline(always)]
 fn answer(alloc: Global, number: Option<i128>) -> TeraResult<Value>
     ensures value { Gives (λ v. v) result (told number) }
     ensures ready { IsOk (told number) → IsOk result }
@@ -31,18 +33,21 @@ fn answer(alloc: Global, number: Option<i128>) -> TeraResult<Value>
     }
 }
 
+#[inline(always)]
 fn sum(a: i128, b: i128) -> Option<i128>
     ensures { told result ≡ sum a b }
 {
     a.checked_add(b)
 }
 
+#[inline(always)]
 fn difference(a: i128, b: i128) -> Option<i128>
     ensures { told result ≡ difference a b }
 {
     a.checked_sub(b)
 }
 
+#[inline(always)]
 fn product(a: i128, b: i128) -> Option<i128>
     ensures { told result ≡ product a b }
 {
@@ -115,6 +120,7 @@ fn far_power(a: i128, b: i128) -> Option<i128>
 }
 
 /// The sum.
+#[inline(always)]
 pub fn add(alloc: Global, left: &Value, right: &Value) -> TeraResult<Value>
     ensures value { Gives (λ v. v) result (add left.now right.now) }
     ensures ready { IsOk (add left.now right.now) → IsOk result }
@@ -126,6 +132,7 @@ pub fn add(alloc: Global, left: &Value, right: &Value) -> TeraResult<Value>
 }
 
 /// The difference.
+#[inline(always)]
 pub fn sub(alloc: Global, left: &Value, right: &Value) -> TeraResult<Value>
     ensures value { Gives (λ v. v) result (sub left.now right.now) }
     ensures ready { IsOk (sub left.now right.now) → IsOk result }
@@ -137,6 +144,7 @@ pub fn sub(alloc: Global, left: &Value, right: &Value) -> TeraResult<Value>
 }
 
 /// The product.
+#[inline(always)]
 pub fn mul(alloc: Global, left: &Value, right: &Value) -> TeraResult<Value>
     ensures value { Gives (λ v. v) result (mul left.now right.now) }
     ensures ready { IsOk (mul left.now right.now) → IsOk result }

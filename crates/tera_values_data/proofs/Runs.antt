@@ -3,7 +3,7 @@ use Rattle.std.proofs.Common.{◌≡◌, ℕ, zero, suc, ◌+◌, ◌-◌, ◌<�
 use Rattle.std.proofs.lemmas.Str.{IsCharBoundary-from_take}
 use Rattle.std.proofs.Math.Seq.{take-append_seam}
 use Rattle.std.specs.String.Boundary.{IsSplitPoint}
-use Rattle.std.proofs.lemmas.List.{append-nil, take_more, drop_more, get_or-drop, length-drop}
+use Rattle.std.proofs.lemmas.List.{append-nil, take_more, drop_more, get_or-drop, length-drop, take_all, drop_all}
 use mathlib.Core.Bool.{true≢false}
 use Rattle.tera_values_data.specs.Growth.{Keeps, IsPlain, by_byte}
 
@@ -64,6 +64,15 @@ pub run_to : (f : ℕ → List ℕ) (t : List ℕ) (s p q : ℕ) → s ≤ p →
 run_to f t s p q o le h plain =
     let same : p + (q - p) ≡ q = omega arith in
     run_on f t s p (q - p) o (omega arith) (λ k low high. plain k low (omega arith)) ∙ ap (λ (r : ℕ). take (r - s) (drop s t) ++ by_byte f (drop r t)) same
+
+-- where all bytes stand for themselves, so does the text
+pub plain_text : (f : ℕ → List ℕ) (t : List ℕ) → IsPlain f t 0 (length t) → by_byte f t ≡ t
+plain_text f t plain =
+    run_to f t 0 0 (length t) (omega arith) (omega arith) (omega arith) plain
+    ∙ ap (λ (n : ℕ). take n t ++ by_byte f (drop (length t) t)) (omega arith)
+    ∙ ap (λ (x : List ℕ). x ++ by_byte f (drop (length t) t)) (take_all (length t) t (omega arith))
+    ∙ ap (λ (x : List ℕ). t ++ by_byte f x) (drop_all (length t) t (omega arith))
+    ∙ append-nil t
 
 -- none of five is a byte of its own form, so the form is the byte
 pub last_form : (a b c d e : Bool) (p q r s t u : List ℕ) → ((((a || b) || c) || d) || e) ≡ false → cond a p (cond b q (cond c r (cond d s (cond e t u)))) ≡ u

@@ -51,6 +51,7 @@ impl Value {
     }
 
     /// Whether the value is what an unbound name stands for.
+    #[inline(always)]
     pub fn is_undefined(&self) -> bool
         ensures { result ≡ is_undefined self.now }
     {
@@ -58,6 +59,7 @@ impl Value {
     }
 
     /// Whether the printed form needs no escape: a marked text, an integer, a boolean, none.
+    #[inline(always)]
     pub fn is_safe(&self) -> bool
         ensures { result ≡ is_safe self.now }
     {
@@ -71,6 +73,7 @@ impl Value {
     }
 
     /// The integer; none for other kinds.
+    #[inline(always)]
     pub fn as_i128(&self) -> Option<i128>
         ensures { result ≡ int_of self.now }
     {
@@ -81,6 +84,7 @@ impl Value {
     }
 
     /// The text, without its mark; none for other kinds.
+    #[inline(always)]
     pub fn as_str(&self) -> Option<&str>
         ensures { option_copied result ≡ text_of self.now }
     {
@@ -91,6 +95,7 @@ impl Value {
     }
 
     /// Whether the value counts as true in a condition.
+    #[inline(always)]
     pub fn is_truthy(&self) -> bool
         ensures { result ≡ truthy self.now }
     {

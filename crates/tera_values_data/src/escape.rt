@@ -200,9 +200,9 @@ pub(crate) fn append_quoted(text: &str, out: &mut String) -> TeraResult<()>
     append("\"", out)
 }
 
-/// Appends the text with `& < > " '` in their forms for markup, and every other character as it is.
-/// Where memory is refused, what was there is there alone.
-pub fn escape_html(text: &str, out: &mut String) -> TeraResult<()>
+/// The same as `escape_html`, for a text in which something has a form of its own.
+#[inline(never)]
+fn append_marked(text: &str, out: &mut String) -> TeraResult<()>
     ensures ok { OnOk result (string_bytes out.new ≡ string_bytes out.old ++ escape_html text.now) }
     ensures err { OnErr result (string_bytes out.new ≡ string_bytes out.old) }
     ensures lacks { IfErr result Lacks }
@@ -214,5 +214,20 @@ pub fn escape_html(text: &str, out: &mut String) -> TeraResult<()>
             out.truncate(kept);
             Err(error)
         }
+    }
+}
+
+/// Appends the text with `& < > " '` in their forms for markup, and every other character as it is.
+/// Where memory is refused, what was there is there alone.
+pub fn escape_html(text: &str, out: &mut String) -> TeraResult<()>
+    ensures ok { OnOk result (string_bytes out.new ≡ string_bytes out.old ++ escape_html text.now) }
+    ensures err { OnErr result (string_bytes out.new ≡ string_bytes out.old) }
+    ensures lacks { IfErr result Lacks }
+{
+    let place = next_form::<Markup>(text.as_bytes(), 0);
+    if place == text.len() {
+        append(text, out)
+    } else {
+        append_marked(text, out)
     }
 }

@@ -71,7 +71,10 @@ impl Map {
     pub fn get_text(&self, name: &str) -> Option<&Value>
         ensures { option_copied result ≡ find (ktext name.now) self.now }
     {
-        self.value_at(&Wanted::Text(name))
+        match &self.table {
+            Some(table) => table.text_at(name),
+            None => None,
+        }
     }
 
     pub(crate) fn value_at(&self, wanted: &Wanted<'_>) -> Option<&Value>

@@ -30,6 +30,7 @@ fn append_bool(flag: bool, out: &mut String) -> TeraResult<()>
 
 fn append_integer(number: i128, out: &mut String) -> TeraResult<()>
     ensures ok { OnOk result (string_bytes out.new ≡ string_bytes out.old ++ signed_decimal number) }
+    ensures err { OnErr result (string_bytes out.new ≡ string_bytes out.old) }
     ensures keeps { Keeps (string_bytes out.old) (string_bytes out.new) }
     ensures lacks { IfErr result Lacks }
 {
@@ -79,7 +80,21 @@ impl Value {
     }
 
     /// Appends the printed text. Where memory is refused, what was there is there alone.
+    #[inline(always)]
     pub fn print_to(&self, out: &mut String) -> TeraResult<()>
+        ensures ok { OnOk result (string_bytes out.new ≡ string_bytes out.old ++ printed self.now) }
+        ensures err { OnErr result (string_bytes out.new ≡ string_bytes out.old) }
+        ensures lacks { IfErr result Lacks }
+    {
+        match self.shape() {
+            Shape::Int(number) => append_integer(number, out),
+            Shape::Text(content, _) => append(content, out),
+            _ => self.print_all_to(out),
+        }
+    }
+
+    // The same for every kind: what a part wrote before memory was refused is taken off.
+    fn print_all_to(&self, out: &mut String) -> TeraResult<()>
         ensures ok { OnOk result (string_bytes out.new ≡ string_bytes out.old ++ printed self.now) }
         ensures err { OnErr result (string_bytes out.new ≡ string_bytes out.old) }
         ensures lacks { IfErr result Lacks }

@@ -20,6 +20,7 @@ pub enum Shape<'a> {
 
 impl Value {
     /// The kind and the content.
+    #[inline(always)]
     pub fn shape(&self) -> Shape<'_>
         ensures { shape_view result ≡ self.now }
     {

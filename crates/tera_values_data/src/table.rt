@@ -1,9 +1,10 @@
 // The table of a map: entries in order of insertion, found by key.
 ghost use Rattle.std.specs.Prelude.{◌≡◌, [], IfOk, IfErr, OnOk, OnErr, IsSome, IsOk, length, option_copied, option_map, slice_get};
 ghost use Rattle.tera_errors.specs.Answer.{Lacks};
+ghost use Rattle.tera_values_data.specs.Val.{ktext};
 ghost use Rattle.tera_values_data.specs.View.{key_view, wanted_view, entry_views};
 ghost use Rattle.tera_values_data.specs.Index.{IsIndex, IsAt, IsGapFor, IsDistinct};
-ghost use Rattle.tera_values_data.specs.Access.{find, insert_pair};
+ghost use Rattle.tera_values_data.specs.Access.{find, insert_pair, key_eq};
 
 use crate::key::{Key, Wanted, compare_key};
 use crate::value::{Entry, Table, Value};
@@ -29,6 +30,29 @@ fn search(all: &[Entry], by_key: &[usize], wanted: &Wanted<'_>) -> Result<usize,
         }
     }
     Err(low)
+}
+
+/// Whether the key is this text.
+#[inline]
+fn is_text(key: &Key, name: &str) -> bool
+    ensures { result ≡ key_eq (ktext name.now) (key_view key.now) }
+{
+    match key {
+        Key::Text(text) => name == text.as_str(),
+        _ => false,
+    }
+}
+
+/// The value at a text key, looked for from the first entry on: of few entries that is the shorter way.
+fn first_at<'a>(all: &'a [Entry], name: &str) -> Option<&'a Value>
+    ensures { option_copied result ≡ find (ktext name.now) (entry_views all.now) }
+{
+    for entry in all {
+        if is_text(&entry.key, name) {
+            return Some(&entry.value);
+        }
+    }
+    None
 }
 
 impl Table {
@@ -63,6 +87,16 @@ impl Table {
         match search(self.all.as_slice(), self.by_key.as_slice(), wanted) {
             Ok(at) => Some(&self.all[self.by_key[at]].value),
             Err(_) => None,
+        }
+    }
+
+    pub(crate) fn text_at(&self, name: &str) -> Option<&Value>
+        ensures { option_copied result ≡ find (ktext name.now) self.now }
+    {
+        if self.all.len() <= 8 {
+            first_at(self.all.as_slice(), name)
+        } else {
+            self.value_at(&Wanted::Text(name))
         }
     }
 

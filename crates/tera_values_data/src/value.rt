@@ -30,12 +30,17 @@ pub struct Value {
     pub(crate) node: Node,
 }
 
-// By hand, so that a value that goes out of scope is one call and not a match on every node.
+// By hand, so that a value that goes out of scope is one call and not a match on every node. What holds no memory is
+// let go in place.
 impl Drop for Value {
     #[cycle(dropping)]
+    #[inline(always)]
     fn drop(self) {
         let Value { node } = self;
-        drop(node);
+        match node {
+            Node::Undefined | Node::None | Node::Bool(_) | Node::Int(_) => {}
+            node => drop(node),
+        }
     }
 }
 

@@ -11,7 +11,7 @@ pub returns-in-Ok-clause-reads : goal.returns-in-Ok-clause-reads
 returns-in-Ok-clause-reads c =
     let tree = tree_of c.in-Ok.output in
     let s = file_sound 200 _ tree c.in-Ok.ensures in
-    (s.0, (s.1, file_placed s.0), λ other w h. one_tree c.args.name.now (delimiters_of c.args.delimiters.now) c.args.source.now other tree h s.0)
+    (s.0, (s.1, file_placed s.0, s.2), λ other w h. one_tree c.args.name.now (delimiters_of c.args.delimiters.now) c.args.source.now other tree h s.0)
 
 pub returns-in-Ok-clause-inside : goal.returns-in-Ok-clause-inside
 returns-in-Ok-clause-inside c =

@@ -11,5 +11,5 @@ returns-else-may_begin c =
     let s = progress_of c.args.progress.now in
     let tokens = tokens_of c.args.tag.now in
     let h : hint c.args.word.now ≡ false = cc in
-    let n = none_begun (room 200 s) s.in_loop tokens c.args.word.now h in
+    let n = none_begun (room 200 s) s.surroundings tokens c.args.word.now h in
     subst (λ o. Becomes (option_and_then (taken 200 s tokens) o) c.shut.result c.shut.new.self) (sym n) c.shut.ensures

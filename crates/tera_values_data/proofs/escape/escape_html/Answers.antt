@@ -1,12 +1,12 @@
-use Rattle.std.proofs.Common.{◌≡◌, string_bytes, length, subst, sym, rules}
-use Rattle.std.proofs.lemmas.Str.{IsUtf8-string_bytes}
-use Rattle.std.specs.String.Boundary.{IsSplitPoint}
-use Rattle.tera_values_data.proofs.Runs.{split_point}
+use Rattle.std.proofs.Common.{◌≡◌, ℕ, List, ◌++◌, string_bytes, length, subst, sym}
+use Rattle.std.specs.Prelude.{OnOk}
+use Rattle.tera_values_data.specs.Escape.{escape_byte}
+use Rattle.tera_values_data.specs.Growth.{IsPlain}
+use Rattle.tera_values_data.proofs.Runs.{plain_text}
 use Rattle.tera_values_data.proofs.escape.escape_html.Goals as goal
 
-pub truncate-requires : goal.truncate-requires
-truncate-requires c =
-    let old = c.args.out.now in
-    let new = c.append_forms.new.out in
-    let kept : c.len-kept.result ≡ length (string_bytes old) = search rules in
-    λ _. subst (IsSplitPoint (string_bytes new)) (sym kept) (split_point (string_bytes old) (string_bytes new) (IsUtf8-string_bytes old) (IsUtf8-string_bytes new) c.append_forms.ensures.keeps)
+pub returns-then-place-text-clause-ok : goal.returns-then-place-text-clause-ok
+returns-then-place-text-clause-ok c =
+    let t : List ℕ = c.args.text.now in
+    let plain : IsPlain escape_byte t 0 (length t) = rw (c.if-place-text.true, c.as_bytes.ensures.value) at c.next_form-place.ensures.plain in
+    subst (λ (x : List ℕ). OnOk c.append.result (string_bytes c.append.new.out ≡ string_bytes c.args.out.now ++ x)) (sym (plain_text escape_byte t plain)) c.append.ensures.ok

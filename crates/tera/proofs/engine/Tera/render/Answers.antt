@@ -6,18 +6,18 @@ use Rattle.tera.specs.Registry.{registry_of}
 use Rattle.tera.proofs.ByName.{code-found, text-found, renders, not_there}
 use Rattle.tera.proofs.engine.Tera.render.Goals as goal
 
-pub render_body-requires : goal.render_body-requires
-render_body-requires c =
+pub render_found-requires : goal.render_found-requires
+render_found-requires c =
     let r = registry_of c.args.self.now in
-    code-found r c.args.name.now c.in-Some.found (c.in-Some.ensures r)
+    let leads = c.in-Some.ensures r in
+    record { linked = leads.among; code = code-found r c.args.name.now c.in-Some.found leads }
 
 pub returns-in-Some : goal.returns-in-Some
 returns-in-Some c =
     let r = registry_of c.args.self.now in
-    let flag = rw c.as_slice.ensures.value at c.ends_with_one_of-autoescape.ensures in
-    let is = text-found c.args.self.now c.args.name.now c.args.context.now c.in-Some.found c.ends_with_one_of-autoescape.result (c.in-Some.ensures r) flag in
-    let P : Result Text Fault → Type 0 = Gives (string_bytes {Z = Global}) c.render_body.result in
-    renders r refl c.args.name.now c.args.context.now (string_bytes {Z = Global}) c.render_body.result (subst P is c.render_body.ensures)
+    let is = text-found c.args.self.now c.args.name.now c.args.context.now c.in-Some.found c.escapes.result (c.in-Some.ensures r) c.escapes.ensures in
+    let P : Result Text Fault → Type 0 = Gives (string_bytes {Z = Global}) c.render_found.result in
+    renders r refl c.args.name.now c.args.context.now (string_bytes {Z = Global}) c.render_found.result (subst P is c.render_found.ensures)
 
 pub returns-in-None : goal.returns-in-None
 returns-in-None c =

@@ -3,7 +3,7 @@ use Rattle.tera_tree.specs.View.{expr_of}
 use Rattle.tera_code.specs.declared.instruction.Instruction.TheVariants as instruction
 use Rattle.tera_code.specs.Code.{expr_code, choice_code, lengthened}
 use Rattle.tera_code.proofs.Filled.{jump_written, choice_written}
-use Rattle.tera_code.proofs.Written.{array_written, map_written, on_ok_by, kept, kept_if, comprehended}
+use Rattle.tera_code.proofs.Written.{array_written, map_written, above_written, super_written, on_ok_by, kept, kept_if, comprehended}
 use Rattle.tera_code.proofs.compiler.Compiler.+expressions.Goals as goal
 
 pub collection-returns-in_ok-items-in-Array-clause-ok : goal.collection-returns-in_ok-items-in-Array-clause-ok
@@ -46,3 +46,11 @@ comprehension-returns-in_ok-fill-in-Some-clause-ok t c =
     c.deref.ensures c.in_ok-start-in-Comprehension.ensures.place c.in_ok-start-in-Comprehension.ensures.ok (kept_if _ _ _ _ _ _ _ c.in-Some.condition _ _ _ _ _ c.in-Some.is c.in_ok-expression-in-Some.ensures.ok c.deref-in-Some.ensures
     c.in_ok-place-in-Some.ensures.place c.in_ok-place-in-Some.ensures.ok c.in_ok-expression-in-Some-2.ensures.ok c.deref-in-Some-2.ensures c.in_ok-emit-in-Some.ensures.ok c.behind.ensures c.in_ok-fill-in-Some.ensures.ok)
     c.deref-in-Some-3.ensures) c.end_comprehension-in-Some.ensures.ok
+
+pub expression-returns-in-Super-clause-ok : goal.expression-returns-in-Super-clause-ok
+expression-returns-in-Super-clause-ok t c =
+    super_written _ _ _ c.in-Super.arguments c.in-Super.span _ _ c.in-Super.is c.as_slice.ensures.value c.above.ensures.ok
+
+pub above-returns-clause-ok : goal.above-returns-clause-ok
+above-returns-clause-ok t c =
+    above_written _ _ _ c.args.arguments.now _ c.args.span _ c.loop-argument-test.false c.loop-argument.invariant c.emit.ensures.ok

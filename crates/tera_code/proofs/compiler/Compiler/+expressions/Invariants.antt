@@ -1,6 +1,6 @@
 use Rattle.std.proofs.Common.{◌≡◌, drop}
-use Rattle.tera_tree.specs.View.{items_of, entries_of}
-use Rattle.tera_code.specs.Code.{items_code, entries_code, lengthened}
+use Rattle.tera_tree.specs.View.{items_of, entries_of, arguments_of}
+use Rattle.tera_code.specs.Code.{items_code, entries_code, arguments_code, lengthened}
 use Rattle.tera_code.proofs.compiler.Compiler.+expressions.Given as goal
 
 abbrev pub invariant-items-loop-item : goal.invariant-items-loop-item
@@ -10,3 +10,7 @@ invariant-items-loop-item l =
 abbrev pub invariant-entries-loop-entry : goal.invariant-entries-loop-entry
 invariant-entries-loop-entry l =
     lengthened l.self (entries_code (entries_of (drop l.entry-index l.entries))) ≡ lengthened l.initial.self (entries_code (entries_of l.entries))
+
+abbrev pub invariant-above-loop-argument : goal.invariant-above-loop-argument
+invariant-above-loop-argument l =
+    lengthened l.self (arguments_code (arguments_of (drop l.argument-index l.arguments))) ≡ lengthened l.initial.self (arguments_code (arguments_of l.arguments))

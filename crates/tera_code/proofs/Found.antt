@@ -1,0 +1,71 @@
+-- Blocks that are found one after another.
+use Rattle.std.proofs.Common.{◌≡◌, ℕ, Bool, Bor, List, [], ◌∷◌, ◌++◌, map, Vec, Box, Global, sym, ap, ap₂, ◌∙◌, append_assoc, append-nil}
+use Rattle.std.proofs.lemmas.List.{map-append}
+use Rattle.tera_errors.specs.Site as site
+use Rattle.tera_errors.specs.declared.span.Span.{Span}
+use Rattle.tera_tree.specs.declared.expression.Heading.{Heading}
+use Rattle.tera_tree.specs.declared.expression.Expression.{Expression}
+use Rattle.tera_tree.specs.declared.node.Node.{Node}
+use Rattle.tera_tree.specs.declared.node.Node.TheVariants as variant
+use Rattle.tera_tree.specs.Tree.{Nodes}
+use Rattle.tera_tree.specs.View.{node_of, nodes_of}
+use Rattle.tera_tree.specs.Blocks.{blocks, node_blocks}
+use Rattle.tera_tree.proofs.Views.{view_if, view_capture, view_for, view_block}
+use Rattle.tera_code.specs.declared.blocks.Block.{Block}
+use Rattle.tera_code.specs.Listing.{Listing}
+use Rattle.tera_code.specs.Blocks.{block_of, block_listing, block_listings}
+
+abbrev Kept : Type 0
+Kept = List (site.Name × Listing)
+
+abbrev Bodies : Type 0
+Bodies = List (site.Name × Nodes)
+
+-- some are found, and others are to come
+pub found_more : (file : site.Name) (old mid : Kept) (some others whole : Bodies) → whole ≡ some ++ others → mid ≡ old ++ block_listings file some → mid ++ block_listings file others ≡ old ++ block_listings file whole
+found_more file old mid some others whole e h =
+    ap (λ x. x ++ block_listings file others) h
+    ∙ append_assoc old (block_listings file some) (block_listings file others)
+    ∙ ap (λ x. old ++ x) (sym (map-append (block_listing file) some others))
+    ∙ ap (λ x. old ++ block_listings file x) (sym e)
+
+-- those of one node are found, and those of the rest are to come
+pub found_node : (file : site.Name) (old mid all : Kept) (node : Node) (before rest : List Node) → before ≡ node ∷ rest → mid ≡ old ++ block_listings file (node_blocks (node_of node)) → old ++ block_listings file (blocks (nodes_of before)) ≡ all → mid ++ block_listings file (blocks (nodes_of rest)) ≡ all
+found_node file old mid all node before rest e h is =
+    found_more file old mid (node_blocks (node_of node)) (blocks (nodes_of rest)) (blocks (nodes_of before)) (ap (λ x. blocks (nodes_of x)) e) h ∙ is
+
+-- none is to come
+pub found_all : (file : site.Name) (old all : Kept) (rest : List Node) → rest ≡ [] → old ++ block_listings file (blocks (nodes_of rest)) ≡ all → old ≡ all
+found_all file old all rest e is = sym (append-nil old) ∙ ap (λ x. old ++ block_listings file (blocks (nodes_of x))) (sym e) ∙ is
+
+-- one is found, and those inside it are to come
+pub found_one : (file : site.Name) (old mid : List Block) (block : Block) (body : site.Name × Nodes) (inside : Bodies) → mid ≡ old ++ block ∷ [] → block_of block ≡ block_listing file body → map block_of mid ++ block_listings file inside ≡ map block_of old ++ block_listings file (body ∷ inside)
+found_one file old mid block body inside e h =
+    ap (λ x. map block_of x ++ block_listings file inside) e
+    ∙ ap (λ x. x ++ block_listings file inside) (map-append block_of old (block ∷ []))
+    ∙ append_assoc (map block_of old) (block_of block ∷ []) (block_listings file inside)
+    ∙ ap (λ x. map block_of old ++ x ∷ block_listings file inside) h
+
+pub blocks_if : (node : Node) (condition : Box Expression Global) (body other : Vec Node Global) (xs ys : List Node) → node ≡ variant.If condition body other → xs ≡ body.items → ys ≡ other.items → blocks (nodes_of xs) ++ blocks (nodes_of ys) ≡ node_blocks (node_of node)
+blocks_if node condition body other xs ys is a b =
+    ap₂ (λ x y. blocks (nodes_of x) ++ blocks (nodes_of y)) a b
+    ∙ ap node_blocks (sym (view_if condition body other))
+    ∙ ap (λ n. node_blocks (node_of n)) (sym is)
+
+pub blocks_for : (node : Node) (heading : Box Heading Global) (body other : Vec Node Global) (xs ys : List Node) → node ≡ variant.For heading body other → xs ≡ body.items → ys ≡ other.items → blocks (nodes_of xs) ++ blocks (nodes_of ys) ≡ node_blocks (node_of node)
+blocks_for node heading body other xs ys is a b =
+    ap₂ (λ x y. blocks (nodes_of x) ++ blocks (nodes_of y)) a b
+    ∙ ap node_blocks (sym (view_for heading body other))
+    ∙ ap (λ n. node_blocks (node_of n)) (sym is)
+
+pub blocks_capture : (node : Node) (name : Bor (List ℕ)) (body : Vec Node Global) (is_global : Bool) (xs : List Node) → node ≡ variant.Capture name body is_global → xs ≡ body.items → blocks (nodes_of xs) ≡ node_blocks (node_of node)
+blocks_capture node name body is_global xs is a =
+    ap (λ x. blocks (nodes_of x)) a
+    ∙ ap node_blocks (sym (view_capture name body is_global))
+    ∙ ap (λ n. node_blocks (node_of n)) (sym is)
+
+pub blocks_block : (node : Node) (name : Bor (List ℕ)) (body : Vec Node Global) (span : Span) (xs : List Node) → node ≡ variant.Block name body span → xs ≡ body.items → (name.now, nodes_of xs) ∷ blocks (nodes_of xs) ≡ node_blocks (node_of node)
+blocks_block node name body span xs is a =
+    ap (λ x. (name.now, nodes_of x) ∷ blocks (nodes_of x)) a
+    ∙ ap node_blocks (sym (view_block name body span))
+    ∙ ap (λ n. node_blocks (node_of n)) (sym is)

@@ -1,0 +1,25 @@
+use Rattle.std.proofs.Common.{◌++◌, map, sym, ap, ◌∙◌}
+use Rattle.tera_tree.specs.View.{nodes_of}
+use Rattle.tera_code.specs.Blocks.{block_of, block_listings}
+use Rattle.tera_code.proofs.Written.{on_ok_by}
+use Rattle.tera_code.proofs.Found.{found_more, found_one, blocks_if, blocks_for, blocks_capture, blocks_block}
+use Rattle.tera_code.proofs.blocks.+blocks.Goals as goal
+
+pub add-returns-in_ok-add_all-in-If-clause-ok : goal.add-returns-in_ok-add_all-in-If-clause-ok
+add-returns-in_ok-add_all-in-If-clause-ok t c =
+    on_ok_by _ _ _ _ (found_more _ _ _ _ _ _ (sym (blocks_if _ c.in-If.condition c.in-If.body c.in-If.other _ _ c.in-If.is c.as_slice.ensures.value c.as_slice-in-If.ensures.value)) c.in_ok-add_all-in-If.ensures.ok) c.add_all-in-If.ensures.ok
+
+pub add-returns-in_ok-add_all-in-For-clause-ok : goal.add-returns-in_ok-add_all-in-For-clause-ok
+add-returns-in_ok-add_all-in-For-clause-ok t c =
+    on_ok_by _ _ _ _ (found_more _ _ _ _ _ _ (sym (blocks_for _ c.in-For.heading c.in-For.body c.in-For.other _ _ c.in-For.is c.as_slice-in-For.ensures.value c.as_slice-in-For-2.ensures.value)) c.in_ok-add_all-in-For.ensures.ok) c.add_all-in-For-2.ensures.ok
+
+pub add-returns-in-Capture-clause-ok : goal.add-returns-in-Capture-clause-ok
+add-returns-in-Capture-clause-ok t c =
+    on_ok_by _ _ _ _ (ap (λ x. map block_of c.args.found.now.items ++ block_listings c.args.file.now x) (blocks_capture _ c.in-Capture.name c.in-Capture.body c.in-Capture.is_global _ c.in-Capture.is c.as_slice-in-Capture.ensures.value)) c.add_all-in-Capture.ensures.ok
+
+pub add-returns-in_ok-push-in-Block-clause-ok : goal.add-returns-in_ok-push-in-Block-clause-ok
+add-returns-in_ok-push-in-Block-clause-ok t c =
+    on_ok_by _ _ _ _ (
+    found_one _ _ _ _ (c.in-Block.name.now, nodes_of c.as_slice-body.result.now) _ c.in_ok-push-in-Block.ensures.items c.in_ok-made-in-Block.ensures.ok
+    ∙ ap (λ x. map block_of c.args.found.now.items ++ block_listings c.args.file.now x) (blocks_block _ c.in-Block.name c.in-Block.body c.in-Block.span _ c.in-Block.is c.as_slice-body.ensures.value)
+    ) c.add_all-in-Block.ensures.ok

@@ -1,0 +1,9 @@
+use Rattle.std.proofs.Common.{◌≡◌, ◌++◌, map, drop}
+use Rattle.tera_tree.specs.View.{nodes_of}
+use Rattle.tera_tree.specs.Blocks.{blocks}
+use Rattle.tera_code.specs.Blocks.{block_of, block_listings}
+use Rattle.tera_code.proofs.blocks.+blocks.Given as goal
+
+abbrev pub invariant-add_all-loop-node : goal.invariant-add_all-loop-node
+invariant-add_all-loop-node l =
+    map block_of l.found.items ++ block_listings l.file (blocks (nodes_of (drop l.node-index l.nodes))) ≡ map block_of l.initial.found.items ++ block_listings l.file (blocks (nodes_of l.nodes))

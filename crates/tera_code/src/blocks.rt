@@ -1,0 +1,84 @@
+// The blocks of a template, each with code of its own.
+ghost use Rattle.std.specs.Prelude.{◌≡◌, ◌++◌, map, OnOk, IfOk, IfErr};
+ghost use Rattle.tera_errors.specs.Answer.{Lacks};
+ghost use Rattle.tera_code.specs.Blocks.{block_of, block_listing, block_listings};
+ghost use Rattle.tera_tree.specs.Blocks.{blocks, node_blocks};
+ghost use Rattle.tera_tree.specs.View.{node_of, nodes_of};
+
+use crate::chunk::Chunk;
+use crate::nodes::compiled;
+use std::alloc::Global;
+use tera_tree::Node;
+use tera_values::{Name, TeraResult};
+
+/// A block of a template: its name, and the code of its body.
+#[derive(Drop)]
+pub struct Block {
+    pub name: Name,
+    pub code: Chunk,
+}
+
+/// The blocks of the nodes, which stand in the text of the template of this name, in the order of the text; those inside
+/// others too.
+pub fn blocks(alloc: Global, file: &str, nodes: &[Node]) -> TeraResult<Vec<Block>>
+    ensures ok { IfOk result
+        (λ v. map block_of v.items ≡ block_listings file.now (blocks (nodes_of nodes.now))) }
+    ensures lacks { IfErr result Lacks }
+{
+    let mut found = Vec::new(alloc);
+    add_all(alloc, file, nodes, &mut found)?;
+    Ok(found)
+}
+
+// Puts the blocks of the nodes behind those that were found.
+#[cycle(blocks)]
+fn add_all(alloc: Global, file: &str, nodes: &[Node], found: &mut Vec<Block>) -> TeraResult<()>
+    ensures ok { OnOk result (map block_of found.new.items
+        ≡ map block_of found.old.items ++ block_listings file.now (blocks (nodes_of nodes.now))) }
+    ensures lacks { IfErr result Lacks }
+{
+    for node in nodes {
+        add(alloc, file, node, found)?;
+    }
+    Ok(())
+}
+
+// Puts the blocks of the node behind those that were found.
+#[cycle(blocks)]
+fn add(alloc: Global, file: &str, node: &Node, found: &mut Vec<Block>) -> TeraResult<()>
+    ensures ok { OnOk result (map block_of found.new.items
+        ≡ map block_of found.old.items ++ block_listings file.now (node_blocks (node_of node.now))) }
+    ensures lacks { IfErr result Lacks }
+{
+    match node {
+        Node::If { body, other, .. } => {
+            add_all(alloc, file, body.as_slice(), found)?;
+            add_all(alloc, file, other.as_slice(), found)
+        }
+        Node::For { body, other, .. } => {
+            add_all(alloc, file, body.as_slice(), found)?;
+            add_all(alloc, file, other.as_slice(), found)
+        }
+        Node::Capture { body, .. } => add_all(alloc, file, body.as_slice(), found),
+        Node::Block { name, body, .. } => {
+            let body = body.as_slice();
+            found.push(made(alloc, file, name, body)?)?;
+            add_all(alloc, file, body, found)
+        }
+        Node::Content { .. }
+        | Node::Print { .. }
+        | Node::Set { .. }
+        | Node::Break
+        | Node::Continue => Ok(()),
+    }
+}
+
+fn made(alloc: Global, file: &str, name: &str, body: &[Node]) -> TeraResult<Block>
+    ensures ok { IfOk result (λ b. block_of b ≡ block_listing file.now (name.now, nodes_of body.now)) }
+    ensures lacks { IfErr result Lacks }
+{
+    Ok(Block {
+        name: Name::new(alloc, name)?,
+        code: compiled(alloc, file, body)?,
+    })
+}

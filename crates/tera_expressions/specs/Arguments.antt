@@ -1,0 +1,37 @@
+-- Calls, and their arguments in order.
+use Rattle.std.specs.Prelude.{◌≡◌, ◌&&◌, bytes_eq, codes, Bool, Option, Some, None, option_map, if◌then◌else◌}
+use Rattle.std.specs.declared.cmp.Ordering.{Ordering}
+use Rattle.std.specs.declared.cmp.Ordering.TheVariants.{Less}
+use Rattle.std.specs.Ordering.{nat_cmp, match_ordering}
+use Rattle.std.specs.Cmp.Lexicographic.{slice_cmp}
+use Rattle.tera_errors.specs.Site.{Name}
+use Rattle.tera_tree.specs.Tree.{Expr, Arguments, NoArguments, MoreArguments}
+use Rattle.tera_tokens.specs.declared.token.Kind.TheVariants as k
+use Rattle.tera_tokens.specs.Input.{Input, Parser, and_then, kind, text, next, same, expect, is_word}
+
+-- `super` and a parenthesis are no name, but a call
+unfoldable pub is_call : Input → Bool
+is_call i = same k.LeftParenthesis (kind (next i)) && bytes_eq (text i) (codes "super")
+
+-- the order of names by their bytes
+abbrev pub name_cmp : Name → Name → Ordering
+name_cmp = slice_cmp nat_cmp
+
+-- an argument at its place among others; none where one of its name is there
+abbrev pub put_argument : Name → Expr → Arguments → Option Arguments
+put_argument n x NoArguments = Some (MoreArguments n x NoArguments)
+put_argument n x (MoreArguments m y rest) = match_ordering (name_cmp n m)
+    (Some (MoreArguments n x (MoreArguments m y rest))) None (option_map (MoreArguments m y) (put_argument n x rest))
+
+-- in the order of their names, so that no name stands twice
+abbrev pub IsBefore : Name → Arguments → Type 0
+IsBefore n NoArguments = Unit {0}
+IsBefore n (MoreArguments m y rest) = name_cmp n m ≡ Less
+
+abbrev pub AreInOrder : Arguments → Type 0
+AreInOrder NoArguments = Unit {0}
+AreInOrder (MoreArguments n x rest) = IsBefore n rest × AreInOrder rest
+
+-- the name of an argument, any word, and the place behind the sign that follows
+unfoldable pub argument_name : Parser Name
+argument_name = λ i. if is_word (kind i) then and_then (expect k.Assign (next i)) (λ _. λ j. Some (text i, j)) else None

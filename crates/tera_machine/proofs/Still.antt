@@ -1,0 +1,157 @@
+-- What an instruction does ends no block.
+use Rattle.std.proofs.Common.{◌≡◌, ℕ, Bool, true, false, List, [], ◌∷◌, Option, None, Some, Result, Ok, Err, refl, sym, ap, subst}
+use Rattle.std.specs.Prelude.{length}
+use Rattle.std.specs.List.{zip}
+use Rattle.tera_errors.specs.declared.span.Span.{Span}
+use Rattle.tera_errors.specs.Fault.{Fault}
+use Rattle.tera_errors.specs.Site.{Text}
+use Rattle.tera_state.specs.Scope.{Turn}
+use Rattle.tera_meaning.specs.Here.{Here}
+use Rattle.tera_operators.specs.Operand.{Evaluated, Outcome}
+use Rattle.tera_operators.specs.Operators.{not_of}
+use Rattle.tera_operators.specs.Literals.{array_of, map_of}
+use Rattle.tera_code.specs.declared.instruction.Instruction.{Instruction}
+use Rattle.tera_code.specs.declared.instruction.Instruction.TheVariants.{WriteText, WriteTop, WriteName, LoadConst, LoadName, LoadAttribute, LoadItem, Slice, Not, Negate, Binary, MakeArray, MakeMap, Jump, PopJumpIfFalse, JumpIfFalseOrPop, JumpIfTrueOrPop, Store, LoadContext, StartLoop, NextTurn, EndLoop, Keep, EndComprehension, StartCapture, EndCapture, LeaveLoop, LeaveTurn, TakeBlock, TakeAbove}
+use Rattle.tera_machine.specs.Config.{Config, Loop}
+use Rattle.tera_machine.specs.Flow.{Flow, Skip}
+use Rattle.tera_machine.specs.Did.{Did, Goes, Faults, Sticks, holding, outcome}
+use Rattle.tera_machine.specs.Act.{act, put_out, stored_in, top_written_in, on_one, on_two, on_four, topmost, made_of, branched, popped_branch_in, kept_if_falsy_in, kept_if_truthy_in, above_in}
+use Rattle.tera_machine.specs.Loops.{begun_over, begun_with, started_on, went_round, round_in, ended_in, kept_in, collected_in}
+use Rattle.tera_machine.specs.Captures.{captured_in}
+
+-- no block more ended
+abbrev IsStill : Config → Did → Type 0
+IsStill c (Goes c2 flow) = c2.run.blocks ≡ c.run.blocks
+IsStill c (Faults fault) = Unit {0}
+IsStill c Sticks = Unit {0}
+
+outcome_still : (o : Outcome) (rest : List Evaluated) (c : Config) → IsStill c (outcome o rest c)
+outcome_still (Ok a) rest c = refl
+outcome_still (Err fault) rest c = tt
+
+put_still : (r : Result Text Fault) (os : List Evaluated) (c : Config) → IsStill c (put_out r (holding os c))
+put_still (Ok text) os c = refl
+put_still (Err fault) os c = tt
+
+top_still : (here : Here) (os : List Evaluated) (c : Config) → IsStill c (top_written_in here os c)
+top_still here [] c = tt
+top_still here (a ∷ rest) c = put_still _ rest c
+
+one_still : (f : Evaluated → Outcome) (os : List Evaluated) (c : Config) → IsStill c (on_one f os c)
+one_still f [] c = tt
+one_still f (a ∷ rest) c = outcome_still (f a) rest c
+
+two_still : (f : Evaluated → Evaluated → Outcome) (os : List Evaluated) (c : Config) → IsStill c (on_two f os c)
+two_still f [] c = tt
+two_still f (b ∷ []) c = tt
+two_still f (b ∷ a ∷ rest) c = outcome_still (f a b) rest c
+
+four_still : (f : Evaluated → Evaluated → Evaluated → Evaluated → Outcome) (os : List Evaluated) (c : Config) → IsStill c (on_four f os c)
+four_still f [] c = tt
+four_still f (w ∷ []) c = tt
+four_still f (w ∷ z ∷ []) c = tt
+four_still f (w ∷ z ∷ y ∷ []) c = tt
+four_still f (w ∷ z ∷ y ∷ x ∷ rest) c = outcome_still (f x y z w) rest c
+
+made_still : (f : List Evaluated → Outcome) (o : Option (List Evaluated × List Evaluated)) (c : Config) → IsStill c (made_of f o c)
+made_still f None c = tt
+made_still f (Some (all, rest)) c = outcome_still (f all) rest c
+
+branched_still : (b : Bool) (os os2 : List Evaluated) (skip : ℕ) (c : Config) → IsStill c (branched b (holding os c) skip (holding os2 c))
+branched_still true os os2 skip c = refl
+branched_still false os os2 skip c = refl
+
+popped_still : (skip : ℕ) (os : List Evaluated) (c : Config) → IsStill c (popped_branch_in skip os c)
+popped_still skip [] c = tt
+popped_still skip (a ∷ rest) c = branched_still _ rest rest skip c
+
+falsy_still : (skip : ℕ) (os : List Evaluated) (c : Config) → IsStill c (kept_if_falsy_in skip os c)
+falsy_still skip [] c = tt
+falsy_still skip (a ∷ rest) c = branched_still _ rest c.operands skip c
+
+truthy_still : (skip : ℕ) (os : List Evaluated) (c : Config) → IsStill c (kept_if_truthy_in skip os c)
+truthy_still skip [] c = tt
+truthy_still skip (a ∷ rest) c = branched_still _ rest c.operands skip c
+
+above_still : (span : Span) (o : Option (List Evaluated × List Evaluated)) (c : Config) → IsStill c (above_in span o c)
+above_still span None c = tt
+above_still span (Some (all, rest)) c = refl
+
+over_still : (next size : ℕ) (turns : List Turn) (os : List Evaluated) (c : Config) → IsStill c (begun_over next size turns (holding os c))
+over_still next size [] os c = refl
+over_still next size (t ∷ ts) os c = refl
+
+begun_still : (next size : ℕ) (r : Result (List Turn) Fault) (os : List Evaluated) (c : Config) → IsStill c (begun_with next size r (holding os c))
+begun_still next size (Ok turns) os c = over_still next size turns os c
+begun_still next size (Err fault) os c = tt
+
+round_still : (ts : List Turn) (l : Loop) (ls : List Loop) (c : Config) → IsStill c (went_round ts l ls c)
+round_still [] l ls c = refl
+round_still (t ∷ ts) l ls c = refl
+
+turned_still : (ls : List Loop) (c : Config) → IsStill c (round_in ls c)
+turned_still [] c = tt
+turned_still (l ∷ ls) c = round_still l.rest l ls c
+
+ended_still : (skip : ℕ) (ls : List Loop) (c : Config) → IsStill c (ended_in skip ls c)
+ended_still skip [] c = tt
+ended_still skip (l ∷ ls) c = refl
+
+kept_still : (os : List Evaluated) (ls : List Loop) (c : Config) → IsStill c (kept_in os ls c)
+kept_still [] ls c = tt
+kept_still (a ∷ rest) [] c = tt
+kept_still (a ∷ rest) (l ∷ ls) c = refl
+
+collected_still : (span : Span) (ls : List Loop) (c : Config) → IsStill c (collected_in span ls c)
+collected_still span [] c = tt
+collected_still span (l ∷ ls) c = refl
+
+captured_still : (safe : Bool) (ts : List Text) (c : Config) → IsStill c (captured_in safe ts c)
+captured_still safe [] c = tt
+captured_still safe (t ∷ ts) c = refl
+
+module _ (here : Here) (next : ℕ) where
+  started_still : (os : List Evaluated) (heading : _) (size : ℕ) (c : Config) → IsStill c (started_on here heading next size os c)
+  started_still [] heading size c = tt
+  started_still (a ∷ rest) heading size c = begun_still next size _ rest c
+
+  stored_still : (is_global : Bool) (name : _) (os : List Evaluated) (c : Config) → IsStill c (stored_in is_global name os c)
+  stored_still is_global name [] c = tt
+  stored_still is_global name (a ∷ rest) c = refl
+
+  act_still : (i : Instruction) (c : Config) → IsStill c (act here next i c)
+  act_still (WriteText text) c = refl
+  act_still WriteTop c = top_still here c.operands c
+  act_still (WriteName name span) c = put_still _ c.operands c
+  act_still (LoadConst v span) c = refl
+  act_still (LoadName name span) c = refl
+  act_still (LoadContext span) c = refl
+  act_still (LoadAttribute name optional span) c = one_still _ c.operands c
+  act_still (LoadItem optional span) c = two_still _ c.operands c
+  act_still (Slice optional span) c = four_still _ c.operands c
+  act_still Not c = one_still (λ a. Ok (not_of a)) c.operands c
+  act_still Negate c = one_still _ c.operands c
+  act_still (Binary operator span) c = two_still _ c.operands c
+  act_still (MakeArray spreads span) c =
+      made_still (λ all. array_of here.file (zip spreads all) span) (topmost (length spreads) c.operands) c
+  act_still (MakeMap keys span) c =
+      made_still (λ all. map_of here.file (zip keys all) span) (topmost (length keys) c.operands) c
+  act_still (Jump skip) c = refl
+  act_still (PopJumpIfFalse skip) c = popped_still skip c.operands c
+  act_still (JumpIfFalseOrPop skip) c = falsy_still skip c.operands c
+  act_still (JumpIfTrueOrPop skip) c = truthy_still skip c.operands c
+  act_still (Store name is_global) c = stored_still is_global name c.operands c
+  act_still (StartLoop key name counts size) c = started_still c.operands _ size c
+  act_still NextTurn c = turned_still c.loops c
+  act_still (EndLoop skip) c = ended_still skip c.loops c
+  act_still Keep c = kept_still c.operands c.loops c
+  act_still (EndComprehension span) c = collected_still span c.loops c
+  act_still StartCapture c = refl
+  act_still EndCapture c = captured_still here.autoescape c.captures c
+  act_still (LeaveLoop drops) c = refl
+  act_still (LeaveTurn drops) c = refl
+  act_still (TakeBlock name span) c = refl
+  act_still (TakeAbove arguments span) c = above_still span _ c
+
+  pub still : (i : Instruction) (c c2 : Config) (flow : Flow) → act here next i c ≡ Goes c2 flow → c2.run.blocks ≡ c.run.blocks
+  still i c c2 flow e = subst (IsStill c) e (act_still i c)

@@ -1,0 +1,199 @@
+-- Real bodies that are entered and left follow the pure machine.
+use Rattle.std.proofs.Common.{◌≡◌, ◌≢◌, ℕ, ◌-◌, ◌≤◌, true, List, [], ◌∷◌, ◌++◌, Some, None, Result, Ok, Err, refl, sym, ap, ap₂, ◌∙◌, subst, append_assoc, append-nil}
+use Rattle.tera_errors.specs.Site.{Name, Text}
+use Rattle.std.specs.Prelude.{OnOk, IfErr}
+use Rattle.tera_errors.specs.Answer.{Refusal, Lacks}
+use Rattle.tera_state.specs.Scope.{Turn}
+use Rattle.tera_state.specs.Scopes.{around_of, coming_of}
+use Rattle.tera_meaning.specs.Run.{Request}
+use Rattle.tera_meaning.specs.Whole.{World, Place, Takes}
+use Rattle.tera_code.specs.declared.instruction.Instruction.{Instruction}
+use Rattle.tera_registry.specs.Templates.{definers_of}
+use Rattle.tera_registry.specs.declared.templates.Definer.{Definer as Nearest}
+use Rattle.tera_code.specs.Listing.{Listing}
+use Rattle.tera_machine.specs.declared.asked.Asked.{Asked}
+use Rattle.tera_machine.specs.declared.asked.Asked.TheVariants as asked
+use Rattle.tera_machine.specs.declared.bodies.Inside.{Inside}
+use Rattle.tera_machine.specs.declared.blocks.OpenBlocks.{OpenBlocks}
+use Rattle.tera_machine.specs.declared.configuration.Configuration.{Configuration}
+use Rattle.tera_machine.specs.declared.machine.VirtualMachine.{VirtualMachine}
+use Rattle.tera_machine.specs.declared.place.LoopPlace.{LoopPlace}
+use Rattle.tera_machine.specs.Config.{Config, Loop, config_of, loops_at}
+use Rattle.tera_machine.specs.Flow.{Use, Written, Pushed, request_of, use_of}
+use Rattle.tera_machine.specs.Act.{beneath, beneath_in}
+use Rattle.tera_machine.specs.Exec.{Code, End, Finished, entered, used, left, left_in, Ends, EndsWithin, BodyEnds, Ran}
+use Rattle.tera_machine.specs.Progress.{BodyWithin}
+use Rattle.tera_machine.specs.Subject.{template_of, place_at, place_of}
+use Rattle.tera_machine.specs.Bodies.{opened_by, closed_by, IsBody, FindsBody, Entered, Enters, closed_in, Leaves, Stays, BodyRan}
+use Rattle.tera_machine.specs.Wanted.{ended_by}
+use Rattle.tera_machine.proofs.Noting.{noted_then, noted_from}
+use Rattle.tera_machine.proofs.Taking.{AtAsk, body_failed, refused, inner_within, can_leave, body_done, body_broke}
+
+pub place_same : (m : VirtualMachine) (file file0 : Name) {b0 b : OpenBlocks} {c0 c : Configuration} → file ≡ file0 → Stays b0 c0 b c → place_at m file b c ≡ place_at m file0 b0 c0
+place_same m file file0 {b0} {b} {c0} {c} e s =
+    ap₂ (λ f a. record { template = template_of m; file = f; around = a; autoescape = m.autoescape; opened = b.names; above = definers_of b.above }) e s.around
+    ∙ ap₂ (λ ns ds. record { template = template_of m; file = file0; around = around_of c0.scopes; autoescape = m.autoescape; opened = ns; above = definers_of ds }) s.names s.above
+
+-- where no block is open
+pub place_none : (m : VirtualMachine) (file : Name) (b : OpenBlocks) (c : Configuration) → b.names ≡ [] → definers_of b.above ≡ [] → place_at m file b c ≡ place_of m file c
+place_none m file b c e f =
+    ap₂ (λ ns ds. record { template = template_of m; file = file; around = around_of c.scopes; autoescape = m.autoescape; opened = ns; above = ds }) e f
+
+pub stays_then : {b0 b1 b2 : OpenBlocks} {c0 c1 c2 : Configuration} → Stays b0 c0 b1 c1 → Stays b1 c1 b2 c2 → Stays b0 c0 b2 c2
+stays_then s t = record {
+  names = t.names ∙ s.names;
+  above = t.above ∙ s.above;
+  around = t.around ∙ s.around;
+  beneath = t.beneath ∙ s.beneath;
+  since = s.since ++ t.since;
+  ended = t.ended ∙ ap (λ bs. bs ++ t.since) s.ended ∙ append_assoc _ s.since t.since;
+  noted = noted_then s.since t.since s.noted t.noted;
+}
+
+-- what an instruction leaves as it is
+pub moved : {b0 b : OpenBlocks} {c0 c : Configuration} (c1 : Configuration) → Stays b0 c0 b c → around_of c1.scopes ≡ around_of c.scopes → beneath c1 ≡ beneath c → (config_of c1).run.blocks ≡ (config_of c).run.blocks → Stays b0 c0 b c1
+moved c1 s e f g = record {
+  names = s.names;
+  above = s.above;
+  around = e ∙ s.around;
+  beneath = f ∙ s.beneath;
+  since = s.since;
+  ended = g ∙ s.ended;
+  noted = s.noted;
+}
+
+-- a body that is asked for in one place, and in the same
+pub at_place : {w : World} {p p0 : Place} {q : Request} {u : Use} {c : Config} {n : ℕ} → p ≡ p0 → BodyWithin w p0 q u c n → BodyWithin w p q u c n
+at_place {w} {p} {p0} {q} {u} {c} {n} e h = subst (λ x. BodyWithin w x q u c n) (sym e) h
+
+pub ends_at : {w : World} {p p0 : Place} {q : Request} {u : Use} {c : Config} {o : End} → p ≡ p0 → BodyEnds w p q u c o → BodyEnds w p0 q u c o
+ends_at {w} {p} {p0} {q} {u} {c} {o} e h = subst (λ x. BodyEnds w x q u c o) e h
+
+pub take_failed : {most : ℕ} {w : World} {p p0 : Place} {code : Code} {c0 : Config} {n0 ip : ℕ} {c : Config} {n : ℕ} {i : Instruction} {c2 : Config} {n2 : ℕ} {q : Request} {u : Use} → p ≡ p0 → AtAsk most w p0 code c0 n0 ip c n i c2 n2 q u → (r : Refusal) (c3 : Config) (n3 : ℕ) → n2 ≤ n3 → BodyRan w p q u c2 (Err r) c3 (n3 - n2) → Ran w p0 code c0 (Err r) c3 (n3 - n0)
+take_failed e at None c3 n3 le h = tt
+take_failed e at (Some f) c3 n3 le h = body_failed at f n3 le (ends_at e h)
+
+-- what was found is entered
+pub enters : {w : World} (m : VirtualMachine) (file : Name) (a : Asked) (b0 : OpenBlocks) (c0 : Configuration) (d : Nearest) (b : OpenBlocks) (c : Configuration) → IsBody w (place_at m file b0 c0) (request_of a) (config_of c0).run.vars d → b.names ≡ opened_by (request_of a) b0.names → b.above ≡ d.above → around_of c.scopes ≡ around_of c0.scopes → config_of c ≡ entered (config_of c0).run.vars (config_of c0) → Entered w (place_at m file b0 c0) (request_of a) (config_of c0) (place_at m d.chunk.now.file b c) d.chunk.now.code (config_of c)
+enters m file a b0 c0 d b c h names above around config =
+    let same = ap₂ (λ f x. record { template = template_of m; file = f; around = x; autoescape = m.autoescape; opened = opened_by (request_of a) b0.names; above = definers_of d.above }) (sym (ap (λ (l : Listing). l.file) h.code)) (sym around)
+    ∙ ap₂ (λ ns ds. record { template = template_of m; file = d.chunk.now.file; around = around_of c.scopes; autoescape = m.autoescape; opened = ns; above = definers_of ds }) (sym names) (sym above) in
+    record {
+      vars = (config_of c0).run.vars;
+      body = h.definer.body;
+      takes = h.takes ∙ ap (λ p. Takes p (config_of c0).run.vars h.definer.body) same;
+      is = ap (λ (l : Listing). l.code) h.code;
+      config = config;
+    }
+
+no_loops : (ls : List Loop) (cs : List Text) (a : Asked) (c0 c3 : Config) → left_in ls cs (request_of a) (use_of a) c0 c3 ≢ None → ls ≡ []
+no_loops [] cs a c0 c3 h = refl
+no_loops (l ∷ ls) cs a c0 c3 h = absurd (h refl)
+
+left_closed : (ls : List Loop) (cs : List Text) (a : Asked) (c0 c3 : Config) (bs : List (Name × Text)) (loops : List Loop) → c0.loops ≡ loops → c0.run.blocks ≡ bs → left_in ls cs (request_of a) (use_of a) c0 c3 ≢ None → left_in ls cs (request_of a) (use_of a) c0 c3 ≡ Some (closed_in cs (request_of a) (use_of a) bs loops c3)
+left_closed (l ∷ ls) cs a c0 c3 bs loops e f h = absurd (h refl)
+left_closed [] [] a c0 c3 bs loops e f h = absurd (h refl)
+left_closed [] (t ∷ ts) (asked.Block name span) c0 c3 bs loops e f h =
+    ap₂ (λ ls xs. Some (used Written (record c3.run { blocks = c3.run.blocks ++ (name.now, c3.run.text) ∷ [] }) (record { operands = c3.operands; captures = ts; loops = ls; run = record { vars = c3.run.vars; text = t; blocks = xs } }))) e f
+left_closed [] (t ∷ ts) (asked.Above span) c0 c3 bs loops e f h =
+    ap₂ (λ ls xs. Some (used (Pushed true span) c3.run (record { operands = c3.operands; captures = ts; loops = ls; run = record { vars = c3.run.vars; text = t; blocks = xs } }))) e f
+
+-- the blocks that ended around the body, those that ended in it, and its own
+closed_blocks : (cs : List Text) (a : Asked) (bs : List (Name × Text)) (loops : List Loop) (c : Config) → cs ≢ [] → (closed_in cs (request_of a) (use_of a) bs loops c).run.blocks ≡ bs ++ (c.run.blocks ++ ended_by (request_of a) c.run.text)
+closed_blocks [] a bs loops c h = absurd (h refl)
+closed_blocks (t ∷ ts) (asked.Block name span) bs loops c h = refl
+closed_blocks (t ∷ ts) (asked.Above span) bs loops c h = ap (λ xs. bs ++ xs) (sym (append-nil c.run.blocks))
+
+-- where a body has no open loop, those around it are as they were
+coming_back : (places : List LoopPlace) (coming coming1 : List (List Turn)) → loops_at places coming ≡ [] → beneath_in places coming ≡ coming1 → coming ≡ coming1
+coming_back [] coming coming1 e f = f
+coming_back (p ∷ ps) [] coming1 e f = f
+coming_back (p ∷ ps) (ts ∷ tss) coming1 e f = absurd (filled e)
+  where
+    filled : loops_at (p ∷ ps) (ts ∷ tss) ≡ [] → ⊥
+    filled e = cc
+
+-- no loop is open in the body that was entered
+beneath_none : {A : Type 0} (places : List A) (coming : List (List Turn)) → places ≡ [] → beneath_in places coming ≡ coming
+beneath_none places coming e = ap (λ ps. beneath_in ps coming) e
+
+closed_opened : (a : Asked) (names : List Name) → closed_by (request_of a) (opened_by (request_of a) names) ≡ names
+closed_opened (asked.Block name span) names = refl
+closed_opened (asked.Above span) names = refl
+
+no_captures : (ls : List Loop) (cs : List Text) (a : Asked) (c0 c3 : Config) → cs ≡ [] → left_in ls cs (request_of a) (use_of a) c0 c3 ≡ None
+no_captures (l ∷ ls) cs a c0 c3 e = refl
+no_captures [] cs a c0 c3 e = ap (λ ts. left_in [] ts (request_of a) (use_of a) c0 c3) e
+
+lacked : (w : World) (p : Place) (a : Asked) (c c' : Config) (k : ℕ) (r : Refusal) → r ≡ None → BodyRan w p (request_of a) (use_of a) c (Err r) c' k
+lacked w p a c c' k r e = subst (λ x. BodyRan w p (request_of a) (use_of a) c (Err x) c' k) (sym e) tt
+
+module _ (w : World) (m : VirtualMachine) (file : Name) (a : Asked) (b0 : OpenBlocks) (c0 : Configuration) {most : ℕ} (may : BodyWithin w (place_at m file b0 c0) (request_of a) (use_of a) (config_of c0) most) where
+  module _ {inside : Inside} {b1 : OpenBlocks} {c1 : Configuration} (entry : Enters w m file a b0 c0 (Ok inside) b1 c1) where
+    pub may_run : EndsWithin w (place_at m inside.chunk.now.file b1 c1) inside.chunk.now.code 0 (config_of c1) most
+    may_run = inner_within entry.0 may
+
+    module _ (c3 : Configuration) {j : ℕ} (over : Ends w (place_at m inside.chunk.now.file b1 c1) inside.chunk.now.code 0 (config_of c1) (Finished (config_of c3) j)) where
+      ended : left (request_of a) (use_of a) (config_of c0) (config_of c3) ≢ None
+      ended = can_leave entry.0 may (config_of c3) j over
+
+      -- a text is open around the body's
+      pub may_leave : (config_of c3).captures ≢ []
+      may_leave = λ e. ended (no_captures (config_of c3).loops (config_of c3).captures a (config_of c0) (config_of c3) e)
+
+      module _ {b3 : OpenBlocks} (stay : Stays b1 c1 b3 c3) (b4 : OpenBlocks) (c4 : Configuration) where
+        same_coming : coming_of c3.scopes ≡ coming_of c0.scopes
+        same_coming =
+            coming_back c3.places (coming_of c3.scopes) (coming_of c0.scopes) (no_loops (config_of c3).loops (config_of c3).captures a (config_of c0) (config_of c3) ended) (stay.beneath ∙ beneath_none c1.places (coming_of c1.scopes) entry.1.none ∙ entry.1.coming)
+
+        took : Leaves a inside b3 c3 b4 c4 → BodyEnds w (place_at m file b0 c0) (request_of a) (use_of a) (config_of c0) (Finished (config_of c4) j)
+        took leaves =
+            let loops = ap₂ (λ ps tss. loops_at ps tss) (sym entry.1.places) (sym same_coming) in
+            body_done entry.0 (config_of c3) (config_of c4) j over (left_closed (config_of c3).loops (config_of c3).captures a (config_of c0) (config_of c3) inside.outer.ended.all (loops_at inside.outer.places (coming_of c3.scopes)) loops (sym entry.1.ended) ended ∙ ap Some (sym leaves.config))
+
+        none_before : (config_of c1).run.blocks ≡ []
+        none_before = ap (λ (c : Config). c.run.blocks) entry.0.config
+
+        ended_since : Leaves a inside b3 c3 b4 c4 → c4.ended.all ≡ c0.ended.all ++ (stay.since ++ ended_by (request_of a) (config_of c3).run.text)
+        ended_since leaves =
+            ap (λ (c : Config). c.run.blocks) leaves.config
+            ∙ closed_blocks (config_of c3).captures a inside.outer.ended.all (loops_at inside.outer.places (coming_of c3.scopes)) (config_of c3) may_leave
+            ∙ ap₂ (λ xs ys. xs ++ (ys ++ ended_by (request_of a) (config_of c3).run.text)) entry.1.ended (stay.ended ∙ ap (λ xs. xs ++ stay.since) none_before)
+
+        stayed : Leaves a inside b3 c3 b4 c4 → Stays b0 c0 b4 c4
+        stayed leaves = record {
+          names = leaves.names ∙ ap (closed_by (request_of a)) (stay.names ∙ entry.1.names) ∙ closed_opened a b0.names;
+          above = leaves.above ∙ entry.1.above;
+          around = leaves.around ∙ stay.around ∙ entry.1.around;
+          beneath = ap₂ (λ ps tss. beneath_in ps tss) (leaves.places ∙ entry.1.places) (leaves.coming ∙ same_coming);
+          since = stay.since ++ ended_by (request_of a) (config_of c3).run.text;
+          ended = ended_since leaves;
+          noted = noted_from _ entry.1.wanted (noted_then stay.since _ stay.noted leaves.noted);
+        }
+
+        -- the body is over, unless memory was refused
+        pub body_over : (r : Result (Unit {0}) Refusal) → OnOk r (Leaves a inside b3 c3 b4 c4) → IfErr r Lacks → BodyRan w (place_at m file b0 c0) (request_of a) (use_of a) (config_of c0) r (config_of c4) j
+        body_over (Ok done) leaves lacks = took leaves
+        body_over (Err r) leaves lacks = lacked w (place_at m file b0 c0) a (config_of c0) (config_of c4) j r lacks
+
+        pub body_stayed : (r : Result (Unit {0}) Refusal) → OnOk r (Leaves a inside b3 c3 b4 c4) → OnOk r (Stays b0 c0 b4 c4)
+        body_stayed (Ok done) leaves = stayed leaves
+        body_stayed (Err r) leaves = tt
+
+    -- a fault in the body
+    pub run_failed : (r : Refusal) (c3 : Config) (j : ℕ) → Ran w (place_at m inside.chunk.now.file b1 c1) inside.chunk.now.code (config_of c1) (Err r) c3 j → BodyRan w (place_at m file b0 c0) (request_of a) (use_of a) (config_of c0) (Err r) c3 j
+    run_failed None c3 j x = tt
+    run_failed (Some f) c3 j x = body_broke entry.0 f j x
+
+  -- a request that is refused
+  pub enter_failed : (r : Refusal) (b1 : OpenBlocks) (c1 : Configuration) (k : ℕ) → k ≡ 0 → Enters w m file a b0 c0 (Err r) b1 c1 → BodyRan w (place_at m file b0 c0) (request_of a) (use_of a) (config_of c0) (Err r) (config_of c1) k
+  enter_failed None b1 c1 k z h = tt
+  enter_failed (Some f) b1 c1 k z h = refused f k z h
+
+-- what is not found is not entered
+pub not_found : (w : World) (m : VirtualMachine) (file : Name) (a : Asked) (b0 : OpenBlocks) (c0 : Configuration) (r : Refusal) (b : OpenBlocks) (c : Configuration) → FindsBody w (place_at m file b0 c0) (request_of a) (config_of c0).run.vars (Err r) → Enters w m file a b0 c0 (Err r) b c
+not_found w m file a b0 c0 None b c h = tt
+not_found w m file a b0 c0 (Some f) b c h = h
+
+pub enter_lacks : (w : World) (m : VirtualMachine) (file : Name) (a : Asked) (b0 : OpenBlocks) (c0 : Configuration) (r : Refusal) (b : OpenBlocks) (c : Configuration) → r ≡ None → Enters w m file a b0 c0 (Err r) b c
+enter_lacks w m file a b0 c0 r b c e = subst (λ x. Enters w m file a b0 c0 (Err x) b c) (sym e) tt

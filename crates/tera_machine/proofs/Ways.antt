@@ -1,0 +1,19 @@
+-- Who defines a block for the template that is rendered.
+use Rattle.std.proofs.Common.{◌≡◌, Some, sym, ap, ap₂, ◌∙◌, subst}
+use Rattle.std.specs.Prelude.{option_map}
+use Rattle.tera_errors.specs.Site.{Name}
+use Rattle.tera_meaning.specs.Lineage.{definers}
+use Rattle.tera_meaning.specs.Registry.{Registry}
+use Rattle.tera_registry.specs.Templates.{with_templates, definers_of}
+use Rattle.tera_registry.specs.declared.templates.Found.{Found}
+use Rattle.tera_registry.specs.declared.templates.Definers.{Definers}
+use Rattle.tera_machine.specs.declared.machine.VirtualMachine.{VirtualMachine}
+use Rattle.tera_machine.specs.Subject.{IsLinked, is_from, template_of}
+
+-- those who define a block for the template that is rendered
+pub of_template : (m : VirtualMachine) (r : Registry) (found : Found) (name : Name) (ds : Definers) (text : Name) → IsLinked m r → m.template ≡ Some found → text ≡ name → ((s : Registry) → definers_of ds ≡ definers (with_templates s found.templates.now) (Some found.name.now) text) → definers_of ds ≡ definers r (template_of m) name
+of_template m r found name ds text linked is e h =
+    let among : with_templates r found.templates.now ≡ r = subst (λ o. is_from o r) is linked in
+    h r
+    ∙ ap₂ (λ s n. definers s (Some found.name.now) n) among e
+    ∙ ap (λ t. definers r t name) (sym (ap (λ o. option_map (λ (f : Found). f.name.now) o) is))

@@ -1,0 +1,13 @@
+use Rattle.std.proofs.Common.{◌≡◌, ◌≤◌, length}
+use Rattle.tera_tree.specs.Blocks.{is_among}
+use Rattle.tera_state.specs.Stack.{lower}
+use Rattle.tera_machine.proofs.blocks.OpenBlocks.has.Given as goal
+
+abbrev pub invariant-loop-height : goal.invariant-loop-height
+invariant-loop-height l = record {
+  within : l.height ≤ length l.self.names;
+  rest : is_among l.name (lower l.height l.self.names) ≡ is_among l.name l.self.names;
+}
+
+abbrev pub decreases-loop-height : goal.decreases-loop-height
+decreases-loop-height l = l.height

@@ -1,0 +1,117 @@
+use Rattle.std.proofs.Common.{arith, refl, ◌+◌}
+use Rattle.tera_machine.specs.Subject.{here_of}
+use Rattle.tera_machine.proofs.Runs.{here_is, not_stuck, small, one_left, went_on, skipped, skip_within, went_to, place_within, went_out, finished, act_failed, at_ask}
+use Rattle.tera_machine.proofs.Still.{still}
+use Rattle.tera_machine.proofs.Taking.{body_within, came_back}
+use Rattle.tera_machine.proofs.Took.{place_same, moved, stays_then, at_place, ends_at, take_failed, may_run, may_leave, body_over, body_stayed}
+use Rattle.tera_machine.proofs.machine.VirtualMachine.+run.Goals as goal
+
+pub run_counted-step-requires-clause-ready : goal.run_counted-step-requires-clause-ready
+run_counted-step-requires-clause-ready g t c =
+    not_stuck c.loop-instruction.invariant.progress (here_is g.M.Limit.world c.args.self.now _ _ c.args.blocks.now c.loop-instruction.configuration c.args.configuration.now c.requires.engine c.file.ensures c.loop-instruction.invariant.stays.around) c.in-Some.ensures.found
+
+pub run_counted-step-requires-clause-small : goal.run_counted-step-requires-clause-small
+run_counted-step-requires-clause-small g t c =
+    small c.loop-instruction.invariant.progress (here_is g.M.Limit.world c.args.self.now _ _ c.args.blocks.now c.loop-instruction.configuration c.args.configuration.now c.requires.engine c.file.ensures c.loop-instruction.invariant.stays.around) c.in-Some.ensures.found c.in-Some.ensures.small
+
+pub run_counted-overflow_add-at : goal.run_counted-overflow_add-at
+run_counted-overflow_add-at g t c =
+    omega (arith, skip_within c.loop-instruction.invariant.progress (here_is g.M.Limit.world c.args.self.now _ _ c.args.blocks.now c.loop-instruction.configuration c.args.configuration.now c.requires.engine c.file.ensures c.loop-instruction.invariant.stays.around) c.in-Some.ensures.found c.in-Some.ensures.count c.in-Ok.ensures.0 c.in-Skip.is, c.in-Some.ensures.small)
+
+pub run_counted-overflow_add-at-in-To : goal.run_counted-overflow_add-at-in-To
+run_counted-overflow_add-at-in-To g t c =
+    omega (arith, place_within c.loop-instruction.invariant.progress (here_is g.M.Limit.world c.args.self.now _ _ c.args.blocks.now c.loop-instruction.configuration c.args.configuration.now c.requires.engine c.file.ensures c.loop-instruction.invariant.stays.around) c.in-Some.ensures.found c.in-Some.ensures.count c.in-Ok.ensures.0 c.in-To.is, c.in-Some.ensures.small)
+
+pub run_counted-returns-in-Err-clause-bounded : goal.run_counted-returns-in-Err-clause-bounded
+run_counted-returns-in-Err-clause-bounded g t c =
+    λ h. omega (arith, one_left c.loop-instruction.invariant.progress c.in-Some.ensures.found, c.in-Some.ensures.count)
+
+pub run_counted-returns-in-Err-clause-ends : goal.run_counted-returns-in-Err-clause-ends
+run_counted-returns-in-Err-clause-ends g t c =
+    act_failed c.loop-instruction.invariant.progress (here_is g.M.Limit.world c.args.self.now _ _ c.args.blocks.now c.loop-instruction.configuration c.args.configuration.now c.requires.engine c.file.ensures c.loop-instruction.invariant.stays.around) c.in-Some.ensures.found c.in-Some.ensures.count _ _ c.in-Err.ensures.0
+
+pub run_counted-returns-in-Out-clause-bounded : goal.run_counted-returns-in-Out-clause-bounded
+run_counted-returns-in-Out-clause-bounded g t c =
+    λ h. omega (arith, one_left c.loop-instruction.invariant.progress c.in-Some.ensures.found, c.in-Some.ensures.count)
+
+pub run_counted-returns-in-Out-clause-ends : goal.run_counted-returns-in-Out-clause-ends
+run_counted-returns-in-Out-clause-ends g t c =
+    went_out c.loop-instruction.invariant.progress (here_is g.M.Limit.world c.args.self.now _ _ c.args.blocks.now c.loop-instruction.configuration c.args.configuration.now c.requires.engine c.file.ensures c.loop-instruction.invariant.stays.around) c.in-Some.ensures.found c.in-Some.ensures.count c.in-Ok.ensures.0 c.in-Out.is
+
+pub run_counted-loop-instruction-smaller-in-On : goal.run_counted-loop-instruction-smaller-in-On
+run_counted-loop-instruction-smaller-in-On g t c =
+    omega (arith, one_left c.loop-instruction.invariant.progress c.in-Some.ensures.found, c.in-Some.ensures.count)
+
+pub run_counted-loop-instruction-smaller-in-Skip : goal.run_counted-loop-instruction-smaller-in-Skip
+run_counted-loop-instruction-smaller-in-Skip g t c =
+    omega (arith, one_left c.loop-instruction.invariant.progress c.in-Some.ensures.found, c.in-Some.ensures.count)
+
+pub run_counted-loop-instruction-smaller-in-To : goal.run_counted-loop-instruction-smaller-in-To
+run_counted-loop-instruction-smaller-in-To g t c =
+    omega (arith, one_left c.loop-instruction.invariant.progress c.in-Some.ensures.found, c.in-Some.ensures.count)
+
+pub run_counted-loop-instruction-preserved-in-On : goal.run_counted-loop-instruction-preserved-in-On
+run_counted-loop-instruction-preserved-in-On g t c = record {
+  progress = went_on c.loop-instruction.invariant.progress (here_is g.M.Limit.world c.args.self.now _ _ c.args.blocks.now c.loop-instruction.configuration c.args.configuration.now c.requires.engine c.file.ensures c.loop-instruction.invariant.stays.around) c.in-Some.ensures.found c.in-Some.ensures.count c.in-Ok.ensures.0 c.in-On.is;
+  stays = moved c.step.new.self c.loop-instruction.invariant.stays c.in-Ok.ensures.1.0 c.in-Ok.ensures.1.1 (still (here_of c.args.self.now c.file.result.now c.loop-instruction.configuration) (c.loop-instruction.at + 1) c.in-Some.instruction _ _ _ c.in-Ok.ensures.0);
+}
+
+pub run_counted-loop-instruction-preserved-in-Skip : goal.run_counted-loop-instruction-preserved-in-Skip
+run_counted-loop-instruction-preserved-in-Skip g t c = record {
+  progress = skipped c.loop-instruction.invariant.progress (here_is g.M.Limit.world c.args.self.now _ _ c.args.blocks.now c.loop-instruction.configuration c.args.configuration.now c.requires.engine c.file.ensures c.loop-instruction.invariant.stays.around) c.in-Some.ensures.found c.in-Some.ensures.count c.in-Ok.ensures.0 c.in-Skip.is;
+  stays = moved c.step.new.self c.loop-instruction.invariant.stays c.in-Ok.ensures.1.0 c.in-Ok.ensures.1.1 (still (here_of c.args.self.now c.file.result.now c.loop-instruction.configuration) (c.loop-instruction.at + 1) c.in-Some.instruction _ _ _ c.in-Ok.ensures.0);
+}
+
+pub run_counted-loop-instruction-preserved-in-To : goal.run_counted-loop-instruction-preserved-in-To
+run_counted-loop-instruction-preserved-in-To g t c = record {
+  progress = went_to c.loop-instruction.invariant.progress (here_is g.M.Limit.world c.args.self.now _ _ c.args.blocks.now c.loop-instruction.configuration c.args.configuration.now c.requires.engine c.file.ensures c.loop-instruction.invariant.stays.around) c.in-Some.ensures.found c.in-Some.ensures.count c.in-Ok.ensures.0 c.in-To.is;
+  stays = moved c.step.new.self c.loop-instruction.invariant.stays c.in-Ok.ensures.1.0 c.in-Ok.ensures.1.1 (still (here_of c.args.self.now c.file.result.now c.loop-instruction.configuration) (c.loop-instruction.at + 1) c.in-Some.instruction _ _ _ c.in-Ok.ensures.0);
+}
+
+pub run_counted-returns-clause-ends : goal.run_counted-returns-clause-ends
+run_counted-returns-clause-ends g t c =
+    finished c.loop-instruction.invariant.progress c.in_default.ensures.found c.in_default.ensures.count
+
+pub run_counted-returns-in-Out-clause-stays : goal.run_counted-returns-in-Out-clause-stays
+run_counted-returns-in-Out-clause-stays g t c = moved c.step.new.self c.loop-instruction.invariant.stays c.in-Ok.ensures.1.0 c.in-Ok.ensures.1.1 (still (here_of c.args.self.now c.file.result.now c.loop-instruction.configuration) (c.loop-instruction.at + 1) c.in-Some.instruction _ _ _ c.in-Ok.ensures.0)
+
+pub run_counted-take-requires : goal.run_counted-take-requires
+run_counted-take-requires g t c κs within =
+    (omega (arith, one_left c.loop-instruction.invariant.progress c.in-Some.ensures.found, c.in-Some.ensures.count, c.loop-instruction.invariant.progress.counted, c.decreases), (within.0, (within.1, (c.requires.engine, (c.requires.linked, at_place (place_same c.args.self.now c.args.chunk.now.file c.args.chunk.now.file refl (moved c.step.new.self c.loop-instruction.invariant.stays c.in-Ok.ensures.1.0 c.in-Ok.ensures.1.1 (still (here_of c.args.self.now c.file.result.now c.loop-instruction.configuration) (c.loop-instruction.at + 1) c.in-Some.instruction _ _ _ c.in-Ok.ensures.0))) (body_within (at_ask c.loop-instruction.invariant.progress (here_is g.M.Limit.world c.args.self.now _ _ c.args.blocks.now c.loop-instruction.configuration c.args.configuration.now c.requires.engine c.file.ensures c.loop-instruction.invariant.stays.around) c.in-Some.ensures.found c.in-Some.ensures.count c.in-Ok.ensures.0 c.in-Ask.is)))))))
+
+pub run_counted-loop-instruction-smaller : goal.run_counted-loop-instruction-smaller
+run_counted-loop-instruction-smaller g t c =
+    omega (arith, one_left c.loop-instruction.invariant.progress c.in-Some.ensures.found, c.in-Some.ensures.count, c.in-Ok-take.ensures.counted)
+
+pub run_counted-loop-instruction-preserved : goal.run_counted-loop-instruction-preserved
+run_counted-loop-instruction-preserved g t c = record {
+  progress = came_back (at_ask c.loop-instruction.invariant.progress (here_is g.M.Limit.world c.args.self.now _ _ c.args.blocks.now c.loop-instruction.configuration c.args.configuration.now c.requires.engine c.file.ensures c.loop-instruction.invariant.stays.around) c.in-Some.ensures.found c.in-Some.ensures.count c.in-Ok.ensures.0 c.in-Ask.is) _ _ c.in-Ok-take.ensures.counted c.in-Ok-take.ensures.bounded (ends_at (place_same c.args.self.now c.args.chunk.now.file c.args.chunk.now.file refl (moved c.step.new.self c.loop-instruction.invariant.stays c.in-Ok.ensures.1.0 c.in-Ok.ensures.1.1 (still (here_of c.args.self.now c.file.result.now c.loop-instruction.configuration) (c.loop-instruction.at + 1) c.in-Some.instruction _ _ _ c.in-Ok.ensures.0))) c.in-Ok-take.ensures.ends);
+  stays = stays_then (moved c.step.new.self c.loop-instruction.invariant.stays c.in-Ok.ensures.1.0 c.in-Ok.ensures.1.1 (still (here_of c.args.self.now c.file.result.now c.loop-instruction.configuration) (c.loop-instruction.at + 1) c.in-Some.instruction _ _ _ c.in-Ok.ensures.0)) c.in-Ok-take.ensures.stays;
+}
+
+pub run_counted-returns-in-Err-take-clause-bounded : goal.run_counted-returns-in-Err-take-clause-bounded
+run_counted-returns-in-Err-take-clause-bounded g t c =
+    λ h. c.in-Err-take.ensures.bounded (omega (arith, one_left c.loop-instruction.invariant.progress c.in-Some.ensures.found, c.in-Some.ensures.count))
+
+pub run_counted-returns-in-Err-take-clause-ends : goal.run_counted-returns-in-Err-take-clause-ends
+run_counted-returns-in-Err-take-clause-ends g t c =
+    take_failed (place_same c.args.self.now c.args.chunk.now.file c.args.chunk.now.file refl (moved c.step.new.self c.loop-instruction.invariant.stays c.in-Ok.ensures.1.0 c.in-Ok.ensures.1.1 (still (here_of c.args.self.now c.file.result.now c.loop-instruction.configuration) (c.loop-instruction.at + 1) c.in-Some.instruction _ _ _ c.in-Ok.ensures.0))) (at_ask c.loop-instruction.invariant.progress (here_is g.M.Limit.world c.args.self.now _ _ c.args.blocks.now c.loop-instruction.configuration c.args.configuration.now c.requires.engine c.file.ensures c.loop-instruction.invariant.stays.around) c.in-Some.ensures.found c.in-Some.ensures.count c.in-Ok.ensures.0 c.in-Ask.is) _ _ _ c.in-Err-take.ensures.counted c.in-Err-take.ensures.ends
+
+pub run_counted-returns-clause-stays : goal.run_counted-returns-clause-stays
+run_counted-returns-clause-stays g t c = c.loop-instruction.invariant.stays
+
+pub take-run_counted-requires : goal.take-run_counted-requires
+take-run_counted-requires g t c κs within =
+    (omega (arith, c.decreases), (within.0, (within.1, (c.requires.engine, (c.requires.linked, may_run g.M.Limit.world c.args.self.now c.args.chunk.now.file c.args.asked c.args.blocks.now c.args.configuration.now c.requires.within c.in-Ok.ensures)))))
+
+pub take-leave-requires : goal.take-leave-requires
+take-leave-requires g t c =
+    may_leave g.M.Limit.world c.args.self.now c.args.chunk.now.file c.args.asked c.args.blocks.now c.args.configuration.now c.requires.within c.in-Ok.ensures c.run_counted.new.configuration c.in-Ok-run_counted.ensures.ends
+
+pub take-returns-clause-ends : goal.take-returns-clause-ends
+take-returns-clause-ends g t c =
+    body_over g.M.Limit.world c.args.self.now c.args.chunk.now.file c.args.asked c.args.blocks.now c.args.configuration.now c.requires.within c.in-Ok.ensures c.run_counted.new.configuration c.in-Ok-run_counted.ensures.ends c.in-Ok-run_counted.ensures.stays c.leave.new.blocks c.leave.new.configuration c.leave.result c.leave.ensures.ok c.leave.ensures.lacks
+
+pub take-returns-clause-stays : goal.take-returns-clause-stays
+take-returns-clause-stays g t c =
+    body_stayed g.M.Limit.world c.args.self.now c.args.chunk.now.file c.args.asked c.args.blocks.now c.args.configuration.now c.requires.within c.in-Ok.ensures c.run_counted.new.configuration c.in-Ok-run_counted.ensures.ends c.in-Ok-run_counted.ensures.stays c.leave.new.blocks c.leave.new.configuration c.leave.result c.leave.ensures.ok

@@ -1,0 +1,103 @@
+-- How the machine takes the body of a request, and how it leaves it.
+use Rattle.std.specs.Prelude.{◌≡◌, ℕ, List, [], ◌∷◌, ◌++◌, drop, Some, None, Result, Ok, Err}
+use Rattle.tera_errors.specs.Site.{Name, Text}
+use Rattle.tera_errors.specs.Answer.{Refusal}
+use Rattle.tera_tree.specs.Tree.{Nodes}
+use Rattle.tera_state.specs.Scope.{Variables}
+use Rattle.tera_state.specs.Scopes.{around_of, coming_of}
+use Rattle.tera_meaning.specs.Lineage.{Definer}
+use Rattle.tera_meaning.specs.Run.{Request, ABlock, Above}
+use Rattle.tera_meaning.specs.Whole.{World, Place, Refuses, Takes, way, left_of}
+use Rattle.tera_code.specs.Code.{nodes_code, listing_of}
+use Rattle.tera_registry.specs.Templates.{definers_of}
+use Rattle.tera_registry.specs.declared.templates.Definer.{Definer as Nearest}
+use Rattle.tera_machine.specs.declared.asked.Asked.{Asked}
+use Rattle.tera_machine.specs.declared.bodies.Inside.{Inside}
+use Rattle.tera_machine.specs.declared.configuration.Configuration.{Configuration}
+use Rattle.tera_machine.specs.declared.machine.VirtualMachine.{VirtualMachine}
+use Rattle.tera_machine.specs.declared.blocks.OpenBlocks.{OpenBlocks}
+use Rattle.tera_machine.specs.Config.{Config, Loop, config_of, loops_at}
+use Rattle.tera_machine.specs.Flow.{Use, request_of, use_of}
+use Rattle.tera_machine.specs.Act.{beneath}
+use Rattle.tera_machine.specs.Exec.{Code, Finished, Broken, entered, used, BodyEnds}
+use Rattle.tera_machine.specs.Subject.{place_at}
+use Rattle.tera_machine.specs.Wanted.{ended_by, Noted}
+
+-- the blocks that are open in a body, by those that are open where it is asked for, and the other way round
+abbrev pub opened_by : Request → List Name → List Name
+opened_by (ABlock name span) names = name ∷ names
+opened_by (Above span) names = names
+
+abbrev pub closed_by : Request → List Name → List Name
+closed_by (ABlock name span) names = drop 1 names
+closed_by (Above span) names = names
+
+-- the body that a request takes, which this definer has
+pub record IsBody (w : World) (p : Place) (q : Request) (v : Variables) (nearest : Nearest) : Type 0 where
+  pub definer : Definer
+  pub takes : way w p q v ≡ Takes (record p { file = definer.file; opened = opened_by q p.opened; above = definers_of nearest.above }) v definer.body
+  pub code : nearest.chunk.now ≡ listing_of definer.file definer.body
+
+-- the body is found, or the request is refused, unless memory was refused
+abbrev pub FindsBody : World → Place → Request → Variables → Result Nearest Refusal → Type 0
+FindsBody w p q v (Ok nearest) = IsBody w p q v nearest
+FindsBody w p q v (Err None) = Unit {0}
+FindsBody w p q v (Err (Some fault)) = way w p q v ≡ Refuses fault
+
+-- a body is entered: its place, its code and where it begins
+pub record Entered (w : World) (p : Place) (q : Request) (c : Config) (p' : Place) (code : Code) (c' : Config) : Type 0 where
+  pub vars : Variables
+  pub body : Nodes
+  pub takes : way w p q c.run.vars ≡ Takes p' vars body
+  pub is : code ≡ nodes_code body 0
+  pub config : c' ≡ entered vars c
+
+-- what is kept for the body around
+pub record Keeps (a : Asked) (inside : Inside) (blocks0 : OpenBlocks) (c0 : Configuration) (blocks : OpenBlocks) (c : Configuration) : Type 0 where
+  pub names : blocks.names ≡ opened_by (request_of a) blocks0.names
+  pub above : inside.above ≡ blocks0.above
+  pub wanted : blocks.wanted ≡ blocks0.wanted
+  pub places : inside.outer.places ≡ c0.places
+  pub ended : inside.outer.ended.all ≡ c0.ended.all
+  pub none : c.places ≡ []
+  pub coming : coming_of c.scopes ≡ coming_of c0.scopes
+  pub around : around_of c.scopes ≡ around_of c0.scopes
+
+abbrev pub Enters : World → VirtualMachine → Name → Asked → OpenBlocks → Configuration → Result Inside Refusal → OpenBlocks → Configuration → Type 0
+Enters w m file a blocks0 c0 (Ok inside) blocks c =
+    Entered w (place_at m file blocks0 c0) (request_of a) (config_of c0) (place_at m inside.chunk.now.file blocks c) inside.chunk.now.code (config_of c)
+    × Keeps a inside blocks0 c0 blocks c
+Enters w m file a blocks0 c0 (Err None) blocks c = Unit {0}
+Enters w m file a blocks0 c0 (Err (Some fault)) blocks c =
+    way w (place_at m file blocks0 c0) (request_of a) (config_of c0).run.vars ≡ Refuses fault
+
+-- what is made of a body that ended, with the loops and the ended blocks of the body around
+abbrev pub closed_in : List Text → Request → Use → List (Name × Text) → List Loop → Config → Config
+closed_in [] q u blocks loops c = c
+closed_in (t ∷ ts) q u blocks loops c =
+    used u (left_of q c.run.vars c.run) (record { operands = c.operands; captures = ts; loops = loops; run = record { vars = c.run.vars; text = t; blocks = blocks } })
+
+pub record Leaves (a : Asked) (inside : Inside) (blocks0 : OpenBlocks) (c0 : Configuration) (blocks : OpenBlocks) (c : Configuration) : Type 0 where
+  pub config : config_of c ≡ closed_in (config_of c0).captures (request_of a) (use_of a) inside.outer.ended.all (loops_at inside.outer.places (coming_of c0.scopes)) (config_of c0)
+  pub names : blocks.names ≡ closed_by (request_of a) blocks0.names
+  pub above : blocks.above ≡ inside.above
+  pub noted : Noted blocks0.wanted (ended_by (request_of a) (config_of c0).run.text) blocks.wanted
+  pub places : c.places ≡ inside.outer.places
+  pub coming : coming_of c.scopes ≡ coming_of c0.scopes
+  pub around : around_of c.scopes ≡ around_of c0.scopes
+
+-- what stays while a body runs, and the blocks that ended in it
+pub record Stays (blocks0 : OpenBlocks) (c0 : Configuration) (blocks : OpenBlocks) (c : Configuration) : Type 0 where
+  pub names : blocks.names ≡ blocks0.names
+  pub above : blocks.above ≡ blocks0.above
+  pub around : around_of c.scopes ≡ around_of c0.scopes
+  pub beneath : beneath c ≡ beneath c0
+  pub since : List (Name × Text)
+  pub ended : c.ended.all ≡ c0.ended.all ++ since
+  pub noted : Noted blocks0.wanted since blocks.wanted
+
+-- a request was answered as the machine does, unless memory was refused
+abbrev pub BodyRan : World → Place → Request → Use → Config → Result (Unit {0}) Refusal → Config → ℕ → Type 0
+BodyRan w p q u c (Ok done) c' k = BodyEnds w p q u c (Finished c' k)
+BodyRan w p q u c (Err None) c' k = Unit {0}
+BodyRan w p q u c (Err (Some f)) c' k = BodyEnds w p q u c (Broken f k)

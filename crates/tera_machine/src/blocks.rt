@@ -1,0 +1,86 @@
+// The blocks that are open.
+ghost use Rattle.std.specs.Prelude.{◌≡◌, [], OnOk, IfOk, IfErr};
+ghost use Rattle.tera_errors.specs.Answer.{Lacks};
+ghost use Rattle.tera_tree.specs.Blocks.{is_among};
+ghost use Rattle.tera_registry.specs.Templates.{definers_of};
+ghost use Rattle.tera_machine.specs.Flow.{request_of};
+ghost use Rattle.tera_machine.specs.Bodies.{opened_by, closed_by};
+
+use crate::asked::Asked;
+use crate::wanted::Wanted;
+use std::alloc::Global;
+use tera_registry::{Definer, Definers};
+use tera_state::Stack;
+use tera_values::{Name, TeraResult};
+
+/// The names of the blocks that are open, the innermost on top, those who define the innermost above the body that runs,
+/// and the block that is wanted.
+#[derive(Drop)]
+pub struct OpenBlocks<'t> {
+    pub names: Stack<Name>,
+    pub above: Definers<'t>,
+    pub wanted: Wanted,
+}
+
+impl<'t> OpenBlocks<'t> {
+    /// No block is open; takes no memory.
+    pub fn new(alloc: Global, wanted: Wanted) -> OpenBlocks<'t>
+        ensures names { result.names ≡ [] }
+        ensures above { definers_of result.above ≡ [] }
+        ensures wanted { result.wanted ≡ wanted }
+    {
+        OpenBlocks {
+            names: Stack::new(alloc),
+            above: Definers::none(),
+            wanted,
+        }
+    }
+
+    /// Whether the block of this name is open.
+    pub fn has(&self, name: &Name) -> bool
+        ensures { result ≡ is_among name.now self.now.names }
+    {
+        let mut height = self.names.len();
+        while height > 0 {
+            height -= 1;
+            let Some(other) = self.names.at_height(height) else {
+                unreachable!()
+            };
+            if name.sought().is(other) {
+                return true;
+            }
+        }
+        false
+    }
+
+    /// Opens the body of this definer, and hands those out who were above.
+    pub fn enter(&mut self, asked: Asked<'_>, definer: &Definer<'t>) -> TeraResult<Definers<'t>>
+        ensures names { OnOk result (self.new.names ≡ opened_by
+            (request_of asked.entry) self.old.names) }
+        ensures above { OnOk result (self.new.above ≡ definer.now.above) }
+        ensures wanted { self.new.wanted ≡ self.old.wanted }
+        ensures before { IfOk result (λ above. above ≡ self.old.above) }
+        ensures lacks { IfErr result Lacks }
+    {
+        match asked {
+            Asked::Block(name, _) => self.names.push(name.share()?)?,
+            Asked::Above(_) => {}
+        }
+        let above = self.above;
+        self.above = definer.above;
+        Ok(above)
+    }
+
+    /// Closes the body, with those above who were there before.
+    pub fn leave(&mut self, asked: Asked<'_>, above: Definers<'t>)
+        ensures names { self.new.names ≡ closed_by (request_of asked.entry) self.old.names }
+        ensures above { self.new.above ≡ above.entry }
+        ensures wanted { self.new.wanted ≡ self.old.wanted }
+    {
+        match asked {
+            Asked::Block(_, _) => drop(self.names.pop()),
+            Asked::Above(_) => {}
+        }
+        self.above = above;
+    }
+}

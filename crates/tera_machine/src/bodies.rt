@@ -1,0 +1,205 @@
+// Bodies that are taken for a request: how the machine enters them, and how it leaves them.
+ghost use Rattle.std.specs.Prelude.{◌≡◌, ◌≢◌, [], OnOk, IfOk, IfErr};
+ghost use Rattle.tera_errors.specs.Answer.{Lacks};
+ghost use Rattle.tera_state.specs.Scopes.{around_of, coming_of};
+ghost use Rattle.tera_meaning.specs.Lineage.{definers};
+ghost use Rattle.tera_meaning.specs.Run.{begun};
+ghost use Rattle.tera_registry.specs.Templates.{definers_of};
+ghost use Rattle.tera_machine.specs.Config.{Config, config_of, loops_at};
+ghost use Rattle.tera_machine.specs.Exec.{entered};
+ghost use Rattle.tera_machine.specs.Flow.{request_of, use_of};
+ghost use Rattle.tera_machine.specs.Subject.{IsLinked, template_of, place_at};
+ghost use Rattle.tera_machine.specs.Wanted.{ended_by, Noted};
+ghost use Rattle.tera_machine.specs.Bodies.{FindsBody, Enters, Leaves, closed_in};
+
+use crate::asked::Asked;
+use crate::blocks::OpenBlocks;
+use crate::configuration::Configuration;
+use crate::ended::Ended;
+use crate::machine::{Limit, VirtualMachine};
+use crate::place::LoopPlace;
+use crate::wanted::Wanted;
+use std::mem::replace;
+use tera_code::Chunk;
+use tera_errors::Error;
+use tera_operators::Operand;
+use tera_registry::{Definer, Definers};
+use tera_state::Stack;
+use tera_values::{Name, TeraResult, Value};
+
+/// What a body that takes another has to itself: its open loops, and the blocks that ended in it so far.
+#[derive(Drop)]
+pub struct Outer {
+    pub places: Stack<LoopPlace>,
+    pub ended: Ended,
+}
+
+/// A body that is entered, and what is to be again behind it.
+#[derive(Drop)]
+pub struct Inside<'t> {
+    pub chunk: &'t Chunk,
+    pub above: Definers<'t>,
+    pub outer: Outer,
+}
+
+impl<'c> Configuration<'c> {
+    // A body begins: it has a text of its own, no open loop, and no block that ended.
+    fn begin_body(&mut self) -> TeraResult<Outer>
+        ensures config { OnOk result (config_of self.new ≡ entered (config_of self.old).run.vars
+            (config_of self.old)) }
+        ensures none { OnOk result (self.new.places ≡ []) }
+        ensures places { IfOk result (λ o. o.places ≡ self.old.places) }
+        ensures ended { IfOk result (λ o. o.ended.all ≡ self.old.ended.all) }
+        ensures coming { OnOk result (coming_of self.new.scopes ≡ coming_of self.old.scopes) }
+        ensures around { OnOk result (around_of self.new.scopes ≡ around_of self.old.scopes) }
+        ensures lacks { IfErr result Lacks }
+    {
+        self.texts.begin()?;
+        let places = Stack::new(self.alloc);
+        Ok(Outer {
+            places: replace(&mut self.places, places),
+            ended: replace(&mut self.ended, Ended::new()),
+        })
+    }
+
+    // The body ends: its text joins the one around it, or becomes a safe operand. That of a block is kept where it is wanted.
+    fn end_body(&mut self, asked: Asked<'_>, outer: Outer, wanted: &mut Wanted) -> TeraResult<()>
+        requires { (config_of self.old).captures ≢ [] }
+        ensures config { OnOk result (config_of self.new ≡ closed_in (config_of self.old).captures
+            (request_of asked.entry) (use_of asked.entry) outer.ended.all
+            (loops_at outer.places (coming_of self.old.scopes)) (config_of self.old)) }
+        ensures places { OnOk result (self.new.places ≡ outer.places) }
+        ensures noted { OnOk result (Noted wanted.old
+            (ended_by (request_of asked.entry) self.old.texts.now) wanted.new) }
+        ensures coming { OnOk result (coming_of self.new.scopes ≡ coming_of self.old.scopes) }
+        ensures around { OnOk result (around_of self.new.scopes ≡ around_of self.old.scopes) }
+        ensures lacks { IfErr result Lacks }
+    {
+        let text = self.texts.end()?;
+        let Outer { places, ended } = outer;
+        self.places = places;
+        match asked {
+            Asked::Block(name, _) => {
+                self.texts.append(text.as_str())?;
+                self.ended = Ended::with(
+                    &ended,
+                    &self.ended,
+                    name.as_str().as_bytes(),
+                    text.as_bytes(),
+                );
+                wanted.note(name, text);
+                Ok(())
+            }
+            Asked::Above(span) => {
+                self.ended = Ended::joined(&ended, &self.ended);
+                let value = Value::safe_string(self.alloc, text.as_str())?;
+                self.operands.push(Operand::new(value, span))
+            }
+        }
+    }
+}
+
+impl<'t> VirtualMachine<'t> {
+    // Those who define a block for the template that is rendered.
+    fn definers<M: Limit>(&self, name: &Name) -> Definers<'t>
+        requires { IsLinked self.now M.world.registry }
+        ensures { definers_of result ≡ definers M.world.registry (template_of self.now) name.now }
+    {
+        match self.template {
+            Some(found) => found.definers(name.as_str()),
+            None => Definers::none(),
+        }
+    }
+
+    // The body to take, or the fault of the request.
+    fn definer<M: Limit>(
+        &self,
+        chunk: &Chunk,
+        asked: Asked<'_>,
+        blocks: &OpenBlocks<'t>,
+    ) -> TeraResult<Definer<'t>>
+        requires { IsLinked self.now M.world.registry }
+        ensures { (c : Configuration) → FindsBody M.world
+            (place_at self.now chunk.now.file blocks.now c) (request_of asked.entry)
+            (config_of c).run.vars result }
+    {
+        match asked {
+            Asked::Block(name, span) => {
+                if blocks.has(name) {
+                    return Err(Error::rendering(
+                        self.alloc,
+                        "a block is put out inside itself",
+                        chunk.file(),
+                        span,
+                    ));
+                }
+                match self.definers::<M>(name).next() {
+                    Some(definer) => Ok(definer),
+                    None => Err(Error::rendering(
+                        self.alloc,
+                        "no template has this block",
+                        chunk.file(),
+                        span,
+                    )),
+                }
+            }
+            Asked::Above(span) => match blocks.above.next() {
+                Some(definer) => Ok(definer),
+                None => Err(Error::rendering(
+                    self.alloc,
+                    "no template above has the block",
+                    chunk.file(),
+                    span,
+                )),
+            },
+        }
+    }
+
+    /// Enters the body that is asked for.
+    pub(crate) fn enter<M: Limit>(
+        &self,
+        chunk: &Chunk,
+        asked: Asked<'_>,
+        blocks: &mut OpenBlocks<'t>,
+        configuration: &mut Configuration<'_>,
+    ) -> TeraResult<Inside<'t>>
+        requires { IsLinked self.now M.world.registry }
+        ensures { Enters M.world self.now chunk.now.file asked.entry blocks.old configuration.old
+            result blocks.new configuration.new }
+    {
+        let definer = match self.definer::<M>(chunk, asked, blocks) {
+            Ok(definer) => definer,
+            Err(error) => return Err(error),
+        };
+        let above = blocks.enter(asked, &definer)?;
+        let outer = configuration.begin_body()?;
+        Ok(Inside {
+            chunk: definer.chunk,
+            above,
+            outer,
+        })
+    }
+
+    /// Leaves the body that was asked for.
+    pub(crate) fn leave(
+        &self,
+        asked: Asked<'_>,
+        inside: Inside<'t>,
+        blocks: &mut OpenBlocks<'t>,
+        configuration: &mut Configuration<'_>,
+    ) -> TeraResult<()>
+        requires { (config_of configuration.old).captures ≢ [] }
+        ensures ok { OnOk result (Leaves asked.entry inside.entry blocks.old configuration.old
+            blocks.new configuration.new) }
+        ensures lacks { IfErr result Lacks }
+    {
+        let Inside {
+            chunk: _,
+            above,
+            outer,
+        } = inside;
+        configuration.end_body(asked, outer, &mut blocks.wanted)?;
+        blocks.leave(asked, above);
+        Ok(())
+    }
+}

@@ -1,0 +1,78 @@
+// The block whose text is wanted.
+ghost use Rattle.std.specs.Prelude.{◌≡◌, [], ◌∷◌, None, Some, IfOk, IfErr, string_bytes, unwrap_or};
+ghost use Rattle.tera_errors.specs.Answer.{Lacks};
+ghost use Rattle.tera_machine.specs.Wanted.{is_wanted, Noted, text_kept};
+
+use std::alloc::Global;
+use tera_values::{Name, TeraResult};
+
+/// The name of the block that is wanted, where one is, and its text as it ended last. Of other blocks nothing is kept.
+pub struct Wanted {
+    pub name: Option<Name>,
+    pub last: Option<String>,
+}
+
+// By hand, so that what goes out of scope is one call.
+impl Drop for Wanted {
+    fn drop(self) {
+        let Wanted { name, last } = self;
+        drop(name);
+        drop(last);
+    }
+}
+
+impl Wanted {
+    /// No block is wanted; takes no memory.
+    pub fn none() -> Wanted
+        ensures name { result.name ≡ None }
+        ensures last { text_kept result ≡ None }
+    {
+        Wanted {
+            name: None,
+            last: None,
+        }
+    }
+
+    /// The block of this name is wanted.
+    pub fn block(alloc: Global, name: &str) -> TeraResult<Wanted>
+        ensures name { IfOk result (λ wanted. wanted.name ≡ Some name.now) }
+        ensures last { IfOk result (λ wanted. text_kept wanted ≡ None) }
+        ensures lacks { IfErr result Lacks }
+    {
+        Ok(Wanted {
+            name: Some(Name::new(alloc, name)?),
+            last: None,
+        })
+    }
+
+    // Whether this block is wanted.
+    fn wants(&self, name: &Name) -> bool
+        ensures { result ≡ is_wanted self.now.name name.now }
+    {
+        match &self.name {
+            Some(wanted) => wanted.sought().is(name),
+            None => false,
+        }
+    }
+
+    /// A block ended with this text, which is kept where the block is wanted.
+    pub fn note(&mut self, name: &Name, text: String)
+        ensures { Noted self.old ((name.now, string_bytes text) ∷ []) self.new }
+    {
+        if self.wants(name) {
+            self.last = Some(text);
+        }
+    }
+
+    /// The text of the block as it ended last, or the empty text.
+    pub fn into_text(self, alloc: Global) -> String
+        ensures { string_bytes result ≡ unwrap_or (text_kept self) [] }
+    {
+        let Wanted { name, last } = self;
+        drop(name);
+        match last {
+            Some(text) => text,
+            None => String::new(alloc),
+        }
+    }
+}

@@ -1,0 +1,71 @@
+-- What none of a list passes, and blocks that are lost.
+use Rattle.std.proofs.Common.{◌≡◌, ℕ, zero, suc, ◌+◌, ◌<◌, ◌≤◌, Bool, true, false, ◌&&◌, is_some, List, [], ◌∷◌, length, Some, None, inl, inr, refl, sym, ap, ◌∙◌, arith, slice_get}
+use Rattle.std.specs.List.{list_any}
+use Rattle.std.proofs.lemmas.Bool.{cases_lt}
+use Rattle.std.proofs.lemmas.Option.{slice_get_within}
+use Rattle.std.specs.Str.{bytes_eq}
+use Rattle.std.specs.Prelude.{cond}
+use Rattle.tera_errors.specs.Site.{Name}
+use Rattle.tera_tree.specs.Blocks.{top_blocks}
+use Rattle.tera_values.specs.Named.{Named}
+use Rattle.tera_meaning.specs.Registry.{Registry, Entry}
+use Rattle.tera_meaning.specs.Resolve.{entry_at}
+use Rattle.tera_meaning.specs.Lineage.{ancestors, definers_in}
+use Rattle.tera_meaning.specs.Accepted.{is_none_left, is_lost, loses_a_block}
+use Rattle.tera_registry.specs.declared.definers.At.{At}
+use Rattle.tera_registry.specs.Definers.{IsFirst}
+
+any-none-get : {X : Type 0} (p : X → Bool) (xs : List X) → ((k : ℕ) (x : X) → slice_get xs k ≡ Some x → p x ≡ false) → list_any p xs ≡ false
+any-none-get p [] h = refl
+any-none-get p (x ∷ xs) h =
+    let first : p x ≡ false = h 0 x refl in
+    let rest : list_any p xs ≡ false = any-none-get p xs (λ k y at. h (suc k) y at) in
+    rw first rest
+
+-- none before a place passes
+abbrev pub NoneYet : {X : Type 0} → (X → Bool) → List X → ℕ → Type 0
+NoneYet {X} p xs i = (k : ℕ) (x : X) → k < i → slice_get xs k ≡ Some x → p x ≡ false
+
+pub none-yet-more : {X : Type 0} (p : X → Bool) (xs : List X) (i : ℕ) (x : X) → NoneYet p xs i → slice_get xs i ≡ Some x → p x ≡ false → NoneYet p xs (i + 1)
+none-yet-more p xs i x none at fails = λ k y lt y_at.
+    elim (cases_lt k i) [
+      | inl before ↦ none k y before y_at
+      | inr after ↦
+          (let last : k ≡ i = omega arith in
+          let e : y ≡ x = (let q : Some y ≡ Some x = sym y_at ∙ ap (slice_get xs) last ∙ at in cc) in rw e fails)
+    ]
+
+pub none-yet-all : {X : Type 0} (p : X → Bool) (xs : List X) (i : ℕ) → NoneYet p xs i → length xs ≤ i → list_any p xs ≡ false
+none-yet-all p xs i none over = any-none-get p xs (λ k x at. none k x (omega (arith, slice_get_within xs k x at)) at)
+
+-- The first thing of a name.
+
+pub entry-first : {A : Type 0} (n : Name) (es : Named A) (i : ℕ) (e : Name × A) → NoneYet (λ e. bytes_eq n e.0) es i → slice_get es i ≡ Some e → bytes_eq n e.0 ≡ true → entry_at n es ≡ Some e
+entry-first n [] i e none at same = (let q : None ≡ Some e = at in cc)
+entry-first n (x ∷ es) zero e none at same =
+    (let q : x ≡ e = (let s : Some x ≡ Some e = at in cc) in
+    let t : bytes_eq n x.0 ≡ true = rw q same in
+    ap (λ (b : Bool). cond b (Some x) (entry_at n es)) t ∙ ap Some q)
+entry-first n (x ∷ es) (suc i) e none at same =
+    ap (λ (b : Bool). cond b (Some x) (entry_at n es)) (none 0 x (omega arith) refl) ∙ entry-first n es i e (λ k y lt y_at. none (suc k) y (omega arith) y_at) at same
+
+pub entry-nowhere : {A : Type 0} (n : Name) (es : Named A) (i : ℕ) → NoneYet (λ e. bytes_eq n e.0) es i → length es ≤ i → entry_at n es ≡ None
+entry-nowhere n [] i none over = refl
+entry-nowhere n (x ∷ es) i none over =
+    ap (λ (b : Bool). cond b (Some x) (entry_at n es)) (none 0 x (omega arith) refl) ∙ entry-nowhere n es i (λ k y lt y_at. none (suc k) y (omega (arith, slice_get_within es k y y_at)) y_at) (omega arith)
+
+-- Lost blocks.
+
+pub lost-none : (r : Registry) (t : Entry) (block : Name) → IsFirst r None (definers_in block (ancestors r t)) → is_lost r t block ≡ true
+lost-none r t block f = ap is_none_left f
+
+pub lost-some : (r : Registry) (t : Entry) (block : Name) (at : At) → IsFirst r (Some at) (definers_in block (ancestors r t)) → is_lost r t block ≡ false
+lost-some r t block at f = f.1
+
+pub loses-of : (r : Registry) (t : Entry) (b : Bool) → is_some t.1.tree.parent ≡ true → list_any (is_lost r t) (top_blocks t.1.tree.nodes) ≡ b → loses_a_block r t ≡ b
+loses-of r t b child is =
+    ap (λ s. s && list_any (is_lost r t) (top_blocks t.1.tree.nodes)) child ∙ is
+
+pub loses-nothing : (r : Registry) (t : Entry) → is_some t.1.tree.parent ≡ false → loses_a_block r t ≡ false
+loses-nothing r t alone =
+    ap (λ s. s && list_any (is_lost r t) (top_blocks t.1.tree.nodes)) alone

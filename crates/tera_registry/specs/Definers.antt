@@ -1,0 +1,56 @@
+-- Those who define a block, from the place on where one of them stands.
+use Rattle.std.specs.Prelude.{◌≡◌, ℕ, false, List, [], ◌∷◌, slice_get, Option, Some, None, Ok}
+use Rattle.tera_errors.specs.Site.{Name}
+use Rattle.tera_tree.specs.Tree.{Nodes}
+use Rattle.tera_tree.specs.Blocks.{blocks}
+use Rattle.tera_meaning.specs.Registry.{Entry, Registry}
+use Rattle.tera_meaning.specs.Resolve.{parents}
+use Rattle.tera_meaning.specs.Lineage.{Definer, ancestors, definers_in}
+use Rattle.tera_meaning.specs.Accepted.{is_none_left}
+use Rattle.tera_registry.specs.declared.definers.At.{At}
+
+-- the blocks of a template, in the order of its text
+abbrev pub blocks_of : Entry → List (Name × Nodes)
+blocks_of t = blocks t.1.tree.nodes
+
+abbrev pub from_block : Registry → Entry → Option (Name × Nodes) → List Definer
+from_block r t None = []
+from_block r t (Some b) = record { file = t.0; body = b.1 } ∷ definers_in b.0 (ancestors r t)
+
+abbrev pub from_template : Registry → ℕ → Option Entry → List Definer
+from_template r k None = []
+from_template r k (Some t) = from_block r t (slice_get (blocks_of t) k)
+
+-- those who define a block, from the one on that stands there
+abbrev pub from_place : Registry → At → List Definer
+from_place r at = from_template r at.block (slice_get r.templates at.template)
+
+abbrev pub from_found : Registry → Option At → List Definer
+from_found r None = []
+from_found r (Some at) = from_place r at
+
+abbrev pub above_block : Registry → Entry → Option (Name × Nodes) → List Definer
+above_block r t None = []
+above_block r t (Some b) = definers_in b.0 (ancestors r t)
+
+abbrev pub above_template : Registry → ℕ → Option Entry → List Definer
+above_template r k None = []
+above_template r k (Some t) = above_block r t (slice_get (blocks_of t) k)
+
+-- those who define a block above the template in which it stands
+abbrev pub above_place : Registry → At → List Definer
+above_place r at = above_template r at.block (slice_get r.templates at.template)
+
+-- the first of those who define a block stands there, or nowhere where there is none
+abbrev pub IsFirst : Registry → Option At → List Definer → Type 0
+IsFirst r None ds = ds ≡ []
+IsFirst r (Some at) ds = (ds ≡ from_place r at) × (is_none_left ds ≡ false)
+
+-- each template has all its parents
+pub record Grounded (r : Registry) : Type 0 where
+  pub each : (i : ℕ) (t : Entry) → slice_get r.templates i ≡ Some t → parents r t ≡ Ok (ancestors r t)
+
+-- how many parents a template has, where one is
+abbrev pub ancestors_at : Registry → Option Entry → List Entry
+ancestors_at r None = []
+ancestors_at r (Some t) = ancestors r t

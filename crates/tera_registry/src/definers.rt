@@ -1,0 +1,124 @@
+// Who defines a block for a template, and which blocks are lost.
+ghost use Rattle.std.specs.Prelude.{◌≡◌, ◌<◌, ◌∷◌, length, slice_get, Some, Ok};
+ghost use Rattle.std.specs.List.{list_any};
+ghost use Rattle.tera_meaning.specs.Accepted.{loses_a_block};
+ghost use Rattle.tera_meaning.specs.Lineage.{ancestors, definers_in};
+ghost use Rattle.tera_meaning.specs.Registry.{Entry};
+ghost use Rattle.tera_meaning.specs.Resolve.{entry_at, parents};
+ghost use Rattle.tera_registry.specs.Definers.{IsFirst, Grounded, blocks_of};
+ghost use Rattle.tera_registry.specs.Order.{Rises};
+ghost use Rattle.tera_registry.specs.Places.{IsPlace};
+ghost use Rattle.tera_registry.specs.Kept.{entry_of, entries_of, seen};
+
+use crate::lineage::{Up, above};
+use crate::template::Template;
+use std::rc::Rc;
+use tera_values::Sought;
+
+/// Where a block stands: the place of its template, and which of its blocks it is.
+#[derive(Clone, Copy)]
+pub struct At {
+    pub template: usize,
+    pub block: usize,
+}
+
+/// Where a block of this name stands among those of a template.
+fn own(template: &Template, block: &Sought<'_>) -> Option<usize>
+    ensures { IsPlace (blocks_of (entry_of template.now)) result
+        (entry_at block.now (blocks_of (entry_of template.now))) }
+{
+    for place in 0..template.blocks.len() {
+        if block.is(&template.blocks[place].name) {
+            return Some(place);
+        }
+    }
+    None
+}
+
+/// Where the first of those stands who define a block, from a template on: itself, then its parents.
+pub fn first(
+    templates: &[Rc<Template>],
+    prefixes: &[String],
+    from: usize,
+    block: &Sought<'_>,
+) -> Option<At>
+    requires rises { Rises (entries_of templates.now) }
+    requires grounded { Grounded (seen templates.now prefixes.now) }
+    requires there { from < length templates.now }
+    ensures { (t : Entry) → slice_get (entries_of templates.now) from ≡ Some t
+        → IsFirst (seen templates.now prefixes.now) result
+        (definers_in block.now (t ∷ ancestors (seen templates.now prefixes.now) t)) }
+{
+    let mut last = from;
+    'up: loop {
+        let template: &Template = &templates[last];
+        if let Some(place) = own(template, block) {
+            return Some(At {
+                template: last,
+                block: place,
+            });
+        }
+        match above(templates, prefixes, template) {
+            Up::At(next) => last = next,
+            Up::Nothing => return None,
+            Up::Missing => return None,
+        }
+    }
+}
+
+/// Where the first of those stands who define a block above a template.
+pub fn first_above(
+    templates: &[Rc<Template>],
+    prefixes: &[String],
+    of: &Template,
+    block: &Sought<'_>,
+) -> Option<At>
+    requires rises { Rises (entries_of templates.now) }
+    requires grounded { Grounded (seen templates.now prefixes.now) }
+    requires parents { parents (seen templates.now prefixes.now) (entry_of of.now)
+        ≡ Ok (ancestors (seen templates.now prefixes.now) (entry_of of.now)) }
+    ensures { IsFirst (seen templates.now prefixes.now) result
+        (definers_in block.now (ancestors (seen templates.now prefixes.now) (entry_of of.now))) }
+{
+    match above(templates, prefixes, of) {
+        Up::At(next) => first(templates, prefixes, next, block),
+        Up::Nothing => None,
+        Up::Missing => None,
+    }
+}
+
+/// Whether a template extends another and has a block, inside no other block, that none of its parents has.
+fn loses(templates: &[Rc<Template>], prefixes: &[String], of: &Template) -> bool
+    requires rises { Rises (entries_of templates.now) }
+    requires grounded { Grounded (seen templates.now prefixes.now) }
+    requires parents { parents (seen templates.now prefixes.now) (entry_of of.now)
+        ≡ Ok (ancestors (seen templates.now prefixes.now) (entry_of of.now)) }
+    ensures { result ≡ loses_a_block (seen templates.now prefixes.now) (entry_of of.now) }
+{
+    if of.parent.is_none() {
+        return false;
+    }
+    for name in &of.tops {
+        let sought = name.sought();
+        match first_above(templates, prefixes, of, &sought) {
+            None => return true,
+            Some(_) => {}
+        }
+    }
+    false
+}
+
+/// Whether a block of a template is never put out.
+pub fn any_loses(templates: &[Rc<Template>], prefixes: &[String]) -> bool
+    requires rises { Rises (entries_of templates.now) }
+    requires grounded { Grounded (seen templates.now prefixes.now) }
+    ensures { result ≡ list_any (loses_a_block (seen templates.now prefixes.now))
+        (entries_of templates.now) }
+{
+    for template in templates {
+        if loses(templates, prefixes, template) {
+            return true;
+        }
+    }
+    false
+}

@@ -1,0 +1,22 @@
+use Rattle.std.proofs.Common.{refl}
+use Rattle.tera_syntax.proofs.Gathered.{capture_gathered, block_gathered, if_gathered, for_gathered}
+use Rattle.tera_syntax.proofs.blocks.+names.Goals as goal
+
+pub gather_node-returns-in_ok-gather-in-If-clause-ok : goal.gather_node-returns-in_ok-gather-in-If-clause-ok
+gather_node-returns-in_ok-gather-in-If-clause-ok t c =
+    if_gathered _ _ _ _ c.in-If.condition c.in-If.body c.in-If.other _ _ _ c.in-If.is c.as_slice.ensures.value c.as_slice-in-If.ensures.value
+    c.in_ok-gather-in-If.ensures.ok c.gather-in-If.ensures.ok
+
+pub gather_node-returns-in_ok-gather-in-For-clause-ok : goal.gather_node-returns-in_ok-gather-in-For-clause-ok
+gather_node-returns-in_ok-gather-in-For-clause-ok t c =
+    for_gathered _ _ _ _ c.in-For.heading c.in-For.body c.in-For.other _ _ _ c.in-For.is c.as_slice-in-For.ensures.value c.as_slice-in-For-2.ensures.value
+    c.in_ok-gather-in-For.ensures.ok c.gather-in-For-2.ensures.ok
+
+pub gather_node-returns-in-Capture-clause-ok : goal.gather_node-returns-in-Capture-clause-ok
+gather_node-returns-in-Capture-clause-ok t c =
+    capture_gathered _ _ _ _ c.in-Capture.name c.in-Capture.body c.in-Capture.is_global _ c.in-Capture.is c.as_slice-in-Capture.ensures.value c.gather-in-Capture.ensures.ok
+
+pub gather_node-returns-in_ok-push-in-Block-clause-ok : goal.gather_node-returns-in_ok-push-in-Block-clause-ok
+gather_node-returns-in_ok-push-in-Block-clause-ok t c =
+    block_gathered _ _ _ _ c.in-Block.name c.in-Block.body c.in-Block.span _ c.args.names.now.items _ _ c.in-Block.is c.as_slice-in-Block.ensures.value refl
+    c.in_ok-push-in-Block.ensures.items refl c.gather-in-Block.ensures.ok

@@ -1,0 +1,9 @@
+use Rattle.std.proofs.Common.{◌≡◌, ◌++◌, drop}
+use Rattle.tera_tree.specs.Blocks.{block_names}
+use Rattle.tera_tree.specs.View.{nodes_of}
+use Rattle.tera_syntax.specs.View.{names_of}
+use Rattle.tera_syntax.proofs.blocks.+names.Given as goal
+
+abbrev pub invariant-gather-loop-node : goal.invariant-gather-loop-node
+invariant-gather-loop-node l =
+    names_of l.names.items ++ block_names (nodes_of (drop l.node-index l.nodes)) ≡ names_of l.initial.names.items ++ block_names (nodes_of l.nodes)

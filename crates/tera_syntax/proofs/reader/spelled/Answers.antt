@@ -1,0 +1,63 @@
+use Rattle.std.proofs.Common.{◌≡◌, ◌-◌, length, List, Option, Some, ap, sym, ◌∙◌, subst, arith}
+use Rattle.std.specs.Prelude.{option_and_then}
+use Rattle.std.proofs.lemmas.List.{length-drop}
+use Rattle.std.proofs.lemmas.Bool.Decides.{Decides-eqb}
+use Rattle.tera_tokens.specs.Cut.{cut, Found}
+use Rattle.tera_tokens.specs.declared.cut.Found as found
+use Rattle.tera_tokens.specs.declared.token.Token.{Token}
+use Rattle.tera_tokens.specs.Answers.{Answers}
+use Rattle.tera_tree.specs.Delimiters.{delimiters_of}
+use Rattle.tera_tree.specs.View.{tree_of}
+use Rattle.tera_tokens.specs.Found.{found_of}
+use Rattle.tera_syntax.specs.File as spec
+use Rattle.tera_syntax.specs.View.{file_of}
+use Rattle.tera_tokens.proofs.Cuts.{cut_step, cut_broken, cut_nothing}
+use Rattle.tera_expressions.proofs.Turns.{refused}
+use Rattle.tera_syntax.proofs.Extending.{file_broken}
+use Rattle.tera_syntax.proofs.Rows.{some_bytes}
+use Rattle.tera_syntax.proofs.reader.spelled.Goals as goal
+
+found_in : (meant : Option Found) (ts us : List Token) (x : found.Found) → ts ≡ us → meant ≡ Some (found_of ts x) → meant ≡ Some (found_of us x)
+found_in meant ts us x e h = h ∙ ap (λ ts. Some (found_of ts x)) e
+
+pub returns-in-Err : goal.returns-in-Err
+returns-in-Err c =
+    let l = some_bytes c.loop-rest.rest.now (sym c.is_empty.ensures ∙ c.loop-rest-test.true) in
+    refused c.in-Err.refusal (λ n. c.loop-rest.invariant.so_far
+    ∙ ap (spec.file_run 200 (file_of c.loop-rest.file)) (cut_broken (delimiters_of c.args.delimiters.now) c.loop-rest.trims c.loop-rest.at c.loop-rest.rest.now l n)
+    ∙ file_broken 200 (file_of c.loop-rest.file))
+    c.in-Err.ensures.value
+
+pub returns-in-Err-step : goal.returns-in-Err-step
+returns-in-Err-step c =
+    let d = delimiters_of c.args.delimiters.now in
+    let l = some_bytes c.loop-rest.rest.now (sym c.is_empty.ensures ∙ c.loop-rest-test.true) in
+    let s = cut_step d c.loop-rest.trims c.loop-rest.at c.loop-rest.rest.now (found_of c.as_slice.result.now c.in-Ok.piece) l (found_in _ _ _ c.in-Ok.piece (sym c.as_slice.ensures.value) c.in-Ok.ensures.value) c.in-Ok.ensures.moves in
+    refused c.in-Err-step.refusal (λ n. c.loop-rest.invariant.so_far
+    ∙ ap (spec.file_run 200 (file_of c.loop-rest.file)) s
+    ∙ ap (option_and_then (λ t. spec.file_run 200 t (cut d c.in-Ok.piece.trims 0 c.in-Ok.piece.next _))) n)
+    c.in-Err-step.ensures
+
+pub loop-rest-preserved : goal.loop-rest-preserved
+loop-rest-preserved c =
+    let d = delimiters_of c.args.delimiters.now in
+    let l = some_bytes c.loop-rest.rest.now (sym c.is_empty.ensures ∙ c.loop-rest-test.true) in
+    let s = cut_step d c.loop-rest.trims c.loop-rest.at c.loop-rest.rest.now (found_of c.as_slice.result.now c.in-Ok.piece) l (found_in _ _ _ c.in-Ok.piece (sym c.as_slice.ensures.value) c.in-Ok.ensures.value) c.in-Ok.ensures.moves in
+    let f = c.in-Ok.ensures.rest in
+    let k = ap length f.2 ∙ length-drop (c.in-Ok.piece.next - c.loop-rest.at) c.loop-rest.rest.now in
+    record {
+      utf8 = f.3;
+      place = omega (arith, f.0, f.1, k, c.loop-rest.invariant.place);
+      known = c.in-Ok.ensures.known;
+      so_far = c.loop-rest.invariant.so_far
+          ∙ ap (spec.file_run 200 (file_of c.loop-rest.file)) s
+          ∙ ap (option_and_then (λ t. spec.file_run 200 t (cut d c.in-Ok.piece.trims 0 c.in-Ok.piece.next _))) c.in-Ok-step.ensures
+          ∙ ap (λ text. spec.file_run 200 (file_of c.step.new.self) (cut d c.in-Ok.piece.trims 0 c.in-Ok.piece.next text)) (sym f.2);
+    }
+
+pub returns : goal.returns
+returns c =
+    let z : length c.loop-rest.rest.now ≡ 0 = (Decides-eqb (length c.loop-rest.rest.now) 0).0 (sym c.is_empty.ensures ∙ c.loop-rest-test.false) in
+    let e = c.loop-rest.invariant.so_far
+    ∙ ap (spec.file_run 200 (file_of c.loop-rest.file)) (cut_nothing (delimiters_of c.args.delimiters.now) c.loop-rest.trims c.loop-rest.at c.loop-rest.rest.now z) in
+    subst (λ o. Answers tree_of o c.finish.result) (sym e) c.finish.ensures.value

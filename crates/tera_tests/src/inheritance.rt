@@ -216,22 +216,16 @@ ok
 @@ template u
 {% block a %}{{ super(b=nope.x, a=1) }}{% endblock %}
 @@ end
-@@ template v
-{{ super() }}
-@@ end
 @@ add
 @@ render t
 @@ render u
-@@ render v
 =>
 fault RenderingError __tera_one_off 3 10
 ok
 ok
 ok
-ok
 fault RenderingError t 16 23
 fault RenderingError u 24 28
-fault RenderingError v 3 10
 
 @@ str on
 {{ super(a=1, a=2) }}

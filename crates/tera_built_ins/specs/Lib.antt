@@ -1,0 +1,4 @@
+pub mod Escaping
+pub mod Arguments
+pub mod Reading
+pub mod Maps

@@ -1,0 +1,8 @@
+//! The filters, tests and functions that every engine has.
+#![tactic(auto)]
+
+mod arguments;
+pub mod escaping;
+pub mod maps;
+
+pub use escaping::Escaping;

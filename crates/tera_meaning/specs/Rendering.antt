@@ -12,6 +12,7 @@ use Rattle.tera_state.specs.Scope.{AroundOf, Around, outside, nothing_set}
 use Rattle.tera_meaning.specs.Run.{Signal, Answer, AnswerOf, Failed, Gave}
 use Rattle.tera_meaning.specs.Registry.{Entry, Registry}
 use Rattle.tera_meaning.specs.Resolve.{resolve, root}
+use Rattle.tera_meaning.specs.Known.{lacks_a_callee}
 use Rattle.tera_meaning.specs.Lineage.{Definer, definers}
 use Rattle.tera_meaning.specs.Whole.{World, Place, PlaceOf, meaning_in}
 
@@ -48,6 +49,10 @@ has_some (a ∷ as') = true
 abbrev pub has_a_block : Nodes → Bool
 has_a_block nodes = has_some (top_blocks nodes)
 
+-- whether a text can't be rendered beside the registry
+abbrev pub is_refused : Tree → Bool
+is_refused tree = (is_some tree.parent || has_a_block tree.nodes) || lacks_a_callee tree.nodes
+
 module _ {C : Type 0} (alphabet : Alphabet C) where
   -- around the variables of a rendering: the caller's context, and the global one
   abbrev pub outermost_in : Registry → Named Val → AroundOf C
@@ -61,11 +66,12 @@ module _ {C : Type 0} (alphabet : Alphabet C) where
   one_off_meaning_in r tree context autoescape =
       meaning_in alphabet (alone r) (one_off_place_in r context autoescape) nothing_set tree.nodes
 
-  -- the reader's fault; a text beside the registry may extend no template and have no block; else the text of what was read
+  -- the reader's fault; a text beside the registry may extend no template, have no block, and call nothing that is not there;
+  -- else the text of what was read
   abbrev pub render_str_in : Registry → Result Tree Fault → Named Val → Bool → Result (List C) Fault
   render_str_in r (Err fault) context autoescape = Err fault
   render_str_in r (Ok tree) context autoescape =
-      if is_some tree.parent || has_a_block tree.nodes then Err message else text_of (one_off_meaning_in r tree context autoescape)
+      if is_refused tree then Err message else text_of (one_off_meaning_in r tree context autoescape)
 
   -- Nodes stand in the text of the template that has no parent; blocks are put out and texts are escaped as for the template
   -- that is rendered.

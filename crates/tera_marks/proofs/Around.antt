@@ -133,7 +133,7 @@ put-stands n {v} {w} s (more {x = b} {y = c} {xs = vs} {ys = ws} k ks) = rw k.0 
     go Equal rest = more (refl, s) ks
     go Greater rest = more (refl, k.1) rest
 
-put_all-stands : {bs : List (Name × ValOf Marked)} {cs : List (Name × ValOf ℕ)} → Each Binds bs cs → {vs : Named (ValOf Marked)} {ws : Named (ValOf ℕ)} → Each Binds vs ws → Each Binds (put_all bs vs) (put_all cs ws)
+pub put_all-stands : {bs : List (Name × ValOf Marked)} {cs : List (Name × ValOf ℕ)} → Each Binds bs cs → {vs : Named (ValOf Marked)} {ws : Named (ValOf ℕ)} → Each Binds vs ws → Each Binds (put_all bs vs) (put_all cs ws)
 put_all-stands none ks = ks
 put_all-stands (more {y = c} b bs) ks = put_all-stands bs (rw b.0 (put-stands c.0 b.1 ks))
 

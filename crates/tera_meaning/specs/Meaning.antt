@@ -77,6 +77,10 @@ module _ {C : Type 0} where
 abbrev pub no_bound : {C : Type 0} → EvaluatedOf C
 no_bound = record { value = none; span = record { start = 0; end = 0 } }
 
+-- the text that a body put out: safe where autoescape is on
+abbrev pub put_out : {C : Type 0} → HereOf C → Filters → List C → EvaluatedOf C
+put_out here fs t = record { value = text t here.autoescape; span = first_span fs }
+
 module _ {C : Type 0} (alphabet : Alphabet C) (here : HereOf C) (call : OracleOf C) where
   abbrev mutual
     pub expr_meaning_in : Expr → MeaningOf C (EvaluatedOf C)
@@ -168,10 +172,6 @@ module _ {C : Type 0} (alphabet : Alphabet C) (here : HereOf C) (call : OracleOf
       ▹ λ given. answered (filter_applied_in alphabet here.file (escaping_at here) name a given span))
       ▹ filters_meaning_in rest
 
-  -- The text that a body put out, safe where autoescape is on.
-  abbrev pub put_out : Filters → List C → EvaluatedOf C
-  put_out fs t = record { value = text t here.autoescape; span = first_span fs }
-
   abbrev mutual
     pub node_meaning_in : Node → MeaningOf C Signal
     node_meaning_in (Content t span) = visit (writes (alphabet.spelled template t))
@@ -183,10 +183,10 @@ module _ {C : Type 0} (alphabet : Alphabet C) (here : HereOf C) (call : OracleOf
         visit (expr_meaning_in value ▹ λ a. changes (assign is_global name a.value))
     node_meaning_in (Capture name fs body is_global) =
         visit (captured (nodes_meaning_in body)
-        ▹ λ c. go_on c.0 (filters_meaning_in fs (put_out fs c.1) ▹ λ a. changes (assign is_global name a.value)))
+        ▹ λ c. go_on c.0 (filters_meaning_in fs (put_out here fs c.1) ▹ λ a. changes (assign is_global name a.value)))
     node_meaning_in (FilterSection fs body) =
         visit (captured (nodes_meaning_in body)
-        ▹ λ c. go_on c.0 (filters_meaning_in fs (put_out fs c.1) ▹ written_in alphabet here))
+        ▹ λ c. go_on c.0 (filters_meaning_in fs (put_out here fs c.1) ▹ written_in alphabet here))
     node_meaning_in (For key name target body other) =
         visit (expr_meaning_in target
         ▹ λ a. answered (turns_of_in alphabet here (record { name = name; key = key; counts = true }) a)

@@ -12,7 +12,7 @@ use Rattle.tera_state.specs.Scope.{AroundOf, Around, outside, nothing_set}
 use Rattle.tera_meaning.specs.Run.{Signal, Answer, AnswerOf, Failed, Gave}
 use Rattle.tera_meaning.specs.Registry.{Entry, Registry}
 use Rattle.tera_meaning.specs.Resolve.{resolve, root}
-use Rattle.tera_meaning.specs.Known.{lacks_a_callee}
+use Rattle.tera_meaning.specs.Known.{has_unknown}
 use Rattle.tera_meaning.specs.Lineage.{Definer, definers}
 use Rattle.tera_meaning.specs.Whole.{World, Place, PlaceOf, meaning_in}
 
@@ -51,7 +51,7 @@ has_a_block nodes = has_some (top_blocks nodes)
 
 -- whether a text can't be rendered beside the registry
 abbrev pub is_refused : Tree → Bool
-is_refused tree = (is_some tree.parent || has_a_block tree.nodes) || lacks_a_callee tree.nodes
+is_refused tree = (is_some tree.parent || has_a_block tree.nodes) || has_unknown tree.nodes
 
 module _ {C : Type 0} (alphabet : Alphabet C) where
   -- around the variables of a rendering: the caller's context, and the global one

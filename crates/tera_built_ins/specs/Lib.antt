@@ -2,3 +2,11 @@ pub mod Escaping
 pub mod Arguments
 pub mod Reading
 pub mod Maps
+pub mod Defaults
+pub mod Numbers
+pub mod Tests
+pub mod Functions
+pub mod Filters
+pub mod TestTable
+pub mod FunctionTable
+pub mod Rooms

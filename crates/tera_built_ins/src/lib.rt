@@ -2,7 +2,17 @@
 #![tactic(auto)]
 
 mod arguments;
+pub mod defaults;
 pub mod escaping;
+pub mod filter;
+pub mod function;
+pub mod functions;
 pub mod maps;
+pub mod numbers;
+pub mod test;
+pub mod tests;
 
 pub use escaping::Escaping;
+pub use filter::BuiltInFilter;
+pub use function::BuiltInFunction;
+pub use test::BuiltInTest;

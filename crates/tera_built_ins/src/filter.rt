@@ -6,7 +6,7 @@ ghost use Rattle.tera_built_ins.specs.Escaping.{escaping_of};
 ghost use Rattle.tera_built_ins.specs.Filters.{filter_named, filter_of};
 
 use crate::escaping::Escaping;
-use crate::{defaults, maps, numbers};
+use crate::{defaults, numbers};
 use std::alloc::Global;
 use tera_values::{Kwargs, TeraResult, Value};
 
@@ -16,7 +16,6 @@ pub enum BuiltInFilter {
     Default,
     Pluralize,
     Abs,
-    Values,
 }
 
 impl BuiltInFilter {
@@ -30,8 +29,6 @@ impl BuiltInFilter {
             Some(BuiltInFilter::Pluralize)
         } else if name == "abs" {
             Some(BuiltInFilter::Abs)
-        } else if name == "values" {
-            Some(BuiltInFilter::Values)
         } else {
             None
         }
@@ -52,7 +49,6 @@ impl BuiltInFilter {
             BuiltInFilter::Default => defaults::default(value, arguments),
             BuiltInFilter::Pluralize => numbers::pluralize(alloc, value, arguments),
             BuiltInFilter::Abs => numbers::abs(alloc, value),
-            BuiltInFilter::Values => maps::values(alloc, value),
         }
     }
 }

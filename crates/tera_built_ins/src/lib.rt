@@ -4,5 +4,7 @@
 mod arguments;
 pub mod escaping;
 pub mod maps;
+mod parts;
+pub mod safety;
 
 pub use escaping::Escaping;

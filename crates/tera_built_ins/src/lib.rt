@@ -4,7 +4,10 @@
 mod arguments;
 pub mod escaping;
 pub mod maps;
+pub mod indent;
 mod parts;
+pub mod replace;
 pub mod safety;
+pub mod trims;
 
 pub use escaping::Escaping;

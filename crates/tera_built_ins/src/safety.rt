@@ -6,7 +6,6 @@ ghost use Rattle.tera_built_ins.specs.Safety.{safe_of, escape_of, str_of};
 
 use crate::arguments::as_text;
 use crate::escaping::Escaping;
-use crate::parts::part;
 use std::alloc::Global;
 use tera_values::{Error, Shape, TeraResult, Value};
 
@@ -25,14 +24,12 @@ pub fn safe(alloc: Global, value: &Value) -> TeraResult<Value>
 pub fn escape(alloc: Global, value: &Value, escaping: Escaping) -> TeraResult<Value>
     ensures { Gives (λ v. v) result (escape_of plain (escaping_of escaping) value.now) }
 {
-    let given = match as_text(value) {
-        Ok(given) => given,
-        Err(error) => return Err(error),
-    };
+    let given = as_text(value)?;
     if given.is_safe {
         return value.try_clone();
     }
-    let escaped = part(alloc, escaping, true, given)?;
+    let mut escaped = String::new(alloc);
+    escaping.escape(given.text, &mut escaped)?;
     Value::safe_string(alloc, escaped.as_str())
 }
 

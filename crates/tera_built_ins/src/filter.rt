@@ -6,7 +6,7 @@ ghost use Rattle.tera_built_ins.specs.Escaping.{escaping_of};
 ghost use Rattle.tera_built_ins.specs.Filters.{filter_named, filter_of};
 
 use crate::escaping::Escaping;
-use crate::{defaults, numbers};
+use crate::{defaults, numbers, parse};
 use std::alloc::Global;
 use tera_values::{Kwargs, TeraResult, Value};
 
@@ -15,6 +15,7 @@ use tera_values::{Kwargs, TeraResult, Value};
 pub enum BuiltInFilter {
     Default,
     Pluralize,
+    Int,
     Abs,
 }
 
@@ -27,6 +28,8 @@ impl BuiltInFilter {
             Some(BuiltInFilter::Default)
         } else if name == "pluralize" {
             Some(BuiltInFilter::Pluralize)
+        } else if name == "int" {
+            Some(BuiltInFilter::Int)
         } else if name == "abs" {
             Some(BuiltInFilter::Abs)
         } else {
@@ -48,6 +51,7 @@ impl BuiltInFilter {
         match self {
             BuiltInFilter::Default => defaults::default(value, arguments),
             BuiltInFilter::Pluralize => numbers::pluralize(alloc, value, arguments),
+            BuiltInFilter::Int => parse::int(alloc, value, arguments),
             BuiltInFilter::Abs => numbers::abs(alloc, value),
         }
     }

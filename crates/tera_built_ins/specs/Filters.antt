@@ -10,15 +10,15 @@ use Rattle.tera_built_ins.specs.declared.filter.BuiltInFilter.TheVariants as fil
 use Rattle.tera_built_ins.specs.Escaping.{Escaping}
 use Rattle.tera_built_ins.specs.Defaults.{default_of}
 use Rattle.tera_built_ins.specs.Numbers.{abs_of, pluralize_of}
-use Rattle.tera_built_ins.specs.Maps.{values_of}
+use Rattle.tera_built_ins.specs.Parse.{int_of}
 
 -- their names
 abbrev pub filters : Named BuiltInFilter
 filters =
     (codes "default", filter.Default)
     ∷ (codes "pluralize", filter.Pluralize)
+    ∷ (codes "int", filter.Int)
     ∷ (codes "abs", filter.Abs)
-    ∷ (codes "values", filter.Values)
     ∷ []
 
 abbrev pub filter_named : Name → Option BuiltInFilter
@@ -29,8 +29,8 @@ module _ {C : Type 0} (alphabet : Alphabet C) (view : Escaping) where
   abbrev pub filter_of : BuiltInFilter → ValOf C → Named (ValOf C) → Result (ValOf C) Fault
   filter_of filter.Default v given = default_of v given
   filter_of filter.Pluralize v given = pluralize_of alphabet v given
+  filter_of filter.Int v given = int_of alphabet v given
   filter_of filter.Abs v given = abs_of v
-  filter_of filter.Values v given = values_of v
 
   abbrev pub filter_in : Option BuiltInFilter → ValOf C → Named (ValOf C) → Result (ValOf C) Fault
   filter_in None v given = Err message

@@ -10,3 +10,10 @@ pub mod Filters
 pub mod TestTable
 pub mod FunctionTable
 pub mod Rooms
+pub mod Pieces
+pub mod Parts
+pub mod Safety
+pub mod Trims
+pub mod Replace
+pub mod Indent
+pub mod Parse

@@ -6,7 +6,7 @@ ghost use Rattle.tera_built_ins.specs.Escaping.{escaping_of};
 ghost use Rattle.tera_built_ins.specs.Filters.{filter_named, filter_of};
 
 use crate::escaping::Escaping;
-use crate::{defaults, maps, numbers};
+use crate::{defaults, numbers, parse};
 use std::alloc::Global;
 use tera_values::{Kwargs, TeraResult, Value};
 
@@ -15,8 +15,8 @@ use tera_values::{Kwargs, TeraResult, Value};
 pub enum BuiltInFilter {
     Default,
     Pluralize,
+    Int,
     Abs,
-    Values,
 }
 
 impl BuiltInFilter {
@@ -28,10 +28,10 @@ impl BuiltInFilter {
             Some(BuiltInFilter::Default)
         } else if name == "pluralize" {
             Some(BuiltInFilter::Pluralize)
+        } else if name == "int" {
+            Some(BuiltInFilter::Int)
         } else if name == "abs" {
             Some(BuiltInFilter::Abs)
-        } else if name == "values" {
-            Some(BuiltInFilter::Values)
         } else {
             None
         }
@@ -51,8 +51,8 @@ impl BuiltInFilter {
         match self {
             BuiltInFilter::Default => defaults::default(value, arguments),
             BuiltInFilter::Pluralize => numbers::pluralize(alloc, value, arguments),
+            BuiltInFilter::Int => parse::int(alloc, value, arguments),
             BuiltInFilter::Abs => numbers::abs(alloc, value),
-            BuiltInFilter::Values => maps::values(alloc, value),
         }
     }
 }

@@ -3,7 +3,7 @@ ghost use Rattle.std.specs.Prelude.{◌≡◌, ◌<◌, ◌≤◌, ◌^◌, ◌�
 ghost use Rattle.tera_errors.specs.Answer.{Gives};
 ghost use Rattle.tera_built_ins.specs.Numbers.{there};
 ghost use Rattle.tera_built_ins.specs.Functions.{range_of, throw_of, counted, strides, stepping};
-ghost use Rattle.tera_built_ins.specs.Rooms.{HasRoom};
+ghost use Rattle.tera_built_ins.specs.Rooms.{HasRoom, EachIsBelow};
 
 use crate::arguments::{integer_or, needed_integer, needed_text};
 use std::alloc::Global;
@@ -58,7 +58,8 @@ fn strides(low: i128, high: i128, stride: u128) -> Option<u128>
     requires ordered { low ≤ℤ high }
     requires some { 0 < stride }
     requires room { stride ≤ 2 ^ 127 }
-    ensures { there result ≡ strides (high -ℤ low) stride }
+    ensures count { there result ≡ strides (high -ℤ low) stride }
+    ensures below { IfSome result (λ count. EachIsBelow (high -ℤ low) stride count) }
 {
     match high.checked_sub(low) {
         None => None,

@@ -7,10 +7,16 @@ pub mod escaping;
 pub mod filter;
 pub mod function;
 pub mod functions;
+pub mod indent;
 pub mod maps;
 pub mod numbers;
+pub mod parse;
+mod parts;
+pub mod replace;
+pub mod safety;
 pub mod test;
 pub mod tests;
+pub mod trims;
 
 pub use escaping::Escaping;
 pub use filter::BuiltInFilter;

@@ -4,5 +4,8 @@
 mod arguments;
 pub mod escaping;
 pub mod maps;
+pub mod markup;
+pub mod sizes;
+pub mod words;
 
 pub use escaping::Escaping;

@@ -5,3 +5,4 @@ pub mod Maps
 pub mod Sizes
 pub mod Markup
 pub mod Words
+pub mod Truncate

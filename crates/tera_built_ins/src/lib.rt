@@ -6,6 +6,7 @@ pub mod escaping;
 pub mod maps;
 pub mod markup;
 pub mod sizes;
+pub mod truncate;
 pub mod words;
 
 pub use escaping::Escaping;

@@ -6,3 +6,9 @@ pub mod Sizes
 pub mod Markup
 pub mod Words
 pub mod Truncate
+pub mod Pieces
+pub mod Parts
+pub mod Safety
+pub mod Trims
+pub mod Replace
+pub mod Indent

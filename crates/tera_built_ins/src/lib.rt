@@ -8,5 +8,10 @@ pub mod markup;
 pub mod sizes;
 pub mod truncate;
 pub mod words;
+pub mod indent;
+mod parts;
+pub mod replace;
+pub mod safety;
+pub mod trims;
 
 pub use escaping::Escaping;

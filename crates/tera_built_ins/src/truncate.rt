@@ -45,17 +45,8 @@ fn shorten(alloc: Global, content: &str, length: usize, end: &str) -> TeraResult
 pub fn truncate(alloc: Global, value: &Value, arguments: &Kwargs) -> TeraResult<Value>
     ensures { Gives (λ v. v) result (truncate_of plain value.now arguments.now) }
 {
-    let given = match as_text(value) {
-        Ok(given) => given,
-        Err(error) => return Err(error),
-    };
-    let length = match needed_size(arguments, "length") {
-        Ok(length) => length,
-        Err(error) => return Err(error),
-    };
-    let end = match end_of(arguments) {
-        Ok(end) => end,
-        Err(error) => return Err(error),
-    };
+    let given = as_text(value)?;
+    let length = needed_size(arguments, "length")?;
+    let end = end_of(arguments)?;
     shorten(alloc, given.text, length, end.text)
 }

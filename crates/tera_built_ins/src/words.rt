@@ -26,8 +26,6 @@ fn word_count(text: &str) -> usize
 pub fn wordcount(value: &Value) -> TeraResult<Value>
     ensures { Gives (λ v. v) result (wordcount_of plain value.now) }
 {
-    match as_text(value) {
-        Ok(given) => Ok(Value::from_int(word_count(given.text) as i128)),
-        Err(error) => Err(error),
-    }
+    let given = as_text(value)?;
+    Ok(Value::from_int(word_count(given.text) as i128))
 }

@@ -1,5 +1,5 @@
 -- What a built-in sees of a rendering.
-use Rattle.std.specs.Prelude.{Bool, List, not, ◌&&◌, if◌then◌else◌}
+use Rattle.std.specs.Prelude.{Bool, List}
 use Rattle.tera_errors.specs.Site.{Text}
 use Rattle.tera_values.specs.Alphabet.{Alphabet, escaped}
 use Rattle.tera_values.specs.Escape.{escape_html}

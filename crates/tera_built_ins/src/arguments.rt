@@ -78,10 +78,7 @@ pub(crate) fn as_size(value: &Value) -> TeraResult<usize>
 }
 
 /// A text that may be left out.
-pub(crate) fn optional_text<'a>(
-    arguments: &'a Kwargs,
-    name: &str,
-) -> TeraResult<Option<Given<'a>>>
+pub(crate) fn optional_text<'a>(arguments: &'a Kwargs, name: &str) -> TeraResult<Option<Given<'a>>>
     ensures { Gives (λ o. option_map given_of o) result
         (spec.optional spec.as_text name.now arguments.now) }
 {

@@ -2,3 +2,4 @@ pub mod Escaping
 pub mod Arguments
 pub mod Reading
 pub mod Maps
+pub mod Items

@@ -3,6 +3,7 @@
 
 mod arguments;
 pub mod escaping;
+pub mod items;
 pub mod maps;
 
 pub use escaping::Escaping;

@@ -3,3 +3,4 @@ pub mod Arguments
 pub mod Reading
 pub mod Maps
 pub mod Items
+pub mod Join

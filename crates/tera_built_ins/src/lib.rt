@@ -4,6 +4,7 @@
 mod arguments;
 pub mod escaping;
 pub mod items;
+pub mod join;
 pub mod maps;
 
 pub use escaping::Escaping;

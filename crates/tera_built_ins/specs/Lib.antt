@@ -4,3 +4,6 @@ pub mod Reading
 pub mod Maps
 pub mod Items
 pub mod Join
+pub mod Attributes
+pub mod Sorting
+pub mod Ranks

@@ -6,5 +6,6 @@ pub mod escaping;
 pub mod items;
 pub mod join;
 pub mod maps;
+pub mod sorting;
 
 pub use escaping::Escaping;

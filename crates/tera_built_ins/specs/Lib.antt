@@ -21,3 +21,8 @@ pub mod Trims
 pub mod Replace
 pub mod Indent
 pub mod Parse
+pub mod Items
+pub mod Join
+pub mod Attributes
+pub mod Sorting
+pub mod Ranks

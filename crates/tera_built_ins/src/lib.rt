@@ -13,7 +13,6 @@ pub mod sizes;
 pub mod truncate;
 pub mod words;
 pub mod indent;
-pub mod maps;
 pub mod numbers;
 pub mod parse;
 mod parts;
@@ -22,6 +21,9 @@ pub mod safety;
 pub mod test;
 pub mod tests;
 pub mod trims;
+pub mod items;
+pub mod join;
+pub mod sorting;
 
 pub use escaping::Escaping;
 pub use filter::BuiltInFilter;

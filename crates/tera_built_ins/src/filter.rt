@@ -2,19 +2,28 @@
 ghost use Rattle.std.specs.Prelude.{◌≡◌};
 ghost use Rattle.tera_errors.specs.Answer.{Gives};
 ghost use Rattle.tera_values.specs.Alphabet.{plain};
+ghost use Rattle.tera_values.specs.Named.{at_name};
 ghost use Rattle.tera_built_ins.specs.Escaping.{escaping_of};
-ghost use Rattle.tera_built_ins.specs.Filters.{filter_named, filter_of};
+ghost use Rattle.tera_built_ins.specs.Filters.{filter_named, filter_of, text_filters, value_filters};
 
 use crate::escaping::Escaping;
-use crate::{defaults, numbers, parse};
+use crate::{defaults, indent, numbers, parse, replace, safety, trims};
 use std::alloc::Global;
 use tera_values::{Kwargs, TeraResult, Value};
 
 /// A filter that every engine has.
 #[derive(Clone, Copy)]
 pub enum BuiltInFilter {
+    Safe,
+    Escape,
+    Trim,
+    TrimStart,
+    TrimEnd,
+    Replace,
+    Indent,
     Default,
     Pluralize,
+    Str,
     Int,
     Abs,
 }
@@ -24,16 +33,9 @@ impl BuiltInFilter {
     pub fn named(name: &str) -> Option<BuiltInFilter>
         ensures { result ≡ filter_named name.now }
     {
-        if name == "default" {
-            Some(BuiltInFilter::Default)
-        } else if name == "pluralize" {
-            Some(BuiltInFilter::Pluralize)
-        } else if name == "int" {
-            Some(BuiltInFilter::Int)
-        } else if name == "abs" {
-            Some(BuiltInFilter::Abs)
-        } else {
-            None
+        match text_filter(name) {
+            Some(filter) => Some(filter),
+            None => value_filter(name),
         }
     }
 
@@ -49,10 +51,60 @@ impl BuiltInFilter {
             (filter_of plain (escaping_of escaping) self value.now arguments.now) }
     {
         match self {
+            BuiltInFilter::Safe => safety::safe(alloc, value),
+            BuiltInFilter::Escape => safety::escape(alloc, value, escaping),
+            BuiltInFilter::Trim => trims::trim(alloc, value, arguments),
+            BuiltInFilter::TrimStart => trims::trim_start(alloc, value, arguments),
+            BuiltInFilter::TrimEnd => trims::trim_end(alloc, value, arguments),
+            BuiltInFilter::Replace => replace::replace(alloc, value, arguments, escaping),
+            BuiltInFilter::Indent => indent::indent(alloc, value, arguments, escaping),
             BuiltInFilter::Default => defaults::default(value, arguments),
             BuiltInFilter::Pluralize => numbers::pluralize(alloc, value, arguments),
+            BuiltInFilter::Str => safety::str(alloc, value),
             BuiltInFilter::Int => parse::int(alloc, value, arguments),
             BuiltInFilter::Abs => numbers::abs(alloc, value),
         }
+    }
+}
+
+/// That of texts with this name.
+fn text_filter(name: &str) -> Option<BuiltInFilter>
+    ensures { result ≡ at_name name.now text_filters }
+{
+    if name == "safe" {
+        Some(BuiltInFilter::Safe)
+    } else if name == "escape" {
+        Some(BuiltInFilter::Escape)
+    } else if name == "trim" {
+        Some(BuiltInFilter::Trim)
+    } else if name == "trim_start" {
+        Some(BuiltInFilter::TrimStart)
+    } else if name == "trim_end" {
+        Some(BuiltInFilter::TrimEnd)
+    } else if name == "replace" {
+        Some(BuiltInFilter::Replace)
+    } else if name == "indent" {
+        Some(BuiltInFilter::Indent)
+    } else {
+        None
+    }
+}
+
+/// That of values of other kinds, or of any, with this name.
+fn value_filter(name: &str) -> Option<BuiltInFilter>
+    ensures { result ≡ at_name name.now value_filters }
+{
+    if name == "default" {
+        Some(BuiltInFilter::Default)
+    } else if name == "pluralize" {
+        Some(BuiltInFilter::Pluralize)
+    } else if name == "str" {
+        Some(BuiltInFilter::Str)
+    } else if name == "int" {
+        Some(BuiltInFilter::Int)
+    } else if name == "abs" {
+        Some(BuiltInFilter::Abs)
+    } else {
+        None
     }
 }

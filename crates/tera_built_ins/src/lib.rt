@@ -3,8 +3,8 @@
 
 mod arguments;
 pub mod escaping;
-pub mod maps;
 pub mod indent;
+pub mod maps;
 mod parts;
 pub mod replace;
 pub mod safety;

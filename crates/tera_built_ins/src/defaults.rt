@@ -9,14 +9,11 @@ use tera_values::{Kwargs, TeraResult, Value};
 pub fn default(value: &Value, arguments: &Kwargs) -> TeraResult<Value>
     ensures { Gives (λ v. v) result (default_of value.now arguments.now) }
 {
-    let other = match needed_value(arguments, "value") {
-        Ok(other) => other,
-        Err(error) => return Err(error),
-    };
-    let is_replaced = match flag(arguments, "boolean") {
-        Ok(true) => !value.is_truthy(),
-        Ok(false) => value.is_undefined(),
-        Err(error) => return Err(error),
+    let other = needed_value(arguments, "value")?;
+    let is_replaced = if flag(arguments, "boolean")? {
+        !value.is_truthy()
+    } else {
+        value.is_undefined()
     };
     if is_replaced {
         other.try_clone()

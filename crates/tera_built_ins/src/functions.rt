@@ -16,18 +16,9 @@ const MOST: u128 = 100_000;
 pub fn range(alloc: Global, arguments: &Kwargs) -> TeraResult<Value>
     ensures { Gives (λ v. v) result (range_of arguments.now) }
 {
-    let start = match integer_or(arguments, "start", 0) {
-        Ok(start) => start,
-        Err(error) => return Err(error),
-    };
-    let end = match needed_integer(arguments, "end") {
-        Ok(end) => end,
-        Err(error) => return Err(error),
-    };
-    let step = match integer_or(arguments, "step_by", 1) {
-        Ok(step) => step,
-        Err(error) => return Err(error),
-    };
+    let start = integer_or(arguments, "start", 0)?;
+    let end = needed_integer(arguments, "end")?;
+    let step = integer_or(arguments, "step_by", 1)?;
     match counted(start, end, step) {
         Some(count) if count <= MOST => Ok(Value::array(stepping(alloc, start, step, count)?)),
         Some(_) => Err(Error::message(alloc, "a range has at most 100000 numbers")),
@@ -88,8 +79,6 @@ fn stepping(alloc: Global, start: i128, step: i128, count: u128) -> TeraResult<V
 pub fn throw(alloc: Global, arguments: &Kwargs) -> TeraResult<Value>
     ensures { Gives (λ v. v) result (throw_of arguments.now) }
 {
-    match needed_text(arguments, "message") {
-        Ok(words) => Err(Error::message(alloc, words.text)),
-        Err(error) => Err(error),
-    }
+    let words = needed_text(arguments, "message")?;
+    Err(Error::message(alloc, words.text))
 }

@@ -23,14 +23,8 @@ pub fn abs(alloc: Global, value: &Value) -> TeraResult<Value>
 pub fn pluralize(alloc: Global, value: &Value, arguments: &Kwargs) -> TeraResult<Value>
     ensures { Gives (λ v. v) result (pluralize_of plain value.now arguments.now) }
 {
-    let singular = match text_or(arguments, "singular", "") {
-        Ok(singular) => singular,
-        Err(error) => return Err(error),
-    };
-    let plural = match text_or(arguments, "plural", "s") {
-        Ok(plural) => plural,
-        Err(error) => return Err(error),
-    };
+    let singular = text_or(arguments, "singular", "")?;
+    let plural = text_or(arguments, "plural", "s")?;
     match value.as_i128() {
         Some(1 | -1) => Value::string(alloc, singular),
         Some(_) => Value::string(alloc, plural),
@@ -43,9 +37,8 @@ fn text_or<'a>(arguments: &'a Kwargs, name: &str, default: &'a str) -> TeraResul
     ensures { Gives (λ s. s.now) result
         (or_default default.now (as_bytes plain) name.now arguments.now) }
 {
-    match optional_text(arguments, name) {
-        Ok(Some(given)) => Ok(given.text),
-        Ok(None) => Ok(default),
-        Err(error) => Err(error),
+    match optional_text(arguments, name)? {
+        Some(given) => Ok(given.text),
+        None => Ok(default),
     }
 }

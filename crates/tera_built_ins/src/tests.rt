@@ -82,72 +82,51 @@ pub fn undefined(value: &Value, _arguments: &Kwargs) -> TeraResult<bool>
 pub fn odd(value: &Value, _arguments: &Kwargs) -> TeraResult<bool>
     ensures { Gives (λ b. b) result (odd_test plain value.now _arguments.now) }
 {
-    match as_integer(value) {
-        Ok(number) => Ok(!divides(2, number)),
-        Err(error) => Err(error),
-    }
+    let number = as_integer(value)?;
+    Ok(!divides(2, number))
 }
 
 /// Whether 2 divides the integer.
 pub fn even(value: &Value, _arguments: &Kwargs) -> TeraResult<bool>
     ensures { Gives (λ b. b) result (even_test plain value.now _arguments.now) }
 {
-    match as_integer(value) {
-        Ok(number) => Ok(divides(2, number)),
-        Err(error) => Err(error),
-    }
+    let number = as_integer(value)?;
+    Ok(divides(2, number))
 }
 
 /// Whether `divisor` divides the integer. 0 divides none.
 pub fn divisible_by(value: &Value, arguments: &Kwargs) -> TeraResult<bool>
     ensures { Gives (λ b. b) result (divisible_by_test plain value.now arguments.now) }
 {
-    let number = match as_integer(value) {
-        Ok(number) => number,
-        Err(error) => return Err(error),
-    };
-    match needed_integer(arguments, "divisor") {
-        Ok(divisor) => Ok(divides(divisor, number)),
-        Err(error) => Err(error),
-    }
+    let number = as_integer(value)?;
+    let divisor = needed_integer(arguments, "divisor")?;
+    Ok(divides(divisor, number))
 }
 
 /// Whether the text begins with `pat`.
 pub fn starting_with(value: &Value, arguments: &Kwargs) -> TeraResult<bool>
     ensures { Gives (λ b. b) result (starting_with_test plain value.now arguments.now) }
 {
-    let whole = match as_text(value) {
-        Ok(whole) => whole,
-        Err(error) => return Err(error),
-    };
-    match needed_text(arguments, "pat") {
-        Ok(part) => Ok(whole.text.starts_with(part.text)),
-        Err(error) => Err(error),
-    }
+    let whole = as_text(value)?;
+    let part = needed_text(arguments, "pat")?;
+    Ok(whole.text.starts_with(part.text))
 }
 
 /// Whether the text ends with `pat`.
 pub fn ending_with(value: &Value, arguments: &Kwargs) -> TeraResult<bool>
     ensures { Gives (λ b. b) result (ending_with_test plain value.now arguments.now) }
 {
-    let whole = match as_text(value) {
-        Ok(whole) => whole,
-        Err(error) => return Err(error),
-    };
-    match needed_text(arguments, "pat") {
-        Ok(part) => Ok(whole.text.ends_with(part.text)),
-        Err(error) => Err(error),
-    }
+    let whole = as_text(value)?;
+    let part = needed_text(arguments, "pat")?;
+    Ok(whole.text.ends_with(part.text))
 }
 
 /// Whether `pat` is an item, a part of the text, or a key.
 pub fn containing(alloc: Global, value: &Value, arguments: &Kwargs) -> TeraResult<bool>
     ensures { Gives (λ b. b) result (containing_test plain value.now arguments.now) }
 {
-    match needed_value(arguments, "pat") {
-        Ok(part) => value.contains(alloc, part),
-        Err(error) => Err(error),
-    }
+    let part = needed_value(arguments, "pat")?;
+    value.contains(alloc, part)
 }
 
 fn divides(divisor: i128, number: i128) -> bool

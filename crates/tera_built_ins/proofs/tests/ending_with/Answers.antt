@@ -5,7 +5,7 @@ use Rattle.std.proofs.lemmas.Str.Pattern.{ends_text}
 use Rattle.tera_built_ins.proofs.tests.ending_with.Goals as goal
 
 -- src/tests.rt
-pub returns-in-Ok-needed_text : goal.returns-in-Ok-needed_text
-returns-in-Ok-needed_text c =
-    let e : c.ends_with.result ≡ ends_with eqb c.in-Ok.whole.text.now c.in-Ok-needed_text.part.text.now = ends_text _ _ _ c.ends_with.ensures.cases in
+pub returns : goal.returns
+returns c =
+    let e : c.ends_with.result ≡ ends_with eqb c.in_ok-whole.whole.text.now c.in_ok-part.part.text.now = ends_text _ _ _ c.ends_with.ensures.cases in
     search (rules, e)

@@ -5,7 +5,7 @@ use Rattle.std.proofs.lemmas.Str.Pattern.{starts_text}
 use Rattle.tera_built_ins.proofs.tests.starting_with.Goals as goal
 
 -- src/tests.rt
-pub returns-in-Ok-needed_text : goal.returns-in-Ok-needed_text
-returns-in-Ok-needed_text c =
-    let e : c.starts_with.result ≡ starts_with eqb c.in-Ok.whole.text.now c.in-Ok-needed_text.part.text.now = starts_text _ _ _ c.starts_with.ensures.cases in
+pub returns : goal.returns
+returns c =
+    let e : c.starts_with.result ≡ starts_with eqb c.in_ok-whole.whole.text.now c.in_ok-part.part.text.now = starts_text _ _ _ c.starts_with.ensures.cases in
     search (rules, e)

@@ -12,3 +12,4 @@ pub mod Safety
 pub mod Trims
 pub mod Replace
 pub mod Indent
+pub mod Split

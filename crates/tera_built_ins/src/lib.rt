@@ -3,15 +3,16 @@
 
 mod arguments;
 pub mod escaping;
+pub mod indent;
 pub mod maps;
 pub mod markup;
-pub mod sizes;
-pub mod truncate;
-pub mod words;
-pub mod indent;
 mod parts;
 pub mod replace;
 pub mod safety;
+pub mod sizes;
+pub mod split;
 pub mod trims;
+pub mod truncate;
+pub mod words;
 
 pub use escaping::Escaping;

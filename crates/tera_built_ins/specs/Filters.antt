@@ -19,6 +19,7 @@ use Rattle.tera_built_ins.specs.Truncate.{truncate_of}
 use Rattle.tera_built_ins.specs.Indent.{indent_of}
 use Rattle.tera_built_ins.specs.Parse.{int_of}
 use Rattle.tera_built_ins.specs.Sizes.{length_of, reverse_of}
+use Rattle.tera_built_ins.specs.Split.{split_of}
 use Rattle.tera_built_ins.specs.Items.{first_of, last_of, nth_of}
 use Rattle.tera_built_ins.specs.Join.{join_of}
 use Rattle.tera_built_ins.specs.Sorting.{sort_of, unique_of}
@@ -45,6 +46,7 @@ filters =
     ∷ (codes "int", filter.Int)
     ∷ (codes "length", filter.Length)
     ∷ (codes "reverse", filter.Reverse)
+    ∷ (codes "split", filter.Split)
     ∷ (codes "abs", filter.Abs)
     ∷ (codes "first", filter.First)
     ∷ (codes "last", filter.Last)
@@ -82,6 +84,7 @@ module _ {C : Type 0} (alphabet : Alphabet C) (view : Escaping) where
   filter_of filter.Int v given = int_of alphabet v given
   filter_of filter.Length v given = length_of alphabet v
   filter_of filter.Reverse v given = reverse_of alphabet v
+  filter_of filter.Split v given = split_of alphabet v given
   filter_of filter.Abs v given = abs_of v
   filter_of filter.First v given = first_of v
   filter_of filter.Last v given = last_of v

@@ -26,3 +26,4 @@ pub mod Join
 pub mod Attributes
 pub mod Sorting
 pub mod Ranks
+pub mod Split

@@ -6,7 +6,7 @@ ghost use Rattle.tera_built_ins.specs.Escaping.{escaping_of};
 ghost use Rattle.tera_built_ins.specs.Filters.{filter_named, filter_of};
 
 use crate::escaping::Escaping;
-use crate::{defaults, indent, items, join, maps, markup, numbers, parse, replace, safety, sizes, sorting, trims, truncate, words};
+use crate::{defaults, indent, items, join, maps, markup, numbers, parse, replace, safety, sizes, sorting, split, trims, truncate, words};
 use std::alloc::Global;
 use tera_values::{Kwargs, TeraResult, Value};
 
@@ -31,6 +31,7 @@ pub enum BuiltInFilter {
     Int,
     Length,
     Reverse,
+    Split,
     Abs,
     First,
     Last,
@@ -68,6 +69,7 @@ impl BuiltInFilter {
             "int" => Some(BuiltInFilter::Int),
             "length" => Some(BuiltInFilter::Length),
             "reverse" => Some(BuiltInFilter::Reverse),
+            "split" => Some(BuiltInFilter::Split),
             "abs" => Some(BuiltInFilter::Abs),
             "first" => Some(BuiltInFilter::First),
             "last" => Some(BuiltInFilter::Last),
@@ -113,6 +115,7 @@ impl BuiltInFilter {
             BuiltInFilter::Int => parse::int(alloc, value, arguments),
             BuiltInFilter::Length => sizes::length(alloc, value),
             BuiltInFilter::Reverse => sizes::reverse(alloc, value),
+            BuiltInFilter::Split => split::split(alloc, value, arguments),
             BuiltInFilter::Abs => numbers::abs(alloc, value),
             BuiltInFilter::First => items::first(value),
             BuiltInFilter::Last => items::last(value),

@@ -24,6 +24,7 @@ pub mod trims;
 pub mod items;
 pub mod join;
 pub mod sorting;
+pub mod split;
 
 pub use escaping::Escaping;
 pub use filter::BuiltInFilter;

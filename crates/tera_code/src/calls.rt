@@ -24,7 +24,8 @@ impl Compiler {
     {
         match expression {
             Expression::Super { arguments, span } => {
-                self.arguments(arguments.as_slice())?;
+                let arguments = arguments.as_slice();
+                self.arguments(arguments)?;
                 self.emit(Instruction::TakeAbove {
                     arguments: arguments.len(),
                     span: *span,

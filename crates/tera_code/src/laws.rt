@@ -2,7 +2,6 @@
 ghost use Rattle.tera_code.specs.Called.{CodeCallsTheSame};
 
 /// The code of nodes calls what the nodes call, in the order in which they stand.
-#[tactic(auto, using(crate::proofs::Callees::code_calls_the_same))]
 pub fn code_calls_the_same()
     ensures { CodeCallsTheSame }
 {}

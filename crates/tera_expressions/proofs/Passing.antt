@@ -1,5 +1,5 @@
 -- Filters and tests: what is read is derived, and how what is derived is read.
-use Rattle.std.proofs.Common.{◌≡◌, ℕ, suc, ◌≤◌, max, true, false, Some, refl, sym, ◌∙◌, ap, subst, arith}
+use Rattle.std.proofs.Common.{◌≡◌, ℕ, suc, ◌≤◌, max, true, Some, refl, sym, ◌∙◌, ap, subst, arith}
 use Rattle.tera_errors.specs.Site.{Name}
 use Rattle.tera_errors.specs.declared.span.Span.{Span}
 use Rattle.tera_tree.specs.Tree.{Expr, Not, Filter, Test, Arguments, NoArguments}

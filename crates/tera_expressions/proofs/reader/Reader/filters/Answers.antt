@@ -1,4 +1,4 @@
-use Rattle.std.proofs.Common.{◌≡◌, ℕ, ◌-◌, ◌+◌, max, ap, sym, ◌∙◌, true, false, Some}
+use Rattle.std.proofs.Common.{◌≡◌, ℕ, ◌-◌, ◌+◌, ap, sym, ◌∙◌, true, false, Some}
 use Rattle.tera_tree.specs.Tree.{Filters}
 use Rattle.tera_tree.specs.View.{filters_of}
 use Rattle.tera_tokens.specs.declared.token.Kind.TheVariants.{Bar}

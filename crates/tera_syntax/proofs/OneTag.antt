@@ -8,13 +8,13 @@ use Rattle.tera_tokens.specs.declared.token.Kind.TheVariants as k
 use Rattle.tera_tokens.specs.Token.{Token}
 use Rattle.tera_tokens.specs.Input.{Input, Outcome, begin, kind, text, start, next, span, same}
 use Rattle.tera_tokens.specs.Cut.{is_alone}
-use Rattle.tera_tree.specs.Tree.{Expr, Node, Set, Break, Continue}
+use Rattle.tera_tree.specs.Tree.{Expr, NoFilters, Node, Set, Break, Continue}
 use Rattle.tera_tree.specs.Depth.{depth, node_depth}
 use Rattle.tera_expressions.specs.Headings.{Names, calls}
 use Rattle.tera_expressions.proofs.Calls.{calls-got, calls-is}
 use Rattle.tera_expressions.proofs.Steps.{guard, same-is, same-refl}
 use Rattle.tera_syntax.specs.declared.heads.Surroundings.{Surroundings}
-use Rattle.tera_syntax.specs.Heads.{Head, IfHead, ForHead, SetHead, BlockHead, head_depth, is_end, is_named, first, ends}
+use Rattle.tera_syntax.specs.Heads.{Head, IfHead, ForHead, SetHead, SectionHead, BlockHead, head_depth, is_end, is_named, first, ends}
 use Rattle.tera_syntax.specs.Grammar.{DerivesWhole, IsWord, Begins, set_word, Simple, set, breaks, continues, Opens, choice, loop, capture, block, GoesOn, elif}
 use Rattle.tera_syntax.specs.Reader.{Tag, Single, Opening, GoingOn, Turning, Closing, looping_by, setting, setting_by, blocking, alone, leaving, named, tag_by, tag, whole}
 use Rattle.tera_syntax.proofs.Whole.{whole_sound, whole_complete}
@@ -91,7 +91,7 @@ module _ (limit : ℕ) (q outer : Surroundings) (tokens : List Token) (t : Tag) 
       let p = mapped make (whole limit (next (next i))) t h in
       let w = whole_sound limit (next (next i)) p.0 p.1 in
       said (make p.0) (set b (n, f) w.0, omega (arith, w.1)) p.2
-  set-by-got is_global b n k.End f h = said (Opening (SetHead (text (next (begin q.in_loop tokens))) is_global)) (capture b (n, f), omega arith) (some-is _ _ h)
+  set-by-got is_global b n k.End f h = said (Opening (SetHead (text (next (begin q.in_loop tokens))) NoFilters is_global)) (capture b (n, f), omega arith) (some-is _ _ h)
   set-by-got is_global b n _ f h = absurd (cc)
 
   set-got : (is_global : Bool) → Begins (set_word is_global) tokens → setting limit is_global (next (begin q.in_loop tokens)) ≡ Some t → Says
@@ -206,7 +206,7 @@ module _ (limit : ℕ) (q outer : Surroundings) (tokens : List Token) where
       ∙ ap (setting_by limit is_global (text i) (next i)) n.1
       ∙ ap (option_map (λ e. Single (Set (text i) e is_global))) (whole_complete w limit le)
 
-  capture-read : {is_global : Bool} → Begins (set_word is_global) tokens → Names (next (begin q.in_loop tokens)) k.End → tag limit q outer tokens ≡ Some (Opening (SetHead (text (next (begin q.in_loop tokens))) is_global))
+  capture-read : {is_global : Bool} → Begins (set_word is_global) tokens → Names (next (begin q.in_loop tokens)) k.End → tag limit q outer tokens ≡ Some (Opening (SetHead (text (next (begin q.in_loop tokens))) NoFilters is_global))
   capture-read {is_global = is_global} b n =
       let i = next (begin q.in_loop tokens) in
       by-word (set_word is_global) b
@@ -272,7 +272,8 @@ module _ (limit : ℕ) (q outer : Surroundings) (tokens : List Token) where
   unfolding named
   end-read (IfHead c) e h = by-end e (codes "endif") refl h
   end-read (ForHead key n c) e h = by-end e (codes "endfor") refl h
-  end-read (SetHead n is_global) e h = set-end e is_global (is_alone (codes "endset") tokens) refl h
+  end-read (SetHead n fs is_global) e h = set-end e is_global (is_alone (codes "endset") tokens) refl h
+  end-read (SectionHead fs) e h = by-end e (codes "endfilter") refl h
   end-read (BlockHead n place) e h = block-end e n (is_alone (codes "endblock") tokens) refl h
 
   pub extends_read : Begins (codes "extends") tokens → tag limit q outer tokens ≡ Some Closing

@@ -3,7 +3,7 @@ use Rattle.std.specs.Prelude.{◌≡◌, ◌≢◌, List, [], ◌∷◌, length,
 use Rattle.std.specs.Str.{trim_start}
 use Rattle.tera_errors.specs.Site as site
 use Rattle.tera_errors.specs.declared.span.Span.{Span}
-use Rattle.tera_tree.specs.Tree.{Expr, Content, Print, Set, Break, Continue, Node, Nodes, NoNodes, MoreNodes}
+use Rattle.tera_tree.specs.Tree.{Expr, NoFilters, Content, Print, Set, Break, Continue, Node, Nodes, NoNodes, MoreNodes}
 use Rattle.tera_tokens.specs.declared.token.Kind.{Kind}
 use Rattle.tera_tokens.specs.declared.token.Kind.TheVariants as k
 use Rattle.tera_tokens.specs.Token.{Token}
@@ -45,7 +45,7 @@ pub data Opens : Surroundings → Head → List Token → Type 0 where
   loop : {q : Surroundings} {key : Option site.Name} {name : site.Name} {e : Expr} {i : Input} {tokens : List Token} → first tokens ≡ k.For → Calls key name (next (begin q.in_loop tokens)) i → DerivesWhole e i
       → Opens q (ForHead key name e) tokens
   capture : {q : Surroundings} {is_global : Bool} {tokens : List Token} → Begins (set_word is_global) tokens → Names (next (begin q.in_loop tokens)) k.End
-      → Opens q (SetHead (text (next (begin q.in_loop tokens))) is_global) tokens
+      → Opens q (SetHead (text (next (begin q.in_loop tokens))) NoFilters is_global) tokens
   block : {q : Surroundings} {tokens : List Token} → Begins (codes "block") tokens → Names (next (begin q.in_loop tokens)) k.End
       → Opens q (BlockHead (text (next (begin q.in_loop tokens))) (span (start (next (begin q.in_loop tokens))) (next (next (begin q.in_loop tokens))))) tokens
 

@@ -9,7 +9,7 @@ use Rattle.tera_tokens.specs.Input.{Input, Outcome, begin, kind, text, start, ne
 use Rattle.tera_expressions.specs.Expressions.{Deep, expr}
 use Rattle.tera_expressions.specs.Headings.{calls}
 use Rattle.tera_tokens.specs.Cut.{Piece, Words, Comment, Variable, Block, Broken, is_alone}
-use Rattle.tera_tree.specs.Tree.{Expr, Content, Print, Set, Break, Continue, Node, Nodes, NoNodes, MoreNodes}
+use Rattle.tera_tree.specs.Tree.{Expr, NoFilters, Content, Print, Set, Break, Continue, Node, Nodes, NoNodes, MoreNodes}
 use Rattle.tera_syntax.specs.declared.heads.Surroundings.{Surroundings}
 use Rattle.tera_syntax.specs.Heads.{Head, IfHead, ForHead, SetHead, BlockHead, outside, make, splits, chains, inside, first, ends}
 
@@ -127,7 +127,7 @@ looping limit i = looping_by limit (calls i)
 
 abbrev pub setting_by : ℕ → Bool → Name → Input → Kind → Option Tag
 setting_by limit is_global name i k.Assign = option_map (λ e. Single (Set name e is_global)) (whole limit (next i))
-setting_by limit is_global name i k.End = Some (Opening (SetHead name is_global))
+setting_by limit is_global name i k.End = Some (Opening (SetHead name NoFilters is_global))
 setting_by limit is_global name i _ = None
 
 -- behind `set` or `set_global`

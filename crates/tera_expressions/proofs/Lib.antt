@@ -9,6 +9,7 @@ pub mod Forms
 pub mod ArgumentRows
 pub mod ArgumentOrder
 pub mod Placed
+pub mod FilterRows
 pub mod Turning
 pub mod Complete
 pub mod Inside

@@ -3,7 +3,7 @@ use Rattle.std.specs.Prelude.{ℕ, zero, suc, ◌+◌, max, List, [], ◌∷◌,
 use Rattle.tera_errors.specs.declared.span.Span.{Span}
 use Rattle.tera_tree.specs.declared.expression.BinaryOperator.{BinaryOperator}
 use Rattle.tera_tree.specs.declared.expression.BinaryOperator.TheVariants as binary
-use Rattle.tera_tree.specs.Tree.{Expr, Nothing, Boolean, Integer, Text, Name, Attribute, Index, Slice, Optional, Absent, Present, Not, Negate, Binary, And, Or, Ternary, Array, Items, NoItems, MoreItems, Map, Comprehension, Super, Key, Entries, NoEntries, MoreEntries, Arguments, NoArguments}
+use Rattle.tera_tree.specs.Tree.{Expr, Nothing, Boolean, Integer, Text, Name, Attribute, Index, Slice, Optional, Absent, Present, Not, Negate, Binary, And, Or, Ternary, Array, Items, NoItems, MoreItems, Map, Comprehension, Super, Key, Entries, NoEntries, MoreEntries, Arguments, NoArguments, Filters, NoFilters, MoreFilters}
 use Rattle.tera_tree.specs.Depth.{depth}
 use Rattle.tera_tokens.specs.declared.token.Kind.{Kind}
 use Rattle.tera_tokens.specs.declared.token.Kind.TheVariants as k
@@ -121,6 +121,13 @@ keyed (Some key) = λ i. and_then (expect k.Colon (next i)) (λ _. λ j. Some (S
 -- the key of an entry, and the place behind the colon; none behind the dots of a map that is spread
 unfoldable pub entry_key : Parser (Option Key)
 entry_key = λ i. if same k.Spread (kind i) then Some (None, next i) else keyed (key_at i) i
+
+abbrev pub join_filters : Filters → Filters → Filters
+join_filters NoFilters more = more
+join_filters (MoreFilters n all at rest) more = MoreFilters n all at (join_filters rest more)
+
+abbrev pub one_filter : site.Name → Arguments → Span → Filters
+one_filter n all at = MoreFilters n all at NoFilters
 
 -- the place behind the dots of an item that is spread
 abbrev pub behind_dots : Input → Input
@@ -282,6 +289,27 @@ module _ (limit : ℕ) (sub : ℕ → Parser Deep) where
   arguments_from (suc n) found d = λ i. if same k.RightParenthesis (kind i) then Some ((found, d), next i) else
       and_then (argument found i) (behind_argument (arguments_from n) d)
 
+  -- the arguments behind a name, if they are written, and how deep they are
+  unfoldable pub given : Parser (Arguments × ℕ)
+  given = λ i. if same k.LeftParenthesis (kind i) then arguments_from (left (next i)) NoArguments 0 (next i) else Some ((NoArguments, 0), i)
+
+  -- filters with one more, over arguments of this depth, if that is within the limit
+  abbrev pub filter_of : Filters → site.Name → ℕ → Arguments × ℕ → Parser (Filters × ℕ)
+  filter_of found n from g = λ j. if nat_lt g.1 limit then Some ((join_filters found (one_filter n g.0 (span from j)), g.1 + 1), j) else None
+
+  -- a filter by its name, behind those that were found, and its depth
+  unfoldable pub section_filter : Filters → Parser (Filters × ℕ)
+  section_filter found = λ i. if is_word (kind i) then and_then (given (next i)) (filter_of found (text i) (start i)) else None
+
+  -- behind a filter stands a bar and more, or they end
+  abbrev pub behind_filter : (Filters → ℕ → Parser (Filters × ℕ)) → ℕ → Filters × ℕ → Parser (Filters × ℕ)
+  behind_filter more d p = λ j. if same k.Bar (kind j) then more p.0 (max d p.1) (next j) else Some ((p.0, max d p.1), j)
+
+  -- filters with bars between
+  unfoldable pub filters_from : ℕ → Filters → ℕ → Parser (Filters × ℕ)
+  filters_from zero found d = refuse
+  filters_from (suc n) found d = λ i. and_then (section_filter found i) (behind_filter (filters_from n) d)
+
   -- a call of these arguments, which its parenthesis closes
   abbrev pub call_of : ℕ → Arguments × ℕ → Parser Deep
   call_of from xs = λ j. node limit xs.1 (Super xs.0 (span from j)) j
@@ -335,3 +363,8 @@ module _ (limit : ℕ) (sub : ℕ → Parser Deep) where
 unfoldable pub expr : ℕ → ℕ → Parser Deep
 expr zero floor = refuse
 expr (suc limit) floor = level (suc limit) (expr limit) floor
+
+-- filters in a row, no deeper than the number, and the greatest depth: a filter is one deeper than its deepest argument
+unfoldable pub filters : ℕ → Parser (Filters × ℕ)
+filters zero = refuse
+filters (suc limit) = λ i. filters_from (suc limit) (expr limit) (left i) NoFilters 0 i

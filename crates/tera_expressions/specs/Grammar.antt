@@ -3,7 +3,7 @@ use Rattle.std.specs.Prelude.{◌≡◌, ℕ, suc, ℤ, Bool, true, false, Optio
 use Rattle.tera_errors.specs.Site as site
 use Rattle.tera_errors.specs.declared.span.Span.{Span}
 use Rattle.tera_tree.specs.declared.expression.BinaryOperator.TheVariants as binary
-use Rattle.tera_tree.specs.Tree.{Expr, Nothing, Boolean, Integer, Text, Name, Attribute, Index, Slice, Optional, Absent, Present, Not, Negate, Binary, And, Or, Ternary, Array, Items, NoItems, MoreItems, Map, Comprehension, Super, Key, Entries, NoEntries, MoreEntries, Arguments, NoArguments}
+use Rattle.tera_tree.specs.Tree.{Expr, Nothing, Boolean, Integer, Text, Name, Attribute, Index, Slice, Optional, Absent, Present, Not, Negate, Binary, And, Or, Ternary, Array, Items, NoItems, MoreItems, Map, Comprehension, Super, Key, Entries, NoEntries, MoreEntries, Arguments, NoArguments, Filters, NoFilters, MoreFilters}
 use Rattle.tera_tokens.specs.declared.token.Kind.{Kind}
 use Rattle.tera_tokens.specs.declared.token.Kind.TheVariants as k
 use Rattle.tera_tokens.specs.Input.{Input, kind, text, start, next, span, is_word}
@@ -132,3 +132,14 @@ mutual
     one_argument : {found all : Arguments} {i j : Input} → DerivesArgument found all i j → DerivesArguments found all i j
     more_arguments : {found with_it all : Arguments} {i a j : Input} → DerivesArgument found with_it i a → kind a ≡ k.Comma → DerivesArguments with_it all (next a) j
         → DerivesArguments found all i j
+
+-- the arguments behind a name, if they are written: a parenthesis there opens them
+pub data DerivesGiven : Arguments → Input → Input → Type 0 where
+  not_given : {i : Input} → (kind i ≡ k.LeftParenthesis → ⊥) → DerivesGiven NoArguments i i
+  given : {all : Arguments} {i a : Input} → kind i ≡ k.LeftParenthesis → DerivesArguments NoArguments all (next i) a → kind a ≡ k.RightParenthesis → DerivesGiven all i (next a)
+
+-- filters with bars between, as the head of a section has them; a filter's name may be a reserved word
+pub data DerivesFilters : Filters → Input → Input → Type 0 where
+  last_filter : {all : Arguments} {i j : Input} → is_word (kind i) ≡ true → DerivesGiven all (next i) j → DerivesFilters (MoreFilters (text i) all (span (start i) j) NoFilters) i j
+  more_filters : {all : Arguments} {fs : Filters} {i a j : Input} → is_word (kind i) ≡ true → DerivesGiven all (next i) a → kind a ≡ k.Bar → DerivesFilters fs (next a) j
+      → DerivesFilters (MoreFilters (text i) all (span (start i) a) fs) i j

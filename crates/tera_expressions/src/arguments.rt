@@ -34,6 +34,23 @@ impl<'s, F: Fn(Global, &mut Tokens<'_, 's>, usize, u8) -> Result<Deep<'s>, Refus
         self.node(tokens, depth, expression)
     }
 
+    /// The arguments behind a name, if they are written, and the greatest depth.
+    #[tactic(auto, unfolding(crate::specs::Expressions::given))]
+    pub(crate) fn given(
+        &self,
+        tokens: &mut Tokens<'_, 's>,
+    ) -> Result<(Vec<Argument<'s>>, usize), Refusal>
+        requires { Nests self.now.below (F.pre self.now.expr) (F.post self.now.expr) }
+        ensures { let meant = spec.given self.now.limit (spec.expr self.now.below) in
+            Takes (λ p. (arguments_of p.0.items, p.1)) (meant (input tokens.old)) result tokens.new }
+    {
+        if !same(Kind::LeftParenthesis, tokens.kind()) {
+            return Ok((Vec::new(self.alloc), 0));
+        }
+        tokens.take();
+        self.arguments(tokens)
+    }
+
     /// Arguments with commas between, up to a parenthesis, and the greatest depth.
     #[tactic(auto, unfolding(crate::specs::Expressions::arguments_from))]
     pub(crate) fn arguments(

@@ -8,6 +8,8 @@ mod collections;
 mod comprehensions;
 /// Expressions, to a greatest depth.
 pub mod expressions;
+/// Filters of what a body puts out.
+pub mod filters;
 /// What loops call their items.
 pub mod headings;
 mod leaves;

@@ -39,7 +39,12 @@ fn set<'s>(
             let value = whole(alloc, ahead, progress.room())?;
             put(progress, Node::set(name, value, is_global), tag)
         }
-        Kind::End => progress.open(alloc, false, Head::Set(name, Vec::new(alloc), is_global), tag),
+        Kind::End => progress.open(
+            alloc,
+            false,
+            Head::Set(name, Vec::new(alloc), is_global),
+            tag,
+        ),
         Kind::Bar => {
             ahead.take();
             let filters = pipe(alloc, ahead, progress.room())?;

@@ -3,7 +3,7 @@ ghost use Rattle.std.specs.Prelude.{IsTrue, IfSome, OnOk};
 ghost use Rattle.tera_tree.specs.Delimiters.{accepted, delimiters_of};
 
 use crate::rows::{NESTS, Nest, OTHERS, Other, REFUSED, Row, TREES, Text, UNUSABLE, Unusable};
-use crate::sections::{SECTIONS, SECTION_NESTS, UNREAD_SECTIONS};
+use crate::sections::{SECTION_NESTS, SECTIONS, UNREAD_SECTIONS};
 use crate::shown::Shown;
 use std::alloc::Global;
 use tera_errors::ErrorKind;
@@ -70,11 +70,7 @@ fn is_as_deep(alloc: Global, delimiters: &Delimiters, nest: &Nest) -> bool
 }
 
 /// The first tree that is another, or text that is read though it spells none, or nest that is answered otherwise.
-fn first_wrong(
-    alloc: Global,
-    delimiters: &Delimiters,
-    rows: &'static [Row],
-) -> Option<&'static str>
+fn first_wrong(alloc: Global, delimiters: &Delimiters, rows: &'static [Row]) -> Option<&'static str>
     requires { IsTrue (accepted (delimiters_of delimiters.now)) }
 {
     for row in rows {

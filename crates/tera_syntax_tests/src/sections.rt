@@ -99,7 +99,9 @@ pub static UNREAD_SECTIONS: [Text; 48] = [
     Text("{% if a %}{% filter f %}{% endif %}{% endfilter %}"),
     Text("{% filter f %}{% break %}{% endfilter %}"),
     Text("{% for v in e %}{% else %}{% filter f %}{% continue %}{% endfilter %}{% endfor %}"),
-    Text("{% for v in e %}{% block a %}{% filter f %}{% break %}{% endfilter %}{% endblock %}{% endfor %}"),
+    Text(
+        "{% for v in e %}{% block a %}{% filter f %}{% break %}{% endfilter %}{% endblock %}{% endfor %}",
+    ),
     Text("{% filter f %}{% block a %}{% endblock %}{% endfilter %}{% block a %}{% endblock %}"),
     Text("{% filter f %}{% extends 'a' %}{% endfilter %}"),
     Text("{% filter f %}{% endfilter %}{% extends 'a' %}"),

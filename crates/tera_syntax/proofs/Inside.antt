@@ -13,8 +13,7 @@ use Rattle.tera_tokens.specs.Cut.{Piece}
 use Rattle.tera_tokens.proofs.Order.{InOrder, in_order-le, Orderly, onward_next, start_le}
 use Rattle.tera_tokens.proofs.Stretches.{PiecesInside, pieces_inside}
 use Rattle.tera_expressions.proofs.Calls.{calls_lie}
-use Rattle.tera_expressions.proofs.Inside.{expr_lies}
-use Rattle.tera_syntax.proofs.Pipes.{filters_lie}
+use Rattle.tera_expressions.proofs.Inside.{expr_lies, filters_lie}
 use Rattle.tera_syntax.specs.declared.heads.Surroundings.{Surroundings}
 use Rattle.tera_syntax.specs.Heads.{Head, IfHead, ForHead, SetHead, SectionHead, BlockHead, make}
 use Rattle.tera_syntax.specs.Grammar.{DerivesWhole, whole, DerivesPipe, pipe, Simple, set, breaks, continues, Opens, choice, loop, capture, filtered, section, block, GoesOn, elif, DerivesNodes, empty, content, blank, comment, print, single, bodied, DerivesRest, ended, split, chained, Front, nothing, space, remark, DerivesFile, root, child}

@@ -1,6 +1,5 @@
 pub mod Rows
 pub mod Gathered
-pub mod Pipes
 pub mod Whole
 pub mod Begun
 pub mod OneTag

@@ -12,7 +12,7 @@ use Rattle.tera_syntax.specs.Reader as r
 use Rattle.tera_expressions.proofs.Steps.{same-is, same-refl}
 use Rattle.tera_expressions.proofs.Sound.{what_is_read}
 use Rattle.tera_expressions.proofs.Complete.{complete}
-use Rattle.tera_syntax.proofs.Pipes.{filters_read, filters_complete}
+use Rattle.tera_expressions.proofs.Sections.{filters_are_derived, filters_are_read}
 
 ended_by : {A : Type 0} (q : Bool) (x y : A) → (if q then Some x else None) ≡ Some y → (q ≡ true) × (x ≡ y)
 ended_by true x y h = (refl, cc)
@@ -47,14 +47,14 @@ pub pipe_sound : (limit : ℕ) (i : Input) (fs : Filters) → r.pipe limit i ≡
 unfolding r.pipe
 pipe_sound limit i fs h =
     let p = pipe_from (filters limit i) fs h in
-    let d = filters_read limit i p.0.1 p.0.0 p.1 in
+    let d = filters_are_derived limit i p.0.1 p.0.0 p.1 in
     (pipe (subst (λ fs. DerivesFilters fs i p.0.1) p.3 d.0) p.2, subst (λ fs. filters_depth fs ≤ limit) p.3 d.2)
 
 pub pipe_complete : {fs : Filters} {i : Input} → DerivesPipe fs i → (limit : ℕ) → filters_depth fs ≤ limit → r.pipe limit i ≡ Some fs
 unfolding r.pipe
 pipe_complete (pipe {fs = fs} {i = i} {end = j} d e) limit le =
     let q : same k.End (kind j) ≡ true = ap (same k.End) e ∙ same-refl k.End in
-    rw (filters_complete fs i j d e limit le, q) refl
+    rw (filters_are_read fs i j d e limit le, q) refl
 
 whole_room : (limit : ℕ) (i : Input) (x : Expr) → r.whole limit i ≡ Some x → 0 < limit
 unfolding r.whole expr

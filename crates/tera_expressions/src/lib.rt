@@ -2,6 +2,7 @@
 #![tactic(auto)]
 
 mod access;
+mod applications;
 mod arguments;
 mod climb;
 mod collections;

@@ -1,5 +1,5 @@
 -- A rendering of a template, from what was found by its name.
-use Rattle.std.proofs.Common.{◌≡◌, Bool, IsTrue, List, [], ◌∷◌, Option, Some, None, Result, Ok, Err, refl, sym, ap, ap₂, ◌∙◌, subst}
+use Rattle.std.proofs.Common.{◌≡◌, Bool, List, [], ◌∷◌, Some, None, Result, Ok, Err, refl, sym, ap, ap₂, ◌∙◌, subst}
 use Rattle.tera_errors.specs.Site.{Text, Name}
 use Rattle.tera_errors.specs.Fault.{Fault, message, template_not_found}
 use Rattle.tera_errors.specs.Answer.{Refusal, Tells, Gives, GivesOneOf, SaysOneOf}
@@ -7,7 +7,7 @@ use Rattle.tera_values.specs.Alphabet.{marking}
 use Rattle.tera_values.specs.Escape.{escape_html}
 use Rattle.tera_values.specs.Val.{Val}
 use Rattle.tera_values.specs.Named.{Named}
-use Rattle.tera_meaning.specs.Registry.{Template, Entry, Registry}
+use Rattle.tera_meaning.specs.Registry.{Registry}
 use Rattle.tera_meaning.specs.Resolve.{resolve, root}
 use Rattle.tera_state.specs.Scope.{nothing_set}
 use Rattle.tera_meaning.specs.Run.{Signal, Answer, begun}

@@ -90,9 +90,13 @@ impl Tera {
         context: &Context,
         autoescape: bool,
     ) -> TeraResult<String>
-        requires linked { with_templates (registry_of self.now) found.templates.now ≡ registry_of self.now }
-        requires code { found.chunk.now.code ≡ nodes_code (nodes_of_file (registry_of self.now) found.chunk.now.file) 0 }
-        ensures { Gives string_bytes result (block_meant block.now (subject_of_file self.now found.entry.name.now found.entry.chunk.now.file context.now autoescape)) }
+        requires linked { with_templates (registry_of self.now) found.templates.now
+            ≡ registry_of self.now }
+        requires code { found.chunk.now.code
+            ≡ nodes_code (nodes_of_file (registry_of self.now) found.chunk.now.file) 0 }
+        ensures { Gives string_bytes result
+            (block_meant block.now (subject_of_file self.now found.entry.name.now
+            found.entry.chunk.now.file context.now autoescape)) }
     {
         let machine = VirtualMachine::for_template(self.alloc, autoescape, found);
         self.run_for_block::<Brand>(&machine, found.chunk, block, context, Blank::new(1))
@@ -110,7 +114,8 @@ impl Tera {
         ghost about: { Subject }
         requires ledger { (blank.name ≡ L.name) × (blank.parts ≡ L.parts) × (L.parts ≡ 1) }
         requires linked { IsLinked machine.now (registry_of self.now) }
-        requires subject { about ≡ subject_of self.now (template_of machine.now) chunk.now.file about.tree context.now machine.now.autoescape }
+        requires subject { about ≡ subject_of self.now (template_of machine.now) chunk.now.file
+            about.tree context.now machine.now.autoescape }
         requires code { chunk.now.code ≡ nodes_code about.tree 0 }
         ensures { Gives string_bytes result (block_meant block.now about) }
     {

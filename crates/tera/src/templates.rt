@@ -76,16 +76,17 @@ impl Tera {
     /// ended last, or the empty text where it was not put out. A block that neither the template nor its parents have is
     /// refused with `Message`.
     pub fn render_block(&self, name: &str, block: &str, context: &Context) -> TeraResult<String>
-        ensures { GivesOneOf string_bytes result (BlockByName (registry_of self.now) name.now block.now context.now) }
+        ensures { GivesOneOf string_bytes result
+            (BlockByName (registry_of self.now) name.now block.now context.now) }
     {
         match self.templates.find(name) {
-            Some(found) => {
-                if found.definers(block).next().is_none() {
-                    return Err(Error::message(self.alloc, "no template has this block"));
+            Some(found) => match found.definers(block).next() {
+                Some(_) => {
+                    let wanted = Name::new(self.alloc, block)?;
+                    self.render_found_block(found, &wanted, context, self.escapes(found))
                 }
-                let wanted = Name::new(self.alloc, block)?;
-                self.render_found_block(found, &wanted, context, self.escapes(found))
-            }
+                None => Err(Error::message(self.alloc, "no template has this block")),
+            },
             None => Err(Error::template_not_found()),
         }
     }
@@ -98,7 +99,8 @@ impl Tera {
         context: &Context,
         out: &mut Vec<u8>,
     ) -> TeraResult<()>
-        ensures { AppendsOneOf result out.old.items out.new.items (BlockByName (registry_of self.now) name.now block.now context.now) }
+        ensures { AppendsOneOf result out.old.items out.new.items
+            (BlockByName (registry_of self.now) name.now block.now context.now) }
     {
         let text = self.render_block(name, block, context)?;
         out.extend_from_slice(text.as_bytes())?;

@@ -1,5 +1,5 @@
 -- Texts cut short by what a reader takes for characters.
-use Rattle.std.specs.Prelude.{ℕ, ◌^◌, true, false, if◌then◌else◌, nat_lt, List, [], ◌∷◌, ◌++◌, length, take, codes, Result, Ok}
+use Rattle.std.specs.Prelude.{ℕ, ◌^◌, true, false, if◌then◌else◌, nat_lt, [], ◌∷◌, ◌++◌, length, take, codes, Result, Ok}
 use Rattle.std.specs.List.{concat}
 use Rattle.unicode_segmentation.specs.Grapheme.{graphemes}
 use Rattle.tera_errors.specs.Site.{Text}

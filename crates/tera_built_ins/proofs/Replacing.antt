@@ -1,5 +1,5 @@
 -- What a text is after `replace` of std by a text.
-use Rattle.std.proofs.Common.{◌≡◌, ◌≢◌, ℕ, zero, suc, ◌+◌, ◌<◌, ◌≤◌, inl, inr, Bool, true, false, cond, ◌&&◌, not, nat_lt, ◌/◌, ◌%◌, List, [], ◌∷◌, ◌++◌, length, take, drop, refl, sym, ap, subst, ◌∙◌, Option, Some, None, arith, append_assoc, append-nil, Bor}
+use Rattle.std.proofs.Common.{◌≡◌, ℕ, zero, suc, ◌+◌, ◌<◌, ◌≤◌, inl, inr, Bool, true, false, cond, ◌&&◌, not, nat_lt, ◌/◌, ◌%◌, List, [], ◌∷◌, ◌++◌, length, take, drop, refl, sym, ap, subst, ◌∙◌, Option, Some, None, arith, append_assoc, append-nil, Bor}
 use Rattle.std.proofs.lemmas.Grind.{common_steps}
 use Rattle.std.proofs.lemmas.List.{nil_from_length}
 use Rattle.std.specs.Char.{encode_utf8}
@@ -10,7 +10,7 @@ use Rattle.std.specs.Str.Pattern.{FindsText, LacksTextAt}
 use Rattle.std.specs.Str.Replace.{ReplacesMatches}
 use Rattle.tera_built_ins.specs.Pieces.{begins, cut, goes_on, letters, joined}
 use Rattle.tera_built_ins.specs.Replace.{replaced}
-use Rattle.tera_built_ins.proofs.Trimming.{byte, begins-own, begins-split}
+use Rattle.tera_built_ins.proofs.Trimming.{byte, begins-own, lacks}
 
 -- there is a first piece
 data Parted : List (List ℕ) → Type 0 where
@@ -47,13 +47,6 @@ at-match p ps to t = rw (begins-own (p ∷ ps) t) (rw (past p ps ps t) (joined-m
 -- of one that does not
 no-match : (p : ℕ) (ps to : List ℕ) (c : ℕ) (t : List ℕ) → begins byte (p ∷ ps) (c ∷ t) ≡ false → replaced byte (p ∷ ps) to (c ∷ t) ≡ c ∷ replaced byte (p ∷ ps) to t
 no-match p ps to c t h = rw h (joined-onto to c (cut-parted p ps 0 t))
-
-pub lacks : (p : ℕ) (ps t : List ℕ) → ((rest : List ℕ) → t ≢ (p ∷ ps) ++ rest) → begins byte (p ∷ ps) t ≡ false
-lacks p ps t h = go (begins byte (p ∷ ps) t) refl
-  where
-    go : (b : Bool) → begins byte (p ∷ ps) t ≡ b → b ≡ false
-    go true e = absurd (h (drop (length (p ∷ ps)) t) (begins-split (p ∷ ps) t e))
-    go false e = refl
 
 -- and of one that begins with it nowhere before a place
 up-to : (p : ℕ) (ps to : List ℕ) (a : ℕ) (t : List ℕ) → ((i : ℕ) → i < a → LacksTextAt (p ∷ ps) t i) → replaced byte (p ∷ ps) to t ≡ take a t ++ replaced byte (p ∷ ps) to (drop a t)

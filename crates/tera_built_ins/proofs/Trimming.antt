@@ -1,8 +1,8 @@
 -- What a text is after the trims of std by a pattern.
-use Rattle.std.proofs.Common.{◌≡◌, ℕ, suc, ◌-◌, Bool, true, false, ◌&&◌, nat_eq, List, [], ◌∷◌, ◌++◌, length, take, drop, reverse, refl, sym, ap, ◌∙◌, Some, None, arith}
+use Rattle.std.proofs.Common.{◌≡◌, ◌≢◌, ℕ, suc, ◌-◌, Bool, true, false, ◌&&◌, nat_eq, List, [], ◌∷◌, ◌++◌, length, take, drop, reverse, refl, sym, ap, ◌∙◌, Some, None, arith}
 use Rattle.std.proofs.lemmas.Grind.{common_steps}
 use Rattle.std.proofs.lemmas.List.{reverse-append, reverse-reverse}
-use Rattle.std.specs.Str.Pattern.{FindsTextPrefix, FindsTextSuffix, CutsPrefixes, CutsSuffixes, IsFullyTrimmed, IsTrimStartMatches, IsTrimEndMatches, LacksTextAt}
+use Rattle.std.specs.Str.Pattern.{FindsTextPrefix, FindsTextSuffix, CutsPrefixes, CutsSuffixes, IsFullyTrimmed, IsTrimStartMatches, IsTrimEndMatches}
 use Rattle.tera_built_ins.specs.Pieces.{begins, without_front, trimmed_start, trimmed_end}
 
 abbrev pub byte : ℕ → ℕ
@@ -24,6 +24,14 @@ begins-split (p ∷ ps) (c ∷ t) h = go (begins-split ps t) (nat_eq p c) (begin
     go rest true false e f h = cc
     go rest false b e f h = cc
 
+-- so one that is not that and more does not
+pub lacks : (p : ℕ) (ps t : List ℕ) → ((rest : List ℕ) → t ≢ (p ∷ ps) ++ rest) → begins byte (p ∷ ps) t ≡ false
+lacks p ps t h = go (begins byte (p ∷ ps) t) refl
+  where
+    go : (b : Bool) → begins byte (p ∷ ps) t ≡ b → b ≡ false
+    go true e = absurd (h (drop (length (p ∷ ps)) t) (begins-split (p ∷ ps) t e))
+    go false e = refl
+
 past : (p : ℕ) (ps qs t : List ℕ) → without_front byte p ps (length qs) (qs ++ t) ≡ without_front byte p ps 0 t
 past p ps [] t = refl
 past p ps (q ∷ qs) t = past p ps qs t
@@ -37,13 +45,6 @@ off-start (p ∷ ps) t = rw (begins-own (p ∷ ps) t) (past p ps ps t)
 pub none-off : (p : ℕ) (ps t : List ℕ) → begins byte (p ∷ ps) t ≡ false → trimmed_start byte (p ∷ ps) t ≡ t
 none-off p ps [] h = refl
 none-off p ps (c ∷ t) h = rw h refl
-
-lacks : (p : ℕ) (ps t : List ℕ) → LacksTextAt (p ∷ ps) t 0 → begins byte (p ∷ ps) t ≡ false
-lacks p ps t h = go (begins byte (p ∷ ps) t) refl
-  where
-    go : (b : Bool) → begins byte (p ∷ ps) t ≡ b → b ≡ false
-    go true e = absurd (h (drop (length (p ∷ ps)) t) (begins-split (p ∷ ps) t e))
-    go false e = refl
 
 fully : (pat r : List ℕ) → IsFullyTrimmed (FindsTextPrefix pat) r → trimmed_start byte pat r ≡ r
 fully [] r h = refl

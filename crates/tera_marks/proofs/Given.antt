@@ -1,5 +1,5 @@
 -- What a built-in reads of marked values stands for what it reads of the plain ones.
-use Rattle.std.proofs.Common.{◌≡◌, ℕ, Bool, true, false, cond, List, refl, Option, Result, Ok, Err}
+use Rattle.std.proofs.Common.{◌≡◌, ℕ, Bool, List, refl, Option, Result, Ok, Err}
 use Rattle.tera_errors.specs.Site.{Name}
 use Rattle.tera_errors.specs.Fault.{Fault, invalid_argument, missing_argument}
 use Rattle.tera_values.specs.Alphabet.{Marked}
@@ -30,11 +30,6 @@ module _ {A B A' B' : Type 0} {S : A → A' → Type 0} {T : B → B' → Type 0
       → ((a : A) (b : A') → S a b → ResultStands T (f a) (g b)) → ResultStands T (x ▸ f) (y ▸ g)
   after-stands (answers {a = a} {b = b} s) go = go a b s
   after-stands (refuses fault) go = refuses fault
-
--- one of two, by the same test
-pub one_of-stands : {A B : Type 0} {S : A → B → Type 0} (b : Bool) {x x' : Result A Fault} {y y' : Result B Fault} → ResultStands S x y → ResultStands S x' y' → ResultStands S (cond b x x') (cond b y y')
-one_of-stands true s t = s
-one_of-stands false s t = t
 
 pub as_text-stands : {v : ValOf Marked} {w : ValOf ℕ} → Stands v w → ResultStands GivenStands (spec.as_text v) (spec.as_text w)
 as_text-stands undefineds = refuses invalid_argument

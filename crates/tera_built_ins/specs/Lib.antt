@@ -7,3 +7,5 @@ pub mod Join
 pub mod Attributes
 pub mod Sorting
 pub mod Ranks
+pub mod Groups
+pub mod Gathering

@@ -3,6 +3,7 @@
 
 mod arguments;
 pub mod escaping;
+pub mod groups;
 pub mod items;
 pub mod join;
 pub mod maps;

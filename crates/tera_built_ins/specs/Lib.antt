@@ -2,6 +2,12 @@ pub mod Escaping
 pub mod Arguments
 pub mod Reading
 pub mod Maps
+pub mod Pieces
+pub mod Parts
+pub mod Safety
+pub mod Trims
+pub mod Replace
+pub mod Indent
 pub mod Items
 pub mod Join
 pub mod Attributes

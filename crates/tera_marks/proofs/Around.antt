@@ -47,7 +47,7 @@ unwrap_or-stands : {x : Option (ValOf Marked)} {y : Option (ValOf ℕ)} → Opti
 unwrap_or-stands (value s) = s
 unwrap_or-stands no_value = undefineds
 
-at_name-stands : (n : Name) {vs : List (Name × ValOf Marked)} {ws : List (Name × ValOf ℕ)} → Each Binds vs ws → OptionStands Stands (at_name n vs) (at_name n ws)
+pub at_name-stands : (n : Name) {vs : List (Name × ValOf Marked)} {ws : List (Name × ValOf ℕ)} → Each Binds vs ws → OptionStands Stands (at_name n vs) (at_name n ws)
 at_name-stands n none = no_value
 at_name-stands n (more {x = v} {y = w} {xs = vs} {ys = ws} k ks) = rw k.0 (go (bytes_eq n w.0) (at_name-stands n ks))
   where

@@ -44,7 +44,7 @@ fn code_lacks(chunk: &Chunk) -> bool
 }
 
 /// Whether the body whose code this is calls a filter, a test or a function that is not there.
-#[tactic(auto, using(crate::proofs::Known::code_lacks_as_nodes))]
+#[tactic(auto, using(crate::proofs::Lacking::code_lacks_as_nodes))]
 pub fn lacks_a_callee(chunk: &Chunk) -> bool
     ensures { (nodes : Nodes) → chunk.now.code ≡ nodes_code nodes 0 → result ≡ has_unknown nodes }
 {

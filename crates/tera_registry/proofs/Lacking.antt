@@ -1,5 +1,6 @@
 -- What code lacks is what the nodes lack whose code it is.
-use Rattle.std.proofs.Common.{◌≡◌, Bool, not, ◌||◌, List, [], ◌∷◌, map, filter_map, Option, Some, None, refl, ap, ap₂, ◌∙◌}
+use Rattle.std.proofs.Common.{◌≡◌, ℕ, zero, suc, ◌+◌, ◌-◌, ◌<◌, ◌≤◌, Bool, true, false, not, ◌||◌, List, [], ◌∷◌, length, map, filter_map, slice_get, option_and_then, Option, Some, None, inl, inr, refl, ap, ap₂, ◌∙◌, arith}
+use Rattle.std.proofs.lemmas.Bool.{cases_lt}
 use Rattle.std.specs.List.{list_any}
 use Rattle.tera_errors.specs.Site.{Name}
 use Rattle.tera_tree.specs.Tree.{Nodes}
@@ -11,7 +12,7 @@ use Rattle.tera_code.specs.Code.{Code, nodes_code, listing_of}
 use Rattle.tera_code.specs.Called.{called_by, callees}
 use Rattle.tera_code.proofs.Callees.{code_calls_the_same}
 use Rattle.tera_meaning.specs.Known.{is_known, has_unknown, lacks_a_callee}
-use Rattle.tera_registry.specs.Known.{is_missing, code_lacks, bodies_lack}
+use Rattle.tera_registry.specs.Known.{is_missing, calls_missing, code_lacks, bodies_lack}
 
 abbrev unknown : Callee → Bool
 unknown c = not (is_known c)
@@ -35,3 +36,33 @@ blocks_lack file (b ∷ bs) = ap₂ (λ x y. x || y) (code_lacks_as_nodes (nodes
 pub bodies_lack_as_tree : (file : Name) (body : Listing) (blocks : List (Name × Listing)) (nodes : Nodes) → body ≡ listing_of file nodes → blocks ≡ block_listings file (in_tree.blocks nodes) → bodies_lack body blocks ≡ lacks_a_callee nodes
 bodies_lack_as_tree file body blocks nodes e f =
     ap₂ bodies_lack e f ∙ ap₂ (λ x y. x || y) (code_lacks_as_nodes (nodes_code nodes 0) nodes refl) (blocks_lack file (in_tree.blocks nodes))
+
+-- The code is looked through place by place.
+
+abbrev missing_at : Code → ℕ → Bool
+missing_at code i = is_missing (option_and_then called_by (slice_get code i))
+
+-- nothing that is missing is called before a place
+abbrev pub LacksNothing : Code → ℕ → Type 0
+LacksNothing code i = (k : ℕ) → k < i → is_missing (option_and_then called_by (slice_get code k)) ≡ false
+
+pub lacks-nothing-more : (code : Code) (i : ℕ) → LacksNothing code i → is_missing (option_and_then called_by (slice_get code i)) ≡ false → LacksNothing code (i + 1)
+lacks-nothing-more code i none here = λ k lt.
+    elim (cases_lt k i) [
+      | inl before ↦ none k before
+      | inr after ↦ (let last : k ≡ i = omega arith in ap (missing_at code) last ∙ here)
+    ]
+
+or-true : (b : Bool) → (b || true) ≡ true
+or-true true = refl
+or-true false = refl
+
+pub code_lacks-at : (code : Code) (i : ℕ) → is_missing (option_and_then called_by (slice_get code i)) ≡ true → code_lacks code ≡ true
+code_lacks-at [] i e = (let q : false ≡ true = e in cc)
+code_lacks-at (x ∷ code) zero e = rw e refl
+code_lacks-at (x ∷ code) (suc i) e = ap (λ b. calls_missing x || b) (code_lacks-at code i e) ∙ or-true (calls_missing x)
+
+pub code_lacks-none : (code : Code) (n : ℕ) → length code ≤ n → LacksNothing code n → code_lacks code ≡ false
+code_lacks-none [] n over none = refl
+code_lacks-none (x ∷ code) n over none =
+    ap₂ (λ a b. a || b) (none 0 (omega arith)) (code_lacks-none code (n - 1) (omega arith) (λ k lt. none (suc k) (omega arith)))

@@ -90,12 +90,7 @@ fn row(
     Ok(out)
 }
 
-fn append_item(
-    escaping: Escaping,
-    is_safe: bool,
-    item: &Value,
-    out: &mut String,
-) -> TeraResult<()>
+fn append_item(escaping: Escaping, is_safe: bool, item: &Value, out: &mut String) -> TeraResult<()>
     ensures ok { OnOk result (string_bytes out.new ≡ string_bytes out.old
         ++ item_part plain (escaping_of escaping) is_safe item.now) }
     ensures lacks { IfErr result Lacks }

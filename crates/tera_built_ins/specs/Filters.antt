@@ -1,5 +1,5 @@
 -- The filters that every engine has.
-use Rattle.std.specs.Prelude.{List, [], ◌∷◌, ◌++◌, Option, Some, None, Result, Err, codes}
+use Rattle.std.specs.Prelude.{[], ◌∷◌, ◌++◌, Option, Some, None, Result, Err, codes}
 use Rattle.tera_errors.specs.Site.{Name}
 use Rattle.tera_errors.specs.Fault.{Fault, message}
 use Rattle.tera_values.specs.Val.{ValOf}
@@ -16,7 +16,6 @@ use Rattle.tera_built_ins.specs.Indent.{indent_of}
 use Rattle.tera_built_ins.specs.Defaults.{default_of}
 use Rattle.tera_built_ins.specs.Numbers.{pluralize_of, abs_of}
 use Rattle.tera_built_ins.specs.Parse.{int_of}
-use Rattle.tera_built_ins.specs.Maps.{values_of, keys_of, pairs_of, get_of}
 
 -- the names of filters of texts
 abbrev pub text_filters : Named BuiltInFilter
@@ -40,18 +39,9 @@ value_filters =
     ∷ (codes "abs", filter.Abs)
     ∷ []
 
--- the names of filters of arrays and maps
-abbrev pub item_filters : Named BuiltInFilter
-item_filters =
-    (codes "values", filter.Values)
-    ∷ (codes "keys", filter.Keys)
-    ∷ (codes "pairs", filter.Pairs)
-    ∷ (codes "get", filter.Get)
-    ∷ []
-
 -- and of all
 abbrev pub filters : Named BuiltInFilter
-filters = text_filters ++ (value_filters ++ item_filters)
+filters = text_filters ++ value_filters
 
 abbrev pub filter_named : Name → Option BuiltInFilter
 filter_named n = at_name n filters
@@ -71,10 +61,6 @@ module _ {C : Type 0} (alphabet : Alphabet C) (view : Escaping) where
   filter_of filter.Str v given = str_of alphabet v
   filter_of filter.Int v given = int_of alphabet v given
   filter_of filter.Abs v given = abs_of v
-  filter_of filter.Values v given = values_of v
-  filter_of filter.Keys v given = keys_of alphabet v
-  filter_of filter.Pairs v given = pairs_of alphabet v
-  filter_of filter.Get v given = get_of alphabet v given
 
   abbrev pub filter_in : Option BuiltInFilter → ValOf C → Named (ValOf C) → Result (ValOf C) Fault
   filter_in None v given = Err message

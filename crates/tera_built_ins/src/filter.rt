@@ -4,10 +4,10 @@ ghost use Rattle.tera_errors.specs.Answer.{Gives};
 ghost use Rattle.tera_values.specs.Alphabet.{plain};
 ghost use Rattle.tera_values.specs.Named.{at_name};
 ghost use Rattle.tera_built_ins.specs.Escaping.{escaping_of};
-ghost use Rattle.tera_built_ins.specs.Filters.{filter_named, filter_of, text_filters, value_filters, item_filters};
+ghost use Rattle.tera_built_ins.specs.Filters.{filter_named, filter_of, text_filters, value_filters};
 
 use crate::escaping::Escaping;
-use crate::{defaults, indent, maps, numbers, parse, replace, safety, trims};
+use crate::{defaults, indent, numbers, parse, replace, safety, trims};
 use std::alloc::Global;
 use tera_values::{Kwargs, TeraResult, Value};
 
@@ -26,10 +26,6 @@ pub enum BuiltInFilter {
     Str,
     Int,
     Abs,
-    Values,
-    Keys,
-    Pairs,
-    Get,
 }
 
 impl BuiltInFilter {
@@ -39,10 +35,7 @@ impl BuiltInFilter {
     {
         match text_filter(name) {
             Some(filter) => Some(filter),
-            None => match value_filter(name) {
-                Some(filter) => Some(filter),
-                None => item_filter(name),
-            },
+            None => value_filter(name),
         }
     }
 
@@ -70,10 +63,6 @@ impl BuiltInFilter {
             BuiltInFilter::Str => safety::str(alloc, value),
             BuiltInFilter::Int => parse::int(alloc, value, arguments),
             BuiltInFilter::Abs => numbers::abs(alloc, value),
-            BuiltInFilter::Values => maps::values(alloc, value),
-            BuiltInFilter::Keys => maps::keys(alloc, value),
-            BuiltInFilter::Pairs => maps::pairs(alloc, value),
-            BuiltInFilter::Get => maps::get(alloc, value, arguments),
         }
     }
 }
@@ -115,23 +104,6 @@ fn value_filter(name: &str) -> Option<BuiltInFilter>
         Some(BuiltInFilter::Int)
     } else if name == "abs" {
         Some(BuiltInFilter::Abs)
-    } else {
-        None
-    }
-}
-
-/// That of arrays or maps with this name.
-fn item_filter(name: &str) -> Option<BuiltInFilter>
-    ensures { result ≡ at_name name.now item_filters }
-{
-    if name == "values" {
-        Some(BuiltInFilter::Values)
-    } else if name == "keys" {
-        Some(BuiltInFilter::Keys)
-    } else if name == "pairs" {
-        Some(BuiltInFilter::Pairs)
-    } else if name == "get" {
-        Some(BuiltInFilter::Get)
     } else {
         None
     }

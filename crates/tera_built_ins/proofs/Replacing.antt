@@ -10,8 +10,7 @@ use Rattle.std.specs.Str.Pattern.{FindsText, LacksTextAt}
 use Rattle.std.specs.Str.Replace.{ReplacesMatches}
 use Rattle.tera_built_ins.specs.Pieces.{begins, cut, goes_on, letters, joined}
 use Rattle.tera_built_ins.specs.Replace.{replaced}
-use Rattle.tera_built_ins.proofs.Trimming.{byte, begins-own}
-pub use Rattle.tera_built_ins.proofs.Trimming.{lacks}
+use Rattle.tera_built_ins.proofs.Trimming.{byte, begins-own, lacks}
 
 -- there is a first piece
 data Parted : List (List ℕ) → Type 0 where
@@ -84,19 +83,19 @@ some-is p ps to (suc n) from s out e (a, b, q, rest, f, k, inr (l, on), h) =
     absurd (omega (arith, l, far))
 
 -- the bytes of a character after the first go on
-abbrev GoesOn : ℕ → Type 0
+abbrev pub GoesOn : ℕ → Type 0
 GoesOn b = goes_on byte b ≡ true
 
-record Encoded (bs : List ℕ) : Type 0 where
-  first : ℕ
-  others : List ℕ
-  are : bs ≡ first ∷ others
-  go_on : AllByRecursion GoesOn others
+pub record Encoded (bs : List ℕ) : Type 0 where
+  pub first : ℕ
+  pub others : List ℕ
+  pub are : bs ≡ first ∷ others
+  pub go_on : AllByRecursion GoesOn others
 
 next-goes_on : (d : ℕ) → GoesOn (128 + d % 64)
 next-goes_on d = let l : d % 64 < 64 = omega arith in grind (arith, common_steps, l)
 
-encoded : (c : ℕ) → Encoded (encode_utf8 c)
+pub encoded : (c : ℕ) → Encoded (encode_utf8 c)
 unfolding encode_utf8
 encoded c = go (nat_lt c 128) (nat_lt c 2048) (nat_lt c 65536)
   where
@@ -118,7 +117,7 @@ others-stay : (to bs t : List ℕ) → AllByRecursion GoesOn bs → replaced byt
 others-stay to [] t h = refl
 others-stay to (b ∷ bs) t h = rw h.0 (joined-onto to b (letters-parted (bs ++ t)) ∙ ap (λ q. b ∷ q) (others-stay to bs t h.1))
 
-begins-char : (b : ℕ) (t : List ℕ) → IsUtf8 (b ∷ t) → goes_on byte b ≡ false
+pub begins-char : (b : ℕ) (t : List ℕ) → IsUtf8 (b ∷ t) → goes_on byte b ≡ false
 begins-char b t u =
     let at : IsCharBoundary (b ∷ t) 0 = IsCharBoundary-start (b ∷ t) u in
     let h : 128 ≤ b → 192 ≤ b = at.1 (omega arith) in

@@ -10,6 +10,10 @@ pub mod Filters
 pub mod TestTable
 pub mod FunctionTable
 pub mod Rooms
+pub mod Sizes
+pub mod Markup
+pub mod Words
+pub mod Truncate
 pub mod Pieces
 pub mod Parts
 pub mod Safety
@@ -17,3 +21,4 @@ pub mod Trims
 pub mod Replace
 pub mod Indent
 pub mod Parse
+pub mod Split

@@ -11,7 +11,8 @@ use crate::parts::{made, part};
 use std::alloc::Global;
 use tera_values::{Kwargs, TeraResult, Value};
 
-fn put(alloc: Global, text: &str, from: &str, to: &str) -> TeraResult<String>
+/// The text with another one at all places of a pattern.
+pub(crate) fn put(alloc: Global, text: &str, from: &str, to: &str) -> TeraResult<String>
     ensures { Gives string_bytes result (Ok (replaced plain.code from.now to.now text.now)) }
 {
     Ok(text.replace(alloc, from, to)?)

@@ -7,7 +7,7 @@ ghost use Rattle.tera_built_ins.specs.Escaping.{escaping_of};
 ghost use Rattle.tera_built_ins.specs.Filters.{filter_named, filter_of, text_filters, value_filters};
 
 use crate::escaping::Escaping;
-use crate::{defaults, indent, numbers, parse, replace, safety, trims};
+use crate::{defaults, indent, markup, numbers, parse, replace, safety, sizes, split, trims, truncate, words};
 use std::alloc::Global;
 use tera_values::{Kwargs, TeraResult, Value};
 
@@ -16,16 +16,24 @@ use tera_values::{Kwargs, TeraResult, Value};
 pub enum BuiltInFilter {
     Safe,
     Escape,
+    EscapeHtml,
+    EscapeXml,
+    NewlinesToBr,
+    Wordcount,
     Trim,
     TrimStart,
     TrimEnd,
     Replace,
+    Truncate,
     Indent,
+    Split,
     Default,
     Pluralize,
     Str,
     Int,
     Abs,
+    Length,
+    Reverse,
 }
 
 impl BuiltInFilter {
@@ -53,16 +61,24 @@ impl BuiltInFilter {
         match self {
             BuiltInFilter::Safe => safety::safe(alloc, value),
             BuiltInFilter::Escape => safety::escape(alloc, value, escaping),
+            BuiltInFilter::EscapeHtml => markup::escape_html(alloc, value),
+            BuiltInFilter::EscapeXml => markup::escape_xml(alloc, value),
+            BuiltInFilter::NewlinesToBr => markup::newlines_to_br(alloc, value),
+            BuiltInFilter::Wordcount => words::wordcount(value),
             BuiltInFilter::Trim => trims::trim(alloc, value, arguments),
             BuiltInFilter::TrimStart => trims::trim_start(alloc, value, arguments),
             BuiltInFilter::TrimEnd => trims::trim_end(alloc, value, arguments),
             BuiltInFilter::Replace => replace::replace(alloc, value, arguments, escaping),
+            BuiltInFilter::Truncate => truncate::truncate(alloc, value, arguments),
             BuiltInFilter::Indent => indent::indent(alloc, value, arguments, escaping),
+            BuiltInFilter::Split => split::split(alloc, value, arguments),
             BuiltInFilter::Default => defaults::default(value, arguments),
             BuiltInFilter::Pluralize => numbers::pluralize(alloc, value, arguments),
             BuiltInFilter::Str => safety::str(alloc, value),
             BuiltInFilter::Int => parse::int(alloc, value, arguments),
             BuiltInFilter::Abs => numbers::abs(alloc, value),
+            BuiltInFilter::Length => sizes::length(alloc, value),
+            BuiltInFilter::Reverse => sizes::reverse(alloc, value),
         }
     }
 }
@@ -75,6 +91,14 @@ fn text_filter(name: &str) -> Option<BuiltInFilter>
         Some(BuiltInFilter::Safe)
     } else if name == "escape" {
         Some(BuiltInFilter::Escape)
+    } else if name == "escape_html" {
+        Some(BuiltInFilter::EscapeHtml)
+    } else if name == "escape_xml" {
+        Some(BuiltInFilter::EscapeXml)
+    } else if name == "newlines_to_br" {
+        Some(BuiltInFilter::NewlinesToBr)
+    } else if name == "wordcount" {
+        Some(BuiltInFilter::Wordcount)
     } else if name == "trim" {
         Some(BuiltInFilter::Trim)
     } else if name == "trim_start" {
@@ -83,8 +107,12 @@ fn text_filter(name: &str) -> Option<BuiltInFilter>
         Some(BuiltInFilter::TrimEnd)
     } else if name == "replace" {
         Some(BuiltInFilter::Replace)
+    } else if name == "truncate" {
+        Some(BuiltInFilter::Truncate)
     } else if name == "indent" {
         Some(BuiltInFilter::Indent)
+    } else if name == "split" {
+        Some(BuiltInFilter::Split)
     } else {
         None
     }
@@ -104,6 +132,10 @@ fn value_filter(name: &str) -> Option<BuiltInFilter>
         Some(BuiltInFilter::Int)
     } else if name == "abs" {
         Some(BuiltInFilter::Abs)
+    } else if name == "length" {
+        Some(BuiltInFilter::Length)
+    } else if name == "reverse" {
+        Some(BuiltInFilter::Reverse)
     } else {
         None
     }

@@ -19,11 +19,16 @@ use Rattle.tera_built_ins.specs.FunctionTable.{function_named, function_of, func
 use Rattle.tera_marks.proofs.Standing.{Stands, ResultStands, refuses}
 use Rattle.tera_marks.proofs.Given.{NamedStand, Equals}
 use Rattle.tera_marks.proofs.Safety.{safe-stands, escape-stands, str-stands}
+use Rattle.tera_marks.proofs.Markup.{escape_html-stands, escape_xml-stands, newlines_to_br-stands}
+use Rattle.tera_marks.proofs.Words.{wordcount-stands}
 use Rattle.tera_marks.proofs.Trims.{trim-stands, trim_start-stands, trim_end-stands}
 use Rattle.tera_marks.proofs.Replace.{replace-stands}
+use Rattle.tera_marks.proofs.Truncate.{truncate-stands}
 use Rattle.tera_marks.proofs.Indent.{indent-stands}
+use Rattle.tera_marks.proofs.Split.{split-stands}
 use Rattle.tera_marks.proofs.Defaults.{default-stands}
 use Rattle.tera_marks.proofs.Numbers.{pluralize-stands, int-stands, abs-stands}
+use Rattle.tera_marks.proofs.Sizes.{length-stands, reverse-stands}
 use Rattle.tera_marks.proofs.Tests as tests
 use Rattle.tera_marks.proofs.Functions.{range-stands, throw-stands}
 
@@ -32,16 +37,24 @@ module _ {given : Named (ValOf Marked)} {others : Named (ValOf ℕ)} (ns : Named
     filter-stands : (f : BuiltInFilter) → ResultStands Stands (filter_of marking view f v given) (filter_of plain view f w others)
     filter-stands filter.Safe = safe-stands s
     filter-stands filter.Escape = escape-stands view by_html s
+    filter-stands filter.EscapeHtml = escape_html-stands s
+    filter-stands filter.EscapeXml = escape_xml-stands s
+    filter-stands filter.NewlinesToBr = newlines_to_br-stands s
+    filter-stands filter.Wordcount = wordcount-stands s
     filter-stands filter.Trim = trim-stands s ns
     filter-stands filter.TrimStart = trim_start-stands s ns
     filter-stands filter.TrimEnd = trim_end-stands s ns
     filter-stands filter.Replace = replace-stands view by_html s ns
+    filter-stands filter.Truncate = truncate-stands s ns
     filter-stands filter.Indent = indent-stands view by_html s ns
+    filter-stands filter.Split = split-stands s ns
     filter-stands filter.Default = default-stands s ns
     filter-stands filter.Pluralize = pluralize-stands s ns
     filter-stands filter.Str = str-stands s
     filter-stands filter.Int = int-stands s ns
     filter-stands filter.Abs = abs-stands s
+    filter-stands filter.Length = length-stands s
+    filter-stands filter.Reverse = reverse-stands s
 
     filter_in-stands : (f : Option BuiltInFilter) → ResultStands Stands (filter_in marking view f v given) (filter_in plain view f w others)
     filter_in-stands None = refuses message

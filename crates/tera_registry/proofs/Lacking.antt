@@ -6,7 +6,8 @@ use Rattle.tera_errors.specs.Site.{Name}
 use Rattle.tera_tree.specs.Tree.{Nodes}
 use Rattle.tera_tree.specs.Blocks as in_tree
 use Rattle.tera_tree.specs.Calls.{Callee}
-use Rattle.tera_code.specs.Blocks.{block_listings}
+use Rattle.tera_code.specs.declared.blocks.Block.{Block}
+use Rattle.tera_code.specs.Blocks.{block_of, block_listings}
 use Rattle.tera_code.specs.Listing.{Listing}
 use Rattle.tera_code.specs.Code.{Code, nodes_code, listing_of}
 use Rattle.tera_code.specs.Called.{called_by, callees}
@@ -33,9 +34,13 @@ blocks_lack : (file : Name) (bs : List (Name × Nodes)) → list_any (λ b. code
 blocks_lack file [] = refl
 blocks_lack file (b ∷ bs) = ap₂ (λ x y. x || y) (code_lacks_as_nodes (nodes_code b.1 0) b.1 refl) (blocks_lack file bs)
 
-pub bodies_lack_as_tree : (file : Name) (body : Listing) (blocks : List (Name × Listing)) (nodes : Nodes) → body ≡ listing_of file nodes → blocks ≡ block_listings file (in_tree.blocks nodes) → bodies_lack body blocks ≡ lacks_a_callee nodes
+listings_lack : (blocks : List Block) → list_any (λ b. code_lacks b.code.code) blocks ≡ list_any (λ b. code_lacks b.1.code) (map block_of blocks)
+listings_lack [] = refl
+listings_lack (b ∷ blocks) = ap (λ x. code_lacks b.code.code || x) (listings_lack blocks)
+
+pub bodies_lack_as_tree : (file : Name) (body : Listing) (blocks : List Block) (nodes : Nodes) → body ≡ listing_of file nodes → map block_of blocks ≡ block_listings file (in_tree.blocks nodes) → bodies_lack body blocks ≡ lacks_a_callee nodes
 bodies_lack_as_tree file body blocks nodes e f =
-    ap₂ bodies_lack e f ∙ ap₂ (λ x y. x || y) (code_lacks_as_nodes (nodes_code nodes 0) nodes refl) (blocks_lack file (in_tree.blocks nodes))
+    ap₂ (λ x y. x || y) (code_lacks_as_nodes body.code nodes (ap (λ l. l.code) e)) (listings_lack blocks ∙ ap (list_any (λ b. code_lacks b.1.code)) f ∙ blocks_lack file (in_tree.blocks nodes))
 
 -- The code is looked through place by place.
 

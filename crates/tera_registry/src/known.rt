@@ -1,7 +1,6 @@
 // What code calls that is not there.
-ghost use Rattle.std.specs.Prelude.{◌≡◌, ℕ, map, option_and_then, slice_get};
+ghost use Rattle.std.specs.Prelude.{◌≡◌, ℕ, option_and_then, slice_get};
 ghost use Rattle.tera_tree.specs.Tree.{Nodes};
-ghost use Rattle.tera_code.specs.Blocks.{block_of};
 ghost use Rattle.tera_code.specs.Called.{callee_of, called_by};
 ghost use Rattle.tera_code.specs.Code.{nodes_code};
 ghost use Rattle.tera_meaning.specs.Known.{is_known, has_unknown};
@@ -53,15 +52,7 @@ pub fn lacks_a_callee(chunk: &Chunk) -> bool
 
 /// Whether the code of a body, or that of a block, calls what is not there.
 pub fn any_lacks(body: &Chunk, blocks: &[Block]) -> bool
-    ensures { result ≡ bodies_lack body.now (map block_of blocks.now) }
+    ensures { result ≡ bodies_lack body.now blocks.now }
 {
-    if code_lacks(body) {
-        return true;
-    }
-    for block in blocks {
-        if code_lacks(&block.code) {
-            return true;
-        }
-    }
-    false
+    code_lacks(body) || blocks.iter().any(|block| code_lacks(&block.code))
 }

@@ -29,6 +29,11 @@ use Rattle.tera_marks.proofs.Split.{split-stands}
 use Rattle.tera_marks.proofs.Defaults.{default-stands}
 use Rattle.tera_marks.proofs.Numbers.{pluralize-stands, int-stands, abs-stands}
 use Rattle.tera_marks.proofs.Sizes.{length-stands, reverse-stands}
+use Rattle.tera_marks.proofs.Picked.{first-stands, last-stands, nth-stands}
+use Rattle.tera_marks.proofs.Join.{join-stands}
+use Rattle.tera_marks.proofs.Sorting.{sort-stands, unique-stands}
+use Rattle.tera_marks.proofs.Maps.{values-stands, keys-stands, pairs-stands, get-stands}
+use Rattle.tera_marks.proofs.Groups.{group_by-stands}
 use Rattle.tera_marks.proofs.Tests as tests
 use Rattle.tera_marks.proofs.Functions.{range-stands, throw-stands}
 
@@ -55,6 +60,17 @@ module _ {given : Named (ValOf Marked)} {others : Named (ValOf ℕ)} (ns : Named
     filter-stands filter.Abs = abs-stands s
     filter-stands filter.Length = length-stands s
     filter-stands filter.Reverse = reverse-stands s
+    filter-stands filter.First = first-stands s
+    filter-stands filter.Last = last-stands s
+    filter-stands filter.Nth = nth-stands s ns
+    filter-stands filter.Join = join-stands view by_html s ns
+    filter-stands filter.Sort = sort-stands s ns
+    filter-stands filter.Unique = unique-stands s
+    filter-stands filter.Values = values-stands s
+    filter-stands filter.Keys = keys-stands s
+    filter-stands filter.Pairs = pairs-stands s
+    filter-stands filter.Get = get-stands s ns
+    filter-stands filter.GroupBy = group_by-stands s ns
 
     filter_in-stands : (f : Option BuiltInFilter) → ResultStands Stands (filter_in marking view f v given) (filter_in plain view f w others)
     filter_in-stands None = refuses message

@@ -1,5 +1,6 @@
 // What code calls that is not there.
 ghost use Rattle.std.specs.Prelude.{◌≡◌, ℕ, option_and_then, slice_get};
+ghost use Rattle.std.specs.List.{list_any};
 ghost use Rattle.tera_tree.specs.Tree.{Nodes};
 ghost use Rattle.tera_code.specs.Called.{callee_of, called_by};
 ghost use Rattle.tera_code.specs.Code.{nodes_code};
@@ -50,9 +51,19 @@ pub fn lacks_a_callee(chunk: &Chunk) -> bool
     code_lacks(chunk)
 }
 
+/// Whether the code of a block calls what is not there.
+fn any_block_lacks(blocks: &[Block]) -> bool
+    ensures { result ≡ list_any (λ b. code_lacks b.code.code) blocks.now }
+{
+    blocks.iter().any(|block| code_lacks(&block.code))
+}
+
 /// Whether the code of a body, or that of a block, calls what is not there.
 pub fn any_lacks(body: &Chunk, blocks: &[Block]) -> bool
     ensures { result ≡ bodies_lack body.now blocks.now }
 {
-    code_lacks(body) || blocks.iter().any(|block| code_lacks(&block.code))
+    if code_lacks(body) {
+        return true;
+    }
+    any_block_lacks(blocks)
 }

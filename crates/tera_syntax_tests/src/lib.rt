@@ -6,4 +6,6 @@ mod readings;
 #[cfg(test)]
 mod rows;
 #[cfg(test)]
+mod sections;
+#[cfg(test)]
 mod shown;

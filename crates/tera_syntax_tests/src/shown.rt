@@ -1,7 +1,7 @@
 //! Trees in words, for tests: each node with its parts and its span.
 use std::alloc::{AllocError, Global};
 use tera_errors::Span;
-use tera_syntax::{Expression, Heading, Node};
+use tera_syntax::{Expression, Heading, Node, SectionFilter};
 
 /// Words that are written one behind another.
 #[derive(Drop)]
@@ -167,6 +167,21 @@ impl Shown {
         self.put(name);
     }
 
+    /// Filters of a body, each with its arguments and its span.
+    fn filters(&mut self, filters: &[SectionFilter]) {
+        for filter in filters {
+            self.put("(|");
+            self.put(filter.name);
+            for argument in &filter.arguments {
+                self.put(" ");
+                self.put(argument.name);
+                self.put("=");
+                self.expression(&argument.value);
+            }
+            self.put_span(filter.span);
+        }
+    }
+
     /// Nodes, one behind another.
     pub fn nodes(&mut self, nodes: &[Node]) {
         for node in nodes {
@@ -201,11 +216,20 @@ impl Shown {
                 }
                 Node::Capture {
                     name,
+                    filters,
                     body,
                     is_global,
                 } => {
                     self.put_set(name, *is_global);
+                    self.filters(filters);
                     self.put(" to ");
+                    self.nodes(body);
+                    self.put(")");
+                }
+                Node::FilterSection { filters, body } => {
+                    self.put("(filter");
+                    self.filters(filters);
+                    self.put(" of ");
                     self.nodes(body);
                     self.put(")");
                 }

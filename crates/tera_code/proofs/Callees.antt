@@ -42,7 +42,7 @@ mutual
   expr_callees (Array all span) = before (items_code all) _ (items_callees all) refl
   expr_callees (Map all span) = before (entries_code all) _ (entries_callees all) refl
   expr_callees (Comprehension v key n e c span) =
-      both (expr_code e) _ (expr_callees e) (before (turn_code c (expr_code v)) _ (turn_callees c v) refl)
+      both (expr_code e) _ (expr_callees e) (before (turn_code c (expr_code v)) _ (turn_callees c (expr_code v) (expr_callees v)) refl)
   expr_callees (Super all span) = before (arguments_code all) _ (arguments_callees all) refl
   expr_callees (Filter e n all span) = both (expr_code e) _ (expr_callees e) (both (arguments_code all) _ (arguments_callees all) refl)
   expr_callees (Test e n all span) = both (expr_code e) _ (expr_callees e) (both (arguments_code all) _ (arguments_callees all) refl)
@@ -52,9 +52,9 @@ mutual
   bound_callees Absent = refl
   bound_callees (Present e) = expr_callees e
 
-  turn_callees : (o : Optional) (v : Expr) → callees (turn_code o (expr_code v)) ≡ optional_calls o ++ expr_calls v
-  turn_callees Absent v = before (expr_code v) _ (expr_callees v) refl
-  turn_callees (Present c) v = both (expr_code c) _ (expr_callees c) (before (expr_code v) _ (expr_callees v) refl)
+  turn_callees : (o : Optional) (value : Code) {xs : List Callee} → callees value ≡ xs → callees (turn_code o value) ≡ optional_calls o ++ xs
+  turn_callees Absent value h = before value _ h refl
+  turn_callees (Present c) value h = both (expr_code c) _ (expr_callees c) (before value _ h refl)
 
   items_callees : (all : Items) → callees (items_code all) ≡ items_calls all
   items_callees NoItems = refl
@@ -75,7 +75,7 @@ filters_callees (MoreFilters n all span rest) =
     ∙ sym (append_assoc (arguments_calls all) (AFilter n ∷ []) (filters_calls rest))
 
 -- what is put out where it lies is a name, and calls nothing
-looked_up : (is_context : Bool) (n : site.Name) (span : Span) → IfSome (cond is_context None (Some (n, span))) (λ p. expr_calls (Name n span) ≡ [])
+looked_up : (is_context : Bool) (n : site.Name) (span : Span) → IfSome {T = site.Name × Span} (cond is_context None (Some (n, span))) (λ p. expr_calls (Name n span) ≡ [])
 looked_up true n span = tt
 looked_up false n span = refl
 

@@ -1,5 +1,5 @@
 -- Forms whose parts stand in a Vec.
-use Rattle.std.proofs.Common.{◌≡◌, ℕ, suc, ◌≤◌, drop, Bool, false, Bor, length, List, [], ◌∷◌, ◌++◌, Vec, Box, Global, Result, Ok, Err, OnOk, Option, None, Some, refl, sym, ap, ap₂, ◌∙◌, append_assoc}
+use Rattle.std.proofs.Common.{◌≡◌, ℕ, suc, Bool, false, Bor, length, List, [], ◌∷◌, ◌++◌, Vec, Box, Global, Result, Ok, Err, OnOk, Option, None, Some, refl, sym, ap, ap₂, ◌∙◌, append_assoc}
 use Rattle.tera_errors.specs.declared.span.Span.{Span}
 use Rattle.tera_errors.specs.Fault.{Fault}
 use Rattle.tera_errors.specs.Answer.{Refusal}
@@ -22,7 +22,7 @@ use Rattle.tera_code.specs.Listing.{Listing}
 use Rattle.tera_tree.specs.View.{keys_of}
 use Rattle.tera_code.specs.Code.{expr_code, items_code, entries_code, arguments_code, arguments_length, argument_names, section_code, node_code, nodes_code, turn_code, spreads_of, keys_in, lengthened}
 use Rattle.tera_code.specs.Places.{filled, behind, looped}
-use Rattle.tera_code.proofs.Lengthened.{lengthened-lengthened, all_written, drop-past}
+use Rattle.tera_code.proofs.Lengthened.{lengthened-lengthened}
 use Rattle.tera_code.proofs.Filled.{keep_written, comprehension_written}
 
 pub length_keys : (ks : List (Option OwnedKey)) → length (keys_of ks) ≡ length ks

@@ -19,7 +19,8 @@ impl Compiler {
     #[cycle(expressions)]
     pub(crate) fn request(&mut self, expression: &Expression) -> TeraResult<()>
         requires { group (expr_of expression.now) ≡ Request }
-        ensures ok { OnOk result (self.new ≡ lengthened self.old (expr_code (expr_of expression.now))) }
+        ensures ok { OnOk result
+            (self.new ≡ lengthened self.old (expr_code (expr_of expression.now))) }
         ensures lacks { IfErr result Lacks }
     {
         match expression {
@@ -141,7 +142,8 @@ impl Compiler {
 }
 
 fn argument_names(alloc: Global, arguments: &[Argument]) -> TeraResult<Vec<Name>>
-    ensures { Gives (λ names. names.items) result (Ok (argument_names (arguments_of arguments.now))) }
+    ensures { Gives (λ names. names.items) result
+        (Ok (argument_names (arguments_of arguments.now))) }
 {
     let mut names = Vec::new(alloc);
     for argument in arguments {

@@ -355,7 +355,8 @@ impl Tables {
         span: Span,
     ) -> TeraResult<(u32, u32)>
         ensures grows { Grows (shelf_of self.old) (shelf_of self.new) }
-        ensures call { IfOk result (λ p. IsAt (shelf_of self.new).calls p.0 (name.now, arguments.now)) }
+        ensures call { IfOk result
+            (λ p. IsAt (shelf_of self.new).calls p.0 (name.now, arguments.now)) }
         ensures span { IfOk result (λ p. IsAt (shelf_of self.new).spans p.1 span) }
         ensures lacks { IfErr result Lacks }
     {

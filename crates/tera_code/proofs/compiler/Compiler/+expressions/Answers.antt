@@ -1,4 +1,4 @@
-use Rattle.std.proofs.Common.{◌∙◌, ◌∷◌, ◌++◌, length, ap, ap₂, sym}
+use Rattle.std.proofs.Common.{refl, ◌∙◌, ◌∷◌, ◌++◌, length, ap, ap₂, sym}
 use Rattle.tera_tree.specs.View.{expr_of}
 use Rattle.tera_code.specs.declared.instruction.Instruction.TheVariants as instruction
 use Rattle.tera_code.specs.Code.{expr_code, choice_code, lengthened}
@@ -49,12 +49,12 @@ comprehension-returns-in_ok-fill-in-Some-clause-ok t c =
 
 pub request-returns-in_ok-arguments-in-Super-clause-ok : goal.request-returns-in_ok-arguments-in-Super-clause-ok
 request-returns-in_ok-arguments-in-Super-clause-ok t c =
-    super_written _ _ _ _ c.in-Super.arguments c.in-Super.span _ _ _ _ c.in-Super.is c.as_slice-arguments.ensures.value c.as_slice-arguments.ensures.value c.len.ensures c.in_ok-arguments-in-Super.ensures.ok c.emit.ensures.ok
+    super_written _ _ _ _ c.in-Super.arguments c.in-Super.span _ _ _ _ c.in-Super.is c.as_slice-arguments.ensures.value c.as_slice-arguments.ensures.value refl c.in_ok-arguments-in-Super.ensures.ok c.emit.ensures.ok
 
 pub request-returns-in_ok-arguments-in-Filter-clause-ok : goal.request-returns-in_ok-arguments-in-Filter-clause-ok
 request-returns-in_ok-arguments-in-Filter-clause-ok t c =
     filter_written _ _ _ _ _ _ c.in-Filter.value c.in-Filter.name c.in-Filter.arguments c.in-Filter.span _ _ _ c.in-Filter.is c.in_ok-expression-in-Filter.ensures.ok c.deref.ensures
-    c.as_slice-in-Filter.ensures.value c.as_slice-in-Filter-2.ensures.value c.in_ok-arguments-in-Filter.ensures.ok c.apply_filter.ensures.ok
+    c.as_slice.ensures.value c.as_slice-in-Filter.ensures.value c.in_ok-arguments-in-Filter.ensures.ok c.apply_filter.ensures.ok
 
 pub request-returns-in_ok-arguments-in-Test-clause-ok : goal.request-returns-in_ok-arguments-in-Test-clause-ok
 request-returns-in_ok-arguments-in-Test-clause-ok t c =

@@ -7,7 +7,7 @@ use Rattle.std.specs.Str.{IsUtf8, chars}
 use Rattle.std.proofs.lemmas.Str.{IsUtf8-past_char, encodes-chars}
 use Rattle.tera_built_ins.specs.Pieces.{letters}
 use Rattle.tera_built_ins.proofs.Trimming.{byte}
-use Rattle.tera_built_ins.proofs.Replacing.{GoesOn, Encoded, encoded, begins-char}
+use Rattle.tera_built_ins.proofs.Replacing.{GoesOn, encoded, begins-char}
 
 -- bytes that go on belong to the first letter
 letters-on : (bs t u : List ℕ) (us : List (List ℕ)) → AllByRecursion GoesOn bs → letters byte t ≡ u ∷ us → letters byte (bs ++ t) ≡ (bs ++ u) ∷ us

@@ -10,8 +10,7 @@ use Rattle.std.specs.Str.Pattern.{FindsText, LacksTextAt}
 use Rattle.std.specs.Str.Replace.{ReplacesMatches}
 use Rattle.tera_built_ins.specs.Pieces.{begins, cut, goes_on, letters, joined}
 use Rattle.tera_built_ins.specs.Replace.{replaced}
-use Rattle.tera_built_ins.proofs.Trimming.{byte, begins-own}
-pub use Rattle.tera_built_ins.proofs.Trimming.{lacks}
+use Rattle.tera_built_ins.proofs.Trimming.{byte, begins-own, lacks}
 
 -- there is a first piece
 data Parted : List (List ℕ) → Type 0 where

@@ -23,7 +23,7 @@ module _ {X : Type 0} (same : X → X → Bool) where
   firsts-append [] x = refl
   firsts-append (y ∷ ys) x =
       let more : filter (λ z. not (same y z)) (firsts same (ys ++ x ∷ [])) ≡ filter (λ z. not (same y z)) (firsts same ys) ++ cond (same y x || list_any (λ y. same y x) ys) [] (x ∷ []) =
-          ap (filter (λ z. not (same y z))) (firsts-append ys x) ∙ filter-append (λ z. not (same y z)) (firsts same ys) (cond (list_any (λ y. same y x) ys) [] (x ∷ [])) ∙ ap (λ l. filter (λ z. not (same y z)) (firsts same ys) ++ l) (passed y x (list_any (λ y. same y x) ys)) in
+      ap (filter (λ z. not (same y z))) (firsts-append ys x) ∙ filter-append (λ z. not (same y z)) (firsts same ys) (cond (list_any (λ y. same y x) ys) [] (x ∷ [])) ∙ ap (λ l. filter (λ z. not (same y z)) (firsts same ys) ++ l) (passed y x (list_any (λ y. same y x) ys)) in
       ap (λ l. y ∷ l) more
 
   module _ (xs : List X) (i : ℕ) (x : X) (h : i < length xs) (at : x ≡ get_or xs i x) where

@@ -3,8 +3,8 @@ use Rattle.std.proofs.Common.{◌≡◌, ◌≢◌, ℕ, zero, suc, ◌<◌, fal
 use Rattle.std.specs.List.{onto_first}
 use Rattle.std.specs.Str.Pattern.{FindsText, LacksTextAt, SplitsAroundMatch}
 use Rattle.tera_built_ins.specs.Pieces.{begins, cut, pieces}
-use Rattle.tera_built_ins.proofs.Trimming.{byte, begins-own}
-use Rattle.tera_built_ins.proofs.Replacing.{lacks, past}
+use Rattle.tera_built_ins.proofs.Trimming.{byte, begins-own, lacks}
+use Rattle.tera_built_ins.proofs.Replacing.{past}
 
 -- characters before the first piece
 abbrev before : List ℕ → List (List ℕ) → List (List ℕ)

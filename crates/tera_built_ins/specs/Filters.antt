@@ -24,6 +24,7 @@ use Rattle.tera_built_ins.specs.Items.{first_of, last_of, nth_of}
 use Rattle.tera_built_ins.specs.Join.{join_of}
 use Rattle.tera_built_ins.specs.Sorting.{sort_of, unique_of}
 use Rattle.tera_built_ins.specs.Maps.{values_of, keys_of, pairs_of, get_of}
+use Rattle.tera_built_ins.specs.Groups.{group_by_of}
 
 -- their names
 abbrev pub filters : Named BuiltInFilter
@@ -58,6 +59,7 @@ filters =
     ∷ (codes "keys", filter.Keys)
     ∷ (codes "pairs", filter.Pairs)
     ∷ (codes "get", filter.Get)
+    ∷ (codes "group_by", filter.GroupBy)
     ∷ []
 
 abbrev pub filter_named : Name → Option BuiltInFilter
@@ -96,6 +98,7 @@ module _ {C : Type 0} (alphabet : Alphabet C) (view : Escaping) where
   filter_of filter.Keys v given = keys_of alphabet v
   filter_of filter.Pairs v given = pairs_of alphabet v
   filter_of filter.Get v given = get_of alphabet v given
+  filter_of filter.GroupBy v given = group_by_of alphabet v given
 
   abbrev pub filter_in : Option BuiltInFilter → ValOf C → Named (ValOf C) → Result (ValOf C) Fault
   filter_in None v given = Err message

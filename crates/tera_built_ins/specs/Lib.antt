@@ -27,3 +27,5 @@ pub mod Attributes
 pub mod Sorting
 pub mod Ranks
 pub mod Split
+pub mod Groups
+pub mod Gathering

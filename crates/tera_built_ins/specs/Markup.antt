@@ -10,11 +10,15 @@ use Rattle.tera_built_ins.specs.Replace.{replaced}
 
 -- the escape for HTML, safe texts and others alike, and not marked safe itself
 abbrev pub escape_html_of : {C : Type 0} → Alphabet C → ValOf C → Result (ValOf C) Fault
-escape_html_of alphabet v = as_text v ▸ λ g. Ok (text (alphabet.spelled made (escape_html (alphabet.seen g.text))) false)
+escape_html_of alphabet v =
+    as_text v ▸ λ g.
+    Ok (text (alphabet.spelled made (escape_html (alphabet.seen g.text))) false)
 
 -- the same for XML
 abbrev pub escape_xml_of : {C : Type 0} → Alphabet C → ValOf C → Result (ValOf C) Fault
-escape_xml_of alphabet v = as_text v ▸ λ g. Ok (text (alphabet.spelled made (escape_xml (alphabet.seen g.text))) false)
+escape_xml_of alphabet v =
+    as_text v ▸ λ g.
+    Ok (text (alphabet.spelled made (escape_xml (alphabet.seen g.text))) false)
 
 -- `<br>` for each CRLF, and then for each LF and each CR
 abbrev pub with_breaks : Text → Text
@@ -24,4 +28,6 @@ with_breaks t =
 
 -- the ends of lines as markup; nothing is escaped, and the answer is not marked safe
 abbrev pub newlines_to_br_of : {C : Type 0} → Alphabet C → ValOf C → Result (ValOf C) Fault
-newlines_to_br_of alphabet v = as_text v ▸ λ g. Ok (text (alphabet.spelled made (with_breaks (alphabet.seen g.text))) false)
+newlines_to_br_of alphabet v =
+    as_text v ▸ λ g.
+    Ok (text (alphabet.spelled made (with_breaks (alphabet.seen g.text))) false)

@@ -1,5 +1,5 @@
 -- Texts cut short by what a reader takes for characters.
-use Rattle.std.specs.Prelude.{ℕ, ◌^◌, true, false, if◌then◌else◌, nat_lt, List, [], ◌∷◌, ◌++◌, length, take, codes, Result, Ok}
+use Rattle.std.specs.Prelude.{ℕ, ◌^◌, true, false, if◌then◌else◌, nat_lt, [], ◌∷◌, ◌++◌, length, take, codes, Result, Ok}
 use Rattle.std.specs.List.{concat}
 use Rattle.unicode_segmentation.specs.Grapheme.{graphemes}
 use Rattle.tera_errors.specs.Site.{Text}
@@ -19,7 +19,7 @@ ellipsis alphabet = record { text = alphabet.spelled made (226 ∷ 128 ∷ 166 �
 
 abbrev pub truncate_of : {C : Type 0} → Alphabet C → ValOf C → Named (ValOf C) → Result (ValOf C) Fault
 truncate_of alphabet v given =
-    as_text v
-    ▸ λ g. needed (as_natural (2 ^ 64)) (codes "length") given
-    ▸ λ n. or_default (ellipsis alphabet) as_text (codes "end") given
-    ▸ λ e. Ok (text (alphabet.spelled made (truncated n (alphabet.seen e.text) (alphabet.seen g.text))) false)
+    as_text v ▸ λ g.
+    needed (as_natural (2 ^ 64)) (codes "length") given ▸ λ n.
+    or_default (ellipsis alphabet) as_text (codes "end") given ▸ λ e.
+    Ok (text (alphabet.spelled made (truncated n (alphabet.seen e.text) (alphabet.seen g.text))) false)

@@ -6,7 +6,7 @@ ghost use Rattle.tera_built_ins.specs.Escaping.{escaping_of};
 ghost use Rattle.tera_built_ins.specs.Filters.{filter_named, filter_of};
 
 use crate::escaping::Escaping;
-use crate::{defaults, indent, items, join, maps, markup, numbers, parse, replace, safety, sizes, sorting, split, trims, truncate, words};
+use crate::{defaults, groups, indent, items, join, maps, markup, numbers, parse, replace, safety, sizes, sorting, split, trims, truncate, words};
 use std::alloc::Global;
 use tera_values::{Kwargs, TeraResult, Value};
 
@@ -43,6 +43,7 @@ pub enum BuiltInFilter {
     Keys,
     Pairs,
     Get,
+    GroupBy,
 }
 
 impl BuiltInFilter {
@@ -81,6 +82,7 @@ impl BuiltInFilter {
             "keys" => Some(BuiltInFilter::Keys),
             "pairs" => Some(BuiltInFilter::Pairs),
             "get" => Some(BuiltInFilter::Get),
+            "group_by" => Some(BuiltInFilter::GroupBy),
             _ => None,
         }
     }
@@ -127,6 +129,7 @@ impl BuiltInFilter {
             BuiltInFilter::Keys => maps::keys(alloc, value),
             BuiltInFilter::Pairs => maps::pairs(alloc, value),
             BuiltInFilter::Get => maps::get(alloc, value, arguments),
+            BuiltInFilter::GroupBy => groups::group_by(alloc, value, arguments),
         }
     }
 }

@@ -111,12 +111,7 @@ fn row(
     Ok(out)
 }
 
-fn append_item(
-    item: &Value,
-    escapes: bool,
-    escaping: Escaping,
-    out: &mut String,
-) -> TeraResult<()>
+fn append_item(item: &Value, escapes: bool, escaping: Escaping, out: &mut String) -> TeraResult<()>
     ensures ok { OnOk result (string_bytes out.new ≡ string_bytes out.old
         ++ item_part plain (escaping_of escaping) escapes item.now) }
     ensures lacks { IfErr result Lacks }

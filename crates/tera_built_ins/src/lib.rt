@@ -25,6 +25,7 @@ pub mod items;
 pub mod join;
 pub mod sorting;
 pub mod split;
+pub mod groups;
 
 pub use escaping::Escaping;
 pub use filter::BuiltInFilter;

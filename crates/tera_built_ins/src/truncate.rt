@@ -14,7 +14,8 @@ use unicode_segmentation::UnicodeSegmentation;
 
 /// What the argument `end` says, or an ellipsis.
 fn end_of(arguments: &Kwargs) -> TeraResult<Given<'_>>
-    ensures { Gives given_of result (or_default (ellipsis plain) as_text (codes "end") arguments.now) }
+    ensures { Gives given_of result
+        (or_default (ellipsis plain) as_text (codes "end") arguments.now) }
 {
     match arguments.value("end") {
         Some(value) => as_text(value),

@@ -7,6 +7,7 @@ ghost use Rattle.tera_built_ins.specs.Words.{word_count, wordcount_of};
 use crate::arguments::as_text;
 use tera_values::{TeraResult, Value};
 
+/// A word begins at each character that is no white space, and has none of a word before it.
 fn word_count(text: &str) -> usize
     ensures { result ≡ word_count text.now }
 {

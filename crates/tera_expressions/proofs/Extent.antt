@@ -82,7 +82,6 @@ mutual
       let p1 = shorter d in let p2 = shorter-calls c in let p3 = shorter t in let p4 = shorter-condition o in
       let t1 = token k.LeftBracket i h (λ e. cc) in let t2 = token k.For a f (λ e. cc) in let t3 = token k.RightBracket e g (λ e. cc) in omega arith
   shorter (call {i = i} {a = a} h e d g) = let p1 = shorter-arguments d in let t1 = token k.Name i h (λ e. cc) in let t2 = next-le (next i) in let t3 = token k.RightParenthesis a g (λ e. cc) in omega arith
-
   shorter (filter {a = a} d h g q) = let p1 = shorter d in let p2 = shorter-given q in let t1 = token k.Bar a h (λ e. cc) in let t2 = word-left (next a) g in omega arith
   shorter (test {a = a} d h g q) =
       let p1 = shorter d in let p2 = shorter-given q in let t1 = token k.Is a h (λ e. cc) in let t2 = word-left (next a) (test-name (kind (next a)) g).0 in omega arith

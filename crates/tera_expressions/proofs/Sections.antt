@@ -61,7 +61,7 @@ module _ (limit : ℕ) (part : ℕ → Parser Deep) (reads : Reads part) where
         derived = more_filters w.word w.derived h v.derived;
         joined = v.joined ∙ ap (λ f. join_filters f v.filters) w.joined ∙ join-filters found (one_filter (text i) w.all (span (start i) a)) v.filters;
         deep = omega (arith, e, g);
-        fits = omega (arith, f, l)
+        fits = omega (arith, f, l);
       }
 
   filters-got : (n : ℕ) (found : Filters) (d : ℕ) (i j : Input) (z : Filters × ℕ) → r.filters_from limit part n found d i ≡ Some (z, j) → GotFilters limit found d i z j

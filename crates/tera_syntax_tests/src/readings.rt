@@ -2,6 +2,7 @@
 ghost use Rattle.std.specs.Prelude.{IsTrue, IfSome, OnOk};
 ghost use Rattle.tera_tree.specs.Delimiters.{accepted, delimiters_of};
 
+use crate::applications::{APPLICATION_NESTS, APPLICATIONS, UNREAD_APPLICATIONS};
 use crate::rows::{NESTS, Nest, OTHERS, Other, REFUSED, Row, TREES, Text, UNUSABLE, Unusable};
 use crate::sections::{SECTION_NESTS, SECTIONS, UNREAD_SECTIONS};
 use crate::shown::Shown;
@@ -166,6 +167,33 @@ fn deep_sections(rt: HostRuntime) {
     let wrong = match standard(rt.alloc()) {
         Some(delimiters) => first_deep(rt.alloc(), &delimiters, &SECTION_NESTS),
         None => Some(SECTION_NESTS.len()),
+    };
+    assert_eq!(rt; wrong, None);
+}
+
+#[test]
+fn applications(rt: HostRuntime) {
+    let wrong = match standard(rt.alloc()) {
+        Some(delimiters) => first_wrong(rt.alloc(), &delimiters, &APPLICATIONS),
+        None => Some("want of memory"),
+    };
+    assert_eq!(rt; wrong, None);
+}
+
+#[test]
+fn unread_applications(rt: HostRuntime) {
+    let wrong = match standard(rt.alloc()) {
+        Some(delimiters) => first_read(rt.alloc(), &delimiters, &UNREAD_APPLICATIONS),
+        None => Some("want of memory"),
+    };
+    assert_eq!(rt; wrong, None);
+}
+
+#[test]
+fn deep_applications(rt: HostRuntime) {
+    let wrong = match standard(rt.alloc()) {
+        Some(delimiters) => first_deep(rt.alloc(), &delimiters, &APPLICATION_NESTS),
+        None => Some(APPLICATION_NESTS.len()),
     };
     assert_eq!(rt; wrong, None);
 }

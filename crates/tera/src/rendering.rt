@@ -14,7 +14,7 @@ use std::marker::Brand;
 use std::sync::ledger::{Blank, Ledger};
 use tera_code::{Chunk, Steps, compiled};
 use tera_machine::{Configuration, VirtualMachine};
-use tera_registry::Found;
+use tera_registry::{Found, lacks_a_callee};
 use tera_registry::tops::top_blocks;
 use tera_state::Scopes;
 use tera_syntax::parse;
@@ -25,7 +25,7 @@ use tera_values::{Context, Error, Name, TeraResult};
 const ONE_OFF: &str = "__tera_one_off";
 
 impl Tera {
-    ghost use Rattle.tera.specs.Registry.{registry_of, nodes_of_file, subject_of, subject_of_file, text_meant, block_meant};
+    ghost use Rattle.tera.specs.Registry.{registry_of, nodes_of_file, subject_of, subject_of_file, text_meant, one_off_meant, block_meant};
 
     pub(crate) fn read_and_render(
         &self,
@@ -49,7 +49,8 @@ impl Tera {
         }
     }
 
-    // The text of these nodes, which stand beside the registry. The subject is theirs.
+    // The text of these nodes, which stand beside the registry; a refusal where they call what is not there. The subject is
+    // theirs.
     fn render_nodes<L: Ledger>(
         &self,
         nodes: &[Node],
@@ -60,9 +61,12 @@ impl Tera {
         ghost about: { Subject }
         requires ledger { (blank.name ≡ L.name) × (blank.parts ≡ L.parts) × (L.parts ≡ 1) }
         requires subject { about ≡ subject_of self.now None one_off_name (nodes_of nodes.now) context.now autoescape }
-        ensures { Gives string_bytes result (text_meant about) }
+        ensures { Gives string_bytes result (one_off_meant about) }
     {
         let chunk = compiled(self.alloc, ONE_OFF, nodes)?;
+        if lacks_a_callee(&chunk) {
+            return Err(Error::message(self.alloc, "what is called is not there"));
+        }
         let machine = VirtualMachine::new_with_autoescape(self.alloc, autoescape);
         self.run_body::<L>(&machine, &chunk, context, blank)
     }

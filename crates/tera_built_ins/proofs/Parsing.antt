@@ -1,5 +1,5 @@
 -- What std reads as an integer is what a numeral means.
-use Rattle.std.proofs.Common.{◌≡◌, ℕ, ◌<◌, Bool, true, false, cond, ◌&&◌, nat_lt, List, [], ◌∷◌, length, refl, arith, ℤ, pos, negsuc, Ok, Err, FitsSigned}
+use Rattle.std.proofs.Common.{◌≡◌, ℕ, Bool, true, false, cond, List, [], ◌∷◌, refl, arith, ℤ, pos, negsuc, Ok, Err, FitsSigned}
 use Rattle.std.proofs.lemmas.Grind.{common_steps}
 use Rattle.std.proofs.lemmas.Int.{ints}
 use Rattle.std.specs.Char.{is_digit}

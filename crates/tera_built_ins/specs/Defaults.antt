@@ -1,5 +1,5 @@
 -- What stands in for a value.
-use Rattle.std.specs.Prelude.{false, cond, not, Result, Ok, Err, codes}
+use Rattle.std.specs.Prelude.{false, cond, not, Result, Ok, codes}
 use Rattle.tera_errors.specs.Fault.{Fault}
 use Rattle.tera_values.specs.Val.{ValOf}
 use Rattle.tera_values.specs.Access.{is_undefined, truthy}

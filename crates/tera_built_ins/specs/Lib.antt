@@ -21,11 +21,11 @@ pub mod Trims
 pub mod Replace
 pub mod Indent
 pub mod Parse
+pub mod Split
 pub mod Items
 pub mod Join
 pub mod Attributes
 pub mod Sorting
 pub mod Ranks
-pub mod Split
 pub mod Groups
 pub mod Gathering

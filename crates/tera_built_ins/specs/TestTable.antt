@@ -1,5 +1,5 @@
 -- The tests that every engine has.
-use Rattle.std.specs.Prelude.{Bool, List, [], ◌∷◌, Option, Some, None, Result, Err, codes}
+use Rattle.std.specs.Prelude.{Bool, [], ◌∷◌, Option, Some, None, Result, Err, codes}
 use Rattle.tera_errors.specs.Site.{Name}
 use Rattle.tera_errors.specs.Fault.{Fault, message}
 use Rattle.tera_values.specs.Val.{ValOf}

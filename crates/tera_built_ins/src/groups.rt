@@ -35,31 +35,23 @@ pub(crate) struct Group {
 pub fn group_by(alloc: Global, value: &Value, arguments: &Kwargs) -> TeraResult<Value>
     ensures { Gives (λ v. v) result (group_by_of plain value.now arguments.now) }
 {
-    let items = match as_array(value) {
-        Ok(items) => items,
-        Err(error) => return Err(error),
-    };
+    let items = as_array(value)?;
     if items.is_empty() {
         return Ok(Value::map(Map::new(alloc)));
     }
-    let attribute = match needed_text(arguments, "attribute") {
-        Ok(attribute) => attribute,
-        Err(error) => return Err(error),
-    };
-    grouped_items(alloc, items, attribute.text)
+    match needed_text(arguments, "attribute") {
+        Ok(attribute) => grouped_items(alloc, items, attribute.text),
+        Err(error) => Err(error),
+    }
 }
 
 fn grouped_items(alloc: Global, items: &[Value], path: &str) -> TeraResult<Value>
     ensures { Gives (λ v. v) result (all_of (keyed_by plain path.now) items.now
         ▸ λ keyed. Ok (group_arrays (groups (filter_map (λ e. e) keyed)))) }
 {
-    match with_keys(alloc, items, path) {
-        Ok(keyed) => {
-            let gathered = gathered(alloc, keyed.as_slice())?;
-            Ok(Value::map(group_arrays(alloc, gathered)?))
-        }
-        Err(error) => Err(error),
-    }
+    let keyed = with_keys(alloc, items, path)?;
+    let gathered = gathered(alloc, keyed.as_slice())?;
+    Ok(Value::map(group_arrays(alloc, gathered)?))
 }
 
 fn with_keys<'a>(alloc: Global, items: &'a [Value], path: &str) -> TeraResult<Vec<Keyed<'a>>>
@@ -68,10 +60,8 @@ fn with_keys<'a>(alloc: Global, items: &'a [Value], path: &str) -> TeraResult<Ve
 {
     let mut keyed = Vec::new(alloc);
     for item in items {
-        match attribute_key(alloc, item, path) {
-            Ok(Some(key)) => keyed.push(Keyed { key, item })?,
-            Ok(None) => {}
-            Err(error) => return Err(error),
+        if let Some(key) = attribute_key(alloc, item, path)? {
+            keyed.push(Keyed { key, item })?;
         }
     }
     Ok(keyed)
@@ -92,10 +82,7 @@ fn key_or_none(alloc: Global, attribute: &Value) -> TeraResult<Option<Key>>
     if is_none(attribute) {
         return Ok(None);
     }
-    match attribute.as_key(alloc) {
-        Ok(key) => Ok(Some(key)),
-        Err(error) => Err(error),
-    }
+    Ok(Some(attribute.as_key(alloc)?))
 }
 
 fn gathered(alloc: Global, keyed: &[Keyed<'_>]) -> TeraResult<Vec<Group>>

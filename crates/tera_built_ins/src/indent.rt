@@ -5,13 +5,12 @@ ghost use Rattle.std.specs.Str.{chars};
 ghost use Rattle.tera_errors.specs.Answer.{Gives, Lacks};
 ghost use Rattle.tera_values.specs.Alphabet.{plain};
 ghost use Rattle.tera_built_ins.specs.Escaping.{escaping_of};
-ghost use Rattle.tera_built_ins.specs.Parts as parts;
 ghost use Rattle.tera_built_ins.specs.Reading.{given_of};
 ghost use Rattle.tera_built_ins.specs.Indent as spec;
 
 use crate::arguments::{Given, as_text, flag, optional_text, size_or};
 use crate::escaping::Escaping;
-use crate::parts::{made, part};
+use crate::parts::{given_safe, made, part};
 use std::alloc::Global;
 use tera_values::{Error, Kwargs, TeraResult, Value};
 
@@ -81,15 +80,6 @@ fn is_character(indentation: Option<Given<'_>>) -> bool
     }
 }
 
-fn is_safe(indentation: Option<Given<'_>>) -> bool
-    ensures { result ≡ parts.given_safe (option_map given_of indentation.entry) }
-{
-    match indentation {
-        None => false,
-        Some(given) => given.is_safe,
-    }
-}
-
 /// What goes before a line.
 fn padding(
     alloc: Global,
@@ -130,7 +120,7 @@ pub fn indent(
     if !is_character(indentation) {
         return Err(Error::message(alloc, "not one character"));
     }
-    let is_safe = escaping.autoescape && (given.is_safe || is_safe(indentation));
+    let is_safe = escaping.autoescape && (given.is_safe || given_safe(indentation));
     let padding = padding(alloc, escaping, is_safe, indentation, width.min(1000))?;
     let text = part(alloc, escaping, is_safe, given)?;
     let answer = indented(alloc, text.as_str(), padding.as_str(), first, blank)?;

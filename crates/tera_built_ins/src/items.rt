@@ -19,32 +19,21 @@ fn or_none(found: Option<&Value>) -> TeraResult<Value>
 pub fn first(value: &Value) -> TeraResult<Value>
     ensures { Gives (λ v. v) result (first_of value.now) }
 {
-    match as_array(value) {
-        Ok(items) => or_none(items.first()),
-        Err(error) => Err(error),
-    }
+    or_none(as_array(value)?.first())
 }
 
 /// The last item of an array, with its mark; none where there is no item.
 pub fn last(value: &Value) -> TeraResult<Value>
     ensures { Gives (λ v. v) result (last_of value.now) }
 {
-    match as_array(value) {
-        Ok(items) => or_none(items.last()),
-        Err(error) => Err(error),
-    }
+    or_none(as_array(value)?.last())
 }
 
 /// The item at a place of an array, counted from 0, with its mark; none where the array is shorter.
 pub fn nth(value: &Value, arguments: &Kwargs) -> TeraResult<Value>
     ensures { Gives (λ v. v) result (nth_of value.now arguments.now) }
 {
-    let items = match as_array(value) {
-        Ok(items) => items,
-        Err(error) => return Err(error),
-    };
-    match needed_size(arguments, "n") {
-        Ok(place) => or_none(items.get(place)),
-        Err(error) => Err(error),
-    }
+    let items = as_array(value)?;
+    let place = needed_size(arguments, "n")?;
+    or_none(items.get(place))
 }

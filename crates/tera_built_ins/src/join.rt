@@ -1,15 +1,18 @@
 // Items in a row, as one text.
 ghost use Rattle.std.specs.Prelude.{◌≡◌, ◌++◌, OnOk, IfErr, Ok, string_bytes, option_map};
 ghost use Rattle.std.specs.List.{list_any, join_by};
+ghost use Rattle.std.specs.Cow.{cow_str_bytes};
 ghost use Rattle.tera_errors.specs.Answer.{Gives, Lacks};
 ghost use Rattle.tera_values.specs.Alphabet.{plain};
 ghost use Rattle.tera_built_ins.specs.Escaping.{escaping_of};
 ghost use Rattle.tera_built_ins.specs.Reading.{given_of};
-ghost use Rattle.tera_built_ins.specs.Join.{is_safe_text, is_given_safe, item_part, separator_part, join_of};
+ghost use Rattle.tera_built_ins.specs.Join.{is_safe_text, item_part, separator_part, join_of};
 
 use crate::arguments::{Given, as_array, optional_text};
 use crate::escaping::Escaping;
+use crate::parts::{given_safe, made, part};
 use std::alloc::Global;
+use std::borrow::CowStr;
 use tera_values::{Kwargs, Shape, TeraResult, Value};
 
 /// The items of an array as they are printed, with `sep` between them. Where autoescape is on and one of these texts
@@ -23,22 +26,12 @@ pub fn join(
     ensures { Gives (λ v. v) result
         (join_of plain (escaping_of escaping) value.now arguments.now) }
 {
-    let items = match as_array(value) {
-        Ok(items) => items,
-        Err(error) => return Err(error),
-    };
-    let separator = match optional_text(arguments, "sep") {
-        Ok(separator) => separator,
-        Err(error) => return Err(error),
-    };
-    let escapes = escaping.autoescape && (has_safe_text(items) || is_given_safe(separator));
-    let between = written_separator(alloc, separator, escapes, escaping)?;
-    let row = row(alloc, items, between.as_str(), escapes, escaping)?;
-    if escapes {
-        Value::safe_string(alloc, row.as_str())
-    } else {
-        Value::string(alloc, row.as_str())
-    }
+    let items = as_array(value)?;
+    let separator = optional_text(arguments, "sep")?;
+    let is_safe = escaping.autoescape && (has_safe_text(items) || given_safe(separator));
+    let between = separator_part(alloc, escaping, is_safe, separator)?;
+    let row = row(alloc, escaping, is_safe, items, between.as_str())?;
+    made(alloc, row.as_str(), is_safe)
 }
 
 fn has_safe_text(items: &[Value]) -> bool
@@ -61,62 +54,48 @@ fn is_safe_text(item: &Value) -> bool
     }
 }
 
-fn is_given_safe(given: Option<Given<'_>>) -> bool
-    ensures { result ≡ is_given_safe (option_map given_of given.entry) }
-{
-    match given {
-        Some(given) => given.is_safe,
-        None => false,
-    }
-}
-
-fn written_separator(
+fn separator_part<'a>(
     alloc: Global,
-    separator: Option<Given<'_>>,
-    escapes: bool,
     escaping: Escaping,
-) -> TeraResult<String>
-    ensures { Gives string_bytes result (Ok (separator_part plain (escaping_of escaping)
-        escapes (option_map given_of separator.entry))) }
+    is_safe: bool,
+    separator: Option<Given<'a>>,
+) -> TeraResult<CowStr<'a>>
+    ensures { Gives cow_str_bytes result (Ok (separator_part plain (escaping_of escaping)
+        is_safe (option_map given_of separator.entry))) }
 {
-    let mut out = String::new(alloc);
-    if let Some(given) = separator {
-        if escapes && !given.is_safe {
-            escaping.escape(given.text, &mut out)?;
-        } else {
-            out.push_str(given.text)?;
-        }
+    match separator {
+        Some(given) => part(alloc, escaping, is_safe, given),
+        None => Ok(CowStr::Borrowed("")),
     }
-    Ok(out)
 }
 
 fn row(
     alloc: Global,
+    escaping: Escaping,
+    is_safe: bool,
     items: &[Value],
     between: &str,
-    escapes: bool,
-    escaping: Escaping,
 ) -> TeraResult<String>
     ensures { Gives string_bytes result (Ok (join_by
-        (item_part plain (escaping_of escaping) escapes) between.now items.now)) }
+        (item_part plain (escaping_of escaping) is_safe) between.now items.now)) }
 {
     let mut out = String::new(alloc);
     if let [first, rest @ ..] = items {
-        append_item(first, escapes, escaping, &mut out)?;
+        append_item(escaping, is_safe, first, &mut out)?;
         for item in rest {
             out.push_str(between)?;
-            append_item(item, escapes, escaping, &mut out)?;
+            append_item(escaping, is_safe, item, &mut out)?;
         }
     }
     Ok(out)
 }
 
-fn append_item(item: &Value, escapes: bool, escaping: Escaping, out: &mut String) -> TeraResult<()>
+fn append_item(escaping: Escaping, is_safe: bool, item: &Value, out: &mut String) -> TeraResult<()>
     ensures ok { OnOk result (string_bytes out.new ≡ string_bytes out.old
-        ++ item_part plain (escaping_of escaping) escapes item.now) }
+        ++ item_part plain (escaping_of escaping) is_safe item.now) }
     ensures lacks { IfErr result Lacks }
 {
-    if escapes && !item.is_undefined() && !item.is_safe() {
+    if is_safe && !item.is_undefined() && !item.is_safe() {
         let printed = item.printed(*out.allocator())?;
         escaping.escape(printed.as_str(), out)
     } else {

@@ -13,10 +13,8 @@ use tera_values::{Error, Key, Kwargs, Map, TeraResult, Value};
 pub fn values(alloc: Global, value: &Value) -> TeraResult<Value>
     ensures { Gives (λ v. v) result (values_of value.now) }
 {
-    match as_map(value) {
-        Ok(all) => Ok(Value::array(map_values(alloc, all)?)),
-        Err(error) => Err(error),
-    }
+    let all = as_map(value)?;
+    Ok(Value::array(map_values(alloc, all)?))
 }
 
 fn map_values(alloc: Global, all: &Map) -> TeraResult<Vec<Value>>
@@ -36,10 +34,8 @@ fn map_values(alloc: Global, all: &Map) -> TeraResult<Vec<Value>>
 pub fn keys(alloc: Global, value: &Value) -> TeraResult<Value>
     ensures { Gives (λ v. v) result (keys_of plain value.now) }
 {
-    match as_map(value) {
-        Ok(all) => Ok(Value::array(map_keys(alloc, all)?)),
-        Err(error) => Err(error),
-    }
+    let all = as_map(value)?;
+    Ok(Value::array(map_keys(alloc, all)?))
 }
 
 fn map_keys(alloc: Global, all: &Map) -> TeraResult<Vec<Value>>
@@ -59,10 +55,8 @@ fn map_keys(alloc: Global, all: &Map) -> TeraResult<Vec<Value>>
 pub fn pairs(alloc: Global, value: &Value) -> TeraResult<Value>
     ensures { Gives (λ v. v) result (pairs_of plain value.now) }
 {
-    match as_map(value) {
-        Ok(all) => Ok(Value::array(map_pairs(alloc, all)?)),
-        Err(error) => Err(error),
-    }
+    let all = as_map(value)?;
+    Ok(Value::array(map_pairs(alloc, all)?))
 }
 
 fn map_pairs(alloc: Global, all: &Map) -> TeraResult<Vec<Value>>
@@ -91,14 +85,8 @@ fn pair(alloc: Global, key: &Key, item: &Value) -> TeraResult<Value>
 pub fn get(alloc: Global, value: &Value, arguments: &Kwargs) -> TeraResult<Value>
     ensures { Gives (λ v. v) result (get_of plain value.now arguments.now) }
 {
-    let all = match as_map(value) {
-        Ok(all) => all,
-        Err(error) => return Err(error),
-    };
-    let key = match needed_text(arguments, "key") {
-        Ok(key) => key,
-        Err(error) => return Err(error),
-    };
+    let all = as_map(value)?;
+    let key = needed_text(arguments, "key")?;
     match all.get_text(key.text) {
         Some(found) => found.try_clone(),
         None => match arguments.value("default") {

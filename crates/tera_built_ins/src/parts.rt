@@ -1,5 +1,5 @@
 // Answers that are safe where one of the texts that they are made of is.
-ghost use Rattle.std.specs.Prelude.{Ok};
+ghost use Rattle.std.specs.Prelude.{◌≡◌, Ok, option_map};
 ghost use Rattle.std.specs.Cow.{cow_str_bytes};
 ghost use Rattle.tera_errors.specs.Answer.{Gives};
 ghost use Rattle.tera_values.specs.Alphabet.{plain};
@@ -30,6 +30,16 @@ pub(crate) fn part<'a>(
     let mut escaped = String::new(alloc);
     escaping.escape(given.text, &mut escaped)?;
     Ok(CowStr::Owned(escaped))
+}
+
+/// Whether the text is safe; one that is left out is not.
+pub(crate) fn given_safe(given: Option<Given<'_>>) -> bool
+    ensures { result ≡ spec.given_safe (option_map given_of given.entry) }
+{
+    match given {
+        Some(given) => given.is_safe,
+        None => false,
+    }
 }
 
 /// A text that was made, with a mark or without.

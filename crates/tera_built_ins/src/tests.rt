@@ -61,7 +61,10 @@ pub fn none(value: &Value, _arguments: &Kwargs) -> TeraResult<bool>
 pub fn iterable(value: &Value, _arguments: &Kwargs) -> TeraResult<bool>
     ensures { Gives (λ b. b) result (iterable_test plain value.now _arguments.now) }
 {
-    Ok(matches!(&value.shape(), Shape::Array(_) | Shape::Map(_) | Shape::Text(_, _) | Shape::Bytes(_)))
+    Ok(matches!(
+        &value.shape(),
+        Shape::Array(_) | Shape::Map(_) | Shape::Text(_, _) | Shape::Bytes(_)
+    ))
 }
 
 /// Whether it is anything but undefined.
@@ -98,9 +101,9 @@ pub fn even(value: &Value, _arguments: &Kwargs) -> TeraResult<bool>
 pub fn divisible_by(value: &Value, arguments: &Kwargs) -> TeraResult<bool>
     ensures { Gives (λ b. b) result (divisible_by_test plain value.now arguments.now) }
 {
-    let number = as_integer(value)?;
+    let divided = as_integer(value)?;
     let divisor = needed_integer(arguments, "divisor")?;
-    Ok(divides(divisor, number))
+    Ok(divides(divisor, divided))
 }
 
 /// Whether the text begins with `pat`.

@@ -14,7 +14,7 @@ use Rattle.tera_marks.proofs.Standing.{Stands, bools, ResultStands, answers, ref
 use Rattle.tera_marks.proofs.Around.{Binds, put_all-stands}
 use Rattle.tera_marks.proofs.Given.{NamedStand, Equals}
 use Rattle.tera_marks.proofs.Operating.{Operand, Listed, Outcome, then-stands, at-stands, has-stands, placed-stands}
-use Rattle.tera_marks.proofs.Filtering.{filtered-stands, tested-stands, called-stands}
+use Rattle.tera_marks.proofs.Tables.{filtered-stands, tested-stands, called-stands}
 
 values-stand : {given : List (Name × EvaluatedOf Marked)} {others : List (Name × EvaluatedOf ℕ)} → Each Listed given others → Each Binds (map (λ g. (g.0, g.1.value)) given) (map (λ g. (g.0, g.1.value)) others)
 values-stand none = none
@@ -30,11 +30,11 @@ placed_call-stands S file value call (refuses fault) = refuses _
 module _ (file : Name) (name : Name) (span : Span) {given : List (Name × EvaluatedOf Marked)} {others : List (Name × EvaluatedOf ℕ)} (ks : Each Listed given others) where
   pub filter-stands : (view : Escaping) → view.escape ≡ escape_html → {a : EvaluatedOf Marked} {b : EvaluatedOf ℕ} → Operand a b → Outcome (filter_applied_in marking file view name a given span) (filter_applied_in plain file view name b others span)
   filter-stands view by_html s =
-      rw s.span (then-stands Operand (placed_call-stands Stands file _ span (filtered-stands view by_html name s.value (by_name-stands ks))) (λ v w k. at-stands span k))
+      rw s.span (then-stands Operand (placed_call-stands Stands file _ span (filtered-stands (by_name-stands ks) view by_html s.value name)) (λ v w k. at-stands span k))
 
   pub test-stands : {a : EvaluatedOf Marked} {b : EvaluatedOf ℕ} → Operand a b → Outcome (test_applied_in marking file name a given span) (test_applied_in plain file name b others span)
   test-stands s =
-      rw s.span (then-stands Operand (placed_call-stands Equals file _ span (tested-stands name s.value (by_name-stands ks))) (λ m n p. has-stands span p))
+      rw s.span (then-stands Operand (placed_call-stands Equals file _ span (tested-stands (by_name-stands ks) s.value name)) (λ m n p. has-stands span p))
 
   pub function-stands : Outcome (function_called_in marking file name given span) (function_called_in plain file name others span)
-  function-stands = then-stands Operand (placed-stands Stands file span (called-stands name (by_name-stands ks))) (λ v w k. at-stands span k)
+  function-stands = then-stands Operand (placed-stands Stands file span (called-stands (by_name-stands ks) name)) (λ v w k. at-stands span k)

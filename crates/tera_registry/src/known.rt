@@ -1,7 +1,7 @@
 // What code calls that is not there.
-ghost use Rattle.std.specs.Prelude.{◌≡◌, ℕ, map, option_and_then, slice_get};
+ghost use Rattle.std.specs.Prelude.{◌≡◌, ℕ, option_and_then, slice_get};
+ghost use Rattle.std.specs.List.{list_any};
 ghost use Rattle.tera_tree.specs.Tree.{Nodes};
-ghost use Rattle.tera_code.specs.Blocks.{block_of};
 ghost use Rattle.tera_code.specs.Called.{callee_of, called_by};
 ghost use Rattle.tera_code.specs.Code.{nodes_code};
 ghost use Rattle.tera_meaning.specs.Known.{is_known, has_unknown};
@@ -44,24 +44,26 @@ fn code_lacks(chunk: &Chunk) -> bool
 }
 
 /// Whether the body whose code this is calls a filter, a test or a function that is not there.
-#[tactic(auto, using(crate::proofs::Known::code_lacks_as_nodes))]
+#[tactic(auto, using(crate::proofs::Lacking::code_lacks_as_nodes))]
 pub fn lacks_a_callee(chunk: &Chunk) -> bool
     ensures { (nodes : Nodes) → chunk.now.code ≡ nodes_code nodes 0 → result ≡ has_unknown nodes }
 {
     code_lacks(chunk)
 }
 
+/// Whether the code of a block calls what is not there.
+fn any_block_lacks(blocks: &[Block]) -> bool
+    ensures { result ≡ list_any (λ b. code_lacks b.code.code) blocks.now }
+{
+    blocks.iter().any(|block| code_lacks(&block.code))
+}
+
 /// Whether the code of a body, or that of a block, calls what is not there.
 pub fn any_lacks(body: &Chunk, blocks: &[Block]) -> bool
-    ensures { result ≡ bodies_lack body.now (map block_of blocks.now) }
+    ensures { result ≡ bodies_lack body.now blocks.now }
 {
     if code_lacks(body) {
         return true;
     }
-    for block in blocks {
-        if code_lacks(&block.code) {
-            return true;
-        }
-    }
-    false
+    any_block_lacks(blocks)
 }

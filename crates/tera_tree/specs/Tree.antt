@@ -60,7 +60,7 @@ pub data Filters : Type 0 where
 -- where a fault in the text itself is reported: at the first filter. Where there is none, nothing is refused.
 abbrev pub first_span : Filters → Span
 first_span NoFilters = record { start = 0; end = 0 }
-first_span (MoreFilters name arguments span rest) = span
+first_span (MoreFilters name all span rest) = span
 
 mutual
   pub data Node : Type 0 where

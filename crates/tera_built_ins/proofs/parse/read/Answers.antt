@@ -1,4 +1,4 @@
-use Rattle.std.proofs.Common.{◌≡◌, ℕ, List, rules, ap, sym, ◌∙◌, Ok, Err, FitsSigned}
+use Rattle.std.proofs.Common.{◌≡◌, ℕ, List, rules, ap, sym, ◌∙◌, Err, FitsSigned}
 use Rattle.std.specs.Prelude.{Result}
 use Rattle.std.proofs.lemmas.Int.{to_z-of_z}
 use Rattle.tera_errors.specs.Fault.{Fault, message}
@@ -23,5 +23,5 @@ pub returns-in-Err : goal.returns-in-Err
 returns-in-Err c =
     let parsed : c.without_prefix-numeral.result.now ≡ numeral_in c.args.base c.args.text.now = c.without_prefix-numeral.ensures ∙ ap (λ (t : List ℕ). trimmed_start plain.code (prefix c.args.base) t) c.trim.ensures.trim in
     let meant : ◌≡◌ {A = Result Val Fault} (signed_numeral c.args.base (numeral_in c.args.base c.args.text.now)) (Err message)
-        = ap (λ (t : List ℕ). signed_numeral c.args.base t) (sym parsed) ∙ signed_numeral-refused c.args.base c.without_prefix-numeral.result.now c.in-Err.ensures.value in
+    = ap (λ (t : List ℕ). signed_numeral c.args.base t) (sym parsed) ∙ signed_numeral-refused c.args.base c.without_prefix-numeral.result.now c.in-Err.ensures.value in
     search (rules, meant)

@@ -5,13 +5,12 @@ use Rattle.tera_errors.specs.declared.span.Span.{Span}
 use Rattle.tera_errors.specs.Site as site
 use Rattle.tera_errors.specs.Fault.{Fault}
 use Rattle.tera_tree.specs.Tree.{Expr, Nothing, Boolean, Integer, Text, Name, Attribute, Index, Slice, Not, Negate, Binary, And, Or, Ternary, Array, Map, Comprehension, Super, Filter, Test, Call, Node, Content, Print, If, Set, Capture, FilterSection, For, Block, Break, Continue, Nodes, NoNodes, MoreNodes}
-use Rattle.tera_values.specs.Val as val
 use Rattle.tera_values.specs.Access.{truthy}
 use Rattle.tera_state.specs.Scope.{Turn, Heading, look, dump, assign}
 use Rattle.tera_operators.specs.Operand.{Evaluated}
 use Rattle.tera_meaning.specs.Here.{Here}
 use Rattle.tera_meaning.specs.Whole.{World, Place, here_at, whole}
-use Rattle.tera_meaning.specs.Run.{Run, Signal, On, Broke, Continued, ABlock, Oracle, Meaning, ◌▹◌, visit, reads, value_at, answered, writes, changes, onward, go_on}
+use Rattle.tera_meaning.specs.Run.{Run, ABlock, Oracle, ◌▹◌, visit, reads, value_at, answered, writes, changes, onward}
 use Rattle.tera_meaning.specs.Meaning.{output, written, turns_of, loop_or_else, node_meaning, nodes_meaning}
 use Rattle.tera_code.specs.declared.instruction.Instruction.{Instruction}
 use Rattle.tera_code.specs.declared.instruction.Instruction.TheVariants as instruction

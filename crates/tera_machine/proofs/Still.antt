@@ -1,5 +1,5 @@
 -- What an instruction does ends no block.
-use Rattle.std.proofs.Common.{◌≡◌, ℕ, Bool, true, false, List, [], ◌∷◌, Option, None, Some, Result, Ok, Err, refl, sym, ap, subst}
+use Rattle.std.proofs.Common.{◌≡◌, ℕ, Bool, true, false, List, [], ◌∷◌, Option, None, Some, Result, Ok, Err, refl, subst}
 use Rattle.std.specs.Prelude.{length}
 use Rattle.std.specs.List.{zip}
 use Rattle.tera_errors.specs.declared.span.Span.{Span}
@@ -14,7 +14,7 @@ use Rattle.tera_operators.specs.Calls.{filter_applied, test_applied, function_ca
 use Rattle.tera_code.specs.declared.instruction.Instruction.{Instruction}
 use Rattle.tera_code.specs.declared.instruction.Instruction.TheVariants.{WriteText, WriteTop, WriteName, LoadConst, LoadName, LoadAttribute, LoadItem, Slice, Not, Negate, Binary, MakeArray, MakeMap, Jump, PopJumpIfFalse, JumpIfFalseOrPop, JumpIfTrueOrPop, Store, LoadContext, StartLoop, NextTurn, EndLoop, Keep, EndComprehension, StartCapture, EndCapture, LeaveLoop, LeaveTurn, TakeBlock, TakeAbove, ApplyFilter, ApplyTest, CallFunction}
 use Rattle.tera_machine.specs.Config.{Config, Loop}
-use Rattle.tera_machine.specs.Flow.{Flow, Skip}
+use Rattle.tera_machine.specs.Flow.{Flow}
 use Rattle.tera_machine.specs.Did.{Did, Goes, Faults, Sticks, holding, outcome}
 use Rattle.tera_machine.specs.Act.{act, put_out, stored_in, top_written_in, on_one, on_two, on_four, topmost, made_of, called_on, branched, popped_branch_in, kept_if_falsy_in, kept_if_truthy_in, above_in}
 use Rattle.tera_machine.specs.Loops.{begun_over, begun_with, started_on, went_round, round_in, ended_in, kept_in, collected_in}

@@ -78,7 +78,8 @@ impl<'c> Configuration<'c> {
         span: Span,
     ) -> TeraResult<Flow<'f>>
         requires { IsReady (function_answered file.now name.now names.now span) self.old }
-        ensures { Does (function_answered file.now name.now names.now span) self.old result self.new }
+        ensures { Does (function_answered file.now name.now names.now span) self.old result
+            self.new }
     {
         let name = name.as_name().as_str();
         let names = names.as_slice();

@@ -18,7 +18,7 @@ use Rattle.tera_machine.specs.Config.{Config, config_of, starting}
 use Rattle.tera_machine.specs.Subject.{Subject, meant, meant_from, Means}
 use Rattle.tera_machine.specs.declared.configuration.Configuration.{Configuration}
 use Rattle.tera.specs.Rendering.{OneOff, allowed}
-use Rattle.tera_meaning.specs.Rendering.{has_a_block, one_off_text, render_str, render_str_in, one_off_name}
+use Rattle.tera_meaning.specs.Rendering.{has_a_block, text_of, one_off_text, render_str, render_str_in, one_off_name}
 use Rattle.tera_marks.specs.Origin.{Traces}
 use Rattle.tera_marks.proofs.Traced.{markup_is_traced}
 

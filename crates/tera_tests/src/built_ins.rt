@@ -45,7 +45,7 @@ const NUMBERS: &str = r#"
 {{ (-3) | abs }}{{ 3 | abs }} => 33
 {{ "a" | abs }} !! 3 12
 {{ (-170141183460469231731687303715884105727 - 1) | abs }} !! 3 55
-dog{{ 1 | pluralize }} dog{{ 2 | pluralize }} berr{{ -1 | pluralize(singular="y", plural="ies") }} => dog dogs berry
+dog{{ 1 | pluralize }} dog{{ 2 | pluralize }} berr{{ (-1) | pluralize(singular="y", plural="ies") }} => dog dogs berry
 {{ "a" | pluralize }} !! 3 18
 {{ hey | default(value=1) }}{{ none | default(value=1) }}|{{ "" | default(value=2, boolean=true) }} => 1|2
 {{ hey | default }} !! 3 16
@@ -119,7 +119,7 @@ const FUNCTIONS: &str = r#"
 "#;
 
 const CALLS: &str = r#"
-{{ name | trim(a=1 // 0, b=hey.b) }} !! 17 23
+{{ name | trim(a=1 // 0, b=hey.b) }} !! 22 23
 {{ name | trim(b=hey.b, a=1 // 0) }} !! 31 32
 {{ name | nope }} !! message
 {{ name is nope }} !! message

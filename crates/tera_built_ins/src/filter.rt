@@ -6,7 +6,10 @@ ghost use Rattle.tera_built_ins.specs.Escaping.{escaping_of};
 ghost use Rattle.tera_built_ins.specs.Filters.{filter_named, filter_of};
 
 use crate::escaping::Escaping;
-use crate::{defaults, groups, indent, items, join, maps, markup, numbers, parse, replace, safety, sizes, sorting, split, trims, truncate, words};
+use crate::{
+    defaults, groups, indent, items, join, maps, markup, numbers, parse, replace, safety, sizes,
+    sorting, split, trims, truncate, words,
+};
 use std::alloc::Global;
 use tera_values::{Kwargs, TeraResult, Value};
 

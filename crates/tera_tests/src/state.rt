@@ -1,6 +1,6 @@
 //! What objects of the caller are lent of a rendering.
 use std::alloc::Global;
-use tera::{Context, ErrorKind, State, Value};
+use tera::{Context, ErrorKind, Kwargs, State, Value};
 
 /// A name, and the text that it stands for, if any.
 #[derive(Clone, Copy)]
@@ -114,7 +114,11 @@ fn values_are_written(rt: HostRuntime) {
 
 fn replaces(alloc: Global, state: &State<'_>) -> bool {
     let mut arguments = Kwargs::new(alloc);
-    match (Value::string(alloc, "a<b"), Value::string(alloc, "<"), Value::safe_string(alloc, "<br>")) {
+    match (
+        Value::string(alloc, "a<b"),
+        Value::string(alloc, "<"),
+        Value::safe_string(alloc, "<br>"),
+    ) {
         (Ok(value), Ok(from), Ok(to)) => {
             arguments.insert("from", from).is_ok()
                 && arguments.insert("to", to).is_ok()

@@ -18,7 +18,7 @@ use Rattle.tera_machine.specs.Config.{Config, config_of, starting}
 use Rattle.tera_machine.specs.Subject.{Subject, meant, meant_from, Means}
 use Rattle.tera_machine.specs.declared.configuration.Configuration.{Configuration}
 use Rattle.tera.specs.Rendering.{OneOff, allowed}
-use Rattle.tera_meaning.specs.Rendering.{has_a_block, text_of, one_off_meaning, render_str, render_str_in, one_off_name}
+use Rattle.tera_meaning.specs.Rendering.{has_a_block, text_of, one_off_text, render_str, render_str_in, one_off_name}
 use Rattle.tera_marks.specs.Origin.{Traces}
 use Rattle.tera_marks.proofs.Traced.{markup_is_traced}
 
@@ -98,10 +98,10 @@ module _ (r : Registry) (by_html : r.engine.escape ≡ escape_html) (text : Text
   pub refused-tree : {X : Type 0} (view : X → Text) (autoescape : Bool) (tree : Tree) (e : Refusal) → Reads one_off_name r.delimiters text (Ok tree) → Says e (allowed tree)
       → GivesOneOf view (Err e) (OneOff r text context autoescape)
   refused-tree view autoescape tree e h says =
-      answered view autoescape tree (Err e) h (barred-says (is_some tree.parent || has_a_block tree.nodes) e (text_of (one_off_meaning r tree context autoescape)) says)
+      answered view autoescape tree (Err e) h (barred-says (is_some tree.parent || has_a_block tree.nodes) e (one_off_text r tree context autoescape) says)
 
   -- any other is rendered
   pub rendered : {X : Type 0} (view : X → Text) (autoescape : Bool) (tree : Tree) (result : Result X Refusal) → Reads one_off_name r.delimiters text (Ok tree) → allowed tree ≡ Ok tt
-      → Gives view result (text_of (one_off_meaning r tree context autoescape)) → GivesOneOf view result (OneOff r text context autoescape)
+      → Gives view result (one_off_text r tree context autoescape) → GivesOneOf view result (OneOff r text context autoescape)
   rendered view autoescape tree result h allows g =
-      answered view autoescape tree result h (free-gives view result (is_some tree.parent || has_a_block tree.nodes) (text_of (one_off_meaning r tree context autoescape)) allows g)
+      answered view autoescape tree result h (free-gives view result (is_some tree.parent || has_a_block tree.nodes) (one_off_text r tree context autoescape) allows g)

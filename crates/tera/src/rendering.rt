@@ -14,18 +14,18 @@ use std::marker::Brand;
 use std::sync::ledger::{Blank, Ledger};
 use tera_code::{Chunk, Steps, compiled};
 use tera_machine::{Configuration, VirtualMachine};
-use tera_registry::Found;
 use tera_registry::tops::top_blocks;
+use tera_registry::{Found, lacks_a_callee};
 use tera_state::Scopes;
 use tera_syntax::parse;
 use tera_tree::{Node, ParserOutput};
-use tera_values::{Context, Error, TeraResult};
+use tera_values::{Context, Error, Name, TeraResult};
 
 /// The name that faults give to a text that is no template of the engine.
 const ONE_OFF: &str = "__tera_one_off";
 
 impl Tera {
-    ghost use Rattle.tera.specs.Registry.{registry_of, nodes_of_file, subject_of, subject_of_file, text_meant};
+    ghost use Rattle.tera.specs.Registry.{registry_of, nodes_of_file, subject_of, subject_of_file, text_meant, one_off_meant, block_meant};
 
     pub(crate) fn read_and_render(
         &self,
@@ -49,7 +49,8 @@ impl Tera {
         }
     }
 
-    // The text of these nodes, which stand beside the registry. The subject is theirs.
+    // The text of these nodes, which stand beside the registry; a refusal where they call what is not there. The subject is
+    // theirs.
     fn render_nodes<L: Ledger>(
         &self,
         nodes: &[Node],
@@ -60,9 +61,12 @@ impl Tera {
         ghost about: { Subject }
         requires ledger { (blank.name ≡ L.name) × (blank.parts ≡ L.parts) × (L.parts ≡ 1) }
         requires subject { about ≡ subject_of self.now None one_off_name (nodes_of nodes.now) context.now autoescape }
-        ensures { Gives string_bytes result (text_meant about) }
+        ensures { Gives string_bytes result (one_off_meant about) }
     {
         let chunk = compiled(self.alloc, ONE_OFF, nodes)?;
+        if lacks_a_callee(&chunk) {
+            return Err(Error::message(self.alloc, "what is called is not there"));
+        }
         let machine = VirtualMachine::new_with_autoescape(self.alloc, autoescape);
         self.run_body::<L>(&machine, &chunk, context, blank)
     }
@@ -80,6 +84,49 @@ impl Tera {
     {
         let machine = VirtualMachine::for_template(self.alloc, autoescape, found);
         self.run_body::<Brand>(&machine, found.chunk, context, Blank::new(1))
+    }
+
+    // The text that a block of a template had when it ended last, while all of the template was rendered.
+    pub(crate) fn render_found_block(
+        &self,
+        found: Found<'_>,
+        block: &Name,
+        context: &Context,
+        autoescape: bool,
+    ) -> TeraResult<String>
+        requires linked { with_templates (registry_of self.now) found.templates.now
+            ≡ registry_of self.now }
+        requires code { found.chunk.now.code
+            ≡ nodes_code (nodes_of_file (registry_of self.now) found.chunk.now.file) 0 }
+        ensures { Gives string_bytes result
+            (block_meant block.now (subject_of_file self.now found.entry.name.now
+            found.entry.chunk.now.file context.now autoescape)) }
+    {
+        let machine = VirtualMachine::for_template(self.alloc, autoescape, found);
+        self.run_for_block::<Brand>(&machine, found.chunk, block, context, Blank::new(1))
+    }
+
+    // The text that a block had when it ended last, while a body was run. The subject is the body's.
+    fn run_for_block<L: Ledger>(
+        &self,
+        machine: &VirtualMachine<'_>,
+        chunk: &Chunk,
+        block: &Name,
+        context: &Context,
+        blank: Blank,
+    ) -> TeraResult<String>
+        ghost about: { Subject }
+        requires ledger { (blank.name ≡ L.name) × (blank.parts ≡ L.parts) × (L.parts ≡ 1) }
+        requires linked { IsLinked machine.now (registry_of self.now) }
+        requires subject { about ≡ subject_of self.now (template_of machine.now) chunk.now.file
+            about.tree context.now machine.now.autoescape }
+        requires code { chunk.now.code ≡ nodes_code about.tree 0 }
+        ensures { Gives string_bytes result (block_meant block.now about) }
+    {
+        let scopes = Scopes::new(self.alloc, context, Some(&self.global_context));
+        let mut configuration = Configuration::new(self.alloc, scopes);
+        let mut steps = Steps::<L>::new(blank);
+        machine.run_for_block::<L>(chunk, block, &mut configuration, &mut steps)
     }
 
     // The text of a body. The subject is the body's: it tells the machine what it means.

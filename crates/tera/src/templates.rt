@@ -4,12 +4,12 @@ ghost use Rattle.tera_errors.specs.Answer.{Gives, GivesOneOf};
 ghost use Rattle.tera_meaning.specs.Rendering.{autoescapes};
 ghost use Rattle.tera_meaning.specs.Resolve.{resolve};
 ghost use Rattle.tera_registry.specs.Batch.{Adds, ConfiguresOneOf, pairs_of};
-ghost use Rattle.tera.specs.Rendering.{ByName, AppendsOneOf};
+ghost use Rattle.tera.specs.Rendering.{ByName, BlockByName, AppendsOneOf};
 
 use crate::engine::Tera;
 use crate::texts::ends_with_one_of;
 use tera_registry::Found;
-use tera_values::{Context, Error, TeraResult};
+use tera_values::{Context, Error, Name, TeraResult};
 
 impl Tera {
     ghost use Rattle.tera.specs.Registry.{registry_of};
@@ -68,6 +68,41 @@ impl Tera {
         ensures { AppendsOneOf result out.old.items out.new.items (ByName (registry_of self.now) name.now context.now) }
     {
         let text = self.render(name, context)?;
+        out.extend_from_slice(text.as_bytes())?;
+        Ok(())
+    }
+
+    /// Renders all of the template to which the name resolves, and answers the text that the block of this name had when it
+    /// ended last, or the empty text where it was not put out. A block that neither the template nor its parents have is
+    /// refused with `Message`.
+    pub fn render_block(&self, name: &str, block: &str, context: &Context) -> TeraResult<String>
+        ensures { GivesOneOf string_bytes result
+            (BlockByName (registry_of self.now) name.now block.now context.now) }
+    {
+        match self.templates.find(name) {
+            Some(found) => match found.definers(block).next() {
+                Some(_) => {
+                    let wanted = Name::new(self.alloc, block)?;
+                    self.render_found_block(found, &wanted, context, self.escapes(found))
+                }
+                None => Err(Error::message(self.alloc, "no template has this block")),
+            },
+            None => Err(Error::template_not_found()),
+        }
+    }
+
+    /// Appends what `render_block` answers. After a refusal the vector is as before.
+    pub fn render_block_to(
+        &self,
+        name: &str,
+        block: &str,
+        context: &Context,
+        out: &mut Vec<u8>,
+    ) -> TeraResult<()>
+        ensures { AppendsOneOf result out.old.items out.new.items
+            (BlockByName (registry_of self.now) name.now block.now context.now) }
+    {
+        let text = self.render_block(name, block, context)?;
         out.extend_from_slice(text.as_bytes())?;
         Ok(())
     }

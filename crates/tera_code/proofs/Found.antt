@@ -6,11 +6,12 @@ use Rattle.tera_errors.specs.declared.span.Span.{Span}
 use Rattle.tera_tree.specs.declared.expression.Heading.{Heading}
 use Rattle.tera_tree.specs.declared.expression.Expression.{Expression}
 use Rattle.tera_tree.specs.declared.node.Node.{Node}
+use Rattle.tera_tree.specs.declared.node.SectionFilter.{SectionFilter}
 use Rattle.tera_tree.specs.declared.node.Node.TheVariants as variant
 use Rattle.tera_tree.specs.Tree.{Nodes}
 use Rattle.tera_tree.specs.View.{node_of, nodes_of}
 use Rattle.tera_tree.specs.Blocks.{blocks, node_blocks}
-use Rattle.tera_tree.proofs.Views.{view_if, view_capture, view_for, view_block}
+use Rattle.tera_tree.proofs.Views.{view_if, view_capture, view_section, view_for, view_block}
 use Rattle.tera_code.specs.declared.blocks.Block.{Block}
 use Rattle.tera_code.specs.Listing.{Listing}
 use Rattle.tera_code.specs.Blocks.{block_of, block_listing, block_listings}
@@ -58,10 +59,16 @@ blocks_for node heading body other xs ys is a b =
     ∙ ap node_blocks (sym (view_for heading body other))
     ∙ ap (λ n. node_blocks (node_of n)) (sym is)
 
-pub blocks_capture : (node : Node) (name : Bor (List ℕ)) (body : Vec Node Global) (is_global : Bool) (xs : List Node) → node ≡ variant.Capture name body is_global → xs ≡ body.items → blocks (nodes_of xs) ≡ node_blocks (node_of node)
-blocks_capture node name body is_global xs is a =
+pub blocks_capture : (node : Node) (name : Bor (List ℕ)) (filters : Vec SectionFilter Global) (body : Vec Node Global) (is_global : Bool) (xs : List Node) → node ≡ variant.Capture name filters body is_global → xs ≡ body.items → blocks (nodes_of xs) ≡ node_blocks (node_of node)
+blocks_capture node name filters body is_global xs is a =
     ap (λ x. blocks (nodes_of x)) a
-    ∙ ap node_blocks (sym (view_capture name body is_global))
+    ∙ ap node_blocks (sym (view_capture name filters body is_global))
+    ∙ ap (λ n. node_blocks (node_of n)) (sym is)
+
+pub blocks_section : (node : Node) (filters : Vec SectionFilter Global) (body : Vec Node Global) (xs : List Node) → node ≡ variant.FilterSection filters body → xs ≡ body.items → blocks (nodes_of xs) ≡ node_blocks (node_of node)
+blocks_section node filters body xs is a =
+    ap (λ x. blocks (nodes_of x)) a
+    ∙ ap node_blocks (sym (view_section filters body))
     ∙ ap (λ n. node_blocks (node_of n)) (sym is)
 
 pub blocks_block : (node : Node) (name : Bor (List ℕ)) (body : Vec Node Global) (span : Span) (xs : List Node) → node ≡ variant.Block name body span → xs ≡ body.items → (name.now, nodes_of xs) ∷ blocks (nodes_of xs) ≡ node_blocks (node_of node)

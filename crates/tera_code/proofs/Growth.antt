@@ -18,7 +18,7 @@ use Rattle.tera_code.specs.declared.instruction.Instruction.TheVariants as instr
 use Rattle.tera_code.specs.declared.packed.Packed.{Packed}
 use Rattle.tera_code.specs.declared.packed.Packed.TheVariants as packed
 use Rattle.tera_code.specs.declared.packed.LoopNames.{LoopNames}
-use Rattle.tera_code.specs.Packed.{Shelf, Longer, Grows, Packs, Within, unpacked, span_at, name_at}
+use Rattle.tera_code.specs.Packed.{Shelf, Longer, Grows, Packs, Within, unpacked, span_at, name_at, call_at}
 use Rattle.tera_code.specs.Listing.{Listing}
 use Rattle.tera_code.specs.Code.{lengthened}
 use Rattle.tera_code.specs.Places.{filled}
@@ -89,6 +89,12 @@ module _ (s t : Shelf) (u : IsUtf8 s.pool) (v : IsUtf8 t.pool) (g : Grows s t) w
   name_same : (n : ℕ) → n < length s.names → name_at t n ≡ name_at s n
   name_same n l = at_longer s.names t.names n _ g.1.0 l
 
+  below_call : (n : ℕ) → n < length s.calls → n < length t.calls
+  below_call n l = below_longer s.calls t.calls n g.1.1.1.1.1.1.1 l
+
+  call_same : (n : ℕ) → n < length s.calls → call_at t n ≡ call_at s n
+  call_same n l = at_longer s.calls t.calls n _ g.1.1.1.1.1.1.1 l
+
   within_stays : (p : Packed) → Within s p → Within t p
   within_stays (packed.WriteText start end) w = (w.0, (boundary_longer s.pool t.pool start u v g.0 w.1.0, boundary_longer s.pool t.pool end u v g.0 w.1.1))
   within_stays packed.WriteTop w = tt
@@ -109,13 +115,13 @@ module _ (s t : Shelf) (u : IsUtf8 s.pool) (v : IsUtf8 t.pool) (g : Grows s t) w
   within_stays (packed.MakeArray spreads span) w = (below_longer s.spreads t.spreads spreads g.1.1.1.0 w.0, below_span span w.1)
   within_stays (packed.MakeMap keys span) w = (below_longer s.keys t.keys keys g.1.1.1.1.0 w.0, below_span span w.1)
   within_stays (packed.Store name is_global) w = below_name name w
-  within_stays (packed.StartLoop counts names size) w = below_longer s.loops t.loops names g.1.1.1.1.1.1 w
+  within_stays (packed.StartLoop counts names size) w = below_longer s.loops t.loops names g.1.1.1.1.1.1.0 w
   within_stays packed.NextTurn w = tt
   within_stays (packed.EndLoop skip) w = tt
   within_stays packed.Keep w = tt
   within_stays (packed.EndComprehension span) w = below_span span w
   within_stays packed.StartCapture w = tt
-  within_stays packed.EndCapture w = tt
+  within_stays (packed.EndCapture span) w = below_span span w
   within_stays (packed.LeaveLoop drops) w = tt
   within_stays (packed.LeaveTurn drops) w = tt
   within_stays (packed.Jump skip) w = tt
@@ -124,6 +130,9 @@ module _ (s t : Shelf) (u : IsUtf8 s.pool) (v : IsUtf8 t.pool) (g : Grows s t) w
   within_stays (packed.JumpIfTrueOrPop skip) w = tt
   within_stays (packed.TakeBlock name span) w = (below_name name w.0, below_span span w.1)
   within_stays (packed.TakeAbove span arguments) w = below_span span w
+  within_stays (packed.ApplyFilter call span) w = (below_call call w.0, below_span span w.1)
+  within_stays (packed.ApplyTest call span) w = (below_call call w.0, below_span span w.1)
+  within_stays (packed.CallFunction call span) w = (below_call call w.0, below_span span w.1)
 
   unpacked_stays : (p : Packed) → Within s p → unpacked t p ≡ unpacked s p
   unpacked_stays (packed.WriteText start end) w = ap (λ x. instruction.WriteText x) (slice_longer s.pool t.pool start end g.0 w.0 w.1.1.0)
@@ -145,13 +154,13 @@ module _ (s t : Shelf) (u : IsUtf8 s.pool) (v : IsUtf8 t.pool) (g : Grows s t) w
   unpacked_stays (packed.MakeMap keys span) w = ap₂ (λ x y. instruction.MakeMap x y) (at_longer s.keys t.keys keys _ g.1.1.1.1.0 w.0) (span_same span w.1)
   unpacked_stays (packed.Store name is_global) w = ap (λ x. instruction.Store x is_global) (name_same name w)
   unpacked_stays (packed.StartLoop counts names size) w =
-      ap (λ (n : LoopNames). instruction.StartLoop n.key n.name counts size) (at_longer s.loops t.loops names _ g.1.1.1.1.1.1 w)
+      ap (λ (n : LoopNames). instruction.StartLoop n.key n.name counts size) (at_longer s.loops t.loops names _ g.1.1.1.1.1.1.0 w)
   unpacked_stays packed.NextTurn w = refl
   unpacked_stays (packed.EndLoop skip) w = refl
   unpacked_stays packed.Keep w = refl
   unpacked_stays (packed.EndComprehension span) w = ap (λ y. instruction.EndComprehension y) (span_same span w)
   unpacked_stays packed.StartCapture w = refl
-  unpacked_stays packed.EndCapture w = refl
+  unpacked_stays (packed.EndCapture span) w = ap (λ y. instruction.EndCapture y) (span_same span w)
   unpacked_stays (packed.LeaveLoop drops) w = refl
   unpacked_stays (packed.LeaveTurn drops) w = refl
   unpacked_stays (packed.Jump skip) w = refl
@@ -160,6 +169,9 @@ module _ (s t : Shelf) (u : IsUtf8 s.pool) (v : IsUtf8 t.pool) (g : Grows s t) w
   unpacked_stays (packed.JumpIfTrueOrPop skip) w = refl
   unpacked_stays (packed.TakeBlock name span) w = ap₂ (λ x y. instruction.TakeBlock x y) (name_same name w.0) (span_same span w.1)
   unpacked_stays (packed.TakeAbove span arguments) w = ap (λ y. instruction.TakeAbove arguments y) (span_same span w)
+  unpacked_stays (packed.ApplyFilter call span) w = ap₂ (λ (x : Text × List Text) y. instruction.ApplyFilter x.0 x.1 y) (call_same call w.0) (span_same span w.1)
+  unpacked_stays (packed.ApplyTest call span) w = ap₂ (λ (x : Text × List Text) y. instruction.ApplyTest x.0 x.1 y) (call_same call w.0) (span_same span w.1)
+  unpacked_stays (packed.CallFunction call span) w = ap₂ (λ (x : Text × List Text) y. instruction.CallFunction x.0 x.1 y) (call_same call w.0) (span_same span w.1)
 
   pub all_stay : (ps : List Packed) → All (Within s) ps → All (Within t) ps
   all_stay [] h = All-nil (Within t)

@@ -1,3 +1,4 @@
+pub mod Callees
 pub mod Filled
 pub mod Found
 pub mod Growth

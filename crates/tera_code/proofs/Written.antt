@@ -1,5 +1,5 @@
 -- Forms whose parts stand in a Vec.
-use Rattle.std.proofs.Common.{◌≡◌, ℕ, suc, ◌≤◌, drop, Bool, false, Bor, length, List, [], ◌∷◌, ◌++◌, Vec, Box, Global, Result, Ok, Err, OnOk, Option, None, Some, refl, sym, ap, ap₂, ◌∙◌, append_assoc}
+use Rattle.std.proofs.Common.{◌≡◌, ℕ, suc, Bool, false, Bor, length, List, [], ◌∷◌, ◌++◌, Vec, Box, Global, Result, Ok, Err, OnOk, Option, None, Some, refl, sym, ap, ap₂, ◌∙◌, append_assoc}
 use Rattle.tera_errors.specs.declared.span.Span.{Span}
 use Rattle.tera_errors.specs.Fault.{Fault}
 use Rattle.tera_errors.specs.Answer.{Refusal}
@@ -11,16 +11,18 @@ use Rattle.tera_tree.specs.declared.expression.Heading.{Heading}
 use Rattle.tera_tree.specs.declared.expression.Expression.{Expression}
 use Rattle.tera_tree.specs.declared.expression.Expression.TheVariants as expression
 use Rattle.tera_tree.specs.declared.node.Node.{Node}
+use Rattle.tera_tree.specs.declared.node.SectionFilter.{SectionFilter}
 use Rattle.tera_tree.specs.declared.node.Node.TheVariants as variant
-use Rattle.tera_tree.specs.Tree.{Key, If, Capture, Super}
-use Rattle.tera_tree.specs.View.{key_option, literal_option, comprehension_of, optional_of, expr_of, items_of, entries_of, arguments_of, node_of, nodes_of, for_of}
-use Rattle.tera_tree.proofs.Views.{view_array, view_map, view_super, view_if, view_capture, view_for}
+use Rattle.tera_tree.specs.Tree.{Key, Arguments, If}
+use Rattle.tera_tree.specs.View.{key_option, literal_option, comprehension_of, optional_of, expr_of, items_of, entries_of, arguments_of, filters_of, node_of, nodes_of, for_of}
+use Rattle.tera_tree.proofs.Views.{view_array, view_map, view_super, view_filter, view_test, view_call, view_if, view_capture, view_section, view_for}
+use Rattle.tera_code.specs.declared.instruction.Instruction.{Instruction}
 use Rattle.tera_code.specs.declared.instruction.Instruction.TheVariants as instruction
 use Rattle.tera_code.specs.Listing.{Listing}
 use Rattle.tera_tree.specs.View.{keys_of}
-use Rattle.tera_code.specs.Code.{expr_code, items_code, entries_code, arguments_code, arguments_length, node_code, turn_code, spreads_of, keys_in, lengthened}
+use Rattle.tera_code.specs.Code.{expr_code, items_code, entries_code, arguments_code, arguments_length, argument_names, section_code, node_code, nodes_code, turn_code, spreads_of, keys_in, lengthened}
 use Rattle.tera_code.specs.Places.{filled, behind, looped}
-use Rattle.tera_code.proofs.Lengthened.{lengthened-lengthened, all_written, drop-past}
+use Rattle.tera_code.proofs.Lengthened.{lengthened-lengthened}
 use Rattle.tera_code.proofs.Filled.{keep_written, comprehension_written}
 
 pub length_keys : (ks : List (Option OwnedKey)) → length (keys_of ks) ≡ length ks
@@ -74,23 +76,53 @@ arguments_counted : (xs : List Argument) → length xs ≡ arguments_length (arg
 arguments_counted [] = refl
 arguments_counted (x ∷ xs) = ap (λ n. suc n) (arguments_counted xs)
 
--- all arguments are written, and the text above is asked for behind them
-pub above_written : (l m n : Listing) (xs : List Argument) (i : ℕ) (span : Span) (r : Result (Unit {0}) Refusal) → length xs ≤ i → lengthened m (arguments_code (arguments_of (drop i xs))) ≡ lengthened l (arguments_code (arguments_of xs))
-    → OnOk r (n ≡ lengthened m (instruction.TakeAbove (length xs) span ∷ [])) → OnOk r (n ≡ lengthened l (expr_code (Super (arguments_of xs) span)))
-above_written l m n xs i span r past is h =
-    let all = all_written m _ _ (ap (λ x. arguments_code (arguments_of x)) (drop-past xs i past)) is in
-    on_ok_by r n _ _ (ap₂ (λ k count. lengthened k (instruction.TakeAbove count span ∷ [])) all (arguments_counted xs)
-    ∙ lengthened-lengthened l (arguments_code (arguments_of xs)) (instruction.TakeAbove (arguments_length (arguments_of xs)) span ∷ [])) h
-
-pub super_written : (l m : Listing) (e : Expression) (arguments : Vec Argument Global) (span : Span) (xs : List Argument) (r : Result (Unit {0}) Refusal) → e ≡ expression.Super arguments span → xs ≡ arguments.items
-    → OnOk r (m ≡ lengthened l (expr_code (Super (arguments_of xs) span))) → OnOk r (m ≡ lengthened l (expr_code (expr_of e)))
-super_written l m e arguments span xs r is a h =
-    on_ok_by r m _ _ (ap (λ x. lengthened l (expr_code (Super (arguments_of x) span))) a
-    ∙ ap (λ t. lengthened l (expr_code t)) (sym (view_super arguments span))
-    ∙ ap (λ t. lengthened l (expr_code (expr_of t))) (sym is)) h
-
 pub boxed_written : (l m : Listing) (x y : Expression) → m ≡ lengthened l (expr_code (expr_of x)) → x ≡ y → m ≡ lengthened l (expr_code (expr_of y))
 boxed_written l m x y h e = h ∙ ap (λ e. lengthened l (expr_code (expr_of e))) e
+
+-- arguments are written, and what takes them
+pub super_written : (l m n : Listing) (e : Expression) (arguments : Vec Argument Global) (span : Span) (xs ys : List Argument) (count : ℕ) (r : Result (Unit {0}) Refusal) → e ≡ expression.Super arguments span → xs ≡ arguments.items → ys ≡ arguments.items → count ≡ length ys
+    → m ≡ lengthened l (arguments_code (arguments_of xs)) → OnOk r (n ≡ lengthened m (instruction.TakeAbove count span ∷ [])) → OnOk r (n ≡ lengthened l (expr_code (expr_of e)))
+super_written l m n e arguments span xs ys count r is a b long h =
+    let args = arguments_of arguments.items in
+    on_ok_by r n _ _ (ap₂ (λ k size. lengthened k (instruction.TakeAbove size span ∷ [])) (h ∙ ap (λ x. lengthened l (arguments_code (arguments_of x))) a) (long ∙ ap length b ∙ arguments_counted arguments.items)
+    ∙ lengthened-lengthened l (arguments_code args) (instruction.TakeAbove (arguments_length args) span ∷ [])
+    ∙ ap (λ t. lengthened l (expr_code t)) (sym (view_super arguments span))
+    ∙ ap (λ t. lengthened l (expr_code (expr_of t))) (sym is))
+
+-- a value, arguments and what takes both
+applied : (l m n : Listing) (value : Expression) (xs : List Argument) (take : Arguments → Instruction) → m ≡ lengthened l (expr_code (expr_of value)) → n ≡ lengthened m (arguments_code (arguments_of xs))
+    → lengthened n (take (arguments_of xs) ∷ []) ≡ lengthened l (expr_code (expr_of value) ++ (arguments_code (arguments_of xs) ++ take (arguments_of xs) ∷ []))
+applied l m n value xs take g h =
+    let last = take (arguments_of xs) ∷ [] in
+    ap (λ k. lengthened k last) h
+    ∙ lengthened-lengthened m (arguments_code (arguments_of xs)) last
+    ∙ ap (λ k. lengthened k (arguments_code (arguments_of xs) ++ last)) g
+    ∙ lengthened-lengthened l (expr_code (expr_of value)) (arguments_code (arguments_of xs) ++ last)
+
+pub filter_written : (l m n o : Listing) (e x : Expression) (value : Box Expression Global) (name : Bor (List ℕ)) (arguments : Vec Argument Global) (span : Span) (xs ys : List Argument) (r : Result (Unit {0}) Refusal) → e ≡ expression.Filter value name arguments span → m ≡ lengthened l (expr_code (expr_of x)) → x ≡ value.value → xs ≡ arguments.items → ys ≡ arguments.items
+    → n ≡ lengthened m (arguments_code (arguments_of xs)) → OnOk r (o ≡ lengthened n (instruction.ApplyFilter name.now (argument_names (arguments_of ys)) span ∷ [])) → OnOk r (o ≡ lengthened l (expr_code (expr_of e)))
+filter_written l m n o e x value name arguments span xs ys r is g v a b h =
+    on_ok_by r o _ _ (ap (λ y. lengthened n (instruction.ApplyFilter name.now (argument_names (arguments_of y)) span ∷ [])) b
+    ∙ applied l m n value.value arguments.items (λ all. instruction.ApplyFilter name.now (argument_names all) span) (boxed_written l m x value.value g v) (h ∙ ap (λ y. lengthened m (arguments_code (arguments_of y))) a)
+    ∙ ap (λ t. lengthened l (expr_code t)) (sym (view_filter value name arguments span))
+    ∙ ap (λ t. lengthened l (expr_code (expr_of t))) (sym is))
+
+pub test_written : (l m n o : Listing) (e x : Expression) (value : Box Expression Global) (name : Bor (List ℕ)) (arguments : Vec Argument Global) (span : Span) (xs ys : List Argument) (r : Result (Unit {0}) Refusal) → e ≡ expression.Test value name arguments span → m ≡ lengthened l (expr_code (expr_of x)) → x ≡ value.value → xs ≡ arguments.items → ys ≡ arguments.items
+    → n ≡ lengthened m (arguments_code (arguments_of xs)) → OnOk r (o ≡ lengthened n (instruction.ApplyTest name.now (argument_names (arguments_of ys)) span ∷ [])) → OnOk r (o ≡ lengthened l (expr_code (expr_of e)))
+test_written l m n o e x value name arguments span xs ys r is g v a b h =
+    on_ok_by r o _ _ (ap (λ y. lengthened n (instruction.ApplyTest name.now (argument_names (arguments_of y)) span ∷ [])) b
+    ∙ applied l m n value.value arguments.items (λ all. instruction.ApplyTest name.now (argument_names all) span) (boxed_written l m x value.value g v) (h ∙ ap (λ y. lengthened m (arguments_code (arguments_of y))) a)
+    ∙ ap (λ t. lengthened l (expr_code t)) (sym (view_test value name arguments span))
+    ∙ ap (λ t. lengthened l (expr_code (expr_of t))) (sym is))
+
+pub call_written : (l m n : Listing) (e : Expression) (name : Bor (List ℕ)) (arguments : Vec Argument Global) (span : Span) (xs ys : List Argument) (r : Result (Unit {0}) Refusal) → e ≡ expression.Call name arguments span → xs ≡ arguments.items → ys ≡ arguments.items
+    → m ≡ lengthened l (arguments_code (arguments_of xs)) → OnOk r (n ≡ lengthened m (instruction.CallFunction name.now (argument_names (arguments_of ys)) span ∷ [])) → OnOk r (n ≡ lengthened l (expr_code (expr_of e)))
+call_written l m n e name arguments span xs ys r is a b h =
+    let call = λ (y : List Argument). instruction.CallFunction name.now (argument_names (arguments_of y)) span ∷ [] in
+    on_ok_by r n _ _ (ap₂ (λ k y. lengthened k (call y)) (h ∙ ap (λ x. lengthened l (arguments_code (arguments_of x))) a) b
+    ∙ lengthened-lengthened l (arguments_code (arguments_of arguments.items)) (call arguments.items)
+    ∙ ap (λ t. lengthened l (expr_code t)) (sym (view_call name arguments span))
+    ∙ ap (λ t. lengthened l (expr_code (expr_of t))) (sym is))
 
 pub if_written : (l m : Listing) (node : Node) (drops : ℕ) (condition : Box Expression Global) (body other : Vec Node Global) (e : Expression) (xs ys : List Node) (r : Result (Unit {0}) Refusal) → node ≡ variant.If condition body other → e ≡ condition.value → xs ≡ body.items → ys ≡ other.items
     → OnOk r (m ≡ lengthened l (node_code (If (expr_of e) (nodes_of xs) (nodes_of ys)) drops)) → OnOk r (m ≡ lengthened l (node_code (node_of node) drops))
@@ -108,12 +140,25 @@ for_written l m node drops heading body other h xs ys r is c a b w =
     ∙ ap (λ t. lengthened l (node_code t drops)) (sym (view_for heading body other))
     ∙ ap (λ t. lengthened l (node_code (node_of t) drops)) (sym is)) w
 
-pub capture_written : (l m : Listing) (node : Node) (drops : ℕ) (name : Bor (List ℕ)) (body : Vec Node Global) (is_global : Bool) (xs : List Node) (r : Result (Unit {0}) Refusal) → node ≡ variant.Capture name body is_global → xs ≡ body.items
-    → OnOk r (m ≡ lengthened l (node_code (Capture name.now (nodes_of xs) is_global) drops)) → OnOk r (m ≡ lengthened l (node_code (node_of node) drops))
-capture_written l m node drops name body is_global xs r is a h =
-    on_ok_by r m _ _ (ap (λ x. lengthened l (node_code (Capture name.now (nodes_of x) is_global) drops)) a
-    ∙ ap (λ t. lengthened l (node_code t drops)) (sym (view_capture name body is_global))
-    ∙ ap (λ t. lengthened l (node_code (node_of t) drops)) (sym is)) h
+-- the text of a section is written, and what takes it
+pub capture_written : (l m n : Listing) (node : Node) (drops : ℕ) (name : Bor (List ℕ)) (filters : Vec SectionFilter Global) (body : Vec Node Global) (is_global : Bool) (fs : List SectionFilter) (xs : List Node) (r : Result (Unit {0}) Refusal) → node ≡ variant.Capture name filters body is_global → fs ≡ filters.items → xs ≡ body.items
+    → m ≡ lengthened l (section_code (filters_of fs) (nodes_code (nodes_of xs) (suc drops))) → OnOk r (n ≡ lengthened m (instruction.Store name.now is_global ∷ [])) → OnOk r (n ≡ lengthened l (node_code (node_of node) drops))
+capture_written l m n node drops name filters body is_global fs xs r is a b h =
+    let section = λ (y : List SectionFilter) (z : List Node). section_code (filters_of y) (nodes_code (nodes_of z) (suc drops)) in
+    let store = instruction.Store name.now is_global ∷ [] in
+    on_ok_by r n _ _ (ap (λ k. lengthened k store) (h ∙ ap₂ (λ y z. lengthened l (section y z)) a b)
+    ∙ lengthened-lengthened l (section filters.items body.items) store
+    ∙ ap (λ t. lengthened l (node_code t drops)) (sym (view_capture name filters body is_global))
+    ∙ ap (λ t. lengthened l (node_code (node_of t) drops)) (sym is))
+
+pub section_written : (l m n : Listing) (node : Node) (drops : ℕ) (filters : Vec SectionFilter Global) (body : Vec Node Global) (fs : List SectionFilter) (xs : List Node) (r : Result (Unit {0}) Refusal) → node ≡ variant.FilterSection filters body → fs ≡ filters.items → xs ≡ body.items
+    → m ≡ lengthened l (section_code (filters_of fs) (nodes_code (nodes_of xs) (suc drops))) → OnOk r (n ≡ lengthened m (instruction.WriteTop ∷ [])) → OnOk r (n ≡ lengthened l (node_code (node_of node) drops))
+section_written l m n node drops filters body fs xs r is a b h =
+    let section = λ (y : List SectionFilter) (z : List Node). section_code (filters_of y) (nodes_code (nodes_of z) (suc drops)) in
+    on_ok_by r n _ _ (ap (λ k. lengthened k (instruction.WriteTop ∷ [])) (h ∙ ap₂ (λ y z. lengthened l (section y z)) a b)
+    ∙ lengthened-lengthened l (section filters.items body.items) (instruction.WriteTop ∷ [])
+    ∙ ap (λ t. lengthened l (node_code t drops)) (sym (view_section filters body))
+    ∙ ap (λ t. lengthened l (node_code (node_of t) drops)) (sym is))
 
 view_comprehension : (value : Box Expression Global) (heading : Box Heading Global) (condition : Option (Box Expression Global)) (span : Span) → expr_of (expression.Comprehension value heading condition span) ≡ comprehension_of value.value heading.value condition span
 view_comprehension value heading None span = refl

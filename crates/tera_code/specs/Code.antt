@@ -3,7 +3,7 @@ use Rattle.std.specs.Prelude.{ℕ, suc, Bool, true, false, ◌+◌, cond, List, 
 use Rattle.tera_errors.specs.Site as site
 use Rattle.tera_errors.specs.declared.span.Span.{Span}
 use Rattle.tera_values.specs.Val as val
-use Rattle.tera_tree.specs.Tree.{Key, Expr, Nothing, Boolean, Integer, Text, Name, Attribute, Index, Slice, Not, Negate, Binary, And, Or, Ternary, Array, Map, Comprehension, Super, Optional, Absent, Present, Items, NoItems, MoreItems, Entries, NoEntries, MoreEntries, Arguments, NoArguments, MoreArguments, Node, Content, Print, If, Set, Capture, For, Block, Break, Continue, Nodes, NoNodes, MoreNodes}
+use Rattle.tera_tree.specs.Tree.{Key, Expr, Nothing, Boolean, Integer, Text, Name, Attribute, Index, Slice, Not, Negate, Binary, And, Or, Ternary, Array, Map, Comprehension, Super, Filter, Test, Call, Optional, Absent, Present, Items, NoItems, MoreItems, Entries, NoEntries, MoreEntries, Arguments, NoArguments, MoreArguments, Filters, NoFilters, MoreFilters, first_span, Node, Content, Print, If, Set, Capture, FilterSection, For, Block, Break, Continue, Nodes, NoNodes, MoreNodes}
 use Rattle.tera_code.specs.declared.instruction.Instruction.{Instruction}
 use Rattle.tera_code.specs.declared.instruction.Instruction.TheVariants as instruction
 use Rattle.tera_code.specs.Listing.{Listing}
@@ -55,6 +55,10 @@ abbrev pub arguments_length : Arguments → ℕ
 arguments_length NoArguments = 0
 arguments_length (MoreArguments name value rest) = suc (arguments_length rest)
 
+abbrev pub argument_names : Arguments → List site.Name
+argument_names NoArguments = []
+argument_names (MoreArguments name value rest) = name ∷ argument_names rest
+
 abbrev mutual
   pub expr_code : Expr → Code
   expr_code (Nothing span) = instruction.LoadConst val.none span ∷ []
@@ -84,6 +88,12 @@ abbrev mutual
       expr_code target ++ comprehension_tail key name (turn_code condition (expr_code value)) span
   expr_code (Super arguments span) =
       arguments_code arguments ++ instruction.TakeAbove (arguments_length arguments) span ∷ []
+  expr_code (Filter value name arguments span) =
+      expr_code value ++ (arguments_code arguments ++ instruction.ApplyFilter name (argument_names arguments) span ∷ [])
+  expr_code (Test value name arguments span) =
+      expr_code value ++ (arguments_code arguments ++ instruction.ApplyTest name (argument_names arguments) span ∷ [])
+  expr_code (Call name arguments span) =
+      arguments_code arguments ++ instruction.CallFunction name (argument_names arguments) span ∷ []
 
   -- a bound that isn't written is none
   pub bound_code : Optional → Code
@@ -117,10 +127,15 @@ abbrev pub print_code : Option (site.Name × Span) → Code → Code
 print_code (Some (name, span)) value = instruction.WriteName name span ∷ []
 print_code None value = value ++ instruction.WriteTop ∷ []
 
--- binds the name to the text that the body puts out
-abbrev pub capture_code : site.Name → Code → Bool → Code
-capture_code name body is_global =
-    instruction.StartCapture ∷ (body ++ (instruction.EndCapture ∷ instruction.Store name is_global ∷ []))
+-- each takes what is on top of the operands, and puts its answer there
+abbrev pub filters_code : Filters → Code
+filters_code NoFilters = []
+filters_code (MoreFilters name arguments span rest) =
+    arguments_code arguments ++ (instruction.ApplyFilter name (argument_names arguments) span ∷ filters_code rest)
+
+-- the text that a body puts out, through the filters, on top of the operands
+abbrev pub section_code : Filters → Code → Code
+section_code fs body = instruction.StartCapture ∷ (body ++ (instruction.EndCapture (first_span fs) ∷ filters_code fs))
 
 -- the number is that of the captures that were begun in the innermost loop: a jump to its end drops them
 abbrev mutual
@@ -130,7 +145,9 @@ abbrev mutual
   node_code (If condition body other) drops =
       choice_code (expr_code condition) (nodes_code body drops) (nodes_code other drops)
   node_code (Set name value is_global) drops = expr_code value ++ instruction.Store name is_global ∷ []
-  node_code (Capture name body is_global) drops = capture_code name (nodes_code body (suc drops)) is_global
+  node_code (Capture name fs body is_global) drops =
+      section_code fs (nodes_code body (suc drops)) ++ instruction.Store name is_global ∷ []
+  node_code (FilterSection fs body) drops = section_code fs (nodes_code body (suc drops)) ++ instruction.WriteTop ∷ []
   node_code (For key name target body other) drops =
       expr_code target ++ loop_tail key name (nodes_code body 0) (nodes_code other drops)
   node_code (Block name body span) drops = instruction.TakeBlock name span ∷ []

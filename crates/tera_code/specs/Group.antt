@@ -1,5 +1,5 @@
 -- Kinds of expressions.
-use Rattle.tera_tree.specs.Tree.{Expr, Nothing, Boolean, Integer, Text, Name, Attribute, Index, Slice, Not, Negate, Binary, And, Or, Ternary, Array, Map, Comprehension, Super}
+use Rattle.tera_tree.specs.Tree.{Expr, Nothing, Boolean, Integer, Text, Name, Attribute, Index, Slice, Not, Negate, Binary, And, Or, Ternary, Array, Map, Comprehension, Super, Filter, Test, Call}
 
 pub data Group : Type 0 where
   -- has no parts
@@ -14,8 +14,8 @@ pub data Group : Type 0 where
   Collection : Group
   -- goes over items
   Loop : Group
-  -- takes another body
-  Call : Group
+  -- is made elsewhere of arguments by name
+  Request : Group
 
 abbrev pub group : Expr → Group
 group (Nothing span) = Leaf
@@ -35,4 +35,7 @@ group (Ternary value condition other span) = Branch
 group (Array all span) = Collection
 group (Map all span) = Collection
 group (Comprehension value key name target condition span) = Loop
-group (Super all span) = Call
+group (Super all span) = Request
+group (Filter value name all span) = Request
+group (Test value name all span) = Request
+group (Call name all span) = Request

@@ -6,3 +6,4 @@ pub mod Places
 pub mod Group
 pub mod Blocks
 pub mod Asked
+pub mod Called

@@ -24,6 +24,8 @@ pub record Shelf : Type 0 where
   pub keys : List (List (Option Key))
   pub spans : List Span
   pub loops : List LoopNames
+  -- the name that is called, and the names of the arguments
+  pub calls : List (Text × List Text)
 
 abbrev pub shelf_of : Tables → Shelf
 shelf_of t =
@@ -35,6 +37,7 @@ shelf_of t =
       keys = map (λ v. keys_of v.items) t.keys.items;
       spans = t.spans.items;
       loops = t.loops.items;
+      calls = map (λ c. (c.name, c.arguments.items)) t.calls.items;
     }
 
 abbrev pub span_at : Shelf → ℕ → Span
@@ -45,6 +48,9 @@ name_at s i = get_or s.names i []
 
 abbrev pub loop_at : Shelf → ℕ → LoopNames
 loop_at s i = get_or s.loops i (record { key = None; name = [] })
+
+abbrev pub call_at : Shelf → ℕ → Text × List Text
+call_at s i = get_or s.calls i ([], [])
 
 -- the instruction that is meant
 abbrev pub unpacked : Shelf → Packed → Instruction
@@ -72,7 +78,7 @@ unpacked s (packed.EndLoop skip) = instruction.EndLoop skip
 unpacked s packed.Keep = instruction.Keep
 unpacked s (packed.EndComprehension span) = instruction.EndComprehension (span_at s span)
 unpacked s packed.StartCapture = instruction.StartCapture
-unpacked s packed.EndCapture = instruction.EndCapture
+unpacked s (packed.EndCapture span) = instruction.EndCapture (span_at s span)
 unpacked s (packed.LeaveLoop drops) = instruction.LeaveLoop drops
 unpacked s (packed.LeaveTurn drops) = instruction.LeaveTurn drops
 unpacked s (packed.Jump skip) = instruction.Jump skip
@@ -81,6 +87,9 @@ unpacked s (packed.JumpIfFalseOrPop skip) = instruction.JumpIfFalseOrPop skip
 unpacked s (packed.JumpIfTrueOrPop skip) = instruction.JumpIfTrueOrPop skip
 unpacked s (packed.TakeBlock name span) = instruction.TakeBlock (name_at s name) (span_at s span)
 unpacked s (packed.TakeAbove span arguments) = instruction.TakeAbove arguments (span_at s span)
+unpacked s (packed.ApplyFilter call span) = instruction.ApplyFilter (call_at s call).0 (call_at s call).1 (span_at s span)
+unpacked s (packed.ApplyTest call span) = instruction.ApplyTest (call_at s call).0 (call_at s call).1 (span_at s span)
+unpacked s (packed.CallFunction call span) = instruction.CallFunction (call_at s call).0 (call_at s call).1 (span_at s span)
 
 -- what it names is there
 abbrev pub Within : Shelf → Packed → Type 0
@@ -110,7 +119,7 @@ Within s (packed.EndLoop skip) = Unit {0}
 Within s packed.Keep = Unit {0}
 Within s (packed.EndComprehension span) = span < length s.spans
 Within s packed.StartCapture = Unit {0}
-Within s packed.EndCapture = Unit {0}
+Within s (packed.EndCapture span) = span < length s.spans
 Within s (packed.LeaveLoop drops) = Unit {0}
 Within s (packed.LeaveTurn drops) = Unit {0}
 Within s (packed.Jump skip) = Unit {0}
@@ -119,6 +128,9 @@ Within s (packed.JumpIfFalseOrPop skip) = Unit {0}
 Within s (packed.JumpIfTrueOrPop skip) = Unit {0}
 Within s (packed.TakeBlock name span) = (name < length s.names) × (span < length s.spans)
 Within s (packed.TakeAbove span arguments) = span < length s.spans
+Within s (packed.ApplyFilter call span) = (call < length s.calls) × (span < length s.spans)
+Within s (packed.ApplyTest call span) = (call < length s.calls) × (span < length s.spans)
+Within s (packed.CallFunction call span) = (call < length s.calls) × (span < length s.spans)
 
 -- these, and then others
 abbrev pub Longer : {X : Type 0} → List X → List X → Type 0
@@ -132,7 +144,8 @@ Grows s t =
     × (Longer s.constants t.constants
     × (Longer s.spreads t.spreads
     × (Longer s.keys t.keys
-    × (Longer s.spans t.spans × Longer s.loops t.loops)))))
+    × (Longer s.spans t.spans
+    × (Longer s.loops t.loops × Longer s.calls t.calls))))))
 
 -- this element stands there
 abbrev pub IsAt : {X : Type 0} → List X → ℕ → X → Type 0

@@ -60,6 +60,7 @@ fn add(alloc: Global, file: &str, node: &Node, found: &mut Vec<Block>) -> TeraRe
             add_all(alloc, file, other.as_slice(), found)
         }
         Node::Capture { body, .. } => add_all(alloc, file, body.as_slice(), found),
+        Node::FilterSection { body, .. } => add_all(alloc, file, body.as_slice(), found),
         Node::Block { name, body, .. } => {
             let body = body.as_slice();
             found.push(made(alloc, file, name, body)?)?;

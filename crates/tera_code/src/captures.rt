@@ -2,17 +2,17 @@
 ghost use Rattle.std.specs.Prelude.{◌≡◌, [], ◌∷◌, suc, OnOk, IfOk, IfErr};
 ghost use Rattle.tera_errors.specs.Answer.{Lacks};
 ghost use Rattle.tera_code.specs.declared.instruction.Instruction.TheVariants as instruction;
-ghost use Rattle.tera_code.specs.Code.{node_code, lengthened};
-ghost use Rattle.tera_tree.specs.Tree.{Set, Capture};
-ghost use Rattle.tera_tree.specs.View.{expr_of, nodes_of};
+ghost use Rattle.tera_code.specs.Code.{node_code, nodes_code, section_code, lengthened};
+ghost use Rattle.tera_tree.specs.Tree.{Set, first_span};
+ghost use Rattle.tera_tree.specs.View.{expr_of, filters_of, nodes_of};
 
 use crate::compiler::Compiler;
 use crate::content::LentName;
 use crate::instruction::Instruction;
 use std::alloc::Global;
 use tera_errors::Error;
-use tera_tree::{Expression, Node};
-use tera_values::{Name, TeraResult};
+use tera_tree::{Expression, Node, SectionFilter};
+use tera_values::{Name, Span, TeraResult};
 
 impl Compiler {
     // The value becomes that of the name.
@@ -24,22 +24,22 @@ impl Compiler {
         self.store(name, is_global)
     }
 
-    // What the body puts out becomes the value of the name.
+    // The text that the body puts out, through the filters, on top of the operands.
     #[cycle(nodes)]
-    pub(crate) fn capture(
+    pub(crate) fn section(
         &mut self,
-        name: &str,
+        filters: &[SectionFilter],
         body: &[Node],
-        is_global: bool,
         drops: usize,
     ) -> TeraResult<()>
-        ensures ok { OnOk result (self.new ≡ lengthened self.old (node_code (Capture name.now (nodes_of body.now) is_global) drops)) }
+        ensures ok { OnOk result (self.new ≡ lengthened self.old
+            (section_code (filters_of filters.now) (nodes_code (nodes_of body.now) (suc drops)))) }
         ensures lacks { IfErr result Lacks }
     {
         self.emit(Instruction::StartCapture)?;
         self.nodes(body, one_more(drops)?)?;
-        self.emit(Instruction::EndCapture)?;
-        self.store(name, is_global)
+        self.emit(Instruction::EndCapture(first_span(filters)))?;
+        self.filters(filters)
     }
 
     // The operand on top becomes the value of the name.
@@ -62,5 +62,15 @@ fn one_more(drops: usize) -> TeraResult<usize>
     match drops.checked_add(1) {
         Some(drops) => Ok(drops),
         None => Err(Error::out_of_memory()),
+    }
+}
+
+// Where a fault in the text itself is reported.
+fn first_span(filters: &[SectionFilter]) -> Span
+    ensures { result ≡ first_span (filters_of filters.now) }
+{
+    match filters.first() {
+        Some(filter) => filter.span,
+        None => Span { start: 0, end: 0 },
     }
 }

@@ -1,10 +1,12 @@
 // The instructions of one body.
-ghost use Rattle.std.specs.Prelude.{◌≡◌, ◌+◌, ◌<◌, ◌^◌, [], ◌∷◌, length, slice_get, OnOk, IfErr, IfSome, MatchOption, Some, None};
+ghost use Rattle.std.specs.Prelude.{◌≡◌, ◌+◌, ◌<◌, ◌^◌, [], ◌∷◌, length, slice_get, OnOk, IfErr, IfSome, MatchOption, Some, None, option_map, option_and_then};
 ghost use Rattle.tera_errors.specs.Answer.{Lacks};
+ghost use Rattle.tera_code.specs.Called.{callee_of, called_by};
 ghost use Rattle.tera_code.specs.Code.{lengthened};
 ghost use Rattle.tera_code.specs.declared.instruction.Instruction.TheVariants as instruction;
 ghost use Rattle.tera_code.specs.Places.{filled};
 
+use crate::callee::Callee;
 use crate::instruction::Instruction;
 use crate::lent::LentInstruction;
 use crate::packed::{Packed, Tables};
@@ -75,10 +77,23 @@ impl Chunk {
         }
     }
 
-    pub(crate) fn len(&self) -> usize
+    /// How many instructions there are.
+    pub fn len(&self) -> usize
         ensures { result ≡ length self.now.code }
     {
         self.code.len()
+    }
+
+    /// What the instruction at this place calls; none where it calls nothing, or where there is none. The instruction is not
+    /// handed out, so that it isn't counted.
+    pub fn callee_at(&self, place: usize) -> Option<Callee<'_>>
+        ensures { option_map callee_of result
+            ≡ option_and_then called_by (slice_get self.now.code place) }
+    {
+        match self.code.get(place) {
+            None => None,
+            Some(packed) => LentInstruction::new(packed, &self.tables).callee(),
+        }
     }
 
     pub(crate) fn emit(

@@ -123,6 +123,36 @@ impl<'a> Spreads<'a> {
     }
 }
 
+/// The names of the arguments of a call, in the order in which these are evaluated.
+#[derive(Drop)]
+pub struct Names<'a> {
+    names: &'a [Name],
+}
+
+impl<'a> Model for Names<'a> {
+    ghost use Rattle.std.specs.Prelude.{ℕ, List};
+
+    ghost Value = { List (List ℕ) };
+
+    ghost view = { λ n. n.names.now };
+}
+
+impl<'a> Names<'a> {
+    /// A name for each argument; none is copied.
+    pub fn new(names: &'a [Name]) -> Names<'a>
+        ensures { result ≡ names.now }
+    {
+        Names { names }
+    }
+
+    /// The names.
+    pub fn as_slice(&self) -> &'a [Name]
+        ensures { result.now ≡ self.now }
+    {
+        self.names
+    }
+}
+
 /// The keys of a map literal, from left to right; what has none is spread.
 #[derive(Drop)]
 pub struct Keys<'a> {

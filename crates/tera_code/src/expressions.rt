@@ -2,15 +2,14 @@
 ghost use Rattle.std.specs.Prelude.{◌≡◌, OnOk, IfErr};
 ghost use Rattle.tera_errors.specs.Answer.{Lacks};
 ghost use Rattle.tera_code.specs.Code.{expr_code, bound_code, items_code, entries_code, lengthened};
-ghost use Rattle.tera_tree.specs.Tree.{Super};
-ghost use Rattle.tera_code.specs.Group.{group, Access, Operation, Branch, Collection, Loop};
-ghost use Rattle.tera_tree.specs.View.{expr_of, optional_of, items_of, entries_of, arguments_of};
+ghost use Rattle.tera_code.specs.Group.{group, Access, Operation, Branch, Collection, Loop, Request};
+ghost use Rattle.tera_tree.specs.View.{expr_of, optional_of, items_of, entries_of};
 
 use crate::compiler::Compiler;
 use crate::constant::Constant;
 use crate::instruction::Instruction;
 use std::alloc::Global;
-use tera_tree::{Argument, Entry, Expression, Item};
+use tera_tree::{Entry, Expression, Item};
 use tera_values::{Span, TeraResult};
 
 impl Compiler {
@@ -36,7 +35,10 @@ impl Compiler {
             }
             Expression::Array { .. } | Expression::Map { .. } => self.collection(expression),
             Expression::Comprehension { .. } => self.comprehension(expression),
-            Expression::Super { arguments, span } => self.above(arguments.as_slice(), *span),
+            Expression::Super { .. }
+            | Expression::Filter { .. }
+            | Expression::Test { .. }
+            | Expression::Call { .. } => self.request(expression),
         }
     }
 
@@ -174,22 +176,6 @@ impl Compiler {
             }
             _ => unreachable!(),
         }
-    }
-
-    // What the next template above makes of the block, with these arguments.
-    #[cycle(expressions)]
-    fn above(&mut self, arguments: &[Argument], span: Span) -> TeraResult<()>
-        ensures ok { OnOk result
-            (self.new ≡ lengthened self.old (expr_code (Super (arguments_of arguments.now) span))) }
-        ensures lacks { IfErr result Lacks }
-    {
-        for argument in arguments {
-            self.expression(&argument.value)?;
-        }
-        self.emit(Instruction::TakeAbove {
-            arguments: arguments.len(),
-            span,
-        })
     }
 
     #[cycle(expressions)]

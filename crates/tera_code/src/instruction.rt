@@ -1,6 +1,6 @@
 // What the machine can be told.
 use crate::constant::Constant;
-use crate::content::{Keys, LentName, Spreads, Text};
+use crate::content::{Keys, LentName, Names, Spreads, Text};
 use tera_tree::BinaryOperator;
 use tera_values::{Sought, Span};
 
@@ -71,7 +71,7 @@ pub enum Instruction<'a> {
     /// Begins a capture: what is put out from here on is kept apart.
     StartCapture,
     /// Ends the innermost capture and puts its text on top of the operands, safe where autoescape is on.
-    EndCapture,
+    EndCapture(Span),
     /// Drops so many captures and goes to the end of the innermost loop, where it is closed.
     LeaveLoop(usize),
     /// Drops so many captures and goes to the end of the turn, where the next one begins.
@@ -93,6 +93,25 @@ pub enum Instruction<'a> {
     /// operands.
     TakeAbove {
         arguments: usize,
+        span: Span,
+    },
+    /// Takes the arguments, of which the last one is topmost, and the operand below them, and puts what the filter makes of
+    /// that on top of the operands.
+    ApplyFilter {
+        name: LentName<'a>,
+        arguments: Names<'a>,
+        span: Span,
+    },
+    /// Takes the arguments and the operand below them, and puts whether that passes the test on top of the operands.
+    ApplyTest {
+        name: LentName<'a>,
+        arguments: Names<'a>,
+        span: Span,
+    },
+    /// Takes the arguments, and puts what the function makes of them on top of the operands.
+    CallFunction {
+        name: LentName<'a>,
+        arguments: Names<'a>,
         span: Span,
     },
 }

@@ -5,7 +5,9 @@ ghost use Rattle.tera_code.specs.declared.instruction.Instruction.TheVariants as
 ghost use Rattle.tera_code.specs.Asked.{written_text, written_name, loaded_name, loaded_integer};
 ghost use Rattle.tera_code.specs.Asked.{loaded_attribute, applied_operator, bound_name, taken_block, jump_length};
 ghost use Rattle.tera_code.specs.Asked.{jump_length_if_false, is_write_top, is_next_turn};
+ghost use Rattle.tera_code.specs.Called.{callee_of, called_by};
 
+use crate::callee::Callee;
 use crate::content::Text;
 use crate::instruction::Instruction;
 use crate::packed::{Packed, Tables};
@@ -210,6 +212,18 @@ impl<'a> LentInstruction<'a> {
         match *self.packed {
             Packed::NextTurn => true,
             _ => false,
+        }
+    }
+
+    // What it calls.
+    pub(crate) fn callee(&self) -> Option<Callee<'a>>
+        ensures { option_map callee_of result ≡ called_by self.now }
+    {
+        match *self.packed {
+            Packed::ApplyFilter { call, .. } => Some(Callee::Filter(self.tables.called(call))),
+            Packed::ApplyTest { call, .. } => Some(Callee::Test(self.tables.called(call))),
+            Packed::CallFunction { call, .. } => Some(Callee::Function(self.tables.called(call))),
+            _ => None,
         }
     }
 }

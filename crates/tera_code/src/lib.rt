@@ -2,6 +2,8 @@
 #![tactic(auto)]
 
 pub mod blocks;
+pub mod callee;
+mod calls;
 mod captures;
 pub mod chunk;
 pub mod compiler;
@@ -9,18 +11,21 @@ pub mod constant;
 pub mod content;
 mod expressions;
 pub mod instruction;
+pub mod laws;
 pub mod lent;
 mod loops;
 mod nodes;
 mod packed;
 mod parts;
 pub mod steps;
+mod unpack;
 
 pub use blocks::Block;
+pub use callee::Callee;
 pub use chunk::Chunk;
 pub use compiler::Compiler;
 pub use constant::Constant;
-pub use content::{Keys, LentName, Spreads, Text};
+pub use content::{Keys, LentName, Names, Spreads, Text};
 pub use instruction::Instruction;
 pub use lent::LentInstruction;
 pub use nodes::compiled;

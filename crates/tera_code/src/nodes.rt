@@ -64,9 +64,17 @@ impl Compiler {
             } => self.set(name, value, *is_global),
             Node::Capture {
                 name,
+                filters,
                 body,
                 is_global,
-            } => self.capture(name, body.as_slice(), *is_global, drops),
+            } => {
+                self.section(filters.as_slice(), body.as_slice(), drops)?;
+                self.store(name, *is_global)
+            }
+            Node::FilterSection { filters, body } => {
+                self.section(filters.as_slice(), body.as_slice(), drops)?;
+                self.emit(Instruction::WriteTop)
+            }
             Node::For {
                 heading,
                 body,

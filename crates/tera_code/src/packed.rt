@@ -7,7 +7,7 @@ ghost use Rattle.tera_tree.specs.View.{keys_of};
 ghost use Rattle.tera_code.specs.declared.instruction.Instruction.TheVariants as instruction;
 
 use crate::constant::{Constant, Kept, small_integer};
-use crate::content::{Keys, LentName, Spreads, Text};
+use crate::content::{Keys, LentName, Names, Spreads};
 use crate::instruction::Instruction;
 use crate::parts::copied;
 use std::alloc::Global;
@@ -92,7 +92,9 @@ pub(crate) enum Packed {
         span: u32,
     },
     StartCapture,
-    EndCapture,
+    EndCapture {
+        span: u32,
+    },
     LeaveLoop(usize),
     LeaveTurn(usize),
     Jump(usize),
@@ -107,6 +109,18 @@ pub(crate) enum Packed {
         span: u32,
         arguments: usize,
     },
+    ApplyFilter {
+        call: u32,
+        span: u32,
+    },
+    ApplyTest {
+        call: u32,
+        span: u32,
+    },
+    CallFunction {
+        call: u32,
+        span: u32,
+    },
 }
 
 // The layout follows the order of the fields.
@@ -115,20 +129,28 @@ const _: () = prove!(size_of::<Packed>() == 16);
 /// What a loop calls its items.
 #[derive(Drop)]
 pub(crate) struct LoopNames {
-    key: Option<Name>,
-    name: Name,
+    pub(crate) key: Option<Name>,
+    pub(crate) name: Name,
+}
+
+/// What a call names: what is called, and its arguments.
+#[derive(Drop)]
+pub(crate) struct CallNames {
+    pub(crate) name: Name,
+    pub(crate) arguments: Vec<Name>,
 }
 
 /// What instructions name by number.
 #[derive(Drop)]
 pub(crate) struct Tables {
-    pool: String,
-    names: Vec<Name>,
-    constants: Vec<Value>,
-    spreads: Vec<Vec<bool>>,
-    keys: Vec<Vec<Option<OwnedKey>>>,
-    spans: Vec<Span>,
-    loops: Vec<LoopNames>,
+    pub(crate) pool: String,
+    pub(crate) names: Vec<Name>,
+    pub(crate) constants: Vec<Value>,
+    pub(crate) spreads: Vec<Vec<bool>>,
+    pub(crate) keys: Vec<Vec<Option<OwnedKey>>>,
+    pub(crate) spans: Vec<Span>,
+    pub(crate) loops: Vec<LoopNames>,
+    pub(crate) calls: Vec<CallNames>,
 }
 
 /// A number that instructions hold. More than they can hold is want of memory.
@@ -187,6 +209,7 @@ impl Tables {
             keys: Vec::new(alloc),
             spans: Vec::new(alloc),
             loops: Vec::new(alloc),
+            calls: Vec::new(alloc),
         }
     }
 
@@ -323,6 +346,29 @@ impl Tables {
         })
     }
 
+    /// Puts the names of a call and a span beside the others, and tells their places.
+    fn call(
+        &mut self,
+        alloc: Global,
+        name: &LentName<'_>,
+        arguments: &Names<'_>,
+        span: Span,
+    ) -> TeraResult<(u32, u32)>
+        ensures grows { Grows (shelf_of self.old) (shelf_of self.new) }
+        ensures call { IfOk result
+            (λ p. IsAt (shelf_of self.new).calls p.0 (name.now, arguments.now)) }
+        ensures span { IfOk result (λ p. IsAt (shelf_of self.new).spans p.1 span) }
+        ensures lacks { IfErr result Lacks }
+    {
+        let names = CallNames {
+            name: name.share()?,
+            arguments: shares(alloc, arguments.as_slice())?,
+        };
+        let call = number(&mut self.calls, names)?;
+        let span = number(&mut self.spans, span)?;
+        Ok((call, span))
+    }
+
     /// The instruction by numbers, with all that it names put where they find it.
     pub(crate) fn pack(
         &mut self,
@@ -391,7 +437,10 @@ impl Tables {
                 Ok(Packed::EndComprehension { span })
             }
             Instruction::StartCapture => Ok(Packed::StartCapture),
-            Instruction::EndCapture => Ok(Packed::EndCapture),
+            Instruction::EndCapture(span) => {
+                let span = number(&mut self.spans, span)?;
+                Ok(Packed::EndCapture { span })
+            }
             Instruction::LeaveLoop(drops) => Ok(Packed::LeaveLoop(drops)),
             Instruction::LeaveTurn(drops) => Ok(Packed::LeaveTurn(drops)),
             Instruction::Jump(skip) => Ok(Packed::Jump(skip)),
@@ -403,144 +452,30 @@ impl Tables {
                 let span = number(&mut self.spans, span)?;
                 Ok(Packed::TakeAbove { span, arguments })
             }
-        }
-    }
-
-    #[inline(always)]
-    pub(crate) fn span(&self, number: u32) -> Span
-        requires { number < length self.now.spans.items }
-        ensures { result ≡ span_at (shelf_of self.now) number }
-    {
-        self.spans[number as usize]
-    }
-
-    #[inline(always)]
-    pub(crate) fn name(&self, number: u32) -> Sought<'_>
-        requires { number < length self.now.names.items }
-        ensures { result ≡ name_at (shelf_of self.now) number }
-    {
-        self.whole_name(number).sought()
-    }
-
-    #[inline(always)]
-    pub(crate) fn attribute(&self, number: u32) -> Text<'_>
-        requires { number < length self.now.names.items }
-        ensures { result ≡ name_at (shelf_of self.now) number }
-    {
-        Text::new(self.whole_name(number).as_str())
-    }
-
-    #[inline(always)]
-    pub(crate) fn whole_name(&self, number: u32) -> &Name
-        requires { number < length self.now.names.items }
-        ensures { result.now ≡ name_at (shelf_of self.now) number }
-    {
-        &self.names[number as usize]
-    }
-
-    #[inline(always)]
-    pub(crate) fn text_between(&self, start: u32, end: u32) -> &str
-        requires order { start ≤ end }
-        requires start { IsCharBoundary (string_bytes self.now.pool) start }
-        requires end { IsCharBoundary (string_bytes self.now.pool) end }
-        ensures { result.now ≡ take (end - start) (drop start (string_bytes self.now.pool)) }
-    {
-        &self.pool[start as usize..end as usize]
-    }
-
-    /// The instruction that is meant.
-    pub(crate) fn unpack(&self, packed: Packed) -> Instruction<'_>
-        requires { Within (shelf_of self.now) packed }
-        ensures { result ≡ unpacked (shelf_of self.now) packed }
-    {
-        match packed {
-            Packed::WriteText { start, end } => {
-                Instruction::WriteText(Text::new(self.text_between(start, end)))
-            }
-            Packed::WriteTop => Instruction::WriteTop,
-            Packed::WriteName { name, span } => {
-                Instruction::WriteName(self.name(name), self.span(span))
-            }
-            Packed::LoadNone { span } => Instruction::LoadConst(Constant::none(), self.span(span)),
-            Packed::LoadBool { flag, span } => {
-                Instruction::LoadConst(Constant::from_bool(flag), self.span(span))
-            }
-            Packed::LoadInt { span, number } => {
-                Instruction::LoadConst(Constant::from_int(number), self.span(span))
-            }
-            Packed::LoadConst { constant, span } => {
-                let value = &self.constants[constant as usize];
-                Instruction::LoadConst(Constant::shared(value), self.span(span))
-            }
-            Packed::LoadName { name, span } => {
-                Instruction::LoadName(self.name(name), self.span(span))
-            }
-            Packed::LoadContext { span } => Instruction::LoadContext(self.span(span)),
-            Packed::LoadAttribute {
+            Instruction::ApplyFilter {
                 name,
-                optional,
-                span,
-            } => Instruction::LoadAttribute {
-                name: self.attribute(name),
-                optional,
-                span: self.span(span),
-            },
-            Packed::LoadItem { optional, span } => Instruction::LoadItem {
-                optional,
-                span: self.span(span),
-            },
-            Packed::Slice { optional, span } => Instruction::Slice {
-                optional,
-                span: self.span(span),
-            },
-            Packed::Not => Instruction::Not,
-            Packed::Negate => Instruction::Negate,
-            Packed::Binary { operator, span } => Instruction::Binary(operator, self.span(span)),
-            Packed::MakeArray { spreads, span } => {
-                let spreads = &self.spreads[spreads as usize];
-                Instruction::MakeArray(Spreads::new(spreads.as_slice()), self.span(span))
-            }
-            Packed::MakeMap { keys, span } => {
-                let keys = &self.keys[keys as usize];
-                Instruction::MakeMap(Keys::new(keys.as_slice()), self.span(span))
-            }
-            Packed::Store { name, is_global } => Instruction::Store {
-                name: LentName::new(self.whole_name(name)),
-                is_global,
-            },
-            Packed::StartLoop {
-                counts,
-                names,
-                size,
-            } => {
-                let names = &self.loops[names as usize];
-                Instruction::StartLoop {
-                    key: LentName::from_option(&names.key),
-                    name: LentName::new(&names.name),
-                    counts,
-                    size,
-                }
-            }
-            Packed::NextTurn => Instruction::NextTurn,
-            Packed::EndLoop(skip) => Instruction::EndLoop(skip),
-            Packed::Keep => Instruction::Keep,
-            Packed::EndComprehension { span } => Instruction::EndComprehension(self.span(span)),
-            Packed::StartCapture => Instruction::StartCapture,
-            Packed::EndCapture => Instruction::EndCapture,
-            Packed::LeaveLoop(drops) => Instruction::LeaveLoop(drops),
-            Packed::LeaveTurn(drops) => Instruction::LeaveTurn(drops),
-            Packed::Jump(skip) => Instruction::Jump(skip),
-            Packed::PopJumpIfFalse(skip) => Instruction::PopJumpIfFalse(skip),
-            Packed::JumpIfFalseOrPop(skip) => Instruction::JumpIfFalseOrPop(skip),
-            Packed::JumpIfTrueOrPop(skip) => Instruction::JumpIfTrueOrPop(skip),
-            Packed::TakeBlock { name, span } => Instruction::TakeBlock {
-                name: LentName::new(self.whole_name(name)),
-                span: self.span(span),
-            },
-            Packed::TakeAbove { span, arguments } => Instruction::TakeAbove {
                 arguments,
-                span: self.span(span),
-            },
+                span,
+            } => {
+                let (call, span) = self.call(alloc, &name, &arguments, span)?;
+                Ok(Packed::ApplyFilter { call, span })
+            }
+            Instruction::ApplyTest {
+                name,
+                arguments,
+                span,
+            } => {
+                let (call, span) = self.call(alloc, &name, &arguments, span)?;
+                Ok(Packed::ApplyTest { call, span })
+            }
+            Instruction::CallFunction {
+                name,
+                arguments,
+                span,
+            } => {
+                let (call, span) = self.call(alloc, &name, &arguments, span)?;
+                Ok(Packed::CallFunction { call, span })
+            }
         }
     }
 }
@@ -551,6 +486,17 @@ fn copies(alloc: Global, keys: &[Option<OwnedKey>]) -> TeraResult<Vec<Option<Own
     let mut all = Vec::new(alloc);
     for key in keys {
         all.push(copied(alloc, key)?)?;
+    }
+    Ok(all)
+}
+
+// The names once more: counts, and no copies of their texts.
+fn shares(alloc: Global, names: &[Name]) -> TeraResult<Vec<Name>>
+    ensures { Gives (λ all. all.items) result (Ok names.now) }
+{
+    let mut all = Vec::new(alloc);
+    for name in names {
+        all.push(name.share()?)?;
     }
     Ok(all)
 }

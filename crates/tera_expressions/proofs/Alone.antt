@@ -27,11 +27,6 @@ all_three false true true true h = absurd (cc)
 all_three false true false s h = absurd (cc)
 all_three false false r s h = absurd (cc)
 
-both : (p q : Bool) → (p && not q) ≡ true → (p ≡ true) × (q ≡ false)
-both true false h = (refl, refl)
-both true true h = absurd (cc)
-both false q h = absurd (cc)
-
 not_open : (n : ℕ) (os : List ℕ) (i : Input) → same k.LeftParenthesis (kind i) ≡ false → opened n os i ≡ Some (os, i)
 unfolding opened
 not_open zero os i h = refl
@@ -92,7 +87,7 @@ module _ (limit : ℕ) (sub : ℕ → Parser Deep) where
   stands floor i h = steps.either t.0 by_name by_int
     where
       u : ((((same k.Name (kind i) || same k.Int (kind i)) && nat_le floor 11) && not (goes_on floor 11 (kind (next i)))) ≡ true) × (same k.LeftParenthesis (kind (next i)) ≡ false)
-      u = both (((same k.Name (kind i) || same k.Int (kind i)) && nat_le floor 11) && not (goes_on floor 11 (kind (next i)))) (same k.LeftParenthesis (kind (next i))) h
+      u = steps.both (((same k.Name (kind i) || same k.Int (kind i)) && nat_le floor 11) && not (goes_on floor 11 (kind (next i)))) (same k.LeftParenthesis (kind (next i))) h
 
       t : ((same k.Name (kind i) ≡ true) ⊎ (same k.Int (kind i) ≡ true)) × (nat_le floor 11 ≡ true) × (goes_on floor 11 (kind (next i)) ≡ false)
       t = all_three (same k.Name (kind i)) (same k.Int (kind i)) (nat_le floor 11) (goes_on floor 11 (kind (next i))) u.0

@@ -1,14 +1,15 @@
 -- Calls: what is read is derived, and how what is derived is read.
-use Rattle.std.proofs.Common.{◌≡◌, ℕ, zero, suc, ◌≤◌, max, ◌&&◌, Bool, true, false, Option, Some, None, option_map, refl, sym, ◌∙◌, ap, subst, arith, Ordering, Less, Equal, Greater}
+use Rattle.std.proofs.Common.{◌≡◌, ℕ, zero, suc, ◌≤◌, max, Bool, true, false, Option, Some, None, option_map, if◌then◌else◌, refl, sym, ◌∙◌, ap, subst, arith, Ordering, Less, Equal, Greater}
 use Rattle.std.specs.Prelude.{bytes_eq, codes}
 use Rattle.std.specs.Ordering.{match_ordering}
 use Rattle.tera_errors.specs.Site.{Name}
-use Rattle.tera_tree.specs.Tree.{Expr, Super, Arguments, NoArguments, MoreArguments}
+use Rattle.tera_errors.specs.declared.span.Span.{Span}
+use Rattle.tera_tree.specs.Tree.{Expr, Super, Call, Arguments, NoArguments, MoreArguments}
 use Rattle.tera_tree.specs.Depth.{depth, arguments_depth}
-use Rattle.tera_tree.specs.Inside.{ExprInside, ArgumentsInside}
+use Rattle.tera_tree.specs.Inside.{Within, ExprInside, ArgumentsInside}
 use Rattle.tera_tokens.specs.declared.token.Kind.TheVariants as k
 use Rattle.tera_tokens.specs.Input.{Input, Parser, and_then, same, kind, start, text, next, left, span, expect, is_word}
-use Rattle.tera_expressions.specs.Arguments.{is_call, name_cmp, put_argument, argument_name}
+use Rattle.tera_expressions.specs.Arguments.{is_call, call_form, name_cmp, put_argument, argument_name}
 use Rattle.tera_expressions.specs.Grammar.{Derives, DerivesArgument, argument, DerivesArguments, no_arguments, one_argument, more_arguments}
 use Rattle.tera_expressions.specs.Expressions as r
 use Rattle.tera_expressions.specs.Expressions.{Deep, deep}
@@ -52,6 +53,23 @@ pub grown : {found all : Arguments} {i j : Input} → DerivesArguments found all
 grown no_arguments = omega arith
 grown (one_argument (argument {found = found} {all = all} {x = x} {i = i} h q d e)) = let g = put-depth (text i) x found all e in omega (arith, g)
 grown (more_arguments (argument {found = found} {all = all} {x = x} {i = i} h q d e) g u) = let p = put-depth (text i) x found all e in let s = grown u in omega (arith, p, s)
+
+-- a call is one deeper than its arguments, by any name
+pub call-depth : (n : Name) (all : Arguments) (at : Span) → depth (call_form n all at) ≡ suc (arguments_depth all)
+unfolding call_form
+call-depth n all at = go (bytes_eq n (codes "super"))
+  where
+    go : (b : Bool) → depth (if b then Super all at else Call n all at) ≡ suc (arguments_depth all)
+    go true = refl
+    go false = refl
+
+pub call-inside : (size : ℕ) (n : Name) (all : Arguments) (at : Span) → ArgumentsInside size all → Within size at → ExprInside size (call_form n all at)
+unfolding call_form
+call-inside size n all at p w = go (bytes_eq n (codes "super"))
+  where
+    go : (b : Bool) → ExprInside size (if b then Super all at else Call n all at)
+    go true = (p, w)
+    go false = (p, w)
 
 -- the parts that a reader reads are derived
 abbrev pub Reads : (ℕ → Parser Deep) → Type 0
@@ -143,19 +161,17 @@ module _ (limit : ℕ) (part : ℕ → Parser Deep) where
   arguments-more n found d p i a y h e g q = rw (unlike k.RightParenthesis (kind i) h, e, alike k.Comma (kind a) g) q
 
   pub call-is : (all : Arguments) (i a : Input) → r.arguments_from limit part (left (next (next i))) NoArguments 0 (next (next i)) ≡ Some ((all, arguments_depth all), next a)
-      → depth (Super all (span (start i) (next a))) ≤ limit → r.call limit part i ≡ Some (deep (Super all (span (start i) (next a))), next a)
+      → depth (call_form (text i) all (span (start i) (next a))) ≤ limit → r.call limit part i ≡ Some (deep (call_form (text i) all (span (start i) (next a))), next a)
   unfolding r.call
-  call-is all i a h le = rw h (deep-node limit (arguments_depth all) (Super all (span (start i) (next a))) (next a) (omega arith) refl)
+  call-is all i a h le =
+      let e = call-depth (text i) all (span (start i) (next a)) in
+      rw h (deep-node limit (arguments_depth all) (call_form (text i) all (span (start i) (next a))) (next a) (omega arith) e)
 
 -- behind a name that is called stands a parenthesis
 pub call-opens : (i : Input) → is_call i ≡ true → kind (next i) ≡ k.LeftParenthesis
 unfolding is_call
-call-opens i h = go (same k.LeftParenthesis (kind (next i))) refl h
-  where
-    go : (t : Bool) → same k.LeftParenthesis (kind (next i)) ≡ t → (t && bytes_eq (text i) (codes "super")) ≡ true → kind (next i) ≡ k.LeftParenthesis
-    go true e h = same-is k.LeftParenthesis (kind (next i)) e
-    go false e h = cc
+call-opens i h = same-is k.LeftParenthesis (kind (next i)) h
 
 pub no-call : (i : Input) → same k.LeftParenthesis (kind (next i)) ≡ false → is_call i ≡ false
 unfolding is_call
-no-call i h = rw h refl
+no-call i h = h

@@ -1,21 +1,23 @@
 -- What is derived is read.
 use Rattle.std.proofs.Common.{◌≡◌, ℕ, zero, suc, ◌≤◌, ◌⊎◌, inl, inr, max, ◌∷◌, Bool, true, false, Option, Some, refl, sym, ◌∙◌, ap, arith}
 use Rattle.tera_tree.specs.declared.expression.BinaryOperator.TheVariants as binary
-use Rattle.tera_tree.specs.Tree.{Expr, Nothing, Boolean, Integer, Text, Name, Attribute, Index, Slice, Optional, Not, Negate, Binary, Ternary, Array, Items, NoItems, MoreItems, Map, Comprehension, Super, Key, Entries, NoEntries, MoreEntries, Arguments}
+use Rattle.tera_tree.specs.Tree.{Expr, Nothing, Boolean, Integer, Text, Name, Attribute, Index, Slice, Optional, Not, Negate, Binary, Ternary, Array, Items, NoItems, MoreItems, Map, Comprehension, Filter, Test, Key, Entries, NoEntries, MoreEntries, Arguments}
 use Rattle.tera_tree.specs.Depth.{depth, items_depth, entries_depth, optional_depth, arguments_depth}
 use Rattle.tera_tokens.specs.declared.token.Kind.TheVariants as k
 use Rattle.tera_tokens.specs.Input.{Input, kind, start, text, next, left, span}
-use Rattle.tera_expressions.specs.Grammar.{Derives, quoted, tighter, choice, operation, not, not_in, minus, power, attribute, index, slice, DerivesPart, absent, present, DerivesStep, no_step, step, int, is_true, is_false, nothing, name, of_loop, parentheses, array, map, DerivesEntry, keyed, spread_map, DerivesEntries, no_entries, one_entry, more_entries, DerivesItem, plain, spread, DerivesItems, none, one, more, comprehension, DerivesCondition, no_condition, condition, call, DerivesArgument, argument, DerivesArguments, no_arguments, one_argument, more_arguments}
+use Rattle.tera_expressions.specs.Grammar.{Derives, quoted, tighter, choice, operation, not, not_in, minus, power, attribute, index, slice, DerivesPart, absent, present, DerivesStep, no_step, step, int, is_true, is_false, nothing, name, of_loop, parentheses, array, map, DerivesEntry, keyed, spread_map, DerivesEntries, no_entries, one_entry, more_entries, DerivesItem, plain, spread, DerivesItems, none, one, more, comprehension, DerivesCondition, no_condition, condition, call, filter, test, not_test, DerivesArgument, argument, DerivesArguments, no_arguments, one_argument, more_arguments, DerivesGiven, not_given, given}
 use Rattle.tera_expressions.specs.Expressions as r
+use Rattle.tera_expressions.specs.Arguments.{call_form}
 use Rattle.tera_expressions.specs.Loops.{behind_loop}
 use Rattle.tera_expressions.specs.Expressions.{deep, needs, expr, behind_dots, join_items, one_item, join_entries}
-use Rattle.tera_expressions.proofs.Steps.{differ, unlike, alike}
-use Rattle.tera_expressions.proofs.Precedence.{operator-depth, is-no-end, operator-needs, dot-needs, bracket-needs, needs-some, not-three, not-eight, stops-up, ends-up, ends, eight-of-nine, if-kind, not-kind, power-kind, closing-kinds, needs-at, gives-at, begin-kinds, ends-bound, ends-target, at-most}
-use Rattle.tera_expressions.proofs.Extent.{next-left, token, word-left, shorter, shorter-entry, shorter-entries, shorter-part, shorter-step, shorter-item, shorter-all, shorter-argument, starts-so, item-starts, entry-starts, argument-starts, step-begins, condition-begins}
+use Rattle.tera_expressions.proofs.Steps.{differ, unlike, alike, test-name}
+use Rattle.tera_expressions.proofs.Precedence.{operator-depth, is-no-end, operator-needs, dot-needs, bracket-needs, needs-some, not-three, not-eight, stops-up, ends-up, ends, eight-of-nine, if-kind, not-kind, is-kind, bar-kind, power-kind, closing-kinds, needs-at, gives-at, begin-kinds, ends-bound, ends-target, at-most}
+use Rattle.tera_expressions.proofs.Extent.{next-left, token, word-left, shorter, shorter-entry, shorter-entries, shorter-part, shorter-step, shorter-item, shorter-all, shorter-argument, shorter-given, starts-so, item-starts, entry-starts, argument-starts, step-begins, condition-begins}
 use Rattle.tera_expressions.proofs.Rows.{list-nil, list-one, list-more, list-only, row-nil, row-one, row-more, row-start}
 use Rattle.tera_expressions.proofs.Forms.{deep-node, some-depth, infixed-is, operator-is, power-is, not_in-is, choice-is, attribute-is, index-is, slice-is, prefixed-is, item-none, item-one, item-more, behind-last, behind-comma, empty-is, array-is, no-condition-is, condition-is, comprehension-is, key-is, dots-is, entry-none, entry-one, entry-more, map-is, int-is, quoted-is, part-colon, part-bracket, part-some, step-none, step-some}
 use Rattle.tera_expressions.proofs.Alone.{called_no_loop}
-use Rattle.tera_expressions.proofs.ArgumentRows.{put-depth, grown, argument-is, arguments-none, arguments-one, arguments-more, call-is}
+use Rattle.tera_expressions.proofs.ArgumentRows.{put-depth, grown, call-depth, argument-is, arguments-none, arguments-one, arguments-more, call-is}
+use Rattle.tera_expressions.proofs.Passing.{given-none, given-some, filter-is, test-is, not_test-is}
 use Rattle.tera_expressions.proofs.Turning.{close, lower, reading-open, Goes, whole, part-read, goes-on, goes-first, head-is, goes-leaf}
 
 mutual
@@ -63,6 +65,22 @@ mutual
       let t1 = token k.Power a h (λ e. cc) in let s1 = shorter f in
       goes-on b m n floor 10 9 os x (Binary binary.Power x z (span (start i) j)) i a j y (goes d) (omega arith) fl (omega arith) n1 g1 fu (omega arith)
       (power-is (suc b) (expr b) (start i) x z a j h pz dep) c
+  goes (test {x = x} {all = all} {i = i} {a = a} {j = j} d h g q) b m n floor os y dep fl st fu c =
+      let n1 = needs-at (kind a) k.Is 4 h is-kind.0 in let g1 = gives-at (kind a) k.Is 4 h is-kind.1 in
+      let t1 = token k.Is a h (λ e. cc) in let t2 = word-left (next a) (test-name (kind (next a)) g).0 in let s1 = shorter-given q in
+      goes-on b m n floor 4 4 os x (Test x (text (next a)) all (span (start i) j)) i a j y (goes d) (omega arith) fl (omega arith) n1 g1 fu (omega arith)
+      (test-is (suc b) (expr b) (start i) x all a j h g (goes-given q b (omega arith)) dep) c
+  goes (not_test {x = x} {all = all} {i = i} {a = a} {j = j} d h f g q) b m n floor os y dep fl st fu c =
+      let n1 = needs-at (kind a) k.Is 4 h is-kind.0 in let g1 = gives-at (kind a) k.Is 4 h is-kind.1 in
+      let t1 = token k.Is a h (λ e. cc) in let t2 = token k.Not (next a) f (λ e. cc) in
+      let t3 = word-left (next (next a)) (test-name (kind (next (next a))) g).0 in let s1 = shorter-given q in
+      goes-on b m n floor 4 4 os x (Not (Test x (text (next (next a))) all (span (start i) j)) (span (start i) j)) i a j y (goes d) (omega arith) fl (omega arith) n1 g1 fu (omega arith)
+      (not_test-is (suc b) (expr b) (start i) x all a j h f g (goes-given q b (omega arith)) dep) c
+  goes (filter {x = x} {all = all} {i = i} {a = a} {j = j} d h g q) b m n floor os y dep fl st fu c =
+      let n1 = needs-at (kind a) k.Bar 10 h bar-kind.0 in let g1 = gives-at (kind a) k.Bar 10 h bar-kind.1 in
+      let t1 = token k.Bar a h (λ e. cc) in let t2 = word-left (next a) g in let s1 = shorter-given q in
+      goes-on b m n floor 10 10 os x (Filter x (text (next a)) all (span (start i) j)) i a j y (goes d) (omega arith) fl (omega arith) n1 g1 fu (omega arith)
+      (filter-is (suc b) (expr b) (start i) x all a j h g (goes-given q b (omega arith)) dep) c
   goes (attribute {s = s} {optional = optional} {x = x} {i = i} {a = a} w d h g) b m n floor os y dep fl st fu c =
       let v = dot-needs w in
       let n1 = needs-at (kind a) s 11 h v.0 in let g1 = gives-at (kind a) s 11 h v.1 in
@@ -104,7 +122,8 @@ mutual
       (head-is (suc b) (expr b) i k.Name h ∙ ap (λ o. r.name_by (suc b) (expr b) o i) e ∙ deep-node (suc b) 0 (Name word (span (start i) (behind_loop i))) (behind_loop i) (omega arith) refl) c
   goes (call {all = all} {i = i} {a = a} h e d g) b m n floor os y dep fl st fu c =
       let t1 = shorter (call h e d g) in
-      goes-first b m n floor 11 os k.Name (Super all (span (start i) (next a))) i (next a) y h (λ e. cc) begin-kinds.3 fl (omega arith)
+      let v = call-depth (text i) all (span (start i) (next a)) in
+      goes-first b m n floor 11 os k.Name (call_form (text i) all (span (start i) (next a))) i (next a) y h (λ e. cc) begin-kinds.3 fl (omega arith)
       (head-is (suc b) (expr b) i k.Name h ∙ ap (λ o. r.name_by (suc b) (expr b) o i) (called_no_loop i e)
       ∙ rw e (call-is (suc b) (expr b) all i a (goes-arguments d g b (left (next (next i))) (omega arith) (omega arith)) dep)) c
   goes (parentheses {x = x} {i = i} {a = a} h d g) b m n floor os y dep fl st fu c =
@@ -180,6 +199,10 @@ mutual
       let w = goes-argument q n1 (suc b) b (omega arith) in
       arguments-more (suc b) (expr b) n found (arguments_depth found) (with_it, w.0) i v (Some ((all, arguments_depth all), next a)) (argument-starts q) w.1 h
       (ap (λ m. r.arguments_from (suc b) (expr b) n with_it m (next v)) (sym w.2) ∙ goes-arguments u g b n le (omega arith))
+
+  pub goes-given : {all : Arguments} {i a : Input} → DerivesGiven all i a → (b : ℕ) → arguments_depth all ≤ b → r.given (suc b) (expr b) i ≡ Some ((all, arguments_depth all), a)
+  goes-given (not_given {i = i} h) b le = given-none (suc b) (expr b) i h
+  goes-given (given {i = i} {a = a} h d g) b le = given-some (suc b) (expr b) i h ∙ goes-arguments d g b (left (next i)) le (omega arith)
 
   -- a bound is read, where a colon or a bracket follows
   goes-part : {o : Optional} {i a : Input} → DerivesPart o i a → (kind a ≡ k.Colon) ⊎ (kind a ≡ k.RightBracket) → (limit b : ℕ) → optional_depth o ≤ b → r.part limit (expr b) i ≡ Some ((o, optional_depth o), a)

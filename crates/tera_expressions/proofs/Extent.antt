@@ -6,10 +6,10 @@ use Rattle.tera_tokens.specs.declared.token.Kind.TheVariants as k
 use Rattle.tera_tokens.specs.Token.{Token}
 use Rattle.tera_tokens.specs.Input.{Input, same, kind, kind_of, text, next, after, left, is_word}
 use Rattle.tera_expressions.specs.Keys.{key_at, key_by}
-use Rattle.tera_expressions.specs.Grammar.{Derives, quoted, tighter, choice, operation, not, not_in, minus, power, attribute, index, slice, DerivesPart, absent, present, DerivesStep, no_step, step, int, is_true, is_false, nothing, name, of_loop, parentheses, array, map, DerivesEntry, keyed, spread_map, DerivesEntries, no_entries, one_entry, more_entries, DerivesItem, plain, spread, DerivesItems, none, one, more, comprehension, DerivesCondition, no_condition, condition, call, DerivesArgument, argument, DerivesArguments, no_arguments, one_argument, more_arguments}
+use Rattle.tera_expressions.specs.Grammar.{Derives, quoted, tighter, choice, operation, not, not_in, minus, power, attribute, index, slice, DerivesPart, absent, present, DerivesStep, no_step, step, int, is_true, is_false, nothing, name, of_loop, parentheses, array, map, DerivesEntry, keyed, spread_map, DerivesEntries, no_entries, one_entry, more_entries, DerivesItem, plain, spread, DerivesItems, none, one, more, comprehension, DerivesCondition, no_condition, condition, call, filter, test, not_test, DerivesArgument, argument, DerivesArguments, no_arguments, one_argument, more_arguments, DerivesGiven, not_given, given}
 use Rattle.tera_expressions.specs.Headings.{Calls, value, key_and_value}
 use Rattle.tera_errors.specs.Site as site
-use Rattle.tera_expressions.proofs.Steps.{unlike, alike}
+use Rattle.tera_expressions.proofs.Steps.{unlike, alike, test-name}
 use Rattle.tera_expressions.proofs.Precedence.{is-no-end, dot-needs, bracket-needs}
 
 pub next-left : (s : Kind) (i : Input) → kind i ≡ s → (s ≡ k.End → ⊥) → left i ≡ suc (left (next i))
@@ -33,9 +33,12 @@ pub token : (s : Kind) (i : Input) → kind i ≡ s → (s ≡ k.End → ⊥) �
 token s i h n = let e = next-left s i h n in omega arith
 
 -- a word is a token
-pub word-left : (i : Input) → is_word (kind i) ≡ true → left (next i) < left i
+pub word-some : (i : Input) → is_word (kind i) ≡ true → kind i ≡ k.End → ⊥
 unfolding is_word
-word-left i h = let e = next-left (kind i) i refl (λ e. let f : is_word k.End ≡ true = ap is_word (sym e) ∙ h in cc) in omega arith
+word-some i h e = let f : is_word k.End ≡ true = ap is_word (sym e) ∙ h in cc
+
+pub word-left : (i : Input) → is_word (kind i) ≡ true → left (next i) < left i
+word-left i h = token (kind i) i refl (word-some i h)
 
 -- a key is a token of its kinds
 pub key-kind : (s : Kind) (i : Input) (key : Key) → key_at i ≡ Some key → key_by s (text i) ≡ None → kind i ≡ s → ⊥
@@ -79,6 +82,16 @@ mutual
       let p1 = shorter d in let p2 = shorter-calls c in let p3 = shorter t in let p4 = shorter-condition o in
       let t1 = token k.LeftBracket i h (λ e. cc) in let t2 = token k.For a f (λ e. cc) in let t3 = token k.RightBracket e g (λ e. cc) in omega arith
   shorter (call {i = i} {a = a} h e d g) = let p1 = shorter-arguments d in let t1 = token k.Name i h (λ e. cc) in let t2 = next-le (next i) in let t3 = token k.RightParenthesis a g (λ e. cc) in omega arith
+  shorter (filter {a = a} d h g q) = let p1 = shorter d in let p2 = shorter-given q in let t1 = token k.Bar a h (λ e. cc) in let t2 = word-left (next a) g in omega arith
+  shorter (test {a = a} d h g q) =
+      let p1 = shorter d in let p2 = shorter-given q in let t1 = token k.Is a h (λ e. cc) in let t2 = word-left (next a) (test-name (kind (next a)) g).0 in omega arith
+  shorter (not_test {a = a} d h f g q) =
+      let p1 = shorter d in let p2 = shorter-given q in let t1 = token k.Is a h (λ e. cc) in let t2 = token k.Not (next a) f (λ e. cc) in
+      let t3 = word-left (next (next a)) (test-name (kind (next (next a))) g).0 in omega arith
+
+  pub shorter-given : {all : Arguments} {i j : Input} → DerivesGiven all i j → left j ≤ left i
+  shorter-given (not_given h) = omega arith
+  shorter-given (given {i = i} {a = a} h d g) = let p1 = shorter-arguments d in let t1 = token k.LeftParenthesis i h (λ e. cc) in let t2 = token k.RightParenthesis a g (λ e. cc) in omega arith
 
   pub shorter-argument : {found all : Arguments} {i j : Input} → DerivesArgument found all i j → left j < left i
   shorter-argument (argument {i = i} h q d e) = let p1 = shorter d in let t1 = word-left i h in let t2 = token k.Assign (next i) q (λ e. cc) in omega arith
@@ -141,6 +154,9 @@ starts-so (is_false h) = (λ e. cc, λ e. cc, λ e. cc)
 starts-so (nothing h) = (λ e. cc, λ e. cc, λ e. cc)
 starts-so (name h e g) = (λ e. cc, λ e. cc, λ e. cc)
 starts-so (call h e d g) = (λ e. cc, λ e. cc, λ e. cc)
+starts-so (filter d h g q) = starts-so d
+starts-so (test d h g q) = starts-so d
+starts-so (not_test d h f g q) = starts-so d
 starts-so (of_loop h e) = (λ e. cc, λ e. cc, λ e. cc)
 starts-so (parentheses h d g) = (λ e. cc, λ e. cc, λ e. cc)
 starts-so (array h d g) = (λ e. cc, λ e. cc, λ e. cc)

@@ -1,15 +1,16 @@
 -- All spans of an expression lie inside the text that its tokens stand in.
-use Rattle.std.proofs.Common.{◌≡◌, ℕ, ◌≤◌, Bool, Option, arith}
+use Rattle.std.proofs.Common.{◌≡◌, ℕ, ◌≤◌, Bool, true, Option, refl, arith}
 use Rattle.tera_errors.specs.declared.span.Span.{Span}
-use Rattle.tera_tree.specs.Tree.{Expr, Optional, Items, Key, Entries, Arguments}
-use Rattle.tera_tree.specs.Inside.{Within, ExprInside, OptionalInside, ItemsInside, EntriesInside, ArgumentsInside}
+use Rattle.tera_tree.specs.Tree.{Expr, Optional, Items, Key, Entries, Arguments, Filters}
+use Rattle.tera_tree.specs.Inside.{Within, ExprInside, OptionalInside, ItemsInside, EntriesInside, ArgumentsInside, FiltersInside}
 use Rattle.tera_tokens.specs.declared.token.Kind.{Kind}
 use Rattle.tera_tokens.specs.declared.token.Kind.TheVariants as k
-use Rattle.tera_tokens.specs.Input.{Input, kind, start, text, next, span}
+use Rattle.tera_tokens.specs.Input.{Input, kind, start, text, next, span, is_word}
 use Rattle.tera_tokens.proofs.Order.{Orderly, Onward, onward_none, onward_then, onward_next, start_le, in_order-le}
-use Rattle.tera_expressions.specs.Grammar.{Operator, or, and, equal, not_equal, less, greater, less_or_equal, greater_or_equal, is_in, concat, add, subtract, multiply, divide, floor_divide, remainder, Derives, quoted, tighter, choice, operation, not, not_in, minus, power, attribute, index, slice, DerivesPart, absent, present, DerivesStep, no_step, step, int, is_true, is_false, nothing, name, of_loop, parentheses, array, map, DerivesEntry, keyed, spread_map, DerivesEntries, no_entries, one_entry, more_entries, DerivesItem, plain, spread, DerivesItems, none, one, more, comprehension, DerivesCondition, no_condition, condition, call, DerivesArgument, argument, DerivesArguments, no_arguments, one_argument, more_arguments}
+use Rattle.tera_expressions.specs.Grammar.{Operator, or, and, equal, not_equal, less, greater, less_or_equal, greater_or_equal, is_in, concat, add, subtract, multiply, divide, floor_divide, remainder, Derives, quoted, tighter, choice, operation, not, not_in, minus, power, attribute, index, slice, DerivesPart, absent, present, DerivesStep, no_step, step, int, is_true, is_false, nothing, name, of_loop, parentheses, array, map, DerivesEntry, keyed, spread_map, DerivesEntries, no_entries, one_entry, more_entries, DerivesItem, plain, spread, DerivesItems, none, one, more, comprehension, DerivesCondition, no_condition, condition, call, filter, test, not_test, DerivesArgument, argument, DerivesArguments, no_arguments, one_argument, more_arguments, DerivesGiven, not_given, given, DerivesFilters, last_filter, more_filters}
 use Rattle.tera_expressions.proofs.Calls.{calls_lie}
-use Rattle.tera_expressions.proofs.ArgumentRows.{put-inside}
+use Rattle.tera_expressions.proofs.ArgumentRows.{put-inside, call-inside}
+use Rattle.tera_expressions.proofs.Extent.{word-some}
 
 -- what was read between two places, in order, lies inside
 pub record Read (size : ℕ) (P : Type 0) (i j : Input) : Type 0 where
@@ -145,7 +146,33 @@ module _ (size : ℕ) where
         let n = past i o in
         let m = past (next i) n.orderly in
         let p = arguments_lie d m.orderly tt in
-        begins k.Name i h (λ e. cc) o (onward_then m (onward_then p.onward (past a p.onward.orderly))) (λ w. (p.inside, w))
+        begins k.Name i h (λ e. cc) o (onward_then m (onward_then p.onward (past a p.onward.orderly))) (λ w. call-inside size (text i) _ (span (start i) (next a)) p.inside w)
+    expr_lies (filter {a = a} d h g q) o =
+        let p = expr_lies d o in
+        let n = past a p.onward.orderly in
+        let m = past (next a) n.orderly in
+        let r = given_lies q m.orderly in
+        goes_on p (onward_then n (onward_then m r.onward)) (λ w. (p.inside, r.inside, w))
+    expr_lies (test {a = a} d h g q) o =
+        let p = expr_lies d o in
+        let n = past a p.onward.orderly in
+        let m = past (next a) n.orderly in
+        let r = given_lies q m.orderly in
+        goes_on p (onward_then n (onward_then m r.onward)) (λ w. (p.inside, r.inside, w))
+    expr_lies (not_test {a = a} d h f g q) o =
+        let p = expr_lies d o in
+        let n = past a p.onward.orderly in
+        let m = past (next a) n.orderly in
+        let u = past (next (next a)) m.orderly in
+        let r = given_lies q u.orderly in
+        goes_on p (onward_then n (onward_then m (onward_then u r.onward))) (λ w. ((p.inside, r.inside, w), w))
+
+    given_lies : {all : Arguments} {i j : Input} → DerivesGiven all i j → Orderly size i → Read size (ArgumentsInside size all) i j
+    given_lies (not_given {i = i} h) o = record { inside = tt; onward = onward_none size i o }
+    given_lies (given {i = i} {a = a} h d g) o =
+        let n = past i o in
+        let p = arguments_lie d n.orderly tt in
+        record { inside = p.inside; onward = onward_then n (onward_then p.onward (past a p.onward.orderly)) }
 
     argument_lies : {found all : Arguments} {i j : Input} → DerivesArgument found all i j → Orderly size i → ArgumentsInside size found → Read size (ArgumentsInside size all) i j
     argument_lies (argument {found = found} {all = all} {x = x} {i = i} h q d e) o before =
@@ -216,3 +243,21 @@ module _ (size : ℕ) where
         let n = past a p.onward.orderly in
         let r = entries_lie q n.orderly in
         record { inside = (p.inside, r.inside); onward = onward_then p.onward (onward_then n r.onward) }
+
+  -- what begins with a word
+  named : (i j : Input) → is_word (kind i) ≡ true → Orderly size i → Onward size (next i) j → Within size (span (start i) j)
+  named i j h o w =
+      let a = start_le size (kind i) i refl (word-some i h) o in let b = w.later in
+      within (start i) j (omega arith) w.orderly
+
+  pub filters_lie : {fs : Filters} {i j : Input} → DerivesFilters fs i j → Orderly size i → Read size (FiltersInside size fs) i j
+  filters_lie (last_filter {i = i} {j = j} h q) o =
+      let n = past i o in
+      let r = given_lies q n.orderly in
+      record { inside = (r.inside, named i j h o r.onward, tt); onward = onward_then n r.onward }
+  filters_lie (more_filters {i = i} {a = a} h q g u) o =
+      let n = past i o in
+      let r = given_lies q n.orderly in
+      let m = past a r.onward.orderly in
+      let s = filters_lie u m.orderly in
+      record { inside = (r.inside, named i a h o r.onward, s.inside); onward = onward_then n (onward_then r.onward (onward_then m s.onward)) }

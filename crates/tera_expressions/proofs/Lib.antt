@@ -8,8 +8,11 @@ pub mod Extent
 pub mod Forms
 pub mod ArgumentRows
 pub mod ArgumentOrder
+pub mod Passing
 pub mod Placed
+pub mod FilterRows
 pub mod Turning
 pub mod Complete
 pub mod Inside
+pub mod Sections
 pub mod Alone

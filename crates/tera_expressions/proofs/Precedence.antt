@@ -7,7 +7,7 @@ use Rattle.tera_tree.specs.Depth.{depth}
 use Rattle.tera_tokens.specs.declared.token.Kind.{Kind}
 use Rattle.tera_tokens.specs.declared.token.Kind.TheVariants as k
 use Rattle.tera_tokens.specs.Input.{Input}
-use Rattle.tera_expressions.specs.Grammar.{Operator, or, and, equal, not_equal, less, greater, less_or_equal, greater_or_equal, is_in, concat, add, subtract, multiply, divide, floor_divide, remainder, Dot, dot, optional_dot, Bracket, bracket, optional_bracket, Derives, quoted, tighter, choice, operation, not, not_in, minus, power, attribute, index, slice, int, is_true, is_false, nothing, name, of_loop, parentheses, array, map, comprehension, call}
+use Rattle.tera_expressions.specs.Grammar.{Operator, or, and, equal, not_equal, less, greater, less_or_equal, greater_or_equal, is_in, concat, add, subtract, multiply, divide, floor_divide, remainder, Dot, dot, optional_dot, Bracket, bracket, optional_bracket, Derives, quoted, tighter, choice, operation, not, not_in, minus, power, attribute, index, slice, int, is_true, is_false, nothing, name, of_loop, parentheses, array, map, comprehension, call, filter, test, not_test}
 use Rattle.tera_expressions.specs.Expressions.{needs, gives, begins, goes_on}
 
 -- No operator in this place binds more tightly than the level.
@@ -160,6 +160,14 @@ pub not-kind : (needs k.Not ≡ 4) × (gives k.Not ≡ 4)
 unfolding needs gives
 not-kind = (refl, refl)
 
+pub is-kind : (needs k.Is ≡ 4) × (gives k.Is ≡ 4)
+unfolding needs gives
+is-kind = (refl, refl)
+
+pub bar-kind : (needs k.Bar ≡ 10) × (gives k.Bar ≡ 10)
+unfolding needs gives
+bar-kind = (refl, refl)
+
 pub power-kind : (needs k.Power ≡ 10) × (gives k.Power ≡ 9)
 unfolding needs gives
 power-kind = (refl, refl)
@@ -209,6 +217,9 @@ at-most (is_false h) = omega arith
 at-most (nothing h) = omega arith
 at-most (name h e g) = omega arith
 at-most (call h e d g) = omega arith
+at-most (filter d h g q) = omega arith
+at-most (test d h g q) = omega arith
+at-most (not_test d h f g q) = omega arith
 at-most (of_loop h e) = omega arith
 at-most (parentheses h d g) = omega arith
 at-most (array h d g) = omega arith

@@ -5,7 +5,7 @@ use Rattle.tera_errors.specs.Site as site
 use Rattle.tera_errors.specs.declared.span.Span.{Span}
 use Rattle.tera_tree.specs.declared.expression.BinaryOperator.{BinaryOperator}
 use Rattle.tera_tree.specs.declared.expression.BinaryOperator.TheVariants as binary
-use Rattle.tera_tree.specs.Tree.{Expr, Nothing, Boolean, Integer, Text, Name, Attribute, Index, Slice, Optional, Absent, Present, Not, Negate, Binary, Ternary, Array, Items, NoItems, Map, Comprehension, Super, Key, Entries, NoEntries, NoArguments}
+use Rattle.tera_tree.specs.Tree.{Expr, Nothing, Boolean, Integer, Text, Name, Attribute, Index, Slice, Optional, Absent, Present, Not, Negate, Binary, Ternary, Array, Items, NoItems, Map, Comprehension, Filter, Test, Key, Entries, NoEntries, NoArguments}
 use Rattle.tera_tree.specs.Depth.{depth, items_depth, entries_depth, optional_depth}
 use Rattle.tera_tokens.specs.declared.token.Kind.{Kind}
 use Rattle.tera_tokens.specs.declared.token.Kind.TheVariants as k
@@ -13,14 +13,15 @@ use Rattle.tera_tokens.specs.Input.{Input, Parser, and_then, same, kind, start, 
 use Rattle.tera_tokens.specs.Literal.{integer, literal}
 use Rattle.tera_expressions.specs.Keys.{key_at}
 use Rattle.tera_expressions.specs.Loops.{loop_name, behind_loop}
-use Rattle.tera_expressions.specs.Grammar.{Operator, or, and, equal, not_equal, less, greater, less_or_equal, greater_or_equal, is_in, concat, add, subtract, multiply, divide, floor_divide, remainder, Dot, dot, optional_dot, Bracket, bracket, optional_bracket, Derives, quoted, tighter, choice, operation, not, not_in, minus, power, attribute, index, slice, DerivesPart, absent, present, DerivesStep, no_step, step, int, is_true, is_false, nothing, name, of_loop, parentheses, array, map, DerivesEntry, keyed, spread_map, DerivesEntries, no_entries, one_entry, more_entries, DerivesItem, plain, spread, DerivesItems, none, one, more, comprehension, DerivesCondition, no_condition, condition, call}
+use Rattle.tera_expressions.specs.Grammar.{Operator, or, and, equal, not_equal, less, greater, less_or_equal, greater_or_equal, is_in, concat, add, subtract, multiply, divide, floor_divide, remainder, Dot, dot, optional_dot, Bracket, bracket, optional_bracket, Derives, quoted, tighter, choice, operation, not, not_in, minus, power, attribute, index, slice, DerivesPart, absent, present, DerivesStep, no_step, step, int, is_true, is_false, nothing, name, of_loop, parentheses, array, map, DerivesEntry, keyed, spread_map, DerivesEntries, no_entries, one_entry, more_entries, DerivesItem, plain, spread, DerivesItems, none, one, more, comprehension, DerivesCondition, no_condition, condition, call, filter, test, not_test}
 use Rattle.tera_expressions.specs.Headings.{Calls, calls}
-use Rattle.tera_expressions.specs.Arguments.{is_call}
+use Rattle.tera_expressions.specs.Arguments.{is_call, call_form, is_test_name}
 use Rattle.tera_expressions.specs.Expressions as r
 use Rattle.tera_expressions.specs.Expressions.{Deep, deep, needs, gives, begins, goes_on, floor_in, opened, climb, level, level_with, expr, head, node, prefixed, infixed, applied, behind_dots, join_items, one_item, join_entries}
 use Rattle.tera_expressions.proofs.Precedence.{gives-below, on-means, operator-depth}
 use Rattle.tera_expressions.proofs.Calls.{calls-got}
-use Rattle.tera_expressions.proofs.ArgumentRows.{Reads, arguments-got}
+use Rattle.tera_expressions.proofs.ArgumentRows.{Reads, arguments-got, call-depth}
+use Rattle.tera_expressions.proofs.Passing.{passed-got}
 use Rattle.tera_expressions.proofs.Rows.{join-none, join-join, join-no-entries, join-entries}
 use Rattle.tera_expressions.proofs.Steps.{and_then-some, guard, chosen, same-is, expect-some, some-pair, either, same-value, node-got}
 
@@ -129,6 +130,12 @@ abbrev some-part : Optional × ℕ → Input → Option ((Optional × ℕ) × In
 some-part z i = Some (z, i)
 
 module _ (limit b : ℕ) (part : ℕ → Parser Deep) (sound : Sound b part) where
+  reads : Reads part
+  reads i j x h = go (sound 0 i j x (omega arith) h)
+    where
+      go : {y : Deep} {a : Input} → Got b 0 y i a → Derives 0 y.expr i a × (y.depth ≡ depth y.expr)
+      go (got _ d) = (d, refl)
+
   prefixed-got : (l : ℕ) (form : Expr → Span → Expr) → ((x : Expr) (at : Span) → depth (form x at) ≡ suc (depth x)) → (i j : Input) (y : Deep) → l ≤ 11
       → ((x : Expr) (j : Input) → Derives l x (next i) j → Derives l (form x (span (start i) j)) i j) → prefixed limit part l form i ≡ Some (y, j) → Got limit l y i j
   unfolding prefixed
@@ -279,6 +286,32 @@ module _ (limit b : ℕ) (part : ℕ → Parser Deep) (sound : Sound b part) whe
       let q = and_then-some (applied limit part 5 binary.In (start p) x (next i)) (λ y. λ j. node limit y.depth (Not y.expr (span (start p) j)) j) (y, j) a.1 in
       in-got have p i q.1 x q.0 g q.2 (same-is k.In (kind (next i)) a.0) h le y j q.3
 
+  filter-got : (have : ℕ) (p i j : Input) (x y : Deep) → 10 ≤ have → kind i ≡ k.Bar → Got limit have x p i → r.filter limit part (start p) x i ≡ Some (y, j) → Got limit 10 y p j
+  unfolding r.filter
+  filter-got have p i j x y n h (got {x = v} _ d) hh =
+      let q = guard (is_word (kind (next i))) (r.passed limit part Filter (start p) (deep v) (next i)) (y, j) hh in
+      passed-got limit part reads (λ y j. Got limit 10 y p j) Filter (λ _ _ _ _. refl) (start p) (next i) j v y (λ _ _ w ok. got ok (filter (down have 10 n d) h q.0 w)) q.1
+
+  test-got : (have : ℕ) (p i j : Input) (x y : Deep) → 4 ≤ have → kind i ≡ k.Is → Got limit have x p i → r.test limit part (start p) x i ≡ Some (y, j) → Got limit 4 y p j
+  unfolding r.test r.test_by_name
+  test-got have p i j x y n h (got {x = v} _ d) hh =
+      either (chosen (same k.Not (kind o)) (and_then (r.test_by_name limit part (start p) (deep v) (next o)) turned) (r.test_by_name limit part (start p) (deep v) o) (Some (y, j)) hh)
+      (λ q. let t = and_then-some (r.test_by_name limit part (start p) (deep v) (next o)) turned (y, j) q.1 in
+      let u = guard (is_test_name (kind (next o))) (r.passed limit part Test (start p) (deep v) (next o)) (t.0, t.1) t.2 in
+      let P : Deep → Input → Type 0 = λ z a. turned z a ≡ Some (y, j) → Got limit 4 y p j in
+      passed-got limit part reads P Test (λ _ _ _ _. refl) (start p) (next o) t.1 v t.0
+      (λ all a w _ m. let z : Expr = Test v (text (next o)) all (span (start p) a) in
+      node-got (λ y j. Got limit 4 y p j) limit (depth z) (Not z (span (start p) a)) a j y m refl
+      (λ ok. got ok (not_test (down have 4 n d) h (same-is k.Not (kind o) q.0) u.0 w))) u.1 t.3)
+      (λ q. let u = guard (is_test_name (kind o)) (r.passed limit part Test (start p) (deep v) o) (y, j) q.1 in
+      passed-got limit part reads (λ y j. Got limit 4 y p j) Test (λ _ _ _ _. refl) (start p) o j v y (λ _ _ w ok. got ok (test (down have 4 n d) h u.0 w)) u.1)
+    where
+      o : Input
+      o = next i
+
+      turned : Deep → Parser Deep
+      turned z a = node limit z.depth (Not z.expr (span (start p) a)) a
+
   lowered : (m l : ℕ) (x : Deep) (i j : Input) → l ≤ m → Got limit m x i j → Got limit l x i j
   lowered m l x i j le (got ok d) = got ok (down m l le d)
 
@@ -295,6 +328,7 @@ module _ (limit b : ℕ) (part : ℕ → Parser Deep) (sound : Sound b part) whe
   operation-by-got k.LessOrEqual have p i j x y h n b g hh = applied-got less_or_equal have p i j x y n (omega arith) h g hh
   operation-by-got k.GreaterOrEqual have p i j x y h n b g hh = applied-got greater_or_equal have p i j x y n (omega arith) h g hh
   operation-by-got k.In have p i j x y h n b g hh = applied-got is_in have p i j x y n (omega arith) h g hh
+  operation-by-got k.Is have p i j x y h n b g hh = test-got have p i j x y n h g hh
   operation-by-got k.Tilde have p i j x y h n b g hh = applied-got concat have p i j x y n (omega arith) h g hh
   operation-by-got k.Plus have p i j x y h n b g hh = applied-got add have p i j x y n (omega arith) h g hh
   operation-by-got k.Minus have p i j x y h n b g hh = applied-got subtract have p i j x y n (omega arith) h g hh
@@ -303,6 +337,7 @@ module _ (limit b : ℕ) (part : ℕ → Parser Deep) (sound : Sound b part) whe
   operation-by-got k.FloorSlash have p i j x y h n b g hh = applied-got floor_divide have p i j x y n (omega arith) h g hh
   operation-by-got k.Percent have p i j x y h n b g hh = applied-got remainder have p i j x y n (omega arith) h g hh
   operation-by-got k.Power have p i j x y h n b g hh = power-got have p i j x y n h g hh
+  operation-by-got k.Bar have p i j x y h n b g hh = filter-got have p i j x y n h g hh
   operation-by-got k.Dot have p i j x y h n b g hh = attribute-got dot p i j x y h (lowered have 11 x p i n g) hh
   operation-by-got k.OptionalDot have p i j x y h n b g hh = attribute-got optional_dot p i j x y h (lowered have 11 x p i n g) hh
   operation-by-got k.LeftBracket have p i j x y h n b g hh = subscript-got bracket p i j x y h (lowered have 11 x p i n g) hh
@@ -489,21 +524,17 @@ module _ (limit b : ℕ) (part : ℕ → Parser Deep) (sound : Sound b part) whe
   leaf-got : (i j : Input) (y : Deep) (x : Expr) → depth x ≡ 1 → Derives 11 x i (next i) → node limit 0 x (next i) ≡ Some (y, j) → Got limit 11 y i j
   leaf-got i j y x e d h = leaf-to i (next i) j y x e d h
 
-  reads : Reads part
-  reads i j x h = go (sound 0 i j x (omega arith) h)
-    where
-      go : {y : Deep} {a : Input} → Got b 0 y i a → Derives 0 y.expr i a × (y.depth ≡ depth y.expr)
-      go (got _ d) = (d, refl)
-
   call-got : (i j : Input) (y : Deep) → kind i ≡ k.Name → is_call i ≡ true → r.call limit part i ≡ Some (y, j) → Got limit 11 y i j
   unfolding r.call
   call-got i j y h e hh =
       let o = next (next i) in
-      let q = and_then-some (r.arguments_from limit part (left o) NoArguments 0 o) (r.call_of limit part (start i)) (y, j) hh in
+      let q = and_then-some (r.arguments_from limit part (left o) NoArguments 0 o) (r.call_of limit part (start i) (text i)) (y, j) hh in
       let g = arguments-got limit part reads (left o) NoArguments 0 o q.1 q.0 refl q.2 in
       let f = g.4 in
-      let P : Input → Type 0 = λ c. depth (Super q.0.0 (span (start i) c)) ≤ limit → Got limit 11 (deep (Super q.0.0 (span (start i) c))) i c in
-      node-got (λ y j. Got limit 11 y i j) limit q.0.1 (Super q.0.0 (span (start i) q.1)) q.1 j y q.3 (omega (arith, f))
+      let made : Input → Expr = λ c. call_form (text i) q.0.0 (span (start i) c) in
+      let v = call-depth (text i) q.0.0 (span (start i) q.1) in
+      let P : Input → Type 0 = λ c. depth (made c) ≤ limit → Got limit 11 (deep (made c)) i c in
+      node-got (λ y j. Got limit 11 y i j) limit q.0.1 (made q.1) q.1 j y q.3 (omega (arith, f, v))
       (λ ok. subst P (sym g.3) (λ ok. got ok (call h e g.1 g.2)) ok)
 
   name-got : (o : Option site.Name) (i j : Input) (y : Deep) → loop_name i ≡ o → kind i ≡ k.Name → r.name_by limit part o i ≡ Some (y, j) → Got limit 11 y i j

@@ -1,12 +1,14 @@
 -- What the steps of a reader say once they gave a value.
-use Rattle.std.proofs.Common.{◌≡◌, ℕ, suc, ◌+◌, ◌<◌, ◌≤◌, Bool, true, false, nat_lt, Option, Some, None, if◌then◌else◌, refl, sym, ◌∙◌, ap, subst, arith, rules, ◌⊎◌, inl, inr}
+use Rattle.std.proofs.Common.{◌≡◌, ℕ, suc, ◌+◌, ◌<◌, ◌≤◌, ◌&&◌, not, Bool, true, false, nat_lt, Option, Some, None, if◌then◌else◌, refl, sym, ◌∙◌, ap, subst, arith, rules, ◌⊎◌, inl, inr}
 use Rattle.std.proofs.lemmas.Grind.{common_steps}
 use denote.Enum.Bare.{same_true}
 use Rattle.tera_tree.specs.Tree.{Expr}
 use Rattle.tera_tree.specs.Depth.{depth}
 use Rattle.tera_tokens.specs.contracts.token.Kind.{the_type}
 use Rattle.tera_tokens.specs.declared.token.Kind.{Kind}
-use Rattle.tera_tokens.specs.Input.{Input, Outcome, Parser, and_then, same, kind, next, expect}
+use Rattle.tera_tokens.specs.declared.token.Kind.TheVariants as k
+use Rattle.tera_tokens.specs.Input.{Input, Outcome, Parser, and_then, same, kind, next, expect, is_word}
+use Rattle.tera_expressions.specs.Arguments.{is_test_name}
 use Rattle.tera_expressions.specs.Expressions.{Deep, deep, node}
 
 pub and_then-some : {A B : Type 0} (o : Outcome A) (f : A → Parser B) (y : B × Input) → and_then o f ≡ Some y → (x : A) × (j : Input) × (o ≡ Some (x, j)) × (f x j ≡ Some y)
@@ -49,6 +51,19 @@ alike s u h = ap (same s) h ∙ same-refl s
 
 pub some-pair : {A B : Type 0} (p q : A × B) → Some p ≡ Some q → (p.0 ≡ q.0) × (p.1 ≡ q.1)
 some-pair p q h = let e : p ≡ q = cc in (ap (λ r. r.0) e, ap (λ r. r.1) e)
+
+pub unlike-is : (s u : Kind) → same s u ≡ false → u ≡ s → ⊥
+unlike-is s u h e = let f : false ≡ true = sym h ∙ alike s u e in cc
+
+pub both : (p q : Bool) → (p && not q) ≡ true → (p ≡ true) × (q ≡ false)
+both true false h = (refl, refl)
+both true true h = absurd (cc)
+both false q h = absurd (cc)
+
+-- the name of a test is a word
+pub test-name : (s : Kind) → is_test_name s ≡ true → (is_word s ≡ true) × (same k.Not s ≡ false)
+unfolding is_test_name
+test-name s h = both (is_word s) (same k.Not s) h
 
 pub expect-some : (s : Kind) (i j : Input) (y : Unit {0}) → expect s i ≡ Some (y, j) → (kind i ≡ s) × (j ≡ next i)
 unfolding expect

@@ -1,17 +1,27 @@
 -- Calls, and their arguments in order.
-use Rattle.std.specs.Prelude.{◌≡◌, ◌&&◌, bytes_eq, codes, Bool, Option, Some, None, option_map, if◌then◌else◌}
+use Rattle.std.specs.Prelude.{◌≡◌, ◌&&◌, not, bytes_eq, codes, Bool, Option, Some, None, option_map, if◌then◌else◌}
 use Rattle.std.specs.declared.cmp.Ordering.{Ordering}
 use Rattle.std.specs.declared.cmp.Ordering.TheVariants.{Less}
 use Rattle.std.specs.Ordering.{nat_cmp, match_ordering}
 use Rattle.std.specs.Cmp.Lexicographic.{slice_cmp}
 use Rattle.tera_errors.specs.Site.{Name}
-use Rattle.tera_tree.specs.Tree.{Expr, Arguments, NoArguments, MoreArguments}
+use Rattle.tera_errors.specs.declared.span.Span.{Span}
+use Rattle.tera_tree.specs.Tree.{Expr, Super, Call, Arguments, NoArguments, MoreArguments}
+use Rattle.tera_tokens.specs.declared.token.Kind.{Kind}
 use Rattle.tera_tokens.specs.declared.token.Kind.TheVariants as k
 use Rattle.tera_tokens.specs.Input.{Input, Parser, and_then, kind, text, next, same, expect, is_word}
 
--- `super` and a parenthesis are no name, but a call
+-- a name and a parenthesis are a call
 unfoldable pub is_call : Input → Bool
-is_call i = same k.LeftParenthesis (kind (next i)) && bytes_eq (text i) (codes "super")
+is_call i = same k.LeftParenthesis (kind (next i))
+
+-- the form that a call by this name makes of its arguments: `super` has its own
+unfoldable pub call_form : Name → Arguments → Span → Expr
+call_form n all at = if bytes_eq n (codes "super") then Super all at else Call n all at
+
+-- no test is called `not`
+unfoldable pub is_test_name : Kind → Bool
+is_test_name s = is_word s && not (same k.Not s)
 
 -- the order of names by their bytes
 abbrev pub name_cmp : Name → Name → Ordering

@@ -3,7 +3,7 @@ use Rattle.std.specs.Prelude.{ℕ, zero, suc, ◌+◌, max, List, [], ◌∷◌,
 use Rattle.tera_errors.specs.declared.span.Span.{Span}
 use Rattle.tera_tree.specs.declared.expression.BinaryOperator.{BinaryOperator}
 use Rattle.tera_tree.specs.declared.expression.BinaryOperator.TheVariants as binary
-use Rattle.tera_tree.specs.Tree.{Expr, Nothing, Boolean, Integer, Text, Name, Attribute, Index, Slice, Optional, Absent, Present, Not, Negate, Binary, And, Or, Ternary, Array, Items, NoItems, MoreItems, Map, Comprehension, Super, Key, Entries, NoEntries, MoreEntries, Arguments, NoArguments}
+use Rattle.tera_tree.specs.Tree.{Expr, Nothing, Boolean, Integer, Text, Name, Attribute, Index, Slice, Optional, Absent, Present, Not, Negate, Binary, And, Or, Ternary, Array, Items, NoItems, MoreItems, Map, Comprehension, Filter, Test, Key, Entries, NoEntries, MoreEntries, Arguments, NoArguments, Filters, NoFilters, MoreFilters}
 use Rattle.tera_tree.specs.Depth.{depth}
 use Rattle.tera_tokens.specs.declared.token.Kind.{Kind}
 use Rattle.tera_tokens.specs.declared.token.Kind.TheVariants as k
@@ -12,7 +12,7 @@ use Rattle.tera_tokens.specs.Literal.{integer, literal}
 use Rattle.tera_expressions.specs.Keys.{key_at}
 use Rattle.tera_expressions.specs.Loops.{loop_name, behind_loop}
 use Rattle.tera_expressions.specs.Headings.{calls}
-use Rattle.tera_expressions.specs.Arguments.{is_call, put_argument, argument_name}
+use Rattle.tera_expressions.specs.Arguments.{is_call, call_form, is_test_name, put_argument, argument_name}
 use Rattle.tera_errors.specs.Site as site
 
 -- an expression, and how deep it is
@@ -36,6 +36,7 @@ needs k.Greater = 4
 needs k.LessOrEqual = 4
 needs k.GreaterOrEqual = 4
 needs k.In = 4
+needs k.Is = 4
 needs k.Tilde = 5
 needs k.Plus = 6
 needs k.Minus = 6
@@ -44,6 +45,7 @@ needs k.Slash = 7
 needs k.FloorSlash = 7
 needs k.Percent = 7
 needs k.Power = 10
+needs k.Bar = 10
 needs k.Dot = 11
 needs k.OptionalDot = 11
 needs k.LeftBracket = 11
@@ -63,6 +65,7 @@ gives k.Greater = 4
 gives k.LessOrEqual = 4
 gives k.GreaterOrEqual = 4
 gives k.In = 4
+gives k.Is = 4
 gives k.Tilde = 5
 gives k.Plus = 6
 gives k.Minus = 6
@@ -71,6 +74,7 @@ gives k.Slash = 7
 gives k.FloorSlash = 7
 gives k.Percent = 7
 gives k.Power = 9
+gives k.Bar = 10
 gives k.Dot = 11
 gives k.OptionalDot = 11
 gives k.LeftBracket = 11
@@ -121,6 +125,13 @@ keyed (Some key) = λ i. and_then (expect k.Colon (next i)) (λ _. λ j. Some (S
 -- the key of an entry, and the place behind the colon; none behind the dots of a map that is spread
 unfoldable pub entry_key : Parser (Option Key)
 entry_key = λ i. if same k.Spread (kind i) then Some (None, next i) else keyed (key_at i) i
+
+abbrev pub join_filters : Filters → Filters → Filters
+join_filters NoFilters more = more
+join_filters (MoreFilters n all at rest) more = MoreFilters n all at (join_filters rest more)
+
+abbrev pub one_filter : site.Name → Arguments → Span → Filters
+one_filter n all at = MoreFilters n all at NoFilters
 
 -- the place behind the dots of an item that is spread
 abbrev pub behind_dots : Input → Input
@@ -177,6 +188,44 @@ module _ (limit : ℕ) (sub : ℕ → Parser Deep) where
   unfoldable pub subscript : Bool → ℕ → Deep → Parser Deep
   subscript optional from x = λ i. (part >>= subscript_with optional from x) (next i)
 
+  -- all arguments with one that was put among them, and the depth of its value
+  abbrev pub placed : Option Arguments → ℕ → Parser (Arguments × ℕ)
+  placed None d = refuse
+  placed (Some all) d = λ i. Some ((all, d), i)
+
+  -- an argument, put among those that were found
+  unfoldable pub argument : Arguments → Parser (Arguments × ℕ)
+  argument found = argument_name >>= (λ name. sub 0 >>= (λ x. placed (put_argument name x.expr found) x.depth))
+
+  -- behind an argument stands a comma and more, or the parenthesis that closes
+  abbrev pub behind_argument : (Arguments → ℕ → Parser (Arguments × ℕ)) → ℕ → Arguments × ℕ → Parser (Arguments × ℕ)
+  behind_argument more d p = λ j. if same k.Comma (kind j) then more p.0 (max d p.1) (next j)
+      else and_then (expect k.RightParenthesis j) (λ _. λ a. Some ((p.0, max d p.1), a))
+
+  -- arguments with commas between, up to a parenthesis
+  unfoldable pub arguments_from : ℕ → Arguments → ℕ → Parser (Arguments × ℕ)
+  arguments_from zero found d = refuse
+  arguments_from (suc n) found d = λ i. if same k.RightParenthesis (kind i) then Some ((found, d), next i) else
+      and_then (argument found i) (behind_argument (arguments_from n) d)
+
+  -- the arguments behind a name, if they are written, and how deep they are
+  unfoldable pub given : Parser (Arguments × ℕ)
+  given = λ i. if same k.LeftParenthesis (kind i) then arguments_from (left (next i)) NoArguments 0 (next i) else Some ((NoArguments, 0), i)
+
+  -- a form of a value, a name and arguments, from the name on
+  unfoldable pub passed : (Expr → site.Name → Arguments → Span → Expr) → ℕ → Deep → Parser Deep
+  passed form from x = λ i. (given >>= (λ g. λ j. node limit (max x.depth g.1) (form x.expr (text i) g.0 (span from j)) j)) (next i)
+
+  unfoldable pub filter : ℕ → Deep → Parser Deep
+  filter from x = λ i. if is_word (kind (next i)) then passed Filter from x (next i) else None
+
+  unfoldable pub test_by_name : ℕ → Deep → Parser Deep
+  test_by_name from x = λ i. if is_test_name (kind i) then passed Test from x i else None
+
+  unfoldable pub test : ℕ → Deep → Parser Deep
+  test from x = λ i. if same k.Not (kind (next i)) then (test_by_name from x >>= (λ y. λ j. node limit y.depth (Not y.expr (span from j)) j)) (next (next i))
+      else test_by_name from x (next i)
+
   abbrev pub operation_by : ℕ → Deep → Kind → Parser Deep
   operation_by from x k.If = choice from x
   operation_by from x k.Or = infixed 2 Or from x
@@ -189,6 +238,7 @@ module _ (limit : ℕ) (sub : ℕ → Parser Deep) where
   operation_by from x k.LessOrEqual = applied 5 binary.LessOrEqual from x
   operation_by from x k.GreaterOrEqual = applied 5 binary.GreaterOrEqual from x
   operation_by from x k.In = applied 5 binary.In from x
+  operation_by from x k.Is = test from x
   operation_by from x k.Tilde = applied 6 binary.Concat from x
   operation_by from x k.Plus = applied 7 binary.Add from x
   operation_by from x k.Minus = applied 7 binary.Subtract from x
@@ -197,6 +247,7 @@ module _ (limit : ℕ) (sub : ℕ → Parser Deep) where
   operation_by from x k.FloorSlash = applied 8 binary.FloorDivide from x
   operation_by from x k.Percent = applied 8 binary.Remainder from x
   operation_by from x k.Power = applied 8 binary.Power from x
+  operation_by from x k.Bar = filter from x
   operation_by from x k.Dot = attribute false from x
   operation_by from x k.OptionalDot = attribute true from x
   operation_by from x k.LeftBracket = subscript false from x
@@ -262,33 +313,30 @@ module _ (limit : ℕ) (sub : ℕ → Parser Deep) where
   unfoldable pub map : Parser Deep
   map = λ i. ((λ j. entries_from (left j) NoEntries 0 j) >>= (λ xs. λ j. node limit xs.1 (Map xs.0 (span (start i) j)) j)) (next i)
 
-  -- all arguments with one that was put among them, and the depth of its value
-  abbrev pub placed : Option Arguments → ℕ → Parser (Arguments × ℕ)
-  placed None d = refuse
-  placed (Some all) d = λ i. Some ((all, d), i)
+  -- filters with one more, over arguments of this depth, if that is within the limit
+  abbrev pub filter_of : Filters → site.Name → ℕ → Arguments × ℕ → Parser (Filters × ℕ)
+  filter_of found n from g = λ j. if nat_lt g.1 limit then Some ((join_filters found (one_filter n g.0 (span from j)), g.1 + 1), j) else None
 
-  -- an argument, put among those that were found
-  unfoldable pub argument : Arguments → Parser (Arguments × ℕ)
-  argument found = argument_name >>= (λ name. sub 0 >>= (λ x. placed (put_argument name x.expr found) x.depth))
+  -- a filter by its name, behind those that were found, and its depth
+  unfoldable pub section_filter : Filters → Parser (Filters × ℕ)
+  section_filter found = λ i. if is_word (kind i) then and_then (given (next i)) (filter_of found (text i) (start i)) else None
 
-  -- behind an argument stands a comma and more, or the parenthesis that closes
-  abbrev pub behind_argument : (Arguments → ℕ → Parser (Arguments × ℕ)) → ℕ → Arguments × ℕ → Parser (Arguments × ℕ)
-  behind_argument more d p = λ j. if same k.Comma (kind j) then more p.0 (max d p.1) (next j)
-      else and_then (expect k.RightParenthesis j) (λ _. λ a. Some ((p.0, max d p.1), a))
+  -- behind a filter stands a bar and more, or they end
+  abbrev pub behind_filter : (Filters → ℕ → Parser (Filters × ℕ)) → ℕ → Filters × ℕ → Parser (Filters × ℕ)
+  behind_filter more d p = λ j. if same k.Bar (kind j) then more p.0 (max d p.1) (next j) else Some ((p.0, max d p.1), j)
 
-  -- arguments with commas between, up to a parenthesis
-  unfoldable pub arguments_from : ℕ → Arguments → ℕ → Parser (Arguments × ℕ)
-  arguments_from zero found d = refuse
-  arguments_from (suc n) found d = λ i. if same k.RightParenthesis (kind i) then Some ((found, d), next i) else
-      and_then (argument found i) (behind_argument (arguments_from n) d)
+  -- filters with bars between
+  unfoldable pub filters_from : ℕ → Filters → ℕ → Parser (Filters × ℕ)
+  filters_from zero found d = refuse
+  filters_from (suc n) found d = λ i. and_then (section_filter found i) (behind_filter (filters_from n) d)
 
-  -- a call of these arguments, which its parenthesis closes
-  abbrev pub call_of : ℕ → Arguments × ℕ → Parser Deep
-  call_of from xs = λ j. node limit xs.1 (Super xs.0 (span from j)) j
+  -- a call by this name of these arguments, which its parenthesis closes
+  abbrev pub call_of : ℕ → site.Name → Arguments × ℕ → Parser Deep
+  call_of from n xs = λ j. node limit xs.1 (call_form n xs.0 (span from j)) j
 
   -- from its name on
   unfoldable pub call : Parser Deep
-  call = λ i. ((λ j. arguments_from (left j) NoArguments 0 j) >>= call_of (start i)) (next (next i))
+  call = λ i. ((λ j. arguments_from (left j) NoArguments 0 j) >>= call_of (start i) (text i)) (next (next i))
 
   abbrev pub leaf : Option Expr → Parser Deep
   leaf None = refuse
@@ -335,3 +383,8 @@ module _ (limit : ℕ) (sub : ℕ → Parser Deep) where
 unfoldable pub expr : ℕ → ℕ → Parser Deep
 expr zero floor = refuse
 expr (suc limit) floor = level (suc limit) (expr limit) floor
+
+-- filters in a row, no deeper than the number, and the greatest depth: a filter is one deeper than its deepest argument
+unfoldable pub filters : ℕ → Parser (Filters × ℕ)
+filters zero = refuse
+filters (suc limit) = λ i. filters_from (suc limit) (expr limit) (left i) NoFilters 0 i

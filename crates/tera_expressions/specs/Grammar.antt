@@ -3,7 +3,7 @@ use Rattle.std.specs.Prelude.{◌≡◌, ℕ, suc, ℤ, Bool, true, false, Optio
 use Rattle.tera_errors.specs.Site as site
 use Rattle.tera_errors.specs.declared.span.Span.{Span}
 use Rattle.tera_tree.specs.declared.expression.BinaryOperator.TheVariants as binary
-use Rattle.tera_tree.specs.Tree.{Expr, Nothing, Boolean, Integer, Text, Name, Attribute, Index, Slice, Optional, Absent, Present, Not, Negate, Binary, And, Or, Ternary, Array, Items, NoItems, MoreItems, Map, Comprehension, Super, Key, Entries, NoEntries, MoreEntries, Arguments, NoArguments}
+use Rattle.tera_tree.specs.Tree.{Expr, Nothing, Boolean, Integer, Text, Name, Attribute, Index, Slice, Optional, Absent, Present, Not, Negate, Binary, And, Or, Ternary, Array, Items, NoItems, MoreItems, Map, Comprehension, Filter, Test, Key, Entries, NoEntries, MoreEntries, Arguments, NoArguments, Filters, NoFilters, MoreFilters}
 use Rattle.tera_tokens.specs.declared.token.Kind.{Kind}
 use Rattle.tera_tokens.specs.declared.token.Kind.TheVariants as k
 use Rattle.tera_tokens.specs.Input.{Input, kind, text, start, next, span, is_word}
@@ -11,7 +11,7 @@ use Rattle.tera_tokens.specs.Literal.{integer, literal}
 use Rattle.tera_expressions.specs.Keys.{key_at}
 use Rattle.tera_expressions.specs.Loops.{loop_name, behind_loop}
 use Rattle.tera_expressions.specs.Headings.{Calls}
-use Rattle.tera_expressions.specs.Arguments.{is_call, put_argument}
+use Rattle.tera_expressions.specs.Arguments.{is_call, call_form, is_test_name, put_argument}
 
 -- the operators that group to the left: a sign, the form that it makes of its operands, and a level
 pub data Operator : Kind → (Expr → Expr → Span → Expr) → ℕ → Type 0 where
@@ -53,9 +53,15 @@ mutual
     not : {x : Expr} {i j : Input} → kind i ≡ k.Not → Derives 3 x (next i) j → Derives 3 (Not x (span (start i) j)) i j
     not_in : {x y : Expr} {i a j : Input} → Derives 4 x i a → kind a ≡ k.Not → kind (next a) ≡ k.In → Derives 5 y (next (next a)) j
         → Derives 4 (Not (Binary binary.In x y (span (start i) j)) (span (start i) j)) i j
+    test : {x : Expr} {all : Arguments} {i a j : Input} → Derives 4 x i a → kind a ≡ k.Is → is_test_name (kind (next a)) ≡ true → DerivesGiven all (next (next a)) j
+        → Derives 4 (Test x (text (next a)) all (span (start i) j)) i j
+    not_test : {x : Expr} {all : Arguments} {i a j : Input} → Derives 4 x i a → kind a ≡ k.Is → kind (next a) ≡ k.Not → is_test_name (kind (next (next a))) ≡ true
+        → DerivesGiven all (next (next (next a))) j → Derives 4 (Not (Test x (text (next (next a))) all (span (start i) j)) (span (start i) j)) i j
     minus : {x : Expr} {i j : Input} → kind i ≡ k.Minus → Derives 8 x (next i) j → Derives 8 (Negate x (span (start i) j)) i j
     power : {x y : Expr} {i a j : Input} → Derives 10 x i a → kind a ≡ k.Power → Derives 8 y (next a) j
         → Derives 9 (Binary binary.Power x y (span (start i) j)) i j
+    filter : {x : Expr} {all : Arguments} {i a j : Input} → Derives 10 x i a → kind a ≡ k.Bar → is_word (kind (next a)) ≡ true → DerivesGiven all (next (next a)) j
+        → Derives 10 (Filter x (text (next a)) all (span (start i) j)) i j
     attribute : {s : Kind} {optional : Bool} {x : Expr} {i a : Input} → Dot s optional → Derives 11 x i a → kind a ≡ s → is_word (kind (next a)) ≡ true
         → Derives 11 (Attribute x (text (next a)) optional (span (start i) (next (next a)))) i (next (next a))
     index : {s : Kind} {optional : Bool} {x y : Expr} {i a b : Input} → Bracket s optional → Derives 11 x i a → kind a ≡ s → Derives 0 y (next a) b → kind b ≡ k.RightBracket
@@ -70,9 +76,8 @@ mutual
     nothing : {i : Input} → kind i ≡ k.Nothing → Derives 11 (Nothing (span (start i) (next i))) i (next i)
     name : {i : Input} → kind i ≡ k.Name → loop_name i ≡ None → is_call i ≡ false → Derives 11 (Name (text i) (span (start i) (next i))) i (next i)
     of_loop : {n : site.Name} {i : Input} → kind i ≡ k.Name → loop_name i ≡ Some n → Derives 11 (Name n (span (start i) (behind_loop i))) i (behind_loop i)
-    -- a call of `super`
     call : {all : Arguments} {i a : Input} → kind i ≡ k.Name → is_call i ≡ true → DerivesArguments NoArguments all (next (next i)) a → kind a ≡ k.RightParenthesis
-        → Derives 11 (Super all (span (start i) (next a))) i (next a)
+        → Derives 11 (call_form (text i) all (span (start i) (next a))) i (next a)
     -- parentheses are no part of what they are around
     parentheses : {x : Expr} {i a : Input} → kind i ≡ k.LeftParenthesis → Derives 0 x (next i) a → kind a ≡ k.RightParenthesis → Derives 11 x i (next a)
     array : {xs : Items} {i a : Input} → kind i ≡ k.LeftBracket → DerivesItems xs (next i) a → kind a ≡ k.RightBracket
@@ -132,3 +137,14 @@ mutual
     one_argument : {found all : Arguments} {i j : Input} → DerivesArgument found all i j → DerivesArguments found all i j
     more_arguments : {found with_it all : Arguments} {i a j : Input} → DerivesArgument found with_it i a → kind a ≡ k.Comma → DerivesArguments with_it all (next a) j
         → DerivesArguments found all i j
+
+  -- the arguments behind a name, if they are written: a parenthesis there opens them
+  pub data DerivesGiven : Arguments → Input → Input → Type 0 where
+    not_given : {i : Input} → (kind i ≡ k.LeftParenthesis → ⊥) → DerivesGiven NoArguments i i
+    given : {all : Arguments} {i a : Input} → kind i ≡ k.LeftParenthesis → DerivesArguments NoArguments all (next i) a → kind a ≡ k.RightParenthesis → DerivesGiven all i (next a)
+
+-- filters with bars between, as the head of a section has them; a filter's name may be a reserved word
+pub data DerivesFilters : Filters → Input → Input → Type 0 where
+  last_filter : {all : Arguments} {i j : Input} → is_word (kind i) ≡ true → DerivesGiven all (next i) j → DerivesFilters (MoreFilters (text i) all (span (start i) j) NoFilters) i j
+  more_filters : {all : Arguments} {fs : Filters} {i a j : Input} → is_word (kind i) ≡ true → DerivesGiven all (next i) a → kind a ≡ k.Bar → DerivesFilters fs (next a) j
+      → DerivesFilters (MoreFilters (text i) all (span (start i) a) fs) i j

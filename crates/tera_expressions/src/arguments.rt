@@ -1,7 +1,7 @@
 // Calls and their arguments.
 ghost use Rattle.std.specs.Prelude.{◌≡◌};
 ghost use Rattle.tera_tree.specs.Tree.{NoArguments};
-ghost use Rattle.tera_tree.specs.View.{arguments_of};
+ghost use Rattle.tera_tree.specs.View.{arguments_of, expr_of};
 ghost use Rattle.tera_tokens.specs.Input.{left, text};
 ghost use Rattle.tera_tokens.specs.Takes.{Takes, input};
 ghost use Rattle.tera_expressions.specs.Arguments as call;
@@ -13,13 +13,14 @@ use crate::levels::kinds;
 use crate::reader::{Reader, larger};
 use std::alloc::Global;
 use std::cmp::Ordering;
+use tera_errors::Span;
 use tera_tokens::input::{Tokens, is_word, same};
 use tera_tokens::refusal::{Reason, Refusal};
 use tera_tokens::token::Kind;
 use tera_tree::{Argument, Expression};
 
 impl<'s, F: Fn(Global, &mut Tokens<'_, 's>, usize, u8) -> Result<Deep<'s>, Refusal>> Reader<F> {
-    /// `super(name = x, ..)`
+    /// `name(name = x, ..)`
     #[tactic(auto, unfolding(crate::specs::Expressions::call))]
     pub(crate) fn call(&self, tokens: &mut Tokens<'_, 's>) -> Result<Deep<'s>, Refusal>
         requires { Nests self.now.below (F.pre self.now.expr) (F.post self.now.expr) }
@@ -27,10 +28,11 @@ impl<'s, F: Fn(Global, &mut Tokens<'_, 's>, usize, u8) -> Result<Deep<'s>, Refus
             Takes deep_of (meant (input tokens.old)) result tokens.new }
     {
         let start = tokens.start();
+        let name = tokens.text();
         tokens.take();
         tokens.take();
         let (arguments, depth) = self.arguments(tokens)?;
-        let expression = Expression::above(arguments, tokens.span(start));
+        let expression = make_call(name, arguments, tokens.span(start));
         self.node(tokens, depth, expression)
     }
 
@@ -138,5 +140,18 @@ fn place(found: &[Argument<'_>], name: &str) -> Option<usize>
 pub(crate) fn is_call(tokens: &Tokens<'_, '_>) -> bool
     ensures { result ≡ call.is_call (input tokens.now) }
 {
-    same(Kind::LeftParenthesis, kinds(tokens).1) && tokens.text() == "super"
+    same(Kind::LeftParenthesis, kinds(tokens).1)
+}
+
+/// The form of a call by this name.
+#[tactic(auto, unfolding(crate::specs::Arguments::call_form))]
+fn make_call<'s>(name: &'s str, arguments: Vec<Argument<'s>>, span: Span) -> Expression<'s>
+    ensures { let all = arguments_of arguments.entry.items in
+        expr_of result ≡ call.call_form name.now all span }
+{
+    if name == "super" {
+        Expression::above(arguments, span)
+    } else {
+        Expression::call(name, arguments, span)
+    }
 }

@@ -86,6 +86,8 @@ impl<'s, F: Fn(Global, &mut Tokens<'_, 's>, usize, u8) -> Result<Deep<'s>, Refus
         match tokens.kind() {
             Kind::If => self.choice(tokens, start, x),
             Kind::Not => self.not_in(tokens, start, x),
+            Kind::Is => self.test(tokens, start, x),
+            Kind::Bar => self.filter(tokens, start, x),
             Kind::Dot => self.attribute(tokens, false, start, x),
             Kind::OptionalDot => self.attribute(tokens, true, start, x),
             Kind::LeftBracket => self.subscript(tokens, false, start, x),

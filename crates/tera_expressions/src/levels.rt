@@ -23,11 +23,12 @@ pub(crate) fn needs(kind: Kind) -> u8
         | Kind::Greater
         | Kind::LessOrEqual
         | Kind::GreaterOrEqual
-        | Kind::In => 4,
+        | Kind::In
+        | Kind::Is => 4,
         Kind::Tilde => 5,
         Kind::Plus | Kind::Minus => 6,
         Kind::Star | Kind::Slash | Kind::FloorSlash | Kind::Percent => 7,
-        Kind::Power => 10,
+        Kind::Power | Kind::Bar => 10,
         Kind::Dot | Kind::OptionalDot | Kind::LeftBracket | Kind::OptionalBracket => 11,
         _ => 12,
     }
@@ -49,11 +50,13 @@ pub(crate) fn gives(kind: Kind) -> u8
         | Kind::Greater
         | Kind::LessOrEqual
         | Kind::GreaterOrEqual
-        | Kind::In => 4,
+        | Kind::In
+        | Kind::Is => 4,
         Kind::Tilde => 5,
         Kind::Plus | Kind::Minus => 6,
         Kind::Star | Kind::Slash | Kind::FloorSlash | Kind::Percent => 7,
         Kind::Power => 9,
+        Kind::Bar => 10,
         Kind::Dot | Kind::OptionalDot | Kind::LeftBracket | Kind::OptionalBracket => 11,
         _ => 12,
     }

@@ -2,12 +2,15 @@
 #![tactic(auto)]
 
 mod access;
+mod applications;
 mod arguments;
 mod climb;
 mod collections;
 mod comprehensions;
 /// Expressions, to a greatest depth.
 pub mod expressions;
+/// Filters of what a body puts out.
+pub mod filters;
 /// What loops call their items.
 pub mod headings;
 mod leaves;

@@ -4,27 +4,27 @@ use Rattle.std.specs.Prelude.{slice_get}
 use Rattle.tera_errors.specs.declared.span.Span.{Span}
 use Rattle.tera_errors.specs.Site as site
 use Rattle.tera_errors.specs.Fault.{Fault}
-use Rattle.tera_tree.specs.Tree.{Expr, Nothing, Boolean, Integer, Text, Name, Attribute, Index, Slice, Not, Negate, Binary, And, Or, Ternary, Array, Map, Comprehension, Super, Node, Content, Print, If, Set, Capture, For, Block, Break, Continue, Nodes, NoNodes, MoreNodes}
-use Rattle.tera_values.specs.Val as val
+use Rattle.tera_tree.specs.Tree.{Expr, Nothing, Boolean, Integer, Text, Name, Attribute, Index, Slice, Not, Negate, Binary, And, Or, Ternary, Array, Map, Comprehension, Super, Filter, Test, Call, Node, Content, Print, If, Set, Capture, FilterSection, For, Block, Break, Continue, Nodes, NoNodes, MoreNodes}
 use Rattle.tera_values.specs.Access.{truthy}
 use Rattle.tera_state.specs.Scope.{Turn, Heading, look, dump, assign}
 use Rattle.tera_operators.specs.Operand.{Evaluated}
 use Rattle.tera_meaning.specs.Here.{Here}
 use Rattle.tera_meaning.specs.Whole.{World, Place, here_at, whole}
-use Rattle.tera_meaning.specs.Run.{Run, Signal, On, Broke, Continued, ABlock, Oracle, Meaning, ◌▹◌, visit, reads, value_at, answered, writes, changes, onward, go_on}
+use Rattle.tera_meaning.specs.Run.{Run, ABlock, Oracle, ◌▹◌, visit, reads, value_at, answered, writes, changes, onward}
 use Rattle.tera_meaning.specs.Meaning.{output, written, turns_of, loop_or_else, node_meaning, nodes_meaning}
 use Rattle.tera_code.specs.declared.instruction.Instruction.{Instruction}
 use Rattle.tera_code.specs.declared.instruction.Instruction.TheVariants as instruction
-use Rattle.tera_code.specs.Code.{expr_code, node_code, nodes_code, choice_tail, loop_tail, print_code, capture_code, is_context}
+use Rattle.tera_code.specs.Code.{expr_code, node_code, nodes_code, choice_tail, loop_tail, print_code, is_context}
 use Rattle.tera_machine.specs.Flow.{Written}
 use Rattle.tera_machine.specs.Loops.{begun_with}
 use Rattle.tera_machine.specs.Act.{act, put_out}
 use Rattle.tera_machine.specs.Exec.{Code}
 use Rattle.tera_machine.proofs.Places.{StandsAt, stands_front, stands_back, parts, round}
-use Rattle.tera_machine.proofs.Counted.{Runs, Below, done, spend, step, first, fail, adjust, onward_runs, answered_runs, put_back_runs, choice_runs, jump_after, asked_runs}
+use Rattle.tera_machine.proofs.Counted.{Runs, Below, done, spend, step, first, fail, adjust, onward_runs, answered_runs, choice_runs, jump_after, asked_runs}
 use Rattle.tera_machine.proofs.Arrivals.{Base, over, in_loop, captured_over, config_at, spot, writing, Fits, Arrive, arrive_at, go_on_runs, arrive_passes, leave_leads}
 use Rattle.tera_machine.proofs.Turns.{begin_runs}
 use Rattle.tera_machine.proofs.Expressions.{expr_runs}
+use Rattle.tera_machine.proofs.Sections.{section_runs}
 
 module _ (w : World) (place : Place) (code : Code) (below : Below w place) where
   abbrev here : Here
@@ -56,13 +56,6 @@ module _ (w : World) (place : Place) (code : Code) (below : Below w place) where
   name_printed false name span drops ip base r has =
       spend w place code (spend w place code (put_out_runs ip base.operands base r drops 15 (output here (record { value = look name place.around r.vars; span = span })) (instruction.WriteName name span) has.0 refl))
 
-  -- a capture ends, and its text is bound
-  captured_runs : (ip : ℕ) (base : Base) (drops : ℕ) (name : site.Name) (is_global : Bool) (before : site.Text) (signal : Signal) (r : Run) → slice_get code ip ≡ Some instruction.EndCapture → slice_get code (ip + 1) ≡ Some (instruction.Store name is_global) → Runs w place code (Arrive code ip (captured_over before base) (suc drops) signal r) 7 0 (Arrive code (ip + 1 + 1) base drops) (go_on signal (changes (assign is_global name (val.text r.text place.autoescape))) (writing before r))
-  captured_runs ip base drops name is_global before On r i j =
-      first w place code _ 6 instruction.EndCapture i refl (first w place code _ 5 (instruction.Store name is_global) j refl (done w place code (omega arith)))
-  captured_runs ip base drops name is_global before Broke r i j = done w place code (omega arith)
-  captured_runs ip base drops name is_global before Continued r i j = done w place code (omega arith)
-
   mutual
     pub node_runs : (n : Node) (drops ip : ℕ) (base : Base) (r : Run) → Fits code base.loops → StandsAt code ip (node_code n drops) → Runs w place code (spot ip base r) 0 0 (Arrive code (ip + length (node_code n drops)) base drops) (node_meaning here call n r)
     node_runs (Content t span) drops ip base r fits has =
@@ -85,6 +78,9 @@ module _ (w : World) (place : Place) (code : Code) (below : Below w place) where
     node_runs (Print (Array items span)) drops ip base r fits has = print_runs (Array items span) drops ip base r has
     node_runs (Print (Map entries span)) drops ip base r fits has = print_runs (Map entries span) drops ip base r has
     node_runs (Print (Super arguments span)) drops ip base r fits has = print_runs (Super arguments span) drops ip base r has
+    node_runs (Print (Filter value name arguments span)) drops ip base r fits has = print_runs (Filter value name arguments span) drops ip base r has
+    node_runs (Print (Test value name arguments span)) drops ip base r fits has = print_runs (Test value name arguments span) drops ip base r has
+    node_runs (Print (Call name arguments span)) drops ip base r fits has = print_runs (Call name arguments span) drops ip base r has
     node_runs (Print (Comprehension value key name target condition span)) drops ip base r fits has =
         print_runs (Comprehension value key name target condition span) drops ip base r has
     node_runs (If condition body other) drops ip base r fits has =
@@ -104,16 +100,11 @@ module _ (w : World) (place : Place) (code : Code) (below : Below w place) where
         let len : pe + 1 ≡ ip + length (ce ++ i ∷ []) = omega (arith, length-append ce (i ∷ [])) in
         let at = (stands_back code ip ce (i ∷ []) has).0 in
         arrive_at w place code drops _ len (spend w place code (onward_runs w place code (omega arith) (expr_runs w place code below value ip base r (stands_front code ip ce _ has)) (λ a r1. first w place code _ 8 i at refl (done w place code (omega arith)))))
-    node_runs (Capture name body is_global) drops ip base r fits has =
+    node_runs (Capture name fs body is_global) drops ip base r fits has =
         let i = instruction.Store name is_global in
-        let cb = nodes_code body (suc drops) in
-        let ends = instruction.EndCapture ∷ i ∷ [] in
-        let pe = ip + 1 + length cb in
-        let len : pe + 1 + 1 ≡ ip + length (capture_code name cb is_global) = omega (arith, length-append cb ends) in
-        let last = stands_back code (ip + 1) cb ends has.1 in
-        let inside = captured_over r.text base in
-        let stores : Signal × site.Text → Meaning Signal = λ c. go_on c.0 (changes (assign is_global name (val.text c.1 place.autoescape))) in
-        arrive_at w place code drops _ len (spend w place code (first w place code _ 7 instruction.StartCapture has.0 refl (put_back_runs w place code 7 r.text (Arrive code pe inside (suc drops)) stores (nodes_runs body (suc drops) (ip + 1) inside (writing [] r) fits (stands_front code (ip + 1) cb _ has.1)) (λ signal r1. captured_runs pe base drops name is_global r.text signal r1 last.0 last.1.0))))
+        section_runs w place code below fs (nodes_code body (suc drops)) (nodes_meaning here call body) i (λ a. changes (assign is_global name a.value)) drops ip base r has (λ stands. nodes_runs body (suc drops) (ip + 1) (captured_over r.text base) (writing [] r) fits stands) (λ q at a r1. first w place code _ 5 i at refl (done w place code (omega arith)))
+    node_runs (FilterSection fs body) drops ip base r fits has =
+        section_runs w place code below fs (nodes_code body (suc drops)) (nodes_meaning here call body) instruction.WriteTop (written here) drops ip base r has (λ stands. nodes_runs body (suc drops) (ip + 1) (captured_over r.text base) (writing [] r) fits stands) (λ q at a r1. put_out_runs q (a ∷ base.operands) base r1 drops 5 (output here a) instruction.WriteTop at refl)
     node_runs (For key name target body other) drops ip base r fits has =
         let heading : Heading = record { name = name; key = key; counts = true } in
         let ct = expr_code target in

@@ -5,7 +5,7 @@ use Rattle.std.specs.List.{zip}
 use Rattle.tera_errors.specs.declared.span.Span.{Span}
 use Rattle.tera_errors.specs.Site as site
 use Rattle.tera_errors.specs.Fault.{Fault}
-use Rattle.tera_tree.specs.Tree.{Key, Expr, Nothing, Boolean, Integer, Text, Name, Attribute, Index, Slice, Not, Negate, Binary, And, Or, Ternary, Array, Map, Comprehension, Super, Optional, Absent, Present, Items, NoItems, MoreItems, Entries, NoEntries, MoreEntries, Arguments, NoArguments, MoreArguments}
+use Rattle.tera_tree.specs.Tree.{Key, Expr, Nothing, Boolean, Integer, Text, Name, Attribute, Index, Slice, Not, Negate, Binary, And, Or, Ternary, Array, Map, Comprehension, Super, Filter, Test, Call, Optional, Absent, Present, Items, NoItems, MoreItems, Entries, NoEntries, MoreEntries, Arguments, NoArguments, MoreArguments}
 use Rattle.tera_values.specs.Val as val
 use Rattle.tera_values.specs.Access.{truthy}
 use Rattle.tera_state.specs.Scope.{Turn, Heading, look, dump}
@@ -13,20 +13,21 @@ use Rattle.tera_operators.specs.Operand.{Evaluated, Outcome}
 use Rattle.tera_operators.specs.Accesses.{attribute_of, item_of, slice_of}
 use Rattle.tera_operators.specs.Operators.{not_of, negative_of, binary_of}
 use Rattle.tera_operators.specs.Literals.{array_of, map_of}
-use Rattle.tera_meaning.specs.Here.{Here}
+use Rattle.tera_operators.specs.Calls.{filter_applied, test_applied, function_called}
+use Rattle.tera_meaning.specs.Here.{Here, escaping_at}
 use Rattle.tera_meaning.specs.Whole.{World, Place, here_at, whole}
 use Rattle.tera_meaning.specs.Run.{Run, Gave, Above, Oracle, Meaning, ◌▹◌, visit, reads, answered, onward, gives, value_at}
 use Rattle.tera_meaning.specs.Meaning.{turns_of, if_kept, comprehension, expr_meaning, condition_meaning, bound_meaning, items_meaning, entries_meaning, arguments_meaning}
 use Rattle.tera_code.specs.declared.instruction.Instruction.{Instruction}
 use Rattle.tera_code.specs.declared.instruction.Instruction.TheVariants as instruction
-use Rattle.tera_code.specs.Code.{expr_code, turn_code, keep_code, keep_tail, bound_code, items_code, entries_code, choice_tail, comprehension_tail, is_context, spreads_of, keys_in, arguments_code, arguments_length}
+use Rattle.tera_code.specs.Code.{expr_code, turn_code, keep_code, keep_tail, bound_code, items_code, entries_code, choice_tail, comprehension_tail, is_context, spreads_of, keys_in, arguments_code, arguments_length, argument_names}
 use Rattle.tera_machine.specs.Config.{Config}
 use Rattle.tera_machine.specs.Flow.{Pushed, Ask}
 use Rattle.tera_machine.specs.Did.{Goes, outcome}
 use Rattle.tera_machine.specs.Loops.{begun_with}
-use Rattle.tera_machine.specs.Act.{act, made_of, branched, above_in}
+use Rattle.tera_machine.specs.Act.{act, topmost, made_of, called_on, branched, above_in}
 use Rattle.tera_machine.specs.Exec.{Code}
-use Rattle.tera_machine.proofs.Literals.{push_all, firsts, seconds, zip-firsts, length-seconds, length-all-seconds, topmost-push_all}
+use Rattle.tera_machine.proofs.Literals.{push_all, firsts, seconds, zip-firsts, length-seconds, topmost-push_all}
 use Rattle.tera_machine.proofs.Places.{StandsAt, stands_front, stands_back, stands_within, parts, round}
 use Rattle.tera_machine.proofs.Counted.{Spot, Runs, Below, Holds, holds_onward, holds_any, done, spend, none, first, jump, fail, adjust, onward_runs, onward_lent, onward_where, onward-onward, answered_runs, mapped_runs, choice_runs, choice_not_runs, jump_after, asked_runs}
 use Rattle.tera_machine.proofs.Arrivals.{Base, over, in_loop, all_over, config_at, spot, Top, Tops, top_at, tops_at, top_passes}
@@ -40,7 +41,7 @@ module _ (w : World) (place : Place) (code : Code) (below : Below w place) where
   call = whole w place
 
   -- one instruction, whose outcome comes on top of what is left
-  outcome_runs : (ip : ℕ) (stack : List Evaluated) (rest : Base) (r : Run) (s : ℕ) {t : ℕ} (o : Outcome) (i : Instruction) → t ≤ s → slice_get code ip ≡ Some i → act here (ip + 1) i (config_at (record rest { operands = stack }) r) ≡ outcome o rest.operands (config_at (record rest { operands = stack }) r) → Runs w place code (spot ip (record rest { operands = stack }) r) (s + 1) t (Top (ip + 1) rest) (answered o r)
+  pub outcome_runs : (ip : ℕ) (stack : List Evaluated) (rest : Base) (r : Run) (s : ℕ) {t : ℕ} (o : Outcome) (i : Instruction) → t ≤ s → slice_get code ip ≡ Some i → act here (ip + 1) i (config_at (record rest { operands = stack }) r) ≡ outcome o rest.operands (config_at (record rest { operands = stack }) r) → Runs w place code (spot ip (record rest { operands = stack }) r) (s + 1) t (Top (ip + 1) rest) (answered o r)
   outcome_runs ip stack rest r s (Ok a) i l e h = first w place code _ s i e h (done w place code l)
   outcome_runs ip stack rest r s (Err f) i l e h = fail w place code {s = s} f i l e h
 
@@ -67,17 +68,34 @@ module _ (w : World) (place : Place) (code : Code) (below : Below w place) where
       ap (λ o. made_of (λ vs. map_of place.file (zip (keys_in entries) vs) span) o c) (topmost-push_all (length (keys_in entries)) (seconds all) base.operands (length-seconds (keys_in entries) all e))
       ∙ ap (λ ps. outcome (map_of place.file ps span) base.operands c) (zip-firsts (keys_in entries) all e)
 
-  -- as many operands as arguments are there
-  holds_arguments : (arguments : Arguments) (r : Run) → Holds (λ all. length all ≡ arguments_length arguments) (arguments_meaning here call arguments r)
+  -- the arguments have their names
+  pub holds_arguments : (arguments : Arguments) (r : Run) → Holds (λ all. firsts all ≡ argument_names arguments) (arguments_meaning here call arguments r)
   holds_arguments NoArguments r = refl
   holds_arguments (MoreArguments name value rest) r =
-      holds_onward _ _ (expr_meaning here call value r) _ (holds_any (expr_meaning here call value r)) (λ a r1 _. holds_onward _ _ (arguments_meaning here call rest r1) _ (holds_arguments rest r1) (λ all r2 h. ap (λ n. suc n) h))
+      holds_onward _ _ (expr_meaning here call value r) _ (holds_any (expr_meaning here call value r)) (λ a r1 _. holds_onward _ _ (arguments_meaning here call rest r1) _ (holds_arguments rest r1) (λ all r2 h. ap (λ ns. name ∷ ns) h))
+
+  length-argument_names : (arguments : Arguments) → length (argument_names arguments) ≡ arguments_length arguments
+  length-argument_names NoArguments = refl
+  length-argument_names (MoreArguments name value rest) = ap (λ n. suc n) (length-argument_names rest)
 
   -- they are dropped, and the body above is asked for
-  asks_above : (next n : ℕ) (all : List (site.Name × Evaluated)) (base : Base) (r : Run) (span : Span) → length all ≡ n → act here next (instruction.TakeAbove n span) (config_at (all_over (seconds all) base) r) ≡ Goes (config_at base r) (Ask (Above span) (Pushed true span))
-  asks_above next n all base r span e =
+  asks_above : (next : ℕ) (arguments : Arguments) (all : List (site.Name × Evaluated)) (base : Base) (r : Run) (span : Span) → firsts all ≡ argument_names arguments → act here next (instruction.TakeAbove (arguments_length arguments) span) (config_at (all_over (seconds all) base) r) ≡ Goes (config_at base r) (Ask (Above span) (Pushed true span))
+  asks_above next arguments all base r span e =
       let c : Config = config_at (all_over (seconds all) base) r in
-      ap (λ o. above_in span o c) (topmost-push_all n (seconds all) base.operands (sym e ∙ sym (length-all-seconds all)))
+      ap (λ o. above_in span o c) (topmost-push_all (arguments_length arguments) (seconds all) base.operands (sym (length-argument_names arguments) ∙ length-seconds (argument_names arguments) all e))
+
+  -- they are there, above what the call is on
+  pub calls_on : (f : Evaluated → List (site.Name × Evaluated) → Outcome) (names : List site.Name) (all : List (site.Name × Evaluated)) (a : Evaluated) (base : Base) (r : Run) → firsts all ≡ names → called_on f names (topmost (length names) (push_all (seconds all) (a ∷ base.operands))) (config_at (all_over (seconds all) (over a base)) r) ≡ outcome (f a all) base.operands (config_at (all_over (seconds all) (over a base)) r)
+  calls_on f names all a base r e =
+      let c : Config = config_at (all_over (seconds all) (over a base)) r in
+      ap (λ o. called_on f names o c) (topmost-push_all (length names) (seconds all) (a ∷ base.operands) (length-seconds names all e))
+      ∙ ap (λ ps. outcome (f a ps) base.operands c) (zip-firsts names all e)
+
+  calls_function : (next : ℕ) (name : site.Name) (names : List site.Name) (all : List (site.Name × Evaluated)) (base : Base) (r : Run) (span : Span) → firsts all ≡ names → act here next (instruction.CallFunction name names span) (config_at (all_over (seconds all) base) r) ≡ outcome (function_called place.file name all span) base.operands (config_at (all_over (seconds all) base) r)
+  calls_function next name names all base r span e =
+      let c : Config = config_at (all_over (seconds all) base) r in
+      ap (λ o. made_of (λ vs. function_called place.file name (zip names vs) span) o c) (topmost-push_all (length names) (seconds all) base.operands (length-seconds names all e))
+      ∙ ap (λ ps. outcome (function_called place.file name ps span) base.operands c) (zip-firsts names all e)
 
   -- a name's value on top, or the map of all that is bound
   name_runs : (b : Bool) (name : site.Name) (span : Span) (ip : ℕ) (base : Base) (r : Run) → StandsAt code ip (cond b (instruction.LoadContext span ∷ []) (instruction.LoadName name span ∷ [])) → Runs w place code (spot ip base r) 0 1 (Top (ip + length (cond b (instruction.LoadContext span ∷ []) (instruction.LoadName name span ∷ []))) base) (visit (reads (λ v. cond b (dump place.around v) (look name place.around v)) ▹ λ v. value_at v span) r)
@@ -225,13 +243,44 @@ module _ (w : World) (place : Place) (code : Code) (below : Below w place) where
         top_at w place code _ len (spend w place code (onward_where w place code (λ all. firsts all ≡ keys_in entries) (omega arith) (holds_entries entries r) (entries_runs entries ip base r (stands_front code ip ci _ has)) (λ all r1 e. outcome_runs p (push_all (seconds all) base.operands) base r1 7 (map_of here.file all span) i (omega arith) at (made_map (p + 1) entries all base r1 span e))))
     expr_runs (Super arguments span) ip base r has =
         let ca = arguments_code arguments in
-        let n = arguments_length arguments in
-        let i = instruction.TakeAbove n span in
+        let i = instruction.TakeAbove (arguments_length arguments) span in
         let p = ip + length ca in
         let len : p + 1 ≡ ip + length (ca ++ i ∷ []) = omega (arith, length-append ca (i ∷ [])) in
         let at = (stands_back code ip ca (i ∷ []) has).0 in
         let top : site.Text → Meaning Evaluated = λ t. value_at (val.text t true) span in
-        top_at w place code _ len (spend w place code (onward_where w place code (λ all. length all ≡ n) (omega arith) (holds_arguments arguments r) (arguments_runs arguments ip base r (stands_front code ip ca _ has)) (λ all r1 e. asked_runs w place code (config_at base r1) 7 (Above span) (Pushed true span) r1 top i (call (Above span) r1.vars) (omega arith) at (asks_above (p + 1) n all base r1 span e) (below (Above span) (Pushed true span) (config_at base r1)) (λ after. done w place code (omega arith)))))
+        top_at w place code _ len (spend w place code (onward_where w place code (λ all. firsts all ≡ argument_names arguments) (omega arith) (holds_arguments arguments r) (arguments_runs arguments ip base r (stands_front code ip ca _ has)) (λ all r1 e. asked_runs w place code (config_at base r1) 7 (Above span) (Pushed true span) r1 top i (call (Above span) r1.vars) (omega arith) at (asks_above (p + 1) arguments all base r1 span e) (below (Above span) (Pushed true span) (config_at base r1)) (λ after. done w place code (omega arith)))))
+    expr_runs (Filter value name arguments span) ip base r has =
+        let names = argument_names arguments in
+        let i = instruction.ApplyFilter name names span in
+        let cv = expr_code value in
+        let ca = arguments_code arguments in
+        let p = ip + length cv in
+        let q = p + length ca in
+        let len : q + 1 ≡ ip + length (cv ++ (ca ++ i ∷ [])) = omega (arith, length-append cv (ca ++ i ∷ []), length-append ca (i ∷ [])) in
+        let h = stands_back code ip cv (ca ++ i ∷ []) has in
+        let at = (stands_back code p ca (i ∷ []) h).0 in
+        let f : Evaluated → List (site.Name × Evaluated) → Outcome = λ a given. filter_applied here.file (escaping_at here) name a given span in
+        top_at w place code _ len (spend w place code (onward_runs w place code (omega arith) (expr_runs value ip base r (stands_front code ip cv _ has)) (λ a r1. onward_where w place code (λ all. firsts all ≡ names) (omega arith) (holds_arguments arguments r1) (arguments_runs arguments p (over a base) r1 (stands_front code p ca _ h)) (λ all r2 e. outcome_runs q (push_all (seconds all) (a ∷ base.operands)) base r2 8 (f a all) i (omega arith) at (calls_on f names all a base r2 e)))))
+    expr_runs (Test value name arguments span) ip base r has =
+        let names = argument_names arguments in
+        let i = instruction.ApplyTest name names span in
+        let cv = expr_code value in
+        let ca = arguments_code arguments in
+        let p = ip + length cv in
+        let q = p + length ca in
+        let len : q + 1 ≡ ip + length (cv ++ (ca ++ i ∷ [])) = omega (arith, length-append cv (ca ++ i ∷ []), length-append ca (i ∷ [])) in
+        let h = stands_back code ip cv (ca ++ i ∷ []) has in
+        let at = (stands_back code p ca (i ∷ []) h).0 in
+        let f : Evaluated → List (site.Name × Evaluated) → Outcome = λ a given. test_applied here.file name a given span in
+        top_at w place code _ len (spend w place code (onward_runs w place code (omega arith) (expr_runs value ip base r (stands_front code ip cv _ has)) (λ a r1. onward_where w place code (λ all. firsts all ≡ names) (omega arith) (holds_arguments arguments r1) (arguments_runs arguments p (over a base) r1 (stands_front code p ca _ h)) (λ all r2 e. outcome_runs q (push_all (seconds all) (a ∷ base.operands)) base r2 8 (f a all) i (omega arith) at (calls_on f names all a base r2 e)))))
+    expr_runs (Call name arguments span) ip base r has =
+        let names = argument_names arguments in
+        let i = instruction.CallFunction name names span in
+        let ca = arguments_code arguments in
+        let p = ip + length ca in
+        let len : p + 1 ≡ ip + length (ca ++ i ∷ []) = omega (arith, length-append ca (i ∷ [])) in
+        let at = (stands_back code ip ca (i ∷ []) has).0 in
+        top_at w place code _ len (spend w place code (onward_where w place code (λ all. firsts all ≡ names) (omega arith) (holds_arguments arguments r) (arguments_runs arguments ip base r (stands_front code ip ca _ has)) (λ all r1 e. outcome_runs p (push_all (seconds all) base.operands) base r1 7 (function_called here.file name all span) i (omega arith) at (calls_function (p + 1) name names all base r1 span e))))
     expr_runs (Comprehension value key name target condition span) ip base r has =
         let heading : Heading = record { name = name; key = key; counts = false } in
         let ct = expr_code target in
@@ -291,7 +340,7 @@ module _ (w : World) (place : Place) (code : Code) (below : Below w place) where
         let len : ip + length cv + length cr ≡ ip + length (cv ++ cr) = omega (arith, length-append cv cr) in
         tops_at w place code _ len (onward_runs w place code (omega arith) (expr_runs value ip base r (stands_front code ip cv cr has)) (λ a r1. onward_runs w place code (omega arith) (entries_runs rest (ip + length cv) (over a base) r1 (stands_back code ip cv cr has)) (λ all r2. done w place code (omega arith))))
 
-    arguments_runs : (arguments : Arguments) (ip : ℕ) (base : Base) (r : Run) → StandsAt code ip (arguments_code arguments) → Runs w place code (spot ip base r) 0 0 (Tops (ip + length (arguments_code arguments)) base) (arguments_meaning here call arguments r)
+    pub arguments_runs : (arguments : Arguments) (ip : ℕ) (base : Base) (r : Run) → StandsAt code ip (arguments_code arguments) → Runs w place code (spot ip base r) 0 0 (Tops (ip + length (arguments_code arguments)) base) (arguments_meaning here call arguments r)
     arguments_runs NoArguments ip base r has =
         let len : ip ≡ ip + 0 = omega arith in tops_at w place code _ len (done w place code (omega arith))
     arguments_runs (MoreArguments name value rest) ip base r has =

@@ -14,5 +14,6 @@ pub mod Arrivals
 pub mod Turns
 pub mod Gathered
 pub mod Expressions
+pub mod Sections
 pub mod Chunks
 pub mod Conclusions

@@ -41,10 +41,6 @@ push_all-reverse (a ∷ rest) operands =
     push_all-reverse rest (a ∷ operands)
     ∙ sym (ap (λ xs. xs ++ operands) (reverse-append (a ∷ []) rest) ∙ append_assoc (reverse rest) (a ∷ []) operands)
 
-pub length-all-seconds : {A B : Type 0} (ps : List (A × B)) → length (seconds ps) ≡ length ps
-length-all-seconds [] = refl
-length-all-seconds (p ∷ ps) = ap (λ n. suc n) (length-all-seconds ps)
-
 -- as many operands as were put there
 pub topmost-push_all : (n : ℕ) (all operands : List Evaluated) → n ≡ length all → topmost n (push_all all operands) ≡ Some (all, operands)
 topmost-push_all n all operands e =

@@ -1,21 +1,22 @@
 -- What an instruction does ends no block.
-use Rattle.std.proofs.Common.{◌≡◌, ℕ, Bool, true, false, List, [], ◌∷◌, Option, None, Some, Result, Ok, Err, refl, sym, ap, subst}
+use Rattle.std.proofs.Common.{◌≡◌, ℕ, Bool, true, false, List, [], ◌∷◌, Option, None, Some, Result, Ok, Err, refl, subst}
 use Rattle.std.specs.Prelude.{length}
 use Rattle.std.specs.List.{zip}
 use Rattle.tera_errors.specs.declared.span.Span.{Span}
 use Rattle.tera_errors.specs.Fault.{Fault}
-use Rattle.tera_errors.specs.Site.{Text}
+use Rattle.tera_errors.specs.Site.{Name, Text}
 use Rattle.tera_state.specs.Scope.{Turn}
-use Rattle.tera_meaning.specs.Here.{Here}
+use Rattle.tera_meaning.specs.Here.{Here, escaping_at}
 use Rattle.tera_operators.specs.Operand.{Evaluated, Outcome}
 use Rattle.tera_operators.specs.Operators.{not_of}
 use Rattle.tera_operators.specs.Literals.{array_of, map_of}
+use Rattle.tera_operators.specs.Calls.{filter_applied, test_applied, function_called}
 use Rattle.tera_code.specs.declared.instruction.Instruction.{Instruction}
-use Rattle.tera_code.specs.declared.instruction.Instruction.TheVariants.{WriteText, WriteTop, WriteName, LoadConst, LoadName, LoadAttribute, LoadItem, Slice, Not, Negate, Binary, MakeArray, MakeMap, Jump, PopJumpIfFalse, JumpIfFalseOrPop, JumpIfTrueOrPop, Store, LoadContext, StartLoop, NextTurn, EndLoop, Keep, EndComprehension, StartCapture, EndCapture, LeaveLoop, LeaveTurn, TakeBlock, TakeAbove}
+use Rattle.tera_code.specs.declared.instruction.Instruction.TheVariants.{WriteText, WriteTop, WriteName, LoadConst, LoadName, LoadAttribute, LoadItem, Slice, Not, Negate, Binary, MakeArray, MakeMap, Jump, PopJumpIfFalse, JumpIfFalseOrPop, JumpIfTrueOrPop, Store, LoadContext, StartLoop, NextTurn, EndLoop, Keep, EndComprehension, StartCapture, EndCapture, LeaveLoop, LeaveTurn, TakeBlock, TakeAbove, ApplyFilter, ApplyTest, CallFunction}
 use Rattle.tera_machine.specs.Config.{Config, Loop}
-use Rattle.tera_machine.specs.Flow.{Flow, Skip}
+use Rattle.tera_machine.specs.Flow.{Flow}
 use Rattle.tera_machine.specs.Did.{Did, Goes, Faults, Sticks, holding, outcome}
-use Rattle.tera_machine.specs.Act.{act, put_out, stored_in, top_written_in, on_one, on_two, on_four, topmost, made_of, branched, popped_branch_in, kept_if_falsy_in, kept_if_truthy_in, above_in}
+use Rattle.tera_machine.specs.Act.{act, put_out, stored_in, top_written_in, on_one, on_two, on_four, topmost, made_of, called_on, branched, popped_branch_in, kept_if_falsy_in, kept_if_truthy_in, above_in}
 use Rattle.tera_machine.specs.Loops.{begun_over, begun_with, started_on, went_round, round_in, ended_in, kept_in, collected_in}
 use Rattle.tera_machine.specs.Captures.{captured_in}
 
@@ -56,6 +57,11 @@ four_still f (w ∷ z ∷ y ∷ x ∷ rest) c = outcome_still (f x y z w) rest c
 made_still : (f : List Evaluated → Outcome) (o : Option (List Evaluated × List Evaluated)) (c : Config) → IsStill c (made_of f o c)
 made_still f None c = tt
 made_still f (Some (all, rest)) c = outcome_still (f all) rest c
+
+called_still : (f : Evaluated → List (Name × Evaluated) → Outcome) (names : List Name) (o : Option (List Evaluated × List Evaluated)) (c : Config) → IsStill c (called_on f names o c)
+called_still f names None c = tt
+called_still f names (Some (all, [])) c = tt
+called_still f names (Some (all, a ∷ rest)) c = outcome_still (f a (zip names all)) rest c
 
 branched_still : (b : Bool) (os os2 : List Evaluated) (skip : ℕ) (c : Config) → IsStill c (branched b (holding os c) skip (holding os2 c))
 branched_still true os os2 skip c = refl
@@ -106,9 +112,9 @@ collected_still : (span : Span) (ls : List Loop) (c : Config) → IsStill c (col
 collected_still span [] c = tt
 collected_still span (l ∷ ls) c = refl
 
-captured_still : (safe : Bool) (ts : List Text) (c : Config) → IsStill c (captured_in safe ts c)
-captured_still safe [] c = tt
-captured_still safe (t ∷ ts) c = refl
+captured_still : (safe : Bool) (span : Span) (ts : List Text) (c : Config) → IsStill c (captured_in safe span ts c)
+captured_still safe span [] c = tt
+captured_still safe span (t ∷ ts) c = refl
 
 module _ (here : Here) (next : ℕ) where
   started_still : (os : List Evaluated) (heading : _) (size : ℕ) (c : Config) → IsStill c (started_on here heading next size os c)
@@ -147,11 +153,17 @@ module _ (here : Here) (next : ℕ) where
   act_still Keep c = kept_still c.operands c.loops c
   act_still (EndComprehension span) c = collected_still span c.loops c
   act_still StartCapture c = refl
-  act_still EndCapture c = captured_still here.autoescape c.captures c
+  act_still (EndCapture span) c = captured_still here.autoescape span c.captures c
   act_still (LeaveLoop drops) c = refl
   act_still (LeaveTurn drops) c = refl
   act_still (TakeBlock name span) c = refl
   act_still (TakeAbove arguments span) c = above_still span _ c
+  act_still (ApplyFilter name names span) c =
+      called_still (λ a given. filter_applied here.file (escaping_at here) name a given span) names (topmost (length names) c.operands) c
+  act_still (ApplyTest name names span) c =
+      called_still (λ a given. test_applied here.file name a given span) names (topmost (length names) c.operands) c
+  act_still (CallFunction name names span) c =
+      made_still (λ all. function_called here.file name (zip names all) span) (topmost (length names) c.operands) c
 
   pub still : (i : Instruction) (c c2 : Config) (flow : Flow) → act here next i c ≡ Goes c2 flow → c2.run.blocks ≡ c.run.blocks
   still i c c2 flow e = subst (IsStill c) e (act_still i c)

@@ -13,13 +13,14 @@ use Rattle.tera_operators.specs.Operand.{Evaluated, Outcome}
 use Rattle.tera_operators.specs.Accesses.{attribute_of, item_of, slice_of}
 use Rattle.tera_operators.specs.Operators.{not_of, negative_of, binary_of}
 use Rattle.tera_operators.specs.Literals.{array_of, map_of}
+use Rattle.tera_operators.specs.Calls.{filter_applied, test_applied, function_called}
 use Rattle.tera_state.specs.Scope.{Around, Turn, look, dump, assign}
 use Rattle.tera_state.specs.Scopes.{around_of, coming_of}
-use Rattle.tera_meaning.specs.Here.{Here}
+use Rattle.tera_meaning.specs.Here.{Here, escaping_at}
 use Rattle.tera_meaning.specs.Run.{ABlock, Above}
 use Rattle.tera_meaning.specs.Meaning.{output}
 use Rattle.tera_code.specs.declared.instruction.Instruction.{Instruction}
-use Rattle.tera_code.specs.declared.instruction.Instruction.TheVariants.{WriteText, WriteTop, WriteName, LoadConst, LoadName, LoadAttribute, LoadItem, Slice, Not, Negate, Binary, MakeArray, MakeMap, Jump, PopJumpIfFalse, JumpIfFalseOrPop, JumpIfTrueOrPop, Store, LoadContext, StartLoop, NextTurn, EndLoop, Keep, EndComprehension, StartCapture, EndCapture, LeaveLoop, LeaveTurn, TakeBlock, TakeAbove}
+use Rattle.tera_code.specs.declared.instruction.Instruction.TheVariants.{WriteText, WriteTop, WriteName, LoadConst, LoadName, LoadAttribute, LoadItem, Slice, Not, Negate, Binary, MakeArray, MakeMap, Jump, PopJumpIfFalse, JumpIfFalseOrPop, JumpIfTrueOrPop, Store, LoadContext, StartLoop, NextTurn, EndLoop, Keep, EndComprehension, StartCapture, EndCapture, LeaveLoop, LeaveTurn, TakeBlock, TakeAbove, ApplyFilter, ApplyTest, CallFunction}
 use Rattle.tera_machine.specs.declared.configuration.Configuration.{Configuration}
 use Rattle.tera_machine.specs.declared.machine.Flow as declared
 use Rattle.tera_machine.specs.Config.{Config, config_of}
@@ -130,6 +131,24 @@ array_made file spreads span c =
 abbrev pub map_made : site.Name → List (Option Key) → Span → Config → Did
 map_made file keys span c = on_many (λ all. map_of file (zip keys all) span) (length keys) c.operands c
 
+-- a call on the operand below its arguments
+abbrev pub called_on : (Evaluated → List (site.Name × Evaluated) → Outcome) → List site.Name → Option (List Evaluated × List Evaluated) → Config → Did
+called_on f names None c = Sticks
+called_on f names (Some (all, [])) c = Sticks
+called_on f names (Some (all, a ∷ rest)) c = outcome (f a (zip names all)) rest c
+
+abbrev pub filter_called : Here → site.Name → List site.Name → Span → Config → Did
+filter_called here name names span c =
+    called_on (λ a given. filter_applied here.file (escaping_at here) name a given span) names (topmost (length names) c.operands) c
+
+abbrev pub test_called : site.Name → site.Name → List site.Name → Span → Config → Did
+test_called file name names span c =
+    called_on (λ a given. test_applied file name a given span) names (topmost (length names) c.operands) c
+
+abbrev pub function_answered : site.Name → site.Name → List site.Name → Span → Config → Did
+function_answered file name names span c =
+    on_many (λ all. function_called file name (zip names all) span) (length names) c.operands c
+
 abbrev pub popped_branch : ℕ → Config → Did
 popped_branch skip c = popped_branch_in skip c.operands c
 
@@ -178,11 +197,14 @@ act here next (EndLoop skip) = loop_ended skip
 act here next Keep = kept
 act here next (EndComprehension span) = comprehension_ended span
 act here next StartCapture = capture_started
-act here next EndCapture = capture_ended here.autoescape
+act here next (EndCapture span) = capture_ended here.autoescape span
 act here next (LeaveLoop drops) = loop_left drops
 act here next (LeaveTurn drops) = turn_left drops
 act here next (TakeBlock name span) = block_taken name span
 act here next (TakeAbove arguments span) = above_taken arguments span
+act here next (ApplyFilter name names span) = filter_called here name names span
+act here next (ApplyTest name names span) = test_called here.file name names span
+act here next (CallFunction name names span) = function_answered here.file name names span
 
 -- the code did so, unless memory was refused
 abbrev pub Acted : Did → Result declared.Flow Refusal → Config → Type 0

@@ -1,5 +1,6 @@
 -- What the instructions of captures do, and how a turn is left out of them.
 use Rattle.std.specs.Prelude.{ℕ, ◌+◌, Bool, Option, Some, None, List, [], ◌∷◌, drop}
+use Rattle.tera_errors.specs.declared.span.Span.{Span}
 use Rattle.tera_errors.specs.Site.{Text}
 use Rattle.tera_values.specs.Val.{text}
 use Rattle.tera_machine.specs.Layers.{around_layers}
@@ -12,17 +13,17 @@ abbrev pub capture_started : Config → Did
 capture_started c = Goes (record c { captures = c.run.text ∷ c.captures; run = record c.run { text = [] } }) On
 
 -- the captured text as an operand, and the text around it goes on
-abbrev pub captured_in : Bool → List Text → Config → Did
-captured_in safe [] c = Sticks
-captured_in safe (t ∷ ts) c =
+abbrev pub captured_in : Bool → Span → List Text → Config → Did
+captured_in safe span [] c = Sticks
+captured_in safe span (t ∷ ts) c =
     Goes (record c {
-      operands = record { value = text c.run.text safe; span = record { start = 0; end = 0 } } ∷ c.operands;
+      operands = record { value = text c.run.text safe; span = span } ∷ c.operands;
       captures = ts;
       run = record c.run { text = t };
     }) On
 
-abbrev pub capture_ended : Bool → Config → Did
-capture_ended safe c = captured_in safe c.captures c
+abbrev pub capture_ended : Bool → Span → Config → Did
+capture_ended safe span c = captured_in safe span c.captures c
 
 -- so many captures are dropped
 abbrev pub dropped : ℕ → Config → Config

@@ -70,13 +70,28 @@ impl<'c> Configuration<'c> {
             Instruction::Keep => self.keep(),
             Instruction::EndComprehension(span) => self.end_comprehension(alloc, *span),
             Instruction::StartCapture => self.start_capture(),
-            Instruction::EndCapture => self.end_capture(machine),
+            Instruction::EndCapture(span) => self.end_capture(machine, *span),
             Instruction::LeaveLoop(drops) => self.leave_loop(*drops),
             Instruction::LeaveTurn(drops) => self.leave_turn(*drops),
             Instruction::TakeBlock { name, span } => {
                 Ok(Flow::Ask(Asked::Block(name.as_name(), *span)))
             }
             Instruction::TakeAbove { arguments, span } => self.take_above(*arguments, *span),
+            Instruction::ApplyFilter {
+                name,
+                arguments,
+                span,
+            } => self.apply_filter(machine, file, name, arguments, *span),
+            Instruction::ApplyTest {
+                name,
+                arguments,
+                span,
+            } => self.apply_test(alloc, file, name, arguments, *span),
+            Instruction::CallFunction {
+                name,
+                arguments,
+                span,
+            } => self.call_function(alloc, file, name, arguments, *span),
         }
     }
 

@@ -19,9 +19,13 @@ impl<'c> Configuration<'c> {
     }
 
     // The text is safe where texts are escaped: what is put out in a capture is escaped already.
-    pub(crate) fn end_capture<'f>(&mut self, machine: &VirtualMachine<'_>) -> TeraResult<Flow<'f>>
-        requires { IsReady (capture_ended machine.now.autoescape) self.old }
-        ensures { Does (capture_ended machine.now.autoescape) self.old result self.new }
+    pub(crate) fn end_capture<'f>(
+        &mut self,
+        machine: &VirtualMachine<'_>,
+        span: Span,
+    ) -> TeraResult<Flow<'f>>
+        requires { IsReady (capture_ended machine.now.autoescape span) self.old }
+        ensures { Does (capture_ended machine.now.autoescape span) self.old result self.new }
     {
         let text = self.texts.end()?;
         let value = if machine.autoescape {
@@ -29,7 +33,7 @@ impl<'c> Configuration<'c> {
         } else {
             Value::string(machine.alloc, text.as_str())?
         };
-        self.push(value, Span { start: 0, end: 0 })
+        self.push(value, span)
     }
 
     // At the instruction that closes the loop.

@@ -5,6 +5,7 @@ pub mod act;
 pub mod asked;
 pub mod blocks;
 pub mod bodies;
+mod calls;
 mod captures;
 pub mod configuration;
 pub mod ended;

@@ -23,7 +23,7 @@ use std::marker::Brand;
 use std::sync::ledger::Ledger;
 use tera_code::{Chunk, Steps};
 use tera_registry::Found;
-use tera_values::TeraResult;
+use tera_values::{Name, TeraResult};
 
 /// Where the machine goes on.
 #[derive(Clone, Copy)]
@@ -121,7 +121,7 @@ impl<'t> VirtualMachine<'t> {
     pub fn run_for_block<L: Ledger>(
         &self,
         chunk: &Chunk,
-        block: &str,
+        block: &Name,
         configuration: &mut Configuration<'_>,
         steps: &mut Steps<L>,
     ) -> TeraResult<String>
@@ -136,7 +136,7 @@ impl<'t> VirtualMachine<'t> {
         ensures text { Gives string_bytes result
             (block_of block.now (meant_from about configuration.old)) }
     {
-        let wanted = Wanted::block(self.alloc, block)?;
+        let wanted = Wanted::block(block)?;
         let mut blocks = OpenBlocks::new(self.alloc, wanted);
         match self.run_counted::<Brand, L>(chunk, &mut blocks, configuration, steps) {
             Ok(()) => {}

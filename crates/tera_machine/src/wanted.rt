@@ -34,13 +34,13 @@ impl Wanted {
     }
 
     /// The block of this name is wanted.
-    pub fn block(alloc: Global, name: &str) -> TeraResult<Wanted>
+    pub fn block(name: &Name) -> TeraResult<Wanted>
         ensures name { IfOk result (λ wanted. wanted.name ≡ Some name.now) }
         ensures last { IfOk result (λ wanted. text_kept wanted ≡ None) }
         ensures lacks { IfErr result Lacks }
     {
         Ok(Wanted {
-            name: Some(Name::new(alloc, name)?),
+            name: Some(name.share()?),
             last: None,
         })
     }

@@ -47,7 +47,7 @@ unwrap_or-stands : {x : Option (ValOf Marked)} {y : Option (ValOf ℕ)} → Opti
 unwrap_or-stands (value s) = s
 unwrap_or-stands no_value = undefineds
 
-at_name-stands : (n : Name) {vs : List (Name × ValOf Marked)} {ws : List (Name × ValOf ℕ)} → Each Binds vs ws → OptionStands Stands (at_name n vs) (at_name n ws)
+pub at_name-stands : (n : Name) {vs : List (Name × ValOf Marked)} {ws : List (Name × ValOf ℕ)} → Each Binds vs ws → OptionStands Stands (at_name n vs) (at_name n ws)
 at_name-stands n none = no_value
 at_name-stands n (more {x = v} {y = w} {xs = vs} {ys = ws} k ks) = rw k.0 (go (bytes_eq n w.0) (at_name-stands n ks))
   where
@@ -133,7 +133,7 @@ put-stands n {v} {w} s (more {x = b} {y = c} {xs = vs} {ys = ws} k ks) = rw k.0 
     go Equal rest = more (refl, s) ks
     go Greater rest = more (refl, k.1) rest
 
-put_all-stands : {bs : List (Name × ValOf Marked)} {cs : List (Name × ValOf ℕ)} → Each Binds bs cs → {vs : Named (ValOf Marked)} {ws : Named (ValOf ℕ)} → Each Binds vs ws → Each Binds (put_all bs vs) (put_all cs ws)
+pub put_all-stands : {bs : List (Name × ValOf Marked)} {cs : List (Name × ValOf ℕ)} → Each Binds bs cs → {vs : Named (ValOf Marked)} {ws : Named (ValOf ℕ)} → Each Binds vs ws → Each Binds (put_all bs vs) (put_all cs ws)
 put_all-stands none ks = ks
 put_all-stands (more {y = c} b bs) ks = put_all-stands bs (rw b.0 (put-stands c.0 b.1 ks))
 

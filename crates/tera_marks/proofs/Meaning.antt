@@ -4,13 +4,14 @@ use Rattle.std.specs.Str.{bytes_eq}
 use Rattle.tera_errors.specs.Site as site
 use Rattle.tera_errors.specs.declared.span.Span.{Span}
 use Rattle.tera_errors.specs.Fault.{Fault}
-use Rattle.tera_tree.specs.Tree.{Expr, Nothing, Boolean, Integer, Text, Name, Attribute, Index, Slice, Not, Negate, Binary, And, Or, Ternary, Array, Map, Comprehension, Super, Optional, Absent, Present, Items, NoItems, MoreItems, Entries, NoEntries, MoreEntries, Arguments, NoArguments, MoreArguments, Node, Content, Print, If, Set, Capture, For, Block, Break, Continue, Nodes, NoNodes, MoreNodes}
+use Rattle.tera_tree.specs.Tree.{Expr, Nothing, Boolean, Integer, Text, Name, Attribute, Index, Slice, Not, Negate, Binary, And, Or, Ternary, Array, Map, Comprehension, Super, Filter, Test, Call, Optional, Absent, Present, Items, NoItems, MoreItems, Entries, NoEntries, MoreEntries, Arguments, NoArguments, MoreArguments, Filters, NoFilters, MoreFilters, Node, Content, Print, If, Set, Capture, FilterSection, For, Block, Break, Continue, Nodes, NoNodes, MoreNodes}
 use Rattle.tera_marks.proofs.Each.{Each, none, more, each-append}
 use Rattle.tera_marks.proofs.Standing.{Bears, trusted_mark, Stands, nones, bools, ints, texts, arrays, seen-is, bearing-each, escaped-each, printed-each, ResultStands, answers, refuses}
 use Rattle.tera_marks.proofs.Moving.{undefined-same, safe-same, truthy-same, all-stand}
 use Rattle.tera_marks.proofs.Around.{TurnStands, VariablesStand, AroundStands, look-stands, assign-stands, open_turn-stands, close_turn-stands, dump-stands}
 use Rattle.tera_marks.proofs.Turning.{turns-stand}
 use Rattle.tera_marks.proofs.Operating.{Operand, Listed, placed-stands, attribute-stands, item-stands, sliced-stands, not-stands, negative-stands, binary-stands, array-stands, map-stands}
+use Rattle.tera_marks.proofs.Calling.{filter-stands, test-stands, function-stands}
 use Rattle.tera_values.specs.Alphabet.{Marked, template, escaped, made, plain, marking, bytes_of}
 use Rattle.tera_values.specs.Val.{ValOf}
 use Rattle.tera_values.specs.Access.{is_undefined, is_safe, truthy}
@@ -20,8 +21,8 @@ use Rattle.tera_operators.specs.Operand.{EvaluatedOf, fault_at}
 use Rattle.tera_state.specs.Rendered.{rendered_in}
 use Rattle.tera_state.specs.Scope.{AroundOf, VariablesOf, TurnOf, Heading, look, dump}
 use Rattle.tera_meaning.specs.Run.{Signal, On, Broke, Continued, RunOf, AnswerOf, Failed, Gave, MeaningOf, OracleOf, ◌▹◌, onward, more as counted, visit, gives, answered, value_at, if_else, reads, changes, writes, go_on, put_back, captured, RequestOf, ABlock, Above, joined_answer, asks}
-use Rattle.tera_meaning.specs.Meaning.{output_in, turns_of_in, named_value, if_kept, comprehension, after_turn, loop, loop_or_else, expr_meaning_in, bound_meaning_in, condition_meaning_in, items_meaning_in, entries_meaning_in, arguments_meaning_in, node_meaning_in, nodes_meaning_in}
-use Rattle.tera_meaning.specs.Here.{Engine, HereOf}
+use Rattle.tera_meaning.specs.Meaning.{output_in, written_in, turns_of_in, named_value, if_kept, comprehension, after_turn, loop, loop_or_else, expr_meaning_in, bound_meaning_in, condition_meaning_in, items_meaning_in, entries_meaning_in, arguments_meaning_in, filters_meaning_in, put_out, node_meaning_in, nodes_meaning_in}
+use Rattle.tera_meaning.specs.Here.{Engine, HereOf, escaping_at}
 
 pub record Ended (b : site.Name × List Marked) (c : site.Name × List ℕ) : Type 0 where
   pub name : b.0 ≡ c.0
@@ -209,6 +210,12 @@ module _ (file : site.Name) (engine : Engine) (by_html : engine.escape ≡ escap
         bind Operand (comprehension-means (condition-means c) (expr-means x) ks) (λ vs ws ss. value-means span (arrays (all-stand ss))))))
     expr-means (Super xs span) =
         visit-means (bind Operand (arguments-mean xs) (λ vs ws ks. bind Operand (asks-means answered_for (aboves span)) (λ t u ts. value-means span (texts true ts))))
+    expr-means (Filter x name xs span) =
+        visit-means (bind Operand (expr-means x) (λ a b k. bind Operand (arguments-mean xs) (λ vs ws ks. answered-means (filter-stands file name span ks (escaping_at there) by_html k))))
+    expr-means (Test x name xs span) =
+        visit-means (bind Operand (expr-means x) (λ a b k. bind Operand (arguments-mean xs) (λ vs ws ks. answered-means (test-stands file name span ks k))))
+    expr-means (Call name xs span) =
+        visit-means (bind Operand (arguments-mean xs) (λ vs ws ks. answered-means (function-stands file name span ks)))
 
     bound-means : (x : Optional) → Means Operand (bound_meaning_in marking here c x) (bound_meaning_in plain there d x)
     bound-means Absent = gives-means _ _ (record { value = nones; span = refl })
@@ -233,14 +240,27 @@ module _ (file : site.Name) (engine : Engine) (by_html : engine.escape ≡ escap
     arguments-mean (MoreArguments name x xs) =
         bind (Each Listed) (expr-means x) (λ a b k. bind (Each Listed) (arguments-mean xs) (λ vs ws ks. gives-means _ _ (more (refl, k) ks)))
 
+  filters-mean : (fs : Filters) {a : EvaluatedOf Marked} {b : EvaluatedOf ℕ} → Operand a b → Means Operand (filters_meaning_in marking here c fs a) (filters_meaning_in plain there d fs b)
+  filters-mean NoFilters k = gives-means _ _ k
+  filters-mean (MoreFilters name xs span rest) k =
+      bind Operand (visit-means (bind Operand (arguments-mean xs) (λ vs ws ks. answered-means (filter-stands file name span ks (escaping_at there) by_html k)))) (λ a b l. filters-mean rest l)
+
+  put_out-stands : (fs : Filters) {t : List Marked} {u : List ℕ} → Each (Bears true) t u → Operand (put_out here fs t) (put_out there fs u)
+  put_out-stands fs ts = record { value = texts true ts; span = refl }
+
+  written-means : {a : EvaluatedOf Marked} {b : EvaluatedOf ℕ} → Operand a b → Means Same (written_in marking here a) (written_in plain there b)
+  written-means k = bind Same (answered-means (output-stands k)) (λ t u ts. writes-means ts)
+
   mutual
     node-means : (n : Node) → Means Same (node_meaning_in marking here c n) (node_meaning_in plain there d n)
     node-means (Content t span) = visit-means (writes-means (bearing-each true template t (trusted_mark template refl)))
-    node-means (Print x) = visit-means (bind Same (expr-means x) (λ a b k. bind Same (answered-means (output-stands k)) (λ t u ts. writes-means ts)))
+    node-means (Print x) = visit-means (bind Same (expr-means x) (λ a b k. written-means k))
     node-means (If x body other) = visit-means (bind Same (expr-means x) (λ a b k. rw (truthy-same k.value) (choice-means (truthy b.value) (nodes-mean body) (nodes-mean other))))
     node-means (Set name x is_global) = visit-means (bind Same (expr-means x) (λ a b k. changes-means (λ v w vs. assign-stands is_global name k.value vs)))
-    node-means (Capture name body is_global) =
-        visit-means (bind Same (captured-means (nodes-mean body)) (λ x y k. go_on-means k.0 (changes-means (λ v w vs. assign-stands is_global name (texts true k.1) vs))))
+    node-means (Capture name fs body is_global) =
+        visit-means (bind Same (captured-means (nodes-mean body)) (λ x y k. go_on-means k.0 (bind Same (filters-mean fs (put_out-stands fs k.1)) (λ a b l. changes-means (λ v w vs. assign-stands is_global name l.value vs)))))
+    node-means (FilterSection fs body) =
+        visit-means (bind Same (captured-means (nodes-mean body)) (λ x y k. go_on-means k.0 (bind Same (filters-mean fs (put_out-stands fs k.1)) (λ a b l. written-means l))))
     node-means (For key name x body other) =
         visit-means (bind Same (expr-means x) (λ a b k. bind Same (answered-means (turns_of-stand (record { name = name; key = key; counts = true }) k)) (λ ts us ks.
         loop_or_else-means (nodes-mean body) (nodes-mean other) ks)))

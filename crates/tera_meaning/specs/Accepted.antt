@@ -1,5 +1,5 @@
 -- Whether the templates of a registry go together.
-use Rattle.std.specs.Prelude.{Bool, true, false, ◌&&◌, List, [], ◌∷◌, Option, Some, None, is_some, Result, Ok, Err, if◌then◌else◌}
+use Rattle.std.specs.Prelude.{Bool, true, false, ◌&&◌, ◌||◌, List, [], ◌∷◌, Option, Some, None, is_some, Result, Ok, Err, if◌then◌else◌}
 use Rattle.std.specs.List.{list_any}
 use Rattle.std.specs.Option.{option_or}
 use Rattle.tera_errors.specs.Site.{Name}
@@ -7,6 +7,7 @@ use Rattle.tera_errors.specs.Fault.{Fault, message}
 use Rattle.tera_tree.specs.Blocks.{top_blocks}
 use Rattle.tera_meaning.specs.Registry.{Entry, Registry}
 use Rattle.tera_meaning.specs.Resolve.{parents}
+use Rattle.tera_meaning.specs.Known.{lacks_a_callee}
 use Rattle.tera_meaning.specs.Lineage.{Definer, ancestors, definers_in}
 
 abbrev pub fault_of_parents : Result (List Entry) Fault → Option Fault
@@ -34,9 +35,13 @@ is_lost r t block = is_none_left (definers_in block (ancestors r t))
 abbrev pub loses_a_block : Registry → Entry → Bool
 loses_a_block r t = is_some t.1.tree.parent && list_any (is_lost r t) (top_blocks t.1.tree.nodes)
 
--- what no template has of what templates name
+-- whether a template names what is not there
+abbrev pub lacks_something : Registry → Entry → Bool
+lacks_something r t = loses_a_block r t || lacks_a_callee t.1.tree.nodes
+
+-- what is not there of what templates name
 unfoldable pub missing : Registry → Option Fault
-missing r = if list_any (loses_a_block r) r.templates then Some message else None
+missing r = if list_any (lacks_something r) r.templates then Some message else None
 
 -- none where the registry is accepted
 unfoldable pub fault : Registry → Option Fault

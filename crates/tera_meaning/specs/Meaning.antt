@@ -2,7 +2,7 @@
 use Rattle.std.specs.Prelude.{Bool, true, false, List, [], ◌∷◌, ◌++◌, Option, Result, Ok, codes, bytes_eq, if◌then◌else◌}
 use Rattle.tera_errors.specs.Site as site
 use Rattle.tera_errors.specs.Fault.{Fault}
-use Rattle.tera_tree.specs.Tree.{Key, Expr, Nothing, Boolean, Integer, Text, Name, Attribute, Index, Slice, Not, Negate, Binary, And, Or, Ternary, Array, Map, Comprehension, Super, Optional, Absent, Present, Items, NoItems, MoreItems, Entries, NoEntries, MoreEntries, Arguments, NoArguments, MoreArguments, Node, Content, Print, If, Set, Capture, For, Block, Break, Continue, Nodes, NoNodes, MoreNodes}
+use Rattle.tera_tree.specs.Tree.{Key, Expr, Nothing, Boolean, Integer, Text, Name, Attribute, Index, Slice, Not, Negate, Binary, And, Or, Ternary, Array, Map, Comprehension, Super, Filter, Test, Call, Optional, Absent, Present, Items, NoItems, MoreItems, Entries, NoEntries, MoreEntries, Arguments, NoArguments, MoreArguments, Filters, NoFilters, MoreFilters, first_span, Node, Content, Print, If, Set, Capture, FilterSection, For, Block, Break, Continue, Nodes, NoNodes, MoreNodes}
 use Rattle.tera_values.specs.Alphabet.{Alphabet, plain, template, made}
 use Rattle.tera_values.specs.Val.{ValOf, none, bool, int, text, array, vals}
 use Rattle.tera_values.specs.Access.{is_undefined, truthy}
@@ -11,9 +11,10 @@ use Rattle.tera_operators.specs.Operand.{Evaluated, EvaluatedOf, fault_at, place
 use Rattle.tera_operators.specs.Accesses.{attribute_of, item_in, sliced_in}
 use Rattle.tera_operators.specs.Operators.{not_of, negative_in, binary_in}
 use Rattle.tera_operators.specs.Literals.{array_of, map_of}
+use Rattle.tera_operators.specs.Calls.{filter_applied_in, test_applied_in, function_called_in}
 use Rattle.tera_state.specs.Rendered.{rendered_in}
 use Rattle.tera_state.specs.Scope.{AroundOf, VariablesOf, TurnOf, Turn, Heading, look, dump, assign, open_turn, close_turn, loop_turns_in}
-use Rattle.tera_meaning.specs.Here.{Here, HereOf}
+use Rattle.tera_meaning.specs.Here.{Here, HereOf, escaping_at}
 use Rattle.tera_meaning.specs.Run.{Signal, On, Broke, Continued, Meaning, MeaningOf, Oracle, OracleOf, ABlock, Above, ◌▹◌, visit, gives, answered, value_at, if_else, reads, changes, writes, go_on, captured, asks}
 
 module _ {C : Type 0} (alphabet : Alphabet C) where
@@ -76,6 +77,10 @@ module _ {C : Type 0} where
 abbrev pub no_bound : {C : Type 0} → EvaluatedOf C
 no_bound = record { value = none; span = record { start = 0; end = 0 } }
 
+-- the text that a body put out: safe where autoescape is on
+abbrev pub put_out : {C : Type 0} → HereOf C → Filters → List C → EvaluatedOf C
+put_out here fs t = record { value = text t here.autoescape; span = first_span fs }
+
 module _ {C : Type 0} (alphabet : Alphabet C) (here : HereOf C) (call : OracleOf C) where
   abbrev mutual
     pub expr_meaning_in : Expr → MeaningOf C (EvaluatedOf C)
@@ -124,6 +129,16 @@ module _ {C : Type 0} (alphabet : Alphabet C) (here : HereOf C) (call : OracleOf
         visit (arguments_meaning_in arguments
         ▹ λ given. asks call (Above span)
         ▹ λ t. value_at (text t true) span)
+    expr_meaning_in (Filter value name arguments span) =
+        visit (expr_meaning_in value
+        ▹ λ a. arguments_meaning_in arguments
+        ▹ λ given. answered (filter_applied_in alphabet here.file (escaping_at here) name a given span))
+    expr_meaning_in (Test value name arguments span) =
+        visit (expr_meaning_in value
+        ▹ λ a. arguments_meaning_in arguments
+        ▹ λ given. answered (test_applied_in alphabet here.file name a given span))
+    expr_meaning_in (Call name arguments span) =
+        visit (arguments_meaning_in arguments ▹ λ given. answered (function_called_in alphabet here.file name given span))
 
     pub bound_meaning_in : Optional → MeaningOf C (EvaluatedOf C)
     bound_meaning_in Absent = gives no_bound
@@ -149,6 +164,14 @@ module _ {C : Type 0} (alphabet : Alphabet C) (here : HereOf C) (call : OracleOf
     arguments_meaning_in (MoreArguments name value rest) =
         expr_meaning_in value ▹ λ a. arguments_meaning_in rest ▹ λ all. gives ((name, a) ∷ all)
 
+  -- filters of a text that a body put out, one after the other
+  abbrev pub filters_meaning_in : Filters → EvaluatedOf C → MeaningOf C (EvaluatedOf C)
+  filters_meaning_in NoFilters a = gives a
+  filters_meaning_in (MoreFilters name arguments span rest) a =
+      visit (arguments_meaning_in arguments
+      ▹ λ given. answered (filter_applied_in alphabet here.file (escaping_at here) name a given span))
+      ▹ filters_meaning_in rest
+
   abbrev mutual
     pub node_meaning_in : Node → MeaningOf C Signal
     node_meaning_in (Content t span) = visit (writes (alphabet.spelled template t))
@@ -158,9 +181,12 @@ module _ {C : Type 0} (alphabet : Alphabet C) (here : HereOf C) (call : OracleOf
         ▹ λ c. if_else (truthy c.value) (nodes_meaning_in body) (nodes_meaning_in other))
     node_meaning_in (Set name value is_global) =
         visit (expr_meaning_in value ▹ λ a. changes (assign is_global name a.value))
-    node_meaning_in (Capture name body is_global) =
+    node_meaning_in (Capture name fs body is_global) =
         visit (captured (nodes_meaning_in body)
-        ▹ λ c. go_on c.0 (changes (assign is_global name (text c.1 here.autoescape))))
+        ▹ λ c. go_on c.0 (filters_meaning_in fs (put_out here fs c.1) ▹ λ a. changes (assign is_global name a.value)))
+    node_meaning_in (FilterSection fs body) =
+        visit (captured (nodes_meaning_in body)
+        ▹ λ c. go_on c.0 (filters_meaning_in fs (put_out here fs c.1) ▹ written_in alphabet here))
     node_meaning_in (For key name target body other) =
         visit (expr_meaning_in target
         ▹ λ a. answered (turns_of_in alphabet here (record { name = name; key = key; counts = true }) a)
@@ -200,6 +226,9 @@ entries_meaning = entries_meaning_in plain
 
 abbrev pub arguments_meaning : Here → Oracle → Arguments → Meaning (Named Evaluated)
 arguments_meaning = arguments_meaning_in plain
+
+abbrev pub filters_meaning : Here → Oracle → Filters → Evaluated → Meaning Evaluated
+filters_meaning = filters_meaning_in plain
 
 abbrev pub node_meaning : Here → Oracle → Node → Meaning Signal
 node_meaning = node_meaning_in plain

@@ -12,6 +12,7 @@ use Rattle.tera_state.specs.Scope.{AroundOf, Around, outside, nothing_set}
 use Rattle.tera_meaning.specs.Run.{Signal, Answer, AnswerOf, Failed, Gave}
 use Rattle.tera_meaning.specs.Registry.{Entry, Registry}
 use Rattle.tera_meaning.specs.Resolve.{resolve, root}
+use Rattle.tera_meaning.specs.Known.{has_unknown}
 use Rattle.tera_meaning.specs.Lineage.{Definer, definers}
 use Rattle.tera_meaning.specs.Whole.{World, Place, PlaceOf, meaning_in}
 
@@ -61,11 +62,17 @@ module _ {C : Type 0} (alphabet : Alphabet C) where
   one_off_meaning_in r tree context autoescape =
       meaning_in alphabet (alone r) (one_off_place_in r context autoescape) nothing_set tree.nodes
 
-  -- the reader's fault; a text beside the registry may extend no template and have no block; else the text of what was read
+  -- the text of a tree that calls nothing that is not there
+  abbrev pub one_off_text_in : Registry → Tree → Named Val → Bool → Result (List C) Fault
+  one_off_text_in r tree context autoescape =
+      if has_unknown tree.nodes then Err message else text_of (one_off_meaning_in r tree context autoescape)
+
+  -- the reader's fault; a text beside the registry may extend no template, have no block, and call nothing that is not there;
+  -- else the text of what was read
   abbrev pub render_str_in : Registry → Result Tree Fault → Named Val → Bool → Result (List C) Fault
   render_str_in r (Err fault) context autoescape = Err fault
   render_str_in r (Ok tree) context autoescape =
-      if is_some tree.parent || has_a_block tree.nodes then Err message else text_of (one_off_meaning_in r tree context autoescape)
+      if is_some tree.parent || has_a_block tree.nodes then Err message else one_off_text_in r tree context autoescape
 
   -- Nodes stand in the text of the template that has no parent; blocks are put out and texts are escaped as for the template
   -- that is rendered.
@@ -108,6 +115,9 @@ one_off_place = one_off_place_in plain
 
 abbrev pub one_off_meaning : Registry → Tree → Named Val → Bool → Answer Signal
 one_off_meaning = one_off_meaning_in plain
+
+abbrev pub one_off_text : Registry → Tree → Named Val → Bool → Result Text Fault
+one_off_text = one_off_text_in plain
 
 abbrev pub render_str : Registry → Result Tree Fault → Named Val → Bool → Result Text Fault
 render_str = render_str_in plain

@@ -2,3 +2,4 @@ pub mod Operand
 pub mod Accesses
 pub mod Operators
 pub mod Literals
+pub mod Calls

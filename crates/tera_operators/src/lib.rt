@@ -4,6 +4,7 @@
 pub mod access;
 pub mod arithmetic;
 pub mod arrays;
+pub mod calls;
 pub mod compare;
 pub mod maps;
 pub mod membership;
@@ -15,6 +16,7 @@ pub mod text;
 pub use access::{attribute, item, slice};
 pub use arithmetic::negative;
 pub use arrays::array;
+pub use calls::{filter, function, test};
 pub use compare::not;
 pub use maps::map;
 pub use operand::Operand;

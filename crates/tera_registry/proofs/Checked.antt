@@ -7,7 +7,7 @@ use Rattle.tera_errors.specs.Fault.{Fault, message}
 use Rattle.tera_errors.specs.Answer.{Refusal, Says}
 use Rattle.tera_meaning.specs.Registry.{Registry, Entry}
 use Rattle.tera_meaning.specs.Resolve.{parents}
-use Rattle.tera_meaning.specs.Accepted.{fault_of_parents, template_fault, first_fault, loses_a_block, missing, fault}
+use Rattle.tera_meaning.specs.Accepted.{fault_of_parents, template_fault, first_fault, lacks_something, missing, fault}
 use Rattle.tera_meaning.specs.Adding.{unless_faulty, accepted}
 use Rattle.tera_registry.specs.Links.{climbed}
 use Rattle.tera_registry.proofs.Rows.{drop-at}
@@ -66,7 +66,7 @@ climbed-says None r says = tt
 climbed-says (Some f) r says =
     ap (λ o. unless_faulty r (option_or o (missing r))) (faulty-by r (first_fault r r.templates) f says)
 
-missing-is : (r : Registry) (b : Bool) (o : Option Fault) → (if b then Some message else None) ≡ o → list_any (loses_a_block r) r.templates ≡ b → missing r ≡ o
+missing-is : (r : Registry) (b : Bool) (o : Option Fault) → (if b then Some message else None) ≡ o → list_any (lacks_something r) r.templates ≡ b → missing r ≡ o
 unfolding missing
 missing-is r b o e is = ap (λ x. if x then Some message else None) is ∙ e
 
@@ -75,10 +75,10 @@ unfolding fault
 after-climbed r o ok is =
     ap (λ f. unless_faulty r (option_or f (missing r))) (climbed-faultless r ok) ∙ ap (unless_faulty r) is
 
-pub loses-says : (r : Registry) → climbed r ≡ Ok r → list_any (loses_a_block r) r.templates ≡ true → accepted r ≡ Err message
-loses-says r ok any = after-climbed r (Some message) ok (missing-is r true (Some message) refl any)
+pub lacks-says : (r : Registry) → climbed r ≡ Ok r → list_any (lacks_something r) r.templates ≡ true → accepted r ≡ Err message
+lacks-says r ok any = after-climbed r (Some message) ok (missing-is r true (Some message) refl any)
 
-pub keeps-all : (r : Registry) → climbed r ≡ Ok r → list_any (loses_a_block r) r.templates ≡ false → accepted r ≡ Ok r
+pub keeps-all : (r : Registry) → climbed r ≡ Ok r → list_any (lacks_something r) r.templates ≡ false → accepted r ≡ Ok r
 keeps-all r ok any = after-climbed r None ok (missing-is r false None refl any)
 
 none-first : (o p : Option Fault) → option_or o p ≡ None → o ≡ None

@@ -3,6 +3,7 @@ pub mod Element
 pub mod Rows
 pub mod Placed
 pub mod Kept
+pub mod Lacking
 pub mod Resolved
 pub mod Climb
 pub mod Linked

@@ -2,6 +2,7 @@ pub mod Order
 pub mod Places
 pub mod Code
 pub mod Kept
+pub mod Known
 pub mod Batch
 pub mod Put
 pub mod Links

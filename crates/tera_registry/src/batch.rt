@@ -8,6 +8,7 @@ ghost use Rattle.tera_registry.specs.Batch.{pairs_of};
 ghost use Rattle.tera_registry.specs.Put.{Makes, Puts};
 ghost use Rattle.tera_registry.specs.Kept.{entry_of, entries_of};
 
+use crate::known::any_lacks;
 use crate::meant::Meant;
 use crate::names::put;
 use crate::template::Template;
@@ -54,6 +55,7 @@ fn read(alloc: Global, delimiters: &Delimiters, name: &str, text: &str) -> TeraR
 }
 
 /// The template of a name and a text that was read to this.
+#[tactic(auto, using(crate::proofs::Lacking::bodies_lack_as_tree))]
 fn made(alloc: Global, name: &str, text: &str, output: &ParserOutput) -> TeraResult<Template>
     ensures ok { IfOk result (λ t. entry_of t ≡ (name.now, record { text = text.now; tree = tree_of output.now })) }
     ensures lacks { IfErr result Lacks }
@@ -61,6 +63,7 @@ fn made(alloc: Global, name: &str, text: &str, output: &ParserOutput) -> TeraRes
     let body = compiled(alloc, name, output.nodes.as_slice())?;
     let blocks = blocks(alloc, name, output.nodes.as_slice())?;
     let tops = top_blocks(alloc, output.nodes.as_slice())?;
+    let lacks = any_lacks(&body, blocks.as_slice());
     Ok(Template {
         name: String::from_str(alloc, name)?,
         text: String::from_str(alloc, text)?,
@@ -68,6 +71,7 @@ fn made(alloc: Global, name: &str, text: &str, output: &ParserOutput) -> TeraRes
         body,
         blocks,
         tops,
+        lacks,
         meant: Meant::of(output.nodes.as_slice()),
     })
 }

@@ -1,7 +1,7 @@
 // Who defines a block for a template, and which blocks are lost.
 ghost use Rattle.std.specs.Prelude.{◌≡◌, ◌<◌, ◌∷◌, length, slice_get, Some, Ok};
 ghost use Rattle.std.specs.List.{list_any};
-ghost use Rattle.tera_meaning.specs.Accepted.{loses_a_block};
+ghost use Rattle.tera_meaning.specs.Accepted.{loses_a_block, lacks_something};
 ghost use Rattle.tera_meaning.specs.Lineage.{ancestors, definers_in};
 ghost use Rattle.tera_meaning.specs.Registry.{Entry};
 ghost use Rattle.tera_meaning.specs.Resolve.{entry_at, parents};
@@ -108,15 +108,26 @@ fn loses(templates: &[Rc<Template>], prefixes: &[String], of: &Template) -> bool
     false
 }
 
-/// Whether a block of a template is never put out.
-pub fn any_loses(templates: &[Rc<Template>], prefixes: &[String]) -> bool
+/// Whether a template names what is not there: a block that is never put out, or what it calls.
+fn lacks(templates: &[Rc<Template>], prefixes: &[String], of: &Template) -> bool
     requires rises { Rises (entries_of templates.now) }
     requires grounded { Grounded (seen templates.now prefixes.now) }
-    ensures { result ≡ list_any (loses_a_block (seen templates.now prefixes.now))
+    requires parents { parents (seen templates.now prefixes.now) (entry_of of.now)
+        ≡ Ok (ancestors (seen templates.now prefixes.now) (entry_of of.now)) }
+    ensures { result ≡ lacks_something (seen templates.now prefixes.now) (entry_of of.now) }
+{
+    loses(templates, prefixes, of) || of.lacks
+}
+
+/// Whether any template names what is not there.
+pub fn any_lacks(templates: &[Rc<Template>], prefixes: &[String]) -> bool
+    requires rises { Rises (entries_of templates.now) }
+    requires grounded { Grounded (seen templates.now prefixes.now) }
+    ensures { result ≡ list_any (lacks_something (seen templates.now prefixes.now))
         (entries_of templates.now) }
 {
     for template in templates {
-        if loses(templates, prefixes, template) {
+        if lacks(templates, prefixes, template) {
             return true;
         }
     }

@@ -4,6 +4,7 @@
 
 mod batch;
 mod definers;
+mod known;
 mod lineage;
 mod meant;
 mod names;
@@ -11,4 +12,5 @@ mod template;
 pub mod templates;
 pub mod tops;
 
+pub use known::lacks_a_callee;
 pub use templates::{Definer, Definers, Found, Templates};

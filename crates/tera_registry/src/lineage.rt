@@ -7,7 +7,7 @@ ghost use Rattle.tera_registry.specs.Order.{Rises};
 ghost use Rattle.tera_registry.specs.Links.{IsUp, AreUps, Inside, Stands, IsTop, AreTops, IsFurther, AreRoots, climbed};
 ghost use Rattle.tera_registry.specs.Kept.{entry_of, entries_of, seen};
 
-use crate::definers::any_loses;
+use crate::definers::any_lacks;
 use crate::names::resolve;
 use crate::template::Template;
 use std::alloc::{AllocError, Global};
@@ -150,8 +150,11 @@ pub fn link(
         Ok(roots) => roots,
         Err(fault) => return Err(fault),
     };
-    if any_loses(templates, prefixes) {
-        return Err(Error::message(alloc, "a template has a block that none of its parents has"));
+    if any_lacks(templates, prefixes) {
+        return Err(Error::message(
+            alloc,
+            "a template has a block that none of its parents has, or calls what is not there",
+        ));
     }
     Ok(roots)
 }

@@ -3,6 +3,7 @@ ghost use Rattle.std.specs.Prelude.{◌≡◌, map, string_bytes};
 ghost use Rattle.std.specs.Coded.{Coded-set, codes};
 ghost use Rattle.tera_tree.specs.Blocks as in_tree;
 ghost use Rattle.tera_tree.specs.View.{nodes_of};
+ghost use Rattle.tera_meaning.specs.Known.{lacks_a_callee};
 ghost use Rattle.tera_code.specs.Blocks.{block_of, block_listings};
 ghost use Rattle.tera_code.specs.Code.{listing_of};
 ghost use Rattle.tera_code.specs.contracts.chunk.Chunk as chunk;
@@ -24,9 +25,12 @@ pub struct Template {
     pub blocks: Vec<Block>,
     /// The names of those that are inside no other block.
     pub tops: Vec<Name>,
+    /// Whether it calls a filter, a test or a function that is not there.
+    pub lacks: bool,
     pub meant: Meant,
     ghost compiled: { body ≡ listing_of (string_bytes name) (nodes_of meant.nodes) } by { Coded-set body-code _ _ },
     ghost divided: { map block_of blocks.items
         ≡ block_listings (string_bytes name) (in_tree.blocks (nodes_of meant.nodes)) } by { Prim.hlevel (codes, chunk.the_row.coded) },
+    ghost lacking: { lacks ≡ lacks_a_callee (nodes_of meant.nodes) },
     ghost topped: { tops.items ≡ in_tree.top_blocks (nodes_of meant.nodes) } by { Prim.hlevel codes },
 }

@@ -49,6 +49,7 @@ fn add(alloc: Global, node: &Node, found: &mut Vec<Name>) -> TeraResult<()>
             add_all(alloc, other.as_slice(), found)
         }
         Node::Capture { body, .. } => add_all(alloc, body.as_slice(), found),
+        Node::FilterSection { body, .. } => add_all(alloc, body.as_slice(), found),
         Node::Block { name, .. } => {
             found.push(Name::new(alloc, name)?)?;
             Ok(())

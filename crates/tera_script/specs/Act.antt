@@ -21,6 +21,8 @@ pub data Act : Type 0 where
   set_prefixes : (prefixes : List Text) → Act
   -- render the template of this name
   render_named : (name : Name) → Act
+  -- render the block of this name in it
+  render_block_named : (name : Name) (block : Name) → Act
 
 abbrev pub act_of : Command → Act
 act_of (command.Text name body) = put_value name.now (text body.now false)
@@ -32,6 +34,7 @@ act_of command.Add = add_batch
 act_of (command.Suffix suffixes) = set_suffixes (texts_of suffixes.items)
 act_of (command.Prefix prefixes) = set_prefixes (texts_of prefixes.items)
 act_of (command.Render name) = render_named name.now
+act_of (command.Block name block) = render_block_named name.now block.now
 
 abbrev pub acts_of : List Command → List Act
 acts_of commands = map act_of commands

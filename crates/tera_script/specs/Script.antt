@@ -8,7 +8,7 @@ use Rattle.std.specs.Str.Parse.{starts_with_minus, signed_digits_value}
 use Rattle.tera_errors.specs.Site.{Name, Text}
 use Rattle.tera_values.specs.Number.{in_range}
 use Rattle.tera_values.specs.Val.{int, text}
-use Rattle.tera_script.specs.Act.{Act, put_value, render_text, join_batch, add_batch, set_suffixes, set_prefixes, render_named}
+use Rattle.tera_script.specs.Act.{Act, put_value, render_text, join_batch, add_batch, set_suffixes, set_prefixes, render_named, render_block_named}
 use Rattle.tera_script.specs.Lines.{lines_of, joined}
 use Rattle.tera_script.specs.Words.{words_of}
 
@@ -104,6 +104,10 @@ listed is_suffix fields = option_map (list_act is_suffix) (checked_fields fields
 abbrev pub render_of : List Text → Option Act
 render_of fields = option_map render_named (only_field fields)
 
+-- the names of a template and of a block
+abbrev pub block_of : List Text → Option Act
+block_of fields = option_map (λ names. render_block_named names.0 names.1) (two_fields fields)
+
 -- the word and the field of a command with a body
 abbrev pub opening_of : Text → Option Text → Option Opening
 opening_of word None = None
@@ -125,6 +129,7 @@ act_named word fields =
     else if bytes_eq word (codes "suffix") then listed true fields
     else if bytes_eq word (codes "prefix") then listed false fields
     else if bytes_eq word (codes "render") then render_of fields
+    else if bytes_eq word (codes "block") then block_of fields
     else None
 
 -- a command has a body, or has none

@@ -21,4 +21,6 @@ pub enum Command<'a> {
     Prefix { prefixes: Vec<&'a str> },
     /// Renders a template, with the context.
     Render { name: &'a str },
+    /// Renders a template, with the context, for the text of a block of it.
+    Block { name: &'a str, block: &'a str },
 }

@@ -85,6 +85,7 @@ fn reply_to<'a>(
             done_reply(engine.set_fallback_prefixes(prefixes.as_slice()))
         }
         Command::Render { name } => text_reply(engine.render(name, context)),
+        Command::Block { name, block } => text_reply(engine.render_block(name, block, context)),
     }
 }
 

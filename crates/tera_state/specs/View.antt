@@ -6,6 +6,7 @@ use Rattle.tera_values.specs.Val.{Val, undefined}
 use Rattle.tera_values.specs.Named.{at_name}
 use Rattle.tera_values.specs.Access.{is_undefined}
 use Rattle.tera_values.specs.Escape.{escape_html}
+use Rattle.tera_built_ins.specs.Escaping.{Escaping}
 use Rattle.tera_state.specs.Rendered.{rendered}
 use Rattle.tera_state.specs.Scope.{Around, Variables, look}
 use Rattle.tera_state.specs.Scopes.{around_of, variables_of}
@@ -31,6 +32,10 @@ look_in_source (Open scopes) name = look name (around_of scopes.now) (variables_
 
 abbrev pub view_of : StateOver → View
 view_of s = record { look = look_in_source s.source; autoescape = s.autoescape; escape = escape_html }
+
+-- what a built-in sees of it
+abbrev pub escaping_in : View → Escaping
+escaping_in view = record { autoescape = view.autoescape; escape = view.escape }
 
 abbrev pub written : View → Val → Text
 written view v = rendered view.autoescape view.escape v

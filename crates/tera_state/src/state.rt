@@ -3,14 +3,17 @@ ghost use Rattle.std.specs.Prelude.{◌≡◌, [], true, Ok, option_map, string_
 ghost use Rattle.tera_errors.specs.Answer.{Gives};
 ghost use Rattle.tera_values.specs.Val.{undefined};
 ghost use Rattle.tera_values.specs.Access.{is_undefined};
+ghost use Rattle.tera_values.specs.Alphabet.{plain};
 ghost use Rattle.tera_values.specs.Escape.{escape_html};
+ghost use Rattle.tera_built_ins.specs.Filters.{filtered_in};
 ghost use Rattle.tera_state.specs.Found.{found_value};
 
 use crate::found::Found;
 use crate::rendered::write_value;
 use crate::scopes::Scopes;
 use std::alloc::Global;
-use tera_values::{ArgFromValue, Context, Error, Sought, TeraResult, Value, escape_html};
+use tera_built_ins::{BuiltInFilter, Escaping};
+use tera_values::{ArgFromValue, Context, Error, Kwargs, Sought, TeraResult, Value, escape_html};
 
 /// Where names are looked up: in a context alone, or in the scopes of a rendering.
 #[derive(Drop)]
@@ -49,7 +52,7 @@ pub type State<'a> = StateOver<'a, 'a>;
 
 impl<'a, 'c> StateOver<'a, 'c> {
     ghost use Rattle.tera_state.specs.Scope.{outside, nothing_set};
-    ghost use Rattle.tera_state.specs.View.{view_of, view_at, read_defined, escaped_if_needed};
+    ghost use Rattle.tera_state.specs.View.{view_of, view_at, read_defined, escaped_if_needed, escaping_in};
 
     /// A state over a context alone: text is escaped, and by `escape_html`. Takes no memory.
     pub fn new(context: &'a Context) -> StateOver<'a, 'c>
@@ -111,6 +114,21 @@ impl<'a, 'c> StateOver<'a, 'c> {
         let mut out = String::new(self.alloc);
         write_value(self.alloc, self.autoescape, value, &mut out)?;
         Ok(out)
+    }
+
+    /// What the built-in filter of this name makes of the value, with its own faults; a `Message` where no built-in has the
+    /// name.
+    pub fn call_filter(&self, name: &str, value: &Value, arguments: Kwargs) -> TeraResult<Value>
+        ensures { Gives (λ v. v) result
+            (filtered_in plain (escaping_in (view_of self.now)) name.now value.now arguments) }
+    {
+        let escaping = Escaping {
+            autoescape: self.autoescape,
+        };
+        match BuiltInFilter::named(name) {
+            Some(filter) => filter.call(self.alloc, value, &arguments, escaping),
+            None => Err(Error::message(self.alloc, "there is no such filter")),
+        }
     }
 }
 

@@ -23,6 +23,7 @@ none_begun limit q tokens word h =
     rw (
       unlike word (codes "set") h refl,
       unlike word (codes "set_global") h refl,
+      unlike word (codes "filter") h refl,
       unlike word (codes "block") h refl,
       unlike word (codes "break") h refl,
       unlike word (codes "continue") h refl,

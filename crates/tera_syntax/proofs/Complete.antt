@@ -5,10 +5,10 @@ use Rattle.std.specs.Prelude.{option_and_then, codes}
 use Rattle.tera_tokens.specs.declared.token.Kind.TheVariants as k
 use Rattle.tera_tokens.specs.Token.{Token}
 use Rattle.tera_tokens.specs.Cut.{Piece}
-use Rattle.tera_tree.specs.Tree.{Content, Print, If, Set, Capture, For, Block, Break, Continue, Node, Nodes, NoNodes}
-use Rattle.tera_tree.specs.Depth.{depth, node_depth, nodes_depth}
+use Rattle.tera_tree.specs.Tree.{Content, Print, If, Set, Capture, FilterSection, For, Block, Break, Continue, Node, Nodes, NoNodes}
+use Rattle.tera_tree.specs.Depth.{depth, filters_depth, node_depth, nodes_depth}
 use Rattle.tera_syntax.specs.declared.heads.Surroundings.{Surroundings}
-use Rattle.tera_syntax.specs.Heads.{Head, IfHead, ForHead, SetHead, BlockHead, outside, make, head_depth, splits, chains, inside, ends}
+use Rattle.tera_syntax.specs.Heads.{Head, IfHead, ForHead, SetHead, SectionHead, BlockHead, outside, make, head_depth, splits, chains, inside, ends}
 use Rattle.tera_syntax.specs.Grammar.{IsWord, Simple, Opens, GoesOn, DerivesNodes, empty, content, blank, comment, print, single, bodied, DerivesRest, ended, split, chained}
 use Rattle.tera_syntax.specs.Reader.{Frame, Progress, Tag, Single, Opening, GoingOn, Turning, Closing, join, one, printed, put, room, opened, closed, around, tag, taken, statement, run, nodes}
 use Rattle.tera_syntax.proofs.Rows.{join-none, join-join}
@@ -33,11 +33,15 @@ node-some (Content t s) = omega arith
 node-some (Print e) = omega arith
 node-some (If c b o) = omega arith
 node-some (Set n e g) = omega arith
-node-some (Capture n b g) = omega arith
+node-some (Capture n fs b g) = omega arith
+node-some (FilterSection fs b) = omega arith
 node-some (For k n e b o) = omega arith
 node-some (Block n b s) = omega arith
 node-some Break = omega arith
 node-some Continue = omega arith
+
+two-fit : (c b m : ℕ) → suc (max c b) ≤ suc m → (c ≤ m) × (b ≤ m)
+two-fit c b m le = (omega arith, omega arith)
 
 three-fit : (c b o m : ℕ) → suc (max c (max b o)) ≤ suc m → (c ≤ m) × (b ≤ m)
 three-fit c b o m le = (omega arith, omega arith)
@@ -48,19 +52,22 @@ third-fits c b o m le = omega arith
 head-fits : (h : Head) (b o : Nodes) (m : ℕ) → node_depth (make h b o) ≤ suc m → (head_depth h ≤ m) × (nodes_depth b ≤ m)
 head-fits (IfHead c) b o m le = three-fit (depth c) (nodes_depth b) (nodes_depth o) m le
 head-fits (ForHead k n e) b o m le = three-fit (depth e) (nodes_depth b) (nodes_depth o) m le
-head-fits (SetHead n g) b o m le = (omega arith, omega (arith, le))
+head-fits (SetHead n fs g) b o m le = two-fit (filters_depth fs) (nodes_depth b) m le
+head-fits (SectionHead fs) b o m le = two-fit (filters_depth fs) (nodes_depth b) m le
 head-fits (BlockHead n s) b o m le = (omega arith, omega (arith, le))
 
 other-fits : (h : Head) (b o : Nodes) (m : ℕ) → splits h ≡ true → node_depth (make h b o) ≤ suc m → nodes_depth o ≤ m
 other-fits (IfHead c) b o m q le = third-fits (depth c) (nodes_depth b) (nodes_depth o) m le
 other-fits (ForHead k n e) b o m q le = third-fits (depth e) (nodes_depth b) (nodes_depth o) m le
-other-fits (SetHead n g) b o m q le = absurd (cc)
+other-fits (SetHead n fs g) b o m q le = absurd (cc)
+other-fits (SectionHead fs) b o m q le = absurd (cc)
 other-fits (BlockHead n s) b o m q le = absurd (cc)
 
 chains-split : (h : Head) → chains h ≡ true → splits h ≡ true
 chains-split (IfHead c) q = refl
 chains-split (ForHead k n e) q = refl
-chains-split (SetHead n g) q = absurd (cc)
+chains-split (SetHead n fs g) q = absurd (cc)
+chains-split (SectionHead fs) q = absurd (cc)
 chains-split (BlockHead n s) q = absurd (cc)
 
 rest-fits : {q : Surroundings} {h : Head} {o : Nodes} {i j : List Piece} → DerivesRest q h o i j → (b : Nodes) (m : ℕ) → node_depth (make h b o) ≤ suc m → nodes_depth o ≤ m

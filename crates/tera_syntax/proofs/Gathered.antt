@@ -7,11 +7,12 @@ use Rattle.tera_tokens.specs.declared.refusal.Refusal.{Refusal}
 use Rattle.tera_tree.specs.declared.expression.Expression.{Expression}
 use Rattle.tera_tree.specs.declared.expression.Heading.{Heading}
 use Rattle.tera_tree.specs.declared.node.Node as declared
+use Rattle.tera_tree.specs.declared.node.SectionFilter.{SectionFilter}
 use Rattle.tera_tree.specs.declared.node.Node.TheVariants as variant
 use Rattle.tera_tree.specs.Tree.{Nodes}
 use Rattle.tera_tree.specs.Blocks.{blocks, block_names}
 use Rattle.tera_tree.specs.View.{node_of, nodes_of}
-use Rattle.tera_tree.proofs.Views.{view_if, view_for, view_capture, view_block}
+use Rattle.tera_tree.proofs.Views.{view_if, view_for, view_capture, view_section, view_block}
 use Rattle.tera_syntax.specs.declared.blocks.BlockName.{BlockName}
 use Rattle.tera_syntax.specs.View.{names_of, node_names}
 
@@ -29,10 +30,16 @@ on_ok (Err e) f h = tt
 module _ (result : Result (Unit {0}) Refusal) (old new : List Name) (node : declared.Node) where
   -- The names of a node's parts are the node's
 
-  pub capture_gathered : (t : Bor Text) (body : Vec declared.Node Global) (is_global : Bool) (xs : List declared.Node) → node ≡ variant.Capture t body is_global → xs ≡ body.items
+  pub capture_gathered : (t : Bor Text) (filters : Vec SectionFilter Global) (body : Vec declared.Node Global) (is_global : Bool) (xs : List declared.Node) → node ≡ variant.Capture t filters body is_global → xs ≡ body.items
       → OnOk result (new ≡ old ++ block_names (nodes_of xs)) → OnOk result (new ≡ old ++ node_names (node_of node))
-  capture_gathered t body is_global xs is a h =
-      let s = ap (λ xs. block_names (nodes_of xs)) a ∙ ap node_names (sym (view_capture t body is_global)) ∙ ap (λ n. node_names (node_of n)) (sym is) in
+  capture_gathered t filters body is_global xs is a h =
+      let s = ap (λ xs. block_names (nodes_of xs)) a ∙ ap node_names (sym (view_capture t filters body is_global)) ∙ ap (λ n. node_names (node_of n)) (sym is) in
+      on_ok result (λ e. e ∙ ap (λ names. old ++ names) s) h
+
+  pub section_gathered : (filters : Vec SectionFilter Global) (body : Vec declared.Node Global) (xs : List declared.Node) → node ≡ variant.FilterSection filters body → xs ≡ body.items
+      → OnOk result (new ≡ old ++ block_names (nodes_of xs)) → OnOk result (new ≡ old ++ node_names (node_of node))
+  section_gathered filters body xs is a h =
+      let s = ap (λ xs. block_names (nodes_of xs)) a ∙ ap node_names (sym (view_section filters body)) ∙ ap (λ n. node_names (node_of n)) (sym is) in
       on_ok result (λ e. e ∙ ap (λ names. old ++ names) s) h
 
   pub block_gathered : (t : Bor Text) (body : Vec declared.Node Global) (span : Span) (xs : List declared.Node) (names pushed : List BlockName) (b : BlockName) → node ≡ variant.Block t body span → xs ≡ body.items

@@ -4,8 +4,8 @@ use Rattle.std.specs.Str.{IsUtf8}
 use Rattle.tera_errors.specs.Site.{Name, Text}
 use Rattle.tera_tree.specs.Delimiters.{delimiters_of, accepted}
 use Rattle.tera_tree.specs.declared.delimiters.Delimiters.{Delimiters}
-use Rattle.tera_tree.specs.Tree.{Expr, Node, Nodes, Tree}
-use Rattle.tera_tree.specs.Inside.{Within, ExprInside, NodeInside, NodesInside, Inside}
+use Rattle.tera_tree.specs.Tree.{Expr, Filters, Node, Nodes, Tree}
+use Rattle.tera_tree.specs.Inside.{Within, ExprInside, FiltersInside, NodeInside, NodesInside, Inside}
 use Rattle.tera_tokens.specs.declared.token.Kind.TheVariants as k
 use Rattle.tera_tokens.specs.Token.{Token}
 use Rattle.tera_tokens.specs.Input.{Input, begin, kind, start, next, span}
@@ -13,10 +13,10 @@ use Rattle.tera_tokens.specs.Cut.{Piece}
 use Rattle.tera_tokens.proofs.Order.{InOrder, in_order-le, Orderly, onward_next, start_le}
 use Rattle.tera_tokens.proofs.Stretches.{PiecesInside, pieces_inside}
 use Rattle.tera_expressions.proofs.Calls.{calls_lie}
-use Rattle.tera_expressions.proofs.Inside.{expr_lies}
+use Rattle.tera_expressions.proofs.Inside.{expr_lies, filters_lie}
 use Rattle.tera_syntax.specs.declared.heads.Surroundings.{Surroundings}
-use Rattle.tera_syntax.specs.Heads.{Head, IfHead, ForHead, SetHead, BlockHead, make}
-use Rattle.tera_syntax.specs.Grammar.{DerivesWhole, whole, Simple, set, breaks, continues, Opens, choice, loop, capture, block, GoesOn, elif, DerivesNodes, empty, content, blank, comment, print, single, bodied, DerivesRest, ended, split, chained, Front, nothing, space, remark, DerivesFile, root, child}
+use Rattle.tera_syntax.specs.Heads.{Head, IfHead, ForHead, SetHead, SectionHead, BlockHead, make}
+use Rattle.tera_syntax.specs.Grammar.{DerivesWhole, whole, DerivesPipe, pipe, Simple, set, breaks, continues, Opens, choice, loop, capture, filtered, section, block, GoesOn, elif, DerivesNodes, empty, content, blank, comment, print, single, bodied, DerivesRest, ended, split, chained, Front, nothing, space, remark, DerivesFile, root, child}
 use Rattle.tera_syntax.specs.Spells.{Spells}
 
 -- nodes that were read between two places lie inside, and so do the pieces that are left
@@ -26,6 +26,9 @@ pub record Lie (size : ℕ) (nodes : Nodes) (j : List Piece) : Type 0 where
 
 whole_inside : (size : ℕ) {x : Expr} {i : Input} → DerivesWhole x i → Orderly size i → ExprInside size x
 whole_inside size (whole d e) o = (expr_lies size d o).inside
+
+pipe_inside : (size : ℕ) {fs : Filters} {i : Input} → DerivesPipe fs i → Orderly size i → FiltersInside size fs
+pipe_inside size (pipe d e) o = (filters_lie size d o).inside
 
 behind : (size : ℕ) (i : Input) → Orderly size i → Orderly size (next i)
 behind size i o = (onward_next size i o).orderly
@@ -42,17 +45,20 @@ simple_inside size (continues l w) o = tt
 name_inside : (size : ℕ) (i : Input) → kind i ≡ k.Name → Orderly size i → Within size (span (start i) (next i))
 name_inside size i e o = (start_le size k.Name i e (λ q. cc) o, in_order-le size (next i).last (next i).ahead (behind size i o))
 
--- the expressions of a head lie inside, and its name
+-- the expressions and filters of a head lie inside, and its name
 abbrev HeadInside : ℕ → Head → Type 0
 HeadInside size (IfHead c) = ExprInside size c
 HeadInside size (ForHead key n e) = ExprInside size e
-HeadInside size (SetHead n is_global) = Unit {0}
+HeadInside size (SetHead n fs is_global) = FiltersInside size fs
+HeadInside size (SectionHead fs) = FiltersInside size fs
 HeadInside size (BlockHead n place) = Within size place
 
 opens_inside : (size : ℕ) {q : Surroundings} {head : Head} {tokens : List Token} → Opens q head tokens → InOrder size 0 tokens → HeadInside size head
 opens_inside size {q = q} {tokens = tokens} (choice e w) o = whole_inside size w (behind size (begin q.in_loop tokens) o)
 opens_inside size {q = q} {tokens = tokens} (loop e c w) o = let n = calls_lie size c (behind size (begin q.in_loop tokens) o) in whole_inside size w n.orderly
 opens_inside size (capture b n) o = tt
+opens_inside size {q = q} {tokens = tokens} (filtered b n w) o = pipe_inside size w (behind_two size (next (begin q.in_loop tokens)) (behind size (begin q.in_loop tokens) o))
+opens_inside size {q = q} {tokens = tokens} (section b w) o = pipe_inside size w (behind size (begin q.in_loop tokens) o)
 opens_inside size {q = q} {tokens = tokens} (block b n) o = name_inside size (next (begin q.in_loop tokens)) n.0 (behind size (begin q.in_loop tokens) o)
 
 goes_on_inside : (size : ℕ) {q : Surroundings} {head : Head} {tokens : List Token} → GoesOn q head tokens → InOrder size 0 tokens → HeadInside size head
@@ -61,7 +67,8 @@ goes_on_inside size {q = q} {tokens = tokens} (elif e w) o = whole_inside size w
 made_inside : (size : ℕ) (head : Head) (body other : Nodes) → HeadInside size head → NodesInside size body → NodesInside size other → NodeInside size (make head body other)
 made_inside size (IfHead c) body other h b o = (h, b, o)
 made_inside size (ForHead key n e) body other h b o = (h, b, o)
-made_inside size (SetHead n is_global) body other h b o = b
+made_inside size (SetHead n fs is_global) body other h b o = (h, b)
+made_inside size (SectionHead fs) body other h b o = (h, b)
 made_inside size (BlockHead n place) body other h b o = (b, h)
 
 mutual

@@ -8,16 +8,16 @@ use Rattle.tera_tokens.specs.declared.token.Kind.TheVariants as k
 use Rattle.tera_tokens.specs.Token.{Token}
 use Rattle.tera_tokens.specs.Input.{Input, Outcome, begin, kind, text, start, next, span, same}
 use Rattle.tera_tokens.specs.Cut.{is_alone}
-use Rattle.tera_tree.specs.Tree.{Expr, Node, Set, Break, Continue}
-use Rattle.tera_tree.specs.Depth.{depth, node_depth}
+use Rattle.tera_tree.specs.Tree.{Expr, Filters, NoFilters, Node, Set, Break, Continue}
+use Rattle.tera_tree.specs.Depth.{depth, filters_depth, node_depth}
 use Rattle.tera_expressions.specs.Headings.{Names, calls}
 use Rattle.tera_expressions.proofs.Calls.{calls-got, calls-is}
 use Rattle.tera_expressions.proofs.Steps.{guard, same-is, same-refl}
 use Rattle.tera_syntax.specs.declared.heads.Surroundings.{Surroundings}
-use Rattle.tera_syntax.specs.Heads.{Head, IfHead, ForHead, SetHead, BlockHead, head_depth, is_end, is_named, first, ends}
-use Rattle.tera_syntax.specs.Grammar.{DerivesWhole, IsWord, Begins, set_word, Simple, set, breaks, continues, Opens, choice, loop, capture, block, GoesOn, elif}
-use Rattle.tera_syntax.specs.Reader.{Tag, Single, Opening, GoingOn, Turning, Closing, looping_by, setting, setting_by, blocking, alone, leaving, named, tag_by, tag, whole}
-use Rattle.tera_syntax.proofs.Whole.{whole_sound, whole_complete}
+use Rattle.tera_syntax.specs.Heads.{Head, IfHead, ForHead, SetHead, SectionHead, BlockHead, head_depth, is_end, is_named, first, ends}
+use Rattle.tera_syntax.specs.Grammar.{DerivesWhole, IsWord, Begins, set_word, Simple, set, breaks, continues, DerivesPipe, Opens, choice, loop, capture, filtered, section, block, GoesOn, elif}
+use Rattle.tera_syntax.specs.Reader.{Tag, Single, Opening, GoingOn, Turning, Closing, looping_by, setting, setting_by, sectioning, blocking, alone, leaving, named, tag_by, tag, whole, pipe}
+use Rattle.tera_syntax.proofs.Whole.{whole_sound, whole_complete, pipe_sound, pipe_complete}
 
 -- what is said of a tag with expressions no deeper than this, where it was read
 abbrev pub Meant : ℕ → Surroundings → Surroundings → List Token → Tag → Type 0
@@ -91,7 +91,13 @@ module _ (limit : ℕ) (q outer : Surroundings) (tokens : List Token) (t : Tag) 
       let p = mapped make (whole limit (next (next i))) t h in
       let w = whole_sound limit (next (next i)) p.0 p.1 in
       said (make p.0) (set b (n, f) w.0, omega (arith, w.1)) p.2
-  set-by-got is_global b n k.End f h = said (Opening (SetHead (text (next (begin q.in_loop tokens))) is_global)) (capture b (n, f), omega arith) (some-is _ _ h)
+  set-by-got is_global b n k.End f h = said (Opening (SetHead (text (next (begin q.in_loop tokens))) NoFilters is_global)) (capture b (n, f), omega arith) (some-is _ _ h)
+  set-by-got is_global b n k.Bar f h =
+      let i = next (begin q.in_loop tokens) in
+      let make : Filters → Tag = λ fs. Opening (SetHead (text i) fs is_global) in
+      let p = mapped make (pipe limit (next (next i))) t h in
+      let w = pipe_sound limit (next (next i)) p.0 p.1 in
+      said (make p.0) (filtered b (n, f) w.0, w.1) p.2
   set-by-got is_global b n _ f h = absurd (cc)
 
   set-got : (is_global : Bool) → Begins (set_word is_global) tokens → setting limit is_global (next (begin q.in_loop tokens)) ≡ Some t → Says
@@ -99,6 +105,13 @@ module _ (limit : ℕ) (q outer : Surroundings) (tokens : List Token) (t : Tag) 
       let i = next (begin q.in_loop tokens) in
       let g = guard (same k.Name (kind i)) (setting_by limit is_global (text i) (next i) (kind (next i))) t h in
       set-by-got is_global b (same-is k.Name (kind i) g.0) (kind (next i)) refl g.1
+
+  section-got : Begins (codes "filter") tokens → sectioning limit (next (begin q.in_loop tokens)) ≡ Some t → Says
+  section-got b h =
+      let i = next (begin q.in_loop tokens) in
+      let p = mapped (λ fs. Opening (SectionHead fs)) (pipe limit i) t h in
+      let w = pipe_sound limit i p.0 p.1 in
+      said (Opening (SectionHead p.0)) (section b w.0, w.1) p.2
 
   block-got : Begins (codes "block") tokens → blocking (next (begin q.in_loop tokens)) ≡ Some t → Says
   block-got b h =
@@ -127,8 +140,11 @@ module _ (limit : ℕ) (q outer : Surroundings) (tokens : List Token) (t : Tag) 
   abbrev by-block : Text → Option Tag
   by-block word = if bytes_eq word (codes "block") then blocking (next (begin q.in_loop tokens)) else by-break word
 
+  abbrev by-filter : Text → Option Tag
+  by-filter word = if bytes_eq word (codes "filter") then sectioning limit (next (begin q.in_loop tokens)) else by-block word
+
   abbrev by-set_global : Text → Option Tag
-  by-set_global word = if bytes_eq word (codes "set_global") then setting limit true (next (begin q.in_loop tokens)) else by-block word
+  by-set_global word = if bytes_eq word (codes "set_global") then setting limit true (next (begin q.in_loop tokens)) else by-filter word
 
   continue-by : first tokens ≡ k.Name → (b : Bool) → (if b then leaving q.may_leave (codes "continue") tokens Continue else Some Closing) ≡ Some t → Says
   continue-by e true h = leaving-got (codes "continue") Continue e (λ l w. (continues l w, omega arith)) h
@@ -143,10 +159,15 @@ module _ (limit : ℕ) (q outer : Surroundings) (tokens : List Token) (t : Tag) 
   block-by e word f true w h = block-got (e, f ∙ is-word word (codes "block") w) h
   block-by e word f false w h = break-by e word (bytes_eq word (codes "break")) h
 
+  filter-by : first tokens ≡ k.Name → (word : Text) → text (begin false tokens) ≡ word → (b : Bool) → bytes_eq word (codes "filter") ≡ b
+      → (if b then sectioning limit (next (begin q.in_loop tokens)) else by-block word) ≡ Some t → Says
+  filter-by e word f true w h = section-got (e, f ∙ is-word word (codes "filter") w) h
+  filter-by e word f false w h = block-by e word f (bytes_eq word (codes "block")) refl h
+
   set_global-by : first tokens ≡ k.Name → (word : Text) → text (begin false tokens) ≡ word → (b : Bool) → bytes_eq word (codes "set_global") ≡ b
-      → (if b then setting limit true (next (begin q.in_loop tokens)) else by-block word) ≡ Some t → Says
+      → (if b then setting limit true (next (begin q.in_loop tokens)) else by-filter word) ≡ Some t → Says
   set_global-by e word f true w h = set-got true (e, f ∙ is-word word (codes "set_global") w) h
-  set_global-by e word f false w h = block-by e word f (bytes_eq word (codes "block")) refl h
+  set_global-by e word f false w h = filter-by e word f (bytes_eq word (codes "filter")) refl h
 
   set-by : first tokens ≡ k.Name → (word : Text) → text (begin false tokens) ≡ word → (b : Bool) → bytes_eq word (codes "set") ≡ b
       → (if b then setting limit false (next (begin q.in_loop tokens)) else by-set_global word) ≡ Some t → Says
@@ -206,13 +227,30 @@ module _ (limit : ℕ) (q outer : Surroundings) (tokens : List Token) where
       ∙ ap (setting_by limit is_global (text i) (next i)) n.1
       ∙ ap (option_map (λ e. Single (Set (text i) e is_global))) (whole_complete w limit le)
 
-  capture-read : {is_global : Bool} → Begins (set_word is_global) tokens → Names (next (begin q.in_loop tokens)) k.End → tag limit q outer tokens ≡ Some (Opening (SetHead (text (next (begin q.in_loop tokens))) is_global))
+  capture-read : {is_global : Bool} → Begins (set_word is_global) tokens → Names (next (begin q.in_loop tokens)) k.End → tag limit q outer tokens ≡ Some (Opening (SetHead (text (next (begin q.in_loop tokens))) NoFilters is_global))
   capture-read {is_global = is_global} b n =
       let i = next (begin q.in_loop tokens) in
       by-word (set_word is_global) b
       ∙ set-named is_global
       ∙ name-stands i n.0 (setting_by limit is_global (text i) (next i) (kind (next i)))
       ∙ ap (setting_by limit is_global (text i) (next i)) n.1
+
+  filtered-read : {is_global : Bool} {fs : Filters} → Begins (set_word is_global) tokens → Names (next (begin q.in_loop tokens)) k.Bar → DerivesPipe fs (next (next (next (begin q.in_loop tokens)))) → filters_depth fs ≤ limit
+      → tag limit q outer tokens ≡ Some (Opening (SetHead (text (next (begin q.in_loop tokens))) fs is_global))
+  filtered-read {is_global = is_global} b n w le =
+      let i = next (begin q.in_loop tokens) in
+      by-word (set_word is_global) b
+      ∙ set-named is_global
+      ∙ name-stands i n.0 (setting_by limit is_global (text i) (next i) (kind (next i)))
+      ∙ ap (setting_by limit is_global (text i) (next i)) n.1
+      ∙ ap (option_map (λ fs. Opening (SetHead (text i) fs is_global))) (pipe_complete w limit le)
+
+  filter-named : named limit q tokens (codes "filter") ≡ sectioning limit (next (begin q.in_loop tokens))
+  unfolding named
+  filter-named = refl
+
+  section-read : {fs : Filters} → Begins (codes "filter") tokens → DerivesPipe fs (next (begin q.in_loop tokens)) → filters_depth fs ≤ limit → tag limit q outer tokens ≡ Some (Opening (SectionHead fs))
+  section-read b w le = by-word (codes "filter") b ∙ filter-named ∙ ap (option_map (λ fs. Opening (SectionHead fs))) (pipe_complete w limit le)
 
   block-named : named limit q tokens (codes "block") ≡ blocking (next (begin q.in_loop tokens))
   unfolding named
@@ -246,6 +284,8 @@ module _ (limit : ℕ) (q outer : Surroundings) (tokens : List Token) where
       ∙ ap (λ o. option_map Opening (looping_by limit o)) (calls-is c)
       ∙ ap (λ o. option_map Opening (option_map (ForHead key name) o)) (whole_complete w limit le)
   opens_read (capture b n) le = capture-read b n
+  opens_read (filtered b n w) le = filtered-read b n w le
+  opens_read (section b w) le = section-read b w le
   opens_read (block b n) le = block-read b n
 
   pub goes_on_read : {head : Head} → GoesOn outer head tokens → head_depth head ≤ limit → tag limit q outer tokens ≡ Some (GoingOn head)
@@ -272,7 +312,8 @@ module _ (limit : ℕ) (q outer : Surroundings) (tokens : List Token) where
   unfolding named
   end-read (IfHead c) e h = by-end e (codes "endif") refl h
   end-read (ForHead key n c) e h = by-end e (codes "endfor") refl h
-  end-read (SetHead n is_global) e h = set-end e is_global (is_alone (codes "endset") tokens) refl h
+  end-read (SetHead n fs is_global) e h = set-end e is_global (is_alone (codes "endset") tokens) refl h
+  end-read (SectionHead fs) e h = by-end e (codes "endfilter") refl h
   end-read (BlockHead n place) e h = block-end e n (is_alone (codes "endblock") tokens) refl h
 
   pub extends_read : Begins (codes "extends") tokens → tag limit q outer tokens ≡ Some Closing

@@ -5,7 +5,7 @@ use Rattle.tera_tokens.specs.Cut.{Piece}
 use Rattle.tera_tree.specs.Tree.{Node, Nodes}
 use Rattle.tera_tree.specs.Places.{node_in_place, in_place}
 use Rattle.tera_syntax.specs.declared.heads.Surroundings.{Surroundings}
-use Rattle.tera_syntax.specs.Heads.{Head, IfHead, ForHead, SetHead, BlockHead, make, inside}
+use Rattle.tera_syntax.specs.Heads.{Head, IfHead, ForHead, SetHead, SectionHead, BlockHead, make, inside}
 use Rattle.tera_syntax.specs.Grammar.{Simple, set, breaks, continues, DerivesNodes, empty, content, blank, comment, print, single, bodied, DerivesRest, ended, split, chained}
 
 and-true : (a b : Bool) → a ≡ true → b ≡ true → (a && b) ≡ true
@@ -20,7 +20,8 @@ simple_placed (continues l w) = l
 made_placed : (q : Surroundings) (head : Head) (body other : Nodes) → IsTrue (in_place (inside head q).may_leave body) → IsTrue (in_place q.may_leave other) → IsTrue (node_in_place q.may_leave (make head body other))
 made_placed q (IfHead c) body other b o = and-true (in_place q.may_leave body) (in_place q.may_leave other) b o
 made_placed q (ForHead key n e) body other b o = and-true (in_place true body) (in_place q.may_leave other) b o
-made_placed q (SetHead n is_global) body other b o = b
+made_placed q (SetHead n fs is_global) body other b o = b
+made_placed q (SectionHead fs) body other b o = b
 made_placed q (BlockHead n span) body other b o = b
 
 mutual

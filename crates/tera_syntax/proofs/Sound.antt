@@ -7,9 +7,9 @@ use Rattle.tera_tokens.specs.Token.{Token}
 use Rattle.tera_tokens.specs.Input.{begin}
 use Rattle.tera_tokens.specs.Cut.{Piece, Words, Comment, Variable, Block, Broken}
 use Rattle.tera_tree.specs.Tree.{Expr, Content, Print, Node, Nodes, NoNodes}
-use Rattle.tera_tree.specs.Depth.{depth, node_depth, nodes_depth}
+use Rattle.tera_tree.specs.Depth.{depth, filters_depth, node_depth, nodes_depth}
 use Rattle.tera_syntax.specs.declared.heads.Surroundings.{Surroundings}
-use Rattle.tera_syntax.specs.Heads.{Head, IfHead, ForHead, SetHead, BlockHead, outside, make, head_depth, splits, chains, inside, ends}
+use Rattle.tera_syntax.specs.Heads.{Head, IfHead, ForHead, SetHead, SectionHead, BlockHead, outside, make, head_depth, splits, chains, inside, ends}
 use Rattle.tera_syntax.specs.Grammar.{IsWord, Opens, GoesOn, DerivesNodes, empty, content, blank, comment, print, single, bodied, DerivesRest, ended, split, chained}
 use Rattle.tera_syntax.specs.Reader.{Frame, Progress, Tag, Single, Opening, GoingOn, Turning, Closing, join, one, printed, put, room, made, row, opened, turned, turned_by, closed, shut, around, tag, taken, statement, run, nodes, whole}
 use Rattle.tera_syntax.proofs.Rows.{join-none, join-join, deep}
@@ -50,11 +50,15 @@ one-small n limit h lt le = omega arith
 three-small : (c b o m : ℕ) → c ≤ m → b ≤ m → o ≤ m → suc (max c (max b o)) ≤ suc m
 three-small c b o m p q r = omega arith
 
+two-small : (c b m : ℕ) → c ≤ m → b ≤ m → suc (max c b) ≤ suc m
+two-small c b m p q = omega arith
+
 -- how deep a statement is, by its parts
 made-small : (h : Head) (b o : Nodes) (m : ℕ) → head_depth h ≤ m → nodes_depth b ≤ m → nodes_depth o ≤ m → node_depth (make h b o) ≤ suc m
 made-small (IfHead c) b o m p q r = three-small (depth c) (nodes_depth b) (nodes_depth o) m p q r
 made-small (ForHead k n e) b o m p q r = three-small (depth e) (nodes_depth b) (nodes_depth o) m p q r
-made-small (SetHead n g) b o m p q r = omega (arith, q)
+made-small (SetHead n fs g) b o m p q r = two-small (filters_depth fs) (nodes_depth b) m p q
+made-small (SectionHead fs) b o m p q r = two-small (filters_depth fs) (nodes_depth b) m p q
 made-small (BlockHead n s) b o m p q r = omega (arith, q)
 
 -- what a step that was taken says

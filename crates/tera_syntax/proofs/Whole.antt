@@ -1,19 +1,20 @@
--- An expression that is all from here to the end of a tag.
+-- An expression, or filters, that are all from here to the end of a tag.
 use Rattle.std.proofs.Common.{◌≡◌, ℕ, zero, suc, ◌≤◌, ◌<◌, nat_lt, length, Bool, true, false, Some, None, if◌then◌else◌, refl, ap, ◌∙◌, subst, arith}
 use Rattle.std.proofs.lemmas.Grind.{common_steps}
 use Rattle.tera_tokens.specs.declared.token.Kind.TheVariants as k
 use Rattle.tera_tokens.specs.Input.{Input, Outcome, kind, same}
-use Rattle.tera_expressions.specs.Expressions.{Deep, expr}
-use Rattle.tera_tree.specs.Tree.{Expr, Node}
-use Rattle.tera_tree.specs.Depth.{depth}
-use Rattle.tera_expressions.specs.Grammar.{Derives}
-use Rattle.tera_syntax.specs.Grammar.{DerivesWhole, whole}
+use Rattle.tera_expressions.specs.Expressions.{Deep, expr, filters}
+use Rattle.tera_tree.specs.Tree.{Expr, Filters, Node}
+use Rattle.tera_tree.specs.Depth.{depth, filters_depth}
+use Rattle.tera_expressions.specs.Grammar.{Derives, DerivesFilters}
+use Rattle.tera_syntax.specs.Grammar.{DerivesWhole, whole, DerivesPipe, pipe}
 use Rattle.tera_syntax.specs.Reader as r
 use Rattle.tera_expressions.proofs.Steps.{same-is, same-refl}
 use Rattle.tera_expressions.proofs.Sound.{what_is_read}
 use Rattle.tera_expressions.proofs.Complete.{complete}
+use Rattle.tera_expressions.proofs.Sections.{filters_are_derived, filters_are_read}
 
-ended_by : (q : Bool) (x y : Expr) → (if q then Some x else None) ≡ Some y → (q ≡ true) × (x ≡ y)
+ended_by : {A : Type 0} (q : Bool) (x y : A) → (if q then Some x else None) ≡ Some y → (q ≡ true) × (x ≡ y)
 ended_by true x y h = (refl, cc)
 ended_by false x y h = absurd (cc)
 
@@ -35,6 +36,25 @@ unfolding r.whole
 whole_complete (whole {x = x} {i = i} {end = j} d e) limit le =
     let q : same k.End (kind j) ≡ true = ap (same k.End) e ∙ same-refl k.End in
     rw (complete x i j d e limit le, q) refl
+
+pipe_from : (o : Outcome (Filters × ℕ)) (fs : Filters) → r.pipe_ended o ≡ Some fs → (p : (Filters × ℕ) × Input) × (o ≡ Some p) × (kind p.1 ≡ k.End) × (p.0.0 ≡ fs)
+pipe_from None fs h = absurd (cc)
+pipe_from (Some p) fs h =
+    let e = ended_by (same k.End (kind p.1)) p.0.0 fs h in
+    (p, refl, same-is k.End (kind p.1) e.0, e.1)
+
+pub pipe_sound : (limit : ℕ) (i : Input) (fs : Filters) → r.pipe limit i ≡ Some fs → DerivesPipe fs i × (filters_depth fs ≤ limit)
+unfolding r.pipe
+pipe_sound limit i fs h =
+    let p = pipe_from (filters limit i) fs h in
+    let d = filters_are_derived limit i p.0.1 p.0.0 p.1 in
+    (pipe (subst (λ fs. DerivesFilters fs i p.0.1) p.3 d.0) p.2, subst (λ fs. filters_depth fs ≤ limit) p.3 d.2)
+
+pub pipe_complete : {fs : Filters} {i : Input} → DerivesPipe fs i → (limit : ℕ) → filters_depth fs ≤ limit → r.pipe limit i ≡ Some fs
+unfolding r.pipe
+pipe_complete (pipe {fs = fs} {i = i} {end = j} d e) limit le =
+    let q : same k.End (kind j) ≡ true = ap (same k.End) e ∙ same-refl k.End in
+    rw (filters_are_read fs i j d e limit le, q) refl
 
 whole_room : (limit : ℕ) (i : Input) (x : Expr) → r.whole limit i ≡ Some x → 0 < limit
 unfolding r.whole expr

@@ -3,21 +3,25 @@ use Rattle.std.specs.Prelude.{◌≡◌, ◌≢◌, List, [], ◌∷◌, length,
 use Rattle.std.specs.Str.{trim_start}
 use Rattle.tera_errors.specs.Site as site
 use Rattle.tera_errors.specs.declared.span.Span.{Span}
-use Rattle.tera_tree.specs.Tree.{Expr, Content, Print, Set, Break, Continue, Node, Nodes, NoNodes, MoreNodes}
+use Rattle.tera_tree.specs.Tree.{Expr, Filters, NoFilters, Content, Print, Set, Break, Continue, Node, Nodes, NoNodes, MoreNodes}
 use Rattle.tera_tokens.specs.declared.token.Kind.{Kind}
 use Rattle.tera_tokens.specs.declared.token.Kind.TheVariants as k
 use Rattle.tera_tokens.specs.Token.{Token}
 use Rattle.tera_tokens.specs.Input.{Input, begin, kind, text, start, next, span}
 use Rattle.tera_tokens.specs.Literal.{literal}
 use Rattle.tera_tokens.specs.Cut.{Piece, Words, Comment, Variable, Block, is_alone}
-use Rattle.tera_expressions.specs.Grammar.{Derives}
+use Rattle.tera_expressions.specs.Grammar.{Derives, DerivesFilters}
 use Rattle.tera_expressions.specs.Headings.{Names, Calls}
 use Rattle.tera_syntax.specs.declared.heads.Surroundings.{Surroundings}
-use Rattle.tera_syntax.specs.Heads.{Head, IfHead, ForHead, SetHead, BlockHead, outside, make, splits, chains, inside, first, ends}
+use Rattle.tera_syntax.specs.Heads.{Head, IfHead, ForHead, SetHead, SectionHead, BlockHead, outside, make, splits, chains, inside, first, ends}
 
 -- The tokens from here to the end of the tag are the expression.
 pub data DerivesWhole : Expr → Input → Type 0 where
   whole : {x : Expr} {i end : Input} → Derives 0 x i end → kind end ≡ k.End → DerivesWhole x i
+
+-- The tokens from here to the end of the tag are filters in a row.
+pub data DerivesPipe : Filters → Input → Type 0 where
+  pipe : {fs : Filters} {i end : Input} → DerivesFilters fs i end → kind end ≡ k.End → DerivesPipe fs i
 
 -- the tag is this word alone, which is of this kind
 abbrev pub IsWord : Kind → site.Text → List Token → Type 0
@@ -45,7 +49,10 @@ pub data Opens : Surroundings → Head → List Token → Type 0 where
   loop : {q : Surroundings} {key : Option site.Name} {name : site.Name} {e : Expr} {i : Input} {tokens : List Token} → first tokens ≡ k.For → Calls key name (next (begin q.in_loop tokens)) i → DerivesWhole e i
       → Opens q (ForHead key name e) tokens
   capture : {q : Surroundings} {is_global : Bool} {tokens : List Token} → Begins (set_word is_global) tokens → Names (next (begin q.in_loop tokens)) k.End
-      → Opens q (SetHead (text (next (begin q.in_loop tokens))) is_global) tokens
+      → Opens q (SetHead (text (next (begin q.in_loop tokens))) NoFilters is_global) tokens
+  filtered : {q : Surroundings} {is_global : Bool} {fs : Filters} {tokens : List Token} → Begins (set_word is_global) tokens → Names (next (begin q.in_loop tokens)) k.Bar → DerivesPipe fs (next (next (next (begin q.in_loop tokens))))
+      → Opens q (SetHead (text (next (begin q.in_loop tokens))) fs is_global) tokens
+  section : {q : Surroundings} {fs : Filters} {tokens : List Token} → Begins (codes "filter") tokens → DerivesPipe fs (next (begin q.in_loop tokens)) → Opens q (SectionHead fs) tokens
   block : {q : Surroundings} {tokens : List Token} → Begins (codes "block") tokens → Names (next (begin q.in_loop tokens)) k.End
       → Opens q (BlockHead (text (next (begin q.in_loop tokens))) (span (start (next (begin q.in_loop tokens))) (next (next (begin q.in_loop tokens))))) tokens
 

@@ -2,8 +2,8 @@
 use Rattle.std.specs.Prelude.{ℕ, List, [], ◌∷◌, Bool, true, false, ◌&&◌, ◌||◌, bytes_eq, codes, Option}
 use Rattle.tera_errors.specs.Site as site
 use Rattle.tera_errors.specs.declared.span.Span.{Span}
-use Rattle.tera_tree.specs.Tree.{Expr, If, For, Capture, Block, Node, Nodes}
-use Rattle.tera_tree.specs.Depth.{depth}
+use Rattle.tera_tree.specs.Tree.{Expr, Filters, If, For, Capture, FilterSection, Block, Node, Nodes}
+use Rattle.tera_tree.specs.Depth.{depth, filters_depth}
 use Rattle.tera_tokens.specs.declared.token.Kind.{Kind}
 use Rattle.tera_tokens.specs.declared.token.Kind.TheVariants as k
 use Rattle.tera_tokens.specs.Token.{Token}
@@ -18,7 +18,8 @@ outside = record { in_loop = false; may_leave = false }
 pub data Head : Type 0 where
   IfHead : (condition : Expr) → Head
   ForHead : (key : Option site.Name) (name : site.Name) (target : Expr) → Head
-  SetHead : (name : site.Name) (is_global : Bool) → Head
+  SetHead : (name : site.Name) (filters : Filters) (is_global : Bool) → Head
+  SectionHead : (filters : Filters) → Head
   -- with where its name stands
   BlockHead : (name : site.Name) (span : Span) → Head
 
@@ -26,35 +27,40 @@ pub data Head : Type 0 where
 abbrev pub make : Head → Nodes → Nodes → Node
 make (IfHead c) body other = If c body other
 make (ForHead key n e) body other = For key n e body other
-make (SetHead n is_global) body other = Capture n body is_global
+make (SetHead n fs is_global) body other = Capture n fs body is_global
+make (SectionHead fs) body other = FilterSection fs body
 make (BlockHead n span) body other = Block n body span
 
--- how deep the expressions of its tag are
+-- how deep the expressions and filters of its tag are
 abbrev pub head_depth : Head → ℕ
 head_depth (IfHead c) = depth c
 head_depth (ForHead key n e) = depth e
-head_depth (SetHead n is_global) = 0
+head_depth (SetHead n fs is_global) = filters_depth fs
+head_depth (SectionHead fs) = filters_depth fs
 head_depth (BlockHead n span) = 0
 
 -- it may have an `else`
 abbrev pub splits : Head → Bool
 splits (IfHead c) = true
 splits (ForHead key n e) = true
-splits (SetHead n is_global) = false
+splits (SetHead n fs is_global) = false
+splits (SectionHead fs) = false
 splits (BlockHead n span) = false
 
 -- it may have an `elif`
 abbrev pub chains : Head → Bool
 chains (IfHead c) = true
 chains (ForHead key n e) = false
-chains (SetHead n is_global) = false
+chains (SetHead n fs is_global) = false
+chains (SectionHead fs) = false
 chains (BlockHead n span) = false
 
 -- What its body stands in. A block's body keeps the names of a loop around it, and can't leave a turn of that loop.
 abbrev pub inside : Head → Surroundings → Surroundings
 inside (IfHead c) around = around
 inside (ForHead key n e) around = record { in_loop = true; may_leave = true }
-inside (SetHead n is_global) around = around
+inside (SetHead n fs is_global) around = around
+inside (SectionHead fs) around = around
 inside (BlockHead n span) around = record { in_loop = around.in_loop; may_leave = false }
 
 -- the kind of a tag's first token
@@ -74,7 +80,8 @@ is_named word name tokens = false
 abbrev pub is_end : Head → List Token → Bool
 is_end (IfHead c) tokens = is_alone (codes "endif") tokens
 is_end (ForHead key n e) tokens = is_alone (codes "endfor") tokens
-is_end (SetHead n is_global) tokens = is_alone (codes "endset") tokens || (is_global && is_alone (codes "endset_global") tokens)
+is_end (SetHead n fs is_global) tokens = is_alone (codes "endset") tokens || (is_global && is_alone (codes "endset_global") tokens)
+is_end (SectionHead fs) tokens = is_alone (codes "endfilter") tokens
 is_end (BlockHead n span) tokens = is_alone (codes "endblock") tokens || is_named (codes "endblock") n tokens
 
 -- the tag ends a statement with this head

@@ -6,12 +6,12 @@ use Rattle.tera_tokens.specs.declared.token.Kind.{Kind}
 use Rattle.tera_tokens.specs.declared.token.Kind.TheVariants as k
 use Rattle.tera_tokens.specs.Token.{Token}
 use Rattle.tera_tokens.specs.Input.{Input, Outcome, begin, kind, text, start, next, span, same}
-use Rattle.tera_expressions.specs.Expressions.{Deep, expr}
+use Rattle.tera_expressions.specs.Expressions.{Deep, expr, filters}
 use Rattle.tera_expressions.specs.Headings.{calls}
 use Rattle.tera_tokens.specs.Cut.{Piece, Words, Comment, Variable, Block, Broken, is_alone}
-use Rattle.tera_tree.specs.Tree.{Expr, Content, Print, Set, Break, Continue, Node, Nodes, NoNodes, MoreNodes}
+use Rattle.tera_tree.specs.Tree.{Expr, Filters, NoFilters, Content, Print, Set, Break, Continue, Node, Nodes, NoNodes, MoreNodes}
 use Rattle.tera_syntax.specs.declared.heads.Surroundings.{Surroundings}
-use Rattle.tera_syntax.specs.Heads.{Head, IfHead, ForHead, SetHead, BlockHead, outside, make, splits, chains, inside, first, ends}
+use Rattle.tera_syntax.specs.Heads.{Head, IfHead, ForHead, SetHead, SectionHead, BlockHead, outside, make, splits, chains, inside, first, ends}
 
 abbrev pub ended : Outcome Deep → Option Expr
 ended None = None
@@ -20,6 +20,14 @@ ended (Some p) = if same k.End (kind p.1) then Some p.0.expr else None
 -- an expression that is all from here to the end of the tag, no deeper than this
 unfoldable pub whole : ℕ → Input → Option Expr
 whole limit i = ended (expr limit 0 i)
+
+abbrev pub pipe_ended : Outcome (Filters × ℕ) → Option Filters
+pipe_ended None = None
+pipe_ended (Some p) = if same k.End (kind p.1) then Some p.0.0 else None
+
+-- filters that are all from here to the end of the tag, no deeper than this
+unfoldable pub pipe : ℕ → Input → Option Filters
+pipe limit i = pipe_ended (filters limit i)
 
 abbrev pub join : Nodes → Nodes → Nodes
 join NoNodes more = more
@@ -127,12 +135,17 @@ looping limit i = looping_by limit (calls i)
 
 abbrev pub setting_by : ℕ → Bool → Name → Input → Kind → Option Tag
 setting_by limit is_global name i k.Assign = option_map (λ e. Single (Set name e is_global)) (whole limit (next i))
-setting_by limit is_global name i k.End = Some (Opening (SetHead name is_global))
+setting_by limit is_global name i k.End = Some (Opening (SetHead name NoFilters is_global))
+setting_by limit is_global name i k.Bar = option_map (λ fs. Opening (SetHead name fs is_global)) (pipe limit (next i))
 setting_by limit is_global name i _ = None
 
 -- behind `set` or `set_global`
 abbrev pub setting : ℕ → Bool → Input → Option Tag
 setting limit is_global i = if same k.Name (kind i) then setting_by limit is_global (text i) (next i) (kind (next i)) else None
+
+-- behind `filter`
+abbrev pub sectioning : ℕ → Input → Option Tag
+sectioning limit i = option_map (λ fs. Opening (SectionHead fs)) (pipe limit i)
 
 -- behind `block`
 abbrev pub blocking : Input → Option Tag
@@ -151,17 +164,19 @@ unfoldable pub named : ℕ → Surroundings → List Token → Text → Option T
 named limit q tokens word =
     if bytes_eq word (codes "set") then setting limit false (next (begin q.in_loop tokens)) else (
     if bytes_eq word (codes "set_global") then setting limit true (next (begin q.in_loop tokens)) else (
+    if bytes_eq word (codes "filter") then sectioning limit (next (begin q.in_loop tokens)) else (
     if bytes_eq word (codes "block") then blocking (next (begin q.in_loop tokens)) else (
     if bytes_eq word (codes "break") then leaving q.may_leave (codes "break") tokens Break else (
-    if bytes_eq word (codes "continue") then leaving q.may_leave (codes "continue") tokens Continue else Some Closing))))
+    if bytes_eq word (codes "continue") then leaving q.may_leave (codes "continue") tokens Continue else Some Closing)))))
 
 -- whether a word that begins a statement begins with this byte and is this long
 abbrev pub may_begin : ℕ → ℕ → Bool
 may_begin first size =
     if size == 3 then first == 115 else (
     if size == 5 then first == 98 else (
+    if size == 6 then first == 102 else (
     if size == 8 then first == 99 else (
-    if size == 10 then first == 115 else false)))
+    if size == 10 then first == 115 else false))))
 
 abbrev pub tag_by : ℕ → Surroundings → Surroundings → List Token → Kind → Option Tag
 tag_by limit q outer tokens k.If = option_map (λ c. Opening (IfHead c)) (whole limit (next (begin q.in_loop tokens)))

@@ -8,8 +8,8 @@ use Rattle.tera_tokens.specs.Answers.{Refuses}
 use Rattle.tera_errors.specs.Site.{Name}
 use Rattle.tera_tree.specs.Tree.{Node, Nodes}
 use Rattle.tera_tree.specs.Blocks.{node_blocks}
-use Rattle.tera_tree.specs.View.{expr_of, nodes_of, quoted_option}
-use Rattle.tera_syntax.specs.Heads.{Head, IfHead, ForHead, SetHead, BlockHead}
+use Rattle.tera_tree.specs.View.{expr_of, filters_of, nodes_of, quoted_option}
+use Rattle.tera_syntax.specs.Heads.{Head, IfHead, ForHead, SetHead, SectionHead, BlockHead}
 use Rattle.tera_syntax.specs.Reader.{Frame, Progress}
 use Rattle.tera_syntax.specs.File.{File}
 use Rattle.tera_syntax.specs.declared.blocks.BlockName.{BlockName}
@@ -25,7 +25,8 @@ heading_of h = ForHead (option_copied h.key) h.name.now (expr_of h.target)
 abbrev pub head_of : head.Head → Head
 head_of (variant.If c) = IfHead (expr_of c.value)
 head_of (variant.For h) = heading_of h.value
-head_of (variant.Set t is_global) = SetHead t.now is_global
+head_of (variant.Set t fs is_global) = SetHead t.now (filters_of fs.items) is_global
+head_of (variant.Section fs) = SectionHead (filters_of fs.items)
 head_of (variant.Block t span) = BlockHead t.now span
 
 abbrev pub body_of : Option (Vec declared.Node Global) → Option Nodes

@@ -57,9 +57,11 @@ fn gather_node<'s>(names: &mut Vec<BlockName<'s>>, node: &Node<'s>) -> Result<()
         }
         Node::Capture {
             name: _,
+            filters: _,
             body,
             is_global: _,
         } => gather(names, body.as_slice()),
+        Node::FilterSection { filters: _, body } => gather(names, body.as_slice()),
         Node::Block { name, body, span } => {
             names.push(BlockName { name, span: *span })?;
             gather(names, body.as_slice())

@@ -9,7 +9,7 @@ use tera_errors::Span;
 use tera_tokens::cut::is_alone;
 use tera_tokens::input::{Tokens, same};
 use tera_tokens::token::{Kind, Token};
-use tera_tree::{Expression, Heading, Node};
+use tera_tree::{Expression, Heading, Node, SectionFilter};
 
 /// What a tag stands in.
 #[derive(Clone, Copy)]
@@ -39,8 +39,10 @@ pub(crate) enum Head<'s> {
     If(Box<Expression<'s>>),
     /// `for name in target`
     For(Box<Heading<'s>>),
-    /// `set name`, or `set_global name` where it is global.
-    Set(&'s str, bool),
+    /// `set name | filter`, or `set_global name | filter` where it is global. There may be no filter.
+    Set(&'s str, Vec<SectionFilter<'s>>, bool),
+    /// `filter filters`
+    Section(Vec<SectionFilter<'s>>),
     /// `block name`, and where the name stands.
     Block(&'s str, Span),
 }
@@ -54,7 +56,8 @@ impl<'s> Head<'s> {
         match self {
             Head::If(condition) => Node::choice(condition, body, other),
             Head::For(heading) => Node::each(heading, body, other),
-            Head::Set(name, is_global) => Node::capture(name, body, is_global),
+            Head::Set(name, filters, is_global) => Node::capture(name, filters, body, is_global),
+            Head::Section(filters) => Node::filter_section(filters, body),
             Head::Block(name, span) => Node::block(name, body, span),
         }
     }
@@ -65,7 +68,7 @@ impl<'s> Head<'s> {
     {
         match self {
             Head::If(_) | Head::For(_) => true,
-            Head::Set(_, _) | Head::Block(_, _) => false,
+            Head::Set(_, _, _) | Head::Section(_) | Head::Block(_, _) => false,
         }
     }
 
@@ -75,7 +78,7 @@ impl<'s> Head<'s> {
     {
         match self {
             Head::If(_) => true,
-            Head::For(_) | Head::Set(_, _) | Head::Block(_, _) => false,
+            Head::For(_) | Head::Set(_, _, _) | Head::Section(_) | Head::Block(_, _) => false,
         }
     }
 
@@ -85,7 +88,7 @@ impl<'s> Head<'s> {
         ensures { result ≡ spec.inside (head_of self.now) around }
     {
         match self {
-            Head::If(_) | Head::Set(_, _) => around,
+            Head::If(_) | Head::Set(_, _, _) | Head::Section(_) => around,
             Head::For(_) => Surroundings {
                 in_loop: true,
                 may_leave: true,
@@ -104,9 +107,10 @@ impl<'s> Head<'s> {
         match self {
             Head::If(_) => is_alone("endif", tokens),
             Head::For(_) => is_alone("endfor", tokens),
-            Head::Set(_, is_global) => {
+            Head::Set(_, _, is_global) => {
                 is_alone("endset", tokens) || *is_global && is_alone("endset_global", tokens)
             }
+            Head::Section(_) => is_alone("endfilter", tokens),
             Head::Block(name, _) => {
                 is_alone("endblock", tokens) || is_named("endblock", name, tokens)
             }

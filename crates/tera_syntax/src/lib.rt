@@ -13,5 +13,5 @@ mod words;
 pub use reader::parse;
 pub use tera_tree::{
     Argument, BinaryOperator, Delimiters, Entry, Expression, Heading, Item, LiteralKey, Node,
-    ParserOutput,
+    ParserOutput, SectionFilter,
 };

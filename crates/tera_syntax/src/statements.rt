@@ -7,7 +7,7 @@ ghost use Rattle.tera_tokens.specs.Found.{piece_of};
 ghost use Rattle.tera_tokens.specs.Input.{begin, next};
 ghost use Rattle.tera_tokens.specs.Takes.{input};
 ghost use Rattle.tera_tokens.specs.Token.{tokens_of};
-ghost use Rattle.tera_tree.specs.View.{expr_of, node_of};
+ghost use Rattle.tera_tree.specs.View.{expr_of, filters_of, node_of};
 
 use crate::heads::{Head, first};
 use crate::progress::{Progress, refused};
@@ -15,12 +15,13 @@ use crate::words::named;
 use std::alloc::Global;
 use tera_errors::Span;
 use tera_expressions::expressions::expr;
+use tera_expressions::filters::filters;
 use tera_expressions::headings::{LoopNames, names};
 use tera_tokens::cut::{Piece, is_alone};
 use tera_tokens::input::{Tokens, same};
 use tera_tokens::refusal::{Reason, Refusal};
 use tera_tokens::token::{Kind, Token};
-use tera_tree::{Expression, Heading, Node};
+use tera_tree::{Expression, Heading, Node, SectionFilter};
 
 /// An expression that is all from here to the end of the tag.
 #[tactic(auto, unfolding(crate::specs::Reader::whole))]
@@ -34,6 +35,23 @@ pub(crate) fn whole<'s>(
     let value = expr(alloc, tokens, limit, 0)?;
     if same(Kind::End, tokens.kind()) {
         Ok(value.expression)
+    } else {
+        Err(tokens.refuse(Reason::TagGoesOn))
+    }
+}
+
+/// Filters that are all from here to the end of the tag.
+#[tactic(auto, unfolding(crate::specs::Reader::pipe))]
+pub(crate) fn pipe<'s>(
+    alloc: Global,
+    tokens: &mut Tokens<'_, 's>,
+    limit: usize,
+) -> Result<Vec<SectionFilter<'s>>, Refusal>
+    ensures { Answers (λ fs. filters_of fs.items) (spec.pipe limit (input tokens.old)) result }
+{
+    let (filters, _depth) = filters(alloc, tokens, limit)?;
+    if same(Kind::End, tokens.kind()) {
+        Ok(filters)
     } else {
         Err(tokens.refuse(Reason::TagGoesOn))
     }

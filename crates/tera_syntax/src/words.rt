@@ -8,7 +8,7 @@ ghost use Rattle.tera_tree.specs.View.{node_of};
 
 use crate::heads::Head;
 use crate::progress::{Progress, refused};
-use crate::statements::{behind, put, whole};
+use crate::statements::{behind, pipe, put, whole};
 use std::alloc::Global;
 use tera_tokens::cut::is_alone;
 use tera_tokens::input::{Tokens, same};
@@ -39,9 +39,34 @@ fn set<'s>(
             let value = whole(alloc, ahead, progress.room())?;
             put(progress, Node::set(name, value, is_global), tag)
         }
-        Kind::End => progress.open(alloc, false, Head::Set(name, is_global), tag),
+        Kind::End => progress.open(
+            alloc,
+            false,
+            Head::Set(name, Vec::new(alloc), is_global),
+            tag,
+        ),
+        Kind::Bar => {
+            ahead.take();
+            let filters = pipe(alloc, ahead, progress.room())?;
+            progress.open(alloc, false, Head::Set(name, filters, is_global), tag)
+        }
         _ => Err(ahead.refuse(Reason::Expected(Kind::Assign))),
     }
+}
+
+/// Behind `filter`.
+fn section<'s>(
+    progress: &mut Progress<'s>,
+    alloc: Global,
+    tag: &[Token<'_>],
+    ahead: &mut Tokens<'_, 's>,
+) -> Result<(), Refusal>
+    ensures { let s = progress_of progress.old in
+        let meant = spec.sectioning (spec.room 200 s) (input ahead.old) in
+        Becomes (option_and_then (spec.taken 200 s (tokens_of tag.now)) meant) result progress.new }
+{
+    let filters = pipe(alloc, ahead, progress.room())?;
+    progress.open(alloc, false, Head::Section(filters), tag)
 }
 
 /// Behind `block`.
@@ -96,6 +121,7 @@ fn may_begin(first: u8, size: usize) -> bool
     match size {
         3 => first == b's',
         5 => first == b'b',
+        6 => first == b'f',
         8 => first == b'c',
         10 => first == b's',
         _ => false,
@@ -148,6 +174,10 @@ fn begun<'s>(
         "set" | "set_global" => {
             let mut ahead = behind(tag, progress.surroundings.in_loop);
             set(progress, alloc, tag, &mut ahead, word != "set")
+        }
+        "filter" => {
+            let mut ahead = behind(tag, progress.surroundings.in_loop);
+            section(progress, alloc, tag, &mut ahead)
         }
         "block" => {
             let mut ahead = behind(tag, progress.surroundings.in_loop);

@@ -2,8 +2,12 @@
 #![tactic(auto)]
 
 #[cfg(test)]
+mod applications;
+#[cfg(test)]
 mod readings;
 #[cfg(test)]
 mod rows;
+#[cfg(test)]
+mod sections;
 #[cfg(test)]
 mod shown;

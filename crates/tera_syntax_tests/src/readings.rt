@@ -2,7 +2,9 @@
 ghost use Rattle.std.specs.Prelude.{IsTrue, IfSome, OnOk};
 ghost use Rattle.tera_tree.specs.Delimiters.{accepted, delimiters_of};
 
-use crate::rows::{NESTS, Nest, OTHERS, Other, REFUSED, Row, TREES, UNUSABLE, Unusable};
+use crate::applications::{APPLICATION_NESTS, APPLICATIONS, UNREAD_APPLICATIONS};
+use crate::rows::{NESTS, Nest, OTHERS, Other, REFUSED, Row, TREES, Text, UNUSABLE, Unusable};
+use crate::sections::{SECTION_NESTS, SECTIONS, UNREAD_SECTIONS};
 use crate::shown::Shown;
 use std::alloc::Global;
 use tera_errors::ErrorKind;
@@ -69,10 +71,10 @@ fn is_as_deep(alloc: Global, delimiters: &Delimiters, nest: &Nest) -> bool
 }
 
 /// The first tree that is another, or text that is read though it spells none, or nest that is answered otherwise.
-fn first_wrong(alloc: Global, delimiters: &Delimiters) -> Option<&'static str>
+fn first_wrong(alloc: Global, delimiters: &Delimiters, rows: &'static [Row]) -> Option<&'static str>
     requires { IsTrue (accepted (delimiters_of delimiters.now)) }
 {
-    for row in &TREES {
+    for row in rows {
         if !agrees(alloc, delimiters, *row) {
             return Some(row.0);
         }
@@ -80,10 +82,14 @@ fn first_wrong(alloc: Global, delimiters: &Delimiters) -> Option<&'static str>
     None
 }
 
-fn first_read(alloc: Global, delimiters: &Delimiters) -> Option<&'static str>
+fn first_read(
+    alloc: Global,
+    delimiters: &Delimiters,
+    texts: &'static [Text],
+) -> Option<&'static str>
     requires { IsTrue (accepted (delimiters_of delimiters.now)) }
 {
-    for text in &REFUSED {
+    for text in texts {
         if !is_refused(alloc, delimiters, text.0) {
             return Some(text.0);
         }
@@ -91,10 +97,10 @@ fn first_read(alloc: Global, delimiters: &Delimiters) -> Option<&'static str>
     None
 }
 
-fn first_deep(alloc: Global, delimiters: &Delimiters) -> Option<usize>
+fn first_deep(alloc: Global, delimiters: &Delimiters, nests: &[Nest]) -> Option<usize>
     requires { IsTrue (accepted (delimiters_of delimiters.now)) }
 {
-    for (row, nest) in NESTS.iter().enumerate() {
+    for (row, nest) in nests.iter().enumerate() {
         if !is_as_deep(alloc, delimiters, nest) {
             return Some(row);
         }
@@ -114,7 +120,7 @@ fn standard(alloc: Global) -> Option<Delimiters>
 #[test]
 fn trees(rt: HostRuntime) {
     let wrong = match standard(rt.alloc()) {
-        Some(delimiters) => first_wrong(rt.alloc(), &delimiters),
+        Some(delimiters) => first_wrong(rt.alloc(), &delimiters, &TREES),
         None => Some("want of memory"),
     };
     assert_eq!(rt; wrong, None);
@@ -123,7 +129,7 @@ fn trees(rt: HostRuntime) {
 #[test]
 fn refusals(rt: HostRuntime) {
     let wrong = match standard(rt.alloc()) {
-        Some(delimiters) => first_read(rt.alloc(), &delimiters),
+        Some(delimiters) => first_read(rt.alloc(), &delimiters, &REFUSED),
         None => Some("want of memory"),
     };
     assert_eq!(rt; wrong, None);
@@ -132,8 +138,62 @@ fn refusals(rt: HostRuntime) {
 #[test]
 fn depths(rt: HostRuntime) {
     let wrong = match standard(rt.alloc()) {
-        Some(delimiters) => first_deep(rt.alloc(), &delimiters),
+        Some(delimiters) => first_deep(rt.alloc(), &delimiters, &NESTS),
         None => Some(NESTS.len()),
+    };
+    assert_eq!(rt; wrong, None);
+}
+
+#[test]
+fn sections(rt: HostRuntime) {
+    let wrong = match standard(rt.alloc()) {
+        Some(delimiters) => first_wrong(rt.alloc(), &delimiters, &SECTIONS),
+        None => Some("want of memory"),
+    };
+    assert_eq!(rt; wrong, None);
+}
+
+#[test]
+fn unread_sections(rt: HostRuntime) {
+    let wrong = match standard(rt.alloc()) {
+        Some(delimiters) => first_read(rt.alloc(), &delimiters, &UNREAD_SECTIONS),
+        None => Some("want of memory"),
+    };
+    assert_eq!(rt; wrong, None);
+}
+
+#[test]
+fn deep_sections(rt: HostRuntime) {
+    let wrong = match standard(rt.alloc()) {
+        Some(delimiters) => first_deep(rt.alloc(), &delimiters, &SECTION_NESTS),
+        None => Some(SECTION_NESTS.len()),
+    };
+    assert_eq!(rt; wrong, None);
+}
+
+#[test]
+fn applications(rt: HostRuntime) {
+    let wrong = match standard(rt.alloc()) {
+        Some(delimiters) => first_wrong(rt.alloc(), &delimiters, &APPLICATIONS),
+        None => Some("want of memory"),
+    };
+    assert_eq!(rt; wrong, None);
+}
+
+#[test]
+fn unread_applications(rt: HostRuntime) {
+    let wrong = match standard(rt.alloc()) {
+        Some(delimiters) => first_read(rt.alloc(), &delimiters, &UNREAD_APPLICATIONS),
+        None => Some("want of memory"),
+    };
+    assert_eq!(rt; wrong, None);
+}
+
+#[test]
+fn deep_applications(rt: HostRuntime) {
+    let wrong = match standard(rt.alloc()) {
+        Some(delimiters) => first_deep(rt.alloc(), &delimiters, &APPLICATION_NESTS),
+        None => Some(APPLICATION_NESTS.len()),
     };
     assert_eq!(rt; wrong, None);
 }

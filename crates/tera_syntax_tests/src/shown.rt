@@ -1,7 +1,7 @@
 //! Trees in words, for tests: each node with its parts and its span.
 use std::alloc::{AllocError, Global};
 use tera_errors::Span;
-use tera_syntax::{Expression, Heading, Node};
+use tera_syntax::{Argument, Expression, Heading, Node, SectionFilter};
 
 /// Words that are written one behind another.
 #[derive(Drop)]
@@ -85,6 +85,17 @@ impl Shown {
         self.expression(&heading.target);
     }
 
+    /// Arguments, each with its name.
+    #[cycle(expression)]
+    fn arguments(&mut self, arguments: &[Argument]) {
+        for argument in arguments {
+            self.put(" ");
+            self.put(argument.name);
+            self.put("=");
+            self.expression(&argument.value);
+        }
+    }
+
     /// An expression: its word, its parts and its span.
     #[cycle(expression)]
     pub fn expression(&mut self, expression: &Expression) {
@@ -149,12 +160,30 @@ impl Shown {
                 self.put(" if ");
                 self.put_bound(condition);
             }
-            Expression::Super { arguments, .. } => {
-                for argument in arguments {
-                    self.put(argument.name);
-                    self.put("=");
-                    self.expression(&argument.value);
-                }
+            Expression::Super { arguments, .. } => self.arguments(arguments),
+            Expression::Filter {
+                value,
+                name,
+                arguments,
+                ..
+            }
+            | Expression::Test {
+                value,
+                name,
+                arguments,
+                ..
+            } => {
+                self.expression(value);
+                self.put(name);
+                self.arguments(arguments);
+            }
+            Expression::Call {
+                name,
+                arguments,
+                ..
+            } => {
+                self.put(name);
+                self.arguments(arguments);
             }
             _ => {}
         }
@@ -165,6 +194,16 @@ impl Shown {
     fn put_set(&mut self, name: &str, is_global: bool) {
         self.put(if is_global { "(set_global " } else { "(set " });
         self.put(name);
+    }
+
+    /// Filters of a body, each with its arguments and its span.
+    fn filters(&mut self, filters: &[SectionFilter]) {
+        for filter in filters {
+            self.put("(|");
+            self.put(filter.name);
+            self.arguments(&filter.arguments);
+            self.put_span(filter.span);
+        }
     }
 
     /// Nodes, one behind another.
@@ -201,11 +240,20 @@ impl Shown {
                 }
                 Node::Capture {
                     name,
+                    filters,
                     body,
                     is_global,
                 } => {
                     self.put_set(name, *is_global);
+                    self.filters(filters);
                     self.put(" to ");
+                    self.nodes(body);
+                    self.put(")");
+                }
+                Node::FilterSection { filters, body } => {
+                    self.put("(filter");
+                    self.filters(filters);
+                    self.put(" of ");
                     self.nodes(body);
                     self.put(")");
                 }
@@ -255,7 +303,10 @@ fn span_of(expression: &Expression) -> Span {
         | Expression::Array { span, .. }
         | Expression::Map { span, .. }
         | Expression::Comprehension { span, .. }
-        | Expression::Super { span, .. } => *span
+        | Expression::Super { span, .. }
+        | Expression::Filter { span, .. }
+        | Expression::Test { span, .. }
+        | Expression::Call { span, .. } => *span
     }
 }
 
@@ -275,6 +326,9 @@ fn word(expression: &Expression) -> &'static str {
         Expression::Map { .. } => "map",
         Expression::Comprehension { .. } => "each",
         Expression::Super { .. } => "super",
+        Expression::Filter { .. } => "|",
+        Expression::Test { .. } => "is",
+        Expression::Call { .. } => "call ",
         _ => "",
     }
 }

@@ -7,19 +7,31 @@ const BLOCKS: &str = r#"@@ template t
 @@ end
 @@ add
 @@ render t
+@@ block t b
+@@ block t c
+@@ block t d
+@@ block no b
 =>
 ok
 ok
 <xy>
+x
+y
+fault Message
+fault TemplateNotFound
 
 @@ template t
 {% block outer %}<o>{% block inner %}inner{% endblock %}</o>{% endblock %}
 @@ end
 @@ add
+@@ block t inner
+@@ block t outer
 @@ render t
 =>
 ok
 ok
+inner
+<o>inner</o>
 <o>inner</o>
 
 @@ template t
@@ -27,10 +39,12 @@ ok
 @@ end
 @@ add
 @@ render t
+@@ block t b
 =>
 ok
 ok
 1021
+21
 
 @@ template t
 {% if no or false %}{% block b %}x{% endblock %}{% endif %}.
@@ -46,21 +60,25 @@ ok
 {% block b %}x{% endblock %}{{ y }}
 @@ end
 @@ add
-@@ render t
+@@ block t b
+@@ block t c
 =>
 ok
 ok
 fault RenderingError t 31 32
+fault Message
 
 @@ template t
 {% set x %}{% block b %}in{% endblock %}{% endset %}[{{ x }}]
 @@ end
 @@ add
 @@ render t
+@@ block t b
 =>
 ok
 ok
 [in]
+in
 
 @@ template t
 {% set x = 1 %}{% block b %}{{ x }}{% set x = 2 %}{% endblock %}{{ x }}{% for i in [7] %}{% block c %}{% set x = 3 %}{% endblock %}{{ x }}{{ i }}{% endfor %}{{ x }}
@@ -109,12 +127,18 @@ const CHILDREN: &str = r#"@@ template base.html
 @@ end
 @@ add
 @@ render child.html
+@@ block child.html content
+@@ block child.html nav
+@@ block child.html unknown
 @@ render base.html
 =>
 ok
 ok
 ok
 navchild-default
+child-default
+nav
+fault Message
 navdefault
 
 @@ template base
@@ -165,10 +189,14 @@ fault RenderingError child 42 43
 @@ end
 @@ add
 @@ render child
+@@ block child i
+@@ block child o
 =>
 ok
 ok
 ok
+xx
+x
 xx
 
 @@ template base
@@ -198,12 +226,14 @@ ok
 @@ end
 @@ add
 @@ render child.html
+@@ block child.html a
 @@ render base
 =>
 ok
 ok
 ok
 ok
+<b>&lt;</b><b>&lt;</b>
 <b>&lt;</b><b>&lt;</b>
 <b><</b>
 
@@ -338,12 +368,16 @@ fault SyntaxError a 16 24
 @@ end
 @@ add
 @@ render child.html
+@@ block child.html content
+@@ block base.html content
 =>
 ok
 ok
 ok
 ok
-child-default"#;
+child-default
+child-default
+default"#;
 
 #[test]
 fn blocks(rt: HostRuntime) {

@@ -4,6 +4,9 @@
 #[cfg(test)]
 mod batches;
 #[cfg(test)]
+mod blocks;
+mod built_ins;
+#[cfg(test)]
 mod cases;
 #[cfg(test)]
 mod commands;

@@ -1,6 +1,6 @@
 //! What objects of the caller are lent of a rendering.
 use std::alloc::Global;
-use tera::{Context, ErrorKind, State, Value};
+use tera::{Context, ErrorKind, Kwargs, State, Value};
 
 /// A name, and the text that it stands for, if any.
 #[derive(Clone, Copy)]
@@ -110,4 +110,38 @@ fn values_are_written(rt: HostRuntime) {
         && escapes_all(&state)
         && refuses_undefined(&state);
     assert!(rt; holds);
+}
+
+fn replaces(alloc: Global, state: &State<'_>) -> bool {
+    let mut arguments = Kwargs::new(alloc);
+    match (
+        Value::string(alloc, "a<b"),
+        Value::string(alloc, "<"),
+        Value::safe_string(alloc, "<br>"),
+    ) {
+        (Ok(value), Ok(from), Ok(to)) => {
+            arguments.insert("from", from).is_ok()
+                && arguments.insert("to", to).is_ok()
+                && match state.call_filter("replace", &value, arguments) {
+                    Ok(made) => made.is_safe() && made.as_str() == Some("a&lt;b"),
+                    Err(_) => false,
+                }
+        }
+        _ => false,
+    }
+}
+
+fn refuses_unknown(alloc: Global, state: &State<'_>) -> bool {
+    match state.call_filter("upper", &Value::none(), Kwargs::new(alloc)) {
+        Ok(_) => false,
+        Err(error) => matches!(error.kind(), ErrorKind::Message(_)),
+    }
+}
+
+#[test]
+fn filters_are_called(rt: HostRuntime) {
+    let alloc = rt.alloc();
+    let context = Context::new(alloc);
+    let state = State::new(&context);
+    assert!(rt; replaces(alloc, &state) && refuses_unknown(alloc, &state));
 }

@@ -103,6 +103,38 @@ fn has_names(engine: &Tera, count: usize) -> bool {
     }
 }
 
+/// A good template, and one that calls what is not there.
+const UNKNOWN: [(&str, &str); 2] = [
+    ("good", "x"),
+    (
+        "bad",
+        "{% block b %}{{ name | no_such_filter }}{% endblock %}",
+    ),
+];
+
+fn refuses_unknown(engine: &mut Tera, context: &Context) -> bool {
+    adds(engine, "good", "Hello {{ name }}!")
+        && is_refused(engine.add_raw_templates(&UNKNOWN), "Message")
+        && shows(engine, context, "good", "Hello !")
+        && fails(engine, context, "bad", "TemplateNotFound")
+}
+
+fn unknown_names_are_refused(alloc: Global) -> bool {
+    let mut context = Context::new(alloc);
+    match Tera::new(alloc) {
+        Ok(mut engine) => {
+            put(&mut context, "name", Value::string(alloc, ""))
+                && refuses_unknown(&mut engine, &context)
+        }
+        Err(_) => false,
+    }
+}
+
+#[test]
+fn what_is_called_is_there(rt: HostRuntime) {
+    assert!(rt; unknown_names_are_refused(rt.alloc()));
+}
+
 fn refuses_batches(engine: &mut Tera, context: &Context) -> bool {
     is_refused(engine.add_raw_templates(&CIRCLE), "CircularExtend")
         && has_names(engine, 0)

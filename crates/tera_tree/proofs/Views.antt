@@ -11,9 +11,10 @@ use Rattle.tera_tree.specs.declared.expression.Expression.{Expression, Row_of-It
 use Rattle.tera_tree.specs.declared.expression.Expression.TheVariants as expression
 use Rattle.tera_tree.specs.declared.node.Node.{Row_of-Node, end_of-Node, more_of-Node, items-the_row-Node, items_hidden-the_row-Node-0}
 use Rattle.tera_tree.specs.declared.node.Node as declared
+use Rattle.tera_tree.specs.declared.node.SectionFilter.{SectionFilter}
 use Rattle.tera_tree.specs.declared.node.Node.TheVariants as variant
-use Rattle.tera_tree.specs.Tree.{Array, Map, Super, MoreItems, MoreEntries, MoreArguments, If, Capture, For, Block, MoreNodes}
-use Rattle.tera_tree.specs.View.{literal_option, expr_of, row_items, items_of, row_entries, entries_of, row_arguments, arguments_of, node_of, row_nodes, nodes_of, for_of}
+use Rattle.tera_tree.specs.Tree.{Array, Map, Super, Filter, Test, Call, MoreItems, MoreEntries, MoreArguments, If, Capture, FilterSection, For, Block, MoreNodes}
+use Rattle.tera_tree.specs.View.{literal_option, expr_of, row_items, items_of, row_entries, entries_of, row_arguments, arguments_of, filters_of, node_of, row_nodes, nodes_of, for_of}
 
 pub items_row : (m : _) (row : Row_of-Item m) → row_items row ≡ items_of (items-the_row-Item m row)
 items_row m end_of-Item = refl
@@ -41,11 +42,15 @@ entries_in _ = (_, end_of-Entry)
 
 abbrev arguments_in : Expression → (n : Count) × Row_of-Argument n
 arguments_in (expression.Super' _ row _) = (_, row)
+arguments_in (expression.Filter' _ _ _ _ row _) = (_, row)
+arguments_in (expression.Test' _ _ _ _ row _) = (_, row)
+arguments_in (expression.Call' _ _ row _) = (_, row)
 arguments_in _ = (_, end_of-Argument)
 
 abbrev body_in : declared.Node → (n : Count) × Row_of-Node n
 body_in (variant.If' _ _ row _ _) = (_, row)
-body_in (variant.Capture' _ _ row _) = (_, row)
+body_in (variant.Capture' _ _ _ row _) = (_, row)
+body_in (variant.FilterSection' _ _ row) = (_, row)
 body_in (variant.For' _ _ row _ _) = (_, row)
 body_in (variant.Block' _ _ row _) = (_, row)
 body_in _ = (_, end_of-Node)
@@ -73,6 +78,18 @@ view_super all span =
     let r = arguments_in (expression.Super all span) in
     ap (λ x. Super x span) (arguments_row r.0 r.1 ∙ ap arguments_of (items_hidden-the_row-Argument-2 all))
 
+arguments_are : (r : (n : Count) × Row_of-Argument n) (all : Vec argument.Argument Global) → items-the_row-Argument r.0 r.1 ≡ all.items → row_arguments r.1 ≡ arguments_of all.items
+arguments_are r all e = arguments_row r.0 r.1 ∙ ap arguments_of e
+
+pub view_filter : (v : Box Expression Global) (n : Bor Text) (all : Vec argument.Argument Global) (span : Span) → expr_of (expression.Filter v n all span) ≡ Filter (expr_of v.value) n.now (arguments_of all.items) span
+view_filter v n all span = ap (λ x. Filter (expr_of v.value) n.now x span) (arguments_are (arguments_in (expression.Filter v n all span)) all (items_hidden-the_row-Argument-2 all))
+
+pub view_test : (v : Box Expression Global) (n : Bor Text) (all : Vec argument.Argument Global) (span : Span) → expr_of (expression.Test v n all span) ≡ Test (expr_of v.value) n.now (arguments_of all.items) span
+view_test v n all span = ap (λ x. Test (expr_of v.value) n.now x span) (arguments_are (arguments_in (expression.Test v n all span)) all (items_hidden-the_row-Argument-2 all))
+
+pub view_call : (n : Bor Text) (all : Vec argument.Argument Global) (span : Span) → expr_of (expression.Call n all span) ≡ Call n.now (arguments_of all.items) span
+view_call n all span = ap (λ x. Call n.now x span) (arguments_are (arguments_in (expression.Call n all span)) all (items_hidden-the_row-Argument-2 all))
+
 pub view_block : (t : Bor Text) (body : Vec declared.Node Global) (span : Span) → node_of (variant.Block t body span) ≡ Block t.now (nodes_of body.items) span
 view_block t body span = ap (λ x. Block t.now x span) (nodes_is (body_in (variant.Block t body span)) body (items_hidden-the_row-Node-0 body))
 
@@ -80,8 +97,11 @@ pub view_if : (c : Box Expression Global) (body other : Vec declared.Node Global
 view_if c body other =
     ap₂ (λ x y. If (expr_of c.value) x y) (nodes_is (body_in (variant.If c body other)) body (items_hidden-the_row-Node-0 body)) (nodes_is (other_in (variant.If c body other)) other (items_hidden-the_row-Node-0 other))
 
-pub view_capture : (t : Bor Text) (body : Vec declared.Node Global) (is_global : Bool) → node_of (variant.Capture t body is_global) ≡ Capture t.now (nodes_of body.items) is_global
-view_capture t body is_global = ap (λ x. Capture t.now x is_global) (nodes_is (body_in (variant.Capture t body is_global)) body (items_hidden-the_row-Node-0 body))
+pub view_capture : (t : Bor Text) (filters : Vec SectionFilter Global) (body : Vec declared.Node Global) (is_global : Bool) → node_of (variant.Capture t filters body is_global) ≡ Capture t.now (filters_of filters.items) (nodes_of body.items) is_global
+view_capture t filters body is_global = ap (λ x. Capture t.now (filters_of filters.items) x is_global) (nodes_is (body_in (variant.Capture t filters body is_global)) body (items_hidden-the_row-Node-0 body))
+
+pub view_section : (filters : Vec SectionFilter Global) (body : Vec declared.Node Global) → node_of (variant.FilterSection filters body) ≡ FilterSection (filters_of filters.items) (nodes_of body.items)
+view_section filters body = ap (λ x. FilterSection (filters_of filters.items) x) (nodes_is (body_in (variant.FilterSection filters body)) body (items_hidden-the_row-Node-0 body))
 
 pub view_for : (h : Box Heading Global) (body other : Vec declared.Node Global) → node_of (variant.For h body other) ≡ for_of h.value body.items other.items
 view_for h body other =

@@ -2,7 +2,7 @@
 use Rattle.std.specs.Prelude.{Bool, true, not, ◌&&◌, List, [], ◌∷◌, ◌++◌, map, bytes_eq}
 use Rattle.std.specs.List.{list_any}
 use Rattle.tera_errors.specs.Site as site
-use Rattle.tera_tree.specs.Tree.{Node, Content, Print, If, Set, Capture, For, Block, Break, Continue, Nodes, NoNodes, MoreNodes}
+use Rattle.tera_tree.specs.Tree.{Node, Content, Print, If, Set, Capture, FilterSection, For, Block, Break, Continue, Nodes, NoNodes, MoreNodes}
 
 -- each with its name and its body, in the order of the text; those inside others too
 abbrev mutual
@@ -11,7 +11,8 @@ abbrev mutual
   node_blocks (Print e) = []
   node_blocks (If c body other) = blocks body ++ blocks other
   node_blocks (Set n e is_global) = []
-  node_blocks (Capture n body is_global) = blocks body
+  node_blocks (Capture n fs body is_global) = blocks body
+  node_blocks (FilterSection fs body) = blocks body
   node_blocks (For key n e body other) = blocks body ++ blocks other
   node_blocks (Block n body span) = (n, body) ∷ blocks body
   node_blocks Break = []
@@ -31,7 +32,8 @@ abbrev mutual
   node_top_blocks (Print e) = []
   node_top_blocks (If c body other) = top_blocks body ++ top_blocks other
   node_top_blocks (Set n e is_global) = []
-  node_top_blocks (Capture n body is_global) = top_blocks body
+  node_top_blocks (Capture n fs body is_global) = top_blocks body
+  node_top_blocks (FilterSection fs body) = top_blocks body
   node_top_blocks (For key n e body other) = top_blocks body ++ top_blocks other
   node_top_blocks (Block n body span) = n ∷ []
   node_top_blocks Break = []

@@ -1,6 +1,6 @@
 -- How deep trees are.
 use Rattle.std.specs.Prelude.{ℕ, suc, max, ◌≤◌, false, IsTrue}
-use Rattle.tera_tree.specs.Tree.{Expr, Nothing, Boolean, Integer, Text, Name, Attribute, Index, Slice, Not, Negate, Binary, And, Or, Ternary, Array, Map, Comprehension, Super, Optional, Absent, Present, Items, NoItems, MoreItems, Entries, NoEntries, MoreEntries, Arguments, NoArguments, MoreArguments, Node, Content, Print, If, Set, Capture, For, Block, Break, Continue, Nodes, NoNodes, MoreNodes, Tree}
+use Rattle.tera_tree.specs.Tree.{Expr, Nothing, Boolean, Integer, Text, Name, Attribute, Index, Slice, Not, Negate, Binary, And, Or, Ternary, Array, Map, Comprehension, Super, Filter, Test, Call, Optional, Absent, Present, Items, NoItems, MoreItems, Entries, NoEntries, MoreEntries, Arguments, NoArguments, MoreArguments, Filters, NoFilters, MoreFilters, Node, Content, Print, If, Set, Capture, FilterSection, For, Block, Break, Continue, Nodes, NoNodes, MoreNodes, Tree}
 use Rattle.tera_tree.specs.Places.{in_place}
 use Rattle.tera_tree.specs.Blocks.{has_each_block_once}
 
@@ -26,6 +26,9 @@ abbrev mutual
   depth (Map all span) = suc (entries_depth all)
   depth (Comprehension v key n e c span) = suc (max (depth v) (max (depth e) (optional_depth c)))
   depth (Super all span) = suc (arguments_depth all)
+  depth (Filter e n all span) = suc (max (depth e) (arguments_depth all))
+  depth (Test e n all span) = suc (max (depth e) (arguments_depth all))
+  depth (Call n all span) = suc (arguments_depth all)
 
   pub optional_depth : Optional → ℕ
   optional_depth Absent = 0
@@ -43,13 +46,18 @@ abbrev mutual
   arguments_depth NoArguments = 0
   arguments_depth (MoreArguments n e rest) = max (depth e) (arguments_depth rest)
 
+abbrev pub filters_depth : Filters → ℕ
+filters_depth NoFilters = 0
+filters_depth (MoreFilters n all span rest) = max (suc (arguments_depth all)) (filters_depth rest)
+
 abbrev mutual
   pub node_depth : Node → ℕ
   node_depth (Content t span) = 1
   node_depth (Print e) = suc (depth e)
   node_depth (If c body other) = suc (max (depth c) (max (nodes_depth body) (nodes_depth other)))
   node_depth (Set n e is_global) = suc (depth e)
-  node_depth (Capture n body is_global) = suc (nodes_depth body)
+  node_depth (Capture n fs body is_global) = suc (max (filters_depth fs) (nodes_depth body))
+  node_depth (FilterSection fs body) = suc (max (filters_depth fs) (nodes_depth body))
   node_depth (For key n e body other) = suc (max (depth e) (max (nodes_depth body) (nodes_depth other)))
   node_depth (Block n body span) = suc (nodes_depth body)
   node_depth Break = 1

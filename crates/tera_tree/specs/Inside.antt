@@ -1,7 +1,7 @@
 -- Trees of which every span is a stretch of the text.
 use Rattle.std.specs.Prelude.{ℕ, ◌≤◌}
 use Rattle.tera_errors.specs.declared.span.Span.{Span}
-use Rattle.tera_tree.specs.Tree.{Expr, Nothing, Boolean, Integer, Text, Name, Attribute, Index, Slice, Not, Negate, Binary, And, Or, Ternary, Array, Map, Comprehension, Super, Optional, Absent, Present, Items, NoItems, MoreItems, Entries, NoEntries, MoreEntries, Arguments, NoArguments, MoreArguments, Node, Content, Print, If, Set, Capture, For, Block, Break, Continue, Nodes, NoNodes, MoreNodes, Tree}
+use Rattle.tera_tree.specs.Tree.{Expr, Nothing, Boolean, Integer, Text, Name, Attribute, Index, Slice, Not, Negate, Binary, And, Or, Ternary, Array, Map, Comprehension, Super, Filter, Test, Call, Optional, Absent, Present, Items, NoItems, MoreItems, Entries, NoEntries, MoreEntries, Arguments, NoArguments, MoreArguments, Filters, NoFilters, MoreFilters, Node, Content, Print, If, Set, Capture, FilterSection, For, Block, Break, Continue, Nodes, NoNodes, MoreNodes, Tree}
 
 -- a stretch of a text of this size
 abbrev pub Within : ℕ → Span → Type 0
@@ -28,6 +28,9 @@ abbrev mutual
   ExprInside size (Map all span) = EntriesInside size all × Within size span
   ExprInside size (Comprehension v key n e c span) = ExprInside size v × ExprInside size e × OptionalInside size c × Within size span
   ExprInside size (Super all span) = ArgumentsInside size all × Within size span
+  ExprInside size (Filter e n all span) = ExprInside size e × ArgumentsInside size all × Within size span
+  ExprInside size (Test e n all span) = ExprInside size e × ArgumentsInside size all × Within size span
+  ExprInside size (Call n all span) = ArgumentsInside size all × Within size span
 
   pub OptionalInside : ℕ → Optional → Type 0
   OptionalInside size Absent = Unit {0}
@@ -45,13 +48,18 @@ abbrev mutual
   ArgumentsInside size NoArguments = Unit {0}
   ArgumentsInside size (MoreArguments n e rest) = ExprInside size e × ArgumentsInside size rest
 
+abbrev pub FiltersInside : ℕ → Filters → Type 0
+FiltersInside size NoFilters = Unit {0}
+FiltersInside size (MoreFilters n all span rest) = ArgumentsInside size all × Within size span × FiltersInside size rest
+
 abbrev mutual
   pub NodeInside : ℕ → Node → Type 0
   NodeInside size (Content t span) = Within size span
   NodeInside size (Print e) = ExprInside size e
   NodeInside size (If c body other) = ExprInside size c × NodesInside size body × NodesInside size other
   NodeInside size (Set n e is_global) = ExprInside size e
-  NodeInside size (Capture n body is_global) = NodesInside size body
+  NodeInside size (Capture n fs body is_global) = FiltersInside size fs × NodesInside size body
+  NodeInside size (FilterSection fs body) = FiltersInside size fs × NodesInside size body
   NodeInside size (For key n e body other) = ExprInside size e × NodesInside size body × NodesInside size other
   NodeInside size (Block n body span) = NodesInside size body × Within size span
   NodeInside size Break = Unit {0}

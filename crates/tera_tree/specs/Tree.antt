@@ -30,6 +30,9 @@ mutual
     Map : (entries : Entries) (span : Span) → Expr
     Comprehension : (value : Expr) (key : Option site.Name) (name : site.Name) (target : Expr) (condition : Optional) (span : Span) → Expr
     Super : (arguments : Arguments) (span : Span) → Expr
+    Filter : (value : Expr) (name : site.Name) (arguments : Arguments) (span : Span) → Expr
+    Test : (value : Expr) (name : site.Name) (arguments : Arguments) (span : Span) → Expr
+    Call : (name : site.Name) (arguments : Arguments) (span : Span) → Expr
 
   pub data Optional : Type 0 where
     Absent : Optional
@@ -49,13 +52,24 @@ mutual
     NoArguments : Arguments
     MoreArguments : (name : site.Name) (value : Expr) (rest : Arguments) → Arguments
 
+-- filters of a text that a body puts out, the first one first
+pub data Filters : Type 0 where
+  NoFilters : Filters
+  MoreFilters : (name : site.Name) (arguments : Arguments) (span : Span) (rest : Filters) → Filters
+
+-- where a fault in the text itself is reported: at the first filter. Where there is none, nothing is refused.
+abbrev pub first_span : Filters → Span
+first_span NoFilters = record { start = 0; end = 0 }
+first_span (MoreFilters name all span rest) = span
+
 mutual
   pub data Node : Type 0 where
     Content : (text : site.Text) (span : Span) → Node
     Print : (value : Expr) → Node
     If : (condition : Expr) (body : Nodes) (other : Nodes) → Node
     Set : (name : site.Name) (value : Expr) (is_global : Bool) → Node
-    Capture : (name : site.Name) (body : Nodes) (is_global : Bool) → Node
+    Capture : (name : site.Name) (filters : Filters) (body : Nodes) (is_global : Bool) → Node
+    FilterSection : (filters : Filters) (body : Nodes) → Node
     For : (key : Option site.Name) (name : site.Name) (target : Expr) (body : Nodes) (other : Nodes) → Node
     Block : (name : site.Name) (body : Nodes) (span : Span) → Node
     Break : Node

@@ -16,11 +16,12 @@ use Rattle.tera_tree.specs.declared.quoted.Quoted.TheVariants as quoted
 use Rattle.tera_tree.specs.declared.expression.Item as item
 use Rattle.tera_tree.specs.declared.expression.Entry as entry
 use Rattle.tera_tree.specs.declared.expression.Argument as argument
+use Rattle.tera_tree.specs.declared.node.SectionFilter.{SectionFilter}
 use Rattle.tera_tree.specs.declared.node.Node.{Row_of-Node, end_of-Node, more_of-Node}
 use Rattle.tera_tree.specs.declared.node.Node as declared
 use Rattle.tera_tree.specs.declared.node.Node.TheVariants as variant
 use Rattle.tera_tree.specs.declared.node.ParserOutput.{ParserOutput}
-use Rattle.tera_tree.specs.Tree.{Key, BoolKey, IntKey, TextKey, Expr, Nothing, Boolean, Integer, Text, Name, Attribute, Index, Slice, Not, Negate, Binary, And, Or, Ternary, Array, Map, Comprehension, Super, Optional, Absent, Present, Items, NoItems, MoreItems, Entries, NoEntries, MoreEntries, Arguments, NoArguments, MoreArguments, Node, Content, Print, If, Set, Capture, For, Block, Break, Continue, Nodes, NoNodes, MoreNodes, Tree}
+use Rattle.tera_tree.specs.Tree.{Key, BoolKey, IntKey, TextKey, Expr, Nothing, Boolean, Integer, Text, Name, Attribute, Index, Slice, Not, Negate, Binary, And, Or, Ternary, Array, Map, Comprehension, Super, Filter, Test, Call, Optional, Absent, Present, Items, NoItems, MoreItems, Entries, NoEntries, MoreEntries, Arguments, NoArguments, MoreArguments, Filters, NoFilters, MoreFilters, Node, Content, Print, If, Set, Capture, FilterSection, For, Block, Break, Continue, Nodes, NoNodes, MoreNodes, Tree}
 
 abbrev pub quoted_of : Quoted → site.Text
 quoted_of (quoted.Lent t) = t.now
@@ -71,6 +72,9 @@ abbrev mutual
   expr_of (expression.Map' m all span) = Map (row_entries all) span
   expr_of (expression.Comprehension' p v q key n e c span) = Comprehension (expr_of v) (option_copied key) n.now (expr_of e) (held_of c) span
   expr_of (expression.Super' m all span) = Super (row_arguments all) span
+  expr_of (expression.Filter' p e t m all span) = Filter (expr_of e) t.now (row_arguments all) span
+  expr_of (expression.Test' p e t m all span) = Test (expr_of e) t.now (row_arguments all) span
+  expr_of (expression.Call' t m all span) = Call t.now (row_arguments all) span
 
   pub held_of : Held-Expression-Comprehension-2 → Optional
   held_of Expression-Comprehension-2-None' = Absent
@@ -112,13 +116,18 @@ abbrev pub arguments_of : List argument.Argument → Arguments
 arguments_of [] = NoArguments
 arguments_of (a ∷ rest) = MoreArguments a.name.now (expr_of a.value) (arguments_of rest)
 
+abbrev pub filters_of : List SectionFilter → Filters
+filters_of [] = NoFilters
+filters_of (f ∷ rest) = MoreFilters f.name.now (arguments_of f.arguments.items) f.span (filters_of rest)
+
 abbrev mutual
   pub node_of : declared.Node → Node
   node_of (variant.Content t span) = Content t.now span
   node_of (variant.Print e) = Print (expr_of e.value)
   node_of (variant.If' c m body n other) = If (expr_of c.value) (row_nodes body) (row_nodes other)
   node_of (variant.Set t e is_global) = Set t.now (expr_of e.value) is_global
-  node_of (variant.Capture' t m body is_global) = Capture t.now (row_nodes body) is_global
+  node_of (variant.Capture' t fs m body is_global) = Capture t.now (filters_of fs.items) (row_nodes body) is_global
+  node_of (variant.FilterSection' fs m body) = FilterSection (filters_of fs.items) (row_nodes body)
   node_of (variant.For' h m body n other) = For (option_copied h.value.key) h.value.name.now (expr_of h.value.target) (row_nodes body) (row_nodes other)
   node_of (variant.Block' t m body span) = Block t.now (row_nodes body) span
   node_of variant.Break = Break

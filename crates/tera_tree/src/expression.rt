@@ -134,6 +134,26 @@ pub enum Expression<'s> {
         arguments: Vec<Argument<'s>>,
         span: Span,
     },
+    /// `value | name(name = value, ..)`
+    Filter {
+        value: Box<Expression<'s>>,
+        name: &'s str,
+        arguments: Vec<Argument<'s>>,
+        span: Span,
+    },
+    /// `value is name(name = value, ..)`
+    Test {
+        value: Box<Expression<'s>>,
+        name: &'s str,
+        arguments: Vec<Argument<'s>>,
+        span: Span,
+    },
+    /// `name(name = value, ..)`: a function, by any other name than `super`.
+    Call {
+        name: &'s str,
+        arguments: Vec<Argument<'s>>,
+        span: Span,
+    },
 }
 
 // By hand, so that a tree that goes out of scope is one call and not a match on every form.
@@ -206,6 +226,23 @@ impl<'s> Drop for Expression<'s> {
                 span: _,
             } => {}
             Expression::Super {
+                arguments: _,
+                span: _,
+            } => {}
+            Expression::Filter {
+                value: _,
+                name: _,
+                arguments: _,
+                span: _,
+            } => {}
+            Expression::Test {
+                value: _,
+                name: _,
+                arguments: _,
+                span: _,
+            } => {}
+            Expression::Call {
+                name: _,
                 arguments: _,
                 span: _,
             } => {}

@@ -11,5 +11,5 @@ pub use delimiters::Delimiters;
 pub use expression::{
     Argument, BinaryOperator, Bounds, Entry, Expression, Heading, Item, LiteralKey, OwnedKey,
 };
-pub use node::{Node, ParserOutput};
+pub use node::{Node, ParserOutput, SectionFilter};
 pub use quoted::Quoted;

@@ -1,10 +1,10 @@
 // Trees from their parts.
 ghost use Rattle.std.specs.Prelude.{◌≡◌};
-ghost use Rattle.tera_tree.specs.Tree.{Attribute, Index, Not, Negate, Binary, And, Or, Ternary, Array, Map, Super, If, Set, Capture, Block};
-ghost use Rattle.tera_tree.specs.View.{expr_of, slice_of, comprehension_of, items_of, entries_of, arguments_of, node_of, nodes_of, for_of};
+ghost use Rattle.tera_tree.specs.Tree.{Attribute, Index, Not, Negate, Binary, And, Or, Ternary, Array, Map, Super, Filter, Test, Call, If, Set, Capture, FilterSection, Block};
+ghost use Rattle.tera_tree.specs.View.{expr_of, slice_of, comprehension_of, items_of, entries_of, arguments_of, filters_of, node_of, nodes_of, for_of};
 
 use crate::expression::{Argument, BinaryOperator, Bounds, Entry, Expression, Heading, Item};
-use crate::node::Node;
+use crate::node::{Node, SectionFilter};
 use tera_errors::Span;
 
 impl<'s> Expression<'s> {
@@ -162,6 +162,53 @@ impl<'s> Expression<'s> {
     {
         Expression::Super { arguments, span }
     }
+
+    /// `value | name(name = value, ..)`
+    pub fn filter(
+        value: Box<Expression<'s>>,
+        name: &'s str,
+        arguments: Vec<Argument<'s>>,
+        span: Span,
+    ) -> Expression<'s>
+        ensures { expr_of result ≡ Filter (expr_of value.entry.value) name.now
+            (arguments_of arguments.entry.items) span }
+    {
+        Expression::Filter {
+            value,
+            name,
+            arguments,
+            span,
+        }
+    }
+
+    /// `value is name(name = value, ..)`
+    pub fn test(
+        value: Box<Expression<'s>>,
+        name: &'s str,
+        arguments: Vec<Argument<'s>>,
+        span: Span,
+    ) -> Expression<'s>
+        ensures { expr_of result ≡ Test (expr_of value.entry.value) name.now
+            (arguments_of arguments.entry.items) span }
+    {
+        Expression::Test {
+            value,
+            name,
+            arguments,
+            span,
+        }
+    }
+
+    /// `name(name = value, ..)`
+    pub fn call(name: &'s str, arguments: Vec<Argument<'s>>, span: Span) -> Expression<'s>
+        ensures { expr_of result ≡ Call name.now (arguments_of arguments.entry.items) span }
+    {
+        Expression::Call {
+            name,
+            arguments,
+            span,
+        }
+    }
 }
 
 impl<'s> Node<'s> {
@@ -193,15 +240,30 @@ impl<'s> Node<'s> {
         }
     }
 
-    /// `{% set name %}body{% endset %}`, or the same with `set_global` where it is global.
-    pub fn capture(name: &'s str, body: Vec<Node<'s>>, is_global: bool) -> Node<'s>
-        ensures { node_of result ≡ Capture name.now (nodes_of body.entry.items) is_global }
+    /// `{% set name | filter %}body{% endset %}`, or the same with `set_global` where it is global.
+    pub fn capture(
+        name: &'s str,
+        filters: Vec<SectionFilter<'s>>,
+        body: Vec<Node<'s>>,
+        is_global: bool,
+    ) -> Node<'s>
+        ensures { node_of result ≡ Capture name.now (filters_of filters.entry.items)
+            (nodes_of body.entry.items) is_global }
     {
         Node::Capture {
             name,
+            filters,
             body,
             is_global,
         }
+    }
+
+    /// `{% filter filters %}body{% endfilter %}`
+    pub fn filter_section(filters: Vec<SectionFilter<'s>>, body: Vec<Node<'s>>) -> Node<'s>
+        ensures { node_of result ≡ FilterSection (filters_of filters.entry.items)
+            (nodes_of body.entry.items) }
+    {
+        Node::FilterSection { filters, body }
     }
 
     /// `{% block name %}body{% endblock %}`

@@ -1,5 +1,5 @@
 // Nodes of a template. They borrow names and texts from its source.
-use crate::expression::{Expression, Heading};
+use crate::expression::{Argument, Expression, Heading};
 use crate::quoted::Quoted;
 use tera_errors::Span;
 
@@ -26,11 +26,17 @@ pub enum Node<'s> {
         value: Box<Expression<'s>>,
         is_global: bool,
     },
-    /// `{% set name %}body{% endset %}`, or the same with `set_global` where it is global.
+    /// `{% set name | filter %}body{% endset %}`, or the same with `set_global` where it is global. There may be no filter.
     Capture {
         name: &'s str,
+        filters: Vec<SectionFilter<'s>>,
         body: Vec<Node<'s>>,
         is_global: bool,
+    },
+    /// `{% filter filters %}body{% endfilter %}`
+    FilterSection {
+        filters: Vec<SectionFilter<'s>>,
+        body: Vec<Node<'s>>,
     },
     /// `{% for name in target %}body{% else %}other{% endfor %}`
     For {
@@ -68,8 +74,13 @@ impl<'s> Drop for Node<'s> {
             } => {}
             Node::Capture {
                 name: _,
+                filters: _,
                 body: _,
                 is_global: _,
+            } => {}
+            Node::FilterSection {
+                filters: _,
+                body: _,
             } => {}
             Node::For {
                 heading: _,
@@ -85,6 +96,14 @@ impl<'s> Drop for Node<'s> {
             Node::Continue => {}
         }
     }
+}
+
+/// A filter of what a body puts out. Its span begins with its name.
+#[derive(Drop)]
+pub struct SectionFilter<'s> {
+    pub name: &'s str,
+    pub arguments: Vec<Argument<'s>>,
+    pub span: Span,
 }
 
 /// What the reader makes of a text, from which it borrows.

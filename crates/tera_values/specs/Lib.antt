@@ -13,6 +13,7 @@ pub use Rattle.tera_values_data.specs.Items
 pub use Rattle.tera_values_data.specs.Paths
 pub use Rattle.tera_values_data.specs.Slices
 pub use Rattle.tera_values_data.specs.Order
+pub use Rattle.tera_values_data.specs.Laws
 pub use Rattle.tera_values_data.specs.Finite
 pub use Rattle.tera_values_data.specs.Growth
 pub use Rattle.tera_values_data.specs.Printed

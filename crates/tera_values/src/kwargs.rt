@@ -1,5 +1,5 @@
 // Arguments by name.
-ghost use Rattle.std.specs.Prelude.{◌≡◌, [], IfErr, IfSome, IsErr, OnOk, OnErr, option_map};
+ghost use Rattle.std.specs.Prelude.{◌≡◌, [], IfErr, IfSome, IsErr, OnOk, OnErr, option_copied, option_map};
 ghost use Rattle.tera_errors.specs.Answer.{Gives, Lacks, MemorySuffices};
 ghost use Rattle.tera_values.specs.Named.{at_name, put};
 ghost use Rattle.tera_values.specs.Arguments.{read, read_needed};
@@ -46,6 +46,13 @@ impl Kwargs {
         ensures lacks { IfErr result Lacks }
     {
         self.values.insert(name, value)
+    }
+
+    /// The argument as it lies. Takes no memory.
+    pub fn value(&self, name: &str) -> Option<&Value>
+        ensures { option_copied result ≡ at_name name.now self.now }
+    {
+        self.values.get(name)
     }
 
     /// The argument, or none where it is absent; `InvalidArgument` where it is of a wrong type. Only what is read takes memory.

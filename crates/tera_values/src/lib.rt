@@ -17,4 +17,4 @@ pub use kwargs::Kwargs;
 pub use name::{Name, Sought};
 pub use string_input::StringInput;
 pub use tera_errors::{Error, ErrorKind, ReportError, Span, TeraResult};
-pub use tera_values_data::{Key, Map, Shape, Value, ValueKind, escape_html};
+pub use tera_values_data::{Key, Map, Shape, Value, ValueKind, escape_html, escape_xml};

@@ -1,11 +1,13 @@
 -- Runs of bytes that stand for themselves, and the bytes between them.
-use Rattle.std.proofs.Common.{◌≡◌, ℕ, zero, suc, ◌+◌, ◌-◌, ◌<◌, ◌≤◌, Bool, true, false, ◌||◌, cond, refl, List, [], ◌∷◌, ◌++◌, length, take, drop, get_or, sym, ap, ◌∙◌, arith, append_assoc, IsUtf8, length-append}
+use Rattle.std.proofs.Common.{◌≡◌, ℕ, zero, suc, ◌+◌, ◌-◌, ◌<◌, ◌≤◌, Bool, true, false, ◌||◌, cond, refl, List, [], ◌∷◌, ◌++◌, length, take, drop, get_or, sym, ap, ◌∙◌, arith, append_assoc, IsUtf8, length-append, nat_eq, subst, codes}
 use Rattle.std.proofs.lemmas.Str.{IsCharBoundary-from_take}
 use Rattle.std.proofs.Math.Seq.{take-append_seam}
 use Rattle.std.specs.String.Boundary.{IsSplitPoint}
 use Rattle.std.proofs.lemmas.List.{append-nil, take_more, drop_more, get_or-drop, length-drop, take_all, drop_all}
 use mathlib.Core.Bool.{true≢false}
+use Rattle.std.proofs.lemmas.Bool.{eqb-true}
 use Rattle.tera_values_data.specs.Growth.{Keeps, IsPlain, by_byte}
+use Rattle.tera_values_data.specs.Escape.{escape_byte, escape_xml_byte}
 
 pub keeps_all : (t : List ℕ) → Keeps t t
 keeps_all t = record { more = []; is = sym (append-nil t) }
@@ -82,3 +84,10 @@ last_form false true c d e p q r s t u h = absurd (true≢false h)
 last_form false false true d e p q r s t u h = absurd (true≢false h)
 last_form false false false true e p q r s t u h = absurd (true≢false h)
 last_form false false false false true p q r s t u h = absurd (true≢false h)
+
+-- what HTML leaves as it is, XML does too
+pub plain_in_xml : (b : ℕ) → escape_byte b ≡ b ∷ [] → escape_xml_byte b ≡ b ∷ []
+plain_in_xml b h = go (nat_eq b 39) refl where
+  go : (same : Bool) → nat_eq b 39 ≡ same → escape_xml_byte b ≡ b ∷ []
+  go false e = ap (λ (x : Bool). cond x (codes "&apos;") (escape_byte b)) e ∙ h
+  go true e = let same : b ≡ 39 = eqb-true b 39 e in let other : escape_byte 39 ≡ 39 ∷ [] = subst (λ (x : ℕ). escape_byte x ≡ x ∷ []) same h in cc

@@ -1,4 +1,4 @@
--- The escape of markup.
+-- The escapes of markup.
 use Rattle.std.specs.Prelude.{ℕ, List, [], ◌∷◌, cond, nat_eq, codes}
 use Rattle.tera_values_data.specs.Growth.{by_byte}
 
@@ -13,3 +13,10 @@ escape_byte b =
 
 abbrev pub escape_html : List ℕ → List ℕ
 escape_html = by_byte escape_byte
+
+-- what stands for one byte in XML, where the apostrophe has a name
+abbrev pub escape_xml_byte : ℕ → List ℕ
+escape_xml_byte b = cond (nat_eq b 39) (codes "&apos;") (escape_byte b)
+
+abbrev pub escape_xml : List ℕ → List ℕ
+escape_xml = by_byte escape_xml_byte

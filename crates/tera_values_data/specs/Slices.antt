@@ -57,10 +57,13 @@ abbrev pub slice : Option ℤ → Option ℤ → Option ℤ → Val → Result V
 slice = slice_in plain
 
 -- the last item or character first
+abbrev pub reversed_in : {C : Type 0} → Alphabet C → ValOf C → Result (ValOf C) Fault
+reversed_in a (array vs) = Ok (array (vals (reverse_list (list_of vs))))
+reversed_in a (text t s) = Ok (text (a.spelled made (encode_utf8_all (reverse_list (chars (a.seen t))))) false)
+reversed_in a v = Err message
+
 abbrev pub reversed : Val → Result Val Fault
-reversed (array vs) = Ok (array (vals (reverse_list (list_of vs))))
-reversed (text t s) = Ok (text (encode_utf8_all (reverse_list (chars t))) false)
-reversed v = Err message
+reversed = reversed_in plain
 
 abbrev pub begins : List ℕ → List ℕ → Bool
 begins [] t = true

@@ -1,7 +1,7 @@
 // Texts in which some bytes stand in another form: markup, and quoted texts.
 ghost use Rattle.std.specs.Prelude.{◌≡◌, ◌++◌, ◌∷◌, [], ◌+◌, ◌<◌, ◌≤◌, ℕ, List, length, IsSome, OnOk, OnErr, IfErr, string_bytes, option_map};
 ghost use Rattle.tera_errors.specs.Answer.{Lacks};
-ghost use Rattle.tera_values_data.specs.Escape.{escape_byte, escape_html};
+ghost use Rattle.tera_values_data.specs.Escape.{escape_byte, escape_html, escape_xml_byte, escape_xml};
 ghost use Rattle.tera_values_data.specs.Printed.{quoted, quoted_byte, escaped};
 ghost use Rattle.tera_values_data.specs.Growth.{Keeps, IsPlain, IsNever, by_byte, form_or_byte, is_one_of};
 
@@ -92,6 +92,26 @@ impl Forms for Markup {
     #[inline]
     fn plain_lanes(bytes: &[u8], from: usize) -> usize {
         lanes_before(bytes, from, b'&', b'<', b'>', b'"', b'\'')
+    }
+}
+
+/// Text as it stands in XML.
+struct Xml;
+
+impl Forms for Xml {
+    ghost spelled = { escape_xml_byte };
+
+    #[inline]
+    fn form(byte: u8) -> Option<&'static str> {
+        match byte {
+            b'\'' => Some("&apos;"),
+            _ => Markup::form(byte),
+        }
+    }
+
+    #[inline]
+    fn plain_lanes(bytes: &[u8], from: usize) -> usize {
+        Markup::plain_lanes(bytes, from)
     }
 }
 
@@ -200,20 +220,35 @@ pub(crate) fn append_quoted(text: &str, out: &mut String) -> TeraResult<()>
     append("\"", out)
 }
 
-/// The same as `escape_html`, for a text in which something has a form of its own.
+/// The same as `append_forms`, but where memory is refused, what was there is there alone.
 #[inline(never)]
-fn append_marked(text: &str, out: &mut String) -> TeraResult<()>
-    ensures ok { OnOk result (string_bytes out.new ≡ string_bytes out.old ++ escape_html text.now) }
+fn append_marked<F: Forms>(text: &str, out: &mut String) -> TeraResult<()>
+    ensures ok { OnOk result (string_bytes out.new ≡ string_bytes out.old ++ by_byte F.spelled text.now) }
     ensures err { OnErr result (string_bytes out.new ≡ string_bytes out.old) }
     ensures lacks { IfErr result Lacks }
 {
     let kept = out.len();
-    match append_forms::<Markup>(text, out) {
+    match append_forms::<F>(text, out) {
         Ok(()) => Ok(()),
         Err(error) => {
             out.truncate(kept);
             Err(error)
         }
+    }
+}
+
+/// The same, with no more than a copy for a text in which nothing has a form of its own.
+#[inline]
+fn append_escaped<F: Forms>(text: &str, out: &mut String) -> TeraResult<()>
+    ensures ok { OnOk result (string_bytes out.new ≡ string_bytes out.old ++ by_byte F.spelled text.now) }
+    ensures err { OnErr result (string_bytes out.new ≡ string_bytes out.old) }
+    ensures lacks { IfErr result Lacks }
+{
+    let place = next_form::<F>(text.as_bytes(), 0);
+    if place == text.len() {
+        append(text, out)
+    } else {
+        append_marked::<F>(text, out)
     }
 }
 
@@ -224,10 +259,14 @@ pub fn escape_html(text: &str, out: &mut String) -> TeraResult<()>
     ensures err { OnErr result (string_bytes out.new ≡ string_bytes out.old) }
     ensures lacks { IfErr result Lacks }
 {
-    let place = next_form::<Markup>(text.as_bytes(), 0);
-    if place == text.len() {
-        append(text, out)
-    } else {
-        append_marked(text, out)
-    }
+    append_escaped::<Markup>(text, out)
+}
+
+/// The same for XML, where `'` has another form.
+pub fn escape_xml(text: &str, out: &mut String) -> TeraResult<()>
+    ensures ok { OnOk result (string_bytes out.new ≡ string_bytes out.old ++ escape_xml text.now) }
+    ensures err { OnErr result (string_bytes out.new ≡ string_bytes out.old) }
+    ensures lacks { IfErr result Lacks }
+{
+    append_escaped::<Xml>(text, out)
 }

@@ -17,7 +17,7 @@ pub mod slice;
 pub mod table;
 pub mod value;
 
-pub use escape::escape_html;
+pub use escape::{escape_html, escape_xml};
 pub use key::Key;
 pub use shape::Shape;
 pub use tera_errors::{Error, ErrorKind, ReportError, Span, TeraResult};

@@ -2,7 +2,7 @@ use Rattle.std.proofs.Common.{◌++◌, map, sym, ap, ◌∙◌}
 use Rattle.tera_tree.specs.View.{nodes_of}
 use Rattle.tera_code.specs.Blocks.{block_of, block_listings}
 use Rattle.tera_code.proofs.Written.{on_ok_by}
-use Rattle.tera_code.proofs.Found.{found_more, found_one, blocks_if, blocks_for, blocks_capture, blocks_block}
+use Rattle.tera_code.proofs.Found.{found_more, found_one, blocks_if, blocks_for, blocks_capture, blocks_section, blocks_block}
 use Rattle.tera_code.proofs.blocks.+blocks.Goals as goal
 
 pub add-returns-in_ok-add_all-in-If-clause-ok : goal.add-returns-in_ok-add_all-in-If-clause-ok
@@ -15,7 +15,11 @@ add-returns-in_ok-add_all-in-For-clause-ok t c =
 
 pub add-returns-in-Capture-clause-ok : goal.add-returns-in-Capture-clause-ok
 add-returns-in-Capture-clause-ok t c =
-    on_ok_by _ _ _ _ (ap (λ x. map block_of c.args.found.now.items ++ block_listings c.args.file.now x) (blocks_capture _ c.in-Capture.name c.in-Capture.body c.in-Capture.is_global _ c.in-Capture.is c.as_slice-in-Capture.ensures.value)) c.add_all-in-Capture.ensures.ok
+    on_ok_by _ _ _ _ (ap (λ x. map block_of c.args.found.now.items ++ block_listings c.args.file.now x) (blocks_capture _ c.in-Capture.name c.in-Capture.filters c.in-Capture.body c.in-Capture.is_global _ c.in-Capture.is c.as_slice-in-Capture.ensures.value)) c.add_all-in-Capture.ensures.ok
+
+pub add-returns-in-FilterSection-clause-ok : goal.add-returns-in-FilterSection-clause-ok
+add-returns-in-FilterSection-clause-ok t c =
+    on_ok_by _ _ _ _ (ap (λ x. map block_of c.args.found.now.items ++ block_listings c.args.file.now x) (blocks_section _ c.in-FilterSection.filters c.in-FilterSection.body _ c.in-FilterSection.is c.as_slice-in-FilterSection.ensures.value)) c.add_all-in-FilterSection.ensures.ok
 
 pub add-returns-in_ok-push-in-Block-clause-ok : goal.add-returns-in_ok-push-in-Block-clause-ok
 add-returns-in_ok-push-in-Block-clause-ok t c =

@@ -5,27 +5,27 @@ use Rattle.tera_meaning.specs.Registry.{Registry}
 use Rattle.tera_meaning.specs.Adding.{accepted}
 use Rattle.tera_registry.specs.Kept.{seen}
 use Rattle.tera_registry.proofs.Ancestors.{grounded}
-use Rattle.tera_registry.proofs.Checked.{climbed-says, climbed-faultless, loses-says, keeps-all}
+use Rattle.tera_registry.proofs.Checked.{climbed-says, climbed-faultless, lacks-says, keeps-all}
 use Rattle.tera_registry.proofs.lineage.link.Goals as goal
 
 pub returns-in-Err-clause-answer : goal.returns-in-Err-clause-answer
 returns-in-Err-clause-answer c =
     climbed-says c.in-Err.fault (seen c.args.templates.now c.args.prefixes.now) c.in-Err.ensures.answer
 
-pub any_loses-requires-clause-grounded : goal.any_loses-requires-clause-grounded
-any_loses-requires-clause-grounded c =
+pub any_lacks-requires-clause-grounded : goal.any_lacks-requires-clause-grounded
+any_lacks-requires-clause-grounded c =
     grounded (seen c.args.templates.now c.args.prefixes.now) (climbed-faultless (seen c.args.templates.now c.args.prefixes.now) c.in-Ok.ensures.answer)
 
 told : (e : Refusal) (r : Registry) → Tells e message → accepted r ≡ Err message → Says e (accepted r)
 told None r t is = tt
 told (Some f) r t is = is ∙ ap Err (sym t)
 
-pub returns-then-any_loses-clause-answer : goal.returns-then-any_loses-clause-answer
-returns-then-any_loses-clause-answer c =
+pub returns-then-any_lacks-clause-answer : goal.returns-then-any_lacks-clause-answer
+returns-then-any_lacks-clause-answer c =
     let r = seen c.args.templates.now c.args.prefixes.now in
-    told c.message.result r c.message.ensures (loses-says r c.in-Ok.ensures.answer (sym c.if-any_loses.ensures))
+    told c.message.result r c.message.ensures (lacks-says r c.in-Ok.ensures.answer (sym c.if-any_lacks.ensures))
 
 pub returns-clause-answer : goal.returns-clause-answer
 returns-clause-answer c =
     let r = seen c.args.templates.now c.args.prefixes.now in
-    keeps-all r c.in-Ok.ensures.answer (sym c.if-any_loses.ensures)
+    keeps-all r c.in-Ok.ensures.answer (sym c.if-any_lacks.ensures)

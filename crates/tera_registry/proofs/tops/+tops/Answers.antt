@@ -1,6 +1,6 @@
 use Rattle.std.proofs.Common.{◌++◌, sym, ap}
 use Rattle.tera_code.proofs.Written.{on_ok_by}
-use Rattle.tera_registry.proofs.Uppermost.{tops-more, tops-if, tops-for, tops-capture}
+use Rattle.tera_registry.proofs.Uppermost.{tops-more, tops-if, tops-for, tops-capture, tops-section}
 use Rattle.tera_registry.proofs.tops.+tops.Goals as goal
 
 pub add-returns-in_ok-add_all-in-If-clause-ok : goal.add-returns-in_ok-add_all-in-If-clause-ok
@@ -13,4 +13,8 @@ add-returns-in_ok-add_all-in-For-clause-ok t c =
 
 pub add-returns-in-Capture-clause-ok : goal.add-returns-in-Capture-clause-ok
 add-returns-in-Capture-clause-ok t c =
-    on_ok_by _ _ _ _ (ap (λ x. c.args.found.now.items ++ x) (tops-capture _ c.in-Capture.name c.in-Capture.body c.in-Capture.is_global _ c.in-Capture.is c.as_slice-in-Capture.ensures.value)) c.add_all-in-Capture.ensures.ok
+    on_ok_by _ _ _ _ (ap (λ x. c.args.found.now.items ++ x) (tops-capture _ c.in-Capture.name c.in-Capture.filters c.in-Capture.body c.in-Capture.is_global _ c.in-Capture.is c.as_slice-in-Capture.ensures.value)) c.add_all-in-Capture.ensures.ok
+
+pub add-returns-in-FilterSection-clause-ok : goal.add-returns-in-FilterSection-clause-ok
+add-returns-in-FilterSection-clause-ok t c =
+    on_ok_by _ _ _ _ (ap (λ x. c.args.found.now.items ++ x) (tops-section _ c.in-FilterSection.filters c.in-FilterSection.body _ c.in-FilterSection.is c.as_slice-in-FilterSection.ensures.value)) c.add_all-in-FilterSection.ensures.ok

@@ -1,5 +1,5 @@
 use Rattle.std.proofs.Common.{refl}
-use Rattle.tera_syntax.proofs.Gathered.{capture_gathered, block_gathered, if_gathered, for_gathered}
+use Rattle.tera_syntax.proofs.Gathered.{capture_gathered, section_gathered, block_gathered, if_gathered, for_gathered}
 use Rattle.tera_syntax.proofs.blocks.+names.Goals as goal
 
 pub gather_node-returns-in_ok-gather-in-If-clause-ok : goal.gather_node-returns-in_ok-gather-in-If-clause-ok
@@ -14,7 +14,11 @@ gather_node-returns-in_ok-gather-in-For-clause-ok t c =
 
 pub gather_node-returns-in-Capture-clause-ok : goal.gather_node-returns-in-Capture-clause-ok
 gather_node-returns-in-Capture-clause-ok t c =
-    capture_gathered _ _ _ _ c.in-Capture.name c.in-Capture.body c.in-Capture.is_global _ c.in-Capture.is c.as_slice-in-Capture.ensures.value c.gather-in-Capture.ensures.ok
+    capture_gathered _ _ _ _ c.in-Capture.name c.in-Capture.filters c.in-Capture.body c.in-Capture.is_global _ c.in-Capture.is c.as_slice-in-Capture.ensures.value c.gather-in-Capture.ensures.ok
+
+pub gather_node-returns-in-FilterSection-clause-ok : goal.gather_node-returns-in-FilterSection-clause-ok
+gather_node-returns-in-FilterSection-clause-ok t c =
+    section_gathered _ _ _ _ c.in-FilterSection.filters c.in-FilterSection.body _ c.in-FilterSection.is c.as_slice-in-FilterSection.ensures.value c.gather-in-FilterSection.ensures.ok
 
 pub gather_node-returns-in_ok-push-in-Block-clause-ok : goal.gather_node-returns-in_ok-push-in-Block-clause-ok
 gather_node-returns-in_ok-push-in-Block-clause-ok t c =

@@ -5,7 +5,7 @@ use Rattle.tera_values_data.proofs.Runs.{split_point}
 use Rattle.tera_values_data.proofs.escape.append_marked.Goals as goal
 
 pub truncate-requires : goal.truncate-requires
-truncate-requires c =
+truncate-requires g c =
     let old = c.args.out.now in
     let new = c.append_forms.new.out in
     let kept : c.len-kept.result ≡ length (string_bytes old) = search rules in

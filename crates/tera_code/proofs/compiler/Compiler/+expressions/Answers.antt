@@ -1,9 +1,9 @@
-use Rattle.std.proofs.Common.{◌∙◌, ◌∷◌, ◌++◌, length, ap, ap₂, sym}
+use Rattle.std.proofs.Common.{refl, ◌∙◌, ◌∷◌, ◌++◌, length, ap, ap₂, sym}
 use Rattle.tera_tree.specs.View.{expr_of}
 use Rattle.tera_code.specs.declared.instruction.Instruction.TheVariants as instruction
 use Rattle.tera_code.specs.Code.{expr_code, choice_code, lengthened}
 use Rattle.tera_code.proofs.Filled.{jump_written, choice_written}
-use Rattle.tera_code.proofs.Written.{array_written, map_written, above_written, super_written, on_ok_by, kept, kept_if, comprehended}
+use Rattle.tera_code.proofs.Written.{array_written, map_written, super_written, filter_written, test_written, call_written, on_ok_by, kept, kept_if, comprehended}
 use Rattle.tera_code.proofs.compiler.Compiler.+expressions.Goals as goal
 
 pub collection-returns-in_ok-items-in-Array-clause-ok : goal.collection-returns-in_ok-items-in-Array-clause-ok
@@ -47,10 +47,20 @@ comprehension-returns-in_ok-fill-in-Some-clause-ok t c =
     c.in_ok-place-in-Some.ensures.place c.in_ok-place-in-Some.ensures.ok c.in_ok-expression-in-Some-2.ensures.ok c.deref-in-Some-2.ensures c.in_ok-emit-in-Some.ensures.ok c.behind.ensures c.in_ok-fill-in-Some.ensures.ok)
     c.deref-in-Some-3.ensures) c.end_comprehension-in-Some.ensures.ok
 
-pub expression-returns-in-Super-clause-ok : goal.expression-returns-in-Super-clause-ok
-expression-returns-in-Super-clause-ok t c =
-    super_written _ _ _ c.in-Super.arguments c.in-Super.span _ _ c.in-Super.is c.as_slice.ensures.value c.above.ensures.ok
+pub request-returns-in_ok-arguments-in-Super-clause-ok : goal.request-returns-in_ok-arguments-in-Super-clause-ok
+request-returns-in_ok-arguments-in-Super-clause-ok t c =
+    super_written _ _ _ _ c.in-Super.arguments c.in-Super.span _ _ _ _ c.in-Super.is c.as_slice-arguments.ensures.value c.as_slice-arguments.ensures.value refl c.in_ok-arguments-in-Super.ensures.ok c.emit.ensures.ok
 
-pub above-returns-clause-ok : goal.above-returns-clause-ok
-above-returns-clause-ok t c =
-    above_written _ _ _ c.args.arguments.now _ c.args.span _ c.loop-argument-test.false c.loop-argument.invariant c.emit.ensures.ok
+pub request-returns-in_ok-arguments-in-Filter-clause-ok : goal.request-returns-in_ok-arguments-in-Filter-clause-ok
+request-returns-in_ok-arguments-in-Filter-clause-ok t c =
+    filter_written _ _ _ _ _ _ c.in-Filter.value c.in-Filter.name c.in-Filter.arguments c.in-Filter.span _ _ _ c.in-Filter.is c.in_ok-expression-in-Filter.ensures.ok c.deref.ensures
+    c.as_slice.ensures.value c.as_slice-in-Filter.ensures.value c.in_ok-arguments-in-Filter.ensures.ok c.apply_filter.ensures.ok
+
+pub request-returns-in_ok-arguments-in-Test-clause-ok : goal.request-returns-in_ok-arguments-in-Test-clause-ok
+request-returns-in_ok-arguments-in-Test-clause-ok t c =
+    test_written _ _ _ _ _ _ c.in-Test.value c.in-Test.name c.in-Test.arguments c.in-Test.span _ _ _ c.in-Test.is c.in_ok-expression-in-Test.ensures.ok c.deref-in-Test.ensures
+    c.as_slice-in-Test.ensures.value c.as_slice-in-Test-2.ensures.value c.in_ok-arguments-in-Test.ensures.ok c.apply_test.ensures.ok
+
+pub request-returns-in_ok-arguments-in-Call-clause-ok : goal.request-returns-in_ok-arguments-in-Call-clause-ok
+request-returns-in_ok-arguments-in-Call-clause-ok t c =
+    call_written _ _ _ _ c.in-Call.name c.in-Call.arguments c.in-Call.span _ _ _ c.in-Call.is c.as_slice-in-Call.ensures.value c.as_slice-in-Call-2.ensures.value c.in_ok-arguments-in-Call.ensures.ok c.call_function.ensures.ok

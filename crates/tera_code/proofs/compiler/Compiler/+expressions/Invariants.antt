@@ -11,6 +11,6 @@ abbrev pub invariant-entries-loop-entry : goal.invariant-entries-loop-entry
 invariant-entries-loop-entry l =
     lengthened l.self (entries_code (entries_of (drop l.entry-index l.entries))) ≡ lengthened l.initial.self (entries_code (entries_of l.entries))
 
-abbrev pub invariant-above-loop-argument : goal.invariant-above-loop-argument
-invariant-above-loop-argument l =
+abbrev pub invariant-arguments-loop-argument : goal.invariant-arguments-loop-argument
+invariant-arguments-loop-argument l =
     lengthened l.self (arguments_code (arguments_of (drop l.argument-index l.arguments))) ≡ lengthened l.initial.self (arguments_code (arguments_of l.arguments))

@@ -1,5 +1,5 @@
 use Rattle.tera_code.proofs.Filled.{choice_written, loop_written}
-use Rattle.tera_code.proofs.Written.{on_ok_by, if_written, for_written, capture_written}
+use Rattle.tera_code.proofs.Written.{on_ok_by, if_written, for_written, capture_written, section_written}
 use Rattle.tera_code.proofs.compiler.Compiler.+nodes.Goals as goal
 
 pub choice-returns-clause-ok : goal.choice-returns-clause-ok
@@ -21,6 +21,12 @@ pub node-returns-in-For-clause-ok : goal.node-returns-in-For-clause-ok
 node-returns-in-For-clause-ok t c =
     for_written _ _ _ _ c.in-For.heading c.in-For.body c.in-For.other _ _ _ _ c.in-For.is c.deref-in-For.ensures c.as_slice-in-For.ensures.value c.as_slice-in-For-2.ensures.value c.for_loop.ensures.ok
 
-pub node-returns-in-Capture-clause-ok : goal.node-returns-in-Capture-clause-ok
-node-returns-in-Capture-clause-ok t c =
-    capture_written _ _ _ _ c.in-Capture.name c.in-Capture.body c.in-Capture.is_global _ _ c.in-Capture.is c.as_slice-in-Capture.ensures.value c.capture.ensures.ok
+pub node-returns-in_ok-section-in-Capture-clause-ok : goal.node-returns-in_ok-section-in-Capture-clause-ok
+node-returns-in_ok-section-in-Capture-clause-ok t c =
+    capture_written _ _ _ _ _ c.in-Capture.name c.in-Capture.filters c.in-Capture.body c.in-Capture.is_global _ _ _ c.in-Capture.is c.as_slice-in-Capture.ensures.value c.as_slice-in-Capture-2.ensures.value
+    c.in_ok-section-in-Capture.ensures.ok c.store.ensures.ok
+
+pub node-returns-in_ok-section-in-FilterSection-clause-ok : goal.node-returns-in_ok-section-in-FilterSection-clause-ok
+node-returns-in_ok-section-in-FilterSection-clause-ok t c =
+    section_written _ _ _ _ _ c.in-FilterSection.filters c.in-FilterSection.body _ _ _ c.in-FilterSection.is c.as_slice-in-FilterSection.ensures.value c.as_slice-in-FilterSection-2.ensures.value
+    c.in_ok-section-in-FilterSection.ensures.ok c.emit.ensures.ok

@@ -16,8 +16,8 @@ decreases-node l = 3 * goal.size-node l
 abbrev pub decreases-nodes : goal.decreases-nodes
 decreases-nodes l = 3 * goal.size-nodes l + 1
 
-abbrev pub decreases-capture : goal.decreases-capture
-decreases-capture l = 3 * goal.size-capture l + 2
+abbrev pub decreases-section : goal.decreases-section
+decreases-section l = 3 * goal.size-section l + 2
 
 abbrev pub decreases-choice : goal.decreases-choice
 decreases-choice l = 3 * max (most size-Node l.body.now) (most size-Node l.other.now) + 2

@@ -1,0 +1,166 @@
+// What a built-in is given, as it is read.
+ghost use Rattle.std.specs.Prelude.{◌≡◌, ◌^◌, option_map, false};
+ghost use Rattle.tera_errors.specs.Answer.{Gives};
+ghost use Rattle.tera_built_ins.specs.Arguments as spec;
+ghost use Rattle.tera_built_ins.specs.Reading.{given_of};
+
+use tera_values::{Error, Kwargs, Map, Shape, TeraResult, Value};
+
+/// A text, and whether it is marked safe.
+#[derive(Clone, Copy)]
+pub(crate) struct Given<'a> {
+    pub(crate) text: &'a str,
+    pub(crate) is_safe: bool,
+}
+
+/// A text, and no other kind. Takes no memory.
+pub(crate) fn as_text(value: &Value) -> TeraResult<Given<'_>>
+    ensures { Gives given_of result (spec.as_text value.now) }
+{
+    match value.shape() {
+        Shape::Text(text, is_safe) => Ok(Given { text, is_safe }),
+        _ => Err(Error::invalid_argument()),
+    }
+}
+
+/// The items of an array, and no other kind. Takes no memory.
+pub(crate) fn as_array(value: &Value) -> TeraResult<&[Value]>
+    ensures { Gives (λ s. s.now) result (spec.as_array value.now) }
+{
+    match value.shape() {
+        Shape::Array(items) => Ok(items),
+        _ => Err(Error::invalid_argument()),
+    }
+}
+
+/// A map, and no other kind. Takes no memory.
+pub(crate) fn as_map(value: &Value) -> TeraResult<&Map>
+    ensures { Gives (λ m. m.now) result (spec.as_map value.now) }
+{
+    match value.shape() {
+        Shape::Map(all) => Ok(all),
+        _ => Err(Error::invalid_argument()),
+    }
+}
+
+/// An integer, and no other kind. Takes no memory.
+pub(crate) fn as_integer(value: &Value) -> TeraResult<i128>
+    ensures { Gives (λ z. z) result (spec.as_integer value.now) }
+{
+    match value.shape() {
+        Shape::Int(number) => Ok(number),
+        _ => Err(Error::invalid_argument()),
+    }
+}
+
+/// A truth value, and no other kind. Takes no memory.
+pub(crate) fn as_bool(value: &Value) -> TeraResult<bool>
+    ensures { Gives (λ b. b) result (spec.as_bool value.now) }
+{
+    match value.shape() {
+        Shape::Bool(flag) => Ok(flag),
+        _ => Err(Error::invalid_argument()),
+    }
+}
+
+/// An integer that is a size. Takes no memory.
+pub(crate) fn as_size(value: &Value) -> TeraResult<usize>
+    ensures { Gives (λ n. n) result (spec.as_natural (2 ^ 64) value.now) }
+{
+    let number = match as_integer(value) {
+        Ok(number) => number,
+        Err(error) => return Err(error),
+    };
+    if number < 0 || number > usize::MAX as i128 {
+        return Err(Error::invalid_argument());
+    }
+    Ok(number as usize)
+}
+
+/// A text that may be left out.
+pub(crate) fn optional_text<'a>(arguments: &'a Kwargs, name: &str) -> TeraResult<Option<Given<'a>>>
+    ensures { Gives (λ o. option_map given_of o) result
+        (spec.optional spec.as_text name.now arguments.now) }
+{
+    match arguments.value(name) {
+        None => Ok(None),
+        Some(value) => match as_text(value) {
+            Ok(given) => Ok(Some(given)),
+            Err(error) => Err(error),
+        },
+    }
+}
+
+/// A text that must be there.
+pub(crate) fn needed_text<'a>(arguments: &'a Kwargs, name: &str) -> TeraResult<Given<'a>>
+    ensures { Gives given_of result (spec.needed spec.as_text name.now arguments.now) }
+{
+    match arguments.value(name) {
+        None => Err(Error::missing_argument()),
+        Some(value) => as_text(value),
+    }
+}
+
+/// A value of any kind that must be there.
+pub(crate) fn needed_value<'a>(arguments: &'a Kwargs, name: &str) -> TeraResult<&'a Value>
+    ensures { Gives (λ v. v.now) result (spec.needed spec.as_any name.now arguments.now) }
+{
+    match arguments.value(name) {
+        None => Err(Error::missing_argument()),
+        Some(value) => Ok(value),
+    }
+}
+
+/// An integer that must be there.
+pub(crate) fn needed_integer(arguments: &Kwargs, name: &str) -> TeraResult<i128>
+    ensures { Gives (λ z. z) result (spec.needed spec.as_integer name.now arguments.now) }
+{
+    match arguments.value(name) {
+        None => Err(Error::missing_argument()),
+        Some(value) => as_integer(value),
+    }
+}
+
+/// An integer, or the default where it is left out.
+pub(crate) fn integer_or(arguments: &Kwargs, name: &str, default: i128) -> TeraResult<i128>
+    ensures { Gives (λ z. z) result
+        (spec.or_default default spec.as_integer name.now arguments.now) }
+{
+    match arguments.value(name) {
+        None => Ok(default),
+        Some(value) => as_integer(value),
+    }
+}
+
+/// A size that must be there.
+pub(crate) fn needed_size(arguments: &Kwargs, name: &str) -> TeraResult<usize>
+    ensures { Gives (λ n. n) result
+        (spec.needed (spec.as_natural (2 ^ 64)) name.now arguments.now) }
+{
+    match arguments.value(name) {
+        None => Err(Error::missing_argument()),
+        Some(value) => as_size(value),
+    }
+}
+
+/// A size, or the default where it is left out.
+pub(crate) fn size_or(arguments: &Kwargs, name: &str, default: usize) -> TeraResult<usize>
+    ensures { Gives (λ n. n) result
+        (spec.or_default default (spec.as_natural (2 ^ 64)) name.now arguments.now) }
+{
+    match arguments.value(name) {
+        None => Ok(default),
+        Some(value) => as_size(value),
+    }
+}
+
+/// A truth value, or false where it is left out.
+pub(crate) fn flag(arguments: &Kwargs, name: &str) -> TeraResult<bool>
+    ensures { Gives (λ b. b) result
+        (spec.or_default false spec.as_bool name.now arguments.now) }
+{
+    match arguments.value(name) {
+        None => Ok(false),
+        Some(value) => as_bool(value),
+    }
+}

@@ -1,0 +1,41 @@
+// The functions by their names.
+ghost use Rattle.std.specs.Prelude.{◌≡◌};
+ghost use Rattle.tera_errors.specs.Answer.{Gives};
+ghost use Rattle.tera_values.specs.Alphabet.{plain};
+ghost use Rattle.tera_built_ins.specs.FunctionTable.{function_named, function_of};
+
+use crate::functions;
+use std::alloc::Global;
+use tera_values::{Kwargs, TeraResult, Value};
+
+/// A function that every engine has.
+#[derive(Clone, Copy)]
+pub enum BuiltInFunction {
+    Range,
+    Throw,
+}
+
+impl BuiltInFunction {
+    /// The one with this name, if there is one.
+    pub fn named(name: &str) -> Option<BuiltInFunction>
+        ensures { result ≡ function_named name.now }
+    {
+        if name == "range" {
+            Some(BuiltInFunction::Range)
+        } else if name == "throw" {
+            Some(BuiltInFunction::Throw)
+        } else {
+            None
+        }
+    }
+
+    /// What it makes of the arguments.
+    pub fn call(self, alloc: Global, arguments: &Kwargs) -> TeraResult<Value>
+        ensures { Gives (λ v. v) result (function_of plain self arguments.now) }
+    {
+        match self {
+            BuiltInFunction::Range => functions::range(alloc, arguments),
+            BuiltInFunction::Throw => functions::throw(alloc, arguments),
+        }
+    }
+}

@@ -1,0 +1,128 @@
+// Lines moved to the right.
+ghost use Rattle.std.specs.Prelude.{◌≡◌, nat_eq, length, Ok, OnOk, IfErr, cond, codes, ◌++◌, string_bytes, option_map};
+ghost use Rattle.std.specs.List.{repeat};
+ghost use Rattle.std.specs.Str.{chars};
+ghost use Rattle.tera_errors.specs.Answer.{Gives, Lacks};
+ghost use Rattle.tera_values.specs.Alphabet.{plain};
+ghost use Rattle.tera_built_ins.specs.Escaping.{escaping_of};
+ghost use Rattle.tera_built_ins.specs.Reading.{given_of};
+ghost use Rattle.tera_built_ins.specs.Indent as spec;
+
+use crate::arguments::{Given, as_text, flag, optional_text, size_or};
+use crate::escaping::Escaping;
+use crate::parts::{given_safe, made, part};
+use std::alloc::Global;
+use tera_values::{Error, Kwargs, TeraResult, Value};
+
+fn append_first(line: &str, padding: &str, first: bool, out: &mut String) -> TeraResult<()>
+    ensures ok { OnOk result (string_bytes out.new ≡
+        string_bytes out.old ++ cond first (padding.now ++ line.now) line.now) }
+    ensures lacks { IfErr result Lacks }
+{
+    if first {
+        out.push_str(padding)?;
+    }
+    out.push_str(line)?;
+    Ok(())
+}
+
+fn append_later(line: &str, padding: &str, blank: bool, out: &mut String) -> TeraResult<()>
+    ensures ok { OnOk result (string_bytes out.new ≡
+        string_bytes out.old ++ (codes "\n" ++ spec.later_line padding.now blank line.now)) }
+    ensures lacks { IfErr result Lacks }
+{
+    out.push_str("\n")?;
+    if blank || !line.is_empty() {
+        out.push_str(padding)?;
+    }
+    out.push_str(line)?;
+    Ok(())
+}
+
+fn indented(
+    alloc: Global,
+    text: &str,
+    padding: &str,
+    first: bool,
+    blank: bool,
+) -> TeraResult<String>
+    ensures { Gives string_bytes result
+        (Ok (spec.indented plain.code (codes "\n") padding.now first blank text.now)) }
+{
+    let mut out = String::new(alloc);
+    let mut begun = false;
+    for line in text.lines() {
+        if begun {
+            append_later(line, padding, blank, &mut out)?;
+        } else {
+            append_first(line, padding, first, &mut out)?;
+            begun = true;
+        }
+    }
+    if text.ends_with('\n') {
+        out.push_str("\n")?;
+    }
+    Ok(out)
+}
+
+fn is_one(text: &str) -> bool
+    ensures { result ≡ nat_eq (length (chars text.now)) 1 }
+{
+    text.chars().count() == 1
+}
+
+fn is_character(indentation: Option<Given<'_>>) -> bool
+    ensures { result ≡ spec.is_character plain (option_map given_of indentation.entry) }
+{
+    match indentation {
+        None => true,
+        Some(given) => is_one(given.text),
+    }
+}
+
+/// What goes before a line.
+fn padding(
+    alloc: Global,
+    escaping: Escaping,
+    is_safe: bool,
+    indentation: Option<Given<'_>>,
+    width: usize,
+) -> TeraResult<String>
+    ensures { Gives string_bytes result
+        (Ok (repeat width (spec.unit plain (escaping_of escaping) is_safe
+        (option_map given_of indentation.entry)))) }
+{
+    match indentation {
+        None => Ok(" ".repeat(alloc, width)?),
+        Some(given) => {
+            let unit = part(alloc, escaping, is_safe, given)?;
+            Ok(unit.as_str().repeat(alloc, width)?)
+        }
+    }
+}
+
+/// The text with a character, so and so often, before its lines: before the first one where `first` asks for it, before a
+/// later one that is empty where `blank` does. Lines end with a line feed, whatever they ended with before.
+pub fn indent(
+    alloc: Global,
+    value: &Value,
+    arguments: &Kwargs,
+    escaping: Escaping,
+) -> TeraResult<Value>
+    ensures { Gives (λ v. v) result
+        (spec.indent_of plain (escaping_of escaping) value.now arguments.now) }
+{
+    let given = as_text(value)?;
+    let width = size_or(arguments, "width", 4)?;
+    let indentation = optional_text(arguments, "indentation")?;
+    let first = flag(arguments, "first")?;
+    let blank = flag(arguments, "blank")?;
+    if !is_character(indentation) {
+        return Err(Error::message(alloc, "not one character"));
+    }
+    let is_safe = escaping.autoescape && (given.is_safe || given_safe(indentation));
+    let padding = padding(alloc, escaping, is_safe, indentation, width.min(1000))?;
+    let text = part(alloc, escaping, is_safe, given)?;
+    let answer = indented(alloc, text.as_str(), padding.as_str(), first, blank)?;
+    made(alloc, answer.as_str(), is_safe)
+}

@@ -1,0 +1,104 @@
+// Items in a row, as one text.
+ghost use Rattle.std.specs.Prelude.{◌≡◌, ◌++◌, OnOk, IfErr, Ok, string_bytes, option_map};
+ghost use Rattle.std.specs.List.{list_any, join_by};
+ghost use Rattle.std.specs.Cow.{cow_str_bytes};
+ghost use Rattle.tera_errors.specs.Answer.{Gives, Lacks};
+ghost use Rattle.tera_values.specs.Alphabet.{plain};
+ghost use Rattle.tera_built_ins.specs.Escaping.{escaping_of};
+ghost use Rattle.tera_built_ins.specs.Reading.{given_of};
+ghost use Rattle.tera_built_ins.specs.Join.{is_safe_text, item_part, separator_part, join_of};
+
+use crate::arguments::{Given, as_array, optional_text};
+use crate::escaping::Escaping;
+use crate::parts::{given_safe, made, part};
+use std::alloc::Global;
+use std::borrow::CowStr;
+use tera_values::{Kwargs, Shape, TeraResult, Value};
+
+/// The items of an array as they are printed, with `sep` between them. Where autoescape is on and one of these texts
+/// is safe, the others are escaped, and the answer is safe.
+pub fn join(
+    alloc: Global,
+    value: &Value,
+    arguments: &Kwargs,
+    escaping: Escaping,
+) -> TeraResult<Value>
+    ensures { Gives (λ v. v) result
+        (join_of plain (escaping_of escaping) value.now arguments.now) }
+{
+    let items = as_array(value)?;
+    let separator = optional_text(arguments, "sep")?;
+    let is_safe = escaping.autoescape && (has_safe_text(items) || given_safe(separator));
+    let between = separator_part(alloc, escaping, is_safe, separator)?;
+    let row = row(alloc, escaping, is_safe, items, between.as_str())?;
+    made(alloc, row.as_str(), is_safe)
+}
+
+fn has_safe_text(items: &[Value]) -> bool
+    ensures { result ≡ list_any is_safe_text items.now }
+{
+    for item in items {
+        if is_safe_text(item) {
+            return true;
+        }
+    }
+    false
+}
+
+fn is_safe_text(item: &Value) -> bool
+    ensures { result ≡ is_safe_text item.now }
+{
+    match item.shape() {
+        Shape::Text(_, is_safe) => is_safe,
+        _ => false,
+    }
+}
+
+fn separator_part<'a>(
+    alloc: Global,
+    escaping: Escaping,
+    is_safe: bool,
+    separator: Option<Given<'a>>,
+) -> TeraResult<CowStr<'a>>
+    ensures { Gives cow_str_bytes result (Ok (separator_part plain (escaping_of escaping)
+        is_safe (option_map given_of separator.entry))) }
+{
+    match separator {
+        Some(given) => part(alloc, escaping, is_safe, given),
+        None => Ok(CowStr::Borrowed("")),
+    }
+}
+
+fn row(
+    alloc: Global,
+    escaping: Escaping,
+    is_safe: bool,
+    items: &[Value],
+    between: &str,
+) -> TeraResult<String>
+    ensures { Gives string_bytes result (Ok (join_by
+        (item_part plain (escaping_of escaping) is_safe) between.now items.now)) }
+{
+    let mut out = String::new(alloc);
+    if let [first, rest @ ..] = items {
+        append_item(escaping, is_safe, first, &mut out)?;
+        for item in rest {
+            out.push_str(between)?;
+            append_item(escaping, is_safe, item, &mut out)?;
+        }
+    }
+    Ok(out)
+}
+
+fn append_item(escaping: Escaping, is_safe: bool, item: &Value, out: &mut String) -> TeraResult<()>
+    ensures ok { OnOk result (string_bytes out.new ≡ string_bytes out.old
+        ++ item_part plain (escaping_of escaping) is_safe item.now) }
+    ensures lacks { IfErr result Lacks }
+{
+    if is_safe && !item.is_undefined() && !item.is_safe() {
+        let printed = item.printed(*out.allocator())?;
+        escaping.escape(printed.as_str(), out)
+    } else {
+        item.print_to(out)
+    }
+}

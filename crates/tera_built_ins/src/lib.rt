@@ -1,0 +1,33 @@
+//! The filters, tests and functions that every engine has.
+#![tactic(auto)]
+
+mod arguments;
+pub mod defaults;
+pub mod escaping;
+pub mod filter;
+pub mod function;
+pub mod functions;
+pub mod groups;
+pub mod indent;
+pub mod items;
+pub mod join;
+pub mod maps;
+pub mod markup;
+pub mod numbers;
+pub mod parse;
+mod parts;
+pub mod replace;
+pub mod safety;
+pub mod sizes;
+pub mod sorting;
+pub mod split;
+pub mod test;
+pub mod tests;
+pub mod trims;
+pub mod truncate;
+pub mod words;
+
+pub use escaping::Escaping;
+pub use filter::BuiltInFilter;
+pub use function::BuiltInFunction;
+pub use test::BuiltInTest;

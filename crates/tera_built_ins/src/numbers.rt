@@ -1,0 +1,44 @@
+// Filters of integers.
+ghost use Rattle.tera_errors.specs.Answer.{Gives};
+ghost use Rattle.tera_values.specs.Alphabet.{plain};
+ghost use Rattle.tera_built_ins.specs.Numbers.{abs_of, pluralize_of, as_bytes};
+ghost use Rattle.tera_built_ins.specs.Arguments.{or_default};
+
+use crate::arguments::optional_text;
+use std::alloc::Global;
+use tera_values::{Error, Kwargs, TeraResult, Value};
+
+/// The number without its sign; a refusal where there is no number, or where no `i128` holds that.
+pub fn abs(alloc: Global, value: &Value) -> TeraResult<Value>
+    ensures { Gives (λ v. v) result (abs_of value.now) }
+{
+    match value.as_i128() {
+        Some(i128::MIN) => Err(Error::message(alloc, "the least integer has no absolute value")),
+        Some(number) => Ok(Value::from_int(number.abs())),
+        None => Err(Error::message(alloc, "only an integer has an absolute value")),
+    }
+}
+
+/// `singular` for 1 and -1, and `plural` for all other numbers.
+pub fn pluralize(alloc: Global, value: &Value, arguments: &Kwargs) -> TeraResult<Value>
+    ensures { Gives (λ v. v) result (pluralize_of plain value.now arguments.now) }
+{
+    let singular = text_or(arguments, "singular", "")?;
+    let plural = text_or(arguments, "plural", "s")?;
+    match value.as_i128() {
+        Some(1 | -1) => Value::string(alloc, singular),
+        Some(_) => Value::string(alloc, plural),
+        None => Err(Error::message(alloc, "only an integer counts anything")),
+    }
+}
+
+/// A text, or the default where it is left out.
+fn text_or<'a>(arguments: &'a Kwargs, name: &str, default: &'a str) -> TeraResult<&'a str>
+    ensures { Gives (λ s. s.now) result
+        (or_default default.now (as_bytes plain) name.now arguments.now) }
+{
+    match optional_text(arguments, name)? {
+        Some(given) => Ok(given.text),
+        None => Ok(default),
+    }
+}

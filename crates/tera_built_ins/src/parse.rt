@@ -1,0 +1,72 @@
+// Texts read as integers.
+ghost use Rattle.std.specs.Prelude.{◌≡◌, ◌≤◌, ◌^◌, codes};
+ghost use Rattle.tera_errors.specs.Answer.{Gives};
+ghost use Rattle.tera_values.specs.Alphabet.{plain};
+ghost use Rattle.tera_built_ins.specs.Arguments.{as_natural, or_default};
+ghost use Rattle.tera_built_ins.specs.Pieces.{trimmed_start};
+ghost use Rattle.tera_built_ins.specs.Parse as spec;
+
+use crate::arguments::as_integer;
+use std::alloc::Global;
+use tera_values::{Error, Kwargs, Shape, TeraResult, Value};
+
+/// The integer itself, or the one that a text writes in `base`.
+pub fn int(alloc: Global, value: &Value, arguments: &Kwargs) -> TeraResult<Value>
+    ensures { Gives (λ v. v) result (spec.int_of plain value.now arguments.now) }
+{
+    let base = base_of(arguments)?;
+    if base < 2 || base > 36 {
+        return Err(Error::message(alloc, "a base is a number from 2 to 36"));
+    }
+    match value.shape() {
+        Shape::Int(number) => Ok(Value::from_int(number)),
+        Shape::Text(text, _) => read(alloc, base, text),
+        _ => Err(Error::message(alloc, "only a text is read as an integer")),
+    }
+}
+
+/// The base that is given, or ten.
+fn base_of(arguments: &Kwargs) -> TeraResult<u32>
+    ensures { Gives (λ n. n) result
+        (or_default 10 (as_natural (2 ^ 32)) (codes "base") arguments.now) }
+{
+    match arguments.value("base") {
+        None => Ok(10),
+        Some(value) => as_u32(value),
+    }
+}
+
+fn as_u32(value: &Value) -> TeraResult<u32>
+    ensures { Gives (λ n. n) result (as_natural (2 ^ 32) value.now) }
+{
+    let number = as_integer(value)?;
+    if number < 0 || number > u32::MAX as i128 {
+        return Err(Error::invalid_argument());
+    }
+    Ok(number as u32)
+}
+
+fn read(alloc: Global, base: u32, text: &str) -> TeraResult<Value>
+    requires lower { 2 ≤ base }
+    requires upper { base ≤ 36 }
+    ensures { Gives (λ v. v) result
+        (spec.signed_numeral base (spec.numeral_in base text.now)) }
+{
+    let numeral = without_prefix(text.trim(), base);
+    match i128::from_str_radix(numeral, base) {
+        Ok(number) => Ok(Value::from_int(number)),
+        Err(_) => Err(Error::message(alloc, "the text is no integer in this base")),
+    }
+}
+
+/// The text without what tells the base in front of a numeral, however often that stands there.
+fn without_prefix<'a>(text: &'a str, base: u32) -> &'a str
+    ensures { result.now ≡ trimmed_start plain.code (spec.prefix base) text.now }
+{
+    match base {
+        2 => text.trim_start_matches("0b"),
+        8 => text.trim_start_matches("0o"),
+        16 => text.trim_start_matches("0x"),
+        _ => text,
+    }
+}

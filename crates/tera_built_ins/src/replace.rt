@@ -1,0 +1,40 @@
+// One text in the place of another.
+ghost use Rattle.std.specs.Prelude.{Ok, string_bytes};
+ghost use Rattle.tera_errors.specs.Answer.{Gives};
+ghost use Rattle.tera_values.specs.Alphabet.{plain};
+ghost use Rattle.tera_built_ins.specs.Escaping.{escaping_of};
+ghost use Rattle.tera_built_ins.specs.Replace.{replaced, replace_of};
+
+use crate::arguments::{as_text, needed_text};
+use crate::escaping::Escaping;
+use crate::parts::{made, part};
+use std::alloc::Global;
+use tera_values::{Kwargs, TeraResult, Value};
+
+/// The text with another one at all places of a pattern.
+pub(crate) fn put(alloc: Global, text: &str, from: &str, to: &str) -> TeraResult<String>
+    ensures { Gives string_bytes result (Ok (replaced plain.code from.now to.now text.now)) }
+{
+    Ok(text.replace(alloc, from, to)?)
+}
+
+/// The text with another one at all places of a pattern, from the left. The empty pattern stands before each character and
+/// at the end. In a safe answer all but the pattern is escaped, unless it is safe itself.
+pub fn replace(
+    alloc: Global,
+    value: &Value,
+    arguments: &Kwargs,
+    escaping: Escaping,
+) -> TeraResult<Value>
+    ensures { Gives (λ v. v) result
+        (replace_of plain (escaping_of escaping) value.now arguments.now) }
+{
+    let given = as_text(value)?;
+    let from = needed_text(arguments, "from")?;
+    let to = needed_text(arguments, "to")?;
+    let is_safe = escaping.autoescape && (given.is_safe || to.is_safe);
+    let text = part(alloc, escaping, is_safe, given)?;
+    let to = part(alloc, escaping, is_safe, to)?;
+    let answer = put(alloc, text.as_str(), from.text, to.as_str())?;
+    made(alloc, answer.as_str(), is_safe)
+}

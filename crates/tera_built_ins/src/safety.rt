@@ -1,0 +1,41 @@
+// Values as texts that are safe, or are not.
+ghost use Rattle.tera_errors.specs.Answer.{Gives};
+ghost use Rattle.tera_values.specs.Alphabet.{plain};
+ghost use Rattle.tera_built_ins.specs.Escaping.{escaping_of};
+ghost use Rattle.tera_built_ins.specs.Safety.{safe_of, escape_of, str_of};
+
+use crate::arguments::as_text;
+use crate::escaping::Escaping;
+use std::alloc::Global;
+use tera_values::{Error, Shape, TeraResult, Value};
+
+/// The printed text, marked safe. A text is not copied.
+pub fn safe(alloc: Global, value: &Value) -> TeraResult<Value>
+    ensures { Gives (λ v. v) result (safe_of plain value.now) }
+{
+    match value.shape() {
+        Shape::Undefined => Err(Error::invalid_argument()),
+        Shape::Text(_, _) => Ok(value.try_clone()?.mark_safe()),
+        _ => Value::safe_string(alloc, value.printed(alloc)?.as_str()),
+    }
+}
+
+/// The escape of a text, marked safe. A text that is safe already is not copied.
+pub fn escape(alloc: Global, value: &Value, escaping: Escaping) -> TeraResult<Value>
+    ensures { Gives (λ v. v) result (escape_of plain (escaping_of escaping) value.now) }
+{
+    let given = as_text(value)?;
+    if given.is_safe {
+        return value.try_clone();
+    }
+    let mut escaped = String::new(alloc);
+    escaping.escape(given.text, &mut escaped)?;
+    Value::safe_string(alloc, escaped.as_str())
+}
+
+/// The printed text, without a mark.
+pub fn str(alloc: Global, value: &Value) -> TeraResult<Value>
+    ensures { Gives (λ v. v) result (str_of plain value.now) }
+{
+    Value::string(alloc, value.printed(alloc)?.as_str())
+}

@@ -1,0 +1,139 @@
+// What `is` asks of a value. What needs no arguments ignores them.
+ghost use Rattle.std.specs.Prelude.{◌≡◌};
+ghost use Rattle.tera_errors.specs.Answer.{Gives};
+ghost use Rattle.tera_values.specs.Alphabet.{plain};
+ghost use Rattle.tera_built_ins.specs.Tests.{string_test, number_test, map_test, bool_test, array_test, integer_test, none_test, iterable_test, defined_test, undefined_test, odd_test, even_test, divisible_by_test, starting_with_test, ending_with_test, containing_test, divides};
+
+use crate::arguments::{as_integer, as_text, needed_integer, needed_text, needed_value};
+use std::alloc::Global;
+use tera_values::{Kwargs, Shape, TeraResult, Value};
+
+/// Whether it is a text.
+pub fn string(value: &Value, _arguments: &Kwargs) -> TeraResult<bool>
+    ensures { Gives (λ b. b) result (string_test plain value.now _arguments.now) }
+{
+    Ok(matches!(&value.shape(), Shape::Text(_, _)))
+}
+
+/// Whether it is an integer: there are no other numbers.
+pub fn number(value: &Value, _arguments: &Kwargs) -> TeraResult<bool>
+    ensures { Gives (λ b. b) result (number_test plain value.now _arguments.now) }
+{
+    Ok(matches!(&value.shape(), Shape::Int(_)))
+}
+
+/// Whether it is a map.
+pub fn map(value: &Value, _arguments: &Kwargs) -> TeraResult<bool>
+    ensures { Gives (λ b. b) result (map_test plain value.now _arguments.now) }
+{
+    Ok(matches!(&value.shape(), Shape::Map(_)))
+}
+
+/// Whether it is a truth value.
+pub fn bool(value: &Value, _arguments: &Kwargs) -> TeraResult<bool>
+    ensures { Gives (λ b. b) result (bool_test plain value.now _arguments.now) }
+{
+    Ok(matches!(&value.shape(), Shape::Bool(_)))
+}
+
+/// Whether it is an array.
+pub fn array(value: &Value, _arguments: &Kwargs) -> TeraResult<bool>
+    ensures { Gives (λ b. b) result (array_test plain value.now _arguments.now) }
+{
+    Ok(matches!(&value.shape(), Shape::Array(_)))
+}
+
+/// Whether it is an integer.
+pub fn integer(value: &Value, _arguments: &Kwargs) -> TeraResult<bool>
+    ensures { Gives (λ b. b) result (integer_test plain value.now _arguments.now) }
+{
+    Ok(matches!(&value.shape(), Shape::Int(_)))
+}
+
+/// Whether it is none. Undefined is not.
+pub fn none(value: &Value, _arguments: &Kwargs) -> TeraResult<bool>
+    ensures { Gives (λ b. b) result (none_test plain value.now _arguments.now) }
+{
+    Ok(matches!(&value.shape(), Shape::None))
+}
+
+/// Whether a loop can go over it.
+pub fn iterable(value: &Value, _arguments: &Kwargs) -> TeraResult<bool>
+    ensures { Gives (λ b. b) result (iterable_test plain value.now _arguments.now) }
+{
+    Ok(matches!(
+        &value.shape(),
+        Shape::Array(_) | Shape::Map(_) | Shape::Text(_, _) | Shape::Bytes(_)
+    ))
+}
+
+/// Whether it is anything but undefined.
+pub fn defined(value: &Value, _arguments: &Kwargs) -> TeraResult<bool>
+    ensures { Gives (λ b. b) result (defined_test plain value.now _arguments.now) }
+{
+    Ok(!value.is_undefined())
+}
+
+/// Whether it is undefined.
+pub fn undefined(value: &Value, _arguments: &Kwargs) -> TeraResult<bool>
+    ensures { Gives (λ b. b) result (undefined_test plain value.now _arguments.now) }
+{
+    Ok(value.is_undefined())
+}
+
+/// Whether 2 does not divide the integer.
+pub fn odd(value: &Value, _arguments: &Kwargs) -> TeraResult<bool>
+    ensures { Gives (λ b. b) result (odd_test plain value.now _arguments.now) }
+{
+    let number = as_integer(value)?;
+    Ok(!divides(2, number))
+}
+
+/// Whether 2 divides the integer.
+pub fn even(value: &Value, _arguments: &Kwargs) -> TeraResult<bool>
+    ensures { Gives (λ b. b) result (even_test plain value.now _arguments.now) }
+{
+    let number = as_integer(value)?;
+    Ok(divides(2, number))
+}
+
+/// Whether `divisor` divides the integer. 0 divides none.
+pub fn divisible_by(value: &Value, arguments: &Kwargs) -> TeraResult<bool>
+    ensures { Gives (λ b. b) result (divisible_by_test plain value.now arguments.now) }
+{
+    let divided = as_integer(value)?;
+    let divisor = needed_integer(arguments, "divisor")?;
+    Ok(divides(divisor, divided))
+}
+
+/// Whether the text begins with `pat`.
+pub fn starting_with(value: &Value, arguments: &Kwargs) -> TeraResult<bool>
+    ensures { Gives (λ b. b) result (starting_with_test plain value.now arguments.now) }
+{
+    let whole = as_text(value)?;
+    let part = needed_text(arguments, "pat")?;
+    Ok(whole.text.starts_with(part.text))
+}
+
+/// Whether the text ends with `pat`.
+pub fn ending_with(value: &Value, arguments: &Kwargs) -> TeraResult<bool>
+    ensures { Gives (λ b. b) result (ending_with_test plain value.now arguments.now) }
+{
+    let whole = as_text(value)?;
+    let part = needed_text(arguments, "pat")?;
+    Ok(whole.text.ends_with(part.text))
+}
+
+/// Whether `pat` is an item, a part of the text, or a key.
+pub fn containing(alloc: Global, value: &Value, arguments: &Kwargs) -> TeraResult<bool>
+    ensures { Gives (λ b. b) result (containing_test plain value.now arguments.now) }
+{
+    let part = needed_value(arguments, "pat")?;
+    value.contains(alloc, part)
+}
+
+fn divides(divisor: i128, number: i128) -> bool
+    ensures { result ≡ divides divisor number }
+{
+    divisor != 0 && number.unsigned_abs() % divisor.unsigned_abs() == 0
+}

@@ -1,0 +1,53 @@
+// Texts cut short.
+ghost use Rattle.std.specs.Prelude.{Ok, codes, false};
+ghost use Rattle.tera_errors.specs.Answer.{Gives};
+ghost use Rattle.tera_values.specs.Alphabet.{plain};
+ghost use Rattle.tera_values.specs.Val.{text};
+ghost use Rattle.tera_built_ins.specs.Arguments.{as_text, or_default};
+ghost use Rattle.tera_built_ins.specs.Reading.{given_of};
+ghost use Rattle.tera_built_ins.specs.Truncate.{truncated, ellipsis, truncate_of};
+
+use crate::arguments::{Given, as_text, needed_size};
+use std::alloc::Global;
+use tera_values::{Kwargs, TeraResult, Value};
+use unicode_segmentation::UnicodeSegmentation;
+
+/// What the argument `end` says, or an ellipsis.
+fn end_of(arguments: &Kwargs) -> TeraResult<Given<'_>>
+    ensures { Gives given_of result
+        (or_default (ellipsis plain) as_text (codes "end") arguments.now) }
+{
+    match arguments.value("end") {
+        Some(value) => as_text(value),
+        None => Ok(Given {
+            text: "…",
+            is_safe: false,
+        }),
+    }
+}
+
+/// The first clusters of a text that has more than so many, and then the end; else the text.
+fn shorten(alloc: Global, content: &str, length: usize, end: &str) -> TeraResult<Value>
+    ensures { Gives (λ v. v) result (Ok (text (truncated length end.now content.now) false)) }
+{
+    match content.grapheme_indices(true).nth(length) {
+        Some((place, _cluster)) => {
+            let mut shortened = String::new(alloc);
+            shortened.push_str(&content[..place])?;
+            shortened.push_str(end)?;
+            Value::string(alloc, shortened.as_str())
+        }
+        None => Value::string(alloc, content),
+    }
+}
+
+/// A text of more than `length` extended clusters to the end of the last of these, and behind it `end`; else the text. It is
+/// never marked safe.
+pub fn truncate(alloc: Global, value: &Value, arguments: &Kwargs) -> TeraResult<Value>
+    ensures { Gives (λ v. v) result (truncate_of plain value.now arguments.now) }
+{
+    let given = as_text(value)?;
+    let length = needed_size(arguments, "length")?;
+    let end = end_of(arguments)?;
+    shorten(alloc, given.text, length, end.text)
+}

@@ -1,0 +1,32 @@
+// The words of a text.
+ghost use Rattle.std.specs.Prelude.{◌≡◌};
+ghost use Rattle.tera_errors.specs.Answer.{Gives};
+ghost use Rattle.tera_values.specs.Alphabet.{plain};
+ghost use Rattle.tera_built_ins.specs.Words.{word_count, wordcount_of};
+
+use crate::arguments::as_text;
+use tera_values::{TeraResult, Value};
+
+/// A word begins at each character that is no white space, and has none of a word before it.
+fn word_count(text: &str) -> usize
+    ensures { result ≡ word_count text.now }
+{
+    let mut count: usize = 0;
+    let mut inside = false;
+    for letter in text.chars() {
+        let white = letter.is_whitespace();
+        if !white && !inside {
+            count += 1;
+        }
+        inside = !white;
+    }
+    count
+}
+
+/// How many words a text has: pieces between white space, as Unicode has it. Takes no memory.
+pub fn wordcount(value: &Value) -> TeraResult<Value>
+    ensures { Gives (λ v. v) result (wordcount_of plain value.now) }
+{
+    let given = as_text(value)?;
+    Ok(Value::from_int(word_count(given.text) as i128))
+}

@@ -1,0 +1,153 @@
+// Filters, tests, functions and `super`, whose arguments are given by name.
+ghost use Rattle.std.specs.Prelude.{◌≡◌, [], ◌∷◌, Ok, OnOk, IfErr};
+ghost use Rattle.tera_errors.specs.Answer.{Gives, Lacks};
+ghost use Rattle.tera_code.specs.declared.instruction.Instruction.TheVariants as instruction;
+ghost use Rattle.tera_code.specs.Code.{expr_code, arguments_code, argument_names, filters_code, lengthened};
+ghost use Rattle.tera_code.specs.Group.{group, Request};
+ghost use Rattle.tera_tree.specs.Tree.{MoreFilters, NoFilters};
+ghost use Rattle.tera_tree.specs.View.{expr_of, arguments_of, filters_of};
+
+use crate::compiler::Compiler;
+use crate::content::{LentName, Names};
+use crate::instruction::Instruction;
+use std::alloc::Global;
+use tera_tree::{Argument, Expression, SectionFilter};
+use tera_values::{Name, Span, TeraResult};
+
+impl Compiler {
+    // What is made elsewhere of arguments by name.
+    #[cycle(expressions)]
+    pub(crate) fn request(&mut self, expression: &Expression) -> TeraResult<()>
+        requires { group (expr_of expression.now) ≡ Request }
+        ensures ok { OnOk result
+            (self.new ≡ lengthened self.old (expr_code (expr_of expression.now))) }
+        ensures lacks { IfErr result Lacks }
+    {
+        match expression {
+            Expression::Super { arguments, span } => {
+                let arguments = arguments.as_slice();
+                self.arguments(arguments)?;
+                self.emit(Instruction::TakeAbove {
+                    arguments: arguments.len(),
+                    span: *span,
+                })
+            }
+            Expression::Filter {
+                value,
+                name,
+                arguments,
+                span,
+            } => {
+                self.expression(value)?;
+                self.arguments(arguments.as_slice())?;
+                self.apply_filter(name, arguments.as_slice(), *span)
+            }
+            Expression::Test {
+                value,
+                name,
+                arguments,
+                span,
+            } => {
+                self.expression(value)?;
+                self.arguments(arguments.as_slice())?;
+                self.apply_test(name, arguments.as_slice(), *span)
+            }
+            Expression::Call {
+                name,
+                arguments,
+                span,
+            } => {
+                self.arguments(arguments.as_slice())?;
+                self.call_function(name, arguments.as_slice(), *span)
+            }
+            _ => unreachable!(),
+        }
+    }
+
+    #[cycle(expressions)]
+    fn arguments(&mut self, arguments: &[Argument]) -> TeraResult<()>
+        ensures ok { OnOk result (self.new
+            ≡ lengthened self.old (arguments_code (arguments_of arguments.now))) }
+        ensures lacks { IfErr result Lacks }
+    {
+        for argument in arguments {
+            self.expression(&argument.value)?;
+        }
+        Ok(())
+    }
+
+    // Each filter takes what is on top of the operands, and puts its answer there.
+    pub(crate) fn filters(&mut self, filters: &[SectionFilter]) -> TeraResult<()>
+        ensures ok { OnOk result (self.new
+            ≡ lengthened self.old (filters_code (filters_of filters.now))) }
+        ensures lacks { IfErr result Lacks }
+    {
+        for filter in filters {
+            self.filter(filter)?;
+        }
+        Ok(())
+    }
+
+    fn filter(&mut self, filter: &SectionFilter) -> TeraResult<()>
+        ensures ok { OnOk result (self.new ≡ lengthened self.old (filters_code (MoreFilters
+            filter.now.name.now (arguments_of filter.now.arguments.items) filter.now.span NoFilters))) }
+        ensures lacks { IfErr result Lacks }
+    {
+        let arguments = filter.arguments.as_slice();
+        self.arguments(arguments)?;
+        self.apply_filter(filter.name, arguments, filter.span)
+    }
+
+    fn apply_filter(&mut self, name: &str, arguments: &[Argument], span: Span) -> TeraResult<()>
+        ensures ok { OnOk result (self.new ≡ lengthened self.old (instruction.ApplyFilter
+            name.now (argument_names (arguments_of arguments.now)) span ∷ [])) }
+        ensures lacks { IfErr result Lacks }
+    {
+        let name = Name::new(self.alloc(), name)?;
+        let names = argument_names(self.alloc(), arguments)?;
+        self.emit(Instruction::ApplyFilter {
+            name: LentName::new(&name),
+            arguments: Names::new(names.as_slice()),
+            span,
+        })
+    }
+
+    fn apply_test(&mut self, name: &str, arguments: &[Argument], span: Span) -> TeraResult<()>
+        ensures ok { OnOk result (self.new ≡ lengthened self.old (instruction.ApplyTest
+            name.now (argument_names (arguments_of arguments.now)) span ∷ [])) }
+        ensures lacks { IfErr result Lacks }
+    {
+        let name = Name::new(self.alloc(), name)?;
+        let names = argument_names(self.alloc(), arguments)?;
+        self.emit(Instruction::ApplyTest {
+            name: LentName::new(&name),
+            arguments: Names::new(names.as_slice()),
+            span,
+        })
+    }
+
+    fn call_function(&mut self, name: &str, arguments: &[Argument], span: Span) -> TeraResult<()>
+        ensures ok { OnOk result (self.new ≡ lengthened self.old (instruction.CallFunction
+            name.now (argument_names (arguments_of arguments.now)) span ∷ [])) }
+        ensures lacks { IfErr result Lacks }
+    {
+        let name = Name::new(self.alloc(), name)?;
+        let names = argument_names(self.alloc(), arguments)?;
+        self.emit(Instruction::CallFunction {
+            name: LentName::new(&name),
+            arguments: Names::new(names.as_slice()),
+            span,
+        })
+    }
+}
+
+fn argument_names(alloc: Global, arguments: &[Argument]) -> TeraResult<Vec<Name>>
+    ensures { Gives (λ names. names.items) result
+        (Ok (argument_names (arguments_of arguments.now))) }
+{
+    let mut names = Vec::new(alloc);
+    for argument in arguments {
+        names.push(Name::new(alloc, argument.name)?)?;
+    }
+    Ok(names)
+}

@@ -1,0 +1,187 @@
+// What packed instructions mean.
+ghost use Rattle.std.specs.Prelude.{◌≡◌, ◌<◌, ◌≤◌, ◌-◌, length, take, drop, string_bytes};
+ghost use Rattle.std.specs.Str.{IsCharBoundary};
+ghost use Rattle.tera_code.specs.Packed.{Within, shelf_of, span_at, name_at, call_at, unpacked};
+
+use crate::constant::Constant;
+use crate::content::{Keys, LentName, Names, Spreads, Text};
+use crate::instruction::Instruction;
+use crate::packed::{Packed, Tables};
+use tera_values::{Name, Sought, Span};
+
+impl Tables {
+    #[inline(always)]
+    pub(crate) fn span(&self, number: u32) -> Span
+        requires { number < length self.now.spans.items }
+        ensures { result ≡ span_at (shelf_of self.now) number }
+    {
+        self.spans[number as usize]
+    }
+
+    #[inline(always)]
+    pub(crate) fn name(&self, number: u32) -> Sought<'_>
+        requires { number < length self.now.names.items }
+        ensures { result ≡ name_at (shelf_of self.now) number }
+    {
+        self.whole_name(number).sought()
+    }
+
+    #[inline(always)]
+    pub(crate) fn attribute(&self, number: u32) -> Text<'_>
+        requires { number < length self.now.names.items }
+        ensures { result ≡ name_at (shelf_of self.now) number }
+    {
+        Text::new(self.whole_name(number).as_str())
+    }
+
+    #[inline(always)]
+    pub(crate) fn whole_name(&self, number: u32) -> &Name
+        requires { number < length self.now.names.items }
+        ensures { result.now ≡ name_at (shelf_of self.now) number }
+    {
+        &self.names[number as usize]
+    }
+
+    // What is called.
+    pub(crate) fn called(&self, number: u32) -> &str
+        requires { number < length self.now.calls.items }
+        ensures { result.now ≡ (call_at (shelf_of self.now) number).0 }
+    {
+        self.calls[number as usize].name.as_str()
+    }
+
+    fn called_name(&self, number: u32) -> LentName<'_>
+        requires { number < length self.now.calls.items }
+        ensures { result ≡ (call_at (shelf_of self.now) number).0 }
+    {
+        LentName::new(&self.calls[number as usize].name)
+    }
+
+    fn argument_names(&self, number: u32) -> Names<'_>
+        requires { number < length self.now.calls.items }
+        ensures { result ≡ (call_at (shelf_of self.now) number).1 }
+    {
+        Names::new(self.calls[number as usize].arguments.as_slice())
+    }
+
+    #[inline(always)]
+    pub(crate) fn text_between(&self, start: u32, end: u32) -> &str
+        requires order { start ≤ end }
+        requires start { IsCharBoundary (string_bytes self.now.pool) start }
+        requires end { IsCharBoundary (string_bytes self.now.pool) end }
+        ensures { result.now ≡ take (end - start) (drop start (string_bytes self.now.pool)) }
+    {
+        &self.pool[start as usize..end as usize]
+    }
+
+    /// The instruction that is meant.
+    pub(crate) fn unpack(&self, packed: Packed) -> Instruction<'_>
+        requires { Within (shelf_of self.now) packed }
+        ensures { result ≡ unpacked (shelf_of self.now) packed }
+    {
+        match packed {
+            Packed::WriteText { start, end } => {
+                Instruction::WriteText(Text::new(self.text_between(start, end)))
+            }
+            Packed::WriteTop => Instruction::WriteTop,
+            Packed::WriteName { name, span } => {
+                Instruction::WriteName(self.name(name), self.span(span))
+            }
+            Packed::LoadNone { span } => Instruction::LoadConst(Constant::none(), self.span(span)),
+            Packed::LoadBool { flag, span } => {
+                Instruction::LoadConst(Constant::from_bool(flag), self.span(span))
+            }
+            Packed::LoadInt { span, number } => {
+                Instruction::LoadConst(Constant::from_int(number), self.span(span))
+            }
+            Packed::LoadConst { constant, span } => {
+                let value = &self.constants[constant as usize];
+                Instruction::LoadConst(Constant::shared(value), self.span(span))
+            }
+            Packed::LoadName { name, span } => {
+                Instruction::LoadName(self.name(name), self.span(span))
+            }
+            Packed::LoadContext { span } => Instruction::LoadContext(self.span(span)),
+            Packed::LoadAttribute {
+                name,
+                optional,
+                span,
+            } => Instruction::LoadAttribute {
+                name: self.attribute(name),
+                optional,
+                span: self.span(span),
+            },
+            Packed::LoadItem { optional, span } => Instruction::LoadItem {
+                optional,
+                span: self.span(span),
+            },
+            Packed::Slice { optional, span } => Instruction::Slice {
+                optional,
+                span: self.span(span),
+            },
+            Packed::Not => Instruction::Not,
+            Packed::Negate => Instruction::Negate,
+            Packed::Binary { operator, span } => Instruction::Binary(operator, self.span(span)),
+            Packed::MakeArray { spreads, span } => {
+                let spreads = &self.spreads[spreads as usize];
+                Instruction::MakeArray(Spreads::new(spreads.as_slice()), self.span(span))
+            }
+            Packed::MakeMap { keys, span } => {
+                let keys = &self.keys[keys as usize];
+                Instruction::MakeMap(Keys::new(keys.as_slice()), self.span(span))
+            }
+            Packed::Store { name, is_global } => Instruction::Store {
+                name: LentName::new(self.whole_name(name)),
+                is_global,
+            },
+            Packed::StartLoop {
+                counts,
+                names,
+                size,
+            } => {
+                let names = &self.loops[names as usize];
+                Instruction::StartLoop {
+                    key: LentName::from_option(&names.key),
+                    name: LentName::new(&names.name),
+                    counts,
+                    size,
+                }
+            }
+            Packed::NextTurn => Instruction::NextTurn,
+            Packed::EndLoop(skip) => Instruction::EndLoop(skip),
+            Packed::Keep => Instruction::Keep,
+            Packed::EndComprehension { span } => Instruction::EndComprehension(self.span(span)),
+            Packed::StartCapture => Instruction::StartCapture,
+            Packed::EndCapture { span } => Instruction::EndCapture(self.span(span)),
+            Packed::LeaveLoop(drops) => Instruction::LeaveLoop(drops),
+            Packed::LeaveTurn(drops) => Instruction::LeaveTurn(drops),
+            Packed::Jump(skip) => Instruction::Jump(skip),
+            Packed::PopJumpIfFalse(skip) => Instruction::PopJumpIfFalse(skip),
+            Packed::JumpIfFalseOrPop(skip) => Instruction::JumpIfFalseOrPop(skip),
+            Packed::JumpIfTrueOrPop(skip) => Instruction::JumpIfTrueOrPop(skip),
+            Packed::TakeBlock { name, span } => Instruction::TakeBlock {
+                name: LentName::new(self.whole_name(name)),
+                span: self.span(span),
+            },
+            Packed::TakeAbove { span, arguments } => Instruction::TakeAbove {
+                arguments,
+                span: self.span(span),
+            },
+            Packed::ApplyFilter { call, span } => Instruction::ApplyFilter {
+                name: self.called_name(call),
+                arguments: self.argument_names(call),
+                span: self.span(span),
+            },
+            Packed::ApplyTest { call, span } => Instruction::ApplyTest {
+                name: self.called_name(call),
+                arguments: self.argument_names(call),
+                span: self.span(span),
+            },
+            Packed::CallFunction { call, span } => Instruction::CallFunction {
+                name: self.called_name(call),
+                arguments: self.argument_names(call),
+                span: self.span(span),
+            },
+        }
+    }
+}

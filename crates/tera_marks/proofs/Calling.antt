@@ -1,0 +1,40 @@
+-- Calls answer operands that stand to each other for operands that do.
+use Rattle.std.proofs.Common.{◌≡◌, ℕ, List, map, Result, Ok, Err}
+use Rattle.tera_errors.specs.declared.span.Span.{Span}
+use Rattle.tera_errors.specs.Site.{Name}
+use Rattle.tera_errors.specs.Fault.{Fault}
+use Rattle.tera_values.specs.Alphabet.{Marked, plain, marking}
+use Rattle.tera_values.specs.Val.{ValOf}
+use Rattle.tera_values.specs.Escape.{escape_html}
+use Rattle.tera_built_ins.specs.Escaping.{Escaping}
+use Rattle.tera_operators.specs.Operand.{EvaluatedOf}
+use Rattle.tera_operators.specs.Calls.{by_name, placed_call, filter_applied_in, test_applied_in, function_called_in}
+use Rattle.tera_marks.proofs.Each.{Each, none, more}
+use Rattle.tera_marks.proofs.Standing.{Stands, bools, ResultStands, answers, refuses}
+use Rattle.tera_marks.proofs.Around.{Binds, put_all-stands}
+use Rattle.tera_marks.proofs.Given.{NamedStand, Equals}
+use Rattle.tera_marks.proofs.Operating.{Operand, Listed, Outcome, then-stands, at-stands, has-stands, placed-stands}
+use Rattle.tera_marks.proofs.Tables.{filtered-stands, tested-stands, called-stands}
+
+values-stand : {given : List (Name × EvaluatedOf Marked)} {others : List (Name × EvaluatedOf ℕ)} → Each Listed given others → Each Binds (map (λ g. (g.0, g.1.value)) given) (map (λ g. (g.0, g.1.value)) others)
+values-stand none = none
+values-stand (more k ks) = more (k.0, k.1.value) (values-stand ks)
+
+by_name-stands : {given : List (Name × EvaluatedOf Marked)} {others : List (Name × EvaluatedOf ℕ)} → Each Listed given others → NamedStand (by_name given) (by_name others)
+by_name-stands ks = put_all-stands (values-stand ks) none
+
+placed_call-stands : {A B : Type 0} (S : A → B → Type 0) (file : Name) (value call : Span) {x : Result A Fault} {y : Result B Fault} → ResultStands S x y → ResultStands S (placed_call file x value call) (placed_call file y value call)
+placed_call-stands S file value call (answers s) = answers s
+placed_call-stands S file value call (refuses fault) = refuses _
+
+module _ (file : Name) (name : Name) (span : Span) {given : List (Name × EvaluatedOf Marked)} {others : List (Name × EvaluatedOf ℕ)} (ks : Each Listed given others) where
+  pub filter-stands : (view : Escaping) → view.escape ≡ escape_html → {a : EvaluatedOf Marked} {b : EvaluatedOf ℕ} → Operand a b → Outcome (filter_applied_in marking file view name a given span) (filter_applied_in plain file view name b others span)
+  filter-stands view by_html s =
+      rw s.span (then-stands Operand (placed_call-stands Stands file _ span (filtered-stands (by_name-stands ks) view by_html s.value name)) (λ v w k. at-stands span k))
+
+  pub test-stands : {a : EvaluatedOf Marked} {b : EvaluatedOf ℕ} → Operand a b → Outcome (test_applied_in marking file name a given span) (test_applied_in plain file name b others span)
+  test-stands s =
+      rw s.span (then-stands Operand (placed_call-stands Equals file _ span (tested-stands (by_name-stands ks) s.value name)) (λ m n p. has-stands span p))
+
+  pub function-stands : Outcome (function_called_in marking file name given span) (function_called_in plain file name others span)
+  function-stands = then-stands Operand (placed-stands Stands file span (called-stands (by_name-stands ks) name)) (λ v w k. at-stands span k)

@@ -1,0 +1,34 @@
+-- One text in the place of another, at marked characters.
+use Rattle.std.proofs.Common.{◌≡◌, ℕ, ◌||◌, ◌&&◌, codes}
+use Rattle.tera_values.specs.Alphabet.{Alphabet, Marked, plain, marking}
+use Rattle.tera_values.specs.Escape.{escape_html}
+use Rattle.tera_values.specs.Named.{Named}
+use Rattle.tera_values.specs.Val.{ValOf, text}
+use Rattle.tera_built_ins.specs.Arguments.{GivenOf}
+use Rattle.tera_built_ins.specs.Escaping.{Escaping}
+use Rattle.tera_built_ins.specs.Parts.{part}
+use Rattle.tera_built_ins.specs.Replace.{replaced, replace_of}
+use Rattle.tera_marks.proofs.Standing.{Stands, texts, seen-is, ResultStands, answers}
+use Rattle.tera_marks.proofs.Given.{NamedStand, GivenStands, given_texts, after-stands, as_text-stands, needed-stands}
+use Rattle.tera_marks.proofs.Pieces.{each-joined, each-pieces}
+use Rattle.tera_marks.proofs.Parts.{decodes, part-each}
+
+module _ (view : Escaping) (by_html : view.escape ≡ escape_html) where
+  -- the answer, once all is read
+  abbrev answer : {C : Type 0} → Alphabet C → GivenOf C → GivenOf C → GivenOf C → ValOf C
+  answer alphabet g from to =
+      let safe = view.autoescape && (g.safe || to.safe) in
+      let put = part alphabet view safe in
+      text (replaced alphabet.code (alphabet.seen from.text) (put to) (put g)) safe
+
+  answer-stands : {g from to : GivenOf Marked} {h other by : GivenOf ℕ} → GivenStands g h → GivenStands from other → GivenStands to by → Stands (answer marking g from to) (answer plain h other by)
+  answer-stands (given_texts s rs) (given_texts q {u = pattern} ps) (given_texts r ts) =
+      let safe = view.autoescape && (s || r) in
+      rw (seen-is q ps)
+      (texts safe (each-joined (decodes safe) (part-each view by_html safe (given_texts r ts)) (each-pieces (decodes safe) pattern (part-each view by_html safe (given_texts s rs)))))
+
+  pub replace-stands : {v : ValOf Marked} {w : ValOf ℕ} → Stands v w → {given : Named (ValOf Marked)} {others : Named (ValOf ℕ)} → NamedStand given others → ResultStands Stands (replace_of marking view v given) (replace_of plain view w others)
+  replace-stands s ns =
+      after-stands (as_text-stands s) (λ g h k.
+      after-stands (needed-stands (λ v w. as_text-stands) (codes "from") ns) (λ from other l.
+      after-stands (needed-stands (λ v w. as_text-stands) (codes "to") ns) (λ to by m. answers (answer-stands k l m))))

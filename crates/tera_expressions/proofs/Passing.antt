@@ -69,14 +69,14 @@ module _ (limit : ℕ) (part : ℕ → Parser Deep) where
 
   pub test-is : (from : ℕ) (x : Expr) (all : Arguments) (a j : Input) → kind a ≡ k.Is → is_test_name (kind (next a)) ≡ true → r.given limit part (next (next a)) ≡ Some ((all, arguments_depth all), j)
       → depth (Test x (text (next a)) all (span from j)) ≤ limit → r.operation limit part from (deep x) a ≡ Some (deep (Test x (text (next a)) all (span from j)), j)
-  unfolding r.operation r.test
+  unfolding r.operation r.tested
   test-is from x all a j h g q le =
       ap (λ s. r.operation_by limit part from (deep x) s a) h ∙ rw (test-name (kind (next a)) g).1 (named-is from x all (next a) j g q le)
 
   pub not_test-is : (from : ℕ) (x : Expr) (all : Arguments) (a j : Input) → kind a ≡ k.Is → kind (next a) ≡ k.Not → is_test_name (kind (next (next a))) ≡ true
       → r.given limit part (next (next (next a))) ≡ Some ((all, arguments_depth all), j) → depth (Not (Test x (text (next (next a))) all (span from j)) (span from j)) ≤ limit
       → r.operation limit part from (deep x) a ≡ Some (deep (Not (Test x (text (next (next a))) all (span from j)) (span from j)), j)
-  unfolding r.operation r.test
+  unfolding r.operation r.tested
   not_test-is from x all a j h f g q le =
       let t : Expr = Test x (text (next (next a))) all (span from j) in
       ap (λ s. r.operation_by limit part from (deep x) s a) h

@@ -292,8 +292,8 @@ module _ (limit b : ℕ) (part : ℕ → Parser Deep) (sound : Sound b part) whe
       let q = guard (is_word (kind (next i))) (r.passed limit part Filter (start p) (deep v) (next i)) (y, j) hh in
       passed-got limit part reads (λ y j. Got limit 10 y p j) Filter (λ _ _ _ _. refl) (start p) (next i) j v y (λ _ _ w ok. got ok (filter (down have 10 n d) h q.0 w)) q.1
 
-  test-got : (have : ℕ) (p i j : Input) (x y : Deep) → 4 ≤ have → kind i ≡ k.Is → Got limit have x p i → r.test limit part (start p) x i ≡ Some (y, j) → Got limit 4 y p j
-  unfolding r.test r.test_by_name
+  test-got : (have : ℕ) (p i j : Input) (x y : Deep) → 4 ≤ have → kind i ≡ k.Is → Got limit have x p i → r.tested limit part (start p) x i ≡ Some (y, j) → Got limit 4 y p j
+  unfolding r.tested r.test_by_name
   test-got have p i j x y n h (got {x = v} _ d) hh =
       either (chosen (same k.Not (kind o)) (and_then (r.test_by_name limit part (start p) (deep v) (next o)) turned) (r.test_by_name limit part (start p) (deep v) o) (Some (y, j)) hh)
       (λ q. let t = and_then-some (r.test_by_name limit part (start p) (deep v) (next o)) turned (y, j) q.1 in

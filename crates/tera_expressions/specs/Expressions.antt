@@ -222,8 +222,8 @@ module _ (limit : ℕ) (sub : ℕ → Parser Deep) where
   unfoldable pub test_by_name : ℕ → Deep → Parser Deep
   test_by_name from x = λ i. if is_test_name (kind i) then passed Test from x i else None
 
-  unfoldable pub test : ℕ → Deep → Parser Deep
-  test from x = λ i. if same k.Not (kind (next i)) then (test_by_name from x >>= (λ y. λ j. node limit y.depth (Not y.expr (span from j)) j)) (next (next i))
+  unfoldable pub tested : ℕ → Deep → Parser Deep
+  tested from x = λ i. if same k.Not (kind (next i)) then (test_by_name from x >>= (λ y. λ j. node limit y.depth (Not y.expr (span from j)) j)) (next (next i))
       else test_by_name from x (next i)
 
   abbrev pub operation_by : ℕ → Deep → Kind → Parser Deep
@@ -238,7 +238,7 @@ module _ (limit : ℕ) (sub : ℕ → Parser Deep) where
   operation_by from x k.LessOrEqual = applied 5 binary.LessOrEqual from x
   operation_by from x k.GreaterOrEqual = applied 5 binary.GreaterOrEqual from x
   operation_by from x k.In = applied 5 binary.In from x
-  operation_by from x k.Is = test from x
+  operation_by from x k.Is = tested from x
   operation_by from x k.Tilde = applied 6 binary.Concat from x
   operation_by from x k.Plus = applied 7 binary.Add from x
   operation_by from x k.Minus = applied 7 binary.Subtract from x

@@ -42,7 +42,7 @@ impl<'s, F: Fn(Global, &mut Tokens<'_, 's>, usize, u8) -> Result<Deep<'s>, Refus
     }
 
     /// `x is name`, or `x is not name`, from `is` on.
-    #[tactic(auto, unfolding(crate::specs::Expressions::test))]
+    #[tactic(auto, unfolding(crate::specs::Expressions::tested))]
     pub(crate) fn test(
         &self,
         tokens: &mut Tokens<'_, 's>,
@@ -50,7 +50,7 @@ impl<'s, F: Fn(Global, &mut Tokens<'_, 's>, usize, u8) -> Result<Deep<'s>, Refus
         x: Deep<'s>,
     ) -> Result<Deep<'s>, Refusal>
         requires { Nests self.now.below (F.pre self.now.expr) (F.post self.now.expr) }
-        ensures { let meant = spec.test self.now.limit (spec.expr self.now.below) start
+        ensures { let meant = spec.tested self.now.limit (spec.expr self.now.below) start
             (deep_of x.entry) in Takes deep_of (meant (input tokens.old)) result tokens.new }
     {
         tokens.take();

@@ -5,6 +5,7 @@
 mod batches;
 #[cfg(test)]
 mod blocks;
+#[cfg(test)]
 mod built_ins;
 #[cfg(test)]
 mod cases;

@@ -57,6 +57,8 @@ pub struct Found<'t> {
     pub name: &'t str,
     /// The code that a rendering of it begins with: that of the last of its parents, or its own.
     pub chunk: &'t Chunk,
+    /// Its own code, which is what an include of it runs.
+    pub body: &'t Chunk,
     /// Those among which it was found.
     pub templates: &'t Templates,
     place: usize,
@@ -180,6 +182,7 @@ impl Templates {
         Some(Found {
             name: template.name.as_str(),
             chunk: &root.body,
+            body: &template.body,
             templates: self,
             place,
         })

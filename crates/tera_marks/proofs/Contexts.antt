@@ -1,5 +1,5 @@
 -- The context in which a component runs, at marked characters.
-use Rattle.std.proofs.Common.{◌≡◌, ℕ, Bool, true, false, not, List, [], ◌∷◌, filter, refl, ap, Option, Some, None, option_map, option_and_then, codes, if◌then◌else◌}
+use Rattle.std.proofs.Common.{◌≡◌, ℕ, Bool, true, false, not, List, [], ◌∷◌, refl, ap, Option, Some, None, option_map, codes, if◌then◌else◌}
 use Rattle.tera_errors.specs.Site.{Name}
 use Rattle.tera_tree.specs.declared.component.ArgumentType.{ArgumentType}
 use Rattle.tera_tree.specs.declared.component.ArgumentType.TheVariants as argument

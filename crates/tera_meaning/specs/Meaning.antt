@@ -154,7 +154,6 @@ module _ {C : Type 0} (alphabet : Alphabet C) (here : HereOf C) (call : OracleOf
         ▹ λ given. answered (test_applied_in alphabet here.file name a given span))
     expr_meaning_in (Call name arguments span) =
         visit (arguments_meaning_in arguments ▹ λ given. answered (function_called_in alphabet here.file name given span))
-
     -- Arguments go together as the entries of a map do. The text of a component is safe where autoescape is on.
     expr_meaning_in (Component name attributes span) =
         visit (entries_meaning_in attributes ▹ λ all. component_meaning_in name all None span)

@@ -22,3 +22,7 @@ of_template m r found name ds text linked is e h =
 pub found_in : (m : VirtualMachine) (r : Registry) (name text : Name) (found : Option Found) → IsLinked m r → text ≡ name → ((s : Registry) → Finds (with_templates s m.templates.now) text found) → Finds r name found
 found_in m r name text found linked e h =
     subst (λ n. Finds r n found) e (subst (λ s. Finds s text found) linked.1 (h r))
+
+-- a machine for a template that was found among those of the registry
+pub linked_in : (m : VirtualMachine) (r : Registry) (found : Found) → m.template ≡ Some found → m.templates.now ≡ found.templates.now → with_templates r found.templates.now ≡ r → IsLinked m r
+linked_in m r found is e among = (subst (λ o. is_from o r) (sym is) among, ap (with_templates r) e ∙ among)

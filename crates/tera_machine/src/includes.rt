@@ -52,7 +52,7 @@ impl<'c> Configuration<'c> {
     pub(crate) fn end_include(&mut self, outer: Outer) -> TeraResult<()>
         requires text { (config_of self.old).captures ≢ [] }
         requires state { self.old.scopes.below ≢ [] }
-        ensures rejoins { OnOk result (Rejoins self.old outer.entry self.new) }
+        ensures rejoins { OnOk result (Rejoins self.old outer self.new) }
         ensures lacks { IfErr result Lacks }
     {
         let Outer { places, ended } = outer;

@@ -18,4 +18,5 @@ pub mod Bodies
 pub mod HasWalk
 pub mod Ways
 pub mod Turn
+pub mod Filled
 pub mod Circles

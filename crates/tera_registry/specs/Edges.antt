@@ -4,7 +4,7 @@ use Rattle.tera_meaning.specs.Registry.{Registry, Entry}
 use Rattle.tera_meaning.specs.Accepted.{includes_of, leads_into_a_circle}
 use Rattle.tera_registry.specs.Walks.{targets, target}
 
--- what stands at these places
+-- those that stand at these places
 abbrev pub all_at : {X : Type 0} → List X → List ℕ → List X
 all_at xs = filter_map (slice_get xs)
 

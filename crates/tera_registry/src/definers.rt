@@ -136,7 +136,8 @@ fn lacks(templates: &[Rc<Template>], prefixes: &[String], of: &Template, include
 pub fn any_lacks(templates: &[Rc<Template>], prefixes: &[String], edges: &[Vec<usize>]) -> bool
     requires rises { Rises (entries_of templates.now) }
     requires grounded { Grounded (seen templates.now prefixes.now) }
-    requires edges { AreEdges (seen templates.now prefixes.now) (rows edges.now) (length templates.now) }
+    requires edges { let r = seen templates.now prefixes.now in
+        AreEdges r (rows edges.now) (length templates.now) }
     requires as_many { length edges.now ≡ length templates.now }
     ensures { result ≡ list_any (lacks_something (seen templates.now prefixes.now))
         (entries_of templates.now) }

@@ -39,7 +39,8 @@ pub fn edges(
     prefixes: &[String],
 ) -> Result<Vec<Vec<usize>>, AllocError>
     requires { Rises (entries_of templates.now) }
-    ensures { IfOk result (λ v. AreEdges (seen templates.now prefixes.now) (rows v.items) (length templates.now)) }
+    ensures { let r = seen templates.now prefixes.now in
+        IfOk result (λ v. AreEdges r (rows v.items) (length templates.now)) }
 {
     let mut all = Vec::new(alloc);
     for template in templates {

@@ -1,4 +1,4 @@
-// Whether templates go together.
+// Links templates, and refuses those that do not go together.
 ghost use Rattle.std.specs.Prelude.{length, IfOk};
 ghost use Rattle.tera_errors.specs.Answer.{Gives};
 ghost use Rattle.tera_meaning.specs.Adding.{accepted};
@@ -23,8 +23,10 @@ pub fn link(
     prefixes: &[String],
 ) -> TeraResult<Vec<usize>>
     requires { Rises (entries_of templates.now) }
-    ensures answer { Gives (λ _. seen templates.now prefixes.now) result (accepted (seen templates.now prefixes.now)) }
-    ensures roots { IfOk result (λ v. AreRoots (seen templates.now prefixes.now) v.items (length templates.now)) }
+    ensures answer { let r = seen templates.now prefixes.now in
+        Gives (λ _. r) result (accepted r) }
+    ensures roots { IfOk result
+        (λ v. AreRoots (seen templates.now prefixes.now) v.items (length templates.now)) }
 {
     let edges = edges(alloc, templates, prefixes)?;
     let circle = least_circle(alloc, edges.as_slice())?;
@@ -35,7 +37,7 @@ pub fn link(
     if any_lacks(templates, prefixes, edges.as_slice()) {
         return Err(Error::message(
             alloc,
-            "a template has a block that none of its parents has, or calls or includes what is not there",
+            "a template has a block that none of its parents has, or names what is not there",
         ));
     }
     Ok(roots)

@@ -259,7 +259,8 @@ impl Templates {
 
     /// Whether nodes include what is not there. Takes no memory.
     pub fn misses_an_include(&self, nodes: &[Node<'_>]) -> bool
-        ensures { (r : Registry) → result ≡ misses_an_include (with_templates r self.now) (nodes_of nodes.now) }
+        ensures { (r : Registry) → result
+            ≡ misses_an_include (with_templates r self.now) (nodes_of nodes.now) }
     {
         misses(self.all.as_slice(), self.prefixes.as_slice(), nodes)
     }

@@ -6,7 +6,7 @@ use Rattle.tera_registry.proofs.Kept.{entry-at-place, length-entries}
 use Rattle.tera_registry.proofs.Absent.{none-yet-more, none-yet-all}
 use Rattle.tera_registry.specs.Walks.{rows, targets}
 use Rattle.tera_registry.proofs.Turn.{targets-rows}
-use Rattle.tera_registry.proofs.Circles.{length-all_at}
+use Rattle.tera_registry.proofs.Filled.{length-all_at}
 use Rattle.tera_registry.proofs.definers.any_lacks.Goals as goal
 
 pub lacks-requires-clause-parents : goal.lacks-requires-clause-parents

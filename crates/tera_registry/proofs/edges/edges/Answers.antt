@@ -2,7 +2,7 @@ use Rattle.std.proofs.Common.{ap, ◌∙◌, arith}
 use Rattle.tera_meaning.specs.Accepted.{includes_of}
 use Rattle.tera_registry.specs.Kept.{entry_of, seen}
 use Rattle.tera_registry.proofs.Kept.{entry-at-place, length-entries}
-use Rattle.tera_registry.proofs.Circles.{rows-push, more-edges}
+use Rattle.tera_registry.proofs.Filled.{rows-push, more-edges}
 use Rattle.tera_registry.proofs.edges.edges.Goals as goal
 
 pub loop-template-preserved : goal.loop-template-preserved

@@ -4,7 +4,7 @@ use Rattle.tera_meaning.specs.Resolve.{resolve}
 use Rattle.tera_registry.specs.Kept.{entries_of, seen}
 use Rattle.tera_registry.proofs.Element.{element}
 use Rattle.tera_registry.proofs.Kept.{length-entries}
-use Rattle.tera_registry.proofs.Circles.{fill-none, fill-some, fill-ends, all_at-push, AreThere-push}
+use Rattle.tera_registry.proofs.Filled.{fill-none, fill-some, fill-ends, all_at-push, AreThere-push}
 use Rattle.tera_registry.proofs.edges.included.Goals as goal
 use Rattle.tera_registry.proofs.edges.included.Goals.{in-Some+in_ok-push, in_default}
 

@@ -2,7 +2,7 @@ use Rattle.std.proofs.Common.{length}
 use Rattle.tera_meaning.specs.Resolve.{resolve}
 use Rattle.tera_registry.specs.Edges.{all_at, AreThere}
 use Rattle.tera_registry.specs.Kept.{entries_of, seen}
-use Rattle.tera_registry.proofs.Circles.{Filled}
+use Rattle.tera_registry.proofs.Filled.{Filled}
 use Rattle.tera_registry.proofs.edges.included.Given as goal
 
 abbrev pub invariant-loop-name : goal.invariant-loop-name

@@ -7,7 +7,7 @@ use Rattle.tera_meaning.specs.Registry.{Registry}
 use Rattle.tera_meaning.specs.Resolve.{resolve}
 use Rattle.tera_registry.specs.Kept.{entries_of, seen}
 use Rattle.tera_registry.proofs.Bodies.{any-first, any-second, node_if, node_for, node_capture, node_section, node_block}
-use Rattle.tera_registry.proofs.Circles.{is_none-place}
+use Rattle.tera_registry.proofs.Filled.{is_none-place}
 use Rattle.tera_registry.proofs.includes.+missing.Goals as goal
 
 abbrev is_missing : Registry → Name → Bool

@@ -1,9 +1,8 @@
 -- Templates that are included follow the pure machine.
-use Rattle.std.proofs.Common.{◌≡◌, ◌≢◌, ℕ, Bool, true, false, List, [], ◌∷◌, ◌++◌, Option, Some, None, Result, Ok, Err, refl, sym, ap, ap₂, ◌∙◌, subst, append-nil}
+use Rattle.std.proofs.Common.{◌≡◌, ◌≢◌, ℕ, Bool, true, false, List, [], ◌∷◌, ◌++◌, Option, Some, None, Result, Ok, Err, refl, sym, ap, ap₂, ◌∙◌, append-nil}
 use Rattle.std.specs.Prelude.{OnOk, IfErr, option_map, if◌then◌else◌}
 use Rattle.tera_errors.specs.Site.{Name, Text}
 use Rattle.tera_errors.specs.declared.span.Span.{Span}
-use Rattle.tera_errors.specs.Fault.{Fault}
 use Rattle.tera_errors.specs.Answer.{Refusal, Lacks}
 use Rattle.tera_tree.specs.Blocks.{is_among}
 use Rattle.tera_state.specs.Scope.{Frame, Around, Variables, nothing_set, in_include}
@@ -12,7 +11,7 @@ use Rattle.tera_state.specs.declared.scopes.Scopes.{Scopes}
 use Rattle.tera_meaning.specs.Registry.{Entry}
 use Rattle.tera_meaning.specs.Resolve.{resolve}
 use Rattle.tera_meaning.specs.Run.{AnInclude}
-use Rattle.tera_meaning.specs.Whole.{World, Place, Way, Refuses, Takes, takes_template, place_of_include, fault_in, way}
+use Rattle.tera_meaning.specs.Whole.{World, Place, Refuses, Takes, takes_template, place_of_include, fault_in, way}
 use Rattle.tera_code.specs.Listing.{Listing}
 use Rattle.tera_registry.specs.Templates.{definers_of, Finds}
 use Rattle.tera_registry.specs.declared.templates.Found.{Found}
@@ -21,9 +20,9 @@ use Rattle.tera_machine.specs.declared.blocks.OpenBlocks.{OpenBlocks}
 use Rattle.tera_machine.specs.declared.configuration.Configuration.{Configuration}
 use Rattle.tera_machine.specs.declared.machine.VirtualMachine.{VirtualMachine}
 use Rattle.tera_machine.specs.Config.{Config, Loop, config_of, loops_at}
-use Rattle.tera_machine.specs.Flow.{Use, Written}
+use Rattle.tera_machine.specs.Flow.{Written}
 use Rattle.tera_machine.specs.Act.{beneath_in}
-use Rattle.tera_machine.specs.Exec.{Finished, entered, used, left, left_in, Ends, EndsWithin, BodyEnds, Ran}
+use Rattle.tera_machine.specs.Exec.{Finished, left, left_in, Ends, EndsWithin, BodyEnds, Ran}
 use Rattle.tera_machine.specs.Progress.{BodyWithin}
 use Rattle.tera_machine.specs.Included.{names_in}
 use Rattle.tera_machine.specs.Subject.{template_of, place_at}

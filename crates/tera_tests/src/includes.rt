@@ -294,6 +294,10 @@ fault RenderingError a 3 10
 @@ str off
 {% include %}
 @@ end
+=>
+fault SyntaxError __tera_one_off 11 15
+fault SyntaxError __tera_one_off 10 10
+
 @@ str off
 {% include "a" "b" %}
 @@ end
@@ -301,8 +305,6 @@ fault RenderingError a 3 10
 {% for x in [1] %}{% include "a" + "b" %}{% endfor %}
 @@ end
 =>
-fault SyntaxError __tera_one_off 11 15
-fault SyntaxError __tera_one_off 11 13
 fault SyntaxError __tera_one_off 15 18
 fault SyntaxError __tera_one_off 33 34"#;
 

@@ -185,6 +185,14 @@ fn keeps_mark(alloc: Global, row: Row) -> bool {
     }
 }
 
+fn renders_all(alloc: Global, state: &State<'_>) -> bool {
+    ROWS.iter().all(|row| renders(alloc, state, *row))
+}
+
+fn keeps_marks(alloc: Global) -> bool {
+    ROWS.iter().all(|row| keeps_mark(alloc, *row))
+}
+
 fn refuses_other_kinds(alloc: Global) -> bool {
     match StringInput::from_value(alloc, &Value::none()) {
         Ok(_) => false,
@@ -197,9 +205,5 @@ fn inputs_are_rendered(rt: HostRuntime) {
     let alloc = rt.alloc();
     let context = Context::new(alloc);
     let state = State::new(&context);
-    let holds = ROWS
-        .iter()
-        .all(|row| renders(alloc, &state, *row) && keeps_mark(alloc, *row))
-        && refuses_other_kinds(alloc);
-    assert!(rt; holds);
+    assert!(rt; renders_all(alloc, &state) && keeps_marks(alloc) && refuses_other_kinds(alloc));
 }

@@ -1,0 +1,4 @@
+pub mod Rows
+pub mod Arguments
+pub mod LeftOver
+pub mod Calls

@@ -1,5 +1,5 @@
 -- What is kept of a signature, for the calls of its component.
-use Rattle.std.specs.Prelude.{◌≡◌, ℕ, Bool, false, not, if◌then◌else◌, List, [], ◌∷◌, filter, map as map_list, Option, Some, None, option_map, option_and_then, Result, Ok, Err, refl}
+use Rattle.std.specs.Prelude.{◌≡◌, ℕ, Bool, false, not, if◌then◌else◌, List, [], ◌∷◌, filter, map as map_list, Option, Some, None, is_some, option_map, option_and_then, Result, Ok, Err, refl}
 use Rattle.std.specs.Option.{option_or}
 use Rattle.std.specs.List.{filter_map}
 use Rattle.std.specs.Coded.{Coded, code_by, coded×, coded_ℕ, coded_bool, coded_list, coded_option}
@@ -11,7 +11,7 @@ use Rattle.tera_tree.specs.Tree.{Parameter, Signature}
 use Rattle.tera_tree.specs.Blocks.{is_among}
 use Rattle.tera_values.specs.Val.{ValOf, Val, KeyVal, kbool, kint, ktext}
 use Rattle.tera_values.specs.Code.{val_code}
-use Rattle.tera_values.specs.Access.{insert_pair}
+use Rattle.tera_values.specs.Access.{find, insert_pair}
 use Rattle.tera_values.specs.Named.{Named, at_name, put}
 use Rattle.tera_components.specs.Context.{literal_value, fitting, looked_up, with_rest, with_body}
 
@@ -69,6 +69,10 @@ named_arguments all = filter_map named_by all
 
 abbrev pub formal_names : Definition → List Name
 formal_names d = map_list (λ f. f.name) d.formals
+
+-- the text keys of a map are the names of the parameters
+abbrev pub AreNames : List (KeyVal × Val) → List Formal → Type 0
+AreNames names formals = (n : Name) → is_some (find (ktext n) names) ≡ is_among n (map_list (λ f. f.name) formals)
 
 -- the arguments that no parameter takes, in their order
 abbrev pub left_over : Definition → List (Name × Val) → List (Name × Val)

@@ -1,6 +1,5 @@
 // Components as they are kept, and the contexts of their calls.
-ghost use Rattle.std.specs.Prelude.{◌≡◌, Ok, List, [], OnOk, IfErr, bytes_eq};
-ghost use Rattle.std.specs.List.{list_any};
+ghost use Rattle.std.specs.Prelude.{◌≡◌, Ok, List, [], OnOk, IfErr};
 ghost use Rattle.tera_errors.specs.Answer.{Gives, Lacks};
 ghost use Rattle.tera_errors.specs.Site.{Name};
 ghost use Rattle.tera_tree.specs.Tree.{Signature as Signed};
@@ -27,6 +26,8 @@ use tera_values::{Context, Key, Map, Name, Shape, TeraResult, Value};
 pub struct ComponentDefinition {
     name: Name,
     arguments: Vec<ComponentArg>,
+    /// The names of these as keys, so that they are found fast.
+    names: Map,
     rest: Option<Name>,
 }
 
@@ -38,6 +39,10 @@ impl Model for ComponentDefinition {
     ghost coded = { definition_code };
 
     ghost view = { λ d. record { name = d.name; formals = d.arguments.items; rest = d.rest } };
+
+    ghost use Rattle.tera_components.specs.Definition.{AreNames};
+
+    ghost invariant = { λ d. AreNames d.names d.arguments.items };
 }
 
 impl ComponentDefinition {
@@ -46,7 +51,10 @@ impl ComponentDefinition {
         ensures { Gives (λ d. d) result (Ok (definition_of (signature_of signature.now))) }
     {
         let mut arguments = Vec::with_capacity(alloc, signature.parameters.len())?;
+        let mut names = Map::new(alloc);
         for parameter in signature.parameters.iter() {
+            let name = String::from_str(alloc, parameter.name)?;
+            names.insert(Key::Text(name), Value::none())?;
             arguments.push(ComponentArg::new(alloc, parameter)?)?;
         }
         let rest = match signature.rest {
@@ -56,6 +64,7 @@ impl ComponentDefinition {
         Ok(ComponentDefinition {
             name: Name::new(alloc, signature.name)?,
             arguments,
+            names,
             rest,
         })
     }
@@ -75,11 +84,10 @@ impl ComponentDefinition {
     }
 
     // Whether a parameter has this name.
-    #[tactic(auto, using(crate::proofs::Arguments::is_among_map))]
     fn takes(&self, name: &str) -> bool
         ensures { result ≡ is_among name.now (formal_names self.now) }
     {
-        is_named(self.arguments.as_slice(), name)
+        self.names.get_text(name).is_some()
     }
 
     // Whether the key is the name of an argument that no parameter takes.
@@ -206,12 +214,6 @@ impl ComponentDefinition {
             _ => unreachable!(),
         }
     }
-}
-
-fn is_named(arguments: &[ComponentArg], name: &str) -> bool
-    ensures { result ≡ list_any (λ f. bytes_eq name.now f.name) arguments.now }
-{
-    arguments.iter().any(|argument| name == argument.name())
 }
 
 // A context with the body alone.

@@ -1,5 +1,5 @@
 -- Arguments by name, among the entries of a map.
-use Rattle.std.proofs.Common.{◌≡◌, Bool, true, false, ◌||◌, cond, List, [], ◌∷◌, ◌++◌, Option, Some, None, is_some, Result, Ok, refl, sym, ap, ◌∙◌, map as map_list}
+use Rattle.std.proofs.Common.{◌≡◌, Bool, true, false, ◌||◌, cond, List, [], ◌∷◌, ◌++◌, Some, None, is_some, Result, Ok, refl, sym, ap, ◌∙◌, map as map_list}
 use Rattle.std.specs.Str.{bytes_eq}
 use Rattle.std.proofs.lemmas.List.{map-append}
 use Rattle.std.proofs.lemmas.List.Folds.{list_any-append}
@@ -58,9 +58,6 @@ or_swap true true = refl
 or_swap true false = refl
 or_swap false true = refl
 or_swap false false = refl
-
-pub are_names_none : (names : List (KeyVal × Val)) → names ≡ [] → AreNames names []
-are_names_none names none n = ap (λ es. is_some (find (ktext n) es)) none
 
 -- one more parameter, and its name
 pub are_names_more : (names new : List (KeyVal × Val)) (name : Name) (v : Val) (fs more : List Formal) (f : Formal) → AreNames names fs → new ≡ insert_pair names (ktext name) v → name ≡ f.name → more ≡ fs ++ f ∷ [] → AreNames new more

@@ -1,17 +1,15 @@
 -- The entries whose keys no parameter has, one by one.
-use Rattle.std.proofs.Common.{◌≡◌, ℕ, ◌+◌, ◌<◌, Bool, true, false, not, cond, if◌then◌else◌, List, [], ◌∷◌, ◌++◌, Option, Some, None, refl, sym, ap, ◌∙◌, subst, length, take, drop, get_or, arith}
+use Rattle.std.proofs.Common.{◌≡◌, ℕ, ◌+◌, ◌<◌, Bool, true, false, not, cond, List, [], ◌∷◌, ◌++◌, Some, None, refl, sym, ap, ◌∙◌, subst, length, take, get_or, arith}
 use Rattle.std.specs.List.{filter, slice_get}
 use Rattle.std.proofs.lemmas.List.{take_more, append-nil, length-take, get_or-take}
 use Rattle.std.proofs.lemmas.List.Elements.{filter-append}
 use Rattle.std.proofs.lemmas.Option.{slice_get_within, get_or_from_slice_get}
-use Rattle.tera_errors.specs.Site.{Name}
 use Rattle.tera_tree.specs.Blocks.{is_among}
 use Rattle.tera_values_data.specs.Index.{key_at, IsDistinct}
 use Rattle.tera_values_data.proofs.Keys.{key_exact, is_eq_true}
 use Rattle.tera_values_data.proofs.Places.{find_absent}
 use Rattle.tera_values.specs.Val.{Val, KeyVal, kbool, kint, ktext, undefined}
 use Rattle.tera_values.specs.Access.{key_eq, find, insert_pair}
-use Rattle.tera_values.specs.Keys.{key_cmp}
 use Rattle.tera_values.specs.Named.{text_keys}
 use Rattle.tera_operators.proofs.Keeping.{inserted_last}
 use Rattle.tera_components.specs.Definition.{Definition, formal_names, named_arguments, left_over, is_left, kept_over}
@@ -70,16 +68,3 @@ only_left-next d es i e one is =
     by : (left : Bool) → find e.0 (only_left d (take i es)) ≡ None → only_left d (take i es) ++ cond left (e ∷ []) [] ≡ cond left (insert_pair (only_left d (take i es)) e.0 e.1) (only_left d (take i es))
     by true none = sym (inserted_last (only_left d (take i es)) e.0 e.1 none)
     by false none = append-nil (only_left d (take i es))
-
--- nothing is left over where no entry is
-pub none_over : (over : List (Name × Val)) (es : Pairs) → es ≡ text_keys over → None ≡ slice_get es 0 → over ≡ []
-none_over [] es is none = refl
-none_over (a ∷ over) es is none =
-    let some : slice_get es 0 ≡ Some (ktext a.0, a.1) = ap (λ xs. slice_get xs 0) is in
-    absurd (cc)
-
-pub some_over : (over : List (Name × Val)) (es : Pairs) (e : KeyVal × Val) → es ≡ text_keys over → Some e ≡ slice_get es 0 → (a : Name × Val) × (rest : List (Name × Val)) × (over ≡ a ∷ rest)
-some_over [] es e is some =
-    let none : slice_get es 0 ≡ None = ap (λ xs. slice_get xs 0) is in
-    absurd (cc)
-some_over (a ∷ over) es e is some = (a, over, refl)

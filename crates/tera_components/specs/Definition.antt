@@ -1,5 +1,5 @@
 -- What is kept of a signature, for the calls of its component.
-use Rattle.std.specs.Prelude.{◌≡◌, ℕ, Bool, false, not, if◌then◌else◌, List, [], ◌∷◌, filter, map as map_list, Option, Some, None, is_some, option_map, option_and_then, Result, Ok, Err, refl}
+use Rattle.std.specs.Prelude.{◌≡◌, Bool, false, not, if◌then◌else◌, List, [], ◌∷◌, filter, map as map_list, Option, Some, None, is_some, option_map, option_and_then, Result, Ok, Err, refl}
 use Rattle.std.specs.Option.{option_or}
 use Rattle.std.specs.List.{filter_map}
 use Rattle.std.specs.Coded.{Coded, code_by, coded×, coded_ℕ, coded_bool, coded_list, coded_option}

@@ -1,6 +1,5 @@
 use Rattle.std.proofs.Common.{ap, sym, ◌∙◌, string_bytes}
-use Rattle.tera_tree.specs.View.{parameter_of}
-use Rattle.tera_components.specs.Definition.{Formal, formal_of}
+use Rattle.tera_components.specs.Definition.{Formal}
 use Rattle.tera_components.proofs.Arguments.{are_names_more}
 use Rattle.tera_components.proofs.Kept.{kept_is, kept_more}
 use Rattle.tera_components.proofs.definition.ComponentDefinition.new.Goals as goal

@@ -1,4 +1,4 @@
-use Rattle.std.proofs.Common.{rules, List, Option, ◌∙◌, arith}
+use Rattle.std.proofs.Common.{rules, List, Option, ◌∙◌}
 use Rattle.tera_errors.specs.Answer.{Says}
 use Rattle.tera_errors.specs.Site.{Name}
 use Rattle.tera_values.specs.Val.{Val}

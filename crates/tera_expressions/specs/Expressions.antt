@@ -342,14 +342,14 @@ module _ (limit : ℕ) (sub : ℕ → Parser Deep) where
   unfoldable pub braced : Parser Deep
   braced = sub 0 >>= (λ x. expect k.RightBrace >>= (λ _. λ j. Some (x, j)))
 
-  abbrev pub text_of : Option site.Text → Parser Deep
-  text_of None = refuse
-  text_of (Some t) = λ i. Some (deep (Text t (span (start i) (next i))), next i)
+  abbrev pub quoted_value : Option site.Text → Parser Deep
+  quoted_value None = refuse
+  quoted_value (Some t) = λ i. Some (deep (Text t (span (start i) (next i))), next i)
 
   -- the value of an attribute: a text, or an expression in braces
   unfoldable pub attribute_value : Parser Deep
   attribute_value = λ i. if same k.LeftBrace (kind i) then braced (next i)
-      else (if same k.Text (kind i) then text_of (literal (text i)) i else None)
+      else (if same k.Text (kind i) then quoted_value (literal (text i)) i else None)
 
   -- an attribute behind those that were found, and the depth of its value
   abbrev pub with_attribute : Entries → Option Key → Deep → Parser (Entries × ℕ)
@@ -372,12 +372,13 @@ module _ (limit : ℕ) (sub : ℕ → Parser Deep) where
       else Some ((found, d), i)
 
   -- a component by this name with these attributes, from its end on
-  unfoldable pub component_of : ℕ → site.Name → Entries × ℕ → Parser Deep
-  component_of from n xs = expect k.TagEnd >>= (λ _. λ j. node limit xs.1 (Component n xs.0 (span from j)) j)
+  unfoldable pub component_of : ℕ → site.Name → Entries → ℕ → Parser Deep
+  component_of from n all d = expect k.TagEnd >>= (λ _. λ j. node limit d (Component n all (span from j)) j)
 
   -- from its name on
   abbrev pub component_by_name : ℕ → Parser Deep
-  component_by_name from = λ i. if is_word (kind i) then and_then (attributes_from (left (next i)) NoEntries 0 (next i)) (component_of from (text i)) else None
+  component_by_name from = λ i. if is_word (kind i)
+      then and_then (attributes_from (left (next i)) NoEntries 0 (next i)) (λ xs. component_of from (text i) xs.0 xs.1) else None
 
   unfoldable pub component : Parser Deep
   component = λ i. component_by_name (start i) (next i)
@@ -435,9 +436,9 @@ filters zero = refuse
 filters (suc limit) = λ i. filters_from (suc limit) (expr limit) (left i) NoFilters 0 i
 
 -- what was read, if it is no deeper than the number
-abbrev pub within : ℕ → Entries × ℕ → Parser (Entries × ℕ)
-within limit xs = λ j. if nat_le xs.1 limit then Some (xs, j) else None
+abbrev pub no_deeper : ℕ → Entries × ℕ → Parser (Entries × ℕ)
+no_deeper limit xs = λ j. if nat_le xs.1 limit then Some (xs, j) else None
 
 -- attributes of a component, no deeper than the number, and the greatest depth
 unfoldable pub attributes : ℕ → Parser (Entries × ℕ)
-attributes limit = λ i. and_then (attributes_from limit (expr limit) (left i) NoEntries 0 i) (within limit)
+attributes limit = λ i. and_then (attributes_from limit (expr limit) (left i) NoEntries 0 i) (no_deeper limit)

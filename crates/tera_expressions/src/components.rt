@@ -70,8 +70,8 @@ impl<'s, F: Fn(Global, &mut Tokens<'_, 's>, usize, u8) -> Result<Deep<'s>, Refus
         attributes: Vec<Entry<'s>>,
         depth: usize,
     ) -> Result<Deep<'s>, Refusal>
-        ensures { let all = (entries_of attributes.entry.items, depth) in
-            let meant = spec.component_of self.now.limit (spec.expr self.now.below) start name.now all in
+        ensures { let all = entries_of attributes.entry.items in
+            let meant = spec.component_of self.now.limit (spec.expr self.now.below) start name.now all depth in
             Takes deep_of (meant (input tokens.old)) result tokens.new }
     {
         tokens.expect(Kind::TagEnd)?;
@@ -146,10 +146,9 @@ impl<'s, F: Fn(Global, &mut Tokens<'_, 's>, usize, u8) -> Result<Deep<'s>, Refus
             Ok(x) => x,
             Err(refusal) => return Err(refusal),
         };
-        found.push(Entry {
-            key: Some(LiteralKey::Text(Quoted::Lent(name))),
-            value: Box::into_inner(x.expression),
-        })?;
+        let key = Some(LiteralKey::Text(Quoted::Lent(name)));
+        let value = Box::into_inner(x.expression);
+        found.push(Entry { key, value })?;
         Ok(x.depth)
     }
 
@@ -173,10 +172,8 @@ impl<'s, F: Fn(Global, &mut Tokens<'_, 's>, usize, u8) -> Result<Deep<'s>, Refus
             Ok(x) => x,
             Err(refusal) => return Err(refusal),
         };
-        found.push(Entry {
-            key: None,
-            value: Box::into_inner(x.expression),
-        })?;
+        let value = Box::into_inner(x.expression);
+        found.push(Entry { key: None, value })?;
         Ok(x.depth)
     }
 

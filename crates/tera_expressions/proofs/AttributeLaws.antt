@@ -1,9 +1,9 @@
 -- Attributes up to where none begins: what is read is derived, and what is derived is read.
-use Rattle.std.proofs.Common.{◌≡◌, ℕ, ◌≤◌, max, true, false, nat_le, Some, refl, ◌∙◌, subst, arith}
+use Rattle.std.proofs.Common.{◌≡◌, ℕ, ◌≤◌, true, false, nat_le, Some, refl, ◌∙◌, subst, arith}
 use Rattle.std.proofs.lemmas.Grind.{common_steps}
 use Rattle.tera_tree.specs.Tree.{Entries, NoEntries}
 use Rattle.tera_tree.specs.Depth.{entries_depth}
-use Rattle.tera_tokens.specs.Input.{Input, and_then, kind, left}
+use Rattle.tera_tokens.specs.Input.{Input, kind, left}
 use Rattle.tera_expressions.specs.Arguments.{begins_attribute}
 use Rattle.tera_expressions.specs.Grammar.{DerivesAttributes}
 use Rattle.tera_expressions.specs.Expressions as r

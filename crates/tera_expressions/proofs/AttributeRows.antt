@@ -1,5 +1,5 @@
 -- Attributes of a component: what is read is derived, and how what is derived is read.
-use Rattle.std.proofs.Common.{◌≡◌, ℕ, zero, suc, ◌+◌, ◌≤◌, max, Bool, true, false, ◌||◌, Option, Some, None, if◌then◌else◌, refl, sym, ◌∙◌, ap, subst, arith}
+use Rattle.std.proofs.Common.{◌≡◌, ℕ, zero, suc, ◌≤◌, max, Bool, true, false, ◌||◌, Option, Some, None, if◌then◌else◌, refl, sym, ◌∙◌, ap, subst, arith}
 use Rattle.tera_errors.specs.Site as site
 use Rattle.tera_tree.specs.Tree.{Expr, Text, Component, Key, TextKey, Entries, NoEntries, MoreEntries}
 use Rattle.tera_tree.specs.Depth.{depth, entries_depth}

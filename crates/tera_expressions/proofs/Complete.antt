@@ -17,7 +17,7 @@ use Rattle.tera_expressions.proofs.Rows.{list-nil, list-one, list-more, list-onl
 use Rattle.tera_expressions.proofs.Forms.{deep-node, some-depth, infixed-is, operator-is, power-is, not_in-is, choice-is, attribute-is, index-is, slice-is, prefixed-is, item-none, item-one, item-more, behind-last, behind-comma, empty-is, array-is, no-condition-is, condition-is, comprehension-is, key-is, dots-is, entry-none, entry-one, entry-more, map-is, int-is, quoted-is, part-colon, part-bracket, part-some, step-none, step-some}
 use Rattle.tera_expressions.proofs.Alone.{called_no_loop}
 use Rattle.tera_expressions.proofs.ArgumentRows.{put-depth, grown, call-depth, argument-is, arguments-none, arguments-one, arguments-more, call-is}
-use Rattle.tera_expressions.proofs.AttributeRows.{attribute-begins, tag-end-stops, attributes-stop, attributes-more, text-is, braced-is, value-is, named-is, spread-is, component-is}
+use Rattle.tera_expressions.proofs.AttributeRows.{attribute-begins, tag-end-stops, attributes-stop, attributes-more, text-is, value-is, named-is, spread-is, component-is}
 use Rattle.tera_expressions.proofs.Passing.{given-none, given-some, filter-is, test-is, not_test-is}
 use Rattle.tera_expressions.proofs.Turning.{close, lower, reading-open, Goes, whole, part-read, goes-on, goes-first, head-is, goes-leaf}
 

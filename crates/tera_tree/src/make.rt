@@ -1,6 +1,6 @@
 // Trees from their parts.
 ghost use Rattle.std.specs.Prelude.{◌≡◌};
-ghost use Rattle.tera_tree.specs.Tree.{Attribute, Index, Not, Negate, Binary, And, Or, Ternary, Array, Map, Super, Filter, Test, Call, If, Set, Capture, FilterSection, Block};
+ghost use Rattle.tera_tree.specs.Tree.{Attribute, Index, Not, Negate, Binary, And, Or, Ternary, Array, Map, Super, Filter, Test, Call, Component, If, Set, Capture, FilterSection, Block};
 ghost use Rattle.tera_tree.specs.View.{expr_of, slice_of, comprehension_of, items_of, entries_of, arguments_of, filters_of, node_of, nodes_of, for_of};
 
 use crate::expression::{Argument, BinaryOperator, Bounds, Entry, Expression, Heading, Item};
@@ -206,6 +206,17 @@ impl<'s> Expression<'s> {
         Expression::Call {
             name,
             arguments,
+            span,
+        }
+    }
+
+    /// `<name attributes/>`
+    pub fn component(name: &'s str, attributes: Vec<Entry<'s>>, span: Span) -> Expression<'s>
+        ensures { expr_of result ≡ Component name.now (entries_of attributes.entry.items) span }
+    {
+        Expression::Component {
+            name,
+            attributes,
             span,
         }
     }

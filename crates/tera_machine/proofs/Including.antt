@@ -66,7 +66,10 @@ module _ (w : World) (p : Place) (name : Name) (span : Span) (v : Variables) whe
 
 -- A body of a template that is taken, from its beginning to its end.
 
--- what is around a state that reads another
+-- a state as one that reads it has it above
+abbrev reading : Scopes → Frame × Variables
+reading s = ((around_of s).frame, variables_of s)
+
 abbrev first_above : List (Frame × Variables) → Frame × Variables → Frame × Variables
 first_above [] other = other
 first_above (f ∷ fs) other = f
@@ -125,7 +128,7 @@ module _ (w : World) (m : VirtualMachine) (file : Name) (name : Name) (span : Sp
           λ e. ended (no_captures (config_of c3).loops (config_of c3).captures (AnInclude name span) Written (config_of c0) (config_of c3) e)
 
       module _ {b3 : OpenBlocks} (stay : Stays b1 c1 b3 c3) where
-        state_above : (around_of c3.scopes).above ≡ ((around_of c0.scopes).frame, variables_of c0.scopes) ∷ (around_of c0.scopes).above
+        state_above : (around_of c3.scopes).above ≡ reading c0.scopes ∷ (around_of c0.scopes).above
         state_above = ap (λ (a : Around). a.above) (stay.around ∙ begins.around)
 
         -- and a state around its own
@@ -133,11 +136,11 @@ module _ (w : World) (m : VirtualMachine) (file : Name) (name : Name) (span : Sp
         has_includer = below_some c3.scopes _ _ state_above
 
         module _ (c4 : Configuration) (rejoins : Rejoins c3 outer c4) where
-          both : ((around_of c4.scopes).frame, variables_of c4.scopes) ∷ (around_of c4.scopes).above ≡ ((around_of c0.scopes).frame, variables_of c0.scopes) ∷ (around_of c0.scopes).above
+          both : reading c4.scopes ∷ (around_of c4.scopes).above ≡ reading c0.scopes ∷ (around_of c0.scopes).above
           both = sym rejoins.around ∙ state_above
 
-          same_frame : ((around_of c4.scopes).frame, variables_of c4.scopes) ≡ ((around_of c0.scopes).frame, variables_of c0.scopes)
-          same_frame = ap (λ fs. first_above fs ((around_of c0.scopes).frame, variables_of c0.scopes)) both
+          same_frame : reading c4.scopes ≡ reading c0.scopes
+          same_frame = ap (λ fs. first_above fs (reading c0.scopes)) both
 
           same_vars : variables_of c4.scopes ≡ variables_of c0.scopes
           same_vars = ap (λ (f : Frame × Variables). f.1) same_frame

@@ -143,9 +143,9 @@ module _ {most : ℕ} {w : World} {place : Place} {code : Code} {c0 : Config} wh
         at_ask {c2} {f} {a} did is = record { progress = g; is = e; count = m; did = at_place did (flow.Ask a) is }
 
         -- the same, by what the machine asks for
-        pub at_request : {c2 : Config} {f : declared.Flow} (q : Request) (u : Use) → act here (ip + 1) i c ≡ Goes c2 (flow_of f) → flow_of f ≡ Ask q u → AtAsk most w place code c0 n0 ip c n i c2 n2 q u
-        at_request {c2} q u did is =
-            record { progress = g; is = e; count = m; did = ap (λ h. act h (ip + 1) i c) (sym same) ∙ did ∙ ap (Goes c2) is }
+        pub at_request : {c2 : Config} {f f2 : declared.Flow} (q : Request) (u : Use) → act here (ip + 1) i c ≡ Goes c2 (flow_of f) → f ≡ f2 → flow_of f2 ≡ Ask q u → AtAsk most w place code c0 n0 ip c n i c2 n2 q u
+        at_request {c2} {f2 = f2} q u did is asks =
+            record { progress = g; is = e; count = m; did = at_place did f2 is ∙ ap (Goes c2) asks }
 
         pub act_failed : (r : Refusal) (c2 : Config) → Acted (act here (ip + 1) i c) (Err r) c2 → Ran w place code c0 (Err r) c2 (n2 - n0)
         act_failed None c2 a = tt

@@ -1,11 +1,11 @@
-use Rattle.std.proofs.Common.{arith, refl, ap, ◌+◌}
+use Rattle.std.proofs.Common.{arith, refl, ◌+◌}
 use Rattle.tera_meaning.specs.Run.{AnInclude}
-use Rattle.tera_machine.specs.Flow.{Written, flow_of}
+use Rattle.tera_machine.specs.Flow.{Written}
 use Rattle.tera_machine.specs.Subject.{here_of}
 use Rattle.tera_machine.proofs.Runs.{here_is, not_stuck, small, one_left, went_on, skipped, skip_within, went_to, place_within, went_out, finished, act_failed, at_ask, at_request}
 use Rattle.tera_machine.proofs.Still.{still}
 use Rattle.tera_machine.proofs.Taking.{body_within, came_back}
-use Rattle.tera_machine.proofs.Took.{place_same, moved, stays_then, at_place, ends_at, take_failed, may_run, may_leave, body_over, body_stayed}
+use Rattle.tera_machine.proofs.Took.{place_same, moved, stays_then, at_place, ends_at, take_failed, may_run, run_failed, may_leave, body_over, body_stayed}
 use Rattle.tera_machine.proofs.Ways.{linked_in}
 use Rattle.tera_machine.proofs.Including.{include_failed, may_include, included_failed, may_rejoin, has_includer, include_over, include_stayed}
 use Rattle.tera_machine.proofs.machine.VirtualMachine.+run.Goals as goal
@@ -83,12 +83,12 @@ pub run_counted-take-requires : goal.run_counted-take-requires
 run_counted-take-requires g t c κs within =
     (omega (arith, one_left c.loop-instruction.invariant.progress c.in-Some.ensures.found, c.in-Some.ensures.count, c.loop-instruction.invariant.progress.counted, c.decreases), (within.0, (within.1, (c.requires.engine, (c.requires.linked, at_place (place_same c.args.self.now c.args.chunk.now.file c.args.chunk.now.file refl (moved c.step.new.self c.loop-instruction.invariant.stays c.in-Ok.ensures.1.0 c.in-Ok.ensures.1.1 (still (here_of c.args.self.now c.file.result.now c.loop-instruction.configuration) (c.loop-instruction.at + 1) c.in-Some.instruction _ _ _ c.in-Ok.ensures.0))) (body_within (at_ask c.loop-instruction.invariant.progress (here_is g.M.Limit.world c.args.self.now _ _ c.args.blocks.now c.loop-instruction.configuration c.args.configuration.now c.requires.engine c.file.ensures c.loop-instruction.invariant.stays.around) c.in-Some.ensures.found c.in-Some.ensures.count c.in-Ok.ensures.0 c.in-Ask.is)))))))
 
-pub run_counted-loop-instruction-smaller : goal.run_counted-loop-instruction-smaller
-run_counted-loop-instruction-smaller g t c =
+pub run_counted-loop-instruction-smaller-in-Ok-take : goal.run_counted-loop-instruction-smaller-in-Ok-take
+run_counted-loop-instruction-smaller-in-Ok-take g t c =
     omega (arith, one_left c.loop-instruction.invariant.progress c.in-Some.ensures.found, c.in-Some.ensures.count, c.in-Ok-take.ensures.counted)
 
-pub run_counted-loop-instruction-preserved : goal.run_counted-loop-instruction-preserved
-run_counted-loop-instruction-preserved g t c = record {
+pub run_counted-loop-instruction-preserved-in-Ok-take : goal.run_counted-loop-instruction-preserved-in-Ok-take
+run_counted-loop-instruction-preserved-in-Ok-take g t c = record {
   progress = came_back (at_ask c.loop-instruction.invariant.progress (here_is g.M.Limit.world c.args.self.now _ _ c.args.blocks.now c.loop-instruction.configuration c.args.configuration.now c.requires.engine c.file.ensures c.loop-instruction.invariant.stays.around) c.in-Some.ensures.found c.in-Some.ensures.count c.in-Ok.ensures.0 c.in-Ask.is) _ _ c.in-Ok-take.ensures.counted c.in-Ok-take.ensures.bounded (ends_at (place_same c.args.self.now c.args.chunk.now.file c.args.chunk.now.file refl (moved c.step.new.self c.loop-instruction.invariant.stays c.in-Ok.ensures.1.0 c.in-Ok.ensures.1.1 (still (here_of c.args.self.now c.file.result.now c.loop-instruction.configuration) (c.loop-instruction.at + 1) c.in-Some.instruction _ _ _ c.in-Ok.ensures.0))) c.in-Ok-take.ensures.ends);
   stays = stays_then (moved c.step.new.self c.loop-instruction.invariant.stays c.in-Ok.ensures.1.0 c.in-Ok.ensures.1.1 (still (here_of c.args.self.now c.file.result.now c.loop-instruction.configuration) (c.loop-instruction.at + 1) c.in-Some.instruction _ _ _ c.in-Ok.ensures.0)) c.in-Ok-take.ensures.stays;
 }
@@ -103,15 +103,15 @@ run_counted-returns-in-Err-take-clause-ends g t c =
 
 pub run_counted-include-requires : goal.run_counted-include-requires
 run_counted-include-requires g t c κs within =
-    (omega (arith, one_left c.loop-instruction.invariant.progress c.in-Some.ensures.found, c.in-Some.ensures.count, c.loop-instruction.invariant.progress.counted, c.decreases), (within.0, (within.1, (c.requires.engine, (c.requires.linked, at_place (place_same c.args.self.now c.args.chunk.now.file c.args.chunk.now.file refl (moved c.step.new.self c.loop-instruction.invariant.stays c.in-Ok.ensures.1.0 c.in-Ok.ensures.1.1 (still (here_of c.args.self.now c.file.result.now c.loop-instruction.configuration) (c.loop-instruction.at + 1) c.in-Some.instruction _ _ _ c.in-Ok.ensures.0))) (body_within (at_request c.loop-instruction.invariant.progress (here_is g.M.Limit.world c.args.self.now _ _ c.args.blocks.now c.loop-instruction.configuration c.args.configuration.now c.requires.engine c.file.ensures c.loop-instruction.invariant.stays.around) c.in-Some.ensures.found c.in-Some.ensures.count (AnInclude c.in-Include.name.now c.in-Include.span) Written c.in-Ok.ensures.0 (ap flow_of c.in-Include.is))))))))
+    (omega (arith, one_left c.loop-instruction.invariant.progress c.in-Some.ensures.found, c.in-Some.ensures.count, c.loop-instruction.invariant.progress.counted, c.decreases), (within.0, (within.1, (c.requires.engine, (c.requires.linked, at_place (place_same c.args.self.now c.args.chunk.now.file c.args.chunk.now.file refl (moved c.step.new.self c.loop-instruction.invariant.stays c.in-Ok.ensures.1.0 c.in-Ok.ensures.1.1 (still (here_of c.args.self.now c.file.result.now c.loop-instruction.configuration) (c.loop-instruction.at + 1) c.in-Some.instruction _ _ _ c.in-Ok.ensures.0))) (body_within (at_request c.loop-instruction.invariant.progress (here_is g.M.Limit.world c.args.self.now _ _ c.args.blocks.now c.loop-instruction.configuration c.args.configuration.now c.requires.engine c.file.ensures c.loop-instruction.invariant.stays.around) c.in-Some.ensures.found c.in-Some.ensures.count (AnInclude c.in-Include.name.now c.in-Include.span) Written c.in-Ok.ensures.0 c.in-Include.is refl)))))))
 
-pub run_counted-loop-instruction-smaller-in-Include : goal.run_counted-loop-instruction-smaller-in-Include
-run_counted-loop-instruction-smaller-in-Include g t c =
+pub run_counted-loop-instruction-smaller : goal.run_counted-loop-instruction-smaller
+run_counted-loop-instruction-smaller g t c =
     omega (arith, one_left c.loop-instruction.invariant.progress c.in-Some.ensures.found, c.in-Some.ensures.count, c.in-Ok-include.ensures.counted)
 
-pub run_counted-loop-instruction-preserved-in-Include : goal.run_counted-loop-instruction-preserved-in-Include
-run_counted-loop-instruction-preserved-in-Include g t c = record {
-  progress = came_back (at_request c.loop-instruction.invariant.progress (here_is g.M.Limit.world c.args.self.now _ _ c.args.blocks.now c.loop-instruction.configuration c.args.configuration.now c.requires.engine c.file.ensures c.loop-instruction.invariant.stays.around) c.in-Some.ensures.found c.in-Some.ensures.count (AnInclude c.in-Include.name.now c.in-Include.span) Written c.in-Ok.ensures.0 (ap flow_of c.in-Include.is)) _ _ c.in-Ok-include.ensures.counted c.in-Ok-include.ensures.bounded (ends_at (place_same c.args.self.now c.args.chunk.now.file c.args.chunk.now.file refl (moved c.step.new.self c.loop-instruction.invariant.stays c.in-Ok.ensures.1.0 c.in-Ok.ensures.1.1 (still (here_of c.args.self.now c.file.result.now c.loop-instruction.configuration) (c.loop-instruction.at + 1) c.in-Some.instruction _ _ _ c.in-Ok.ensures.0))) c.in-Ok-include.ensures.ends);
+pub run_counted-loop-instruction-preserved : goal.run_counted-loop-instruction-preserved
+run_counted-loop-instruction-preserved g t c = record {
+  progress = came_back (at_request c.loop-instruction.invariant.progress (here_is g.M.Limit.world c.args.self.now _ _ c.args.blocks.now c.loop-instruction.configuration c.args.configuration.now c.requires.engine c.file.ensures c.loop-instruction.invariant.stays.around) c.in-Some.ensures.found c.in-Some.ensures.count (AnInclude c.in-Include.name.now c.in-Include.span) Written c.in-Ok.ensures.0 c.in-Include.is refl) _ _ c.in-Ok-include.ensures.counted c.in-Ok-include.ensures.bounded (ends_at (place_same c.args.self.now c.args.chunk.now.file c.args.chunk.now.file refl (moved c.step.new.self c.loop-instruction.invariant.stays c.in-Ok.ensures.1.0 c.in-Ok.ensures.1.1 (still (here_of c.args.self.now c.file.result.now c.loop-instruction.configuration) (c.loop-instruction.at + 1) c.in-Some.instruction _ _ _ c.in-Ok.ensures.0))) c.in-Ok-include.ensures.ends);
   stays = stays_then (moved c.step.new.self c.loop-instruction.invariant.stays c.in-Ok.ensures.1.0 c.in-Ok.ensures.1.1 (still (here_of c.args.self.now c.file.result.now c.loop-instruction.configuration) (c.loop-instruction.at + 1) c.in-Some.instruction _ _ _ c.in-Ok.ensures.0)) c.in-Ok-include.ensures.stays;
 }
 
@@ -121,7 +121,7 @@ run_counted-returns-in-Err-include-clause-bounded g t c =
 
 pub run_counted-returns-in-Err-include-clause-ends : goal.run_counted-returns-in-Err-include-clause-ends
 run_counted-returns-in-Err-include-clause-ends g t c =
-    take_failed (place_same c.args.self.now c.args.chunk.now.file c.args.chunk.now.file refl (moved c.step.new.self c.loop-instruction.invariant.stays c.in-Ok.ensures.1.0 c.in-Ok.ensures.1.1 (still (here_of c.args.self.now c.file.result.now c.loop-instruction.configuration) (c.loop-instruction.at + 1) c.in-Some.instruction _ _ _ c.in-Ok.ensures.0))) (at_request c.loop-instruction.invariant.progress (here_is g.M.Limit.world c.args.self.now _ _ c.args.blocks.now c.loop-instruction.configuration c.args.configuration.now c.requires.engine c.file.ensures c.loop-instruction.invariant.stays.around) c.in-Some.ensures.found c.in-Some.ensures.count (AnInclude c.in-Include.name.now c.in-Include.span) Written c.in-Ok.ensures.0 (ap flow_of c.in-Include.is)) _ _ _ c.in-Err-include.ensures.counted c.in-Err-include.ensures.ends
+    take_failed (place_same c.args.self.now c.args.chunk.now.file c.args.chunk.now.file refl (moved c.step.new.self c.loop-instruction.invariant.stays c.in-Ok.ensures.1.0 c.in-Ok.ensures.1.1 (still (here_of c.args.self.now c.file.result.now c.loop-instruction.configuration) (c.loop-instruction.at + 1) c.in-Some.instruction _ _ _ c.in-Ok.ensures.0))) (at_request c.loop-instruction.invariant.progress (here_is g.M.Limit.world c.args.self.now _ _ c.args.blocks.now c.loop-instruction.configuration c.args.configuration.now c.requires.engine c.file.ensures c.loop-instruction.invariant.stays.around) c.in-Some.ensures.found c.in-Some.ensures.count (AnInclude c.in-Include.name.now c.in-Include.span) Written c.in-Ok.ensures.0 c.in-Include.is refl) _ _ _ c.in-Err-include.ensures.counted c.in-Err-include.ensures.ends
 
 pub run_counted-returns-clause-stays : goal.run_counted-returns-clause-stays
 run_counted-returns-clause-stays g t c = c.loop-instruction.invariant.stays
@@ -129,6 +129,10 @@ run_counted-returns-clause-stays g t c = c.loop-instruction.invariant.stays
 pub take-run_counted-requires : goal.take-run_counted-requires
 take-run_counted-requires g t c κs within =
     (omega (arith, c.decreases), (within.0, (within.1, (c.requires.engine, (c.requires.linked, may_run g.M.Limit.world c.args.self.now c.args.chunk.now.file c.args.asked c.args.blocks.now c.args.configuration.now c.requires.within c.in-Ok.ensures)))))
+
+pub take-returns-in-Err-run_counted-clause-ends : goal.take-returns-in-Err-run_counted-clause-ends
+take-returns-in-Err-run_counted-clause-ends g t c =
+    run_failed g.M.Limit.world c.args.self.now c.args.chunk.now.file c.args.asked c.args.blocks.now c.args.configuration.now c.requires.within c.in-Ok.ensures c.in-Err-run_counted.error _ _ c.in-Err-run_counted.ensures.ends
 
 pub take-leave-requires : goal.take-leave-requires
 take-leave-requires g t c =

@@ -11,6 +11,8 @@ pub mod ArgumentOrder
 pub mod Passing
 pub mod Placed
 pub mod FilterRows
+pub mod PartRows
+pub mod Fit
 pub mod Turning
 pub mod Complete
 pub mod Inside

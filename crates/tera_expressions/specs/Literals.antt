@@ -8,15 +8,24 @@ use Rattle.tera_tokens.specs.Input.{Input, Parser, and_then, refuse, kind, text,
 use Rattle.tera_tokens.specs.Literal.{integer, literal}
 use Rattle.tera_expressions.specs.Keys.{key_at}
 
+-- what a token stands for that is a value
+abbrev pub plain_by : Kind → site.Text → Option Literal
+plain_by k.Nothing word = Some NothingLiteral
+plain_by k.True word = Some (BooleanLiteral true)
+plain_by k.False word = Some (BooleanLiteral false)
+plain_by k.Int word = option_map IntegerLiteral (integer word)
+plain_by k.Text word = option_map TextLiteral (literal word)
+plain_by kind word = None
+
+-- the constant, integer or text that the next token is
+unfoldable pub plain_at : Input → Option Literal
+plain_at i = plain_by (kind i) (text i)
+
 mutual
   -- The tokens from the first place to the second are a value that is written out.
   pub data DerivesLiteral : Literal → Input → Input → Type 0 where
-    nothing : {i : Input} → kind i ≡ k.Nothing → DerivesLiteral NothingLiteral i (next i)
-    is_true : {i : Input} → kind i ≡ k.True → DerivesLiteral (BooleanLiteral true) i (next i)
-    is_false : {i : Input} → kind i ≡ k.False → DerivesLiteral (BooleanLiteral false) i (next i)
-    int : {z : ℤ} {i : Input} → kind i ≡ k.Int → integer (text i) ≡ Some z → DerivesLiteral (IntegerLiteral z) i (next i)
+    plain : {x : Literal} {i : Input} → plain_at i ≡ Some x → DerivesLiteral x i (next i)
     minus : {z : ℤ} {i : Input} → kind i ≡ k.Minus → kind (next i) ≡ k.Int → integer (text (next i)) ≡ Some z → DerivesLiteral (IntegerLiteral (neg_ℤ z)) i (next (next i))
-    quoted : {t : site.Text} {i : Input} → kind i ≡ k.Text → literal (text i) ≡ Some t → DerivesLiteral (TextLiteral t) i (next i)
     array : {xs : Literals} {i a : Input} → kind i ≡ k.LeftBracket → DerivesLiterals xs (next i) a → kind a ≡ k.RightBracket → DerivesLiteral (ArrayLiteral xs) i (next a)
     map : {xs : LiteralEntries} {i a : Input} → kind i ≡ k.LeftBrace → DerivesLiteralEntries xs (next i) a → kind a ≡ k.RightBrace → DerivesLiteral (MapLiteral xs) i (next a)
 
@@ -41,25 +50,28 @@ abbrev pub join_literals : Literals → Literals → Literals
 join_literals NoLiterals tail = tail
 join_literals (MoreLiterals x rest) tail = MoreLiterals x (join_literals rest tail)
 
-abbrev pub with_literal : Literals → Literal → Literals
-with_literal found x = join_literals found (MoreLiterals x NoLiterals)
+abbrev pub one_literal : Literal → Literals
+one_literal x = MoreLiterals x NoLiterals
 
 abbrev pub join_literal_entries : LiteralEntries → LiteralEntries → LiteralEntries
 join_literal_entries NoLiteralEntries tail = tail
 join_literal_entries (MoreLiteralEntries key x rest) tail = MoreLiteralEntries key x (join_literal_entries rest tail)
 
-abbrev pub with_literal_entry : LiteralEntries → Key × Literal → LiteralEntries
-with_literal_entry found e = join_literal_entries found (MoreLiteralEntries e.0 e.1 NoLiteralEntries)
+abbrev pub one_literal_entry : Key → Literal → LiteralEntries
+one_literal_entry key x = MoreLiteralEntries key x NoLiteralEntries
 
--- Parts with commas between, up to a token of this kind: each is put behind those that were found.
-module _ {A B : Type 0} (closing : Kind) (part : Parser B) (put : A → B → A) where
+-- Parts with commas between, up to a token of this kind: a step reads one and puts it behind those that were found.
+module _ {A : Type 0} (closing : Kind) (step : A → Parser A) where
+  abbrev pub closed : A → Parser A
+  closed found = λ j. and_then (expect closing j) (λ _. λ a. Some (found, a))
+
   -- behind a part stands a comma and more, or what closes
   abbrev pub behind_part : (A → Parser A) → A → Parser A
-  behind_part further found = λ j. if same k.Comma (kind j) then further found (next j) else and_then (expect closing j) (λ _. λ a. Some (found, a))
+  behind_part further found = λ j. if same k.Comma (kind j) then further found (next j) else closed found j
 
   unfoldable pub parts_from : ℕ → A → Parser A
   parts_from zero found = refuse
-  parts_from (suc n) found = λ i. if same closing (kind i) then Some (found, next i) else and_then (part i) (λ x. behind_part (parts_from n) (put found x))
+  parts_from (suc n) found = λ i. if same closing (kind i) then Some (found, next i) else and_then (step found i) (behind_part (parts_from n))
 
 abbrev pub literal_at : Option Literal → Parser Literal
 literal_at None = refuse
@@ -79,25 +91,24 @@ written_key = λ i. keyed_by (key_at i) i
 
 -- `part` reads a value that is part of another.
 module _ (part : Parser Literal) where
-  unfoldable pub written_entry : Parser (Key × Literal)
-  written_entry = λ i. and_then (written_key i) (λ key. λ j. and_then (part j) (λ x. λ a. Some ((key, x), a)))
+  -- a value behind those that were found
+  unfoldable pub written_item : Literals → Parser Literals
+  written_item found = λ i. and_then (part i) (λ x. λ j. Some (join_literals found (one_literal x), j))
 
-  unfoldable pub written_array : Parser Literal
-  written_array = λ i. and_then (parts_from k.RightBracket part with_literal (left i) NoLiterals i) (λ xs. λ j. Some (ArrayLiteral xs, j))
+  unfoldable pub written_entry : LiteralEntries → Parser LiteralEntries
+  written_entry found = λ i. and_then (written_key i) (λ key. λ j. and_then (part j) (λ x. λ a. Some (join_literal_entries found (one_literal_entry key x), a)))
 
-  unfoldable pub written_map : Parser Literal
-  written_map = λ i. and_then (parts_from k.RightBrace written_entry with_literal_entry (left i) NoLiteralEntries i) (λ xs. λ j. Some (MapLiteral xs, j))
+  unfoldable pub written_items : Parser Literals
+  written_items = λ i. parts_from k.RightBracket written_item (left i) NoLiterals i
+
+  unfoldable pub written_entries : Parser LiteralEntries
+  written_entries = λ i. parts_from k.RightBrace written_entry (left i) NoLiteralEntries i
 
   abbrev pub written_by : Kind → Parser Literal
-  written_by k.Nothing = literal_at (Some NothingLiteral)
-  written_by k.True = literal_at (Some (BooleanLiteral true))
-  written_by k.False = literal_at (Some (BooleanLiteral false))
-  written_by k.Int = λ i. literal_at (option_map IntegerLiteral (integer (text i))) i
+  written_by k.LeftBracket = λ i. and_then (written_items (next i)) (λ xs. λ j. Some (ArrayLiteral xs, j))
+  written_by k.LeftBrace = λ i. and_then (written_entries (next i)) (λ xs. λ j. Some (MapLiteral xs, j))
   written_by k.Minus = λ i. negative (next i)
-  written_by k.Text = λ i. literal_at (option_map TextLiteral (literal (text i))) i
-  written_by k.LeftBracket = λ i. written_array (next i)
-  written_by k.LeftBrace = λ i. written_map (next i)
-  written_by _ = refuse
+  written_by _ = λ i. literal_at (plain_at i) i
 
 -- a value that is written out, no deeper than the number
 unfoldable pub written : ℕ → Parser Literal

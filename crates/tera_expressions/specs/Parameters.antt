@@ -8,6 +8,7 @@ use Rattle.tera_tree.specs.Definitions.{has_fit_parameters}
 use Rattle.tera_tokens.specs.declared.token.Kind.{Kind}
 use Rattle.tera_tokens.specs.declared.token.Kind.TheVariants as k
 use Rattle.tera_tokens.specs.Input.{Input, Parser, and_then, ◌>>=◌, refuse, kind, text, next, left, same, expect, is_word}
+use Rattle.tera_expressions.specs.Headings.{name}
 use Rattle.tera_expressions.specs.Literals.{DerivesLiteral, written}
 
 -- a type's name, whose first letter may be small
@@ -35,8 +36,8 @@ pub data DerivesDefault : Option Literal → Input → Input → Type 0 where
 
 -- a parameter by this name, from behind the name on
 pub data DerivesNamed : Bool → Name → Parameter → Input → Input → Type 0 where
-  named : {is_implicit : Bool} {name : Name} {t : Option ArgumentType} {d : Option Literal} {i a j : Input} → DerivesType t i a → DerivesDefault d a j
-      → DerivesNamed is_implicit name (record { name = name; is_implicit = is_implicit; of_type = t; default = d }) i j
+  named : {is_implicit : Bool} {n : Name} {t : Option ArgumentType} {d : Option Literal} {i a j : Input} → DerivesType t i a → DerivesDefault d a j
+      → DerivesNamed is_implicit n (record { name = n; is_implicit = is_implicit; of_type = t; default = d }) i j
 
 -- a parameter, whose name is not reserved
 pub data DerivesParameter : Parameter → Input → Input → Type 0 where
@@ -57,7 +58,7 @@ pub data DerivesAll : List Parameter → Option Name → Input → Input → Typ
 
 -- A component's name, which may be a reserved word, and its parameters in parentheses.
 pub data DerivesSignature : Signature → Input → Input → Type 0 where
-  signature : {ps : List Parameter} {r : Option Name} {i a : Input} → is_word (kind i) ≡ true → kind (next i) ≡ k.LeftParenthesis → DerivesAll ps r (next (next i)) a
+  signs : {ps : List Parameter} {r : Option Name} {i a : Input} → is_word (kind i) ≡ true → kind (next i) ≡ k.LeftParenthesis → DerivesAll ps r (next (next i)) a
       → kind a ≡ k.RightParenthesis → IsTrue (has_fit_parameters (record { name = text i; parameters = ps; rest = r }))
       → DerivesSignature (record { name = text i; parameters = ps; rest = r }) i (next a)
 
@@ -79,19 +80,23 @@ module _ (limit : ℕ) where
 
   -- from behind its name on
   unfoldable pub named_parameter : Bool → Name → Parser Parameter
-  named_parameter is_implicit name = parameter_type >>= (λ t. default_value >>= (λ d. λ j.
-      Some (record { name = name; is_implicit = is_implicit; of_type = t; default = d }, j)))
+  named_parameter is_implicit n = parameter_type >>= (λ t. default_value >>= (λ d. λ j.
+      Some (record { name = n; is_implicit = is_implicit; of_type = t; default = d }, j)))
 
   -- from its name on
   unfoldable pub parameter_by_name : Bool → Parser Parameter
-  parameter_by_name is_implicit = λ i. if same k.Name (kind i) then named_parameter is_implicit (text i) (next i) else None
+  parameter_by_name is_implicit = name >>= named_parameter is_implicit
 
   unfoldable pub parameter : Parser Parameter
   parameter = λ i. if same k.At (kind i) then parameter_by_name true (next i) else parameter_by_name false i
 
+  -- a parameter behind those that were found
+  unfoldable pub with_parameter : List Parameter → Parser (List Parameter)
+  with_parameter found = λ i. and_then (parameter i) (λ p. λ j. Some (found ++ p ∷ [], j))
+
   -- behind the dots
   unfoldable pub rest_name : List Parameter → Parser (List Parameter × Option Name)
-  rest_name found = λ i. if same k.Name (kind i) then Some ((found, Some (text i)), next i) else None
+  rest_name found = λ i. and_then (name i) (λ n. λ j. Some ((found, Some n), j))
 
   -- behind a parameter stands a comma and more, or they end
   abbrev pub behind_parameter : (List Parameter → Parser (List Parameter × Option Name)) → List Parameter → Parser (List Parameter × Option Name)
@@ -99,8 +104,7 @@ module _ (limit : ℕ) where
 
   unfoldable pub parameters_from : ℕ → List Parameter → Parser (List Parameter × Option Name)
   parameters_from zero found = refuse
-  parameters_from (suc n) found = λ i. if same k.Spread (kind i) then rest_name found (next i)
-      else and_then (parameter i) (λ p. behind_parameter (parameters_from n) (found ++ p ∷ []))
+  parameters_from (suc n) found = λ i. if same k.Spread (kind i) then rest_name found (next i) else and_then (with_parameter found i) (behind_parameter (parameters_from n))
 
   -- what stands in the parentheses
   unfoldable pub all_parameters : Parser (List Parameter × Option Name)
@@ -110,11 +114,11 @@ abbrev pub fit : Signature → Parser Signature
 fit s = λ j. if has_fit_parameters s then Some (s, j) else None
 
 abbrev pub signature_by : Name → List Parameter × Option Name → Parser Signature
-signature_by name p = λ i. and_then (expect k.RightParenthesis i) (λ _. fit (record { name = name; parameters = p.0; rest = p.1 }))
+signature_by n p = λ i. and_then (expect k.RightParenthesis i) (λ _. fit (record { name = n; parameters = p.0; rest = p.1 }))
 
 -- from behind the name on
 unfoldable pub signature_from : ℕ → Name → Parser Signature
-signature_from limit name = expect k.LeftParenthesis >>= (λ _. all_parameters limit >>= signature_by name)
+signature_from limit n = expect k.LeftParenthesis >>= (λ _. all_parameters limit >>= signature_by n)
 
 -- a signature with defaults no deeper than the number
 unfoldable pub signature : ℕ → Parser Signature

@@ -13,6 +13,8 @@ pub mod Placed
 pub mod FilterRows
 pub mod PartRows
 pub mod Fit
+pub mod ParameterRows
+pub mod Written
 pub mod Turning
 pub mod Complete
 pub mod Inside

@@ -74,6 +74,14 @@ named_type = λ i. if is_word (kind i) then type_at (type_of (text i)) i else No
 unfoldable pub parameter_type : Parser (Option ArgumentType)
 parameter_type = λ i. if same k.Colon (kind i) then named_type (next i) else Some (None, i)
 
+-- behind the dots
+unfoldable pub rest_name : List Parameter → Parser (List Parameter × Option Name)
+rest_name found = λ i. and_then (name i) (λ n. λ j. Some ((found, Some n), j))
+
+-- behind a parameter stands a comma and more, or they end
+abbrev pub behind_parameter : (List Parameter → Parser (List Parameter × Option Name)) → List Parameter → Parser (List Parameter × Option Name)
+behind_parameter further found = λ j. if same k.Comma (kind j) then further found (next j) else Some ((found, None), j)
+
 module _ (limit : ℕ) where
   unfoldable pub default_value : Parser (Option Literal)
   default_value = λ i. if same k.Assign (kind i) then and_then (written limit (next i)) (λ x. λ j. Some (Some x, j)) else Some (None, i)
@@ -93,14 +101,6 @@ module _ (limit : ℕ) where
   -- a parameter behind those that were found
   unfoldable pub with_parameter : List Parameter → Parser (List Parameter)
   with_parameter found = λ i. and_then (parameter i) (λ p. λ j. Some (found ++ p ∷ [], j))
-
-  -- behind the dots
-  unfoldable pub rest_name : List Parameter → Parser (List Parameter × Option Name)
-  rest_name found = λ i. and_then (name i) (λ n. λ j. Some ((found, Some n), j))
-
-  -- behind a parameter stands a comma and more, or they end
-  abbrev pub behind_parameter : (List Parameter → Parser (List Parameter × Option Name)) → List Parameter → Parser (List Parameter × Option Name)
-  behind_parameter further found = λ j. if same k.Comma (kind j) then further found (next j) else Some ((found, None), j)
 
   unfoldable pub parameters_from : ℕ → List Parameter → Parser (List Parameter × Option Name)
   parameters_from zero found = refuse

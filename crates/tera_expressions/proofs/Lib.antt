@@ -15,6 +15,7 @@ pub mod PartRows
 pub mod Fit
 pub mod ParameterRows
 pub mod Written
+pub mod Signatures
 pub mod Turning
 pub mod Complete
 pub mod Inside

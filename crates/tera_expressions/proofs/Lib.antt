@@ -3,6 +3,8 @@ pub mod Steps
 pub mod Precedence
 pub mod Rows
 pub mod Calls
+pub mod Gathered
+pub mod AttributeRows
 pub mod Sound
 pub mod Extent
 pub mod Forms
@@ -20,4 +22,5 @@ pub mod Turning
 pub mod Complete
 pub mod Inside
 pub mod Sections
+pub mod AttributeLaws
 pub mod Alone

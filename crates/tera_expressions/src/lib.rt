@@ -6,6 +6,8 @@ mod applications;
 mod arguments;
 mod climb;
 mod collections;
+/// Components that are called, and their attributes.
+pub mod components;
 mod comprehensions;
 /// Expressions, to a greatest depth.
 pub mod expressions;

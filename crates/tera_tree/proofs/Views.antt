@@ -18,7 +18,7 @@ use Rattle.tera_tree.specs.declared.node.Node.{Row_of-Node, end_of-Node, more_of
 use Rattle.tera_tree.specs.declared.node.Node as declared
 use Rattle.tera_tree.specs.declared.node.SectionFilter.{SectionFilter}
 use Rattle.tera_tree.specs.declared.node.Node.TheVariants as variant
-use Rattle.tera_tree.specs.Tree.{Array, Map, Super, Filter, Test, Call, ArrayLiteral, MapLiteral, MoreLiterals, MoreLiteralEntries, MoreItems, MoreEntries, MoreArguments, If, Capture, FilterSection, For, Block, ComponentCall, Definition, MoreNodes}
+use Rattle.tera_tree.specs.Tree.{Array, Map, Super, Filter, Test, Call, Component, ArrayLiteral, MapLiteral, MoreLiterals, MoreLiteralEntries, MoreItems, MoreEntries, MoreArguments, If, Capture, FilterSection, For, Block, ComponentCall, Definition, MoreNodes}
 use Rattle.tera_tree.specs.View.{literal_of, literal_option, expr_of, row_items, items_of, row_entries, entries_of, row_arguments, arguments_of, written_of, row_literals, literals_of, row_literal_entries, literal_entries_of, signature_of, filters_of, node_of, row_nodes, nodes_of, for_of}
 
 pub items_row : (m : _) (row : Row_of-Item m) → row_items row ≡ items_of (items-the_row-Item m row)
@@ -59,6 +59,7 @@ items_in _ = (_, end_of-Item)
 
 abbrev entries_in : Expression → (n : Count) × Row_of-Entry n
 entries_in (expression.Map' _ row _) = (_, row)
+entries_in (expression.Component' _ _ row _) = (_, row)
 entries_in _ = (_, end_of-Entry)
 
 abbrev arguments_in : Expression → (n : Count) × Row_of-Argument n
@@ -112,6 +113,11 @@ view_test v n all span = ap (λ x. Test (expr_of v.value) n.now x span) (argumen
 
 pub view_call : (n : Bor Text) (all : Vec argument.Argument Global) (span : Span) → expr_of (expression.Call n all span) ≡ Call n.now (arguments_of all.items) span
 view_call n all span = ap (λ x. Call n.now x span) (arguments_are (arguments_in (expression.Call n all span)) all (items_hidden-the_row-Argument-2 all))
+
+pub view_component : (n : Bor Text) (all : Vec entry.Entry Global) (span : Span) → expr_of (expression.Component n all span) ≡ Component n.now (entries_of all.items) span
+view_component n all span =
+    let r = entries_in (expression.Component n all span) in
+    ap (λ x. Component n.now x span) (entries_row r.0 r.1 ∙ ap entries_of (items_hidden-the_row-Entry-1 all))
 
 pub view_block : (t : Bor Text) (body : Vec declared.Node Global) (span : Span) → node_of (variant.Block t body span) ≡ Block t.now (nodes_of body.items) span
 view_block t body span = ap (λ x. Block t.now x span) (nodes_is (body_in (variant.Block t body span)) body (items_hidden-the_row-Node-0 body))

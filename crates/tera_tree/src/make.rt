@@ -1,6 +1,6 @@
 // Trees from their parts.
 ghost use Rattle.std.specs.Prelude.{◌≡◌};
-ghost use Rattle.tera_tree.specs.Tree.{Attribute, Index, Not, Negate, Binary, And, Or, Ternary, Array, Map, Super, Filter, Test, Call, ArrayLiteral, MapLiteral, If, Set, Capture, FilterSection, Block, ComponentCall, Definition};
+ghost use Rattle.tera_tree.specs.Tree.{Attribute, Index, Not, Negate, Binary, And, Or, Ternary, Array, Map, Super, Filter, Test, Call, Component, ArrayLiteral, MapLiteral, If, Set, Capture, FilterSection, Block, ComponentCall, Definition};
 ghost use Rattle.tera_tree.specs.View.{expr_of, slice_of, comprehension_of, items_of, entries_of, arguments_of, written_of, literals_of, literal_entries_of, signature_of, filters_of, node_of, nodes_of, for_of};
 
 use crate::component::{Literal, LiteralEntry, Signature};
@@ -207,6 +207,17 @@ impl<'s> Expression<'s> {
         Expression::Call {
             name,
             arguments,
+            span,
+        }
+    }
+
+    /// `<name attributes/>`
+    pub fn component(name: &'s str, attributes: Vec<Entry<'s>>, span: Span) -> Expression<'s>
+        ensures { expr_of result ≡ Component name.now (entries_of attributes.entry.items) span }
+    {
+        Expression::Component {
+            name,
+            attributes,
             span,
         }
     }

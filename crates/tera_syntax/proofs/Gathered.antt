@@ -1,4 +1,4 @@
--- The names of a tree's blocks, one behind another.
+-- The names of a tree's blocks and components, one behind another.
 use Rattle.std.proofs.Common.{◌≡◌, List, [], ◌∷◌, ◌++◌, map, Vec, Box, Bor, Bool, Global, Result, Ok, Err, OnOk, ap, ap₂, sym, ◌∙◌}
 use Rattle.std.proofs.lemmas.List.{append_assoc, map-append}
 use Rattle.tera_errors.specs.Site.{Name, Text}
@@ -13,7 +13,7 @@ use Rattle.tera_tree.specs.Tree.{Nodes}
 use Rattle.tera_tree.specs.Blocks.{blocks, block_names}
 use Rattle.tera_tree.specs.View.{node_of, nodes_of}
 use Rattle.tera_tree.proofs.Views.{view_if, view_for, view_capture, view_section, view_block}
-use Rattle.tera_syntax.specs.declared.blocks.BlockName.{BlockName}
+use Rattle.tera_syntax.specs.declared.blocks.PlacedName.{PlacedName}
 use Rattle.tera_syntax.specs.View.{names_of, node_names}
 
 -- a body of a node, and the other
@@ -42,7 +42,7 @@ module _ (result : Result (Unit {0}) Refusal) (old new : List Name) (node : decl
       let s = ap (λ xs. block_names (nodes_of xs)) a ∙ ap node_names (sym (view_section filters body)) ∙ ap (λ n. node_names (node_of n)) (sym is) in
       on_ok result (λ e. e ∙ ap (λ names. old ++ names) s) h
 
-  pub block_gathered : (t : Bor Text) (body : Vec declared.Node Global) (span : Span) (xs : List declared.Node) (names pushed : List BlockName) (b : BlockName) → node ≡ variant.Block t body span → xs ≡ body.items
+  pub block_gathered : (t : Bor Text) (body : Vec declared.Node Global) (span : Span) (xs : List declared.Node) (names pushed : List PlacedName) (b : PlacedName) → node ≡ variant.Block t body span → xs ≡ body.items
       → old ≡ names_of names → pushed ≡ names ++ b ∷ [] → b.name.now ≡ t.now → OnOk result (new ≡ names_of pushed ++ block_names (nodes_of xs)) → OnOk result (new ≡ old ++ node_names (node_of node))
   block_gathered t body span xs names pushed b is a o p w h =
       let m : names_of pushed ≡ old ++ t.now ∷ [] = ap names_of p ∙ map-append (λ n. n.name.now) names (b ∷ []) ∙ ap₂ (λ x y. x ++ y ∷ []) (sym o) w in

@@ -1,5 +1,5 @@
 -- All spans of a tree lie inside the text that spells it.
-use Rattle.std.proofs.Common.{◌≡◌, ℕ, arith, false, List, Option, length, IsTrue}
+use Rattle.std.proofs.Common.{◌≡◌, ℕ, arith, Bool, false, List, Option, length, IsTrue}
 use Rattle.std.specs.Str.{IsUtf8}
 use Rattle.tera_errors.specs.Site.{Name, Text}
 use Rattle.tera_tree.specs.Delimiters.{delimiters_of, accepted}
@@ -16,7 +16,7 @@ use Rattle.tera_tokens.proofs.Stretches.{PiecesInside, pieces_inside}
 use Rattle.tera_expressions.proofs.Calls.{calls_lie}
 use Rattle.tera_expressions.proofs.Inside.{expr_lies, attributes_lie, filters_lie}
 use Rattle.tera_syntax.specs.declared.heads.Surroundings.{Surroundings}
-use Rattle.tera_syntax.specs.Heads.{Head, IfHead, ForHead, SetHead, SectionHead, BlockHead, CallHead, DefinitionHead, make}
+use Rattle.tera_syntax.specs.Heads.{Head, IfHead, ForHead, SetHead, SectionHead, BlockHead, CallHead, DefinitionHead, make, first}
 use Rattle.tera_syntax.specs.Grammar.{DerivesWhole, whole, DerivesPipe, pipe, Simple, set, includes, breaks, continues, Opens, choice, loop, capture, filtered, section, block, call, definition, GoesOn, elif, DerivesNodes, empty, content, blank, comment, print, single, bodied, DerivesRest, ended, split, chained, Front, nothing, space, remark, DerivesFile, root, child}
 use Rattle.tera_syntax.specs.Spells.{Spells}
 
@@ -40,6 +40,11 @@ behind_two size i o = behind size (next i) (behind size i o)
 -- a token that stands here lies inside
 token_inside : (size : ℕ) (s : Kind) (i : Input) → kind i ≡ s → (s ≡ k.End → ⊥) → Orderly size i → Within size (span (start i) (next i))
 token_inside size s i e n o = (start_le size s i e n o, in_order-le size (next i).last (next i).ahead (behind size i o))
+
+-- the first kind, whatever the tag stands in
+first_here : (s : Kind) (q : Bool) (tokens : List Token) → first tokens ≡ s → kind (begin q tokens) ≡ s
+unfolding kind
+first_here s q tokens e = e
 
 -- what begins with a token lies inside
 stretch_inside : (size : ℕ) (s : Kind) (i j : Input) → kind i ≡ s → (s ≡ k.End → ⊥) → Orderly size i → Onward size (next i) j → Within size (span (start i) j)
@@ -75,7 +80,7 @@ opens_inside size {q = q} {tokens = tokens} (call {a = a} e w d g f) o =
     let n = onward_next size i o in
     let m = onward_next size (next i) n.orderly in
     let p = attributes_lie size d m.orderly in
-    (p.inside, stretch_inside size k.Less i (next a) e (λ q. cc) o (onward_then m (onward_then p.onward (onward_next size a p.onward.orderly))))
+    (p.inside, stretch_inside size k.Less i (next a) (first_here k.Less q.in_loop tokens e) (λ q. cc) o (onward_then m (onward_then p.onward (onward_next size a p.onward.orderly))))
 opens_inside size (definition t b d e) o = tt
 opens_inside size {q = q} {tokens = tokens} (block m b n) o = token_inside size k.Name (next (begin q.in_loop tokens)) n.0 (λ q. cc) (behind size (begin q.in_loop tokens) o)
 

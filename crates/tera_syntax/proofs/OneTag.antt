@@ -1,5 +1,5 @@
 -- One tag: what is read is what it may be, and the other way round.
-use Rattle.std.proofs.Common.{◌≡◌, ℕ, suc, ◌≤◌, List, [], ◌∷◌, Bool, true, false, ◌&&◌, ◌||◌, Option, Some, None, IsTrue, if◌then◌else◌, bytes_eq, codes, refl, ap, ◌∙◌, subst, arith}
+use Rattle.std.proofs.Common.{◌≡◌, ℕ, suc, ◌≤◌, List, [], ◌∷◌, Bool, true, false, ◌&&◌, ◌||◌, Option, Some, None, IsTrue, if◌then◌else◌, bytes_eq, codes, refl, ap, sym, ◌∙◌, subst, arith}
 use Rattle.std.specs.Prelude.{option_map}
 use Rattle.std.proofs.lemmas.Slice.Eq.{bytes_eq-Decides}
 use Rattle.tera_errors.specs.Site.{Text, Name}
@@ -15,7 +15,7 @@ use Rattle.tera_expressions.specs.Grammar.{DerivesAttributes}
 use Rattle.tera_expressions.specs.Headings.{Names, calls}
 use Rattle.tera_expressions.specs.Parameters.{DerivesSignature}
 use Rattle.tera_expressions.proofs.Calls.{calls-got, calls-is}
-use Rattle.tera_expressions.proofs.Steps.{guard, chosen, either, same-is, same-refl, alike, differ}
+use Rattle.tera_expressions.proofs.Steps.{guard, chosen, either, same-is, same-refl, alike, unlike}
 use Rattle.tera_syntax.specs.declared.heads.Surroundings.{Surroundings}
 use Rattle.tera_syntax.specs.Heads.{Head, IfHead, ForHead, SetHead, SectionHead, BlockHead, CallHead, DefinitionHead, head_depth, end_kind, is_end, is_named, is_call_end, first, ends}
 use Rattle.tera_syntax.specs.Grammar.{DerivesWhole, IsWord, Begins, Quotes, set_word, Simple, set, includes, breaks, continues, DerivesPipe, Opens, choice, loop, capture, filtered, section, block, call, definition, GoesOn, elif}
@@ -357,14 +357,7 @@ module _ (limit : ℕ) (q outer : Surroundings) (tokens : List Token) where
   -- a word is no slash
   no-slash : (i : Input) → is_word (kind i) ≡ true → same k.Slash (kind i) ≡ false
   unfolding is_word
-  no-slash i h = unlike-word (kind i) h
-    where
-      unlike-word : (s : Kind) → is_word s ≡ true → same k.Slash s ≡ false
-      unlike-word s w = go (same k.Slash s) refl
-        where
-          go : (b : Bool) → same k.Slash s ≡ b → same k.Slash s ≡ false
-          go true e = let f : is_word k.Slash ≡ true = ap is_word (same-is k.Slash s e) ∙ w in absurd (cc)
-          go false e = e
+  no-slash i h = unlike k.Slash (kind i) (λ e. let f : is_word k.Slash ≡ true = ap is_word (sym e) ∙ h in cc)
 
   call-read : {xs : Entries} {a : Input} → first tokens ≡ k.Less → is_word (kind (next (begin q.in_loop tokens))) ≡ true → DerivesAttributes xs (next (next (begin q.in_loop tokens))) a → kind a ≡ k.Greater
       → kind (next a) ≡ k.End → entries_depth xs ≤ limit

@@ -39,7 +39,7 @@ impl Surroundings {
 
     /// What stands in a statement that changes nothing else: no component is defined there.
     pub fn nested(self) -> Surroundings
-        ensures { result ≡ spec.nested self.entry }
+        ensures { result ≡ spec.nested self }
     {
         Surroundings {
             in_loop: self.in_loop,

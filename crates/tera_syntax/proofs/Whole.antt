@@ -99,8 +99,14 @@ called_from limit from i head (Some p) w e h =
     let f = guard (same k.End (kind (next p.1))) made head g.1 in
     let d = attributes_are_derived limit (next i) p.1 p.0 e in
     record {
-      attributes = p.0.0; place = p.1; word = w; derived = d.0; shut = same-is k.Greater (kind p.1) g.0; end = same-is k.End (kind (next p.1)) f.0;
-      made = (let e = f.1 in cc); fits = d.2;
+      attributes = p.0.0;
+      place = p.1;
+      word = w;
+      derived = d.0;
+      shut = same-is k.Greater (kind p.1) g.0;
+      end = same-is k.End (kind (next p.1)) f.0;
+      made = (let e = f.1 in cc);
+      fits = d.2;
     }
 
 pub called_sound : (limit from : ℕ) (i : Input) (head : Head) → r.called limit from i ≡ Some head → Calls limit from i head

@@ -81,10 +81,7 @@ fn gather_node<'s>(names: &mut Vec<PlacedName<'s>>, node: &Node<'s>) -> Result<(
 
 /// Puts the names of all components that the nodes define behind those that are there. One stands
 /// behind the text before it.
-fn gather_components<'s>(
-    names: &mut Vec<PlacedName<'s>>,
-    nodes: &[Node<'s>],
-) -> Result<(), Refusal>
+fn gather_components<'s>(names: &mut Vec<PlacedName<'s>>, nodes: &[Node<'s>]) -> Result<(), Refusal>
     ensures ok { let more = component_names (nodes_of nodes.now) in
         OnOk result (names_of names.new.items ≡ names_of names.old.items ++ more) }
     ensures lacks { IfErr result (λ refusal. refusal ≡ OutOfMemory) }

@@ -167,8 +167,7 @@ impl<'s> Head<'s> {
             }
             Head::Call(name, _, _) => is_call_end(name, tokens),
             Head::Definition(signature) => {
-                is_alone("endcomponent", tokens)
-                    || is_named("endcomponent", signature.name, tokens)
+                is_alone("endcomponent", tokens) || is_named("endcomponent", signature.name, tokens)
             }
         }
     }
@@ -200,9 +199,7 @@ fn is_named(word: &str, name: &str, tokens: &[Token<'_>]) -> bool
     ensures { result ≡ spec.is_named word.now name.now (tokens_of tokens.now) }
 {
     match tokens {
-        [first, second] => {
-            first.text == word && is_word(second.kind) && second.text == name
-        }
+        [first, second] => { first.text == word && is_word(second.kind) && second.text == name }
         _ => false,
     }
 }

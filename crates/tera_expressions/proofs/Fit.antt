@@ -1,5 +1,5 @@
 -- The names of a signature.
-use Rattle.std.proofs.Common.{◌≡◌, List, [], ◌∷◌, ◌++◌, Option, map, refl, ap, sym}
+use Rattle.std.proofs.Common.{◌≡◌, List, [], ◌∷◌, ◌++◌, Option, map, refl, ap}
 use Rattle.tera_errors.specs.Site.{Name}
 use Rattle.tera_tree.specs.declared.component.Parameter as declared
 use Rattle.tera_tree.specs.Definitions.{rest_names}

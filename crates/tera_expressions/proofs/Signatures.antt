@@ -1,15 +1,15 @@
 -- Signatures of components: what is read is derived, and what is derived is read.
-use Rattle.std.proofs.Common.{◌≡◌, ℕ, zero, suc, ◌<◌, ◌≤◌, max, List, [], ◌∷◌, ◌++◌, Bool, true, false, Option, Some, None, if◌then◌else◌, IsTrue, refl, sym, ◌∙◌, ap, subst, arith}
+use Rattle.std.proofs.Common.{◌≡◌, ℕ, zero, suc, ◌<◌, ◌≤◌, List, [], ◌∷◌, ◌++◌, Bool, true, false, Option, Some, None, refl, sym, ◌∙◌, ap, subst, arith}
 use Rattle.std.proofs.lemmas.List.{append_assoc, append-nil}
 use Rattle.tera_errors.specs.Site.{Name}
 use Rattle.tera_tree.specs.declared.component.ArgumentType.{ArgumentType}
 use Rattle.tera_tree.specs.Tree.{Literal, Parameter, Signature}
 use Rattle.tera_tree.specs.Definitions.{has_fit_parameters}
-use Rattle.tera_tree.specs.Depth.{literal_depth, default_depth, parameters_depth}
+use Rattle.tera_tree.specs.Depth.{default_depth, parameters_depth}
 use Rattle.tera_tokens.specs.declared.token.Kind.TheVariants as k
-use Rattle.tera_tokens.specs.Input.{Input, Outcome, Parser, and_then, same, kind, text, next, left, expect, is_word}
+use Rattle.tera_tokens.specs.Input.{Input, Parser, and_then, same, kind, text, next, left, expect, is_word}
 use Rattle.tera_expressions.specs.Headings.{name}
-use Rattle.tera_expressions.specs.Literals.{DerivesLiteral, written}
+use Rattle.tera_expressions.specs.Literals.{written}
 use Rattle.tera_expressions.specs.Parameters as r
 use Rattle.tera_expressions.specs.Parameters.{DerivesType, untyped, typed, DerivesDefault, required, defaults, DerivesNamed, named, DerivesParameter, explicit, implicit, DerivesParameters, last, rest, more, DerivesAll, none, some, DerivesSignature, signs, type_of}
 use Rattle.tera_expressions.proofs.Steps.{and_then-some, guard, chosen, same-is, some-pair, either, alike, differ, unlike, unlike-is, expect-some}

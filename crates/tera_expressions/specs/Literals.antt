@@ -1,5 +1,5 @@
 -- Values that are written out: what tokens derive them, and the same as a function.
-use Rattle.std.specs.Prelude.{◌≡◌, ℕ, zero, suc, ℤ, neg_ℤ, Bool, true, false, Option, Some, None, option_map, if◌then◌else◌}
+use Rattle.std.specs.Prelude.{◌≡◌, ℕ, zero, suc, ℤ, neg_ℤ, true, false, Option, Some, None, option_map, if◌then◌else◌}
 use Rattle.tera_errors.specs.Site as site
 use Rattle.tera_tree.specs.Tree.{Key, Literal, NothingLiteral, BooleanLiteral, IntegerLiteral, TextLiteral, ArrayLiteral, MapLiteral, Literals, NoLiterals, MoreLiterals, LiteralEntries, NoLiteralEntries, MoreLiteralEntries}
 use Rattle.tera_tokens.specs.declared.token.Kind.{Kind}

@@ -1,11 +1,10 @@
 -- Signatures of components: what tokens derive them, and the same as a function.
-use Rattle.std.specs.Prelude.{◌≡◌, ℕ, zero, suc, bytes_eq, codes, Bool, true, false, ◌||◌, List, [], ◌∷◌, ◌++◌, Option, Some, None, option_map, if◌then◌else◌, IsTrue}
+use Rattle.std.specs.Prelude.{◌≡◌, ℕ, zero, suc, bytes_eq, codes, Bool, true, false, ◌||◌, List, [], ◌∷◌, ◌++◌, Option, Some, None, if◌then◌else◌, IsTrue}
 use Rattle.tera_errors.specs.Site.{Text, Name}
 use Rattle.tera_tree.specs.declared.component.ArgumentType.{ArgumentType}
 use Rattle.tera_tree.specs.declared.component.ArgumentType.TheVariants as of
 use Rattle.tera_tree.specs.Tree.{Literal, Parameter, Signature}
 use Rattle.tera_tree.specs.Definitions.{has_fit_parameters}
-use Rattle.tera_tokens.specs.declared.token.Kind.{Kind}
 use Rattle.tera_tokens.specs.declared.token.Kind.TheVariants as k
 use Rattle.tera_tokens.specs.Input.{Input, Parser, and_then, ◌>>=◌, refuse, kind, text, next, left, same, expect, is_word}
 use Rattle.tera_expressions.specs.Headings.{name}

@@ -1,6 +1,7 @@
 // Values that are written out.
 ghost use Rattle.std.specs.Prelude.{◌≡◌, IfOk};
-ghost use Rattle.tera_tree.specs.View.{literal_entries_of, literal_of, literals_of, written_of, written_option};
+ghost use Rattle.tera_tree.specs.View.{literal_entries_of, literal_of, literals_of};
+ghost use Rattle.tera_tree.specs.View.{written_of, written_option};
 ghost use Rattle.tera_tokens.specs.Input.{kind};
 ghost use Rattle.tera_tokens.specs.Takes.{Takes, input};
 ghost use Rattle.tera_expressions.specs.Literals as spec;
@@ -146,8 +147,9 @@ fn entry<'s>(
     limit: usize,
     found: &mut Vec<LiteralEntry<'s>>,
 ) -> Result<(), Refusal>
-    ensures { let meant = spec.written_entry (spec.written limit) (literal_entries_of found.old.items) in
-        Takes (λ done. literal_entries_of found.new.items) (meant (input tokens.old)) result tokens.new }
+    ensures { let before = literal_entries_of found.old.items in
+        let meant = spec.written_entry (spec.written limit) before (input tokens.old) in
+        Takes (λ done. literal_entries_of found.new.items) meant result tokens.new }
 {
     let key = match key(alloc, tokens) {
         Ok(key) => key,

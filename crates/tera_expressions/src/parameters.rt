@@ -99,8 +99,9 @@ fn with_parameter<'s>(
     limit: usize,
     found: &mut Vec<Parameter<'s>>,
 ) -> Result<(), Refusal>
-    ensures { let meant = spec.with_parameter limit (map parameter_of found.old.items) in
-        Takes (λ done. map parameter_of found.new.items) (meant (input tokens.old)) result tokens.new }
+    ensures { let before = map parameter_of found.old.items in
+        let meant = spec.with_parameter limit before (input tokens.old) in
+        Takes (λ done. map parameter_of found.new.items) meant result tokens.new }
 {
     let parameter = match parameter(alloc, tokens, limit) {
         Ok(parameter) => parameter,
@@ -204,7 +205,8 @@ fn default_value<'s>(
 
 /// Whether a name is one of these.
 fn is_one_of(name: &str, parameters: &[Parameter<'_>], rest: Option<&str>) -> bool
-    ensures { result ≡ is_among name.now (signature_names parameters.now (option_copied rest.entry)) }
+    ensures { let names = signature_names parameters.now (option_copied rest.entry) in
+        result ≡ is_among name.now names }
 {
     for parameter in parameters {
         if name == parameter.name {

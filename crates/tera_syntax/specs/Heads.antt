@@ -70,7 +70,7 @@ chains (CallHead n all span) = false
 chains (DefinitionHead s) = false
 
 -- What its body stands in. A block's body keeps the names of a loop around it, and can't leave a turn of that loop; the body
--- that a component is handed can. What a component is stands in nothing, and has no blocks.
+-- that a component is handed can. The body of a component's definition is in no loop, and has no blocks.
 abbrev pub inside : Head → Surroundings → Surroundings
 inside (IfHead c) around = nested around
 inside (ForHead key n e) around = record { in_loop = true; may_leave = true; is_top = false; may_have_blocks = around.may_have_blocks }

@@ -165,7 +165,8 @@ impl<'s> Progress<'s> {
     /// `else`: what was read is the body.
     pub fn split(&mut self, alloc: Global, tag: &[Token<'_>]) -> Result<(), Refusal>
         ensures { let s = progress_of self.old in
-            Becomes (option_map spec.aside (spec.turned heads.splits s.frames s.found)) result self.new }
+            let meant = option_map spec.aside (spec.turned heads.splits s.frames s.found) in
+            Becomes meant result self.new }
     {
         match self.frames.last() {
             Some(frame) if frame.head.splits() => self.turn_aside(alloc, tag),
@@ -176,7 +177,8 @@ impl<'s> Progress<'s> {
     /// The same where it may have an `else`.
     fn turn_aside(&mut self, alloc: Global, tag: &[Token<'_>]) -> Result<(), Refusal>
         ensures { let s = progress_of self.old in
-            Becomes (option_map spec.aside (spec.turned (λ head. true) s.frames s.found)) result self.new }
+            let meant = option_map spec.aside (spec.turned (λ head. true) s.frames s.found) in
+            Becomes meant result self.new }
     {
         match self.turn(alloc, tag) {
             Ok(()) => {

@@ -1,10 +1,10 @@
-use Rattle.std.proofs.Common.{◌≡◌, ◌-◌, ◌+◌, ap, sym, ◌∙◌, true, false, Some, refl, arith}
+use Rattle.std.proofs.Common.{◌≡◌, ◌-◌, ◌+◌, ap, sym, ◌∙◌, Some, refl, arith}
 use Rattle.tera_tree.specs.Tree.{NoLiterals, NoLiteralEntries}
-use Rattle.tera_tree.specs.View.{literal_entries_of, literal_of, literals_of, written_of}
+use Rattle.tera_tree.specs.View.{literal_entries_of, literals_of}
 use Rattle.tera_tokens.specs.declared.token.Kind.TheVariants.{RightBracket, RightBrace, Comma}
-use Rattle.tera_tokens.specs.Input.{same, kind, and_then, left}
+use Rattle.tera_tokens.specs.Input.{same, and_then, left}
 use Rattle.tera_tokens.specs.Takes.{input}
-use Rattle.tera_expressions.specs.Literals.{parts_from, written, written_item, written_items, written_entry, written_entries, join_literals, one_literal}
+use Rattle.tera_expressions.specs.Literals.{parts_from, written, written_item, written_items, written_entry, written_entries}
 use Rattle.tera_expressions.proofs.PartRows.{parts_behind, parts_comma, parts_shut, parts_closed, turn_end, turn_part, turn_over, written_none, written_more, literals_of-push, literal_entries_of-push}
 use Rattle.tera_expressions.proofs.Turns.{refused, refuses}
 use Rattle.tera_expressions.proofs.literals.+written.Goals as goal

@@ -1,7 +1,7 @@
-use Rattle.std.proofs.Common.{◌≡◌, ◌-◌, ◌+◌, map, ap, sym, ◌∙◌, true, false}
+use Rattle.std.proofs.Common.{◌-◌, ◌+◌, map, ap, sym, ◌∙◌}
 use Rattle.tera_tree.specs.View.{parameter_of}
 use Rattle.tera_tokens.specs.declared.token.Kind.TheVariants.{Spread, Comma}
-use Rattle.tera_tokens.specs.Input.{same, kind, and_then}
+use Rattle.tera_tokens.specs.Input.{same, and_then}
 use Rattle.tera_tokens.specs.Takes.{input}
 use Rattle.tera_expressions.specs.Parameters.{parameters_from, rest_name}
 use Rattle.tera_expressions.proofs.ParameterRows.{rest_named, rest_unnamed, parameters_behind, parameters_rest, parameters_next, parameters_comma, parameters_end}

@@ -4,7 +4,7 @@ use Rattle.std.specs.Str.{IsUtf8}
 use Rattle.tera_errors.specs.Site.{Name, Text}
 use Rattle.tera_tree.specs.Delimiters.{delimiters_of, accepted}
 use Rattle.tera_tree.specs.declared.delimiters.Delimiters.{Delimiters}
-use Rattle.tera_tree.specs.Tree.{Expr, Entries, Filters, Node, Nodes, Tree}
+use Rattle.tera_tree.specs.Tree.{Expr, Filters, Node, Nodes, Tree}
 use Rattle.tera_tree.specs.Inside.{Within, ExprInside, EntriesInside, FiltersInside, NodeInside, NodesInside, Inside}
 use Rattle.tera_tokens.specs.declared.token.Kind.{Kind}
 use Rattle.tera_tokens.specs.declared.token.Kind.TheVariants as k

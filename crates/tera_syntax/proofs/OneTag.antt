@@ -20,7 +20,7 @@ use Rattle.tera_syntax.specs.declared.heads.Surroundings.{Surroundings}
 use Rattle.tera_syntax.specs.Heads.{Head, IfHead, ForHead, SetHead, SectionHead, BlockHead, CallHead, DefinitionHead, head_depth, end_kind, is_end, is_named, is_call_end, first, ends}
 use Rattle.tera_syntax.specs.Grammar.{DerivesWhole, IsWord, Begins, Quotes, set_word, Simple, set, includes, breaks, continues, DerivesPipe, Opens, choice, loop, capture, filtered, section, block, call, definition, GoesOn, elif}
 use Rattle.tera_syntax.specs.Reader.{Tag, Single, Opening, GoingOn, Turning, Closing, looping_by, setting, setting_by, sectioning, block_at, blocking, signed, defining, called, calling, quoted_name, including, alone, leaving, named, tag_by, tag, whole, pipe}
-use Rattle.tera_syntax.proofs.Whole.{whole_sound, whole_complete, pipe_sound, pipe_complete, signed_sound, signed_complete, Calls, called_sound, called_complete}
+use Rattle.tera_syntax.proofs.Whole.{whole_sound, whole_complete, pipe_sound, pipe_complete, signed_sound, signed_complete, called_sound, called_complete}
 
 -- what is said of a tag with expressions no deeper than this, where it was read
 abbrev pub Meant : ℕ → Surroundings → Surroundings → List Token → Tag → Type 0

@@ -7,7 +7,7 @@ use Rattle.tera_tree.specs.Places.{node_in_place, in_place}
 use Rattle.tera_tree.specs.Definitions.{node_defined_in_place, defined_in_place}
 use Rattle.tera_syntax.specs.declared.heads.Surroundings.{Surroundings}
 use Rattle.tera_syntax.specs.Heads.{Head, IfHead, ForHead, SetHead, SectionHead, BlockHead, CallHead, DefinitionHead, nested, make, inside}
-use Rattle.tera_syntax.specs.Grammar.{Simple, set, includes, breaks, continues, Opens, choice, loop, capture, filtered, section, block, call, definition, GoesOn, elif, DerivesNodes, empty, content, blank, comment, print, single, bodied, DerivesRest, ended, split, chained}
+use Rattle.tera_syntax.specs.Grammar.{Simple, set, includes, breaks, continues, Opens, choice, loop, capture, filtered, section, block, call, definition, elif, DerivesNodes, empty, content, blank, comment, print, single, bodied, DerivesRest, ended, split, chained}
 
 and-true : (a b : Bool) → a ≡ true → b ≡ true → (a && b) ≡ true
 and-true true b e f = f

@@ -24,15 +24,25 @@ use Rattle.tera_registry.proofs.Rows.{drop-at}
 
 -- Place by place.
 
-pub calls-on : (code : Code) (k : ℕ) (whole old new : List Name) → k < length code → new ≡ old ++ cons_option (option_and_then calls_component (slice_get code k)) [] → old ++ code_calls (drop k code) ≡ whole → new ++ code_calls (drop (k + 1) code) ≡ whole
-calls-on code k whole old new lt e h =
+calls-split : (code : Code) (k : ℕ) → k < length code → code_calls (drop k code) ≡ cons_option (option_and_then calls_component (slice_get code k)) [] ++ code_calls (drop (k + 1) code)
+calls-split code k lt =
     let i = element code k lt in
     let at : option_and_then calls_component (slice_get code k) ≡ calls_component i.0 = ap (option_and_then calls_component) i.1 in
-    ap (λ l. l ++ code_calls (drop (k + 1) code)) (e ∙ ap (λ o. old ++ cons_option o []) at) ∙ append_assoc old (cons_option (calls_component i.0) []) (code_calls (drop (k + 1) code)) ∙ ap (λ l. old ++ l) (joined (calls_component i.0) (code_calls (drop (k + 1) code)) ∙ sym (ap code_calls (drop-at code k i.0 i.1))) ∙ h
+    ap code_calls (drop-at code k i.0 i.1) ∙ joined (calls_component i.0) (code_calls (drop (k + 1) code)) ∙ ap (λ o. cons_option o [] ++ code_calls (drop (k + 1) code)) (sym at)
   where
-    joined : (o : Option Name) (rest : List Name) → cons_option o [] ++ rest ≡ cons_option o rest
+    joined : (o : Option Name) (rest : List Name) → cons_option o rest ≡ cons_option o [] ++ rest
     joined None rest = refl
     joined (Some n) rest = refl
+
+pub calls-on : (code : Code) (k : ℕ) (whole old new : List Name) → k < length code → new ≡ old ++ cons_option (option_and_then calls_component (slice_get code k)) [] → old ++ code_calls (drop k code) ≡ whole → new ++ code_calls (drop (k + 1) code) ≡ whole
+calls-on code k whole old new lt e h =
+    let rest = code_calls (drop (k + 1) code) in
+    ap (λ l. l ++ rest) e ∙ append_assoc old (cons_option (option_and_then calls_component (slice_get code k)) []) rest ∙ ap (λ l. old ++ l) (sym (calls-split code k lt)) ∙ h
+
+-- whether one of those passes that are called from a place on
+pub any-call : (p : Name → Bool) (code : Code) (k : ℕ) (b : Bool) → k < length code → b ≡ list_any p (cons_option (option_and_then calls_component (slice_get code k)) []) → list_any p (code_calls (drop k code)) ≡ (b || list_any p (code_calls (drop (k + 1) code)))
+any-call p code k b lt e =
+    ap (list_any p) (calls-split code k lt) ∙ list_any-append p (cons_option (option_and_then calls_component (slice_get code k)) []) (code_calls (drop (k + 1) code)) ∙ ap (λ x. x || list_any p (code_calls (drop (k + 1) code))) (sym e)
 
 pub calls-end : (code : Code) (k : ℕ) (old whole : List Name) → length code ≤ k → old ++ code_calls (drop k code) ≡ whole → old ≡ whole
 calls-end code k old whole over h =

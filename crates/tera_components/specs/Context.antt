@@ -7,7 +7,7 @@ use Rattle.tera_tree.specs.declared.component.ArgumentType.TheVariants as a
 use Rattle.tera_tree.specs.Tree.{Literal, NothingLiteral, BooleanLiteral, IntegerLiteral, TextLiteral, ArrayLiteral, MapLiteral, Literals, NoLiterals, MoreLiterals, LiteralEntries, NoLiteralEntries, MoreLiteralEntries, Parameter, Signature}
 use Rattle.tera_tree.specs.Blocks.{is_among}
 use Rattle.tera_values.specs.Alphabet.{Alphabet, plain, made}
-use Rattle.tera_values.specs.Val.{ValOf, ValsOf, KeyVal, Val, undefined, none, bool, int, text, bytes, array, map, no_items, item, entries}
+use Rattle.tera_values.specs.Val.{ValOf, ValsOf, KeyVal, Val, none, bool, int, text, array, map, no_items, item, entries}
 use Rattle.tera_values.specs.Access.{insert_pair}
 use Rattle.tera_values.specs.Named.{Named, at_name, put, text_keys}
 use Rattle.tera_operators.specs.Literals.{key_val}

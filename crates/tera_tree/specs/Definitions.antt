@@ -1,7 +1,7 @@
 -- The components that a tree defines.
 use Rattle.std.specs.Prelude.{Bool, true, false, ◌&&◌, List, [], ◌∷◌, ◌++◌, Option, Some, None, map, codes}
 use Rattle.tera_errors.specs.Site as site
-use Rattle.tera_tree.specs.Tree.{Parameter, Signature, Node, Content, Print, If, Set, Capture, FilterSection, For, Block, Include, ComponentCall, Definition, Break, Continue, Nodes, NoNodes, MoreNodes}
+use Rattle.tera_tree.specs.Tree.{Signature, Node, Content, Print, If, Set, Capture, FilterSection, For, Block, Include, ComponentCall, Definition, Break, Continue, Nodes, NoNodes, MoreNodes}
 use Rattle.tera_tree.specs.Blocks.{are_distinct}
 
 -- each with its body, in the order of the text

@@ -1,5 +1,5 @@
 -- Attributes of a component: what is read is derived, and how what is derived is read.
-use Rattle.std.proofs.Common.{◌≡◌, ℕ, zero, suc, ◌≤◌, max, Bool, true, false, ◌||◌, Option, Some, None, if◌then◌else◌, refl, sym, ◌∙◌, ap, subst, arith}
+use Rattle.std.proofs.Common.{◌≡◌, ℕ, zero, suc, ◌≤◌, ◌⊎◌, inl, inr, max, Bool, true, false, ◌||◌, Option, Some, None, if◌then◌else◌, refl, sym, ◌∙◌, ap, subst, arith}
 use Rattle.tera_errors.specs.Site as site
 use Rattle.tera_tree.specs.Tree.{Expr, Text, Component, Key, TextKey, Entries, NoEntries, MoreEntries}
 use Rattle.tera_tree.specs.Depth.{depth, entries_depth}
@@ -30,9 +30,11 @@ unfolding begins_attribute
 attribute-begins (named_attribute h q v) = rw h refl
 attribute-begins (spread_attribute {i = i} h q d g) = rw (alike k.LeftBrace (kind i) h) (or-true (is_word (kind i)))
 
-pub tag-end-stops : (s : Kind) → s ≡ k.TagEnd → begins_attribute s ≡ false
+-- what may stand behind the last attribute begins none
+pub ends-attributes : (s : Kind) → (s ≡ k.TagEnd) ⊎ (s ≡ k.Greater) → begins_attribute s ≡ false
 unfolding begins_attribute is_word
-tag-end-stops s h = ap begins_attribute h ∙ differ k.LeftBrace k.TagEnd k.TagEnd refl (λ e. cc)
+ends-attributes s (inl h) = ap begins_attribute h ∙ differ k.LeftBrace k.TagEnd k.TagEnd refl (λ e. cc)
+ends-attributes s (inr h) = ap begins_attribute h ∙ differ k.LeftBrace k.Greater k.Greater refl (λ e. cc)
 
 -- the turns of the loop that reads them
 module _ (limit : ℕ) (part : ℕ → Parser Deep) where

@@ -17,7 +17,7 @@ use Rattle.tera_expressions.proofs.Rows.{list-nil, list-one, list-more, list-onl
 use Rattle.tera_expressions.proofs.Forms.{deep-node, some-depth, infixed-is, operator-is, power-is, not_in-is, choice-is, attribute-is, index-is, slice-is, prefixed-is, item-none, item-one, item-more, behind-last, behind-comma, empty-is, array-is, no-condition-is, condition-is, comprehension-is, key-is, dots-is, entry-none, entry-one, entry-more, map-is, int-is, quoted-is, part-colon, part-bracket, part-some, step-none, step-some}
 use Rattle.tera_expressions.proofs.Alone.{called_no_loop}
 use Rattle.tera_expressions.proofs.ArgumentRows.{put-depth, grown, call-depth, argument-is, arguments-none, arguments-one, arguments-more, call-is}
-use Rattle.tera_expressions.proofs.AttributeRows.{attribute-begins, tag-end-stops, attributes-stop, attributes-more, text-is, value-is, named-is, spread-is, component-is}
+use Rattle.tera_expressions.proofs.AttributeRows.{attribute-begins, ends-attributes, attributes-stop, attributes-more, text-is, value-is, named-is, spread-is, component-is}
 use Rattle.tera_expressions.proofs.Passing.{given-none, given-some, filter-is, test-is, not_test-is}
 use Rattle.tera_expressions.proofs.Turning.{close, lower, reading-open, Goes, whole, part-read, goes-on, goes-first, head-is, goes-leaf}
 
@@ -131,7 +131,7 @@ mutual
       let t1 = token k.Less i h (λ e. cc) in let t2 = word-left (next i) w in let t3 = token k.TagEnd a g (λ e. cc) in let s1 = shorter-attributes d in
       goes-first b m n floor 11 os k.Less (Component (text (next i)) xs (span (start i) (next a))) i (next a) y h (λ e. cc) begin-kinds.10 fl (omega arith)
       (head-is (suc b) (expr b) i k.Less h ∙ component-is (suc b) (expr b) xs i a w
-      (goes-attributes d (tag-end-stops (kind a) g) (suc b) b (left (next (next i))) NoEntries 0 (omega arith) (omega arith) ∙ row-start xs (entries_depth xs) a) g dep) c
+      (goes-attributes d (ends-attributes (kind a) (inl g)) (suc b) b (left (next (next i))) NoEntries 0 (omega arith) (omega arith) ∙ row-start xs (entries_depth xs) a) g dep) c
   goes (parentheses {x = x} {i = i} {a = a} h d g) b m n floor os y dep fl st fu c =
       let n1 = needs-at (kind a) k.RightParenthesis 12 g closing-kinds.1 in
       let t1 = next-left k.LeftParenthesis i h (λ e. cc) in let t2 = next-left k.RightParenthesis a g (λ e. cc) in

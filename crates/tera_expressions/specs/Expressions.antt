@@ -362,6 +362,7 @@ module _ (limit : ℕ) (sub : ℕ → Parser Deep) where
   unfoldable pub spread_attribute : Entries → Parser (Entries × ℕ)
   spread_attribute found = expect k.Spread >>= (λ _. braced >>= with_attribute found None)
 
+  -- one of both
   unfoldable pub any_attribute : Entries → Parser (Entries × ℕ)
   any_attribute found = λ i. if same k.LeftBrace (kind i) then spread_attribute found (next i) else named_attribute found i
 

@@ -71,7 +71,8 @@ impl<'s, F: Fn(Global, &mut Tokens<'_, 's>, usize, u8) -> Result<Deep<'s>, Refus
         depth: usize,
     ) -> Result<Deep<'s>, Refusal>
         ensures { let all = entries_of attributes.entry.items in
-            let meant = spec.component_of self.now.limit (spec.expr self.now.below) start name.now all depth in
+            let reader = spec.component_of self.now.limit (spec.expr self.now.below) in
+            let meant = reader start name.now all depth in
             Takes deep_of (meant (input tokens.old)) result tokens.new }
     {
         tokens.expect(Kind::TagEnd)?;

@@ -15,6 +15,9 @@ use Rattle.tera_meaning.specs.Components.{has_a_tie}
 use Rattle.tera_meaning.specs.Resolve.{parents}
 use Rattle.tera_meaning.specs.Adding.{unless_faulty, accepted}
 use Rattle.tera_registry.specs.declared.template.Template.{Template as Stored}
+use Rattle.std.specs.declared.collections.BTreeMap.{BTreeMap}
+use Rattle.tera_registry.specs.declared.choices.Choice.{Choice}
+use Rattle.tera_registry.specs.Choices.{AreChosen}
 use Rattle.tera_registry.specs.Batch.{ReadsBatch, Adds}
 use Rattle.tera_registry.specs.Put.{put_among, Puts}
 use Rattle.tera_registry.specs.Order.{Rises}
@@ -137,3 +140,6 @@ module _ (ts lent : List (Rc Stored Global)) (ps lent_ps : List (String Global))
   pub kept-linked : (roots : List ℕ) → AreRoots (seen lent lent_ps) roots (length lent) → IsLinked ts ps roots
   kept-linked roots a =
       let meant : AreRoots (seen ts ps) roots (length ts) = rw (e, f) at a in linked ts ps roots meant
+
+  pub kept-chosen : (choices : BTreeMap (String Global) Choice Global) → AreChosen (seen lent lent_ps) choices → AreChosen (seen ts ps) choices
+  kept-chosen choices a = rw (e, f) at a

@@ -26,3 +26,4 @@ pub mod Priorities
 pub mod Best
 pub mod Chosen
 pub mod Choosing
+pub mod Definitions

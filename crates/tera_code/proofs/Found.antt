@@ -5,13 +5,15 @@ use Rattle.tera_errors.specs.Site as site
 use Rattle.tera_errors.specs.declared.span.Span.{Span}
 use Rattle.tera_tree.specs.declared.expression.Heading.{Heading}
 use Rattle.tera_tree.specs.declared.expression.Expression.{Expression}
+use Rattle.tera_tree.specs.declared.expression.Entry.{Entry}
+use Rattle.tera_tree.specs.declared.component.Signature.{Signature}
 use Rattle.tera_tree.specs.declared.node.Node.{Node}
 use Rattle.tera_tree.specs.declared.node.SectionFilter.{SectionFilter}
 use Rattle.tera_tree.specs.declared.node.Node.TheVariants as variant
 use Rattle.tera_tree.specs.Tree.{Nodes}
 use Rattle.tera_tree.specs.View.{node_of, nodes_of}
 use Rattle.tera_tree.specs.Blocks.{blocks, node_blocks}
-use Rattle.tera_tree.proofs.Views.{view_if, view_capture, view_section, view_for, view_block}
+use Rattle.tera_tree.proofs.Views.{view_if, view_capture, view_section, view_for, view_block, view_component_call, view_definition}
 use Rattle.tera_code.specs.declared.blocks.Block.{Block}
 use Rattle.tera_code.specs.Listing.{Listing}
 use Rattle.tera_code.specs.Blocks.{block_of, block_listing, block_listings}
@@ -69,6 +71,18 @@ pub blocks_section : (node : Node) (filters : Vec SectionFilter Global) (body : 
 blocks_section node filters body xs is a =
     ap (λ x. blocks (nodes_of x)) a
     ∙ ap node_blocks (sym (view_section filters body))
+    ∙ ap (λ n. node_blocks (node_of n)) (sym is)
+
+pub blocks_component_call : (node : Node) (name : Bor (List ℕ)) (attributes : Vec Entry Global) (body : Vec Node Global) (span : Span) (xs : List Node) → node ≡ variant.ComponentCall name attributes body span → xs ≡ body.items → blocks (nodes_of xs) ≡ node_blocks (node_of node)
+blocks_component_call node name attributes body span xs is a =
+    ap (λ x. blocks (nodes_of x)) a
+    ∙ ap node_blocks (sym (view_component_call name attributes body span))
+    ∙ ap (λ n. node_blocks (node_of n)) (sym is)
+
+pub blocks_definition : (node : Node) (signature : Box Signature Global) (body : Vec Node Global) (xs : List Node) → node ≡ variant.Definition signature body → xs ≡ body.items → blocks (nodes_of xs) ≡ node_blocks (node_of node)
+blocks_definition node signature body xs is a =
+    ap (λ x. blocks (nodes_of x)) a
+    ∙ ap node_blocks (sym (view_definition signature body))
     ∙ ap (λ n. node_blocks (node_of n)) (sym is)
 
 pub blocks_block : (node : Node) (name : Bor (List ℕ)) (body : Vec Node Global) (span : Span) (xs : List Node) → node ≡ variant.Block name body span → xs ≡ body.items → (name.now, nodes_of xs) ∷ blocks (nodes_of xs) ≡ node_blocks (node_of node)

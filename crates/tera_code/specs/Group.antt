@@ -1,5 +1,5 @@
 -- Kinds of expressions.
-use Rattle.tera_tree.specs.Tree.{Expr, Nothing, Boolean, Integer, Text, Name, Attribute, Index, Slice, Not, Negate, Binary, And, Or, Ternary, Array, Map, Comprehension, Super, Filter, Test, Call}
+use Rattle.tera_tree.specs.Tree.{Expr, Nothing, Boolean, Integer, Text, Name, Attribute, Index, Slice, Not, Negate, Binary, And, Or, Ternary, Array, Map, Comprehension, Super, Filter, Test, Call, Component}
 
 pub data Group : Type 0 where
   -- has no parts
@@ -14,7 +14,7 @@ pub data Group : Type 0 where
   Collection : Group
   -- goes over items
   Loop : Group
-  -- is made elsewhere of arguments by name
+  -- is made elsewhere of what it is given by name
   Request : Group
 
 abbrev pub group : Expr → Group
@@ -39,3 +39,4 @@ group (Super all span) = Request
 group (Filter value name all span) = Request
 group (Test value name all span) = Request
 group (Call name all span) = Request
+group (Component name all span) = Request

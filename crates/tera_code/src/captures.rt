@@ -2,7 +2,7 @@
 ghost use Rattle.std.specs.Prelude.{◌≡◌, [], ◌∷◌, suc, OnOk, IfOk, IfErr};
 ghost use Rattle.tera_errors.specs.Answer.{Lacks};
 ghost use Rattle.tera_code.specs.declared.instruction.Instruction.TheVariants as instruction;
-ghost use Rattle.tera_code.specs.Code.{node_code, nodes_code, section_code, lengthened};
+ghost use Rattle.tera_code.specs.Code.{node_code, nodes_code, section_code, captured_code, lengthened};
 ghost use Rattle.tera_tree.specs.Tree.{Set, first_span};
 ghost use Rattle.tera_tree.specs.View.{expr_of, filters_of, nodes_of};
 
@@ -40,6 +40,18 @@ impl Compiler {
         self.nodes(body, one_more(drops)?)?;
         self.emit(Instruction::EndCapture(first_span(filters)))?;
         self.filters(filters)
+    }
+
+    // The text that the body puts out, on top of the operands.
+    #[cycle(nodes)]
+    pub(crate) fn captured(&mut self, body: &[Node], span: Span, drops: usize) -> TeraResult<()>
+        ensures ok { OnOk result (self.new
+            ≡ lengthened self.old (captured_code (nodes_code (nodes_of body.now) (suc drops)) span)) }
+        ensures lacks { IfErr result Lacks }
+    {
+        self.emit(Instruction::StartCapture)?;
+        self.nodes(body, one_more(drops)?)?;
+        self.emit(Instruction::EndCapture(span))
     }
 
     // The operand on top becomes the value of the name.

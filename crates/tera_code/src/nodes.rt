@@ -2,9 +2,9 @@
 ghost use Rattle.std.specs.Prelude.{◌≡◌, [], ◌∷◌, OnOk, IfOk, IfErr, MatchOption, Some, None};
 ghost use Rattle.tera_errors.specs.Answer.{Lacks};
 ghost use Rattle.tera_code.specs.declared.instruction.Instruction.TheVariants as instruction;
-ghost use Rattle.tera_code.specs.Code.{named, node_code, nodes_code, listing_of, lengthened};
+ghost use Rattle.tera_code.specs.Code.{named, handed_code, node_code, nodes_code, listing_of, lengthened};
 ghost use Rattle.tera_tree.specs.Tree.{If, Print};
-ghost use Rattle.tera_tree.specs.View.{expr_of, for_of, node_of, nodes_of};
+ghost use Rattle.tera_tree.specs.View.{expr_of, entries_of, for_of, node_of, nodes_of};
 
 use crate::chunk::Chunk;
 use crate::compiler::Compiler;
@@ -12,7 +12,7 @@ use crate::content::LentName;
 use crate::instruction::Instruction;
 use crate::parts::is_context;
 use std::alloc::Global;
-use tera_tree::{Expression, Heading, Node};
+use tera_tree::{Entry, Expression, Heading, Node};
 use tera_values::{Name, Span, TeraResult};
 
 impl Compiler {
@@ -86,6 +86,16 @@ impl Compiler {
                 span,
             } => self.block(name, *span),
             Node::Include { name, span } => self.include(name.as_str(), *span),
+            Node::ComponentCall {
+                name,
+                attributes,
+                body,
+                span,
+            } => {
+                self.captured(body.as_slice(), *span, drops)?;
+                self.hand(name, attributes.as_slice(), *span)
+            }
+            Node::Definition { .. } => Ok(()),
             Node::Break => self.emit(Instruction::LeaveLoop(drops)),
             Node::Continue => self.emit(Instruction::LeaveTurn(drops)),
         }
@@ -145,6 +155,17 @@ impl Compiler {
             name: LentName::new(&name),
             span,
         })
+    }
+
+    // The component is handed the text on top of the operands; what it makes of that and of its attributes is put out.
+    fn hand(&mut self, name: &str, attributes: &[Entry], span: Span) -> TeraResult<()>
+        ensures ok { OnOk result (self.new
+            ≡ lengthened self.old (handed_code name.now (entries_of attributes.now) span)) }
+        ensures lacks { IfErr result Lacks }
+    {
+        self.entries(attributes)?;
+        self.take_component(name, attributes, true, span)?;
+        self.emit(Instruction::WriteTop)
     }
 
     // What the name resolves to is found where the template is rendered.

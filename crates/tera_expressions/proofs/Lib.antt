@@ -13,6 +13,11 @@ pub mod ArgumentOrder
 pub mod Passing
 pub mod Placed
 pub mod FilterRows
+pub mod PartRows
+pub mod Fit
+pub mod ParameterRows
+pub mod Written
+pub mod Signatures
 pub mod Turning
 pub mod Complete
 pub mod Inside

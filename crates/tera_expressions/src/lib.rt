@@ -17,5 +17,8 @@ pub mod filters;
 pub mod headings;
 mod leaves;
 mod levels;
+mod literals;
 mod operators;
+/// Signatures of components.
+pub mod parameters;
 mod reader;

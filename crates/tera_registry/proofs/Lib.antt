@@ -20,3 +20,4 @@ pub mod Ways
 pub mod Turn
 pub mod Filled
 pub mod Circles
+pub mod Choosing

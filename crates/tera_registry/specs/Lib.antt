@@ -2,6 +2,8 @@ pub mod Order
 pub mod Places
 pub mod Code
 pub mod Kept
+pub mod Components
+pub mod Choices
 pub mod Known
 pub mod Batch
 pub mod Put

@@ -3,6 +3,9 @@
 #![tactic(auto)]
 
 mod batch;
+mod calls;
+mod choices;
+mod components;
 mod definers;
 mod edges;
 mod includes;
@@ -11,6 +14,7 @@ mod lineage;
 mod link;
 mod meant;
 mod names;
+mod priority;
 mod template;
 pub mod templates;
 pub mod tops;

@@ -1,5 +1,5 @@
 use Rattle.tera_code.proofs.Filled.{choice_written, loop_written}
-use Rattle.tera_code.proofs.Written.{on_ok_by, if_written, for_written, capture_written, section_written}
+use Rattle.tera_code.proofs.Written.{on_ok_by, if_written, for_written, capture_written, section_written, component_call_written}
 use Rattle.tera_code.proofs.compiler.Compiler.+nodes.Goals as goal
 
 pub choice-returns-clause-ok : goal.choice-returns-clause-ok
@@ -30,3 +30,8 @@ pub node-returns-in_ok-section-in-FilterSection-clause-ok : goal.node-returns-in
 node-returns-in_ok-section-in-FilterSection-clause-ok t c =
     section_written _ _ _ _ _ c.in-FilterSection.filters c.in-FilterSection.body _ _ _ c.in-FilterSection.is c.as_slice-in-FilterSection.ensures.value c.as_slice-in-FilterSection-2.ensures.value
     c.in_ok-section-in-FilterSection.ensures.ok c.emit.ensures.ok
+
+pub node-returns-in_ok-captured-in-ComponentCall-clause-ok : goal.node-returns-in_ok-captured-in-ComponentCall-clause-ok
+node-returns-in_ok-captured-in-ComponentCall-clause-ok t c =
+    component_call_written _ _ _ _ _ c.in-ComponentCall.name c.in-ComponentCall.attributes c.in-ComponentCall.body c.in-ComponentCall.span _ _ _ c.in-ComponentCall.is c.as_slice-in-ComponentCall-2.ensures.value c.as_slice-in-ComponentCall.ensures.value
+    c.in_ok-captured-in-ComponentCall.ensures.ok c.hand.ensures.ok

@@ -19,6 +19,9 @@ decreases-nodes l = 3 * goal.size-nodes l + 1
 abbrev pub decreases-section : goal.decreases-section
 decreases-section l = 3 * goal.size-section l + 2
 
+abbrev pub decreases-captured : goal.decreases-captured
+decreases-captured l = 3 * goal.size-captured l + 2
+
 abbrev pub decreases-choice : goal.decreases-choice
 decreases-choice l = 3 * max (most size-Node l.body.now) (most size-Node l.other.now) + 2
 

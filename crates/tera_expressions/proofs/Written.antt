@@ -137,7 +137,11 @@ module _ (b : ℕ) (part : Parser Literal) (reads : Reads b part) where
       (λ c. let v = items-got n t.0 z (next t.1) j c.1 in
       let g = v.fits in
       record {
-        items = MoreLiterals w.value v.items; place = v.place; derived = more w.derived (same-is k.Comma (kind t.1) c.0) v.derived; shut = v.shut; behind = v.behind;
+        items = MoreLiterals w.value v.items;
+        place = v.place;
+        derived = more w.derived (same-is k.Comma (kind t.1) c.0) v.derived;
+        shut = v.shut;
+        behind = v.behind;
         joined = v.joined ∙ ap (λ f. join_literals f v.items) w.joined ∙ join-literals found (one_literal w.value) v.items;
         fits = omega (arith, f, g);
       })
@@ -172,7 +176,11 @@ module _ (b : ℕ) (part : Parser Literal) (reads : Reads b part) where
       (λ c. let v = entries-got n t.0 z (next t.1) j c.1 in
       let g = v.fits in
       record {
-        entries = MoreLiteralEntries w.key w.value v.entries; place = v.place; derived = more_entries w.derived (same-is k.Comma (kind t.1) c.0) v.derived; shut = v.shut; behind = v.behind;
+        entries = MoreLiteralEntries w.key w.value v.entries;
+        place = v.place;
+        derived = more_entries w.derived (same-is k.Comma (kind t.1) c.0) v.derived;
+        shut = v.shut;
+        behind = v.behind;
         joined = v.joined ∙ ap (λ f. join_literal_entries f v.entries) w.joined ∙ join-literal-entries found (one_literal_entry w.key w.value) v.entries;
         fits = omega (arith, f, g);
       })

@@ -209,10 +209,7 @@ fn plain<'s>(alloc: Global, tokens: &mut Tokens<'_, 's>) -> Result<Literal<'s>, 
 
 /// The constant, integer or text that the next token is.
 #[tactic(auto, unfolding(crate::specs::Literals::plain_at))]
-fn plain_at<'s>(
-    alloc: Global,
-    tokens: &Tokens<'_, 's>,
-) -> Result<Option<Literal<'s>>, AllocError>
+fn plain_at<'s>(alloc: Global, tokens: &Tokens<'_, 's>) -> Result<Option<Literal<'s>>, AllocError>
     ensures { IfOk result (λ o. written_option o ≡ spec.plain_at (input tokens.now)) }
 {
     match tokens.kind() {

@@ -22,7 +22,8 @@ use Rattle.tera_operators.specs.Operand.{EvaluatedOf, fault_at}
 use Rattle.tera_state.specs.Rendered.{rendered_in}
 use Rattle.tera_state.specs.Scope.{AroundOf, VariablesOf, TurnOf, Heading, look, dump}
 use Rattle.tera_meaning.specs.Run.{Signal, On, Broke, Continued, RunOf, AnswerOf, Failed, Gave, MeaningOf, OracleOf, ◌▹◌, onward, more as counted, visit, gives, answered, value_at, if_else, reads, changes, writes, go_on, put_back, captured, RequestOf, ABlock, Above, AnInclude, AComponent, joined_answer, asks}
-use Rattle.tera_meaning.specs.Meaning.{output_in, written_in, turns_of_in, named_value, if_kept, comprehension, after_turn, loop, loop_or_else, expr_meaning_in, bound_meaning_in, condition_meaning_in, items_meaning_in, entries_meaning_in, arguments_meaning_in, filters_meaning_in, named_by, put_out, component_meaning_in, node_meaning_in, nodes_meaning_in}
+use Rattle.tera_components.specs.Definition.{named_by}
+use Rattle.tera_meaning.specs.Meaning.{output_in, written_in, turns_of_in, named_value, if_kept, comprehension, after_turn, loop, loop_or_else, expr_meaning_in, bound_meaning_in, condition_meaning_in, items_meaning_in, entries_meaning_in, arguments_meaning_in, filters_meaning_in, put_out, component_meaning_in, node_meaning_in, nodes_meaning_in}
 use Rattle.tera_meaning.specs.Here.{Engine, HereOf, escaping_at}
 
 pub record Ended (b : site.Name × List Marked) (c : site.Name × List ℕ) : Type 0 where

@@ -1,12 +1,11 @@
 -- What trees mean, where the meaning of bodies that stand elsewhere is given.
 use Rattle.std.specs.Prelude.{Bool, true, false, List, [], ◌∷◌, ◌++◌, Option, Some, None, Result, Ok, codes, bytes_eq, if◌then◌else◌}
-use Rattle.std.specs.List.{filter_map}
 use Rattle.tera_errors.specs.Site as site
 use Rattle.tera_errors.specs.Fault.{Fault}
 use Rattle.tera_errors.specs.declared.span.Span.{Span}
 use Rattle.tera_tree.specs.Tree.{Key, Expr, Nothing, Boolean, Integer, Text, Name, Attribute, Index, Slice, Not, Negate, Binary, And, Or, Ternary, Array, Map, Comprehension, Super, Filter, Test, Call, Component, Optional, Absent, Present, Items, NoItems, MoreItems, Entries, NoEntries, MoreEntries, Arguments, NoArguments, MoreArguments, Filters, NoFilters, MoreFilters, first_span, Node, Content, Print, If, Set, Capture, FilterSection, For, Block, Include, ComponentCall, Definition, Break, Continue, Nodes, NoNodes, MoreNodes}
 use Rattle.tera_values.specs.Alphabet.{Alphabet, plain, template, made}
-use Rattle.tera_values.specs.Val.{ValOf, KeyVal, kbool, kint, ktext, none, bool, int, text, array, vals}
+use Rattle.tera_values.specs.Val.{ValOf, none, bool, int, text, array, vals}
 use Rattle.tera_values.specs.Access.{is_undefined, truthy}
 use Rattle.tera_values.specs.Named.{Named}
 use Rattle.tera_operators.specs.Operand.{Evaluated, EvaluatedOf, fault_at, placed}
@@ -16,6 +15,7 @@ use Rattle.tera_operators.specs.Literals.{array_of, map_entries, map_of}
 use Rattle.tera_operators.specs.Calls.{filter_applied_in, test_applied_in, function_called_in}
 use Rattle.tera_state.specs.Rendered.{rendered_in}
 use Rattle.tera_state.specs.Scope.{AroundOf, VariablesOf, TurnOf, Turn, Heading, look, dump, assign, open_turn, close_turn, loop_turns_in}
+use Rattle.tera_components.specs.Definition.{named_arguments}
 use Rattle.tera_meaning.specs.Here.{Here, HereOf, escaping_at}
 use Rattle.tera_meaning.specs.Run.{Signal, On, Broke, Continued, Meaning, MeaningOf, Oracle, OracleOf, ABlock, Above, AnInclude, AComponent, ◌▹◌, visit, gives, answered, value_at, if_else, reads, changes, writes, go_on, captured, asks}
 
@@ -79,12 +79,6 @@ module _ {C : Type 0} where
 abbrev pub no_bound : {C : Type 0} → EvaluatedOf C
 no_bound = record { value = none; span = record { start = 0; end = 0 } }
 
--- what stands at a text key; other keys name no argument
-abbrev pub named_by : {C : Type 0} → KeyVal × ValOf C → Option (site.Name × ValOf C)
-named_by (ktext n, v) = Some (n, v)
-named_by (kbool b, v) = None
-named_by (kint z, v) = None
-
 -- the text that a body put out: safe where autoescape is on
 abbrev pub put_out : {C : Type 0} → HereOf C → Filters → List C → EvaluatedOf C
 put_out here fs t = record { value = text t here.autoescape; span = first_span fs }
@@ -94,7 +88,7 @@ module _ {C : Type 0} (alphabet : Alphabet C) (here : HereOf C) (call : OracleOf
   abbrev pub component_meaning_in : site.Name → List (Option Key × EvaluatedOf C) → Option (ValOf C) → Span → MeaningOf C (EvaluatedOf C)
   component_meaning_in name all body span =
       answered (map_entries here.file all)
-      ▹ λ given. asks call (AComponent name (filter_map named_by given) body span)
+      ▹ λ given. asks call (AComponent name (named_arguments given) body span)
       ▹ λ t. value_at (text t here.autoescape) span
 
   abbrev mutual

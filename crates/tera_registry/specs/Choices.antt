@@ -1,5 +1,5 @@
 -- Which definition of each component is taken, by place. No public contract speaks of it.
-use Rattle.std.specs.Prelude.{◌≡◌, ◌<◌, ℕ, suc, Bool, true, false, nat_lt, nat_eq, bytes_eq, List, [], ◌∷◌, take, slice_get, Option, Some, None, if◌then◌else◌, String}
+use Rattle.std.specs.Prelude.{◌≡◌, ℕ, suc, Bool, true, false, nat_lt, nat_eq, bytes_eq, List, [], ◌∷◌, take, Option, Some, None, if◌then◌else◌, String}
 use Rattle.std.specs.declared.alloc.Global.{Global}
 use Rattle.std.specs.declared.collections.BTreeMap.{BTreeMap}
 use Rattle.std.specs.BTreeMap.{get_by_text}
@@ -7,6 +7,7 @@ use Rattle.tera_errors.specs.Site.{Name}
 use Rattle.tera_tree.specs.Definitions.{component_names}
 use Rattle.tera_meaning.specs.Registry.{Entry, Registry}
 use Rattle.tera_meaning.specs.Components.{priority, has_a_tie}
+use Rattle.tera_registry.specs.First.{IsFirstOne}
 use Rattle.tera_registry.specs.declared.choices.Choice.{Choice}
 
 -- what stands at a name
@@ -51,11 +52,6 @@ AreChosen r choices = (name : Name) → chosen choices name ≡ chosen_of r name
 abbrev pub ties_at : Registry → ℕ → Entry → Bool
 ties_at r place t = has_a_tie r (take place r.templates) t
 
--- none before a place has one
-abbrev pub NoTieBefore : Registry → ℕ → Type 0
-NoTieBefore r place = (i : ℕ) (t : Entry) → i < place → slice_get r.templates i ≡ Some t → ties_at r i t ≡ false
-
--- there stands the first of the first so many templates that has one, or nowhere where none does
-abbrev pub IsFirstTie : Registry → ℕ → Option ℕ → Type 0
-IsFirstTie r many None = NoTieBefore r many
-IsFirstTie r many (Some c) = NoTieBefore r c × ((t : Entry) → slice_get r.templates c ≡ Some t → ties_at r c t ≡ true)
+-- there stands the first template that has one, or nowhere where none does
+abbrev pub IsFirstTie : Registry → Option ℕ → Type 0
+IsFirstTie r = IsFirstOne r (ties_at r)

@@ -7,6 +7,7 @@ pub mod Choices
 pub mod Known
 pub mod Batch
 pub mod Put
+pub mod First
 pub mod Walks
 pub mod Edges
 pub mod Links

@@ -58,7 +58,7 @@ fn read(alloc: Global, delimiters: &Delimiters, name: &str, text: &str) -> TeraR
 }
 
 /// The template of a name and a text that was read to this.
-#[tactic(auto, using(crate::proofs::Lacking::bodies_lack_as_tree))]
+#[tactic(auto, using(crate::proofs::Lacking::bodies_lack_as_tree, crate::proofs::Calling::bodies_call_as_tree))]
 fn made(alloc: Global, name: &str, text: &str, output: &ParserOutput) -> TeraResult<Template>
     ensures ok { IfOk result (λ t. entry_of t ≡ (name.now, record { text = text.now; tree = tree_of output.now })) }
     ensures lacks { IfErr result Lacks }

@@ -1,6 +1,6 @@
 // The components that a template calls.
-ghost use Rattle.std.specs.Prelude.{◌≡◌, ◌++◌, slice_get, option_map, option_and_then, OnOk, IfOk, IfErr};
-ghost use Rattle.std.specs.List.{flat_map};
+ghost use Rattle.std.specs.Prelude.{◌≡◌, ◌++◌, [], slice_get, option_and_then, OnOk, IfOk, IfErr};
+ghost use Rattle.std.specs.List.{flat_map, cons_option};
 ghost use Rattle.tera_errors.specs.Answer.{Lacks};
 ghost use Rattle.tera_registry.specs.Components.{calls_component, code_calls, bodies_call};
 
@@ -10,13 +10,18 @@ use tera_code::{Block, Callee, Chunk};
 use tera_errors::TeraResult;
 use tera_values::Name;
 
-/// The name of the component that the instruction at this place calls.
-fn called_at(chunk: &Chunk, place: usize) -> Option<&str>
-    ensures { option_map (λ n. n.now) result ≡ option_and_then calls_component (slice_get chunk.now.code place) }
+/// Puts the name of the component that the instruction at this place calls behind those that were found, if it calls one.
+fn add_call(alloc: Global, chunk: &Chunk, place: usize, names: &mut Vec<Name>) -> TeraResult<()>
+    ensures ok { let called = option_and_then calls_component (slice_get chunk.now.code place) in
+        OnOk result (names.new.items ≡ names.old.items ++ cons_option called []) }
+    ensures lacks { IfErr result Lacks }
 {
     match chunk.callee_at(place) {
-        Some(Callee::Component(name)) => Some(name),
-        _ => None,
+        Some(Callee::Component(name)) => {
+            names.push(Name::new(alloc, name)?)?;
+            Ok(())
+        }
+        _ => Ok(()),
     }
 }
 
@@ -26,9 +31,7 @@ fn add_calls(alloc: Global, chunk: &Chunk, names: &mut Vec<Name>) -> TeraResult<
     ensures lacks { IfErr result Lacks }
 {
     for place in 0..chunk.len() {
-        if let Some(name) = called_at(chunk, place) {
-            names.push(Name::new(alloc, name)?)?;
-        }
+        add_call(alloc, chunk, place, names)?;
     }
     Ok(())
 }

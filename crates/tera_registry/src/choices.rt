@@ -1,5 +1,5 @@
 // Which definition of each component is taken, and which template ties with another.
-ghost use Rattle.std.specs.Prelude.{◌≡◌, length, OnOk, IfOk, bytes_eq, Option, if◌then◌else◌};
+ghost use Rattle.std.specs.Prelude.{◌≡◌, OnOk, IfOk, bytes_eq, Option, if◌then◌else◌};
 ghost use Rattle.std.specs.List.{list_any};
 ghost use Rattle.std.specs.Option.{option_or};
 ghost use Rattle.tera_errors.specs.Site.{Name};
@@ -115,8 +115,7 @@ pub fn choices(
     prefixes: &[String],
 ) -> Result<Taken, AllocError>
     ensures taken { IfOk result (λ c. AreChosen (seen templates.now prefixes.now) c.choices) }
-    ensures tie { IfOk result
-        (λ c. IsFirstTie (seen templates.now prefixes.now) (length templates.now) c.tie) }
+    ensures tie { IfOk result (λ c. IsFirstTie (seen templates.now prefixes.now) c.tie) }
 {
     let mut taken = BTreeMap::new(alloc);
     let mut tie = None;

@@ -3,26 +3,31 @@ ghost use Rattle.std.specs.Prelude.{◌≡◌, ◌<◌, Some, None, Ok, map, len
 ghost use Rattle.tera_errors.specs.Answer.{Gives};
 ghost use Rattle.tera_tree.specs.Delimiters.{delimiters_of, accepted};
 ghost use Rattle.tera_tree.specs.View.{nodes_of};
-ghost use Rattle.tera_meaning.specs.Accepted.{fault, misses_an_include};
+ghost use Rattle.tera_meaning.specs.Accepted.{fault, is_component, misses_an_include};
 ghost use Rattle.tera_meaning.specs.Lineage.{ancestors, definers_in};
 ghost use Rattle.tera_meaning.specs.Resolve.{resolve};
 ghost use Rattle.tera_meaning.specs.Registry.{Entry, Registry};
 ghost use Rattle.std.specs.Coded.{codes};
 ghost use Rattle.tera_code.specs.contracts.chunk.Chunk as chunk;
+ghost use Rattle.tera_registry.specs.contracts.choices.Choice as choice;
+ghost use Rattle.tera_registry.specs.Choices.{AreChosen};
 ghost use Rattle.tera_registry.specs.Order.{Rises, Rises-prop};
 ghost use Rattle.tera_registry.specs.Links.{IsLinked};
 ghost use Rattle.tera_registry.specs.Kept.{entries_of, seen};
 ghost use Rattle.tera_registry.specs.Batch.{ConfiguresOneOf, Adds, pairs_of};
 
 use crate::batch::put_all;
+use crate::choices::Choice;
 use crate::definers::{At, first, first_above};
 use crate::includes::misses;
 use crate::link::link;
 use crate::names::resolve;
 use crate::template::Template;
 use std::alloc::Global;
+use std::collections::BTreeMap;
 use std::rc::Rc;
 use tera_code::Chunk;
+use tera_components::ComponentDefinition;
 use tera_errors::TeraResult;
 use tera_tree::{Delimiters, Node};
 use tera_values::Sought;
@@ -33,9 +38,11 @@ pub struct Templates {
     all: Vec<Rc<Template>>,
     prefixes: Vec<String>,
     roots: Vec<usize>,
+    choices: BTreeMap<String, Choice>,
     ghost rises: { Rises (entries_of all.items) } by { Rises-prop _ },
     ghost accepted: { fault (seen all.items prefixes.items) ≡ None },
     ghost linked: { IsLinked all.items prefixes.items roots.items } by { Prim.hlevel (codes, chunk.the_row.coded) },
+    ghost chosen: { AreChosen (seen all.items prefixes.items) choices } by { Prim.hlevel (codes, choice.the_row.coded) },
 }
 
 // By hand, so that templates that go out of scope are one call.
@@ -46,10 +53,12 @@ impl Drop for Templates {
             all,
             prefixes,
             roots,
+            choices,
         } = self;
         drop(all);
         drop(prefixes);
         drop(roots);
+        drop(choices);
     }
 }
 
@@ -66,6 +75,13 @@ pub struct Found<'t> {
     place: usize,
     ghost stands: { slice_get (map (λ t. t.0) (entries_of templates.now.all.items)) place
         ≡ Some name.now } by { Prim.hlevel codes },
+}
+
+/// A component that was found by its name: what it is given, and its code.
+#[derive(Clone, Copy)]
+pub struct Defined<'t> {
+    pub definition: &'t ComponentDefinition,
+    pub chunk: &'t Chunk,
 }
 
 impl<'t> Found<'t> {
@@ -136,7 +152,8 @@ impl<'t> Definers<'t> {
 }
 
 impl Templates {
-    ghost use Rattle.tera_registry.specs.Templates.{templates_of, prefixes_of, with_templates, is_empty, Finds, registry_in, started, AreNext};
+    ghost use Rattle.tera_registry.specs.Templates.{templates_of, prefixes_of, with_templates, is_empty, Finds, IsDefined, registry_in, started, AreNext};
+    ghost use Rattle.tera_meaning.specs.Components.{component};
     ghost use Rattle.tera_registry.specs.Definers.{from_place, above_place, from_found};
 
     /// None yet. Takes no memory.
@@ -149,6 +166,7 @@ impl Templates {
             all: Vec::new(alloc),
             prefixes,
             roots: Vec::new(alloc),
+            choices: BTreeMap::new(alloc),
         }
     }
 
@@ -165,12 +183,13 @@ impl Templates {
             Ok(()) => {}
             Err(refusal) => return Err(refusal),
         }
-        let roots = match link(self.alloc, all.as_slice(), self.prefixes.as_slice()) {
-            Ok(roots) => roots,
+        let links = match link(self.alloc, all.as_slice(), self.prefixes.as_slice()) {
+            Ok(links) => links,
             Err(fault) => return Err(fault),
         };
         self.all = all;
-        self.roots = roots;
+        self.roots = links.roots;
+        self.choices = links.choices;
         Ok(())
     }
 
@@ -255,6 +274,26 @@ impl Templates {
         ensures { (r : Registry) → result ≡ is_some (resolve (with_templates r self.now) name.now) }
     {
         resolve(self.all.as_slice(), self.prefixes.as_slice(), name).is_some()
+    }
+
+    /// The component of a name: the definition that is taken of it. Takes no memory.
+    pub fn component(&self, name: &str) -> Option<Defined<'_>>
+        ensures { (r : Registry) → IsDefined (component (with_templates r self.now) name.now) result }
+    {
+        let choice = self.choices.get(name)?;
+        let template: &Template = &self.all[choice.template];
+        let component = &template.components[choice.component];
+        Some(Defined {
+            definition: &component.definition,
+            chunk: &component.code,
+        })
+    }
+
+    /// Whether a template defines a component of this name. Takes no memory.
+    pub fn contains_component(&self, name: &str) -> bool
+        ensures { (r : Registry) → result ≡ is_component (with_templates r self.now) name.now }
+    {
+        self.choices.contains_key(name)
     }
 
     /// Whether nodes include what is not there. Takes no memory.

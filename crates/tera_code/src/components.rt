@@ -47,9 +47,23 @@ fn add<'t>(
         ++ component_listings file.now (node_definitions (node_of node.now))) }
     ensures lacks { IfErr result Lacks }
 {
-    if let Node::Definition { signature, body } = node {
-        let code = compiled(alloc, file, body.as_slice())?;
-        found.push(Component { signature, code })?;
+    match node {
+        Node::Definition { signature, body } => {
+            let code = compiled(alloc, file, body.as_slice())?;
+            found.push(Component { signature, code })?;
+            Ok(())
+        }
+        Node::Content { .. }
+        | Node::Print { .. }
+        | Node::If { .. }
+        | Node::Set { .. }
+        | Node::Capture { .. }
+        | Node::FilterSection { .. }
+        | Node::For { .. }
+        | Node::Block { .. }
+        | Node::Include { .. }
+        | Node::ComponentCall { .. }
+        | Node::Break
+        | Node::Continue => Ok(()),
     }
-    Ok(())
 }

@@ -12,9 +12,9 @@ use Rattle.tera_machine.specs.Flow.{Use, Written, Pushed}
 use Rattle.tera_machine.specs.Exec.{entered}
 
 -- the body begins, with this around its variables, and what it does not see is kept for the body around
-pub record Begins (around : Around) (c0 : Configuration) (outer : Outer) (c : Configuration) : Type 0 where
+pub record Begins (inside : Around) (c0 : Configuration) (outer : Outer) (c : Configuration) : Type 0 where
   pub config : config_of c ≡ entered nothing_set (config_of c0)
-  pub around : around_of c.scopes ≡ around
+  pub around : around_of c.scopes ≡ inside
   pub coming : coming_around c.scopes ≡ coming_of c0.scopes ∷ coming_around c0.scopes
   pub none : c.places ≡ []
   pub places : outer.places ≡ c0.places

@@ -47,4 +47,4 @@ flow_of (flow.To place count) = To place count
 flow_of flow.Out = Out
 flow_of (flow.Ask a) = Ask (request_of a) (use_of a)
 flow_of (flow.Include name span) = Ask (AnInclude name.now span) Written
-flow_of (flow.Component a) = Ask (component_request a) (component_use a)
+flow_of (flow.Component a) = Ask (component_request a.value) (component_use a.value)

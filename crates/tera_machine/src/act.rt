@@ -1,9 +1,9 @@
 // One instruction, by groups.
-ghost use Rattle.std.specs.Prelude.{Ok, ℕ, Bool};
-ghost use Rattle.tera_errors.specs.Answer.{Tells};
+ghost use Rattle.std.specs.Prelude.{◌≡◌, ◌≢◌, Ok, Some, None, ℕ, Bool, IfOk, IfErr};
+ghost use Rattle.tera_errors.specs.Answer.{Tells, Lacks};
 ghost use Rattle.tera_errors.specs.Fault.{rendering_error};
 ghost use Rattle.tera_machine.specs.Config.{config_of};
-ghost use Rattle.tera_machine.specs.Did.{pushed};
+ghost use Rattle.tera_machine.specs.Did.{pushed, holding};
 ghost use Rattle.tera_machine.specs.Act.{act, IsReady, IsSmall, Does, text_written, outcome_put, top_written, name_written, name_loaded, context_loaded, stored, attribute_loaded, item_loaded, sliced, denied, negated, operated, array_made, map_made, handed, component_taken, popped_branch, kept_if_falsy, kept_if_truthy, above_taken};
 ghost use Rattle.tera_machine.specs.Subject.{here_of};
 ghost use Rattle.tera_state.specs.Scopes.{around_of};

@@ -1,6 +1,5 @@
 -- A rendering of a component, from what was found by its name.
-use Rattle.std.proofs.Common.{◌≡◌, Bool, true, false, IsTrue, List, [], ◌∷◌, Option, Some, None, is_some, option_map, option_copied, option_and_then, Result, Ok, Err, if◌then◌else◌, refl, sym, ap, ap₂, ◌∙◌, subst}
-use Rattle.std.specs.Borrow.{Bor}
+use Rattle.std.proofs.Common.{◌≡◌, Bool, true, false, IsTrue, List, [], ◌∷◌, Option, Some, None, option_map, option_and_then, Result, Ok, Err, if◌then◌else◌, refl, sym, ap, ap₂, ◌∙◌, subst}
 use Rattle.std.specs.Str.{bytes_eq}
 use Rattle.std.specs.Cmp.Lexicographic.{bytes_decides}
 use Rattle.tera_errors.specs.Site.{Text, Name}
@@ -14,22 +13,17 @@ use Rattle.tera_values.specs.Named.{Named}
 use Rattle.tera_state.specs.Scope.{Around, Variables, in_component, look_implicit, nothing_set}
 use Rattle.tera_components.specs.Context.{component_context}
 use Rattle.tera_components.specs.Definition.{Definition, definition_of, info_of, or_message}
-use Rattle.tera_code.specs.Listing.{Listing}
 use Rattle.tera_code.specs.Code.{listing_of}
 use Rattle.tera_meaning.specs.Registry.{Entry, Registry}
 use Rattle.tera_meaning.specs.Components.{Component, component_named, component_in, definer_of, component}
 use Rattle.tera_meaning.specs.Rendering.{outermost, within_context_in, render_found_component_in, render_component, render_component_in}
 use Rattle.tera_marks.specs.Origin.{Traces}
 use Rattle.tera_marks.proofs.Traced.{components_are_traced}
-use Rattle.tera_registry.specs.declared.components.Component.{Component as Stored}
-use Rattle.tera_registry.specs.Components.{kept_of}
-use Rattle.tera_machine.specs.Components.{kept_meant}
+use Rattle.tera_registry.specs.declared.templates.Defined.{Defined}
+use Rattle.tera_registry.specs.Templates.{IsKept, IsDefined}
 use Rattle.tera.specs.declared.engine.Tera.{Tera}
 use Rattle.tera.specs.Registry.{registry_of, subject_of_component, text_meant, info_at}
 use Rattle.tera.specs.Rendering.{ComponentByName}
-
-abbrev Kept : Type 0
-Kept = Definition × Listing
 
 named-by : (b : Bool) (file name : Name) (d : Signature × Nodes) (ds : List (Signature × Nodes)) (c : Component) → bytes_eq name d.0.name ≡ b → (if b then Some (let k : Component = record { file = file; signature = d.0; body = d.1 } in k) else component_named file name ds) ≡ Some c → (component_named file name ds ≡ Some c → c.signature.name ≡ name) → c.signature.name ≡ name
 named-by true file name d ds c same is rest =
@@ -47,27 +41,24 @@ named-in : (name : Name) (o : Option Entry) (c : Component) → option_and_then 
 named-in name None c is = (let q : None ≡ Some c = is in cc)
 named-in name (Some t) c is = named-among t.0 name _ c is
 
--- what is kept of a component has the name by which it is found
-kept-named : (r : Registry) (name : Name) (o : Option Component) (k : Kept) → component r name ≡ o → Some k ≡ option_map kept_meant o → k.0.name ≡ name
-kept-named r name None k at is = (let q : Some k ≡ None = is in cc)
-kept-named r name (Some c) k at is =
-    let p : k ≡ kept_meant c = (let q : Some k ≡ Some (kept_meant c) = is in cc) in
-    ap (λ (x : Kept). x.0.name) p ∙ named-in name (definer_of r name) c at
+-- a component that is found has the name by which it is found
+named-found : (r : Registry) (name : Name) (o : Option Component) (found : Defined) → component r name ≡ o → IsDefined o (Some found) → found.definition.now.name ≡ name
+named-found r name None found at is = absurd is
+named-found r name (Some c) found at is =
+    ap (λ (d : Definition). d.name) is.given ∙ named-in name (definer_of r name) c at
 
-pub found-named : (r : Registry) (name : Name) (k : Kept) → Some k ≡ option_map kept_meant (component r name) → k.0.name ≡ name
-found-named r name k is = kept-named r name (component r name) k refl is
+pub found-named : (r : Registry) (name : Name) (found : Defined) → IsDefined (component r name) (Some found) → found.definition.now.name ≡ name
+found-named r name found is = named-found r name (component r name) found refl is
 
--- so it is found by that
-pub finds-itself : (r : Registry) (name : Name) (k : Kept) → Some k ≡ option_map kept_meant (component r name) → option_map kept_meant (component r k.0.name) ≡ Some k
-finds-itself r name k is =
-    ap (λ (n : Name). option_map kept_meant (component r n)) (found-named r name k is) ∙ sym is
+-- so it is found by its own
+pub finds-itself : (r : Registry) (name : Name) (found : Defined) → IsDefined (component r name) (Some found) → IsDefined (component r found.definition.now.name) (Some found)
+finds-itself r name found is =
+    subst (λ (n : Name). IsDefined (component r n) (Some found)) (sym (found-named r name found is)) is
 
 -- its code is that of its body
-pub code-of : (t : Tera) (o : Option Component) (k : Kept) (around : Around) (flag : Bool) → option_map kept_meant o ≡ Some k → k.1 ≡ listing_of (subject_of_component t o around flag).place.file (subject_of_component t o around flag).tree
-code-of t None k around flag is = (let q : None ≡ Some k = is in cc)
-code-of t (Some c) k around flag is =
-    let p : kept_meant c ≡ k = (let q : Some (kept_meant c) ≡ Some k = is in cc) in
-    sym (ap (λ (x : Kept). x.1) p)
+pub code-of : (t : Tera) (o : Option Component) (found : Defined) (around : Around) (flag : Bool) → IsDefined o (Some found) → found.chunk.now ≡ listing_of (subject_of_component t o around flag).place.file (subject_of_component t o around flag).tree
+code-of t None found around flag is = absurd is
+code-of t (Some c) found around flag is = is.code
 
 module _ (r : Registry) (caller : Around) (flag : Bool) (c : Component) where
   -- arguments that do not fit are refused
@@ -94,43 +85,43 @@ abbrev Builds : Definition → Named Val → Option Val → Around → Variables
 Builds d args body around v result =
     (s : Signature) → d ≡ definition_of s → Gives (λ x. x) result (or_message (context_in s args body around v))
 
-module _ (t : Tera) (args implicits : Named Val) (body : Option Text) (flag : Bool) (k : Kept) (around : Around) (v : Variables) (outer : around ≡ outermost (registry_of t) implicits) (fresh : v ≡ nothing_set) (value : Option Val) (handed : option_map (λ b. text b true) body ≡ value) where
+module _ (t : Tera) (args implicits : Named Val) (body : Option Text) (flag : Bool) (found : Defined) (around : Around) (v : Variables) (outer : around ≡ outermost (registry_of t) implicits) (fresh : v ≡ nothing_set) (value : Option Val) (handed : option_map (λ b. text b true) body ≡ value) where
   abbrev r : Registry
   r = registry_of t
 
   abbrev caller : Around
   caller = outermost r implicits
 
-  builds : (c : Component) (result : Result (Named Val) Refusal) → kept_meant c ≡ k → Builds k.0 args value around v result → Gives (λ x. x) result (or_message (context_in c.signature args (option_map (λ b. text b true) body) caller nothing_set))
+  builds : (c : Component) (result : Result (Named Val) Refusal) → IsKept c found → Builds found.definition.now args value around v result → Gives (λ x. x) result (or_message (context_in c.signature args (option_map (λ b. text b true) body) caller nothing_set))
   builds c result is made =
       let P : Option (Named Val) → Type 0 = λ o. Gives (λ x. x) result (or_message o) in
       let same : context_in c.signature args value around v ≡ context_in c.signature args (option_map (λ b. text b true) body) caller nothing_set =
           ap₂ (λ a w. context_in c.signature args value a w) outer fresh
           ∙ ap (λ b. context_in c.signature args b caller nothing_set) (sym handed) in
-      subst P same (made c.signature (sym (ap (λ (x : Kept). x.0) is)))
+      subst P same (made c.signature is.given)
 
-  meant-unfit : (o : Option Component) (e : Refusal) → option_map kept_meant o ≡ Some k → Builds k.0 args value around v (Err e) → Says e (render_found_component_in plain r o args implicits body flag)
-  meant-unfit None e is made = (let q : None ≡ Some k = is in cc)
+  meant-unfit : (o : Option Component) (e : Refusal) → IsDefined o (Some found) → Builds found.definition.now args value around v (Err e) → Says e (render_found_component_in plain r o args implicits body flag)
+  meant-unfit None e is made = absurd is
   meant-unfit (Some c) e is made =
-      let p : kept_meant c ≡ k = (let q : Some (kept_meant c) ≡ Some k = is in cc) in
-      unfit-says r caller flag c (context_in c.signature args (option_map (λ b. text b true) body) caller nothing_set) e (builds c (Err e) p made)
+      unfit-says r caller flag c (context_in c.signature args (option_map (λ b. text b true) body) caller nothing_set) e (builds c (Err e) is made)
 
   -- a component whose arguments do not fit is refused
-  pub component-unfit : (e : Refusal) → option_map kept_meant (component r k.0.name) ≡ Some k → Builds k.0 args value around v (Err e) → Says e (render_component r k.0.name args implicits body flag)
-  component-unfit e is made = meant-unfit (component r k.0.name) e is made
+  pub component-unfit : (e : Refusal) → IsDefined (component r found.definition.now.name) (Some found) → Builds found.definition.now args value around v (Err e) → Says e (render_component r found.definition.now.name args implicits body flag)
+  component-unfit e is made = meant-unfit (component r found.definition.now.name) e is made
 
-  meant-runs : (o : Option Component) (context : Named Val) (inner : Around) → option_map kept_meant o ≡ Some k → Builds k.0 args value around v (Ok context) → inner ≡ in_component context around v → text_meant (subject_of_component t o inner flag) ≡ render_found_component_in plain r o args implicits body flag
-  meant-runs None context inner is made at = (let q : None ≡ Some k = is in cc)
+  meant-runs : (o : Option Component) (context : Named Val) (inner : Around) → IsDefined o (Some found) → Builds found.definition.now args value around v (Ok context) → inner ≡ in_component context around v → text_meant (subject_of_component t o inner flag) ≡ render_found_component_in plain r o args implicits body flag
+  meant-runs None context inner is made at = absurd is
   meant-runs (Some c) context inner is made at =
-      let p : kept_meant c ≡ k = (let q : Some (kept_meant c) ≡ Some k = is in cc) in
-      let fits = fit-is r caller flag c _ context (builds c (Ok context) p made) in
+      let fits = fit-is r caller flag c _ context (builds c (Ok context) is made) in
       let place = at ∙ ap₂ (λ a w. in_component context a w) outer fresh in
       ap (λ (a : Around). text_meant (subject_of_component t (Some c) a flag)) place
       ∙ ap (within_context_in plain r caller flag c) (sym fits)
 
   -- the text of any other is that of its body
-  pub component-runs : (context : Named Val) (inner : Around) → option_map kept_meant (component r k.0.name) ≡ Some k → Builds k.0 args value around v (Ok context) → inner ≡ in_component context around v → text_meant (subject_of_component t (component r k.0.name) inner flag) ≡ render_component r k.0.name args implicits body flag
-  component-runs context inner is made at = meant-runs (component r k.0.name) context inner is made at
+  pub component-runs : (context : Named Val) (inner : Around) → IsDefined (component r found.definition.now.name) (Some found) → Builds found.definition.now args value around v (Ok context) → inner ≡ in_component context around v
+      → text_meant (subject_of_component t (component r found.definition.now.name) inner flag) ≡ render_component r found.definition.now.name args implicits body flag
+  component-runs context inner is made at =
+      meant-runs (component r found.definition.now.name) context inner is made at
 
 module _ (r : Registry) (by_html : r.engine.escape ≡ escape_html) (name : Name) (args implicits : Named Val) (body : Option Text) (flag : Bool) where
   origin-of : (answer : Result Text Fault) → answer ≡ render_component r name args implicits body flag → IsTrue flag → Traces (render_component_in marking r name args implicits body flag) answer
@@ -144,39 +135,19 @@ module _ (r : Registry) (by_html : r.engine.escape ≡ escape_html) (name : Name
   renders-component view (Err None) g = tt
   renders-component view (Err (Some fault)) g = by_name (Err fault) (sym g)
 
-  none-meant : (o : Option Component) → component r name ≡ o → None ≡ option_map kept_meant o → render_component r name args implicits body flag ≡ Err component_not_found
-  none-meant None at is = ap (λ o. render_found_component_in plain r o args implicits body flag) at
-  none-meant (Some c) at is = (let q : None ≡ Some (kept_meant c) = is in cc)
-
   -- a component that is not there is refused
-  pub no_component : (e : Refusal) → e ≡ Some component_not_found → None ≡ option_map kept_meant (component r name) → SaysOneOf e (ComponentByName r name args implicits body flag)
+  pub no_component : (e : Refusal) → e ≡ Some component_not_found → component r name ≡ None → SaysOneOf e (ComponentByName r name args implicits body flag)
   no_component e is none =
       let P : Refusal → Type 0 = λ x. SaysOneOf x (ComponentByName r name args implicits body flag) in
-      subst P (sym is) (by_name (Err component_not_found) (sym (none-meant (component r name) refl none)))
+      subst P (sym is) (by_name (Err component_not_found) (sym (ap (λ o. render_found_component_in plain r o args implicits body flag) none)))
 
 -- what is told of a component that is found
-info-of : (o : Option Component) (k : Kept) → Some k ≡ option_map kept_meant o → option_map (λ c. info_of (definition_of c.signature)) o ≡ Some (info_of k.0)
-info-of None k is = (let q : Some k ≡ None = is in cc)
-info-of (Some c) k is =
-    let p : k ≡ kept_meant c = (let q : Some k ≡ Some (kept_meant c) = is in cc) in
-    sym (ap (λ (x : Kept). Some (info_of x.0)) p)
+info-of : (o : Option Component) (found : Defined) → IsDefined o (Some found) → option_map (λ c. info_of (definition_of c.signature)) o ≡ Some (info_of found.definition.now)
+info-of None found is = absurd is
+info-of (Some c) found is = sym (ap (λ (d : Definition). Some (info_of d)) is.given)
 
-pub info-found : (r : Registry) (name : Name) (k : Kept) → Some k ≡ option_map kept_meant (component r name) → info_at r name ≡ Some (info_of k.0)
-info-found r name k is = info-of (component r name) k is
+pub info-found : (r : Registry) (name : Name) (found : Defined) → IsDefined (component r name) (Some found) → info_at r name ≡ Some (info_of found.definition.now)
+info-found r name found is = info-of (component r name) found is
 
-none-of : (o : Option Component) → None ≡ option_map kept_meant o → option_map (λ c. info_of (definition_of c.signature)) o ≡ None
-none-of None is = refl
-none-of (Some c) is = (let q : None ≡ Some (kept_meant c) = is in cc)
-
-pub info-missing : (r : Registry) (name : Name) → None ≡ option_map kept_meant (component r name) → info_at r name ≡ None
-info-missing r name is = none-of (component r name) is
-
-both-there : {A B C : Type 0} (f : A → C) (g : B → C) (x : Option (Bor A)) (y : Option B) → option_map f (option_copied x) ≡ option_map g y → is_some x ≡ is_some y
-both-there f g None None e = refl
-both-there f g None (Some b) e = (let q : None ≡ Some (g b) = e in cc)
-both-there f g (Some a) None e = (let q : Some (f a.now) ≡ None = e in cc)
-both-there f g (Some a) (Some b) e = refl
-
--- whether one is found
-pub is-there : (r : Registry) (name : Name) (found : Option (Bor Stored)) → option_map kept_of (option_copied found) ≡ option_map kept_meant (component r name) → is_some found ≡ is_some (component r name)
-is-there r name found is = both-there kept_of kept_meant found (component r name) is
+pub info-missing : (r : Registry) (name : Name) → component r name ≡ None → info_at r name ≡ None
+info-missing r name none = ap (option_map (λ (c : Component). info_of (definition_of c.signature))) none

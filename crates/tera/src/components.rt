@@ -1,14 +1,14 @@
 // Components by name.
-ghost use Rattle.std.specs.Prelude.{◌≡◌, Some, Ok, true, is_some, map, option_map, string_bytes, IfOk, IfErr};
+ghost use Rattle.std.specs.Prelude.{◌≡◌, Some, Ok, true, map, option_map, string_bytes, IfOk, IfErr};
 ghost use Rattle.tera_errors.specs.Answer.{Gives, GivesOneOf, Lacks};
 ghost use Rattle.tera_values.specs.Val.{text};
 ghost use Rattle.tera_state.specs.Scope.{nothing_set};
 ghost use Rattle.tera_state.specs.Scopes.{around_of, variables_of};
 ghost use Rattle.tera_code.specs.Code.{listing_of};
-ghost use Rattle.tera_meaning.specs.Components.{component as meant_component};
+ghost use Rattle.tera_meaning.specs.Accepted.{is_component};
+ghost use Rattle.tera_meaning.specs.Components.{AreComponentNames, component};
 ghost use Rattle.tera_meaning.specs.Rendering.{render_component};
-ghost use Rattle.tera_registry.specs.Components.{kept_of, AreComponentNames};
-ghost use Rattle.tera_machine.specs.Components.{kept_meant};
+ghost use Rattle.tera_registry.specs.Templates.{IsDefined};
 ghost use Rattle.tera_machine.specs.Subject.{Subject};
 ghost use Rattle.tera.specs.Lent.{lent_text};
 ghost use Rattle.tera.specs.Rendering.{ComponentByName, AppendsOneOf};
@@ -19,7 +19,7 @@ use std::marker::Brand;
 use std::sync::ledger::{Blank, Ledger};
 use tera_components::ComponentInfo;
 use tera_machine::VirtualMachine;
-use tera_registry::Component;
+use tera_registry::Defined;
 use tera_state::Scopes;
 use tera_values::{Context, Error, TeraResult, Value};
 
@@ -28,9 +28,9 @@ impl Tera {
 
     /// Whether a template defines a component of this name. Takes no memory.
     pub fn contains_component(&self, name: &str) -> bool
-        ensures { result ≡ is_some (meant_component (registry_of self.now) name.now) }
+        ensures { result ≡ is_component (registry_of self.now) name.now }
     {
-        self.templates.component(name).is_some()
+        self.templates.contains_component(name)
     }
 
     /// The names of the components, each once, in byte order.
@@ -47,8 +47,8 @@ impl Tera {
         ensures { Gives (λ i. i) result (Ok (info_at (registry_of self.now) name.now)) }
     {
         match self.templates.component(name) {
-            Some(component) => {
-                let info = ComponentInfo::new(self.alloc, &component.definition)?;
+            Some(found) => {
+                let info = ComponentInfo::new(self.alloc, found.definition)?;
                 Ok(Some(info))
             }
             None => Ok(None),
@@ -70,9 +70,7 @@ impl Tera {
             args.now implicits.now (lent_text body.entry) autoescape) }
     {
         match self.templates.component(name) {
-            Some(component) => {
-                self.render_found_component(component, args, implicits, body, autoescape)
-            }
+            Some(found) => self.render_found_component(found, args, implicits, body, autoescape),
             None => Err(Error::component_not_found()),
         }
     }
@@ -100,34 +98,33 @@ impl Tera {
     // that has the implicits as its context, and the global context.
     fn render_found_component(
         &self,
-        component: &Component,
+        found: Defined<'_>,
         args: &Context,
         implicits: &Context,
         body: Option<&str>,
         autoescape: bool,
     ) -> TeraResult<String>
-        requires { option_map kept_meant
-            (meant_component (registry_of self.now) component.now.definition.name)
-            ≡ Some (kept_of component.now) }
+        requires { IsDefined (component (registry_of self.now) found.definition.now.name)
+            (Some found) }
         ensures { Gives string_bytes result (render_component (registry_of self.now)
-            component.now.definition.name args.now implicits.now (lent_text body.entry)
+            found.entry.definition.now.name args.now implicits.now (lent_text body.entry)
             autoescape) }
     {
         let body = handed(self.alloc, body)?;
         let mut scopes = Scopes::new(self.alloc, implicits, Some(&self.global_context));
-        let definition = &component.definition;
+        let definition = found.definition;
         let context = match definition.build_context_by_name(self.alloc, args, &scopes, body) {
             Ok(context) => context,
             Err(error) => return Err(error),
         };
         scopes.enter_component(context)?;
-        self.run_component::<Brand>(component, scopes, autoescape, Blank::new(1))
+        self.run_component::<Brand>(found, scopes, autoescape, Blank::new(1))
     }
 
     // The text of the body of a component, which reads these scopes. The subject is the body's.
     fn run_component<L: Ledger>(
         &self,
-        component: &Component,
+        found: Defined<'_>,
         scopes: Scopes<'_>,
         autoescape: bool,
         blank: Blank,
@@ -135,14 +132,14 @@ impl Tera {
         ghost about: { Subject }
         requires ledger { (blank.name ≡ L.name) × (blank.parts ≡ L.parts) × (L.parts ≡ 1) }
         requires subject { about ≡ subject_of_component self.now
-            (meant_component (registry_of self.now) component.now.definition.name)
+            (component (registry_of self.now) found.definition.now.name)
             (around_of scopes) autoescape }
-        requires code { component.now.code ≡ listing_of about.place.file about.tree }
+        requires code { found.chunk.now ≡ listing_of about.place.file about.tree }
         requires fresh { variables_of scopes ≡ nothing_set }
         ensures { Gives string_bytes result (text_meant about) }
     {
         let machine = VirtualMachine::new_with_autoescape(self.alloc, autoescape, &self.templates);
-        self.run_within::<L>(&machine, &component.code, scopes, blank)
+        self.run_within::<L>(&machine, found.chunk, scopes, blank)
     }
 }
 

@@ -1,6 +1,7 @@
 // From a text, or the code of a body, to what it renders to.
-ghost use Rattle.std.specs.Prelude.{◌≡◌, string_bytes};
+ghost use Rattle.std.specs.Prelude.{◌≡◌, [], string_bytes};
 ghost use Rattle.tera_errors.specs.Answer.{Gives, GivesOneOf};
+ghost use Rattle.tera_tree.specs.Blocks.{blocks};
 ghost use Rattle.tera_tree.specs.View.{nodes_of, tree_of};
 ghost use Rattle.tera_state.specs.Scope.{nothing_set};
 ghost use Rattle.tera_state.specs.Scopes.{around_of, variables_of};
@@ -17,7 +18,7 @@ use tera_code::{Chunk, Steps, compiled};
 use tera_machine::{Configuration, VirtualMachine};
 use tera_registry::tops::top_blocks;
 use tera_registry::components::components;
-use tera_registry::{Found, lacks_beside};
+use tera_registry::Found;
 use tera_state::Scopes;
 use tera_syntax::parse;
 use tera_tree::{Node, ParserOutput};
@@ -64,12 +65,13 @@ impl Tera {
         requires ledger { (blank.name ≡ L.name) × (blank.parts ≡ L.parts) × (L.parts ≡ 1) }
         requires subject { about
             ≡ subject_beside self.now (nodes_of nodes.now) context.now autoescape }
+        requires plain { blocks (nodes_of nodes.now) ≡ [] }
         ensures { Gives string_bytes result (one_off_meant about) }
     {
         let alloc = self.alloc;
         let chunk = compiled(alloc, ONE_OFF, nodes)?;
         let own = components(alloc, ONE_OFF, nodes)?;
-        if lacks_beside(alloc, &self.templates, ONE_OFF, nodes, &chunk, own.as_slice())? {
+        if self.templates.lacks_beside(&chunk, own.as_slice()) {
             return Err(Error::message(alloc, "what is called is not there"));
         }
         if self.templates.misses_an_include(nodes) {

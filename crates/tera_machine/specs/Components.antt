@@ -10,11 +10,15 @@ use Rattle.tera_meaning.specs.Run.{Request}
 use Rattle.tera_meaning.specs.Whole.{World, Place, Refuses, Takes, way, place_of_component}
 use Rattle.tera_code.specs.Listing.{Listing}
 use Rattle.tera_code.specs.Code.{listing_of}
+use Rattle.tera_registry.specs.declared.templates.Defined.{Defined}
 use Rattle.tera_machine.specs.declared.components.Called.{Called}
 
 -- a component as it is kept: what it is given, and its code
 abbrev pub kept_meant : Component → Definition × Listing
 kept_meant c = (definition_of c.signature, listing_of c.file c.body)
+
+abbrev pub found_of : Defined → Definition × Listing
+found_of d = (d.definition.now, d.chunk.now)
 
 -- the first of this name among those that are kept
 abbrev pub first_kept : Name → List (Definition × Listing) → Option (Definition × Listing)

@@ -1,16 +1,17 @@
 // Components: how the machine finds them, enters their bodies, and leaves them.
-ghost use Rattle.std.specs.Prelude.{◌≡◌, ◌≢◌, [], map, option_map, option_copied, OnOk, IfOk, IfErr};
+ghost use Rattle.std.specs.Prelude.{◌≡◌, ◌≢◌, [], map, option_map, OnOk, IfOk, IfErr};
 ghost use Rattle.tera_errors.specs.Answer.{Lacks};
 ghost use Rattle.tera_state.specs.Scope.{in_component};
 ghost use Rattle.tera_state.specs.Scopes.{around_of, variables_of};
 ghost use Rattle.tera_meaning.specs.Components.{component};
 ghost use Rattle.tera_meaning.specs.Whole.{component_at};
 ghost use Rattle.tera_registry.specs.Components.{kept_of};
+ghost use Rattle.tera_registry.specs.Templates.{IsDefined};
 ghost use Rattle.tera_machine.specs.declared.blocks.OpenBlocks.{OpenBlocks};
 ghost use Rattle.tera_machine.specs.Config.{config_of};
 ghost use Rattle.tera_machine.specs.Flow.{Pushed, component_request};
 ghost use Rattle.tera_machine.specs.Apart.{Begins, Rejoins};
-ghost use Rattle.tera_machine.specs.Components.{kept_meant, first_kept, Calls};
+ghost use Rattle.tera_machine.specs.Components.{found_of, first_kept, Calls};
 ghost use Rattle.tera_machine.specs.Subject.{IsLinked, kept_beside, place_at};
 
 use crate::asked::AskedComponent;
@@ -20,7 +21,7 @@ use crate::machine::{Limit, VirtualMachine};
 use tera_code::Chunk;
 use tera_errors::Error;
 use tera_operators::{Operand, fault_at};
-use tera_registry::{Component, Templates};
+use tera_registry::{Component, Defined, Templates};
 use tera_values::{Context, Name, Span, TeraResult, Value};
 
 /// How deep components may call one another.
@@ -74,13 +75,16 @@ impl<'c> Configuration<'c> {
 }
 
 // The first of this name.
-fn first_of<'t>(components: &'t [Component], name: &Name) -> Option<&'t Component>
-    ensures { option_map kept_of (option_copied result)
+fn first_of<'t>(components: &'t [Component], name: &Name) -> Option<Defined<'t>>
+    ensures { option_map found_of result
         ≡ first_kept name.now (map kept_of components.entry.now) }
 {
     for component in components {
-        if component.definition.name() == name.as_str() {
-            return Some(component);
+        if name.as_str() == component.definition.name() {
+            return Some(Defined {
+                definition: &component.definition,
+                chunk: &component.code,
+            });
         }
     }
     None
@@ -88,18 +92,17 @@ fn first_of<'t>(components: &'t [Component], name: &Name) -> Option<&'t Componen
 
 impl<'t> VirtualMachine<'t> {
     // The component of this name among those of the templates.
-    fn registered<M: Limit>(&self, name: &Name) -> Option<&'t Component>
+    fn registered<M: Limit>(&self, name: &Name) -> Option<Defined<'t>>
         requires { IsLinked self.now M.world }
-        ensures { option_map kept_of (option_copied result)
-            ≡ option_map kept_meant (component M.world.registry name.now) }
+        ensures { IsDefined (component M.world.registry name.now) result }
     {
         let templates: &'t Templates = self.templates;
         templates.component(name.as_str())
     }
 
     // The one among those of the text beside them.
-    fn beside(&self, name: &Name) -> Option<&'t Component>
-        ensures { option_map kept_of (option_copied result)
+    fn beside(&self, name: &Name) -> Option<Defined<'t>>
+        ensures { option_map found_of result
             ≡ first_kept name.now (kept_beside self.now.beside) }
     {
         match self.beside {
@@ -109,10 +112,9 @@ impl<'t> VirtualMachine<'t> {
     }
 
     // The component of this name: that of the templates, else that of the text beside them.
-    fn named<M: Limit>(&self, name: &Name) -> Option<&'t Component>
+    fn named<M: Limit>(&self, name: &Name) -> Option<Defined<'t>>
         requires { IsLinked self.now M.world }
-        ensures { option_map kept_of (option_copied result)
-            ≡ option_map kept_meant (component_at M.world name.now) }
+        ensures { IsDefined (component_at M.world name.now) result }
     {
         match self.registered::<M>(name) {
             Some(component) => Some(component),
@@ -147,9 +149,8 @@ impl<'t> VirtualMachine<'t> {
                 span,
             ));
         };
-        let definition = &component.definition;
         let scopes = &configuration.scopes;
-        let context = match definition.build_context(self.alloc, &given, scopes, body) {
+        let context = match component.definition.build_context(self.alloc, &given, scopes, body) {
             Ok(context) => context,
             Err(refusal) => return Err(fault_at(self.alloc, chunk.file(), &refusal, span)),
         };
@@ -158,7 +159,7 @@ impl<'t> VirtualMachine<'t> {
             return Err(Error::message(self.alloc, words));
         }
         Ok(Called {
-            code: &component.code,
+            code: component.chunk,
             context,
             depth: self.depth + 1,
         })

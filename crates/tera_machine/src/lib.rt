@@ -16,7 +16,6 @@ pub mod machine;
 pub mod place;
 mod step;
 pub mod texts;
-pub mod theory;
 pub mod wanted;
 
 pub use asked::{Asked, AskedComponent};

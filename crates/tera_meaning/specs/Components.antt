@@ -1,10 +1,12 @@
 -- Which template defines a component.
-use Rattle.std.specs.Prelude.{ℕ, suc, Bool, nat_lt, nat_eq, ◌&&◌, not, List, [], ◌∷◌, filter, Option, Some, None, option_map, option_and_then, unwrap_or, bytes_eq, codes, if◌then◌else◌}
+use Rattle.std.specs.Prelude.{◌≡◌, ℕ, suc, Bool, nat_lt, nat_eq, ◌&&◌, not, List, [], ◌∷◌, filter, Option, Some, None, is_some, option_map, option_and_then, unwrap_or, bytes_eq, codes, if◌then◌else◌}
 use Rattle.std.specs.List.{list_any, starts_with, position}
+use Rattle.std.specs.List.Sorted.{IsStrictlySortedBy}
 use Rattle.tera_errors.specs.Site.{Name}
 use Rattle.tera_tree.specs.Tree.{Signature, Nodes}
 use Rattle.tera_tree.specs.Blocks.{is_among}
 use Rattle.tera_tree.specs.Definitions.{definitions, component_names}
+use Rattle.tera_values.specs.Named.{name_cmp}
 use Rattle.tera_meaning.specs.Registry.{Entry, Registry}
 
 -- a component as one template defines it: the template in whose text it stands, what it is given, and its body
@@ -49,6 +51,11 @@ definer_of r name = best_from r None (filter (defines name) r.templates)
 -- the component of a name
 abbrev pub component : Registry → Name → Option Component
 component r name = option_and_then (component_in name) (definer_of r name)
+
+-- the names of all components, in byte order, each once
+pub record AreComponentNames (r : Registry) (names : List Name) : Type 0 where
+  pub ascending : IsStrictlySortedBy name_cmp names
+  pub those : (name : Name) → is_among name names ≡ is_some (definer_of r name)
 
 abbrev pub is_as_good : Registry → Entry → Entry → Bool
 is_as_good r t s = nat_eq (priority r s.0) (priority r t.0)

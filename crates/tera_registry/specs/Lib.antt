@@ -13,3 +13,4 @@ pub mod Edges
 pub mod Links
 pub mod Definers
 pub mod Templates
+pub mod Beside

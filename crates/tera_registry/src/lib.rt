@@ -3,6 +3,7 @@
 #![tactic(auto)]
 
 mod batch;
+mod beside;
 mod calls;
 mod choices;
 pub mod components;

@@ -1,5 +1,6 @@
 pub mod Splits
 pub mod Fields
+pub mod Keeping
 pub mod Bodies
 pub mod Scripts
 pub mod Passages

@@ -8,6 +8,7 @@ pub mod Script
 pub mod Session
 pub mod Run
 pub mod Body
+pub mod Entries
 pub mod Found
 pub mod Seen
 pub mod Standard

@@ -23,4 +23,10 @@ pub enum Command<'a> {
     Render { name: &'a str },
     /// Renders a template, with the context, for the text of a block of it.
     Block { name: &'a str, block: &'a str },
+    /// Renders a component. Entries of the context with one of these names are implicits, and all others arguments.
+    Component {
+        name: &'a str,
+        autoescape: bool,
+        implicits: Vec<&'a str>,
+    },
 }

@@ -3,6 +3,7 @@
 
 mod body;
 pub mod command;
+mod entries;
 mod execute;
 mod input;
 mod lines;

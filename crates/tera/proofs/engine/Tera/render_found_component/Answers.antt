@@ -1,0 +1,16 @@
+use Rattle.std.proofs.Common.{Global, Result, subst, string_bytes}
+use Rattle.tera_errors.specs.Site.{Text}
+use Rattle.tera_errors.specs.Fault.{Fault}
+use Rattle.tera_errors.specs.Answer.{Gives}
+use Rattle.tera_state.specs.Scopes.{around_of, variables_of}
+use Rattle.tera_code.proofs.Written.{same_ok}
+use Rattle.tera_meaning.specs.Components.{component}
+use Rattle.tera.specs.Lent.{lent_text}
+use Rattle.tera.specs.Registry.{registry_of}
+use Rattle.tera.proofs.ByComponent.{code-of, component-unfit, component-runs}
+use Rattle.tera.proofs.engine.Tera.render_found_component.Goals as goal
+
+pub returns-in-Err : goal.returns-in-Err
+returns-in-Err c =
+    let caller = c.new-scopes in
+    component-unfit c.args.self.now c.args.args.now c.args.implicits.now (lent_text c.args.body) c.args.autoescape c.args.found (around_of caller.result) (variables_of caller.result) caller.ensures.around caller.ensures.variables c.in_ok-body.body (same_ok _ _ c.in_ok-body.ensures) c.in-Err.error c.requires c.in-Err.ensures

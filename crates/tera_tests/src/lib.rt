@@ -12,6 +12,8 @@ mod cases;
 #[cfg(test)]
 mod commands;
 #[cfg(test)]
+mod components;
+#[cfg(test)]
 mod comprehensions;
 #[cfg(test)]
 mod depths;

@@ -16,9 +16,9 @@ use std::marker::Brand;
 use std::sync::ledger::{Blank, Ledger};
 use tera_code::{Chunk, Steps, compiled};
 use tera_machine::{Configuration, VirtualMachine};
-use tera_registry::tops::top_blocks;
-use tera_registry::components::components;
 use tera_registry::Found;
+use tera_registry::components::components;
+use tera_registry::tops::top_blocks;
 use tera_state::Scopes;
 use tera_syntax::parse;
 use tera_tree::{Node, ParserOutput};
@@ -77,8 +77,11 @@ impl Tera {
         if self.templates.misses_an_include(nodes) {
             return Err(Error::message(alloc, "what is included is not there"));
         }
-        let machine = VirtualMachine::new_with_autoescape(alloc, autoescape, &self.templates)
-            .with_components(own.as_slice());
+        let machine = VirtualMachine::new_with_autoescape(
+            alloc,
+            autoescape,
+            &self.templates,
+        ).with_components(own.as_slice());
         self.run_body::<L>(&machine, &chunk, context, blank)
     }
 

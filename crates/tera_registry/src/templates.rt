@@ -344,8 +344,10 @@ impl Templates {
     pub fn lacks_beside(&self, body: &Chunk, own: &[Component]) -> bool
         ensures { (r : Registry) (file : Name) (nodes : Nodes) → body.now.code ≡ nodes_code nodes 0
             → map kept_of own.now ≡ kept_all file nodes → blocks nodes ≡ [] → result
-            ≡ lacks_a_callee (λ name. is_some (component_at (record { registry = with_templates r self.now;
-            beside = definitions nodes }) name)) nodes }
+            ≡ lacks_a_callee (λ name. is_some (component_at (record {
+              registry = with_templates r self.now;
+              beside = definitions nodes;
+            }) name)) nodes }
     {
         any_lacks(body, &[], own)
             || code_misses(&self.choices, own, body)

@@ -138,15 +138,17 @@ fn is_told(engine: &Tera) -> TeraResult<bool> {
         return Ok(false);
     };
     let names = engine.get_component_names()?;
-    Ok(info.name() == "Card"
-        && info.args().len() == 1
-        && info.args()[0].name() == "title"
-        && engine.get_component_definition("No")?.is_none()
-        && names.len() == 2
-        && names[0].as_str() == "Card"
-        && names[1].as_str() == "S"
-        && engine.contains_component("S")
-        && !engine.contains_component("No"))
+    Ok(
+        info.name() == "Card"
+            && info.args().len() == 1
+            && info.args()[0].name() == "title"
+            && engine.get_component_definition("No")?.is_none()
+            && names.len() == 2
+            && names[0].as_str() == "Card"
+            && names[1].as_str() == "S"
+            && engine.contains_component("S")
+            && !engine.contains_component("No"),
+    )
 }
 
 fn are_called(alloc: Global) -> TeraResult<bool> {
@@ -156,10 +158,12 @@ fn are_called(alloc: Global) -> TeraResult<bool> {
         "{% component S(@name) %}{{ name }}{% endcomponent %}\
          {% component Card(title) %}<div><h1>{{ title }}</h1>{{ body }}</div>{% endcomponent %}",
     )?;
-    Ok(card_is_shown(alloc, &engine)?
-        && is_appended(alloc, &engine)?
-        && is_told(&engine)?
-        && reads_global(alloc)?)
+    Ok(
+        card_is_shown(alloc, &engine)?
+            && is_appended(alloc, &engine)?
+            && is_told(&engine)?
+            && reads_global(alloc)?,
+    )
 }
 
 #[test]

@@ -77,11 +77,8 @@ impl Tera {
         if self.templates.misses_an_include(nodes) {
             return Err(Error::message(alloc, "what is included is not there"));
         }
-        let machine = VirtualMachine::new_with_autoescape(
-            alloc,
-            autoescape,
-            &self.templates,
-        ).with_components(own.as_slice());
+        let alone = VirtualMachine::new_with_autoescape(alloc, autoescape, &self.templates);
+        let machine = alone.with_components(own.as_slice());
         self.run_body::<L>(&machine, &chunk, context, blank)
     }
 

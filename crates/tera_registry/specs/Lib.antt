@@ -4,6 +4,7 @@ pub mod Code
 pub mod Kept
 pub mod Components
 pub mod Choices
+pub mod Beside
 pub mod Known
 pub mod Batch
 pub mod Put

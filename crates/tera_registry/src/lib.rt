@@ -3,9 +3,10 @@
 #![tactic(auto)]
 
 mod batch;
+mod beside;
 mod calls;
 mod choices;
-mod components;
+pub mod components;
 mod definers;
 mod edges;
 mod includes;
@@ -20,5 +21,5 @@ pub mod templates;
 pub mod tops;
 mod walks;
 
-pub use known::lacks_a_callee;
-pub use templates::{Definer, Definers, Found, Templates};
+pub use components::{Component, components};
+pub use templates::{Defined, Definer, Definers, Found, Templates};

@@ -17,9 +17,12 @@ ghost use Rattle.tera_registry.specs.Kept.{entries_of, seen};
 ghost use Rattle.tera_registry.specs.Batch.{ConfiguresOneOf, Adds, pairs_of};
 
 use crate::batch::put_all;
+use crate::beside::{any_misses, code_misses};
 use crate::choices::Choice;
+use crate::components::Component;
 use crate::definers::{At, first, first_above};
 use crate::includes::misses;
+use crate::known::any_lacks;
 use crate::link::link;
 use crate::names::resolve;
 use crate::template::Template;
@@ -153,7 +156,14 @@ impl<'t> Definers<'t> {
 
 impl Templates {
     ghost use Rattle.tera_registry.specs.Templates.{templates_of, prefixes_of, with_templates, is_empty, Finds, IsDefined, registry_in, started, AreNext};
+    ghost use Rattle.tera_errors.specs.Site.{Name};
+    ghost use Rattle.tera_tree.specs.Tree.{Tree};
+    ghost use Rattle.tera_tree.specs.Blocks.{blocks};
+    ghost use Rattle.tera_code.specs.Code.{nodes_code};
     ghost use Rattle.tera_meaning.specs.Components.{component};
+    ghost use Rattle.tera_meaning.specs.Known.{lacks_a_callee};
+    ghost use Rattle.tera_meaning.specs.Rendering.{is_component_beside};
+    ghost use Rattle.tera_registry.specs.Components.{kept_of, kept_all};
     ghost use Rattle.tera_registry.specs.Definers.{from_place, above_place, from_found};
 
     /// None yet. Takes no memory.
@@ -294,6 +304,18 @@ impl Templates {
         ensures { (r : Registry) → result ≡ is_component (with_templates r self.now) name.now }
     {
         self.choices.contains_key(name)
+    }
+
+    /// Whether a text beside the templates calls what is not there: this is the code of its own body, these are its
+    /// components, and it has no block. Takes no memory.
+    pub fn lacks_a_callee(&self, body: &Chunk, own: &[Component]) -> bool
+        ensures { (r : Registry) (tree : Tree) (file : Name) → body.now.code ≡ nodes_code tree.nodes 0
+            → map kept_of own.now ≡ kept_all file tree.nodes → blocks tree.nodes ≡ []
+            → result ≡ lacks_a_callee (is_component_beside (with_templates r self.now) tree) tree.nodes }
+    {
+        any_lacks(body, &[], own)
+            || code_misses(&self.choices, own, body)
+            || any_misses(&self.choices, own)
     }
 
     /// Whether nodes include what is not there. Takes no memory.

@@ -1,15 +1,21 @@
 -- The component of a name, found by place.
-use Rattle.std.proofs.Common.{◌≡◌, ℕ, ◌<◌, Bool, true, false, not, ◌||◌, is_some, List, [], ◌∷◌, length, map, get_or, Option, Some, None, option_map, option_and_then, Global, String, refl, sym, ap, ap₂, ◌∙◌, arith, slice_get}
+use Rattle.std.proofs.Common.{◌≡◌, ℕ, ◌<◌, Bool, true, false, not, ◌||◌, is_some, List, [], ◌∷◌, ◌++◌, length, map, get_or, Option, Some, None, option_map, option_and_then, Box, Vec, Global, String, refl, sym, ap, ap₂, ◌∙◌, arith, slice_get}
 use Rattle.std.specs.declared.rc.Rc.{Rc}
 use Rattle.std.specs.declared.collections.BTreeMap.{BTreeMap}
 use Rattle.std.specs.List.{list_any}
-use Rattle.std.proofs.lemmas.List.{length-map}
+use Rattle.std.proofs.lemmas.List.{length-map, map-append}
 use Rattle.std.proofs.lemmas.Option.{slice_get_read, slice_get-map, slice_get_within}
 use Rattle.tera_errors.specs.Site.{Name}
 use Rattle.tera_tree.specs.Tree.{Signature, Nodes}
-use Rattle.tera_tree.specs.Definitions.{definitions}
+use Rattle.tera_tree.specs.Definitions.{definitions, node_definitions}
+use Rattle.tera_tree.specs.View.{node_of, nodes_of, signature_of}
+use Rattle.tera_tree.specs.declared.node.Node.{Node as Read}
+use Rattle.tera_tree.specs.declared.node.Node.TheVariants as variant
+use Rattle.tera_tree.specs.declared.component.Signature.{Signature as Written}
+use Rattle.tera_tree.proofs.Views.{view_definition}
+use Rattle.tera_code.specs.Code.{listing_of}
 use Rattle.tera_code.specs.Listing.{Listing}
-use Rattle.tera_components.specs.Definition.{Definition}
+use Rattle.tera_components.specs.Definition.{Definition, definition_of}
 use Rattle.tera_meaning.specs.Registry.{Entry, Registry}
 use Rattle.tera_meaning.specs.Known.{lacks_a_callee}
 use Rattle.tera_meaning.specs.Accepted.{is_component}
@@ -63,6 +69,16 @@ pub kept-at : (file : Name) (nodes : Nodes) (cs : List Kept) (k : ℕ) (d : Sign
 kept-at file nodes cs k d c e at is =
     let q : Some (kept_of c) ≡ Some (kept_as file d) = sym (slice_get-map kept_of cs k ∙ ap (option_map kept_of) (slice_get_read cs (length cs) k c refl (kept-within file nodes cs k d e at) is)) ∙ ap (λ l. slice_get l k) e ∙ slice_get-map (kept_as file) (definitions nodes) k ∙ ap (option_map (kept_as file)) at in
     cc
+
+-- one component more
+pub kept-one : (file : Name) (old mid : List Kept) (c : Kept) (node : Read) (signature : Box Written Global) (body : Vec Read Global) (xs : List Read) → node ≡ variant.Definition signature body → xs ≡ body.items → mid ≡ old ++ c ∷ [] → c.definition ≡ definition_of (signature_of signature.value) → c.code ≡ listing_of file (nodes_of xs) → map kept_of mid ≡ map kept_of old ++ map (kept_as file) (node_definitions (node_of node))
+kept-one file old mid c node signature body xs is a e h g =
+    ap (map kept_of) e
+    ∙ map-append kept_of old (c ∷ [])
+    ∙ ap₂ (λ d l. map kept_of old ++ (d, l) ∷ []) h g
+    ∙ ap (λ x. map kept_of old ++ (definition_of (signature_of signature.value), listing_of file (nodes_of x)) ∷ []) a
+    ∙ ap (λ n. map kept_of old ++ map (kept_as file) (node_definitions n)) (sym (view_definition signature body))
+    ∙ ap (λ n. map kept_of old ++ map (kept_as file) (node_definitions (node_of n))) (sym is)
 
 -- what a template calls is there or not
 pub misses-callee : (r : Registry) (nodes : Nodes) (choices : BTreeMap (String Global) Choice Global) (names : List Name) (lacks : Bool) → AreChosen r choices → lacks ≡ lacks_a_callee (λ name. true) nodes → names ≡ component_calls nodes → (lacks || list_any (λ n. not (is_some (chosen choices n))) names) ≡ lacks_a_callee (is_component r) nodes

@@ -21,6 +21,5 @@ pub mod templates;
 pub mod tops;
 mod walks;
 
-pub use components::Component;
-pub use known::lacks_a_callee;
+pub use components::{Component, components};
 pub use templates::{Defined, Definer, Definers, Found, Templates};

@@ -71,7 +71,7 @@ impl Tera {
         let alloc = self.alloc;
         let chunk = compiled(alloc, ONE_OFF, nodes)?;
         let own = components(alloc, ONE_OFF, nodes)?;
-        if self.templates.lacks_beside(&chunk, own.as_slice()) {
+        if self.templates.lacks_a_callee(&chunk, own.as_slice()) {
             return Err(Error::message(alloc, "what is called is not there"));
         }
         if self.templates.misses_an_include(nodes) {

@@ -1,10 +1,11 @@
 // All templates of an engine, linked.
-ghost use Rattle.std.specs.Prelude.{◌≡◌, ◌<◌, Some, None, Ok, map, length, slice_get, is_some, string_bytes, IsTrue, [], ◌∷◌};
-ghost use Rattle.tera_errors.specs.Answer.{Gives};
+ghost use Rattle.std.specs.Prelude.{◌≡◌, ◌<◌, IfOk, IfErr, Some, None, Ok, map, length, slice_get, is_some, string_bytes, IsTrue, [], ◌∷◌};
+ghost use Rattle.tera_errors.specs.Answer.{Gives, Lacks};
 ghost use Rattle.tera_tree.specs.Delimiters.{delimiters_of, accepted};
 ghost use Rattle.tera_tree.specs.View.{nodes_of};
 ghost use Rattle.tera_meaning.specs.Accepted.{fault, is_component, misses_an_include};
 ghost use Rattle.tera_meaning.specs.Lineage.{ancestors, definers_in};
+ghost use Rattle.tera_meaning.specs.Components.{AreComponentNames};
 ghost use Rattle.tera_meaning.specs.Resolve.{resolve};
 ghost use Rattle.tera_meaning.specs.Registry.{Entry, Registry};
 ghost use Rattle.std.specs.Coded.{codes};
@@ -333,6 +334,19 @@ impl Templates {
         let mut names = Vec::new(self.alloc);
         for template in &self.all {
             names.push(template.name.clone()?)?;
+        }
+        Ok(names)
+    }
+
+    /// The names of the components, each once, in byte order.
+    pub fn component_names(&self) -> TeraResult<Vec<String>>
+        ensures names { (r : Registry) → IfOk result
+            (λ v. AreComponentNames (with_templates r self.now) (map string_bytes v.items)) }
+        ensures lacks { IfErr result Lacks }
+    {
+        let mut names = Vec::new(self.alloc);
+        for name in self.choices.keys() {
+            names.push(name.clone()?)?;
         }
         Ok(names)
     }

@@ -96,8 +96,8 @@ module _ (t : Tera) (args implicits : Named Val) (body : Option Text) (flag : Bo
   builds c result is made =
       let P : Option (Named Val) → Type 0 = λ o. Gives (λ x. x) result (or_message o) in
       let same : context_in c.signature args value around v ≡ context_in c.signature args (option_map (λ b. text b true) body) caller nothing_set =
-          ap₂ (λ a w. context_in c.signature args value a w) outer fresh
-          ∙ ap (λ b. context_in c.signature args b caller nothing_set) (sym handed) in
+      ap₂ (λ a w. context_in c.signature args value a w) outer fresh
+      ∙ ap (λ b. context_in c.signature args b caller nothing_set) (sym handed) in
       subst P same (made c.signature is.given)
 
   meant-unfit : (o : Option Component) (e : Refusal) → IsDefined o (Some found) → Builds found.definition.now args value around v (Err e) → Says e (render_found_component_in plain r o args implicits body flag)

@@ -16,9 +16,9 @@ use std::marker::Brand;
 use std::sync::ledger::{Blank, Ledger};
 use tera_code::{Chunk, Steps, compiled};
 use tera_machine::{Configuration, VirtualMachine};
-use tera_registry::tops::top_blocks;
-use tera_registry::components::components;
 use tera_registry::Found;
+use tera_registry::components::components;
+use tera_registry::tops::top_blocks;
 use tera_state::Scopes;
 use tera_syntax::parse;
 use tera_tree::{Node, ParserOutput};
@@ -71,14 +71,14 @@ impl Tera {
         let alloc = self.alloc;
         let chunk = compiled(alloc, ONE_OFF, nodes)?;
         let own = components(alloc, ONE_OFF, nodes)?;
-        if self.templates.lacks_beside(&chunk, own.as_slice()) {
+        if self.templates.lacks_a_callee(&chunk, own.as_slice()) {
             return Err(Error::message(alloc, "what is called is not there"));
         }
         if self.templates.misses_an_include(nodes) {
             return Err(Error::message(alloc, "what is included is not there"));
         }
-        let machine = VirtualMachine::new_with_autoescape(alloc, autoescape, &self.templates)
-            .with_components(own.as_slice());
+        let alone = VirtualMachine::new_with_autoescape(alloc, autoescape, &self.templates);
+        let machine = alone.with_components(own.as_slice());
         self.run_body::<L>(&machine, &chunk, context, blank)
     }
 

@@ -4,7 +4,7 @@ use Rattle.std.specs.List.{list_any, filter_map, flat_map, cons_option}
 use Rattle.std.proofs.lemmas.List.{drop_all, append-nil}
 use Rattle.std.proofs.lemmas.List.Folds.{list_any-append, flat_map-map}
 use Rattle.tera_errors.specs.Site.{Name}
-use Rattle.tera_tree.specs.Tree.{Nodes}
+use Rattle.tera_tree.specs.Tree.{Signature, Nodes}
 use Rattle.tera_tree.specs.Blocks as in_tree
 use Rattle.tera_tree.specs.Definitions.{definitions}
 use Rattle.tera_tree.specs.Calls.{Callee, AFilter, ATest, AFunction, AComponent, calls}
@@ -69,7 +69,7 @@ blocks-call file (b ∷ bs) = ap₂ (λ x y. x ++ y) (code-calls-as-nodes (nodes
 kept-call : (file : Name) (nodes : Nodes) → flat_map (λ k. code_calls k.1.code) (kept_all file nodes) ≡ flat_map nodes_call (map (λ d. d.1) (definitions nodes))
 kept-call file nodes = all (definitions nodes)
   where
-    all : (ds : List (_ × Nodes)) → flat_map (λ k. code_calls k.1.code) (map (kept_as file) ds) ≡ flat_map nodes_call (map (λ d. d.1) ds)
+    all : (ds : List (Signature × Nodes)) → flat_map (λ k. code_calls k.1.code) (map (kept_as file) ds) ≡ flat_map nodes_call (map (λ d. d.1) ds)
     all [] = refl
     all (d ∷ ds) = ap₂ (λ x y. x ++ y) (code-calls-as-nodes (nodes_code d.1 0) d.1 refl) (all ds)
 
@@ -113,7 +113,7 @@ callee-parts there (AComponent n) = or-false _
 callees-parts : (there : Name → Bool) (cs : List Callee) → list_any (unknown there) cs ≡ (list_any (unknown others_there) cs || list_any (λ n. not (there n)) (filter_map component_called cs))
 callees-parts there [] = refl
 callees-parts there (c ∷ cs) =
-    ap₂ (λ x y. x || y) (callee-parts there c) (callees-parts there cs) ∙ either_or _ _ _ _ ∙ ap (λ b. (unknown others_there c || list_any (unknown others_there) cs) || b) (joined (component_called c))
+    ap₂ (λ x y. x || y) (callee-parts there c) (callees-parts there cs) ∙ either_or (unknown others_there c) (list_any (unknown others_there) cs) (list_any (λ n. not (there n)) (cons_option (component_called c) [])) (list_any (λ n. not (there n)) (filter_map component_called cs)) ∙ ap (λ b. (unknown others_there c || list_any (unknown others_there) cs) || b) (joined (component_called c))
   where
     joined : (o : Option Name) → (list_any (λ n. not (there n)) (cons_option o []) || list_any (λ n. not (there n)) (filter_map component_called cs)) ≡ list_any (λ n. not (there n)) (cons_option o (filter_map component_called cs))
     joined None = refl
@@ -126,4 +126,13 @@ lacks-parts there nodes = all (bodies nodes)
     all : (bs : List Nodes) → list_any (has_unknown there) bs ≡ (list_any (has_unknown others_there) bs || list_any (λ n. not (there n)) (flat_map nodes_call bs))
     all [] = refl
     all (b ∷ bs) =
-        ap₂ (λ x y. x || y) (callees-parts there (calls b)) (all bs) ∙ either_or _ _ _ _ ∙ ap (λ x. (has_unknown others_there b || list_any (has_unknown others_there) bs) || x) (sym (list_any-append (λ n. not (there n)) (nodes_call b) (flat_map nodes_call bs)))
+        ap₂ (λ x y. x || y) (callees-parts there (calls b)) (all bs) ∙ either_or (has_unknown others_there b) (list_any (has_unknown others_there) bs) (list_any (λ n. not (there n)) (nodes_call b)) (list_any (λ n. not (there n)) (flat_map nodes_call bs)) ∙ ap (λ x. (has_unknown others_there b || list_any (has_unknown others_there) bs) || x) (sym (list_any-append (λ n. not (there n)) (nodes_call b) (flat_map nodes_call bs)))
+
+-- the same of a text without blocks
+pub codes_call_as_tree : (file : Name) (body : Listing) (components : List Component) (nodes : Nodes) → body.code ≡ nodes_code nodes 0 → in_tree.blocks nodes ≡ [] → map kept_of components ≡ kept_all file nodes → code_calls body.code ++ flat_map (λ c. code_calls c.code.code) components ≡ component_calls nodes
+codes_call_as_tree file body components nodes e none g =
+    let own = code-calls-as-nodes body.code nodes e in
+    let of_components = sym (flat_map-map (λ (k : Definition × Listing). code_calls k.1.code) kept_of components) ∙ ap (flat_map (λ k. code_calls k.1.code)) g ∙ kept-call file nodes in
+    let ds = map (λ d. d.1) (definitions nodes) in
+    ap₂ (λ x y. x ++ y) own of_components ∙ ap (λ bs. nodes_call nodes ++ flat_map nodes_call (map (λ b. b.1) bs ++ ds)) (sym none)
+

@@ -112,10 +112,13 @@ chosen-step r n place t c o at is =
     taken j there None was = rw was (new j there)
     taken j there (Some old) was =
         let goods : nat_lt (priority r t.0) old.priority ≡ is_better r t was.template = ap (nat_lt (priority r t.0)) was.good in
-        rw was.taken (elim (cases_Bool (is_better r t was.template)) [
-          | inl less ↦ rw (goods, less) (new j there)
-          | inr more ↦ rw (goods, more) (record { template = was.template; taken = refl; at = was.at; good = was.good; there = was.there })
-        ])
+        rw was.taken (by_bool (nat_lt (priority r t.0) old.priority) (is_better r t was.template) goods)
+      where
+        by_bool : (b d : Bool) → b ≡ d → IsChosen r n (if b then Some (made j) else Some old) (if d then Some t else Some was.template)
+        by_bool true true e = new j there
+        by_bool true false e = (let q : true ≡ false = e in cc)
+        by_bool false true e = (let q : false ≡ true = e in cc)
+        by_bool false false e = record { template = was.template; taken = refl; at = was.at; good = was.good; there = was.there }
 
     by_first : (f : Option ℕ) → IsFirstOf n t.0 (definitions t.1.tree.nodes) f → IsChosen r n (with_first place (priority r t.0) 0 f c) (if defines n t then better r o t else o)
     by_first None none = rw none is

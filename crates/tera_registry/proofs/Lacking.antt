@@ -50,11 +50,16 @@ components_lack : (cs : List Component) → list_any (λ c. code_lacks c.code.co
 components_lack [] = refl
 components_lack (c ∷ cs) = ap (λ x. code_lacks c.code.code || x) (components_lack cs)
 
-pub bodies_lack_as_tree : (file : Name) (body : Listing) (blocks : List Block) (components : List Component) (nodes : Nodes) → body ≡ listing_of file nodes → map block_of blocks ≡ block_listings file (in_tree.blocks nodes) → map kept_of components ≡ kept_all file nodes → bodies_lack body blocks components ≡ lacks_a_callee (λ name. true) nodes
-bodies_lack_as_tree file body blocks components nodes e f g =
+-- the code of nodes, with that of their blocks and their components
+pub codes_lack_as_tree : (file : Name) (body : Listing) (blocks : List Block) (components : List Component) (nodes : Nodes) → body.code ≡ nodes_code nodes 0 → map block_of blocks ≡ block_listings file (in_tree.blocks nodes) → map kept_of components ≡ kept_all file nodes → bodies_lack body blocks components ≡ lacks_a_callee (λ name. true) nodes
+codes_lack_as_tree file body blocks components nodes e f g =
     let of_blocks = listings_lack blocks ∙ ap (list_any (λ b. code_lacks b.1.code)) f ∙ blocks_lack file (in_tree.blocks nodes) in
     let of_components = components_lack components ∙ ap (list_any (λ k. code_lacks k.1.code)) g ∙ kept_lack file (definitions nodes) in
-    ap₂ (λ x y. x || y) (code_lacks_as_nodes body.code nodes (ap (λ l. l.code) e)) (ap₂ (λ x y. x || y) of_blocks of_components ∙ sym (list_any-append (has_unknown (λ name. true)) (map (λ b. b.1) (in_tree.blocks nodes)) (map (λ d. d.1) (definitions nodes))))
+    ap₂ (λ x y. x || y) (code_lacks_as_nodes body.code nodes e) (ap₂ (λ x y. x || y) of_blocks of_components ∙ sym (list_any-append (has_unknown (λ name. true)) (map (λ b. b.1) (in_tree.blocks nodes)) (map (λ d. d.1) (definitions nodes))))
+
+pub bodies_lack_as_tree : (file : Name) (body : Listing) (blocks : List Block) (components : List Component) (nodes : Nodes) → body ≡ listing_of file nodes → map block_of blocks ≡ block_listings file (in_tree.blocks nodes) → map kept_of components ≡ kept_all file nodes → bodies_lack body blocks components ≡ lacks_a_callee (λ name. true) nodes
+bodies_lack_as_tree file body blocks components nodes e f g =
+    codes_lack_as_tree file body blocks components nodes (ap (λ l. l.code) e) f g
 
 -- The code is looked through place by place.
 

@@ -27,3 +27,4 @@ pub mod Best
 pub mod Chosen
 pub mod Choosing
 pub mod Definitions
+pub mod Besides

@@ -4,6 +4,7 @@ pub mod Code
 pub mod Kept
 pub mod Components
 pub mod Choices
+pub mod Beside
 pub mod Known
 pub mod Batch
 pub mod Put
@@ -13,4 +14,3 @@ pub mod Edges
 pub mod Links
 pub mod Definers
 pub mod Templates
-pub mod Beside

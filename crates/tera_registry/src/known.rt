@@ -1,10 +1,8 @@
 // What code calls that is not there.
-ghost use Rattle.std.specs.Prelude.{◌≡◌, ℕ, true, option_and_then, slice_get};
+ghost use Rattle.std.specs.Prelude.{◌≡◌, true, option_and_then, slice_get};
 ghost use Rattle.std.specs.List.{list_any};
-ghost use Rattle.tera_tree.specs.Tree.{Nodes};
 ghost use Rattle.tera_code.specs.Called.{callee_of, called_by};
-ghost use Rattle.tera_code.specs.Code.{nodes_code};
-ghost use Rattle.tera_meaning.specs.Known.{is_known, has_unknown};
+ghost use Rattle.tera_meaning.specs.Known.{is_known};
 ghost use Rattle.tera_registry.specs.Known.{is_missing, code_lacks, bodies_lack};
 
 use crate::components::Component;
@@ -43,14 +41,6 @@ fn code_lacks(chunk: &Chunk) -> bool
         }
     }
     false
-}
-
-/// Whether the body whose code this is calls a filter, a test or a function that is not there.
-#[tactic(auto, using(crate::proofs::Lacking::code_lacks_as_nodes))]
-pub fn lacks_a_callee(chunk: &Chunk) -> bool
-    ensures { (nodes : Nodes) → chunk.now.code ≡ nodes_code nodes 0 → result ≡ has_unknown (λ name. true) nodes }
-{
-    code_lacks(chunk)
 }
 
 /// Whether the code of a block calls what is not there.

@@ -22,5 +22,4 @@ pub mod tops;
 mod walks;
 
 pub use components::Component;
-pub use known::lacks_a_callee;
 pub use templates::{Defined, Definer, Definers, Found, Templates};

@@ -2,21 +2,14 @@
 ghost use Rattle.std.specs.Prelude.{◌≡◌, ◌<◌, IfOk, IfErr, Some, None, Ok, map, length, slice_get, is_some, string_bytes, IsTrue, [], ◌∷◌};
 ghost use Rattle.tera_errors.specs.Answer.{Gives, Lacks};
 ghost use Rattle.tera_tree.specs.Delimiters.{delimiters_of, accepted};
-ghost use Rattle.tera_tree.specs.Blocks.{blocks};
-ghost use Rattle.tera_tree.specs.Definitions.{definitions};
-ghost use Rattle.tera_tree.specs.Tree.{Nodes};
 ghost use Rattle.tera_tree.specs.View.{nodes_of};
 ghost use Rattle.tera_meaning.specs.Accepted.{fault, is_component, misses_an_include};
 ghost use Rattle.tera_meaning.specs.Lineage.{ancestors, definers_in};
 ghost use Rattle.tera_meaning.specs.Components.{AreComponentNames};
-ghost use Rattle.tera_meaning.specs.Known.{lacks_a_callee};
 ghost use Rattle.tera_meaning.specs.Resolve.{resolve};
-ghost use Rattle.tera_meaning.specs.Whole.{component_at};
 ghost use Rattle.tera_meaning.specs.Registry.{Entry, Registry};
 ghost use Rattle.std.specs.Coded.{codes};
-ghost use Rattle.tera_code.specs.Code.{nodes_code};
 ghost use Rattle.tera_code.specs.contracts.chunk.Chunk as chunk;
-ghost use Rattle.tera_registry.specs.Components.{kept_of, kept_all};
 ghost use Rattle.tera_registry.specs.contracts.choices.Choice as choice;
 ghost use Rattle.tera_registry.specs.Choices.{AreChosen};
 ghost use Rattle.tera_registry.specs.Order.{Rises, Rises-prop};
@@ -164,7 +157,14 @@ impl<'t> Definers<'t> {
 
 impl Templates {
     ghost use Rattle.tera_registry.specs.Templates.{templates_of, prefixes_of, with_templates, is_empty, Finds, IsDefined, registry_in, started, AreNext};
+    ghost use Rattle.tera_errors.specs.Site.{Name};
+    ghost use Rattle.tera_tree.specs.Tree.{Tree};
+    ghost use Rattle.tera_tree.specs.Blocks.{blocks};
+    ghost use Rattle.tera_code.specs.Code.{nodes_code};
     ghost use Rattle.tera_meaning.specs.Components.{component};
+    ghost use Rattle.tera_meaning.specs.Known.{lacks_a_callee};
+    ghost use Rattle.tera_meaning.specs.Rendering.{is_component_beside};
+    ghost use Rattle.tera_registry.specs.Components.{kept_of, kept_all};
     ghost use Rattle.tera_registry.specs.Definers.{from_place, above_place, from_found};
 
     /// None yet. Takes no memory.
@@ -307,6 +307,18 @@ impl Templates {
         self.choices.contains_key(name)
     }
 
+    /// Whether a text beside the templates calls what is not there: this is the code of its own body, these are its
+    /// components, and it has no block. Takes no memory.
+    pub fn lacks_a_callee(&self, body: &Chunk, own: &[Component]) -> bool
+        ensures { (r : Registry) (tree : Tree) (file : Name) → body.now.code ≡ nodes_code tree.nodes 0
+            → map kept_of own.now ≡ kept_all file tree.nodes → blocks tree.nodes ≡ []
+            → result ≡ lacks_a_callee (is_component_beside (with_templates r self.now) tree) tree.nodes }
+    {
+        any_lacks(body, &[], own)
+            || code_misses(&self.choices, own, body)
+            || any_misses(&self.choices, own)
+    }
+
     /// Whether nodes include what is not there. Takes no memory.
     pub fn misses_an_include(&self, nodes: &[Node<'_>]) -> bool
         ensures { (r : Registry) → result
@@ -337,19 +349,6 @@ impl Templates {
             names.push(name.clone()?)?;
         }
         Ok(names)
-    }
-
-    /// Whether a text beside these templates calls what is not there, where this is the code of its nodes, in which no block
-    /// stands, and these are its components. Takes no memory.
-    pub fn lacks_beside(&self, body: &Chunk, own: &[Component]) -> bool
-        ensures { (r : Registry) (file : Name) (nodes : Nodes) → body.now.code ≡ nodes_code nodes 0
-            → map kept_of own.now ≡ kept_all file nodes → blocks nodes ≡ [] → result
-            ≡ lacks_a_callee (λ name. is_some (component_at (record { registry = with_templates r self.now;
-            beside = definitions nodes }) name)) nodes }
-    {
-        any_lacks(body, &[], own)
-            || code_misses(&self.choices, own, body)
-            || any_misses(&self.choices, own)
     }
 
     /// Whether there is no template.

@@ -77,14 +77,14 @@ module _ (p : Name → Bool) where
       let others : names ≡ map (λ c. c.0) rest = cc in
       let up : IsAscending (done ++ d ∷ rest) = subst IsAscending (sym split) h in
       let found : at_name n m ≡ Some d.1 =
-          ap (at_name n) (sym split) ∙ ap (λ (j : Name). at_name j (done ++ d ∷ rest)) name ∙ found_among done d rest up in
+      ap (at_name n) (sym split) ∙ ap (λ (j : Name). at_name j (done ++ d ∷ rest)) name ∙ found_among done d rest up in
       let last : new ≡ keep (done ++ d ∷ []) =
-          made
-          ∙ ap (λ o. put_found n o all) found
-          ∙ ap (λ (j : Name). put j d.1 all) name
-          ∙ ap (put d.0 d.1) is
-          ∙ put_last-kept done d rest up
-          ∙ sym (keep-yes done d (ap p (sym name) ∙ yes)) in
+      made
+      ∙ ap (λ o. put_found n o all) found
+      ∙ ap (λ (j : Name). put j d.1 all) name
+      ∙ ap (put d.0 d.1) is
+      ∙ put_last-kept done d rest up
+      ∙ sym (keep-yes done d (ap p (sym name) ∙ yes)) in
       (done ++ d ∷ [], rest, append_assoc done (d ∷ []) rest ∙ split, last, others)
 
   pub kept_all : (m all : Named Val) (names : List Name) → names ≡ [] → IsKept m all names → all ≡ keep m

@@ -1,7 +1,8 @@
 -- Components that are called follow the pure machine.
-use Rattle.std.proofs.Common.{◌≡◌, ℕ, suc, ◌+◌, ◌<◌, Bool, true, false, List, [], ◌∷◌, length, drop, get_or, Option, Some, None, Result, Ok, Err, refl, sym, ap, ap₂, ◌∙◌, subst}
+use Rattle.std.proofs.Common.{◌≡◌, ℕ, suc, ◌+◌, ◌<◌, ◌≤◌, Bool, true, false, List, [], ◌∷◌, length, drop, get_or, Option, Some, None, Result, Ok, Err, refl, sym, ap, ap₂, ◌∙◌, subst}
 use Rattle.std.specs.Prelude.{nat_lt, option_map, map, bytes_eq, if◌then◌else◌}
 use Rattle.std.specs.Option.{option_or}
+use Rattle.std.proofs.lemmas.Bool.{lt-ltb, le-ltb}
 use Rattle.std.proofs.lemmas.List.{drop_more}
 use Rattle.tera_errors.specs.Site.{Name}
 use Rattle.tera_errors.specs.declared.span.Span.{Span}
@@ -157,15 +158,15 @@ module _ (w : World) (p : Place) (name : Name) (given : List (Name × Val)) (bod
           ∙ ap (λ x. if x then Takes (place_of_component (in_component context p.around v) p.autoescape (suc p.depth) c.file) nothing_set c.body else Refuses message) e
 
       -- components that are open too deep
-      pub too_deep : (told : Refusal) → nat_lt p.depth 20 ≡ false → Tells told message → Calls w p q v (Err told)
-      too_deep told e h = told_refused told message (deep false e) h
+      pub too_deep : (told : Refusal) → 20 ≤ p.depth → Tells told message → Calls w p q v (Err told)
+      too_deep told l h = told_refused told message (deep false (le-ltb p.depth 20 l)) h
 
       -- and else it runs
-      pub is_called : (called : Called) → nat_lt p.depth 20 ≡ true → called.context ≡ context → called.code.now ≡ found.chunk.now → called.depth ≡ suc p.depth → IsCalled w p q v called
-      is_called called e x y z = record {
+      pub is_called : (called : Called) → p.depth < 20 → called.context ≡ context → called.code.now ≡ found.chunk.now → called.depth ≡ suc p.depth → IsCalled w p q v called
+      is_called called l x y z = record {
         file = c.file;
         body = c.body;
-        takes = deep true e ∙ ap (λ k. Takes (place_of_component (in_component k p.around v) p.autoescape (suc p.depth) c.file) nothing_set c.body) (sym x);
+        takes = deep true (lt-ltb p.depth 20 l) ∙ ap (λ k. Takes (place_of_component (in_component k p.around v) p.autoescape (suc p.depth) c.file) nothing_set c.body) (sym x);
         code = y ∙ kept.code;
         depth = z;
       }

@@ -75,6 +75,7 @@ impl<'c> Configuration<'c> {
 }
 
 // The first of this name.
+#[tactic(auto, using(crate::proofs::Calling::kept_step))]
 fn first_of<'t>(components: &'t [Component], name: &Name) -> Option<Defined<'t>>
     ensures { option_map found_of result
         ≡ first_kept name.now (map kept_of components.entry.now) }
@@ -123,6 +124,7 @@ impl<'t> VirtualMachine<'t> {
     }
 
     /// The component that is asked for, or the fault of the request.
+    #[tactic(auto, using(crate::proofs::Calling::nobody_called, crate::proofs::Calling::unfit, crate::proofs::Calling::too_deep, crate::proofs::Calling::is_called))]
     pub(crate) fn called<M: Limit>(
         &self,
         chunk: &Chunk,

@@ -21,5 +21,5 @@ pub mod templates;
 pub mod tops;
 mod walks;
 
-pub use components::{Component, components};
+pub use components::Component;
 pub use templates::{Defined, Definer, Definers, Found, Templates};

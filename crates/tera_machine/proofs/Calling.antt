@@ -46,22 +46,22 @@ use Rattle.tera_machine.proofs.Taking.{refused}
 -- the first of a name among those that a text defines is the component that is meant
 first_meant : (file name : Name) (ds : List (Signature × Nodes)) → first_kept name (map (kept_as file) ds) ≡ option_map kept_meant (component_named file name ds)
 first_meant file name [] = refl
-first_meant file name (d ∷ ds) = by (bytes_eq name d.0.name)
+first_meant file name (d ∷ ds) = by (bytes_eq name d.0.name) (first_meant file name ds)
   where
-    by : (b : Bool) → (if b then Some (kept_as file d) else first_kept name (map (kept_as file) ds)) ≡ option_map kept_meant (if b then Some (record { file = file; signature = d.0; body = d.1 }) else component_named file name ds)
-    by true = refl
-    by false = first_meant file name ds
+    by : (b : Bool) → first_kept name (map (kept_as file) ds) ≡ option_map kept_meant (component_named file name ds) → (if b then Some (kept_as file d) else first_kept name (map (kept_as file) ds)) ≡ option_map kept_meant (if b then Some (record { file = file; signature = d.0; body = d.1 }) else component_named file name ds)
+    by true rest = refl
+    by false rest = rest
 
 -- one of those that are kept, and those behind it
 pub kept_step : (name : Name) (cs : List Kept) (i : ℕ) (c : Kept) → i < length cs → c ≡ get_or cs i c → first_kept name (map kept_of (drop i cs)) ≡ (if bytes_eq name c.definition.name then Some (kept_of c) else first_kept name (map kept_of (drop (i + 1) cs)))
 kept_step name cs i c l at =
     ap (λ ks. first_kept name (map kept_of ks)) (drop_more cs i c l ∙ ap (λ k. k ∷ drop (i + 1) cs) (sym at))
 
-given_or : Definition → Option (Definition × Listing) → Definition
+abbrev given_or : Definition → Option (Definition × Listing) → Definition
 given_or other None = other
 given_or other (Some k) = k.0
 
-code_or : Listing → Option (Definition × Listing) → Listing
+abbrev code_or : Listing → Option (Definition × Listing) → Listing
 code_or other None = other
 code_or other (Some k) = k.1
 
@@ -122,11 +122,11 @@ module _ (w : World) (p : Place) (name : Name) (given : List (Name × Val)) (bod
     c = (there (component_at w name) found is).0
 
     kept : IsKept c found
-    kept = (there (component_at w name) found is).1.1
+    kept = (there (component_at w name) found is).2
 
     in_context : (o : Option (Named Val)) → component_context c.signature given body look ≡ o → way w p q v ≡ takes_context p v c (fault_in p span) o
     in_context o e =
-        way_is (Some c) (there (component_at w name) found is).1.0 ∙ ap (takes_context p v c (fault_in p span)) e
+        way_is (Some c) (there (component_at w name) found is).1 ∙ ap (takes_context p v c (fault_in p span)) e
 
     no_context : (o : Option (Named Val)) (fault : Fault) → or_message o ≡ Err fault → o ≡ None
     no_context None fault e = refl

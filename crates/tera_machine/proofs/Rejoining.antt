@@ -47,7 +47,7 @@ abbrev pub KeepsText : Request → Type 0
 KeepsText q = (v : Variables) (r : Run) → left_of q v r ≡ record { vars = v; text = r.text; blocks = [] }
 
 -- a request, the configuration where it is made, and the body that was entered for it
-module _ {w : World} {p : Place} {q : Request} {u : Use} {c0 : Configuration} {p1 : Place} {code : Code} {c1 : Configuration} {most : ℕ} (keeps : KeepsText q) (may : BodyWithin w p q u (config_of c0) most) (entry : Entered w p q (config_of c0) p1 code (config_of c1)) where
+module _ {w : World} {p : Place} {q : Request} {u : Use} (c0 : Configuration) {p1 : Place} {code : Code} (c1 : Configuration) {most : ℕ} (keeps : KeepsText q) (may : BodyWithin w p q u (config_of c0) most) (entry : Entered w p q (config_of c0) p1 code (config_of c1)) where
   pub may_begin : EndsWithin w p1 code 0 (config_of c1) most
   may_begin = inner_within entry may
 

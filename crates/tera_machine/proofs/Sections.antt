@@ -91,7 +91,7 @@ module _ (w : World) (place : Place) (code : Code) (below : Below w place) where
         let body : Evaluated = record { value = text r.text place.autoescape; span = span } in
         let p = ip + 1 + length ce in
         let h = stands_back code (ip + 1) ce (i ∷ instruction.WriteTop ∷ []) has in
-        first w place code _ 6 (instruction.EndCapture span) end refl (onward_where w place code (λ all. firsts all ≡ keys) (omega arith) (holds_entries w place code below attributes (writing before r)) (entries_runs w place code below attributes (ip + 1) (over body base) (writing before r) (stands_front code (ip + 1) ce _ has)) (λ all r1 e. onward_lent w place code 1 5 (omega arith) (component_runs w place code below p name keys true all (over body base) base (Some body.value) r1 span 0 (omega arith) h.0 e refl refl) prints))
+        first w place code _ 6 (instruction.EndCapture span) end refl (onward_where w place code (λ all. firsts all ≡ keys) (omega arith) (holds_entries w place code below attributes (writing before r)) (entries_runs w place code below attributes (ip + 1) (over body base) (writing before r) (stands_front code (ip + 1) ce _ has)) (λ all r1 e. onward_lent w place code 1 5 {t = 0} (omega arith) (component_runs w place code below p name keys true all (over body base) base (Some body.value) r1 span 0 (omega arith) h.0 e refl refl) prints))
     handed_ends ip base drops before Broke r end has prints = done w place code (omega arith)
     handed_ends ip base drops before Continued r end has prints = done w place code (omega arith)
 

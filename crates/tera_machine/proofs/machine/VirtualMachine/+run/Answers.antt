@@ -176,27 +176,27 @@ include-returns-in-Err-clause-ends g t c =
 
 pub include-run_counted-requires : goal.include-run_counted-requires
 include-run_counted-requires g t c κs within =
-    (omega (arith, c.decreases), (within.0, (within.1, (c.requires.engine, (linked_in c.args.self.now c.in_template-machine.result g.M.Limit.world c.in-Ok.found c.requires.linked c.in_template-machine.ensures.template c.in_template-machine.ensures.templates c.in_template-machine.ensures.beside (c.in-Ok.ensures c.args.configuration.now).among, may_begin (λ v r. refl) c.requires.within (include_entered g.M.Limit.world c.args.self.now c.args.chunk.now.file c.args.name.now c.args.span c.args.blocks.now c.args.configuration.now (c.in-Ok.ensures c.args.configuration.now) c.in_template-machine.result c.in_template-inside.result c.in_template-machine.ensures.template c.in_template-machine.ensures.escapes c.in_template-machine.ensures.depth c.in_template-inside.ensures.names c.in_template-inside.ensures.above c.in_template-inside.ensures.included c.in_ok-outer.ensures.begins))))))
+    (omega (arith, c.decreases), (within.0, (within.1, (c.requires.engine, (linked_in c.args.self.now c.in_template-machine.result g.M.Limit.world c.in-Ok.found c.requires.linked c.in_template-machine.ensures.template c.in_template-machine.ensures.templates c.in_template-machine.ensures.beside (c.in-Ok.ensures c.args.configuration.now).among, may_begin c.args.configuration.now c.begin_include.new.self (λ v r. refl) c.requires.within (include_entered g.M.Limit.world c.args.self.now c.args.chunk.now.file c.args.name.now c.args.span c.args.blocks.now c.args.configuration.now (c.in-Ok.ensures c.args.configuration.now) c.in_template-machine.result c.in_template-inside.result c.in_template-machine.ensures.template c.in_template-machine.ensures.escapes c.in_template-machine.ensures.depth c.in_template-inside.ensures.names c.in_template-inside.ensures.above c.in_template-inside.ensures.included c.in_ok-outer.ensures.begins))))))
 
 pub include-returns-in-Err-run_counted-clause-ends : goal.include-returns-in-Err-run_counted-clause-ends
 include-returns-in-Err-run_counted-clause-ends g t c =
-    apart_failed (λ v r. refl) c.requires.within (include_entered g.M.Limit.world c.args.self.now c.args.chunk.now.file c.args.name.now c.args.span c.args.blocks.now c.args.configuration.now (c.in-Ok.ensures c.args.configuration.now) c.in_template-machine.result c.in_template-inside.result c.in_template-machine.ensures.template c.in_template-machine.ensures.escapes c.in_template-machine.ensures.depth c.in_template-inside.ensures.names c.in_template-inside.ensures.above c.in_template-inside.ensures.included c.in_ok-outer.ensures.begins) c.in-Err-run_counted.error _ _ c.in-Err-run_counted.ensures.ends
+    apart_failed c.args.configuration.now c.begin_include.new.self (λ v r. refl) c.requires.within (include_entered g.M.Limit.world c.args.self.now c.args.chunk.now.file c.args.name.now c.args.span c.args.blocks.now c.args.configuration.now (c.in-Ok.ensures c.args.configuration.now) c.in_template-machine.result c.in_template-inside.result c.in_template-machine.ensures.template c.in_template-machine.ensures.escapes c.in_template-machine.ensures.depth c.in_template-inside.ensures.names c.in_template-inside.ensures.above c.in_template-inside.ensures.included c.in_ok-outer.ensures.begins) c.in-Err-run_counted.error _ _ c.in-Err-run_counted.ensures.ends
 
 pub include-end_include-requires-clause-text : goal.include-end_include-requires-clause-text
 include-end_include-requires-clause-text g t c =
-    may_rejoin (λ v r. refl) c.requires.within (include_entered g.M.Limit.world c.args.self.now c.args.chunk.now.file c.args.name.now c.args.span c.args.blocks.now c.args.configuration.now (c.in-Ok.ensures c.args.configuration.now) c.in_template-machine.result c.in_template-inside.result c.in_template-machine.ensures.template c.in_template-machine.ensures.escapes c.in_template-machine.ensures.depth c.in_template-inside.ensures.names c.in_template-inside.ensures.above c.in_template-inside.ensures.included c.in_ok-outer.ensures.begins) c.run_counted.new.configuration c.in-Ok-run_counted.ensures.ends
+    may_rejoin c.args.configuration.now c.begin_include.new.self (λ v r. refl) c.requires.within (include_entered g.M.Limit.world c.args.self.now c.args.chunk.now.file c.args.name.now c.args.span c.args.blocks.now c.args.configuration.now (c.in-Ok.ensures c.args.configuration.now) c.in_template-machine.result c.in_template-inside.result c.in_template-machine.ensures.template c.in_template-machine.ensures.escapes c.in_template-machine.ensures.depth c.in_template-inside.ensures.names c.in_template-inside.ensures.above c.in_template-inside.ensures.included c.in_ok-outer.ensures.begins) c.run_counted.new.configuration c.in-Ok-run_counted.ensures.ends
 
 pub include-end_include-requires-clause-state : goal.include-end_include-requires-clause-state
 include-end_include-requires-clause-state g t c =
-    has_outer (λ v r. refl) c.requires.within (include_entered g.M.Limit.world c.args.self.now c.args.chunk.now.file c.args.name.now c.args.span c.args.blocks.now c.args.configuration.now (c.in-Ok.ensures c.args.configuration.now) c.in_template-machine.result c.in_template-inside.result c.in_template-machine.ensures.template c.in_template-machine.ensures.escapes c.in_template-machine.ensures.depth c.in_template-inside.ensures.names c.in_template-inside.ensures.above c.in_template-inside.ensures.included c.in_ok-outer.ensures.begins) c.run_counted.new.configuration c.in-Ok-run_counted.ensures.ends c.in_ok-outer.ensures.begins refl c.in-Ok-run_counted.ensures.stays
+    has_outer c.args.configuration.now c.begin_include.new.self (λ v r. refl) c.requires.within (include_entered g.M.Limit.world c.args.self.now c.args.chunk.now.file c.args.name.now c.args.span c.args.blocks.now c.args.configuration.now (c.in-Ok.ensures c.args.configuration.now) c.in_template-machine.result c.in_template-inside.result c.in_template-machine.ensures.template c.in_template-machine.ensures.escapes c.in_template-machine.ensures.depth c.in_template-inside.ensures.names c.in_template-inside.ensures.above c.in_template-inside.ensures.included c.in_ok-outer.ensures.begins) c.run_counted.new.configuration c.in-Ok-run_counted.ensures.ends c.in_ok-outer.ensures.begins refl c.in-Ok-run_counted.ensures.stays
 
 pub include-returns-clause-ends : goal.include-returns-clause-ends
 include-returns-clause-ends g t c =
-    apart_over (λ v r. refl) c.requires.within (include_entered g.M.Limit.world c.args.self.now c.args.chunk.now.file c.args.name.now c.args.span c.args.blocks.now c.args.configuration.now (c.in-Ok.ensures c.args.configuration.now) c.in_template-machine.result c.in_template-inside.result c.in_template-machine.ensures.template c.in_template-machine.ensures.escapes c.in_template-machine.ensures.depth c.in_template-inside.ensures.names c.in_template-inside.ensures.above c.in_template-inside.ensures.included c.in_ok-outer.ensures.begins) c.run_counted.new.configuration c.in-Ok-run_counted.ensures.ends c.in_ok-outer.ensures.begins refl c.in-Ok-run_counted.ensures.stays c.end_include.new.self c.end_include.result c.end_include.ensures.rejoins c.end_include.ensures.lacks
+    apart_over c.args.configuration.now c.begin_include.new.self (λ v r. refl) c.requires.within (include_entered g.M.Limit.world c.args.self.now c.args.chunk.now.file c.args.name.now c.args.span c.args.blocks.now c.args.configuration.now (c.in-Ok.ensures c.args.configuration.now) c.in_template-machine.result c.in_template-inside.result c.in_template-machine.ensures.template c.in_template-machine.ensures.escapes c.in_template-machine.ensures.depth c.in_template-inside.ensures.names c.in_template-inside.ensures.above c.in_template-inside.ensures.included c.in_ok-outer.ensures.begins) c.run_counted.new.configuration c.in-Ok-run_counted.ensures.ends c.in_ok-outer.ensures.begins refl c.in-Ok-run_counted.ensures.stays c.end_include.new.self c.end_include.result c.end_include.ensures.rejoins c.end_include.ensures.lacks
 
 pub include-returns-clause-stays : goal.include-returns-clause-stays
 include-returns-clause-stays g t c =
-    apart_stayed (λ v r. refl) c.requires.within (include_entered g.M.Limit.world c.args.self.now c.args.chunk.now.file c.args.name.now c.args.span c.args.blocks.now c.args.configuration.now (c.in-Ok.ensures c.args.configuration.now) c.in_template-machine.result c.in_template-inside.result c.in_template-machine.ensures.template c.in_template-machine.ensures.escapes c.in_template-machine.ensures.depth c.in_template-inside.ensures.names c.in_template-inside.ensures.above c.in_template-inside.ensures.included c.in_ok-outer.ensures.begins) c.run_counted.new.configuration c.in-Ok-run_counted.ensures.ends c.in_ok-outer.ensures.begins refl c.in-Ok-run_counted.ensures.stays c.args.blocks.now c.end_include.new.self c.end_include.result c.end_include.ensures.rejoins
+    apart_stayed c.args.configuration.now c.begin_include.new.self (λ v r. refl) c.requires.within (include_entered g.M.Limit.world c.args.self.now c.args.chunk.now.file c.args.name.now c.args.span c.args.blocks.now c.args.configuration.now (c.in-Ok.ensures c.args.configuration.now) c.in_template-machine.result c.in_template-inside.result c.in_template-machine.ensures.template c.in_template-machine.ensures.escapes c.in_template-machine.ensures.depth c.in_template-inside.ensures.names c.in_template-inside.ensures.above c.in_template-inside.ensures.included c.in_ok-outer.ensures.begins) c.run_counted.new.configuration c.in-Ok-run_counted.ensures.ends c.in_ok-outer.ensures.begins refl c.in-Ok-run_counted.ensures.stays c.args.blocks.now c.end_include.new.self c.end_include.result c.end_include.ensures.rejoins
 
 pub component-returns-in-Err-clause-ends : goal.component-returns-in-Err-clause-ends
 component-returns-in-Err-clause-ends g t c =
@@ -204,24 +204,24 @@ component-returns-in-Err-clause-ends g t c =
 
 pub component-run_counted-requires : goal.component-run_counted-requires
 component-run_counted-requires g t c κs within =
-    (omega (arith, c.decreases), (within.0, (within.1, (c.requires.engine, (linked_alone c.args.self.now c.in_component-machine.result g.M.Limit.world c.requires.linked c.in_component-machine.ensures.alone c.in_component-machine.ensures.templates c.in_component-machine.ensures.beside, may_begin (λ v r. refl) c.requires.within (call_entered g.M.Limit.world c.args.self.now c.args.chunk.now.file (component_request c.args.asked) (component_use c.args.asked) c.args.blocks.now c.args.configuration.now (c.in-Ok.ensures c.args.blocks.now) c.in_component-machine.result c.new-inside.result c.in_component-machine.ensures.alone c.in_component-machine.ensures.escapes c.in_component-machine.ensures.depth c.new-inside.ensures.names c.new-inside.ensures.above c.new-inside.ensures.included c.in_ok-outer.ensures.begins))))))
+    (omega (arith, c.decreases), (within.0, (within.1, (c.requires.engine, (linked_alone c.args.self.now c.in_component-machine.result g.M.Limit.world c.requires.linked c.in_component-machine.ensures.alone c.in_component-machine.ensures.templates c.in_component-machine.ensures.beside, may_begin c.args.configuration.now c.begin_component.new.self (λ v r. refl) c.requires.within (call_entered g.M.Limit.world c.args.self.now c.args.chunk.now.file (component_request c.args.asked) (component_use c.args.asked) c.args.blocks.now c.args.configuration.now (c.in-Ok.ensures c.args.blocks.now) c.in_component-machine.result c.new-inside.result c.in_component-machine.ensures.alone c.in_component-machine.ensures.escapes c.in_component-machine.ensures.depth c.new-inside.ensures.names c.new-inside.ensures.above c.new-inside.ensures.included c.in_ok-outer.ensures.begins))))))
 
 pub component-returns-in-Err-run_counted-clause-ends : goal.component-returns-in-Err-run_counted-clause-ends
 component-returns-in-Err-run_counted-clause-ends g t c =
-    apart_failed (λ v r. refl) c.requires.within (call_entered g.M.Limit.world c.args.self.now c.args.chunk.now.file (component_request c.args.asked) (component_use c.args.asked) c.args.blocks.now c.args.configuration.now (c.in-Ok.ensures c.args.blocks.now) c.in_component-machine.result c.new-inside.result c.in_component-machine.ensures.alone c.in_component-machine.ensures.escapes c.in_component-machine.ensures.depth c.new-inside.ensures.names c.new-inside.ensures.above c.new-inside.ensures.included c.in_ok-outer.ensures.begins) c.in-Err-run_counted.error _ _ c.in-Err-run_counted.ensures.ends
+    apart_failed c.args.configuration.now c.begin_component.new.self (λ v r. refl) c.requires.within (call_entered g.M.Limit.world c.args.self.now c.args.chunk.now.file (component_request c.args.asked) (component_use c.args.asked) c.args.blocks.now c.args.configuration.now (c.in-Ok.ensures c.args.blocks.now) c.in_component-machine.result c.new-inside.result c.in_component-machine.ensures.alone c.in_component-machine.ensures.escapes c.in_component-machine.ensures.depth c.new-inside.ensures.names c.new-inside.ensures.above c.new-inside.ensures.included c.in_ok-outer.ensures.begins) c.in-Err-run_counted.error _ _ c.in-Err-run_counted.ensures.ends
 
 pub component-end_component-requires-clause-text : goal.component-end_component-requires-clause-text
 component-end_component-requires-clause-text g t c =
-    may_rejoin (λ v r. refl) c.requires.within (call_entered g.M.Limit.world c.args.self.now c.args.chunk.now.file (component_request c.args.asked) (component_use c.args.asked) c.args.blocks.now c.args.configuration.now (c.in-Ok.ensures c.args.blocks.now) c.in_component-machine.result c.new-inside.result c.in_component-machine.ensures.alone c.in_component-machine.ensures.escapes c.in_component-machine.ensures.depth c.new-inside.ensures.names c.new-inside.ensures.above c.new-inside.ensures.included c.in_ok-outer.ensures.begins) c.run_counted.new.configuration c.in-Ok-run_counted.ensures.ends
+    may_rejoin c.args.configuration.now c.begin_component.new.self (λ v r. refl) c.requires.within (call_entered g.M.Limit.world c.args.self.now c.args.chunk.now.file (component_request c.args.asked) (component_use c.args.asked) c.args.blocks.now c.args.configuration.now (c.in-Ok.ensures c.args.blocks.now) c.in_component-machine.result c.new-inside.result c.in_component-machine.ensures.alone c.in_component-machine.ensures.escapes c.in_component-machine.ensures.depth c.new-inside.ensures.names c.new-inside.ensures.above c.new-inside.ensures.included c.in_ok-outer.ensures.begins) c.run_counted.new.configuration c.in-Ok-run_counted.ensures.ends
 
 pub component-end_component-requires-clause-state : goal.component-end_component-requires-clause-state
 component-end_component-requires-clause-state g t c =
-    has_outer (λ v r. refl) c.requires.within (call_entered g.M.Limit.world c.args.self.now c.args.chunk.now.file (component_request c.args.asked) (component_use c.args.asked) c.args.blocks.now c.args.configuration.now (c.in-Ok.ensures c.args.blocks.now) c.in_component-machine.result c.new-inside.result c.in_component-machine.ensures.alone c.in_component-machine.ensures.escapes c.in_component-machine.ensures.depth c.new-inside.ensures.names c.new-inside.ensures.above c.new-inside.ensures.included c.in_ok-outer.ensures.begins) c.run_counted.new.configuration c.in-Ok-run_counted.ensures.ends c.in_ok-outer.ensures.begins refl c.in-Ok-run_counted.ensures.stays
+    has_outer c.args.configuration.now c.begin_component.new.self (λ v r. refl) c.requires.within (call_entered g.M.Limit.world c.args.self.now c.args.chunk.now.file (component_request c.args.asked) (component_use c.args.asked) c.args.blocks.now c.args.configuration.now (c.in-Ok.ensures c.args.blocks.now) c.in_component-machine.result c.new-inside.result c.in_component-machine.ensures.alone c.in_component-machine.ensures.escapes c.in_component-machine.ensures.depth c.new-inside.ensures.names c.new-inside.ensures.above c.new-inside.ensures.included c.in_ok-outer.ensures.begins) c.run_counted.new.configuration c.in-Ok-run_counted.ensures.ends c.in_ok-outer.ensures.begins refl c.in-Ok-run_counted.ensures.stays
 
 pub component-returns-clause-ends : goal.component-returns-clause-ends
 component-returns-clause-ends g t c =
-    apart_over (λ v r. refl) c.requires.within (call_entered g.M.Limit.world c.args.self.now c.args.chunk.now.file (component_request c.args.asked) (component_use c.args.asked) c.args.blocks.now c.args.configuration.now (c.in-Ok.ensures c.args.blocks.now) c.in_component-machine.result c.new-inside.result c.in_component-machine.ensures.alone c.in_component-machine.ensures.escapes c.in_component-machine.ensures.depth c.new-inside.ensures.names c.new-inside.ensures.above c.new-inside.ensures.included c.in_ok-outer.ensures.begins) c.run_counted.new.configuration c.in-Ok-run_counted.ensures.ends c.in_ok-outer.ensures.begins refl c.in-Ok-run_counted.ensures.stays c.end_component.new.self c.end_component.result c.end_component.ensures.rejoins c.end_component.ensures.lacks
+    apart_over c.args.configuration.now c.begin_component.new.self (λ v r. refl) c.requires.within (call_entered g.M.Limit.world c.args.self.now c.args.chunk.now.file (component_request c.args.asked) (component_use c.args.asked) c.args.blocks.now c.args.configuration.now (c.in-Ok.ensures c.args.blocks.now) c.in_component-machine.result c.new-inside.result c.in_component-machine.ensures.alone c.in_component-machine.ensures.escapes c.in_component-machine.ensures.depth c.new-inside.ensures.names c.new-inside.ensures.above c.new-inside.ensures.included c.in_ok-outer.ensures.begins) c.run_counted.new.configuration c.in-Ok-run_counted.ensures.ends c.in_ok-outer.ensures.begins refl c.in-Ok-run_counted.ensures.stays c.end_component.new.self c.end_component.result c.end_component.ensures.rejoins c.end_component.ensures.lacks
 
 pub component-returns-clause-stays : goal.component-returns-clause-stays
 component-returns-clause-stays g t c =
-    apart_stayed (λ v r. refl) c.requires.within (call_entered g.M.Limit.world c.args.self.now c.args.chunk.now.file (component_request c.args.asked) (component_use c.args.asked) c.args.blocks.now c.args.configuration.now (c.in-Ok.ensures c.args.blocks.now) c.in_component-machine.result c.new-inside.result c.in_component-machine.ensures.alone c.in_component-machine.ensures.escapes c.in_component-machine.ensures.depth c.new-inside.ensures.names c.new-inside.ensures.above c.new-inside.ensures.included c.in_ok-outer.ensures.begins) c.run_counted.new.configuration c.in-Ok-run_counted.ensures.ends c.in_ok-outer.ensures.begins refl c.in-Ok-run_counted.ensures.stays c.args.blocks.now c.end_component.new.self c.end_component.result c.end_component.ensures.rejoins
+    apart_stayed c.args.configuration.now c.begin_component.new.self (λ v r. refl) c.requires.within (call_entered g.M.Limit.world c.args.self.now c.args.chunk.now.file (component_request c.args.asked) (component_use c.args.asked) c.args.blocks.now c.args.configuration.now (c.in-Ok.ensures c.args.blocks.now) c.in_component-machine.result c.new-inside.result c.in_component-machine.ensures.alone c.in_component-machine.ensures.escapes c.in_component-machine.ensures.depth c.new-inside.ensures.names c.new-inside.ensures.above c.new-inside.ensures.included c.in_ok-outer.ensures.begins) c.run_counted.new.configuration c.in-Ok-run_counted.ensures.ends c.in_ok-outer.ensures.begins refl c.in-Ok-run_counted.ensures.stays c.args.blocks.now c.end_component.new.self c.end_component.result c.end_component.ensures.rejoins

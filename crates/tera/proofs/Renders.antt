@@ -1,5 +1,5 @@
 -- A rendering beside the registry, from what the reader answered.
-use Rattle.std.proofs.Common.{◌≡◌, Bool, true, false, ◌||◌, IsTrue, Option, Some, None, is_some, Result, Ok, Err, if◌then◌else◌, refl, sym, ap, ◌∙◌}
+use Rattle.std.proofs.Common.{◌≡◌, Bool, true, false, ◌||◌, IsTrue, Option, Some, None, is_some, Result, Ok, Err, if◌then◌else◌, refl, sym, ap, ap₂, ◌∙◌}
 use Rattle.tera_errors.specs.Site.{Text}
 use Rattle.tera_errors.specs.Fault.{Fault, message}
 use Rattle.tera_errors.specs.Answer.{Refusal, Says, Tells, Gives, GivesOneOf, SaysOneOf}
@@ -14,9 +14,12 @@ use Rattle.tera_syntax.specs.Reads.{Reads}
 use Rattle.tera_state.specs.Scope.{Variables, nothing_set}
 use Rattle.tera_meaning.specs.Run.{Signal, Answer, Failed, Gave, begun}
 use Rattle.tera_meaning.specs.Registry.{Registry}
+use Rattle.tera_meaning.specs.Known.{has_unknown}
+use Rattle.tera_meaning.specs.Accepted.{misses_an_include}
 use Rattle.tera_machine.specs.Config.{Config, config_of, starting}
 use Rattle.tera_machine.specs.Subject.{Subject, meant, meant_from, Means}
 use Rattle.tera_machine.specs.declared.configuration.Configuration.{Configuration}
+use Rattle.tera.specs.Registry.{text_meant, one_off_meant}
 use Rattle.tera.specs.Rendering.{OneOff, allowed}
 use Rattle.tera_meaning.specs.Rendering.{has_a_block, text_of, one_off_text, render_str, render_str_in, one_off_name}
 use Rattle.tera_marks.specs.Origin.{Traces}
@@ -44,7 +47,7 @@ free-gives : {X : Type 0} (view : X → Text) (result : Result X Refusal) (b : B
 free-gives view result true meant h g = (let q : Err message ≡ Ok tt = h in cc)
 free-gives view result false meant h g = g
 
-told-says : (e : Refusal) (done : Result (Unit {0}) Fault) → Tells e message → done ≡ Err message → Says e done
+told-says : {Y : Type 0} (e : Refusal) (done : Result Y Fault) → Tells e message → done ≡ Err message → Says e done
 told-says None done t h = tt
 told-says (Some fault) done t h = h ∙ ap Err (sym t)
 
@@ -73,6 +76,18 @@ block-says tree e some t =
 pub allows : (o : Option Quoted) (tree : Tree) → tree.parent ≡ quoted_option o → is_some o ≡ false → has_a_block tree.nodes ≡ false → allowed tree ≡ Ok tt
 allows o tree parent none no_block =
     ap (λ b. barred (b || has_a_block tree.nodes)) (ap is_some parent ∙ quoted-is_some o ∙ none) ∙ ap barred no_block
+
+abbrev unless : Bool → Result Text Fault → Result Text Fault
+unless b meant = if b then Err message else meant
+
+-- nodes that include what is not there are refused
+pub missing-says : (s : Subject) (e : Refusal) → misses_an_include s.world.registry s.tree ≡ true → Tells e message → Says e (one_off_meant s)
+missing-says s e missing t =
+    told-says e (one_off_meant s) t (ap (λ b. unless b (text_meant s)) (or-true (has_unknown s.tree) (misses_an_include s.world.registry s.tree) missing))
+
+-- any others are rendered
+pub nothing-missing : (s : Subject) → has_unknown s.tree ≡ false → misses_an_include s.world.registry s.tree ≡ false → text_meant s ≡ one_off_meant s
+nothing-missing s known there = sym (ap₂ (λ b c. unless (b || c) (text_meant s)) known there)
 
 module _ (r : Registry) (by_html : r.engine.escape ≡ escape_html) (text : Text) (context : Named Val) where
   -- the law, where the answer is what the reading means

@@ -1,5 +1,5 @@
 -- What an engine holds, as the definitions see it.
-use Rattle.std.specs.Prelude.{Bool, [], map, string_bytes, Option, Some, None, Result, Err, if◌then◌else◌}
+use Rattle.std.specs.Prelude.{Bool, [], map, string_bytes, Option, Some, None, Result, Err, ◌||◌, if◌then◌else◌}
 use Rattle.tera_errors.specs.Site.{Text, Name}
 use Rattle.tera_errors.specs.Fault.{Fault, message}
 use Rattle.tera_values.specs.Val.{Val}
@@ -13,6 +13,7 @@ use Rattle.tera_meaning.specs.Registry.{Entry, Registry}
 use Rattle.tera_meaning.specs.Resolve.{entry_at}
 use Rattle.tera_meaning.specs.Rendering.{alone, outermost, text_of, block_of}
 use Rattle.tera_meaning.specs.Known.{has_unknown}
+use Rattle.tera_meaning.specs.Accepted.{misses_an_include}
 use Rattle.tera_meaning.specs.Whole.{Place}
 use Rattle.tera_registry.specs.Templates.{templates_of, prefixes_of}
 use Rattle.tera_machine.specs.Subject.{Subject, meant}
@@ -35,6 +36,7 @@ place_at t template file context autoescape = record {
   file = file;
   around = outermost (registry_of t) context;
   autoescape = autoescape;
+  included = [];
   opened = [];
   above = [];
 }
@@ -61,9 +63,10 @@ subject_of_file t template file context autoescape =
 abbrev pub text_meant : Subject → Result Text Fault
 text_meant s = text_of (meant s (begun nothing_set))
 
--- the same of a body that calls nothing that is not there
+-- the same of a body that calls and includes nothing that is not there
 abbrev pub one_off_meant : Subject → Result Text Fault
-one_off_meant s = if has_unknown s.tree then Err message else text_meant s
+one_off_meant s =
+    if has_unknown s.tree || misses_an_include s.world.registry s.tree then Err message else text_meant s
 
 -- and the text that a block has when it ends last in it
 abbrev pub block_meant : Name → Subject → Result Text Fault

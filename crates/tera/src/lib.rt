@@ -9,13 +9,13 @@ mod texts;
 pub use engine::Tera;
 pub use tera_code::{Chunk, Compiler, Instruction, Steps};
 pub use tera_machine::VirtualMachine;
-pub use tera_state::{ForLoop, ForLoopIterator, State};
+pub use tera_state::{ForLoop, ForLoopIterator, State, StringInput};
 pub use tera_syntax::parse;
 pub use tera_tree::{
     BinaryOperator, Bounds, Delimiters, Entry, Expression, Heading, Item, LiteralKey, Node,
     ParserOutput, Quoted,
 };
 pub use tera_values::{
-    ArgFromValue, Context, Error, ErrorKind, Key, Kwargs, Map, ReportError, Span, StringInput,
-    TeraResult, Value, ValueKind, escape_html, number,
+    ArgFromValue, Context, Error, ErrorKind, Key, Kwargs, Map, ReportError, Span, TeraResult,
+    Value, ValueKind, escape_html, number,
 };

@@ -49,8 +49,8 @@ impl Tera {
         }
     }
 
-    // The text of these nodes, which stand beside the registry; a refusal where they call what is not there. The subject is
-    // theirs.
+    // The text of these nodes, which stand beside the registry; a refusal where they call or include what is not there. The
+    // subject is theirs.
     fn render_nodes<L: Ledger>(
         &self,
         nodes: &[Node],
@@ -67,7 +67,10 @@ impl Tera {
         if lacks_a_callee(&chunk) {
             return Err(Error::message(self.alloc, "what is called is not there"));
         }
-        let machine = VirtualMachine::new_with_autoescape(self.alloc, autoescape);
+        if self.templates.misses_an_include(nodes) {
+            return Err(Error::message(self.alloc, "what is included is not there"));
+        }
+        let machine = VirtualMachine::new_with_autoescape(self.alloc, autoescape, &self.templates);
         self.run_body::<L>(&machine, &chunk, context, blank)
     }
 

@@ -23,8 +23,8 @@ impl Tera {
 
     /// Adds templates, all or none, each in place of one that has its name; of several with one name the last stays. Refused with
     /// a `SyntaxError` where a text spells no tree, and where the templates do not go together: a template extends one that
-    /// is not there, some extend one another in a circle, or a child has a block, inside no other one, that no parent has
-    /// (`Message`). Then all is as before.
+    /// is not there, some extend or include one another in a circle, a template calls or includes what is not there, or a
+    /// child has a block, inside no other one, that no parent has (`Message`). Then all is as before.
     pub fn add_raw_templates(&mut self, templates: &[(&str, &str)]) -> TeraResult<()>
         ensures { ConfiguresOneOf result (Adds (registry_of self.old) (pairs_of templates.now)) (registry_of self.old) (registry_of self.new) }
     {

@@ -2,6 +2,7 @@
 use Rattle.std.specs.Prelude.{ℕ, ℤ, pos, negsuc, Bool, cond, nat_lt, List, Option, Some, None, Result, Ok, Err}
 use Rattle.tera_errors.specs.Site.{Name}
 use Rattle.tera_errors.specs.Fault.{Fault, invalid_argument, missing_argument}
+use Rattle.tera_values.specs.Alphabet.{Alphabet}
 use Rattle.tera_values.specs.Val.{ValOf, KeyVal, undefined, none, bool, int, text, bytes, array, map, list_of}
 use Rattle.tera_values.specs.Access.{pairs}
 use Rattle.tera_values.specs.Named.{Named, at_name}
@@ -36,6 +37,10 @@ module _ {C : Type 0} where
   as_text (bytes t) = Err invalid_argument
   as_text (array vs) = Err invalid_argument
   as_text (map es) = Err invalid_argument
+
+  -- the bytes of a text
+  abbrev pub as_bytes : Alphabet C → ValOf C → Result (List ℕ) Fault
+  as_bytes alphabet v = as_text v ▸ λ g. Ok (alphabet.seen g.text)
 
   abbrev pub as_array : ValOf C → Result (List (ValOf C)) Fault
   as_array (array vs) = Ok (list_of vs)

@@ -1,5 +1,5 @@
 -- The filters that every engine has.
-use Rattle.std.specs.Prelude.{List, [], ◌∷◌, Option, Some, None, Result, Err, codes}
+use Rattle.std.specs.Prelude.{[], ◌∷◌, Option, Some, None, Result, Err, codes}
 use Rattle.tera_errors.specs.Site.{Name}
 use Rattle.tera_errors.specs.Fault.{Fault, message}
 use Rattle.tera_values.specs.Val.{ValOf}

@@ -5,20 +5,26 @@ use Rattle.tera_errors.specs.Fault.{Fault}
 use Rattle.tera_values.specs.Alphabet.{Alphabet, plain, made}
 use Rattle.tera_values.specs.Val.{ValOf, text}
 use Rattle.tera_values.specs.Escape.{escape_html, escape_xml}
+use Rattle.tera_built_ins.specs.declared.markup.Markup.{Markup}
+use Rattle.tera_built_ins.specs.declared.markup.Markup.TheVariants.{Html, Xml}
 use Rattle.tera_built_ins.specs.Arguments.{◌▸◌, as_text}
 use Rattle.tera_built_ins.specs.Replace.{replaced}
 
--- the escape for HTML, safe texts and others alike, and not marked safe itself
-abbrev pub escape_html_of : {C : Type 0} → Alphabet C → ValOf C → Result (ValOf C) Fault
-escape_html_of alphabet v =
-    as_text v ▸ λ g.
-    Ok (text (alphabet.spelled made (escape_html (alphabet.seen g.text))) false)
+abbrev pub escape_of : Markup → Text → Text
+escape_of Html = escape_html
+escape_of Xml = escape_xml
 
--- the same for XML
-abbrev pub escape_xml_of : {C : Type 0} → Alphabet C → ValOf C → Result (ValOf C) Fault
-escape_xml_of alphabet v =
+-- the escape of a text, safe or not, and not marked safe itself
+abbrev pub escaped_by : (Text → Text) → {C : Type 0} → Alphabet C → ValOf C → Result (ValOf C) Fault
+escaped_by escape alphabet v =
     as_text v ▸ λ g.
-    Ok (text (alphabet.spelled made (escape_xml (alphabet.seen g.text))) false)
+    Ok (text (alphabet.spelled made (escape (alphabet.seen g.text))) false)
+
+abbrev pub escape_html_of : {C : Type 0} → Alphabet C → ValOf C → Result (ValOf C) Fault
+escape_html_of = escaped_by escape_html
+
+abbrev pub escape_xml_of : {C : Type 0} → Alphabet C → ValOf C → Result (ValOf C) Fault
+escape_xml_of = escaped_by escape_xml
 
 -- `<br>` for each CRLF, and then for each LF and each CR
 abbrev pub with_breaks : Text → Text

@@ -7,19 +7,19 @@ use Rattle.tera_errors.specs.Fault.{Fault}
 use Rattle.tera_values.specs.Alphabet.{Alphabet, made}
 use Rattle.tera_values.specs.Val.{ValOf, text}
 use Rattle.tera_values.specs.Named.{Named}
-use Rattle.tera_built_ins.specs.Arguments.{◌▸◌, GivenOf, as_text, as_natural, needed, or_default}
+use Rattle.tera_built_ins.specs.Arguments.{◌▸◌, as_text, as_bytes, as_natural, needed, or_default}
 
 -- of more than n extended clusters the first n and an end, and else the text
 abbrev pub truncated : ℕ → Text → Text → Text
 truncated n end t = if nat_lt n (length (graphemes true t)) then concat (take n (graphemes true t)) ++ end else t
 
 -- what stands for the rest of a text: U+2026, as UTF-8 has it
-abbrev pub ellipsis : {C : Type 0} → Alphabet C → GivenOf C
-ellipsis alphabet = record { text = alphabet.spelled made (226 ∷ 128 ∷ 166 ∷ []); safe = false }
+abbrev pub ellipsis : Text
+ellipsis = 226 ∷ 128 ∷ 166 ∷ []
 
 abbrev pub truncate_of : {C : Type 0} → Alphabet C → ValOf C → Named (ValOf C) → Result (ValOf C) Fault
 truncate_of alphabet v given =
     as_text v ▸ λ g.
     needed (as_natural (2 ^ 64)) (codes "length") given ▸ λ n.
-    or_default (ellipsis alphabet) as_text (codes "end") given ▸ λ e.
-    Ok (text (alphabet.spelled made (truncated n (alphabet.seen e.text) (alphabet.seen g.text))) false)
+    or_default ellipsis (as_bytes alphabet) (codes "end") given ▸ λ end.
+    Ok (text (alphabet.spelled made (truncated n end (alphabet.seen g.text))) false)

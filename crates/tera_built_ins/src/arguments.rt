@@ -1,6 +1,7 @@
 // What a built-in is given, as it is read.
-ghost use Rattle.std.specs.Prelude.{◌≡◌, ◌^◌, option_map, false};
+ghost use Rattle.std.specs.Prelude.{◌≡◌, ◌+◌, ◌^◌, option_map, false};
 ghost use Rattle.tera_errors.specs.Answer.{Gives};
+ghost use Rattle.tera_values.specs.Alphabet.{plain};
 ghost use Rattle.tera_built_ins.specs.Arguments as spec;
 ghost use Rattle.tera_built_ins.specs.Reading.{given_of};
 
@@ -63,15 +64,15 @@ pub(crate) fn as_bool(value: &Value) -> TeraResult<bool>
     }
 }
 
-/// An integer that is a size. Takes no memory.
-pub(crate) fn as_size(value: &Value) -> TeraResult<usize>
-    ensures { Gives (λ n. n) result (spec.as_natural (2 ^ 64) value.now) }
+/// An integer from 0 to `most`, and no other value. Takes no memory.
+fn as_natural(value: &Value, most: usize) -> TeraResult<usize>
+    ensures { Gives (λ n. n) result (spec.as_natural (most + 1) value.now) }
 {
     let number = match as_integer(value) {
         Ok(number) => number,
         Err(error) => return Err(error),
     };
-    if number < 0 || number > usize::MAX as i128 {
+    if number < 0 || number > most as i128 {
         return Err(Error::invalid_argument());
     }
     Ok(number as usize)
@@ -98,6 +99,24 @@ pub(crate) fn needed_text<'a>(arguments: &'a Kwargs, name: &str) -> TeraResult<G
     match arguments.value(name) {
         None => Err(Error::missing_argument()),
         Some(value) => as_text(value),
+    }
+}
+
+/// The bytes of a text, or the default where it is left out.
+pub(crate) fn text_or<'a>(
+    arguments: &'a Kwargs,
+    name: &str,
+    default: &'a str,
+) -> TeraResult<&'a str>
+    ensures { Gives (λ s. s.now) result
+        (spec.or_default default.now (spec.as_bytes plain) name.now arguments.now) }
+{
+    match arguments.value(name) {
+        None => Ok(default),
+        Some(value) => match as_text(value) {
+            Ok(given) => Ok(given.text),
+            Err(error) => Err(error),
+        },
     }
 }
 
@@ -139,7 +158,7 @@ pub(crate) fn needed_size(arguments: &Kwargs, name: &str) -> TeraResult<usize>
 {
     match arguments.value(name) {
         None => Err(Error::missing_argument()),
-        Some(value) => as_size(value),
+        Some(value) => as_natural(value, usize::MAX),
     }
 }
 
@@ -148,9 +167,22 @@ pub(crate) fn size_or(arguments: &Kwargs, name: &str, default: usize) -> TeraRes
     ensures { Gives (λ n. n) result
         (spec.or_default default (spec.as_natural (2 ^ 64)) name.now arguments.now) }
 {
+    natural_or(arguments, name, default, usize::MAX)
+}
+
+/// An integer from 0 to `most`, or the default where it is left out.
+pub(crate) fn natural_or(
+    arguments: &Kwargs,
+    name: &str,
+    default: usize,
+    most: usize,
+) -> TeraResult<usize>
+    ensures { Gives (λ n. n) result
+        (spec.or_default default (spec.as_natural (most + 1)) name.now arguments.now) }
+{
     match arguments.value(name) {
         None => Ok(default),
-        Some(value) => as_size(value),
+        Some(value) => as_natural(value, most),
     }
 }
 

@@ -3,15 +3,16 @@ ghost use Rattle.std.specs.Prelude.{◌≡◌};
 ghost use Rattle.tera_errors.specs.Answer.{Gives};
 ghost use Rattle.tera_values.specs.Alphabet.{plain};
 ghost use Rattle.tera_built_ins.specs.Escaping.{escaping_of};
-ghost use Rattle.tera_built_ins.specs.Filters.{filter_named, filter_of};
+ghost use Rattle.tera_built_ins.specs.Filters.{filter_named, filter_of, filtered_in};
 
 use crate::escaping::Escaping;
+use crate::markup::Markup;
 use crate::{
     defaults, groups, indent, items, join, maps, markup, numbers, parse, replace, safety, sizes,
     sorting, split, trims, truncate, words,
 };
 use std::alloc::Global;
-use tera_values::{Kwargs, TeraResult, Value};
+use tera_values::{Error, Kwargs, TeraResult, Value};
 
 /// A filter that every engine has.
 #[derive(Clone, Copy)]
@@ -106,8 +107,8 @@ impl BuiltInFilter {
             BuiltInFilter::Default => defaults::default(value, arguments),
             BuiltInFilter::Wordcount => words::wordcount(value),
             BuiltInFilter::Escape => safety::escape(alloc, value, escaping),
-            BuiltInFilter::EscapeHtml => markup::escape_html(alloc, value),
-            BuiltInFilter::EscapeXml => markup::escape_xml(alloc, value),
+            BuiltInFilter::EscapeHtml => markup::escape(alloc, value, Markup::Html),
+            BuiltInFilter::EscapeXml => markup::escape(alloc, value, Markup::Xml),
             BuiltInFilter::NewlinesToBr => markup::newlines_to_br(alloc, value),
             BuiltInFilter::Pluralize => numbers::pluralize(alloc, value, arguments),
             BuiltInFilter::Trim => trims::trim(alloc, value, arguments),
@@ -133,6 +134,23 @@ impl BuiltInFilter {
             BuiltInFilter::Pairs => maps::pairs(alloc, value),
             BuiltInFilter::Get => maps::get(alloc, value, arguments),
             BuiltInFilter::GroupBy => groups::group_by(alloc, value, arguments),
+        }
+    }
+
+    /// What the filter of this name makes of the value, with its own faults; a `Message` where there is none.
+    pub fn call_named(
+        alloc: Global,
+        name: &str,
+        value: &Value,
+        arguments: &Kwargs,
+        escaping: Escaping,
+    ) -> TeraResult<Value>
+        ensures { Gives (λ v. v) result
+            (filtered_in plain (escaping_of escaping) name.now value.now arguments.now) }
+    {
+        match BuiltInFilter::named(name) {
+            Some(filter) => filter.call(alloc, value, arguments, escaping),
+            None => Err(Error::message(alloc, "there is no such filter")),
         }
     }
 }

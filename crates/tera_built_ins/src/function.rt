@@ -20,12 +20,10 @@ impl BuiltInFunction {
     pub fn named(name: &str) -> Option<BuiltInFunction>
         ensures { result ≡ function_named name.now }
     {
-        if name == "range" {
-            Some(BuiltInFunction::Range)
-        } else if name == "throw" {
-            Some(BuiltInFunction::Throw)
-        } else {
-            None
+        match name {
+            "range" => Some(BuiltInFunction::Range),
+            "throw" => Some(BuiltInFunction::Throw),
+            _ => None,
         }
     }
 

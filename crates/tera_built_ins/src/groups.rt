@@ -50,7 +50,7 @@ fn grouped_items(alloc: Global, items: &[Value], path: &str) -> TeraResult<Value
         ▸ λ keyed. Ok (group_arrays (groups (filter_map (λ e. e) keyed)))) }
 {
     let keyed = with_keys(alloc, items, path)?;
-    let gathered = gathered(alloc, keyed.as_slice())?;
+    let gathered = gathered(alloc, keyed)?;
     Ok(Value::map(group_arrays(alloc, gathered)?))
 }
 
@@ -85,15 +85,15 @@ fn key_or_none(alloc: Global, attribute: &Value) -> TeraResult<Option<Key>>
     Ok(Some(attribute.as_key(alloc)?))
 }
 
-fn gathered(alloc: Global, keyed: &[Keyed<'_>]) -> TeraResult<Vec<Group>>
+fn gathered(alloc: Global, keyed: Vec<Keyed<'_>>) -> TeraResult<Vec<Group>>
     ensures { Gives (λ v. each group_view v.items) result
-        (Ok (groups (each keyed_view keyed.now))) }
+        (Ok (groups (each keyed_view keyed.entry.items))) }
 {
     let mut places = Map::new(alloc);
     let mut gathered = Vec::new(alloc);
     for one in keyed {
-        let item = one.item.try_clone()?;
-        put_in(alloc, &one.key, item, &mut places, &mut gathered)?;
+        let Keyed { key, item } = one;
+        put_in(alloc, key, item.try_clone()?, &mut places, &mut gathered)?;
     }
     Ok(gathered)
 }
@@ -102,7 +102,7 @@ fn gathered(alloc: Global, keyed: &[Keyed<'_>]) -> TeraResult<Vec<Group>>
 /// for among all.
 fn put_in(
     alloc: Global,
-    key: &Key,
+    key: Key,
     item: Value,
     places: &mut Map,
     gathered: &mut Vec<Group>,
@@ -111,10 +111,10 @@ fn put_in(
     ensures places { OnOk result
         (places.new ≡ numbered 0 (each group_view gathered.new.items)) }
     ensures groups { OnOk result (each group_view gathered.new.items
-        ≡ put_in (key_view key.now) item (each group_view gathered.old.items)) }
+        ≡ put_in (key_view key) item (each group_view gathered.old.items)) }
     ensures lacks { IfErr result Lacks }
 {
-    match place_of(places, key) {
+    match place_of(places, &key) {
         Some(place) => {
             gathered[place].items.push(item)?;
             Ok(())
@@ -129,22 +129,21 @@ fn put_in(
 /// A group of one item behind the others.
 fn begin(
     alloc: Global,
-    key: &Key,
+    key: Key,
     item: Value,
     places: &mut Map,
     gathered: &mut Vec<Group>,
 ) -> TeraResult<()>
     ensures places { OnOk result (places.new
-        ≡ insert_pair places.old (key_view key.now) (int (pos (length gathered.old.items)))) }
+        ≡ insert_pair places.old (key_view key) (int (pos (length gathered.old.items)))) }
     ensures groups { OnOk result (each group_view gathered.new.items
-        ≡ each group_view gathered.old.items ++ (key_view key.now, item ∷ []) ∷ []) }
+        ≡ each group_view gathered.old.items ++ (key_view key, item ∷ []) ∷ []) }
     ensures lacks { IfErr result Lacks }
 {
     let place = gathered.len() as i128;
     places.insert(key.try_clone()?, Value::from_int(place))?;
     let mut items = Vec::new(alloc);
     items.push(item)?;
-    let key = key.try_clone()?;
     gathered.push(Group { key, items })?;
     Ok(())
 }

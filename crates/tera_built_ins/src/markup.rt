@@ -1,31 +1,40 @@
 // Texts written as markup.
-ghost use Rattle.tera_errors.specs.Answer.{Gives};
+ghost use Rattle.std.specs.Prelude.{◌≡◌, ◌++◌, string_bytes, OnOk, IfErr};
+ghost use Rattle.tera_errors.specs.Answer.{Gives, Lacks};
 ghost use Rattle.tera_values.specs.Alphabet.{plain};
-ghost use Rattle.tera_built_ins.specs.Markup.{escape_html_of, escape_xml_of, newlines_to_br_of};
+ghost use Rattle.tera_built_ins.specs.Markup.{escaped_by, escape_of, newlines_to_br_of};
 
 use crate::arguments::as_text;
 use crate::replace::put;
 use std::alloc::Global;
-use tera_values::{TeraResult, Value};
+use tera_values::{TeraResult, Value, escape_html, escape_xml};
 
-/// The escape of a text for HTML, also of a safe one. It is not marked safe.
-pub fn escape_html(alloc: Global, value: &Value) -> TeraResult<Value>
-    ensures { Gives (λ v. v) result (escape_html_of plain value.now) }
+/// What a text is escaped for.
+#[derive(Clone, Copy)]
+pub enum Markup {
+    Html,
+    Xml,
+}
+
+/// The escape of a text, also of a safe one. It is not marked safe.
+pub fn escape(alloc: Global, value: &Value, markup: Markup) -> TeraResult<Value>
+    ensures { Gives (λ v. v) result (escaped_by (escape_of markup) plain value.now) }
 {
     let given = as_text(value)?;
     let mut escaped = String::new(alloc);
-    tera_values::escape_html(given.text, &mut escaped)?;
+    put_escape(given.text, markup, &mut escaped)?;
     Value::string(alloc, escaped.as_str())
 }
 
-/// The escape of a text for XML, also of a safe one. It is not marked safe.
-pub fn escape_xml(alloc: Global, value: &Value) -> TeraResult<Value>
-    ensures { Gives (λ v. v) result (escape_xml_of plain value.now) }
+fn put_escape(text: &str, markup: Markup, out: &mut String) -> TeraResult<()>
+    ensures ok { OnOk result
+        (string_bytes out.new ≡ string_bytes out.old ++ escape_of markup text.now) }
+    ensures lacks { IfErr result Lacks }
 {
-    let given = as_text(value)?;
-    let mut escaped = String::new(alloc);
-    tera_values::escape_xml(given.text, &mut escaped)?;
-    Value::string(alloc, escaped.as_str())
+    match markup {
+        Markup::Html => escape_html(text, out),
+        Markup::Xml => escape_xml(text, out),
+    }
 }
 
 /// The text with `<br>` at the end of each line, be it CRLF, LF or CR. It is not marked safe.

@@ -1,10 +1,9 @@
 // Filters of integers.
 ghost use Rattle.tera_errors.specs.Answer.{Gives};
 ghost use Rattle.tera_values.specs.Alphabet.{plain};
-ghost use Rattle.tera_built_ins.specs.Numbers.{abs_of, pluralize_of, as_bytes};
-ghost use Rattle.tera_built_ins.specs.Arguments.{or_default};
+ghost use Rattle.tera_built_ins.specs.Numbers.{abs_of, pluralize_of};
 
-use crate::arguments::optional_text;
+use crate::arguments::text_or;
 use std::alloc::Global;
 use tera_values::{Error, Kwargs, TeraResult, Value};
 
@@ -29,16 +28,5 @@ pub fn pluralize(alloc: Global, value: &Value, arguments: &Kwargs) -> TeraResult
         Some(1 | -1) => Value::string(alloc, singular),
         Some(_) => Value::string(alloc, plural),
         None => Err(Error::message(alloc, "only an integer counts anything")),
-    }
-}
-
-/// A text, or the default where it is left out.
-fn text_or<'a>(arguments: &'a Kwargs, name: &str, default: &'a str) -> TeraResult<&'a str>
-    ensures { Gives (λ s. s.now) result
-        (or_default default.now (as_bytes plain) name.now arguments.now) }
-{
-    match optional_text(arguments, name)? {
-        Some(given) => Ok(given.text),
-        None => Ok(default),
     }
 }

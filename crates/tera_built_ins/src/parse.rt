@@ -1,12 +1,11 @@
 // Texts read as integers.
-ghost use Rattle.std.specs.Prelude.{◌≡◌, ◌≤◌, ◌^◌, codes};
+ghost use Rattle.std.specs.Prelude.{◌≡◌, ◌≤◌};
 ghost use Rattle.tera_errors.specs.Answer.{Gives};
 ghost use Rattle.tera_values.specs.Alphabet.{plain};
-ghost use Rattle.tera_built_ins.specs.Arguments.{as_natural, or_default};
 ghost use Rattle.tera_built_ins.specs.Pieces.{trimmed_start};
 ghost use Rattle.tera_built_ins.specs.Parse as spec;
 
-use crate::arguments::as_integer;
+use crate::arguments::natural_or;
 use std::alloc::Global;
 use tera_values::{Error, Kwargs, Shape, TeraResult, Value};
 
@@ -14,36 +13,15 @@ use tera_values::{Error, Kwargs, Shape, TeraResult, Value};
 pub fn int(alloc: Global, value: &Value, arguments: &Kwargs) -> TeraResult<Value>
     ensures { Gives (λ v. v) result (spec.int_of plain value.now arguments.now) }
 {
-    let base = base_of(arguments)?;
+    let base = natural_or(arguments, "base", 10, u32::MAX as usize)?;
     if base < 2 || base > 36 {
         return Err(Error::message(alloc, "a base is a number from 2 to 36"));
     }
     match value.shape() {
         Shape::Int(number) => Ok(Value::from_int(number)),
-        Shape::Text(text, _) => read(alloc, base, text),
+        Shape::Text(text, _) => read(alloc, base as u32, text),
         _ => Err(Error::message(alloc, "only a text is read as an integer")),
     }
-}
-
-/// The base that is given, or ten.
-fn base_of(arguments: &Kwargs) -> TeraResult<u32>
-    ensures { Gives (λ n. n) result
-        (or_default 10 (as_natural (2 ^ 32)) (codes "base") arguments.now) }
-{
-    match arguments.value("base") {
-        None => Ok(10),
-        Some(value) => as_u32(value),
-    }
-}
-
-fn as_u32(value: &Value) -> TeraResult<u32>
-    ensures { Gives (λ n. n) result (as_natural (2 ^ 32) value.now) }
-{
-    let number = as_integer(value)?;
-    if number < 0 || number > u32::MAX as i128 {
-        return Err(Error::invalid_argument());
-    }
-    Ok(number as u32)
 }
 
 fn read(alloc: Global, base: u32, text: &str) -> TeraResult<Value>

@@ -34,40 +34,24 @@ impl BuiltInTest {
     pub fn named(name: &str) -> Option<BuiltInTest>
         ensures { result ≡ test_named name.now }
     {
-        if name == "string" {
-            Some(BuiltInTest::String)
-        } else if name == "number" {
-            Some(BuiltInTest::Number)
-        } else if name == "map" {
-            Some(BuiltInTest::Map)
-        } else if name == "bool" {
-            Some(BuiltInTest::Bool)
-        } else if name == "array" {
-            Some(BuiltInTest::Array)
-        } else if name == "integer" {
-            Some(BuiltInTest::Integer)
-        } else if name == "none" {
-            Some(BuiltInTest::None)
-        } else if name == "iterable" {
-            Some(BuiltInTest::Iterable)
-        } else if name == "defined" {
-            Some(BuiltInTest::Defined)
-        } else if name == "undefined" {
-            Some(BuiltInTest::Undefined)
-        } else if name == "odd" {
-            Some(BuiltInTest::Odd)
-        } else if name == "even" {
-            Some(BuiltInTest::Even)
-        } else if name == "divisible_by" {
-            Some(BuiltInTest::DivisibleBy)
-        } else if name == "starting_with" {
-            Some(BuiltInTest::StartingWith)
-        } else if name == "ending_with" {
-            Some(BuiltInTest::EndingWith)
-        } else if name == "containing" {
-            Some(BuiltInTest::Containing)
-        } else {
-            None
+        match name {
+            "string" => Some(BuiltInTest::String),
+            "number" => Some(BuiltInTest::Number),
+            "map" => Some(BuiltInTest::Map),
+            "bool" => Some(BuiltInTest::Bool),
+            "array" => Some(BuiltInTest::Array),
+            "integer" => Some(BuiltInTest::Integer),
+            "none" => Some(BuiltInTest::None),
+            "iterable" => Some(BuiltInTest::Iterable),
+            "defined" => Some(BuiltInTest::Defined),
+            "undefined" => Some(BuiltInTest::Undefined),
+            "odd" => Some(BuiltInTest::Odd),
+            "even" => Some(BuiltInTest::Even),
+            "divisible_by" => Some(BuiltInTest::DivisibleBy),
+            "starting_with" => Some(BuiltInTest::StartingWith),
+            "ending_with" => Some(BuiltInTest::EndingWith),
+            "containing" => Some(BuiltInTest::Containing),
+            _ => None,
         }
     }
 

@@ -1,30 +1,14 @@
 // Texts cut short.
-ghost use Rattle.std.specs.Prelude.{Ok, codes, false};
+ghost use Rattle.std.specs.Prelude.{Ok, false};
 ghost use Rattle.tera_errors.specs.Answer.{Gives};
 ghost use Rattle.tera_values.specs.Alphabet.{plain};
 ghost use Rattle.tera_values.specs.Val.{text};
-ghost use Rattle.tera_built_ins.specs.Arguments.{as_text, or_default};
-ghost use Rattle.tera_built_ins.specs.Reading.{given_of};
-ghost use Rattle.tera_built_ins.specs.Truncate.{truncated, ellipsis, truncate_of};
+ghost use Rattle.tera_built_ins.specs.Truncate.{truncated, truncate_of};
 
-use crate::arguments::{Given, as_text, needed_size};
+use crate::arguments::{as_text, needed_size, text_or};
 use std::alloc::Global;
 use tera_values::{Kwargs, TeraResult, Value};
 use unicode_segmentation::UnicodeSegmentation;
-
-/// What the argument `end` says, or an ellipsis.
-fn end_of(arguments: &Kwargs) -> TeraResult<Given<'_>>
-    ensures { Gives given_of result
-        (or_default (ellipsis plain) as_text (codes "end") arguments.now) }
-{
-    match arguments.value("end") {
-        Some(value) => as_text(value),
-        None => Ok(Given {
-            text: "…",
-            is_safe: false,
-        }),
-    }
-}
 
 /// The first clusters of a text that has more than so many, and then the end; else the text.
 fn shorten(alloc: Global, content: &str, length: usize, end: &str) -> TeraResult<Value>
@@ -48,6 +32,6 @@ pub fn truncate(alloc: Global, value: &Value, arguments: &Kwargs) -> TeraResult<
 {
     let given = as_text(value)?;
     let length = needed_size(arguments, "length")?;
-    let end = end_of(arguments)?;
-    shorten(alloc, given.text, length, end.text)
+    let end = text_or(arguments, "end", "…")?;
+    shorten(alloc, given.text, length, end)
 }

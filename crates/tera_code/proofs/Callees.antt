@@ -3,7 +3,7 @@ use Rattle.std.proofs.Common.{◌≡◌, ℕ, suc, List, [], ◌∷◌, ◌++◌
 use Rattle.std.proofs.lemmas.List.Elements.{filter_map-append}
 use Rattle.tera_errors.specs.Site as site
 use Rattle.tera_errors.specs.declared.span.Span.{Span}
-use Rattle.tera_tree.specs.Tree.{Expr, Nothing, Boolean, Integer, Text, Name, Attribute, Index, Slice, Not, Negate, Binary, And, Or, Ternary, Array, Map, Comprehension, Super, Filter, Test, Call, Optional, Absent, Present, Items, NoItems, MoreItems, Entries, NoEntries, MoreEntries, Arguments, NoArguments, MoreArguments, Filters, NoFilters, MoreFilters, Node, Content, Print, If, Set, Capture, FilterSection, For, Block, Break, Continue, Nodes, NoNodes, MoreNodes}
+use Rattle.tera_tree.specs.Tree.{Expr, Nothing, Boolean, Integer, Text, Name, Attribute, Index, Slice, Not, Negate, Binary, And, Or, Ternary, Array, Map, Comprehension, Super, Filter, Test, Call, Optional, Absent, Present, Items, NoItems, MoreItems, Entries, NoEntries, MoreEntries, Arguments, NoArguments, MoreArguments, Filters, NoFilters, MoreFilters, Node, Content, Print, If, Set, Capture, FilterSection, For, Block, Include, Break, Continue, Nodes, NoNodes, MoreNodes}
 use Rattle.tera_tree.specs.Calls.{Callee, AFilter, expr_calls, optional_calls, items_calls, entries_calls, arguments_calls, filters_calls, node_calls, calls}
 use Rattle.tera_code.specs.declared.instruction.Instruction.{Instruction}
 use Rattle.tera_code.specs.declared.instruction.Instruction.TheVariants as instruction
@@ -103,6 +103,7 @@ mutual
   node_callees (For key n e body other) drops =
       both (expr_code e) _ (expr_callees e) (both (nodes_code body 0) _ (nodes_callees body 0) (nodes_callees other drops))
   node_callees (Block n body span) drops = refl
+  node_callees (Include n span) drops = refl
   node_callees Break drops = refl
   node_callees Continue drops = refl
 

@@ -47,6 +47,11 @@ abbrev pub taken_block : Instruction → Option (site.Name × Span)
 taken_block (instruction.TakeBlock name span) = Some (name, span)
 taken_block other = None
 
+-- the name by which it includes a template
+abbrev pub taken_include : Instruction → Option (site.Name × Span)
+taken_include (instruction.TakeInclude name span) = Some (name, span)
+taken_include other = None
+
 -- how many instructions it passes, in any case
 abbrev pub jump_length : Instruction → Option ℕ
 jump_length (instruction.Jump skip) = Some skip

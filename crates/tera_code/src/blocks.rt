@@ -69,6 +69,7 @@ fn add(alloc: Global, file: &str, node: &Node, found: &mut Vec<Block>) -> TeraRe
         Node::Content { .. }
         | Node::Print { .. }
         | Node::Set { .. }
+        | Node::Include { .. }
         | Node::Break
         | Node::Continue => Ok(()),
     }

@@ -89,6 +89,11 @@ pub enum Instruction<'a> {
         name: LentName<'a>,
         span: Span,
     },
+    /// Puts out the template to which this name resolves.
+    TakeInclude {
+        name: LentName<'a>,
+        span: Span,
+    },
     /// Drops so many operands, and puts the text that the next template above makes of the block that runs on top of the
     /// operands.
     TakeAbove {

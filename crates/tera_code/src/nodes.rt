@@ -85,6 +85,7 @@ impl Compiler {
                 body: _,
                 span,
             } => self.block(name, *span),
+            Node::Include { name, span } => self.include(name.as_str(), *span),
             Node::Break => self.emit(Instruction::LeaveLoop(drops)),
             Node::Continue => self.emit(Instruction::LeaveTurn(drops)),
         }
@@ -141,6 +142,19 @@ impl Compiler {
     {
         let name = Name::new(self.alloc(), name)?;
         self.emit(Instruction::TakeBlock {
+            name: LentName::new(&name),
+            span,
+        })
+    }
+
+    // What the name resolves to is found where the template is rendered.
+    fn include(&mut self, name: &str, span: Span) -> TeraResult<()>
+        ensures ok { OnOk result
+            (self.new ≡ lengthened self.old (instruction.TakeInclude name.now span ∷ [])) }
+        ensures lacks { IfErr result Lacks }
+    {
+        let name = Name::new(self.alloc(), name)?;
+        self.emit(Instruction::TakeInclude {
             name: LentName::new(&name),
             span,
         })

@@ -105,6 +105,10 @@ pub(crate) enum Packed {
         name: u32,
         span: u32,
     },
+    TakeInclude {
+        name: u32,
+        span: u32,
+    },
     TakeAbove {
         span: u32,
         arguments: usize,
@@ -323,6 +327,17 @@ impl Tables {
         Ok(Packed::TakeBlock { name, span })
     }
 
+    fn take_include(&mut self, name: &LentName<'_>, span: Span) -> TeraResult<Packed>
+        ensures grows { Grows (shelf_of self.old) (shelf_of self.new) }
+        ensures ok { IfOk result
+            (λ p. Packs (shelf_of self.new) p (instruction.TakeInclude name.now span)) }
+        ensures lacks { IfErr result Lacks }
+    {
+        let name = number(&mut self.names, name.share()?)?;
+        let span = number(&mut self.spans, span)?;
+        Ok(Packed::TakeInclude { name, span })
+    }
+
     fn start_loop(
         &mut self,
         key: &Option<LentName<'_>>,
@@ -448,6 +463,7 @@ impl Tables {
             Instruction::JumpIfFalseOrPop(skip) => Ok(Packed::JumpIfFalseOrPop(skip)),
             Instruction::JumpIfTrueOrPop(skip) => Ok(Packed::JumpIfTrueOrPop(skip)),
             Instruction::TakeBlock { name, span } => self.take_block(&name, span),
+            Instruction::TakeInclude { name, span } => self.take_include(&name, span),
             Instruction::TakeAbove { arguments, span } => {
                 let span = number(&mut self.spans, span)?;
                 Ok(Packed::TakeAbove { span, arguments })

@@ -163,6 +163,10 @@ impl Tables {
                 name: LentName::new(self.whole_name(name)),
                 span: self.span(span),
             },
+            Packed::TakeInclude { name, span } => Instruction::TakeInclude {
+                name: LentName::new(self.whole_name(name)),
+                span: self.span(span),
+            },
             Packed::TakeAbove { span, arguments } => Instruction::TakeAbove {
                 arguments,
                 span: self.span(span),

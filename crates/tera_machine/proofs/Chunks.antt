@@ -4,13 +4,13 @@ use Rattle.std.specs.Prelude.{slice_get}
 use Rattle.tera_errors.specs.declared.span.Span.{Span}
 use Rattle.tera_errors.specs.Site as site
 use Rattle.tera_errors.specs.Fault.{Fault}
-use Rattle.tera_tree.specs.Tree.{Expr, Nothing, Boolean, Integer, Text, Name, Attribute, Index, Slice, Not, Negate, Binary, And, Or, Ternary, Array, Map, Comprehension, Super, Filter, Test, Call, Node, Content, Print, If, Set, Capture, FilterSection, For, Block, Break, Continue, Nodes, NoNodes, MoreNodes}
+use Rattle.tera_tree.specs.Tree.{Expr, Nothing, Boolean, Integer, Text, Name, Attribute, Index, Slice, Not, Negate, Binary, And, Or, Ternary, Array, Map, Comprehension, Super, Filter, Test, Call, Node, Content, Print, If, Set, Capture, FilterSection, For, Block, Include, Break, Continue, Nodes, NoNodes, MoreNodes}
 use Rattle.tera_values.specs.Access.{truthy}
 use Rattle.tera_state.specs.Scope.{Turn, Heading, look, dump, assign}
 use Rattle.tera_operators.specs.Operand.{Evaluated}
 use Rattle.tera_meaning.specs.Here.{Here}
 use Rattle.tera_meaning.specs.Whole.{World, Place, here_at, whole}
-use Rattle.tera_meaning.specs.Run.{Run, ABlock, Oracle, ◌▹◌, visit, reads, value_at, answered, writes, changes, onward}
+use Rattle.tera_meaning.specs.Run.{Run, ABlock, AnInclude, Oracle, ◌▹◌, visit, reads, value_at, answered, writes, changes, onward}
 use Rattle.tera_meaning.specs.Meaning.{output, written, turns_of, loop_or_else, node_meaning, nodes_meaning}
 use Rattle.tera_code.specs.declared.instruction.Instruction.{Instruction}
 use Rattle.tera_code.specs.declared.instruction.Instruction.TheVariants as instruction
@@ -128,6 +128,9 @@ module _ (w : World) (place : Place) (code : Code) (below : Below w place) where
     node_runs (Block name body span) drops ip base r fits has =
         let q = ABlock name span in
         spend w place code (asked_runs w place code (config_at base r) 7 q Written r writes (instruction.TakeBlock name span) (call q r.vars) (omega arith) has.0 refl (below q Written (config_at base r)) (λ after. done w place code (omega arith)))
+    node_runs (Include name span) drops ip base r fits has =
+        let q = AnInclude name span in
+        spend w place code (asked_runs w place code (config_at base r) 7 q Written r writes (instruction.TakeInclude name span) (call q r.vars) (omega arith) has.0 refl (below q Written (config_at base r)) (λ after. done w place code (omega arith)))
     node_runs Break drops ip base r fits has =
         spend w place code (step w place code _ 7 (leave_leads w place code ip 1 drops base r (instruction.LeaveLoop drops) (omega arith) fits has.0 refl) (done w place code (omega arith)))
     node_runs Continue drops ip base r fits has =

@@ -4,6 +4,7 @@ pub mod Still
 pub mod Noting
 pub mod Runs
 pub mod Took
+pub mod Including
 pub mod Ways
 pub mod Opened
 pub mod Looping

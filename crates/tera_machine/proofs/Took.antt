@@ -4,7 +4,7 @@ use Rattle.tera_errors.specs.Site.{Name, Text}
 use Rattle.std.specs.Prelude.{OnOk, IfErr}
 use Rattle.tera_errors.specs.Answer.{Refusal, Lacks}
 use Rattle.tera_state.specs.Scope.{Turn}
-use Rattle.tera_state.specs.Scopes.{around_of, coming_of}
+use Rattle.tera_state.specs.Scopes.{around_of, coming_of, coming_around}
 use Rattle.tera_meaning.specs.Run.{Request}
 use Rattle.tera_meaning.specs.Whole.{World, Place, Takes}
 use Rattle.tera_code.specs.declared.instruction.Instruction.{Instruction}
@@ -23,6 +23,7 @@ use Rattle.tera_machine.specs.Flow.{Use, Written, Pushed, request_of, use_of}
 use Rattle.tera_machine.specs.Act.{beneath, beneath_in}
 use Rattle.tera_machine.specs.Exec.{Code, End, Finished, entered, used, left, left_in, Ends, EndsWithin, BodyEnds, Ran}
 use Rattle.tera_machine.specs.Progress.{BodyWithin}
+use Rattle.tera_machine.specs.Included.{names_in}
 use Rattle.tera_machine.specs.Subject.{template_of, place_at, place_of}
 use Rattle.tera_machine.specs.Bodies.{opened_by, closed_by, IsBody, FindsBody, Entered, Enters, closed_in, Leaves, Stays, BodyRan}
 use Rattle.tera_machine.specs.Wanted.{ended_by}
@@ -31,18 +32,21 @@ use Rattle.tera_machine.proofs.Taking.{AtAsk, body_failed, refused, inner_within
 
 pub place_same : (m : VirtualMachine) (file file0 : Name) {b0 b : OpenBlocks} {c0 c : Configuration} → file ≡ file0 → Stays b0 c0 b c → place_at m file b c ≡ place_at m file0 b0 c0
 place_same m file file0 {b0} {b} {c0} {c} e s =
-    ap₂ (λ f a. record { template = template_of m; file = f; around = a; autoescape = m.autoescape; opened = b.names; above = definers_of b.above }) e s.around
-    ∙ ap₂ (λ ns ds. record { template = template_of m; file = file0; around = around_of c0.scopes; autoescape = m.autoescape; opened = ns; above = definers_of ds }) s.names s.above
+    ap₂ (λ f a. record { template = template_of m; file = f; around = a; autoescape = m.autoescape; included = names_in b.included; opened = b.names; above = definers_of b.above }) e s.around
+    ∙ ap₂ (λ ns ds. record { template = template_of m; file = file0; around = around_of c0.scopes; autoescape = m.autoescape; included = names_in b.included; opened = ns; above = definers_of ds }) s.names s.above
+    ∙ ap (λ i. record { template = template_of m; file = file0; around = around_of c0.scopes; autoescape = m.autoescape; included = names_in i; opened = b0.names; above = definers_of b0.above }) s.included
 
--- where no block is open
-pub place_none : (m : VirtualMachine) (file : Name) (b : OpenBlocks) (c : Configuration) → b.names ≡ [] → definers_of b.above ≡ [] → place_at m file b c ≡ place_of m file c
-place_none m file b c e f =
-    ap₂ (λ ns ds. record { template = template_of m; file = file; around = around_of c.scopes; autoescape = m.autoescape; opened = ns; above = ds }) e f
+-- where nothing is open
+pub place_none : (m : VirtualMachine) (file : Name) (b : OpenBlocks) (c : Configuration) → b.names ≡ [] → definers_of b.above ≡ [] → names_in b.included ≡ [] → place_at m file b c ≡ place_of m file c
+place_none m file b c e f g =
+    ap₂ (λ ns ds. record { template = template_of m; file = file; around = around_of c.scopes; autoescape = m.autoescape; included = names_in b.included; opened = ns; above = ds }) e f
+    ∙ ap (λ ns. record { template = template_of m; file = file; around = around_of c.scopes; autoescape = m.autoescape; included = ns; opened = []; above = [] }) g
 
 pub stays_then : {b0 b1 b2 : OpenBlocks} {c0 c1 c2 : Configuration} → Stays b0 c0 b1 c1 → Stays b1 c1 b2 c2 → Stays b0 c0 b2 c2
 stays_then s t = record {
   names = t.names ∙ s.names;
   above = t.above ∙ s.above;
+  included = t.included ∙ s.included;
   around = t.around ∙ s.around;
   beneath = t.beneath ∙ s.beneath;
   since = s.since ++ t.since;
@@ -55,6 +59,7 @@ pub moved : {b0 b : OpenBlocks} {c0 c : Configuration} (c1 : Configuration) → 
 moved c1 s e f g = record {
   names = s.names;
   above = s.above;
+  included = s.included;
   around = e ∙ s.around;
   beneath = f ∙ s.beneath;
   since = s.since;
@@ -74,10 +79,11 @@ take_failed e at None c3 n3 le h = tt
 take_failed e at (Some f) c3 n3 le h = body_failed at f n3 le (ends_at e h)
 
 -- what was found is entered
-pub enters : {w : World} (m : VirtualMachine) (file : Name) (a : Asked) (b0 : OpenBlocks) (c0 : Configuration) (d : Nearest) (b : OpenBlocks) (c : Configuration) → IsBody w (place_at m file b0 c0) (request_of a) (config_of c0).run.vars d → b.names ≡ opened_by (request_of a) b0.names → b.above ≡ d.above → around_of c.scopes ≡ around_of c0.scopes → config_of c ≡ entered (config_of c0).run.vars (config_of c0) → Entered w (place_at m file b0 c0) (request_of a) (config_of c0) (place_at m d.chunk.now.file b c) d.chunk.now.code (config_of c)
-enters m file a b0 c0 d b c h names above around config =
-    let same = ap₂ (λ f x. record { template = template_of m; file = f; around = x; autoescape = m.autoescape; opened = opened_by (request_of a) b0.names; above = definers_of d.above }) (sym (ap (λ (l : Listing). l.file) h.code)) (sym around)
-    ∙ ap₂ (λ ns ds. record { template = template_of m; file = d.chunk.now.file; around = around_of c.scopes; autoescape = m.autoescape; opened = ns; above = definers_of ds }) (sym names) (sym above) in
+pub enters : {w : World} (m : VirtualMachine) (file : Name) (a : Asked) (b0 : OpenBlocks) (c0 : Configuration) (d : Nearest) (b : OpenBlocks) (c : Configuration) → IsBody w (place_at m file b0 c0) a (config_of c0).run.vars d → b.names ≡ opened_by a b0.names → b.above ≡ d.above → b.included ≡ b0.included → c.scopes ≡ c0.scopes → config_of c ≡ entered (config_of c0).run.vars (config_of c0) → Entered w (place_at m file b0 c0) (request_of a) (config_of c0) (place_at m d.chunk.now.file b c) d.chunk.now.code (config_of c)
+enters m file a b0 c0 d b c h names above included scopes config =
+    let same = ap₂ (λ f x. record { template = template_of m; file = f; around = around_of x; autoescape = m.autoescape; included = names_in b0.included; opened = opened_by a b0.names; above = definers_of d.above }) (sym (ap (λ (l : Listing). l.file) h.code)) (sym scopes)
+    ∙ ap₂ (λ ns ds. record { template = template_of m; file = d.chunk.now.file; around = around_of c.scopes; autoescape = m.autoescape; included = names_in b0.included; opened = ns; above = definers_of ds }) (sym names) (sym above)
+    ∙ ap (λ i. record { template = template_of m; file = d.chunk.now.file; around = around_of c.scopes; autoescape = m.autoescape; included = names_in i; opened = b.names; above = definers_of b.above }) (sym included) in
     record {
       vars = (config_of c0).run.vars;
       body = h.definer.body;
@@ -86,9 +92,9 @@ enters m file a b0 c0 d b c h names above around config =
       config = config;
     }
 
-no_loops : (ls : List Loop) (cs : List Text) (a : Asked) (c0 c3 : Config) → left_in ls cs (request_of a) (use_of a) c0 c3 ≢ None → ls ≡ []
-no_loops [] cs a c0 c3 h = refl
-no_loops (l ∷ ls) cs a c0 c3 h = absurd (h refl)
+pub no_loops : (ls : List Loop) (cs : List Text) (q : Request) (u : Use) (c0 c3 : Config) → left_in ls cs q u c0 c3 ≢ None → ls ≡ []
+no_loops [] cs q u c0 c3 h = refl
+no_loops (l ∷ ls) cs q u c0 c3 h = absurd (h refl)
 
 left_closed : (ls : List Loop) (cs : List Text) (a : Asked) (c0 c3 : Config) (bs : List (Name × Text)) (loops : List Loop) → c0.loops ≡ loops → c0.run.blocks ≡ bs → left_in ls cs (request_of a) (use_of a) c0 c3 ≢ None → left_in ls cs (request_of a) (use_of a) c0 c3 ≡ Some (closed_in cs (request_of a) (use_of a) bs loops c3)
 left_closed (l ∷ ls) cs a c0 c3 bs loops e f h = absurd (h refl)
@@ -99,13 +105,13 @@ left_closed [] (t ∷ ts) (asked.Above span) c0 c3 bs loops e f h =
     ap₂ (λ ls xs. Some (used (Pushed true span) c3.run (record { operands = c3.operands; captures = ts; loops = ls; run = record { vars = c3.run.vars; text = t; blocks = xs } }))) e f
 
 -- the blocks that ended around the body, those that ended in it, and its own
-closed_blocks : (cs : List Text) (a : Asked) (bs : List (Name × Text)) (loops : List Loop) (c : Config) → cs ≢ [] → (closed_in cs (request_of a) (use_of a) bs loops c).run.blocks ≡ bs ++ (c.run.blocks ++ ended_by (request_of a) c.run.text)
+closed_blocks : (cs : List Text) (a : Asked) (bs : List (Name × Text)) (loops : List Loop) (c : Config) → cs ≢ [] → (closed_in cs (request_of a) (use_of a) bs loops c).run.blocks ≡ bs ++ (c.run.blocks ++ ended_by a c.run.text)
 closed_blocks [] a bs loops c h = absurd (h refl)
 closed_blocks (t ∷ ts) (asked.Block name span) bs loops c h = refl
 closed_blocks (t ∷ ts) (asked.Above span) bs loops c h = ap (λ xs. bs ++ xs) (sym (append-nil c.run.blocks))
 
 -- where a body has no open loop, those around it are as they were
-coming_back : (places : List LoopPlace) (coming coming1 : List (List Turn)) → loops_at places coming ≡ [] → beneath_in places coming ≡ coming1 → coming ≡ coming1
+pub coming_back : (places : List LoopPlace) (coming coming1 : List (List Turn)) → loops_at places coming ≡ [] → beneath_in places coming ≡ coming1 → coming ≡ coming1
 coming_back [] coming coming1 e f = f
 coming_back (p ∷ ps) [] coming1 e f = f
 coming_back (p ∷ ps) (ts ∷ tss) coming1 e f = absurd (filled e)
@@ -113,20 +119,29 @@ coming_back (p ∷ ps) (ts ∷ tss) coming1 e f = absurd (filled e)
     filled : loops_at (p ∷ ps) (ts ∷ tss) ≡ [] → ⊥
     filled e = cc
 
+-- the first of several, and those behind it
+abbrev pub innermost_of : List (List (List Turn)) → List (List Turn)
+innermost_of [] = []
+innermost_of (tss ∷ outer) = tss
+
+abbrev pub outer_of : List (List (List Turn)) → List (List (List Turn))
+outer_of [] = []
+outer_of (tss ∷ outer) = outer
+
 -- no loop is open in the body that was entered
-beneath_none : {A : Type 0} (places : List A) (coming : List (List Turn)) → places ≡ [] → beneath_in places coming ≡ coming
+pub beneath_none : {A : Type 0} (places : List A) (coming : List (List Turn)) → places ≡ [] → beneath_in places coming ≡ coming
 beneath_none places coming e = ap (λ ps. beneath_in ps coming) e
 
-closed_opened : (a : Asked) (names : List Name) → closed_by (request_of a) (opened_by (request_of a) names) ≡ names
+closed_opened : (a : Asked) (names : List Name) → closed_by a (opened_by a names) ≡ names
 closed_opened (asked.Block name span) names = refl
 closed_opened (asked.Above span) names = refl
 
-no_captures : (ls : List Loop) (cs : List Text) (a : Asked) (c0 c3 : Config) → cs ≡ [] → left_in ls cs (request_of a) (use_of a) c0 c3 ≡ None
-no_captures (l ∷ ls) cs a c0 c3 e = refl
-no_captures [] cs a c0 c3 e = ap (λ ts. left_in [] ts (request_of a) (use_of a) c0 c3) e
+pub no_captures : (ls : List Loop) (cs : List Text) (q : Request) (u : Use) (c0 c3 : Config) → cs ≡ [] → left_in ls cs q u c0 c3 ≡ None
+no_captures (l ∷ ls) cs q u c0 c3 e = refl
+no_captures [] cs q u c0 c3 e = ap (λ ts. left_in [] ts q u c0 c3) e
 
-lacked : (w : World) (p : Place) (a : Asked) (c c' : Config) (k : ℕ) (r : Refusal) → r ≡ None → BodyRan w p (request_of a) (use_of a) c (Err r) c' k
-lacked w p a c c' k r e = subst (λ x. BodyRan w p (request_of a) (use_of a) c (Err x) c' k) (sym e) tt
+pub lacked : (w : World) (p : Place) (q : Request) (u : Use) (c c' : Config) (k : ℕ) (r : Refusal) → r ≡ None → BodyRan w p q u c (Err r) c' k
+lacked w p q u c c' k r e = subst (λ x. BodyRan w p q u c (Err x) c' k) (sym e) tt
 
 module _ (w : World) (m : VirtualMachine) (file : Name) (a : Asked) (b0 : OpenBlocks) (c0 : Configuration) {most : ℕ} (may : BodyWithin w (place_at m file b0 c0) (request_of a) (use_of a) (config_of c0) most) where
   module _ {inside : Inside} {b1 : OpenBlocks} {c1 : Configuration} (entry : Enters w m file a b0 c0 (Ok inside) b1 c1) where
@@ -139,12 +154,22 @@ module _ (w : World) (m : VirtualMachine) (file : Name) (a : Asked) (b0 : OpenBl
 
       -- a text is open around the body's
       pub may_leave : (config_of c3).captures ≢ []
-      may_leave = λ e. ended (no_captures (config_of c3).loops (config_of c3).captures a (config_of c0) (config_of c3) e)
+      may_leave = λ e. ended (no_captures (config_of c3).loops (config_of c3).captures (request_of a) (use_of a) (config_of c0) (config_of c3) e)
 
       module _ {b3 : OpenBlocks} (stay : Stays b1 c1 b3 c3) (b4 : OpenBlocks) (c4 : Configuration) where
+        -- the loops around the body's own, and those in the states around
+        same_beneath : beneath c3 ≡ coming_of c0.scopes ∷ coming_around c0.scopes
+        same_beneath =
+            stay.beneath
+            ∙ ap (λ tss. tss ∷ coming_around c1.scopes) (beneath_none c1.places (coming_of c1.scopes) entry.1.none)
+            ∙ ap (λ s. coming_of s ∷ coming_around s) entry.1.scopes
+
         same_coming : coming_of c3.scopes ≡ coming_of c0.scopes
         same_coming =
-            coming_back c3.places (coming_of c3.scopes) (coming_of c0.scopes) (no_loops (config_of c3).loops (config_of c3).captures a (config_of c0) (config_of c3) ended) (stay.beneath ∙ beneath_none c1.places (coming_of c1.scopes) entry.1.none ∙ entry.1.coming)
+            coming_back c3.places (coming_of c3.scopes) (coming_of c0.scopes) (no_loops (config_of c3).loops (config_of c3).captures (request_of a) (use_of a) (config_of c0) (config_of c3) ended) (ap innermost_of same_beneath)
+
+        same_outer : coming_around c3.scopes ≡ coming_around c0.scopes
+        same_outer = ap outer_of same_beneath
 
         took : Leaves a inside b3 c3 b4 c4 → BodyEnds w (place_at m file b0 c0) (request_of a) (use_of a) (config_of c0) (Finished (config_of c4) j)
         took leaves =
@@ -154,19 +179,20 @@ module _ (w : World) (m : VirtualMachine) (file : Name) (a : Asked) (b0 : OpenBl
         none_before : (config_of c1).run.blocks ≡ []
         none_before = ap (λ (c : Config). c.run.blocks) entry.0.config
 
-        ended_since : Leaves a inside b3 c3 b4 c4 → c4.ended.all ≡ c0.ended.all ++ (stay.since ++ ended_by (request_of a) (config_of c3).run.text)
+        ended_since : Leaves a inside b3 c3 b4 c4 → c4.ended.all ≡ c0.ended.all ++ (stay.since ++ ended_by a (config_of c3).run.text)
         ended_since leaves =
             ap (λ (c : Config). c.run.blocks) leaves.config
             ∙ closed_blocks (config_of c3).captures a inside.outer.ended.all (loops_at inside.outer.places (coming_of c3.scopes)) (config_of c3) may_leave
-            ∙ ap₂ (λ xs ys. xs ++ (ys ++ ended_by (request_of a) (config_of c3).run.text)) entry.1.ended (stay.ended ∙ ap (λ xs. xs ++ stay.since) none_before)
+            ∙ ap₂ (λ xs ys. xs ++ (ys ++ ended_by a (config_of c3).run.text)) entry.1.ended (stay.ended ∙ ap (λ xs. xs ++ stay.since) none_before)
 
         stayed : Leaves a inside b3 c3 b4 c4 → Stays b0 c0 b4 c4
         stayed leaves = record {
-          names = leaves.names ∙ ap (closed_by (request_of a)) (stay.names ∙ entry.1.names) ∙ closed_opened a b0.names;
+          names = leaves.names ∙ ap (closed_by a) (stay.names ∙ entry.1.names) ∙ closed_opened a b0.names;
           above = leaves.above ∙ entry.1.above;
-          around = leaves.around ∙ stay.around ∙ entry.1.around;
-          beneath = ap₂ (λ ps tss. beneath_in ps tss) (leaves.places ∙ entry.1.places) (leaves.coming ∙ same_coming);
-          since = stay.since ++ ended_by (request_of a) (config_of c3).run.text;
+          included = leaves.included ∙ stay.included ∙ entry.1.included;
+          around = ap around_of leaves.scopes ∙ stay.around ∙ ap around_of entry.1.scopes;
+          beneath = ap₂ (λ ps s. beneath_in ps (coming_of s) ∷ coming_around s) (leaves.places ∙ entry.1.places) leaves.scopes ∙ ap₂ (λ tss outer. beneath_in c0.places tss ∷ outer) same_coming same_outer;
+          since = stay.since ++ ended_by a (config_of c3).run.text;
           ended = ended_since leaves;
           noted = noted_from _ entry.1.wanted (noted_then stay.since _ stay.noted leaves.noted);
         }
@@ -174,7 +200,7 @@ module _ (w : World) (m : VirtualMachine) (file : Name) (a : Asked) (b0 : OpenBl
         -- the body is over, unless memory was refused
         pub body_over : (r : Result (Unit {0}) Refusal) → OnOk r (Leaves a inside b3 c3 b4 c4) → IfErr r Lacks → BodyRan w (place_at m file b0 c0) (request_of a) (use_of a) (config_of c0) r (config_of c4) j
         body_over (Ok done) leaves lacks = took leaves
-        body_over (Err r) leaves lacks = lacked w (place_at m file b0 c0) a (config_of c0) (config_of c4) j r lacks
+        body_over (Err r) leaves lacks = lacked w (place_at m file b0 c0) (request_of a) (use_of a) (config_of c0) (config_of c4) j r lacks
 
         pub body_stayed : (r : Result (Unit {0}) Refusal) → OnOk r (Leaves a inside b3 c3 b4 c4) → OnOk r (Stays b0 c0 b4 c4)
         body_stayed (Ok done) leaves = stayed leaves
@@ -191,7 +217,7 @@ module _ (w : World) (m : VirtualMachine) (file : Name) (a : Asked) (b0 : OpenBl
   enter_failed (Some f) b1 c1 k z h = refused f k z h
 
 -- what is not found is not entered
-pub not_found : (w : World) (m : VirtualMachine) (file : Name) (a : Asked) (b0 : OpenBlocks) (c0 : Configuration) (r : Refusal) (b : OpenBlocks) (c : Configuration) → FindsBody w (place_at m file b0 c0) (request_of a) (config_of c0).run.vars (Err r) → Enters w m file a b0 c0 (Err r) b c
+pub not_found : (w : World) (m : VirtualMachine) (file : Name) (a : Asked) (b0 : OpenBlocks) (c0 : Configuration) (r : Refusal) (b : OpenBlocks) (c : Configuration) → FindsBody w (place_at m file b0 c0) a (config_of c0).run.vars (Err r) → Enters w m file a b0 c0 (Err r) b c
 not_found w m file a b0 c0 None b c h = tt
 not_found w m file a b0 c0 (Some f) b c h = h
 

@@ -15,12 +15,12 @@ use Rattle.tera_operators.specs.Operators.{not_of, negative_of, binary_of}
 use Rattle.tera_operators.specs.Literals.{array_of, map_of}
 use Rattle.tera_operators.specs.Calls.{filter_applied, test_applied, function_called}
 use Rattle.tera_state.specs.Scope.{Around, Turn, look, dump, assign}
-use Rattle.tera_state.specs.Scopes.{around_of, coming_of}
+use Rattle.tera_state.specs.Scopes.{around_of, coming_of, coming_around}
 use Rattle.tera_meaning.specs.Here.{Here, escaping_at}
-use Rattle.tera_meaning.specs.Run.{ABlock, Above}
+use Rattle.tera_meaning.specs.Run.{ABlock, Above, AnInclude}
 use Rattle.tera_meaning.specs.Meaning.{output}
 use Rattle.tera_code.specs.declared.instruction.Instruction.{Instruction}
-use Rattle.tera_code.specs.declared.instruction.Instruction.TheVariants.{WriteText, WriteTop, WriteName, LoadConst, LoadName, LoadAttribute, LoadItem, Slice, Not, Negate, Binary, MakeArray, MakeMap, Jump, PopJumpIfFalse, JumpIfFalseOrPop, JumpIfTrueOrPop, Store, LoadContext, StartLoop, NextTurn, EndLoop, Keep, EndComprehension, StartCapture, EndCapture, LeaveLoop, LeaveTurn, TakeBlock, TakeAbove, ApplyFilter, ApplyTest, CallFunction}
+use Rattle.tera_code.specs.declared.instruction.Instruction.TheVariants.{WriteText, WriteTop, WriteName, LoadConst, LoadName, LoadAttribute, LoadItem, Slice, Not, Negate, Binary, MakeArray, MakeMap, Jump, PopJumpIfFalse, JumpIfFalseOrPop, JumpIfTrueOrPop, Store, LoadContext, StartLoop, NextTurn, EndLoop, Keep, EndComprehension, StartCapture, EndCapture, LeaveLoop, LeaveTurn, TakeBlock, TakeAbove, TakeInclude, ApplyFilter, ApplyTest, CallFunction}
 use Rattle.tera_machine.specs.declared.configuration.Configuration.{Configuration}
 use Rattle.tera_machine.specs.declared.machine.Flow as declared
 use Rattle.tera_machine.specs.Config.{Config, config_of}
@@ -162,6 +162,10 @@ kept_if_truthy skip c = kept_if_truthy_in skip c.operands c
 abbrev pub block_taken : site.Name → Span → Config → Did
 block_taken name span c = Goes c (Ask (ABlock name span) Written)
 
+-- the body of a template, whose text is written
+abbrev pub include_taken : site.Name → Span → Config → Did
+include_taken name span c = Goes c (Ask (AnInclude name span) Written)
+
 abbrev pub above_in : Span → Option (List Evaluated × List Evaluated) → Config → Did
 above_in span None c = Sticks
 above_in span (Some (all, rest)) c = Goes (holding rest c) (Ask (Above span) (Pushed true span))
@@ -202,6 +206,7 @@ act here next (LeaveLoop drops) = loop_left drops
 act here next (LeaveTurn drops) = turn_left drops
 act here next (TakeBlock name span) = block_taken name span
 act here next (TakeAbove arguments span) = above_taken arguments span
+act here next (TakeInclude name span) = include_taken name span
 act here next (ApplyFilter name names span) = filter_called here name names span
 act here next (ApplyTest name names span) = test_called here.file name names span
 act here next (CallFunction name names span) = function_answered here.file name names span
@@ -226,12 +231,13 @@ IsSmall (Goes c (Ask q u)) = Unit {0}
 IsSmall (Faults fault) = Unit {0}
 IsSmall Sticks = Unit {0}
 
--- the turns to come of the loops that are open around the body that runs
+-- the turns to come of the loops that are open around the body that runs, in its state
 abbrev pub beneath_in : {A : Type 0} → List A → List (List Turn) → List (List Turn)
 beneath_in places coming = drop (length places) coming
 
-abbrev pub beneath : Configuration → List (List Turn)
-beneath c = beneath_in c.places (coming_of c.scopes)
+-- and in each state around that
+abbrev pub beneath : Configuration → List (List (List Turn))
+beneath c = beneath_in c.places (coming_of c.scopes) ∷ coming_around c.scopes
 
 -- the code does this to a configuration; what is around its variables stays, and so do the loops around the body
 abbrev pub Does : (Config → Did) → Configuration → Result declared.Flow Refusal → Configuration → Type 0

@@ -1,4 +1,4 @@
--- How the machine takes the body of a request, and how it leaves it.
+-- How the machine takes the body of a block, and how it leaves it.
 use Rattle.std.specs.Prelude.{◌≡◌, ℕ, List, [], ◌∷◌, ◌++◌, drop, Some, None, Result, Ok, Err}
 use Rattle.tera_errors.specs.Site.{Name, Text}
 use Rattle.tera_errors.specs.Answer.{Refusal}
@@ -6,12 +6,13 @@ use Rattle.tera_tree.specs.Tree.{Nodes}
 use Rattle.tera_state.specs.Scope.{Variables}
 use Rattle.tera_state.specs.Scopes.{around_of, coming_of}
 use Rattle.tera_meaning.specs.Lineage.{Definer}
-use Rattle.tera_meaning.specs.Run.{Request, ABlock, Above}
+use Rattle.tera_meaning.specs.Run.{Request}
 use Rattle.tera_meaning.specs.Whole.{World, Place, Refuses, Takes, way, left_of}
 use Rattle.tera_code.specs.Code.{nodes_code, listing_of}
 use Rattle.tera_registry.specs.Templates.{definers_of}
 use Rattle.tera_registry.specs.declared.templates.Definer.{Definer as Nearest}
 use Rattle.tera_machine.specs.declared.asked.Asked.{Asked}
+use Rattle.tera_machine.specs.declared.asked.Asked.TheVariants as asked
 use Rattle.tera_machine.specs.declared.bodies.Inside.{Inside}
 use Rattle.tera_machine.specs.declared.configuration.Configuration.{Configuration}
 use Rattle.tera_machine.specs.declared.machine.VirtualMachine.{VirtualMachine}
@@ -24,25 +25,25 @@ use Rattle.tera_machine.specs.Subject.{place_at}
 use Rattle.tera_machine.specs.Wanted.{ended_by, Noted}
 
 -- the blocks that are open in a body, by those that are open where it is asked for, and the other way round
-abbrev pub opened_by : Request → List Name → List Name
-opened_by (ABlock name span) names = name ∷ names
-opened_by (Above span) names = names
+abbrev pub opened_by : Asked → List Name → List Name
+opened_by (asked.Block name span) names = name.now ∷ names
+opened_by (asked.Above span) names = names
 
-abbrev pub closed_by : Request → List Name → List Name
-closed_by (ABlock name span) names = drop 1 names
-closed_by (Above span) names = names
+abbrev pub closed_by : Asked → List Name → List Name
+closed_by (asked.Block name span) names = drop 1 names
+closed_by (asked.Above span) names = names
 
--- the body that a request takes, which this definer has
-pub record IsBody (w : World) (p : Place) (q : Request) (v : Variables) (nearest : Nearest) : Type 0 where
+-- the body to take, which this definer has
+pub record IsBody (w : World) (p : Place) (a : Asked) (v : Variables) (nearest : Nearest) : Type 0 where
   pub definer : Definer
-  pub takes : way w p q v ≡ Takes (record p { file = definer.file; opened = opened_by q p.opened; above = definers_of nearest.above }) v definer.body
+  pub takes : way w p (request_of a) v ≡ Takes (record p { file = definer.file; opened = opened_by a p.opened; above = definers_of nearest.above }) v definer.body
   pub code : nearest.chunk.now ≡ listing_of definer.file definer.body
 
 -- the body is found, or the request is refused, unless memory was refused
-abbrev pub FindsBody : World → Place → Request → Variables → Result Nearest Refusal → Type 0
-FindsBody w p q v (Ok nearest) = IsBody w p q v nearest
-FindsBody w p q v (Err None) = Unit {0}
-FindsBody w p q v (Err (Some fault)) = way w p q v ≡ Refuses fault
+abbrev pub FindsBody : World → Place → Asked → Variables → Result Nearest Refusal → Type 0
+FindsBody w p a v (Ok nearest) = IsBody w p a v nearest
+FindsBody w p a v (Err None) = Unit {0}
+FindsBody w p a v (Err (Some fault)) = way w p (request_of a) v ≡ Refuses fault
 
 -- a body is entered: its place, its code and where it begins
 pub record Entered (w : World) (p : Place) (q : Request) (c : Config) (p' : Place) (code : Code) (c' : Config) : Type 0 where
@@ -54,14 +55,14 @@ pub record Entered (w : World) (p : Place) (q : Request) (c : Config) (p' : Plac
 
 -- what is kept for the body around
 pub record Keeps (a : Asked) (inside : Inside) (blocks0 : OpenBlocks) (c0 : Configuration) (blocks : OpenBlocks) (c : Configuration) : Type 0 where
-  pub names : blocks.names ≡ opened_by (request_of a) blocks0.names
+  pub names : blocks.names ≡ opened_by a blocks0.names
   pub above : inside.above ≡ blocks0.above
   pub wanted : blocks.wanted ≡ blocks0.wanted
+  pub included : blocks.included ≡ blocks0.included
   pub places : inside.outer.places ≡ c0.places
   pub ended : inside.outer.ended.all ≡ c0.ended.all
   pub none : c.places ≡ []
-  pub coming : coming_of c.scopes ≡ coming_of c0.scopes
-  pub around : around_of c.scopes ≡ around_of c0.scopes
+  pub scopes : c.scopes ≡ c0.scopes
 
 abbrev pub Enters : World → VirtualMachine → Name → Asked → OpenBlocks → Configuration → Result Inside Refusal → OpenBlocks → Configuration → Type 0
 Enters w m file a blocks0 c0 (Ok inside) blocks c =
@@ -79,17 +80,18 @@ closed_in (t ∷ ts) q u blocks loops c =
 
 pub record Leaves (a : Asked) (inside : Inside) (blocks0 : OpenBlocks) (c0 : Configuration) (blocks : OpenBlocks) (c : Configuration) : Type 0 where
   pub config : config_of c ≡ closed_in (config_of c0).captures (request_of a) (use_of a) inside.outer.ended.all (loops_at inside.outer.places (coming_of c0.scopes)) (config_of c0)
-  pub names : blocks.names ≡ closed_by (request_of a) blocks0.names
+  pub names : blocks.names ≡ closed_by a blocks0.names
   pub above : blocks.above ≡ inside.above
-  pub noted : Noted blocks0.wanted (ended_by (request_of a) (config_of c0).run.text) blocks.wanted
+  pub noted : Noted blocks0.wanted (ended_by a (config_of c0).run.text) blocks.wanted
+  pub included : blocks.included ≡ blocks0.included
   pub places : c.places ≡ inside.outer.places
-  pub coming : coming_of c.scopes ≡ coming_of c0.scopes
-  pub around : around_of c.scopes ≡ around_of c0.scopes
+  pub scopes : c.scopes ≡ c0.scopes
 
 -- what stays while a body runs, and the blocks that ended in it
 pub record Stays (blocks0 : OpenBlocks) (c0 : Configuration) (blocks : OpenBlocks) (c : Configuration) : Type 0 where
   pub names : blocks.names ≡ blocks0.names
   pub above : blocks.above ≡ blocks0.above
+  pub included : blocks.included ≡ blocks0.included
   pub around : around_of c.scopes ≡ around_of c0.scopes
   pub beneath : beneath c ≡ beneath c0
   pub since : List (Name × Text)

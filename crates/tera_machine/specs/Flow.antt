@@ -1,7 +1,7 @@
 -- Where the machine goes on.
 use Rattle.std.specs.Prelude.{ℕ, Bool, true}
 use Rattle.tera_errors.specs.declared.span.Span.{Span}
-use Rattle.tera_meaning.specs.Run.{Request, ABlock, Above}
+use Rattle.tera_meaning.specs.Run.{Request, ABlock, Above, AnInclude}
 use Rattle.tera_machine.specs.declared.asked.Asked.{Asked}
 use Rattle.tera_machine.specs.declared.asked.Asked.TheVariants as asked
 use Rattle.tera_machine.specs.declared.machine.Flow as declared
@@ -37,3 +37,4 @@ flow_of (flow.Skip count) = Skip count
 flow_of (flow.To place count) = To place count
 flow_of flow.Out = Out
 flow_of (flow.Ask a) = Ask (request_of a) (use_of a)
+flow_of (flow.Include name span) = Ask (AnInclude name.now span) Written

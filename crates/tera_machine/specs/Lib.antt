@@ -7,6 +7,8 @@ pub mod Captures
 pub mod Act
 pub mod Exec
 pub mod Progress
+pub mod Included
 pub mod Subject
 pub mod Wanted
 pub mod Bodies
+pub mod Includes

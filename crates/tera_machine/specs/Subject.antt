@@ -15,6 +15,7 @@ use Rattle.tera_registry.specs.declared.templates.Found.{Found}
 use Rattle.tera_machine.specs.declared.blocks.OpenBlocks.{OpenBlocks}
 use Rattle.tera_machine.specs.declared.configuration.Configuration.{Configuration}
 use Rattle.tera_machine.specs.declared.machine.VirtualMachine.{VirtualMachine}
+use Rattle.tera_machine.specs.Included.{names_in}
 use Rattle.tera_machine.specs.Config.{Config, config_of}
 
 -- what the rendering stands on, where the body stands, and the body's tree
@@ -43,28 +44,30 @@ abbrev pub is_from : Option Found → Registry → Type 0
 is_from None r = Unit {0}
 is_from (Some found) r = with_templates r found.templates.now ≡ r
 
--- the template that is rendered is one of the registry's
+-- the templates are those of the registry, and so is the one that is rendered
 abbrev pub IsLinked : VirtualMachine → Registry → Type 0
-IsLinked m r = is_from m.template r
+IsLinked m r = is_from m.template r × (with_templates r m.templates.now ≡ r)
 
--- where a body of this file stands while the machine runs it, with these blocks open
+-- where a body of this file stands while the machine runs it, with these templates and blocks open
 abbrev pub place_at : VirtualMachine → Name → OpenBlocks → Configuration → Place
 place_at m file blocks c = record {
   template = template_of m;
   file = file;
   around = around_of c.scopes;
   autoescape = m.autoescape;
+  included = names_in blocks.included;
   opened = blocks.names;
   above = definers_of blocks.above;
 }
 
--- where it stands while no block is open
+-- where it stands while nothing is open
 abbrev pub place_of : VirtualMachine → Name → Configuration → Place
 place_of m file c = record {
   template = template_of m;
   file = file;
   around = around_of c.scopes;
   autoescape = m.autoescape;
+  included = [];
   opened = [];
   above = [];
 }

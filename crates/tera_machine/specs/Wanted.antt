@@ -1,7 +1,8 @@
 -- The text of the block that is wanted, as it ended last.
 use Rattle.std.specs.Prelude.{◌≡◌, Bool, false, List, [], ◌∷◌, Option, Some, None, option_map, string_bytes, bytes_eq, if◌then◌else◌}
 use Rattle.tera_errors.specs.Site.{Name, Text}
-use Rattle.tera_meaning.specs.Run.{Request, ABlock, Above}
+use Rattle.tera_machine.specs.declared.asked.Asked.{Asked}
+use Rattle.tera_machine.specs.declared.asked.Asked.TheVariants as asked
 use Rattle.tera_machine.specs.declared.wanted.Wanted.{Wanted}
 
 -- no block is wanted, or the one of this name
@@ -15,9 +16,9 @@ last_of wanted before [] = before
 last_of wanted before (b ∷ bs) = last_of wanted (if is_wanted wanted b.0 then Some b.1 else before) bs
 
 -- the block that a body is, which ends with this text
-abbrev pub ended_by : Request → Text → List (Name × Text)
-ended_by (ABlock name span) text = (name, text) ∷ []
-ended_by (Above span) text = []
+abbrev pub ended_by : Asked → Text → List (Name × Text)
+ended_by (asked.Block name span) text = (name.now, text) ∷ []
+ended_by (asked.Above span) text = []
 
 abbrev pub text_kept : Wanted → Option Text
 text_kept wanted = option_map string_bytes wanted.last

@@ -77,6 +77,7 @@ impl<'c> Configuration<'c> {
                 Ok(Flow::Ask(Asked::Block(name.as_name(), *span)))
             }
             Instruction::TakeAbove { arguments, span } => self.take_above(*arguments, *span),
+            Instruction::TakeInclude { name, span } => Ok(Flow::Include(name.as_name(), *span)),
             Instruction::ApplyFilter {
                 name,
                 arguments,

@@ -1,12 +1,13 @@
-// The blocks that are open.
-ghost use Rattle.std.specs.Prelude.{◌≡◌, [], OnOk, IfOk, IfErr};
+// What is open around the body that runs.
+ghost use Rattle.std.specs.Prelude.{◌≡◌, [], ◌∷◌, OnOk, IfOk, IfErr};
 ghost use Rattle.tera_errors.specs.Answer.{Lacks};
 ghost use Rattle.tera_tree.specs.Blocks.{is_among};
 ghost use Rattle.tera_registry.specs.Templates.{definers_of};
-ghost use Rattle.tera_machine.specs.Flow.{request_of};
 ghost use Rattle.tera_machine.specs.Bodies.{opened_by, closed_by};
+ghost use Rattle.tera_machine.specs.Included.{names_in};
 
 use crate::asked::Asked;
+use crate::includes::Included;
 use crate::wanted::Wanted;
 use std::alloc::Global;
 use tera_registry::{Definer, Definers};
@@ -14,25 +15,42 @@ use tera_state::Stack;
 use tera_values::{Name, TeraResult};
 
 /// The names of the blocks that are open, the innermost on top, those who define the innermost above the body that runs,
-/// and the block that is wanted.
+/// the block that is wanted, and the templates that are included and open.
 #[derive(Drop)]
 pub struct OpenBlocks<'t> {
     pub names: Stack<Name>,
     pub above: Definers<'t>,
     pub wanted: Wanted,
+    pub included: Included<'t>,
 }
 
 impl<'t> OpenBlocks<'t> {
-    /// No block is open; takes no memory.
+    /// Nothing is open; takes no memory.
     pub fn new(alloc: Global, wanted: Wanted) -> OpenBlocks<'t>
         ensures names { result.names ≡ [] }
         ensures above { definers_of result.above ≡ [] }
         ensures wanted { result.wanted ≡ wanted }
+        ensures included { names_in result.included ≡ [] }
     {
         OpenBlocks {
             names: Stack::new(alloc),
             above: Definers::none(),
             wanted,
+            included: Included::Nothing,
+        }
+    }
+
+    /// The template of this name is included, in these that are; it has no block open. Takes no memory.
+    pub fn in_template(alloc: Global, name: &'t str, outer: &'t Included<'t>) -> OpenBlocks<'t>
+        ensures names { result.names ≡ [] }
+        ensures above { definers_of result.above ≡ [] }
+        ensures included { names_in result.included ≡ name.now ∷ names_in outer.now }
+    {
+        OpenBlocks {
+            names: Stack::new(alloc),
+            above: Definers::none(),
+            wanted: Wanted::none(),
+            included: Included::Template(name, outer),
         }
     }
 
@@ -55,10 +73,10 @@ impl<'t> OpenBlocks<'t> {
 
     /// Opens the body of this definer, and hands those out who were above.
     pub fn enter(&mut self, asked: Asked<'_>, definer: &Definer<'t>) -> TeraResult<Definers<'t>>
-        ensures names { OnOk result (self.new.names ≡ opened_by
-            (request_of asked.entry) self.old.names) }
+        ensures names { OnOk result (self.new.names ≡ opened_by asked.entry self.old.names) }
         ensures above { OnOk result (self.new.above ≡ definer.now.above) }
         ensures wanted { self.new.wanted ≡ self.old.wanted }
+        ensures included { self.new.included ≡ self.old.included }
         ensures before { IfOk result (λ above. above ≡ self.old.above) }
         ensures lacks { IfErr result Lacks }
     {
@@ -73,9 +91,10 @@ impl<'t> OpenBlocks<'t> {
 
     /// Closes the body, with those above who were there before.
     pub fn leave(&mut self, asked: Asked<'_>, above: Definers<'t>)
-        ensures names { self.new.names ≡ closed_by (request_of asked.entry) self.old.names }
+        ensures names { self.new.names ≡ closed_by asked.entry self.old.names }
         ensures above { self.new.above ≡ above.entry }
         ensures wanted { self.new.wanted ≡ self.old.wanted }
+        ensures included { self.new.included ≡ self.old.included }
     {
         match asked {
             Asked::Block(_, _) => drop(self.names.pop()),

@@ -1,7 +1,7 @@
-// Bodies that are taken for a request: how the machine enters them, and how it leaves them.
+// Bodies of blocks: how the machine enters them, and how it leaves them.
 ghost use Rattle.std.specs.Prelude.{◌≡◌, ◌≢◌, [], OnOk, IfOk, IfErr};
 ghost use Rattle.tera_errors.specs.Answer.{Lacks};
-ghost use Rattle.tera_state.specs.Scopes.{around_of, coming_of};
+ghost use Rattle.tera_state.specs.Scopes.{coming_of};
 ghost use Rattle.tera_meaning.specs.Lineage.{definers};
 ghost use Rattle.tera_meaning.specs.Run.{begun};
 ghost use Rattle.tera_registry.specs.Templates.{definers_of};
@@ -44,14 +44,13 @@ pub struct Inside<'t> {
 
 impl<'c> Configuration<'c> {
     // A body begins: it has a text of its own, no open loop, and no block that ended.
-    fn begin_body(&mut self) -> TeraResult<Outer>
+    pub(crate) fn begin_body(&mut self) -> TeraResult<Outer>
         ensures config { OnOk result (config_of self.new ≡ entered (config_of self.old).run.vars
             (config_of self.old)) }
         ensures none { OnOk result (self.new.places ≡ []) }
         ensures places { IfOk result (λ o. o.places ≡ self.old.places) }
         ensures ended { IfOk result (λ o. o.ended.all ≡ self.old.ended.all) }
-        ensures coming { OnOk result (coming_of self.new.scopes ≡ coming_of self.old.scopes) }
-        ensures around { OnOk result (around_of self.new.scopes ≡ around_of self.old.scopes) }
+        ensures scopes { OnOk result (self.new.scopes ≡ self.old.scopes) }
         ensures lacks { IfErr result Lacks }
     {
         self.texts.begin()?;
@@ -70,9 +69,8 @@ impl<'c> Configuration<'c> {
             (loops_at outer.places (coming_of self.old.scopes)) (config_of self.old)) }
         ensures places { OnOk result (self.new.places ≡ outer.places) }
         ensures noted { OnOk result (Noted wanted.old
-            (ended_by (request_of asked.entry) self.old.texts.now) wanted.new) }
-        ensures coming { OnOk result (coming_of self.new.scopes ≡ coming_of self.old.scopes) }
-        ensures around { OnOk result (around_of self.new.scopes ≡ around_of self.old.scopes) }
+            (ended_by asked.entry self.old.texts.now) wanted.new) }
+        ensures scopes { OnOk result (self.new.scopes ≡ self.old.scopes) }
         ensures lacks { IfErr result Lacks }
     {
         let text = self.texts.end()?;
@@ -120,7 +118,7 @@ impl<'t> VirtualMachine<'t> {
     ) -> TeraResult<Definer<'t>>
         requires { IsLinked self.now M.world.registry }
         ensures { (c : Configuration) → FindsBody M.world
-            (place_at self.now chunk.now.file blocks.now c) (request_of asked.entry)
+            (place_at self.now chunk.now.file blocks.now c) asked.entry
             (config_of c).run.vars result }
     {
         match asked {

@@ -1,6 +1,6 @@
 // A run of a body, and of those that it takes.
 ghost use Rattle.std.specs.Prelude.{◌≡◌, ℕ, ◌+◌, ◌-◌, ◌*◌, ◌≤◌, [], None, Some, IsTrue, OnOk, string_bytes};
-ghost use Rattle.tera_meaning.specs.Run.{visits_of};
+ghost use Rattle.tera_meaning.specs.Run.{AnInclude, visits_of};
 ghost use Rattle.tera_meaning.specs.Registry.{new_registry};
 ghost use Rattle.tera_errors.specs.Answer.{Gives};
 ghost use Rattle.tera_meaning.specs.Rendering.{alone, block_of};
@@ -9,7 +9,7 @@ ghost use Rattle.tera_state.specs.Scopes.{around_of};
 ghost use Rattle.tera_code.specs.Code.{nodes_code};
 ghost use Rattle.tera_machine.specs.Config.{config_of};
 ghost use Rattle.tera_machine.specs.Exec.{EndsWithin, Ran};
-ghost use Rattle.tera_machine.specs.Flow.{request_of, use_of};
+ghost use Rattle.tera_machine.specs.Flow.{Written, request_of, use_of};
 ghost use Rattle.tera_machine.specs.Progress.{BodyWithin};
 ghost use Rattle.tera_machine.specs.Bodies.{Stays, BodyRan};
 ghost use Rattle.tera_machine.specs.Subject.{Subject, IsLinked, meant_from, engine_of, place_at, place_of, Means};
@@ -22,8 +22,8 @@ use std::alloc::Global;
 use std::marker::Brand;
 use std::sync::ledger::Ledger;
 use tera_code::{Chunk, Steps};
-use tera_registry::Found;
-use tera_values::{Name, TeraResult};
+use tera_registry::{Found, Templates};
+use tera_values::{Name, Span, TeraResult};
 
 /// Where the machine goes on.
 #[derive(Clone, Copy)]
@@ -38,6 +38,8 @@ pub enum Flow<'f> {
     Out,
     /// At the next instruction, when another body was taken.
     Ask(Asked<'f>),
+    /// At the next instruction, when the template of this name was included, at the span of the name.
+    Include(&'f Name, Span),
 }
 
 /// What a run stands on, and how high the count of instructions may rise. Contracts alone see it.
@@ -53,31 +55,40 @@ impl Limit for Brand {
     ghost most = { 0 };
 }
 
-/// Runs compiled bodies. It holds what no run changes: of the template that is rendered, where one is, it takes blocks.
+/// Runs compiled bodies. It holds what no run changes: among the templates it finds what is included, and of the template
+/// that is rendered, where one is, it takes blocks.
 #[derive(Clone, Copy)]
 pub struct VirtualMachine<'t> {
     pub(crate) alloc: Global,
     pub(crate) autoescape: bool,
+    pub(crate) templates: &'t Templates,
     pub(crate) template: Option<Found<'t>>,
 }
 
 impl<'t> VirtualMachine<'t> {
-    /// A machine that escapes what it writes.
-    pub fn new(alloc: Global) -> VirtualMachine<'t>
+    /// A machine for a text beside these templates, that escapes what it writes.
+    pub fn new(alloc: Global, templates: &'t Templates) -> VirtualMachine<'t>
         ensures escapes { IsTrue result.autoescape }
+        ensures templates { result.templates.now ≡ templates.now }
         ensures alone { result.template ≡ None }
     {
-        VirtualMachine::new_with_autoescape(alloc, true)
+        VirtualMachine::new_with_autoescape(alloc, true, templates)
     }
 
-    /// A machine that escapes what it writes where the flag says so.
-    pub fn new_with_autoescape(alloc: Global, autoescape: bool) -> VirtualMachine<'t>
+    /// The same, that escapes what it writes where the flag says so.
+    pub fn new_with_autoescape(
+        alloc: Global,
+        autoescape: bool,
+        templates: &'t Templates,
+    ) -> VirtualMachine<'t>
         ensures escapes { result.autoescape ≡ autoescape }
+        ensures templates { result.templates.now ≡ templates.now }
         ensures alone { result.template ≡ None }
     {
         VirtualMachine {
             alloc,
             autoescape,
+            templates,
             template: None,
         }
     }
@@ -85,11 +96,13 @@ impl<'t> VirtualMachine<'t> {
     /// A machine for a template of an engine: blocks are those of that template.
     pub fn for_template(alloc: Global, autoescape: bool, template: Found<'t>) -> VirtualMachine<'t>
         ensures escapes { result.autoescape ≡ autoescape }
+        ensures templates { result.templates.now ≡ template.entry.templates.now }
         ensures template { result.template ≡ Some template.entry }
     {
         VirtualMachine {
             alloc,
             autoescape,
+            templates: template.templates,
             template: Some(template),
         }
     }
@@ -146,6 +159,7 @@ impl<'t> VirtualMachine<'t> {
             names,
             above: _,
             wanted,
+            included: _,
         } = blocks;
         drop(names);
         Ok(wanted.into_text(self.alloc))
@@ -191,6 +205,12 @@ impl<'t> VirtualMachine<'t> {
                         Err(error) => return Err(error),
                     }
                 }
+                Flow::Include(name, span) => {
+                    match self.include::<M, L>(chunk, name, span, blocks, configuration, steps) {
+                        Ok(()) => at = next,
+                        Err(error) => return Err(error),
+                    }
+                }
             }
         }
         Ok(())
@@ -230,5 +250,44 @@ impl<'t> VirtualMachine<'t> {
             Err(error) => return Err(error),
         }
         self.leave(asked, inside, blocks, configuration)
+    }
+
+    // The template that is included, from the beginning of its own body to its end.
+    #[cycle(run)]
+    #[inline(never)]
+    fn include<M: Limit, L: Ledger>(
+        &self,
+        chunk: &Chunk,
+        name: &Name,
+        span: Span,
+        blocks: &OpenBlocks<'t>,
+        configuration: &mut Configuration<'_>,
+        steps: &mut Steps<L>,
+    ) -> TeraResult<()>
+        requires engine { engine_of self.now ≡ M.world.registry.engine }
+        requires linked { IsLinked self.now M.world.registry }
+        requires within { BodyWithin M.world
+            (place_at self.now chunk.now.file blocks.now configuration.old)
+            (AnInclude name.now span) Written (config_of configuration.old) (M.most - steps.old) }
+        ensures counted { steps.old ≤ steps.new }
+        ensures bounded { steps.old ≤ M.most → steps.new ≤ M.most }
+        ensures ends { BodyRan M.world (place_at self.now chunk.now.file blocks.now
+            configuration.old) (AnInclude name.now span) Written (config_of configuration.old)
+            result (config_of configuration.new) (steps.new - steps.old) }
+        ensures stays { OnOk result (Stays blocks.now configuration.old blocks.now
+            configuration.new) }
+    {
+        let found = match self.included::<M>(chunk, name, span, blocks) {
+            Ok(found) => found,
+            Err(error) => return Err(error),
+        };
+        let machine = VirtualMachine::for_template(self.alloc, self.autoescape, found);
+        let mut inside = OpenBlocks::in_template(self.alloc, found.name, &blocks.included);
+        let outer = configuration.begin_include()?;
+        match machine.run_counted::<M, L>(found.body, &mut inside, configuration, steps) {
+            Ok(()) => {}
+            Err(error) => return Err(error),
+        }
+        configuration.end_include(outer)
     }
 }

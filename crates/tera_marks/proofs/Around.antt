@@ -8,7 +8,7 @@ use Rattle.tera_values.specs.Alphabet.{Marked, names_from_outside}
 use Rattle.tera_values.specs.Val.{Val, ValOf, ktext, undefined}
 use Rattle.tera_values.specs.Named.{Named, at_name, put, name_cmp}
 use Rattle.tera_values.specs.Access.{is_undefined}
-use Rattle.tera_state.specs.Scope.{bind, TurnOf, VariablesOf, Kind, whole, included, called, FrameOf, AroundOf, in_turn, in_turns, in_variables, outermost, defined, handed_down, bound, look, set_in, assign, open_turn, inner_turns, close_turn, nothing_set, outside, put_all, put_turns, text_keys, dump}
+use Rattle.tera_state.specs.Scope.{bind, TurnOf, VariablesOf, Kind, whole, included, called, FrameOf, AroundOf, in_turn, in_turns, in_variables, outermost, defined, handed_down, bound, look, bound_above, look_implicit, set_in, assign, open_turn, inner_turns, close_turn, nothing_set, outside, in_include, in_component, put_all, put_turns, text_keys, dump}
 use Rattle.tera_marks.proofs.Each.{Each, none, more}
 use Rattle.tera_marks.proofs.Standing.{Stands, undefineds, maps, from_outside-stands, OptionStands, no_value, value}
 use Rattle.tera_marks.proofs.Moving.{undefined-same, Pair, entries-stand}
@@ -93,6 +93,16 @@ bound-stands n (more l ls) {g = g} k vs =
 pub look-stands : (n : Name) {a : AroundOf Marked} {b : AroundOf ℕ} {v : VariablesOf Marked} {w : VariablesOf ℕ} → AroundStands a b → VariablesStand v w → Stands (look n a v) (look n b w)
 look-stands n k vs = unwrap_or-stands (bound-stands n k.above k.frame vs)
 
+-- and so on the way up through the callers
+bound_above-stands : (n : Name) {us : List (FrameOf Marked × VariablesOf Marked)} {ws : List (FrameOf ℕ × VariablesOf ℕ)} → Each AboveStands us ws
+    → {f : FrameOf Marked} {g : FrameOf ℕ} {v : VariablesOf Marked} {w : VariablesOf ℕ} → FrameStands f g → VariablesStand v w → OptionStands Stands (bound_above n f us v) (bound_above n g ws w)
+bound_above-stands n none k vs = defined-stands (bound-stands n none k vs)
+bound_above-stands n (more l ls) k vs =
+    option_or-stands (defined-stands (bound-stands n (more l ls) k vs)) (bound_above-stands n ls l.0 l.1)
+
+pub look_implicit-stands : (n : Name) {a : AroundOf Marked} {b : AroundOf ℕ} {v : VariablesOf Marked} {w : VariablesOf ℕ} → AroundStands a b → VariablesStand v w → Stands (look_implicit n a v) (look_implicit n b w)
+look_implicit-stands n k vs = unwrap_or-stands (bound_above-stands n k.above k.frame vs)
+
 -- binding
 bind-stands : (n : Name) {v : ValOf Marked} {w : ValOf ℕ} → Stands v w → {vs : List (Name × ValOf Marked)} {ws : List (Name × ValOf ℕ)} → Each Binds vs ws → Each Binds (bind n v vs) (bind n w ws)
 bind-stands n s none = more (refl, s) none
@@ -158,6 +168,15 @@ names-stand (v ∷ vs) = more (refl, from_outside-stands v.1) (names-stand vs)
 pub outside-stands : (context global : Named Val) → AroundStands (outside (names_from_outside context) (names_from_outside global)) (outside context global)
 outside-stands context global =
     record { frame = record { kind = refl; context = names-stand context; global = names-stand global }; above = none }
+
+-- around an include, and around a component: the body that runs is now the nearest above
+pub in_include-stands : {a : AroundOf Marked} {b : AroundOf ℕ} {v : VariablesOf Marked} {w : VariablesOf ℕ} → AroundStands a b → VariablesStand v w → AroundStands (in_include a v) (in_include b w)
+in_include-stands k vs =
+    record { frame = record { kind = refl; context = k.frame.context; global = none }; above = more (k.frame, vs) k.above }
+
+pub in_component-stands : {cs : Named (ValOf Marked)} {ds : Named (ValOf ℕ)} → Each Binds cs ds → {a : AroundOf Marked} {b : AroundOf ℕ} {v : VariablesOf Marked} {w : VariablesOf ℕ} → AroundStands a b → VariablesStand v w → AroundStands (in_component cs a v) (in_component ds b w)
+in_component-stands cs k vs =
+    record { frame = record { kind = refl; context = cs; global = none }; above = more (k.frame, vs) k.above }
 
 pub nothing-stands : VariablesStand nothing_set nothing_set
 nothing-stands = record { turns = none; sets = none }

@@ -1,5 +1,5 @@
 -- Bodies that take one another: both meanings take the same ones, in places that stand for one another.
-use Rattle.std.proofs.Common.{◌≡◌, ℕ, zero, suc, Bool, true, false, List, [], ◌∷◌, refl, Option, if◌then◌else◌}
+use Rattle.std.proofs.Common.{◌≡◌, ℕ, zero, suc, Bool, true, false, List, [], ◌∷◌, refl, Option, Some, None, if◌then◌else◌}
 use Rattle.tera_errors.specs.Site.{Name}
 use Rattle.tera_errors.specs.Fault.{Fault, message}
 use Rattle.tera_tree.specs.Tree.{Nodes}
@@ -8,15 +8,17 @@ use Rattle.tera_values.specs.Alphabet.{Marked, plain, marking}
 use Rattle.tera_values.specs.Escape.{escape_html}
 use Rattle.tera_state.specs.Scope.{AroundOf, VariablesOf}
 use Rattle.tera_meaning.specs.Run.{Signal, RunOf, AnswerOf, RequestOf, OracleOf, begun}
+use Rattle.tera_meaning.specs.Registry.{Entry}
+use Rattle.tera_meaning.specs.Resolve.{resolve}
 use Rattle.tera_meaning.specs.Lineage.{Definer, definers}
-use Rattle.tera_meaning.specs.Whole.{World, PlaceOf, WayOf, Refuses, Takes, takes_definer, way, left_of, ends, rank, FamilyOf, body_meaning_in, along, levels, whole_in, meaning_in}
+use Rattle.tera_meaning.specs.Whole.{World, PlaceOf, WayOf, Refuses, Takes, takes_definer, takes_template, way, left_of, ends, rank, FamilyOf, body_meaning_in, along, levels, whole_in, meaning_in}
 use Rattle.tera_marks.proofs.Each.{none, more, each-append}
-use Rattle.tera_marks.proofs.Around.{VariablesStand, AroundStands}
-use Rattle.tera_marks.proofs.Meaning.{RunStands, AnswerStands, fails, gave, Same, RequestStands, blocks, aboves, OracleStands, visit-means, nodes-mean}
+use Rattle.tera_marks.proofs.Around.{VariablesStand, AroundStands, in_include-stands, nothing-stands}
+use Rattle.tera_marks.proofs.Meaning.{RunStands, AnswerStands, fails, gave, Same, RequestStands, blocks, aboves, includes, OracleStands, visit-means, nodes-mean}
 
 -- the places differ in what is around them alone, and texts are escaped in both
 pub data PlaceStands : PlaceOf Marked → PlaceOf ℕ → Type 0 where
-  places : (template : Option Name) (file : Name) {a : AroundOf Marked} {b : AroundOf ℕ} (opened : List Name) (above : List Definer) → AroundStands a b → PlaceStands (record { template = template; file = file; around = a; autoescape = true; opened = opened; above = above }) (record { template = template; file = file; around = b; autoescape = true; opened = opened; above = above })
+  places : (template : Option Name) (file : Name) {a : AroundOf Marked} {b : AroundOf ℕ} (included opened : List Name) (above : List Definer) → AroundStands a b → PlaceStands (record { template = template; file = file; around = a; autoescape = true; included = included; opened = opened; above = above }) (record { template = template; file = file; around = b; autoescape = true; included = included; opened = opened; above = above })
 
 -- the same body, or the same fault
 data WayStands : WayOf Marked → WayOf ℕ → Type 0 where
@@ -25,27 +27,36 @@ data WayStands : WayOf Marked → WayOf ℕ → Type 0 where
 
 definer-stands : {p : PlaceOf Marked} {q : PlaceOf ℕ} → PlaceStands p q → {v : VariablesOf Marked} {u : VariablesOf ℕ} → VariablesStand v u → (opened : List Name) (fault : Fault) (ds : List Definer) → WayStands (takes_definer p opened v fault ds) (takes_definer q opened u fault ds)
 definer-stands k vs opened fault [] = refused fault
-definer-stands (places template file opened' above around) vs opened fault (d ∷ ds) =
-    taken d.body (places template d.file opened ds around) vs
+definer-stands (places template file included opened' above around) vs opened fault (d ∷ ds) =
+    taken d.body (places template d.file included opened ds around) vs
 
 either_way : (b : Bool) (fault : Fault) {x : WayOf Marked} {y : WayOf ℕ} → WayStands x y → WayStands (if b then Refuses fault else x) (if b then Refuses fault else y)
 either_way true fault k = refused fault
 either_way false fault k = k
 
+-- what is included reads its includer, whose variables stand for one another too
+template-stands : {p : PlaceOf Marked} {q : PlaceOf ℕ} → PlaceStands p q → {v : VariablesOf Marked} {u : VariablesOf ℕ} → VariablesStand v u → (fault : Fault) (o : Option Entry) → WayStands (takes_template p v fault o) (takes_template q u fault o)
+template-stands k vs fault None = refused fault
+template-stands (places template file included opened above around) vs fault (Some t) =
+    either_way (is_among t.0 included) fault (taken t.1.tree.nodes (places (Some t.0) t.0 (t.0 ∷ included) [] [] (in_include-stands around vs)) nothing-stands)
+
 way-stands : (world : World) {p : PlaceOf Marked} {q : PlaceOf ℕ} → PlaceStands p q → {a : RequestOf Marked} {b : RequestOf ℕ} → RequestStands a b → {v : VariablesOf Marked} {u : VariablesOf ℕ} → VariablesStand v u → WayStands (way world p a v) (way world q b u)
-way-stands world (places template file opened above around) (blocks name span) vs =
-    either_way (is_among name opened) _ (definer-stands (places template file opened above around) vs (name ∷ opened) _ (definers world.registry template name))
-way-stands world (places template file opened above around) (aboves span) vs =
-    definer-stands (places template file opened above around) vs opened _ above
+way-stands world (places template file included opened above around) (blocks name span) vs =
+    either_way (is_among name opened) _ (definer-stands (places template file included opened above around) vs (name ∷ opened) _ (definers world.registry template name))
+way-stands world (places template file included opened above around) (aboves span) vs =
+    definer-stands (places template file included opened above around) vs opened _ above
+way-stands world (places template file included opened above around) (includes name span) vs =
+    template-stands (places template file included opened above around) vs _ (resolve world.registry name)
 
-left-stands : {a : RequestOf Marked} {b : RequestOf ℕ} → RequestStands a b → (v : VariablesOf Marked) (u : VariablesOf ℕ) {r : RunOf Marked} {s : RunOf ℕ} → RunStands r s → RunStands (left_of a v r) (left_of b u s)
-left-stands (blocks name span) v u rs =
+left-stands : {a : RequestOf Marked} {b : RequestOf ℕ} → RequestStands a b → {v : VariablesOf Marked} {u : VariablesOf ℕ} → VariablesStand v u → {r : RunOf Marked} {s : RunOf ℕ} → RunStands r s → RunStands (left_of a v r) (left_of b u s)
+left-stands (blocks name span) vs rs =
     record { vars = rs.vars; text = rs.text; blocks = each-append rs.blocks (more (record { name = refl; text = rs.text }) none) }
-left-stands (aboves span) v u rs = rs
+left-stands (aboves span) vs rs = rs
+left-stands (includes name span) vs rs = record { vars = vs; text = rs.text; blocks = none }
 
-ends-stand : {a : RequestOf Marked} {b : RequestOf ℕ} → RequestStands a b → (v : VariablesOf Marked) (u : VariablesOf ℕ) {x : AnswerOf Marked Signal} {y : AnswerOf ℕ Signal} → AnswerStands Same x y → AnswerStands Same (ends a v x) (ends b u y)
-ends-stand q v u (fails fault n) = fails fault n
-ends-stand q v u (gave n k rs) = gave n refl (left-stands q v u rs)
+ends-stand : {a : RequestOf Marked} {b : RequestOf ℕ} → RequestStands a b → {v : VariablesOf Marked} {u : VariablesOf ℕ} → VariablesStand v u → {x : AnswerOf Marked Signal} {y : AnswerOf ℕ Signal} → AnswerStands Same x y → AnswerStands Same (ends a v x) (ends b u y)
+ends-stand q vs (fails fault n) = fails fault n
+ends-stand q vs (gave n k rs) = gave n refl (left-stands q vs rs)
 
 begun-stands : {v : VariablesOf Marked} {u : VariablesOf ℕ} → VariablesStand v u → RunStands (begun v) (begun u)
 begun-stands k = record { vars = k; text = none; blocks = none }
@@ -55,21 +66,21 @@ FamilyStands f g = (p : PlaceOf Marked) (q : PlaceOf ℕ) → PlaceStands p q �
 
 module _ (world : World) (by_html : world.registry.engine.escape ≡ escape_html) where
   body-stands : {c : OracleOf Marked} {d : OracleOf ℕ} → OracleStands c d → {p : PlaceOf Marked} {q : PlaceOf ℕ} → PlaceStands p q → {v : VariablesOf Marked} {u : VariablesOf ℕ} → VariablesStand v u → (body : Nodes) → AnswerStands Same (body_meaning_in marking world c p v body) (body_meaning_in plain world d q u body)
-  body-stands {c} {d} h (places template file opened above around) vs body =
+  body-stands {c} {d} h (places template file included opened above around) vs body =
       visit-means (nodes-mean file world.registry.engine by_html around c d h body) _ _ (begun-stands vs)
 
-  along-stands : {f : FamilyOf Marked} {g : FamilyOf ℕ} → FamilyStands f g → {a : RequestOf Marked} {b : RequestOf ℕ} → RequestStands a b → (v : VariablesOf Marked) (u : VariablesOf ℕ) {x : WayOf Marked} {y : WayOf ℕ} → WayStands x y → AnswerStands Same (along marking world f a v x) (along plain world g b u y)
-  along-stands h q v u (refused fault) = fails fault 0
-  along-stands h q v u (taken body k vs) = ends-stand q v u (body-stands (h _ _ k) k vs body)
+  along-stands : {f : FamilyOf Marked} {g : FamilyOf ℕ} → FamilyStands f g → {a : RequestOf Marked} {b : RequestOf ℕ} → RequestStands a b → {v : VariablesOf Marked} {u : VariablesOf ℕ} → VariablesStand v u → {x : WayOf Marked} {y : WayOf ℕ} → WayStands x y → AnswerStands Same (along marking world f a v x) (along plain world g b u y)
+  along-stands h q vs (refused fault) = fails fault 0
+  along-stands h q vs (taken body k ws) = ends-stand q vs (body-stands (h _ _ k) k ws body)
 
   levels-stand : (n : ℕ) → FamilyStands (levels marking world n) (levels plain world n)
   levels-stand zero p p' k q q' v u qs vs = fails message 0
-  levels-stand (suc n) p p' k q q' v u qs vs = along-stands (levels-stand n) qs v u (way-stands world k qs vs)
+  levels-stand (suc n) p p' k q q' v u qs vs = along-stands (levels-stand n) qs vs (way-stands world k qs vs)
 
   whole-stands : FamilyStands (whole_in marking world) (whole_in plain world)
   unfolding whole_in
-  whole-stands p q (places template file opened above around) =
-      levels-stand (suc (rank world p)) p q (places template file opened above around)
+  whole-stands p q (places template file included opened above around) =
+      levels-stand (suc (rank world p)) p q (places template file included opened above around)
 
   -- the marked meaning of a body in its place stands for the plain one
   pub meaning-stands : {p : PlaceOf Marked} {q : PlaceOf ℕ} → PlaceStands p q → {v : VariablesOf Marked} {u : VariablesOf ℕ} → VariablesStand v u → (body : Nodes) → AnswerStands Same (meaning_in marking world p v body) (meaning_in plain world q u body)

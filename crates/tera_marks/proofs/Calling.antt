@@ -1,16 +1,15 @@
 -- Calls answer operands that stand to each other for operands that do.
-use Rattle.std.proofs.Common.{◌≡◌, ℕ, List, map, Result, Ok, Err}
+use Rattle.std.proofs.Common.{◌≡◌, ℕ, List, map, Result}
 use Rattle.tera_errors.specs.declared.span.Span.{Span}
 use Rattle.tera_errors.specs.Site.{Name}
 use Rattle.tera_errors.specs.Fault.{Fault}
 use Rattle.tera_values.specs.Alphabet.{Marked, plain, marking}
-use Rattle.tera_values.specs.Val.{ValOf}
 use Rattle.tera_values.specs.Escape.{escape_html}
 use Rattle.tera_built_ins.specs.Escaping.{Escaping}
 use Rattle.tera_operators.specs.Operand.{EvaluatedOf}
 use Rattle.tera_operators.specs.Calls.{by_name, placed_call, filter_applied_in, test_applied_in, function_called_in}
 use Rattle.tera_marks.proofs.Each.{Each, none, more}
-use Rattle.tera_marks.proofs.Standing.{Stands, bools, ResultStands, answers, refuses}
+use Rattle.tera_marks.proofs.Standing.{Stands, ResultStands, answers, refuses}
 use Rattle.tera_marks.proofs.Around.{Binds, put_all-stands}
 use Rattle.tera_marks.proofs.Given.{NamedStand, Equals}
 use Rattle.tera_marks.proofs.Operating.{Operand, Listed, Outcome, then-stands, at-stands, has-stands, placed-stands}

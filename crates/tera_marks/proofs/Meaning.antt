@@ -4,7 +4,7 @@ use Rattle.std.specs.Str.{bytes_eq}
 use Rattle.tera_errors.specs.Site as site
 use Rattle.tera_errors.specs.declared.span.Span.{Span}
 use Rattle.tera_errors.specs.Fault.{Fault}
-use Rattle.tera_tree.specs.Tree.{Expr, Nothing, Boolean, Integer, Text, Name, Attribute, Index, Slice, Not, Negate, Binary, And, Or, Ternary, Array, Map, Comprehension, Super, Filter, Test, Call, Optional, Absent, Present, Items, NoItems, MoreItems, Entries, NoEntries, MoreEntries, Arguments, NoArguments, MoreArguments, Filters, NoFilters, MoreFilters, Node, Content, Print, If, Set, Capture, FilterSection, For, Block, Break, Continue, Nodes, NoNodes, MoreNodes}
+use Rattle.tera_tree.specs.Tree.{Expr, Nothing, Boolean, Integer, Text, Name, Attribute, Index, Slice, Not, Negate, Binary, And, Or, Ternary, Array, Map, Comprehension, Super, Filter, Test, Call, Optional, Absent, Present, Items, NoItems, MoreItems, Entries, NoEntries, MoreEntries, Arguments, NoArguments, MoreArguments, Filters, NoFilters, MoreFilters, Node, Content, Print, If, Set, Capture, FilterSection, For, Block, Include, Break, Continue, Nodes, NoNodes, MoreNodes}
 use Rattle.tera_marks.proofs.Each.{Each, none, more, each-append}
 use Rattle.tera_marks.proofs.Standing.{Bears, trusted_mark, Stands, nones, bools, ints, texts, arrays, seen-is, bearing-each, escaped-each, printed-each, ResultStands, answers, refuses}
 use Rattle.tera_marks.proofs.Moving.{undefined-same, safe-same, truthy-same, all-stand}
@@ -20,7 +20,7 @@ use Rattle.tera_values.specs.Escape.{escape_html}
 use Rattle.tera_operators.specs.Operand.{EvaluatedOf, fault_at}
 use Rattle.tera_state.specs.Rendered.{rendered_in}
 use Rattle.tera_state.specs.Scope.{AroundOf, VariablesOf, TurnOf, Heading, look, dump}
-use Rattle.tera_meaning.specs.Run.{Signal, On, Broke, Continued, RunOf, AnswerOf, Failed, Gave, MeaningOf, OracleOf, ◌▹◌, onward, more as counted, visit, gives, answered, value_at, if_else, reads, changes, writes, go_on, put_back, captured, RequestOf, ABlock, Above, joined_answer, asks}
+use Rattle.tera_meaning.specs.Run.{Signal, On, Broke, Continued, RunOf, AnswerOf, Failed, Gave, MeaningOf, OracleOf, ◌▹◌, onward, more as counted, visit, gives, answered, value_at, if_else, reads, changes, writes, go_on, put_back, captured, RequestOf, ABlock, Above, AnInclude, joined_answer, asks}
 use Rattle.tera_meaning.specs.Meaning.{output_in, written_in, turns_of_in, named_value, if_kept, comprehension, after_turn, loop, loop_or_else, expr_meaning_in, bound_meaning_in, condition_meaning_in, items_meaning_in, entries_meaning_in, arguments_meaning_in, filters_meaning_in, put_out, node_meaning_in, nodes_meaning_in}
 use Rattle.tera_meaning.specs.Here.{Engine, HereOf, escaping_at}
 
@@ -110,6 +110,7 @@ captured-means h = λ r s rs. put_back-stands rs.text (h _ _ (record { vars = rs
 pub data RequestStands : RequestOf Marked → RequestOf ℕ → Type 0 where
   blocks : (name : site.Name) (span : Span) → RequestStands (ABlock name span) (ABlock name span)
   aboves : (span : Span) → RequestStands (Above span) (Above span)
+  includes : (name : site.Name) (span : Span) → RequestStands (AnInclude name span) (AnInclude name span)
 
 abbrev pub OracleStands : OracleOf Marked → OracleOf ℕ → Type 0
 OracleStands c d = (q : RequestOf Marked) (q' : RequestOf ℕ) (v : VariablesOf Marked) (w : VariablesOf ℕ) → RequestStands q q' → VariablesStand v w → AnswerStands Same (c q v) (d q' w)
@@ -265,6 +266,7 @@ module _ (file : site.Name) (engine : Engine) (by_html : engine.escape ≡ escap
         visit-means (bind Same (expr-means x) (λ a b k. bind Same (answered-means (turns_of-stand (record { name = name; key = key; counts = true }) k)) (λ ts us ks.
         loop_or_else-means (nodes-mean body) (nodes-mean other) ks)))
     node-means (Block name body span) = visit-means (bind Same (asks-means answered_for (blocks name span)) (λ t u ts. writes-means ts))
+    node-means (Include name span) = visit-means (bind Same (asks-means answered_for (includes name span)) (λ t u ts. writes-means ts))
     node-means Break = visit-means (gives-means _ _ refl)
     node-means Continue = visit-means (gives-means _ _ refl)
 

@@ -8,8 +8,8 @@ use Rattle.tera_values.specs.Alphabet.{Marked, plain, marking, made, bytes_of}
 use Rattle.tera_values.specs.Named.{Named}
 use Rattle.tera_values.specs.Number.{in_range}
 use Rattle.tera_values.specs.Val.{ValOf}
-use Rattle.tera_built_ins.specs.Arguments.{GivenOf}
-use Rattle.tera_built_ins.specs.Numbers.{there, kept, abs_of, as_bytes, pluralize_of}
+use Rattle.tera_built_ins.specs.Arguments.{GivenOf, as_bytes}
+use Rattle.tera_built_ins.specs.Numbers.{there, kept, abs_of, pluralize_of}
 use Rattle.tera_built_ins.specs.Parse.{is_numeral, signed_numeral, numeral_in, integer_of, int_of}
 use Rattle.tera_marks.proofs.Standing.{Stands, undefineds, nones, bools, ints, texts, raws, arrays, maps, seen-is, bearing-each, ResultStands, answers, refuses}
 use Rattle.tera_marks.proofs.Moving.{int-same}
@@ -26,7 +26,7 @@ number-same {w = w} s = rw (int-same s) (same-stands (there (access.int_of w)))
 pub abs-stands : {v : ValOf Marked} {w : ValOf ℕ} → Stands v w → ResultStands Stands (abs_of v) (abs_of w)
 abs-stands s = after-stands (number-same s) (λ y z e. rw e (kept-stands (pos (unsigned_abs z))))
 
-as_bytes-stands : {v : ValOf Marked} {w : ValOf ℕ} → Stands v w → ResultStands Equals (as_bytes marking v) (as_bytes plain w)
+pub as_bytes-stands : {v : ValOf Marked} {w : ValOf ℕ} → Stands v w → ResultStands Equals (as_bytes marking v) (as_bytes plain w)
 as_bytes-stands s = after-stands (as_text-stands s) (λ g h k. read g h k)
   where
     read : (g : GivenOf Marked) (h : GivenOf ℕ) → GivenStands g h → ResultStands Equals (Ok (bytes_of g.text)) (Ok h.text)

@@ -12,12 +12,12 @@ use Rattle.tera_tree.specs.Tree.{Nodes}
 use Rattle.tera_tree.specs.Blocks.{blocks, block_names, is_among}
 use Rattle.tera_values.specs.Alphabet.{Alphabet, plain}
 use Rattle.tera_values.specs.Named.{Named}
-use Rattle.tera_state.specs.Scope.{VariablesOf}
-use Rattle.tera_meaning.specs.Run.{RequestOf, ABlock, Above, OracleOf}
+use Rattle.tera_state.specs.Scope.{VariablesOf, nothing_set}
+use Rattle.tera_meaning.specs.Run.{RequestOf, ABlock, Above, AnInclude, OracleOf}
 use Rattle.tera_meaning.specs.Registry.{Template, Entry, Registry}
 use Rattle.tera_meaning.specs.Resolve.{entry_at, first_there, resolve, onto, or_missing, up, or_none}
 use Rattle.tera_meaning.specs.Lineage.{Definer, definer_in, ancestors, definers_in, definers_from, definers}
-use Rattle.tera_meaning.specs.Whole.{World, PlaceOf, WayOf, Refuses, Takes, takes_definer, fault_in, way, ends, not_among, all_blocks, rank, FamilyOf, body_meaning_in, along, level, levels, whole_in, MeaningUnrolls}
+use Rattle.tera_meaning.specs.Whole.{World, PlaceOf, WayOf, Refuses, Takes, takes_definer, place_of_include, takes_template, fault_in, way, ends, not_among, names, all_blocks, rank, FamilyOf, body_meaning_in, along, level, levels, whole_in, MeaningUnrolls}
 
 -- lower in the first number, or in the second
 lower_first : (a a' b b' m : ℕ) → a' < a → b' < m → a' * m + b' < a * m + b
@@ -48,9 +48,18 @@ one_le true false = omega arith
 one_le false true = omega arith
 one_le false false = omega arith
 
+one_bound : (b : Bool) → one_if_not b ≤ 1
+one_bound true = omega arith
+one_bound false = omega arith
+
 left_le : (n : Name) (ns taken : List Name) → not_among ns (n ∷ taken) ≤ not_among ns taken
 left_le n [] taken = omega arith
 left_le n (m ∷ ns) taken = omega (arith, one_le (bytes_eq m n) (is_among m taken), left_le n ns taken)
+
+-- no more are left than there are
+left_bound : (ns taken : List Name) → not_among ns taken ≤ length ns
+left_bound [] taken = omega arith
+left_bound (n ∷ ns) taken = omega (arith, one_bound (is_among n taken), left_bound ns taken)
 
 -- one more name is taken, and one fewer is left
 left_less : (n : Name) (ns taken : List Name) → is_among n ns ≡ true → is_among n taken ≡ false → not_among ns (n ∷ taken) < not_among ns taken
@@ -93,6 +102,18 @@ first_is_there ts [] t e = absurd (none-some _ e)
 first_is_there ts (n ∷ ns) t e =
     or_there ts (entry_at n ts) (first_there ts ns) t (λ u f. found_there n ts u f) (λ u f. first_is_there ts ns u f) e
 
+-- what a name resolves to is there
+resolved_there : (r : Registry) (n : Name) (t : Entry) → resolve r n ≡ Some t → IsThere t r.templates
+resolved_there r n t e = first_is_there r.templates (n ∷ map (λ p. p ++ n) r.prefixes) t e
+
+-- and so is its name among those of the templates
+among_names : (t : Entry) (ts : Named Template) → IsThere t ts → is_among t.0 (names ts) ≡ true
+among_names t [] h = absurd h
+among_names t (u ∷ ts) (inl is) =
+    let same : t.0 ≡ u.0 = ap (λ x. x.0) is in
+    or_left (bytes_eq t.0 u.0) _ ((bytes_eq-Decides t.0 u.0).1 same)
+among_names t (u ∷ ts) (inr h) = or_right (bytes_eq t.0 u.0) _ (among_names t ts h)
+
 abbrev AllThere : List Entry → Named Template → Type 0
 AllThere [] us = Unit {0}
 AllThere (t ∷ ts) us = IsThere t us × AllThere ts us
@@ -109,7 +130,7 @@ up_there r (suc n) (Some name) = by (λ t. up_there r n t.1.tree.parent) (resolv
   where
     by : ((t : Entry) → AllThere (or_none (up (resolve r) n t.1.tree.parent)) r.templates) → (o : Option Entry) → resolve r name ≡ o → AllThere (or_none (or_missing o (λ t. onto t (up (resolve r) n t.1.tree.parent)))) r.templates
     by ih None e = tt
-    by ih (Some t) e = onto_there r.templates t (up (resolve r) n t.1.tree.parent) (first_is_there r.templates (name ∷ map (λ p. p ++ name) r.prefixes) t e) (ih t)
+    by ih (Some t) e = onto_there r.templates t (up (resolve r) n t.1.tree.parent) (resolved_there r name t e) (ih t)
 
 onto_bound : (n : ℕ) (t : Entry) (x : Result (List Entry) Fault) → length (or_none x) ≤ n → length (or_none (onto t x)) ≤ suc n
 onto_bound n t (Ok ts) h = omega (arith, h)
@@ -199,6 +220,13 @@ module _ {C : Type 0} where
   IsLower w p (Refuses fault) = Unit {0}
   IsLower w p (Takes p' v body) = rank w p' < rank w p
 
+  -- templates that are not included in a place, and blocks that are not open
+  abbrev left_templates : World → PlaceOf C → ℕ
+  left_templates w p = not_among (names w.registry.templates) p.included
+
+  abbrev left_blocks : World → PlaceOf C → ℕ
+  left_blocks w p = not_among (all_blocks w.registry) p.opened
+
   abbrev way_of_block : World → PlaceOf C → Name → VariablesOf C → Fault → Bool → List Definer → WayOf C
   way_of_block w p name v fault is_open ds = cond is_open (Refuses fault) (takes_definer p (name ∷ p.opened) v fault ds)
 
@@ -211,7 +239,9 @@ module _ {C : Type 0} where
       let there : 0 < length (definers r p.template name) = omega (arith, size) in
       let less = left_less name (all_blocks r) p.opened (definers_of_named r p.template name there) e in
       let small : length ds < suc (suc (length r.templates)) = omega (arith, size, definers_bound r p.template name) in
-      lower_first (not_among (all_blocks r) p.opened) (not_among (all_blocks r) (name ∷ p.opened)) (length p.above) (length ds) (suc (suc (length r.templates))) less small
+      let base = left_templates w p * suc (length (all_blocks r)) in
+      let lower : base + not_among (all_blocks r) (name ∷ p.opened) < base + left_blocks w p = omega (arith, less) in
+      lower_first (base + left_blocks w p) (base + not_among (all_blocks r) (name ∷ p.opened)) (length p.above) (length ds) (suc (suc (length r.templates))) lower small
 
   above_falls : (w : World) (p : PlaceOf C) (v : VariablesOf C) (fault : Fault) (ds : List Definer) → p.above ≡ ds → IsLower w p (takes_definer p p.opened v fault ds)
   above_falls w p v fault [] e = tt
@@ -219,11 +249,33 @@ module _ {C : Type 0} where
       let size : length p.above ≡ suc (length ds) = ap length e in
       omega (arith, size)
 
+  abbrev way_of_template : PlaceOf C → VariablesOf C → Fault → Bool → Entry → WayOf C
+  way_of_template p v fault is_included t =
+      cond is_included (Refuses fault) (Takes (place_of_include p v t.0) nothing_set t.1.tree.nodes)
+
+  template_falls : (w : World) (p : PlaceOf C) (v : VariablesOf C) (fault : Fault) (t : Entry) → IsThere t w.registry.templates → (b : Bool) → is_among t.0 p.included ≡ b → IsLower w p (way_of_template p v fault b t)
+  template_falls w p v fault t h true e = tt
+  template_falls w p v fault t h false e =
+      let r = w.registry in
+      let size = suc (length (all_blocks r)) in
+      let ns = names r.templates in
+      let less = left_less t.0 ns p.included (among_names t r.templates h) e in
+      let blocks : not_among (all_blocks r) [] < size = omega (arith, left_bound (all_blocks r) []) in
+      let lower = lower_first (left_templates w p) (not_among ns (t.0 ∷ p.included)) (left_blocks w p) (not_among (all_blocks r) []) size less blocks in
+      let steps = suc (suc (length r.templates)) in
+      lower_first (left_templates w p * size + left_blocks w p) (not_among ns (t.0 ∷ p.included) * size + not_among (all_blocks r) []) (length p.above) 0 steps lower (omega arith)
+
+  include_falls : (w : World) (p : PlaceOf C) (v : VariablesOf C) (fault : Fault) (o : Option Entry) → ((t : Entry) → o ≡ Some t → IsThere t w.registry.templates) → IsLower w p (takes_template p v fault o)
+  include_falls w p v fault None h = tt
+  include_falls w p v fault (Some t) h = template_falls w p v fault t (h t refl) (is_among t.0 p.included) refl
+
   -- each body that is taken has a lower rank
   pub falls : (w : World) (p : PlaceOf C) (q : RequestOf C) (v : VariablesOf C) → IsLower w p (way w p q v)
   falls w p (ABlock name span) v =
       block_falls w p name v (fault_in p span) (is_among name p.opened) refl (definers w.registry p.template name) refl
   falls w p (Above span) v = above_falls w p v (fault_in p span) p.above refl
+  falls w p (AnInclude name span) v =
+      include_falls w p v (fault_in p span) (resolve w.registry name) (λ t e. resolved_there w.registry name t e)
 
 module _ {C : Type 0} (alphabet : Alphabet C) (w : World) where
   -- two families agree on the body that is taken

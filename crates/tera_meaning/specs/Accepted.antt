@@ -1,12 +1,14 @@
 -- Whether the templates of a registry go together.
-use Rattle.std.specs.Prelude.{Bool, true, false, ◌&&◌, ◌||◌, List, [], ◌∷◌, Option, Some, None, is_some, Result, Ok, Err, if◌then◌else◌}
-use Rattle.std.specs.List.{list_any}
+use Rattle.std.specs.Prelude.{ℕ, zero, suc, Bool, true, false, ◌&&◌, ◌||◌, List, [], ◌∷◌, length, Option, Some, None, is_some, is_none, Result, Ok, Err, if◌then◌else◌}
+use Rattle.std.specs.List.{list_any, filter_map}
 use Rattle.std.specs.Option.{option_or}
 use Rattle.tera_errors.specs.Site.{Name}
-use Rattle.tera_errors.specs.Fault.{Fault, message}
+use Rattle.tera_errors.specs.Fault.{Fault, message, circular_include}
+use Rattle.tera_tree.specs.Tree.{Nodes}
 use Rattle.tera_tree.specs.Blocks.{top_blocks}
+use Rattle.tera_tree.specs.Includes.{includes}
 use Rattle.tera_meaning.specs.Registry.{Entry, Registry}
-use Rattle.tera_meaning.specs.Resolve.{parents}
+use Rattle.tera_meaning.specs.Resolve.{resolve, parents}
 use Rattle.tera_meaning.specs.Known.{lacks_a_callee}
 use Rattle.tera_meaning.specs.Lineage.{Definer, ancestors, definers_in}
 
@@ -14,9 +16,26 @@ abbrev pub fault_of_parents : Result (List Entry) Fault → Option Fault
 fault_of_parents (Ok ts) = None
 fault_of_parents (Err fault) = Some fault
 
--- the first fault of a template
+-- the templates that a template includes, as far as they are there
+abbrev pub includes_of : Registry → Entry → List Entry
+includes_of r t = filter_map (resolve r) (includes t.1.tree.nodes)
+
+-- whether so many includes lead from a template, each to the next
+unfoldable pub can_walk : Registry → ℕ → Entry → Bool
+can_walk r zero t = true
+can_walk r (suc n) t = list_any (can_walk r n) (includes_of r t)
+
+-- A walk of as many includes as there are templates meets one a second time.
+abbrev pub leads_into_a_circle : Registry → Entry → Bool
+leads_into_a_circle r t = can_walk r (length r.templates) t
+
+abbrev pub fault_of_includes : Bool → Option Fault
+fault_of_includes true = Some circular_include
+fault_of_includes false = None
+
+-- the first fault of a template: that of its parents, then that of its includes
 unfoldable pub template_fault : Registry → Entry → Option Fault
-template_fault r t = fault_of_parents (parents r t)
+template_fault r t = option_or (fault_of_parents (parents r t)) (fault_of_includes (leads_into_a_circle r t))
 
 -- the first fault, template by template
 unfoldable pub first_fault : Registry → List Entry → Option Fault
@@ -35,9 +54,14 @@ is_lost r t block = is_none_left (definers_in block (ancestors r t))
 abbrev pub loses_a_block : Registry → Entry → Bool
 loses_a_block r t = is_some t.1.tree.parent && list_any (is_lost r t) (top_blocks t.1.tree.nodes)
 
+-- whether nodes include what is not there
+abbrev pub misses_an_include : Registry → Nodes → Bool
+misses_an_include r nodes = list_any (λ name. is_none (resolve r name)) (includes nodes)
+
 -- whether a template names what is not there
 abbrev pub lacks_something : Registry → Entry → Bool
-lacks_something r t = loses_a_block r t || lacks_a_callee t.1.tree.nodes
+lacks_something r t =
+    loses_a_block r t || (lacks_a_callee t.1.tree.nodes || misses_an_include r t.1.tree.nodes)
 
 -- what is not there of what templates name
 unfoldable pub missing : Registry → Option Fault

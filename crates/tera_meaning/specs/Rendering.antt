@@ -13,6 +13,7 @@ use Rattle.tera_meaning.specs.Run.{Signal, Answer, AnswerOf, Failed, Gave}
 use Rattle.tera_meaning.specs.Registry.{Entry, Registry}
 use Rattle.tera_meaning.specs.Resolve.{resolve, root}
 use Rattle.tera_meaning.specs.Known.{has_unknown}
+use Rattle.tera_meaning.specs.Accepted.{misses_an_include}
 use Rattle.tera_meaning.specs.Lineage.{Definer, definers}
 use Rattle.tera_meaning.specs.Whole.{World, Place, PlaceOf, meaning_in}
 
@@ -56,19 +57,19 @@ module _ {C : Type 0} (alphabet : Alphabet C) where
 
   abbrev pub one_off_place_in : Registry → Named Val → Bool → PlaceOf C
   one_off_place_in r context autoescape =
-      record { template = None; file = one_off_name; around = outermost_in r context; autoescape = autoescape; opened = []; above = [] }
+      record { template = None; file = one_off_name; around = outermost_in r context; autoescape = autoescape; included = []; opened = []; above = [] }
 
   abbrev pub one_off_meaning_in : Registry → Tree → Named Val → Bool → AnswerOf C Signal
   one_off_meaning_in r tree context autoescape =
       meaning_in alphabet (alone r) (one_off_place_in r context autoescape) nothing_set tree.nodes
 
-  -- the text of a tree that calls nothing that is not there
+  -- the text of a tree that calls and includes nothing that is not there
   abbrev pub one_off_text_in : Registry → Tree → Named Val → Bool → Result (List C) Fault
   one_off_text_in r tree context autoescape =
-      if has_unknown tree.nodes then Err message else text_of (one_off_meaning_in r tree context autoescape)
+      if has_unknown tree.nodes || misses_an_include r tree.nodes then Err message else text_of (one_off_meaning_in r tree context autoescape)
 
-  -- the reader's fault; a text beside the registry may extend no template, have no block, and call nothing that is not there;
-  -- else the text of what was read
+  -- the reader's fault; a text beside the registry may extend no template, have no block, and call and include nothing that
+  -- is not there; else the text of what was read
   abbrev pub render_str_in : Registry → Result Tree Fault → Named Val → Bool → Result (List C) Fault
   render_str_in r (Err fault) context autoescape = Err fault
   render_str_in r (Ok tree) context autoescape =
@@ -78,7 +79,7 @@ module _ {C : Type 0} (alphabet : Alphabet C) where
   -- that is rendered.
   abbrev pub template_place_in : Registry → Entry → Named Val → PlaceOf C
   template_place_in r t context =
-      record { template = Some t.0; file = (root r t).0; around = outermost_in r context; autoescape = autoescapes r t.0; opened = []; above = [] }
+      record { template = Some t.0; file = (root r t).0; around = outermost_in r context; autoescape = autoescapes r t.0; included = []; opened = []; above = [] }
 
   abbrev pub template_meaning_in : Registry → Entry → Named Val → AnswerOf C Signal
   template_meaning_in r t context =

@@ -101,12 +101,14 @@ put_back before (Gave signal r n) = Gave (signal, r.text) (record r { text = bef
 abbrev pub captured : {C : Type 0} → MeaningOf C Signal → MeaningOf C (Signal × List C)
 captured body r = put_back r.text (body (record r { text = [] }))
 
--- what is asked of a body that stands elsewhere: includes and components are further cases
+-- what is asked of a body that stands elsewhere: components are a further case
 pub data RequestOf (C : Type 0) : Type 0 where
   -- a block, at the span of its name
   ABlock : (name : Name) (span : Span) → RequestOf C
   -- what the next template above makes of the block that runs, at the span of the call
   Above : (span : Span) → RequestOf C
+  -- the template to which a name resolves, at the span of the name
+  AnInclude : (name : Name) (span : Span) → RequestOf C
 
 abbrev pub Request : Type 0
 Request = RequestOf ℕ

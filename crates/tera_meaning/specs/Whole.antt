@@ -1,15 +1,17 @@
 -- The meaning of bodies that take one another.
-use Rattle.std.specs.Prelude.{◌≡◌, ℕ, zero, suc, ◌+◌, ◌*◌, Bool, List, [], ◌∷◌, ◌++◌, length, flat_map, Option, if◌then◌else◌}
+use Rattle.std.specs.Prelude.{◌≡◌, ℕ, zero, suc, ◌+◌, ◌*◌, Bool, List, [], ◌∷◌, ◌++◌, length, map, flat_map, Option, Some, None, if◌then◌else◌}
 use Rattle.tera_errors.specs.Site.{Name}
 use Rattle.tera_errors.specs.declared.span.Span.{Span}
 use Rattle.tera_errors.specs.Fault.{Fault, message, rendering_error}
 use Rattle.tera_tree.specs.Tree.{Nodes}
 use Rattle.tera_tree.specs.Blocks.{block_names, is_among}
 use Rattle.tera_values.specs.Alphabet.{Alphabet, plain}
-use Rattle.tera_state.specs.Scope.{AroundOf, VariablesOf, Variables}
+use Rattle.tera_state.specs.Scope.{AroundOf, VariablesOf, Variables, in_include, nothing_set}
 use Rattle.tera_meaning.specs.Here.{HereOf}
-use Rattle.tera_meaning.specs.Run.{Signal, On, Answer, AnswerOf, Failed, Gave, RunOf, Request, RequestOf, ABlock, Above, Oracle, OracleOf, visit, begun}
-use Rattle.tera_meaning.specs.Registry.{Registry}
+use Rattle.tera_meaning.specs.Run.{Signal, On, Answer, AnswerOf, Failed, Gave, RunOf, Request, RequestOf, ABlock, Above, AnInclude, Oracle, OracleOf, visit, begun}
+use Rattle.tera_values.specs.Named.{Named}
+use Rattle.tera_meaning.specs.Registry.{Template, Entry, Registry}
+use Rattle.tera_meaning.specs.Resolve.{resolve}
 use Rattle.tera_meaning.specs.Lineage.{Definer, definers}
 use Rattle.tera_meaning.specs.Meaning.{nodes_meaning_in}
 
@@ -18,12 +20,14 @@ pub record World : Type 0 where
   pub registry : Registry
 
 -- where a body stands, its variables apart: the template whose blocks are put out, the template in whose text the body is,
--- what is around it, the autoescape flag, the blocks that are open, and those who define the block that runs above this one
+-- what is around it, the autoescape flag, the templates that are included and open, the blocks that are open, and those who
+-- define the block that runs above this one
 pub record PlaceOf (C : Type 0) : Type 0 where
   pub template : Option Name
   pub file : Name
   pub around : AroundOf C
   pub autoescape : Bool
+  pub included : List Name
   pub opened : List Name
   pub above : List Definer
 
@@ -37,21 +41,43 @@ abbrev pub takes_definer : {C : Type 0} → PlaceOf C → List Name → Variable
 takes_definer p opened v fault [] = Refuses fault
 takes_definer p opened v fault (d ∷ ds) = Takes (record p { file = d.file; opened = opened; above = ds }) v d.body
 
+-- An include's body stands in a state of its own, which reads its includer, and has no block open.
+abbrev pub place_of_include : {C : Type 0} → PlaceOf C → VariablesOf C → Name → PlaceOf C
+place_of_include p v name = record {
+  template = Some name;
+  file = name;
+  around = in_include p.around v;
+  autoescape = p.autoescape;
+  included = name ∷ p.included;
+  opened = [];
+  above = [];
+}
+
+-- the template's own body, unless it is included and open already
+abbrev pub takes_template : {C : Type 0} → PlaceOf C → VariablesOf C → Fault → Option Entry → WayOf C
+takes_template p v fault None = Refuses fault
+takes_template p v fault (Some t) =
+    if is_among t.0 p.included then Refuses fault
+    else Takes (place_of_include p v t.0) nothing_set t.1.tree.nodes
+
 abbrev pub fault_in : {C : Type 0} → PlaceOf C → Span → Fault
 fault_in p span = rendering_error (record { file = p.file; span = span })
 
 -- Which body a request takes: one clause for each kind of request. A block that is open already, or that nobody defines, is
--- a fault; so is what stands above where no block runs or nobody above defines it.
+-- a fault; so is what stands above where no block runs or nobody above defines it, and an include that is open already.
 abbrev pub way : {C : Type 0} → World → PlaceOf C → RequestOf C → VariablesOf C → WayOf C
 way w p (ABlock name span) v =
     if is_among name p.opened then Refuses (fault_in p span)
     else takes_definer p (name ∷ p.opened) v (fault_in p span) (definers w.registry p.template name)
 way w p (Above span) v = takes_definer p p.opened v (fault_in p span) p.above
+way w p (AnInclude name span) v = takes_template p v (fault_in p span) (resolve w.registry name)
 
--- what is left of a body that was taken for a request, where these were the variables: one clause for each kind of request
+-- What is left of a body that was taken for a request, where these were the variables: one clause for each kind of request.
+-- Of an include only the text is kept.
 abbrev pub left_of : {C : Type 0} → RequestOf C → VariablesOf C → RunOf C → RunOf C
 left_of (ABlock name span) v r = record r { blocks = r.blocks ++ (name, r.text) ∷ [] }
 left_of (Above span) v r = r
+left_of (AnInclude name span) v r = record { vars = v; text = r.text; blocks = [] }
 
 abbrev pub ends : {C : Type 0} → RequestOf C → VariablesOf C → AnswerOf C Signal → AnswerOf C Signal
 ends q v (Failed fault n) = Failed fault n
@@ -66,13 +92,20 @@ abbrev pub not_among : List Name → List Name → ℕ
 not_among [] taken = 0
 not_among (n ∷ ns) taken = (if is_among n taken then 0 else 1) + not_among ns taken
 
+abbrev pub names : Named Template → List Name
+names ts = map (λ t. t.0) ts
+
 abbrev pub all_blocks : Registry → List Name
 all_blocks r = flat_map (λ t. block_names t.1.tree.nodes) r.templates
 
--- how many levels can be below a place: blocks that are not open, and at each those who define it
+-- how many levels can be below a place: templates that are not included, at each blocks that are not open, and at each those
+-- who define it
 abbrev pub rank : {C : Type 0} → World → PlaceOf C → ℕ
 rank w p =
-    not_among (all_blocks w.registry) p.opened * suc (suc (length w.registry.templates)) + length p.above
+    let r = w.registry in
+    let templates = not_among (names r.templates) p.included in
+    let blocks = not_among (all_blocks r) p.opened in
+    (templates * suc (length (all_blocks r)) + blocks) * suc (suc (length r.templates)) + length p.above
 
 -- the meaning of the requests of each place
 abbrev pub FamilyOf : Type 0 → Type 0

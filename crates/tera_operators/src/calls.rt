@@ -4,7 +4,6 @@ ghost use Rattle.std.specs.List.{zip};
 ghost use Rattle.tera_errors.specs.Answer.{Gives};
 ghost use Rattle.tera_errors.specs.Fault.{Fault};
 ghost use Rattle.tera_built_ins.specs.Escaping.{escaping_of};
-ghost use Rattle.tera_built_ins.specs.Filters.{filtered_in};
 ghost use Rattle.tera_built_ins.specs.TestTable.{tested_in};
 ghost use Rattle.tera_built_ins.specs.FunctionTable.{called_in};
 ghost use Rattle.tera_values.specs.Alphabet.{plain};
@@ -25,7 +24,7 @@ fn arguments(alloc: Global, names: &[Name], operands: Vec<Operand>) -> TeraResul
 {
     let mut all = Kwargs::new(alloc);
     for (name, operand) in names.iter().zip(operands) {
-        all.insert(name.as_str(), operand.into_value())?;
+        all.put(name.share()?, operand.into_value())?;
     }
     Ok(all)
 }
@@ -51,22 +50,6 @@ fn operand_or_call_fault(
             };
             Err(fault_at(alloc, file, &refusal, span))
         }
-    }
-}
-
-fn filtered(
-    alloc: Global,
-    escaping: Escaping,
-    name: &str,
-    value: &Value,
-    given: &Kwargs,
-) -> TeraResult<Value>
-    ensures { Gives (λ v. v) result
-        (filtered_in plain (escaping_of escaping) name.now value.now given.now) }
-{
-    match BuiltInFilter::named(name) {
-        Some(filter) => filter.call(alloc, value, given, escaping),
-        None => Err(Error::message(alloc, "there is no such filter")),
     }
 }
 
@@ -113,7 +96,7 @@ pub fn filter(
         Ok(given) => given,
         Err(error) => return Err(error),
     };
-    let answer = filtered(alloc, escaping, name, target.value(), &given);
+    let answer = BuiltInFilter::call_named(alloc, name, target.value(), &given, escaping);
     operand_or_call_fault(alloc, file, answer, target.span(), span)
 }
 

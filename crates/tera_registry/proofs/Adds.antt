@@ -1,7 +1,8 @@
 -- What an adding call makes of a whole registry.
-use Rattle.std.proofs.Common.{◌≡◌, ℕ, List, [], ◌∷◌, length, map, Some, None, Result, Ok, Err, String, string_bytes, Global, refl, sym, ap, ◌∙◌}
+use Rattle.std.proofs.Common.{◌≡◌, ℕ, zero, suc, List, [], ◌∷◌, length, map, Some, None, Result, Ok, Err, String, string_bytes, Global, refl, sym, ap, ap₂, ◌∙◌}
 use Rattle.std.specs.declared.rc.Rc.{Rc}
-use Rattle.std.specs.List.{AllZip}
+use Rattle.std.specs.List.{AllZip, list_any}
+use mathlib.Core.Path.{fun_ext}
 use Rattle.std.specs.Option.{option_or}
 use Rattle.tera_errors.specs.Site.{Name, Text}
 use Rattle.tera_errors.specs.Fault.{Fault}
@@ -9,7 +10,8 @@ use Rattle.tera_errors.specs.Answer.{Refusal, Says, SaysOneOf}
 use Rattle.tera_tree.specs.Delimiters.{Delims}
 use Rattle.tera_values.specs.Named.{Named, put_all}
 use Rattle.tera_meaning.specs.Registry.{Template, Entry, Registry, new_registry}
-use Rattle.tera_meaning.specs.Accepted.{template_fault, first_fault, missing, fault}
+use Rattle.tera_meaning.specs.Accepted.{fault_of_parents, includes_of, can_walk, fault_of_includes, template_fault, first_fault, missing, fault}
+use Rattle.tera_meaning.specs.Resolve.{parents}
 use Rattle.tera_meaning.specs.Adding.{unless_faulty, accepted}
 use Rattle.tera_registry.specs.declared.template.Template.{Template as Stored}
 use Rattle.tera_registry.specs.Batch.{ReadsBatch, Adds}
@@ -25,11 +27,20 @@ use Rattle.tera_registry.proofs.Linked.{linked}
 abbrev pub bare : Named Template → List Text → Registry
 bare ts ps = record new_registry { templates = ts; prefixes = ps }
 
+walks-same : (r : Registry) (n : ℕ) (t : Entry) → can_walk r n t ≡ can_walk (bare r.templates r.prefixes) n t
+unfolding can_walk
+walks-same r zero t = refl
+walks-same r (suc n) t = ap (λ p. list_any p (includes_of r t)) (fun_ext (walks-same r n))
+
+fault-of-one-same : (r : Registry) (t : Entry) → template_fault r t ≡ template_fault (bare r.templates r.prefixes) t
+unfolding template_fault
+fault-of-one-same r t =
+    ap (λ b. option_or (fault_of_parents (parents r t)) (fault_of_includes b)) (walks-same r (length r.templates) t)
+
 first-same : (r : Registry) (es : List Entry) → first_fault r es ≡ first_fault (bare r.templates r.prefixes) es
-unfolding first_fault template_fault
+unfolding first_fault
 first-same r [] = refl
-first-same r (t ∷ es) =
-    ap (option_or (template_fault r t)) (first-same r es)
+first-same r (t ∷ es) = ap₂ option_or (fault-of-one-same r t) (first-same r es)
 
 pub fault-same : (r : Registry) → fault r ≡ fault (bare r.templates r.prefixes)
 unfolding fault missing

@@ -10,7 +10,7 @@ use Rattle.tera_tree.specs.Tree.{Nodes}
 use Rattle.tera_meaning.specs.Registry.{Registry, Entry}
 use Rattle.tera_meaning.specs.Resolve.{entry_at, onto, or_missing, or_none, up, resolve, parents}
 use Rattle.tera_meaning.specs.Lineage.{Definer, definers_in, ancestors}
-use Rattle.tera_meaning.specs.Accepted.{fault_of_parents, template_fault, first_fault, fault, is_none_left}
+use Rattle.tera_meaning.specs.Accepted.{fault_of_parents, fault_of_includes, leads_into_a_circle, template_fault, first_fault, fault, is_none_left}
 use Rattle.tera_code.specs.declared.blocks.Block.{Block}
 use Rattle.tera_code.specs.Code.{listing_of}
 use Rattle.tera_code.specs.Listing.{Listing}
@@ -86,18 +86,27 @@ fewer r t v last next t_at v_at e =
 
 -- Templates without a fault have all their parents.
 
-faultless-parents : (o : Result (List Entry) Fault) (f : Option Fault) → option_or (fault_of_parents o) f ≡ None → (o ≡ Ok (or_none o)) × (f ≡ None)
-faultless-parents (Ok ps) f e = (refl, e)
-faultless-parents (Err g) f e = (let x : Some g ≡ None = e in cc)
+none-each : (o p : Option Fault) → option_or o p ≡ None → (o ≡ None) × (p ≡ None)
+none-each None p e = (refl, e)
+none-each (Some f) p e = (let x : Some f ≡ None = e in cc)
+
+faultless-parents : (o : Result (List Entry) Fault) → fault_of_parents o ≡ None → o ≡ Ok (or_none o)
+faultless-parents (Ok ps) e = refl
+faultless-parents (Err g) e = (let x : Some g ≡ None = e in cc)
+
+one-grounded : (r : Registry) (t : Entry) → template_fault r t ≡ None → parents r t ≡ Ok (ancestors r t)
+unfolding template_fault
+one-grounded r t none =
+    faultless-parents (parents r t) (none-each (fault_of_parents (parents r t)) (fault_of_includes (leads_into_a_circle r t)) none).0
 
 each-grounded : (r : Registry) (es : List Entry) (i : ℕ) (t : Entry) → first_fault r es ≡ None → slice_get es i ≡ Some t → parents r t ≡ Ok (ancestors r t)
-unfolding first_fault template_fault
+unfolding first_fault
 each-grounded r [] i t none at = (let x : None ≡ Some t = at in cc)
 each-grounded r (e ∷ es) zero t none at =
     (let x : e ≡ t = (let q : Some e ≡ Some t = at in cc) in
-    let ok : parents r e ≡ Ok (ancestors r e) = (faultless-parents (parents r e) (first_fault r es) none).0 in rw (← x) ok)
+    let ok : parents r e ≡ Ok (ancestors r e) = one-grounded r e (none-each (template_fault r e) (first_fault r es) none).0 in rw (← x) ok)
 each-grounded r (e ∷ es) (suc i) t none at =
-    each-grounded r es i t (faultless-parents (parents r e) (first_fault r es) none).1 at
+    each-grounded r es i t (none-each (template_fault r e) (first_fault r es) none).1 at
 
 pub grounded : (r : Registry) → first_fault r r.templates ≡ None → Grounded r
 grounded r none = record { each = λ i t at. each-grounded r r.templates i t none at }

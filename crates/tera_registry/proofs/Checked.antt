@@ -3,11 +3,11 @@ use Rattle.std.proofs.Common.{◌≡◌, ℕ, ◌+◌, ◌≤◌, Bool, true, fa
 use Rattle.std.specs.Option.{option_or}
 use Rattle.std.specs.List.{list_any}
 use Rattle.std.proofs.lemmas.List.{drop_all}
-use Rattle.tera_errors.specs.Fault.{Fault, message}
+use Rattle.tera_errors.specs.Fault.{Fault, message, circular_include}
 use Rattle.tera_errors.specs.Answer.{Refusal, Says}
 use Rattle.tera_meaning.specs.Registry.{Registry, Entry}
 use Rattle.tera_meaning.specs.Resolve.{parents}
-use Rattle.tera_meaning.specs.Accepted.{fault_of_parents, template_fault, first_fault, lacks_something, missing, fault}
+use Rattle.tera_meaning.specs.Accepted.{fault_of_parents, fault_of_includes, leads_into_a_circle, template_fault, first_fault, lacks_something, missing, fault}
 use Rattle.tera_meaning.specs.Adding.{unless_faulty, accepted}
 use Rattle.tera_registry.specs.Links.{climbed}
 use Rattle.tera_registry.proofs.Rows.{drop-at}
@@ -23,19 +23,31 @@ next : (r : Registry) (i : ℕ) (t : Entry) → Checked r i → slice_get r.temp
 unfolding first_fault
 next r i t c at = c.is ∙ ap (first_fault r) (drop-at r.templates i t at)
 
-pub checked-on : (r : Registry) (i : ℕ) (t : Entry) (ps : List Entry) → Checked r i → slice_get r.templates i ≡ Some t → parents r t ≡ Ok ps → Checked r (i + 1)
+-- a template has the fault of its parents, and else that of its includes
+parents-fault : (r : Registry) (t : Entry) (f : Fault) → parents r t ≡ Err f → template_fault r t ≡ Some f
 unfolding template_fault
-checked-on r i t ps c at e = record {
-  is = next r i t c at ∙ ap (λ o. option_or (fault_of_parents o) (first_fault r (drop (i + 1) r.templates))) e;
+parents-fault r t f e = ap (λ o. option_or (fault_of_parents o) (fault_of_includes (leads_into_a_circle r t))) e
+
+includes-fault : (r : Registry) (t : Entry) (ps : List Entry) (leads : Bool) → parents r t ≡ Ok ps → leads_into_a_circle r t ≡ leads → template_fault r t ≡ fault_of_includes leads
+unfolding template_fault
+includes-fault r t ps leads e is =
+    ap (λ o. option_or (fault_of_parents o) (fault_of_includes (leads_into_a_circle r t))) e ∙ ap fault_of_includes is
+
+pub checked-on : (r : Registry) (i : ℕ) (t : Entry) (ps : List Entry) → Checked r i → slice_get r.templates i ≡ Some t → parents r t ≡ Ok ps → leads_into_a_circle r t ≡ false → Checked r (i + 1)
+checked-on r i t ps c at e none = record {
+  is = next r i t c at ∙ ap (λ o. option_or o (first_fault r (drop (i + 1) r.templates))) (includes-fault r t ps false e none);
 }
 
-checked-fault : (r : Registry) (i : ℕ) (t : Entry) (f : Fault) → Checked r i → slice_get r.templates i ≡ Some t → parents r t ≡ Err f → first_fault r r.templates ≡ Some f
-unfolding template_fault
-checked-fault r i t f c at e = next r i t c at ∙ ap (λ o. option_or (fault_of_parents o) (first_fault r (drop (i + 1) r.templates))) e
+checked-fault : (r : Registry) (i : ℕ) (t : Entry) (f : Fault) → Checked r i → slice_get r.templates i ≡ Some t → template_fault r t ≡ Some f → climbed r ≡ Err f
+checked-fault r i t f c at e =
+    ap (unless_faulty r) (next r i t c at ∙ ap (λ o. option_or o (first_fault r (drop (i + 1) r.templates))) e)
 
 pub checked-says : (e : Refusal) (r : Registry) (i : ℕ) (t : Entry) → Checked r i → slice_get r.templates i ≡ Some t → Says e (parents r t) → Says e (climbed r)
 checked-says None r i t c at says = tt
-checked-says (Some f) r i t c at says = ap (unless_faulty r) (checked-fault r i t f c at says)
+checked-says (Some f) r i t c at says = checked-fault r i t f c at (parents-fault r t f says)
+
+pub checked-circle : (r : Registry) (i : ℕ) (t : Entry) (ps : List Entry) → Checked r i → slice_get r.templates i ≡ Some t → parents r t ≡ Ok ps → leads_into_a_circle r t ≡ true → climbed r ≡ Err circular_include
+checked-circle r i t ps c at e leads = checked-fault r i t circular_include c at (includes-fault r t ps true e leads)
 
 pub checked-all : (r : Registry) (i : ℕ) → Checked r i → length r.templates ≤ i → climbed r ≡ Ok r
 unfolding first_fault

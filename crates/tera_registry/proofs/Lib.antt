@@ -14,4 +14,9 @@ pub mod Empty
 pub mod Noted
 pub mod Ancestors
 pub mod Absent
-pub mod Uppermost
+pub mod Bodies
+pub mod HasWalk
+pub mod Ways
+pub mod Turn
+pub mod Filled
+pub mod Circles

@@ -5,6 +5,8 @@ pub mod Kept
 pub mod Known
 pub mod Batch
 pub mod Put
+pub mod Walks
+pub mod Edges
 pub mod Links
 pub mod Definers
 pub mod Templates

@@ -28,12 +28,13 @@ is_empty (a ∷ as') = false
 abbrev pub with_templates : Registry → Templates → Registry
 with_templates r t = record r { templates = templates_of t; prefixes = prefixes_of t }
 
--- what is found is the template: its name, and the code of the nodes that a rendering of it begins with
+-- what is found is the template: its name, the code of the nodes that a rendering of it begins with, and that of its own
 pub record Leads (r : Registry) (name : Name) (found : Found) : Type 0 where
   pub entry : Entry
   pub resolves : resolve r name ≡ Some entry
   pub named : found.name.now ≡ entry.0
   pub code : found.chunk.now ≡ listing_of (root r entry).0 (root r entry).1.tree.nodes
+  pub own : found.body.now ≡ listing_of entry.0 entry.1.tree.nodes
   pub among : with_templates r found.templates.now ≡ r
 
 -- what is found under a name

@@ -8,6 +8,7 @@ ghost use Rattle.tera_registry.specs.Batch.{pairs_of};
 ghost use Rattle.tera_registry.specs.Put.{Makes, Puts};
 ghost use Rattle.tera_registry.specs.Kept.{entry_of, entries_of};
 
+use crate::includes::includes;
 use crate::known::any_lacks;
 use crate::meant::Meant;
 use crate::names::put;
@@ -63,6 +64,7 @@ fn made(alloc: Global, name: &str, text: &str, output: &ParserOutput) -> TeraRes
     let body = compiled(alloc, name, output.nodes.as_slice())?;
     let blocks = blocks(alloc, name, output.nodes.as_slice())?;
     let tops = top_blocks(alloc, output.nodes.as_slice())?;
+    let includes = includes(alloc, output.nodes.as_slice())?;
     let lacks = any_lacks(&body, blocks.as_slice());
     Ok(Template {
         name: String::from_str(alloc, name)?,
@@ -71,6 +73,7 @@ fn made(alloc: Global, name: &str, text: &str, output: &ParserOutput) -> TeraRes
         body,
         blocks,
         tops,
+        includes,
         lacks,
         meant: Meant::of(output.nodes.as_slice()),
     })

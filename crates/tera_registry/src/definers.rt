@@ -1,14 +1,16 @@
 // Who defines a block for a template, and which blocks are lost.
 ghost use Rattle.std.specs.Prelude.{◌≡◌, ◌<◌, ◌∷◌, length, slice_get, Some, Ok};
 ghost use Rattle.std.specs.List.{list_any};
-ghost use Rattle.tera_meaning.specs.Accepted.{loses_a_block, lacks_something};
+ghost use Rattle.tera_meaning.specs.Accepted.{loses_a_block, lacks_something, includes_of, misses_an_include};
 ghost use Rattle.tera_meaning.specs.Lineage.{ancestors, definers_in};
-ghost use Rattle.tera_meaning.specs.Registry.{Entry};
+ghost use Rattle.tera_meaning.specs.Registry.{Entry, Registry};
 ghost use Rattle.tera_meaning.specs.Resolve.{entry_at, parents};
 ghost use Rattle.tera_registry.specs.Definers.{IsFirst, Grounded, blocks_of};
+ghost use Rattle.tera_registry.specs.Edges.{AreEdges};
 ghost use Rattle.tera_registry.specs.Order.{Rises};
 ghost use Rattle.tera_registry.specs.Places.{IsPlace};
 ghost use Rattle.tera_registry.specs.Kept.{entry_of, entries_of, seen};
+ghost use Rattle.tera_registry.specs.Walks.{rows};
 
 use crate::lineage::{Up, above};
 use crate::template::Template;
@@ -108,26 +110,41 @@ fn loses(templates: &[Rc<Template>], prefixes: &[String], of: &Template) -> bool
     false
 }
 
-/// Whether a template names what is not there: a block that is never put out, or what it calls.
-fn lacks(templates: &[Rc<Template>], prefixes: &[String], of: &Template) -> bool
+/// Whether a template includes what is not there, where so many of those that it includes are.
+fn misses(of: &Template, included: usize) -> bool
+    ensures { (r : Registry) → included ≡ length (includes_of r (entry_of of.now))
+        → result ≡ misses_an_include r (entry_of of.now).1.tree.nodes }
+{
+    included < of.includes.len()
+}
+
+/// Whether a template names what is not there: a block that is never put out, or what it calls or includes. So many of
+/// those that it includes are there.
+fn lacks(templates: &[Rc<Template>], prefixes: &[String], of: &Template, included: usize) -> bool
     requires rises { Rises (entries_of templates.now) }
     requires grounded { Grounded (seen templates.now prefixes.now) }
     requires parents { parents (seen templates.now prefixes.now) (entry_of of.now)
         ≡ Ok (ancestors (seen templates.now prefixes.now) (entry_of of.now)) }
+    requires included { included
+        ≡ length (includes_of (seen templates.now prefixes.now) (entry_of of.now)) }
     ensures { result ≡ lacks_something (seen templates.now prefixes.now) (entry_of of.now) }
 {
-    loses(templates, prefixes, of) || of.lacks
+    loses(templates, prefixes, of) || of.lacks || misses(of, included)
 }
 
-/// Whether any template names what is not there.
-pub fn any_lacks(templates: &[Rc<Template>], prefixes: &[String]) -> bool
+/// Whether any template names what is not there, where this is what each includes.
+pub fn any_lacks(templates: &[Rc<Template>], prefixes: &[String], edges: &[Vec<usize>]) -> bool
     requires rises { Rises (entries_of templates.now) }
     requires grounded { Grounded (seen templates.now prefixes.now) }
+    requires edges { let r = seen templates.now prefixes.now in
+        AreEdges r (rows edges.now) (length templates.now) }
+    requires as_many { length edges.now ≡ length templates.now }
     ensures { result ≡ list_any (lacks_something (seen templates.now prefixes.now))
         (entries_of templates.now) }
 {
-    for template in templates {
-        if lacks(templates, prefixes, template) {
+    for place in 0..templates.len() {
+        let template: &Template = &templates[place];
+        if lacks(templates, prefixes, template, edges[place].len()) {
             return true;
         }
     }

@@ -1,13 +1,12 @@
 // Which template stands at the top above each, by place.
-ghost use Rattle.std.specs.Prelude.{◌≡◌, ◌<◌, ◌≤◌, length, slice_get, IfOk, Some};
+ghost use Rattle.std.specs.Prelude.{◌≡◌, ◌≢◌, ◌<◌, ◌≤◌, length, slice_get, IfOk, Some, true, false};
 ghost use Rattle.tera_errors.specs.Answer.{Gives};
-ghost use Rattle.tera_meaning.specs.Adding.{accepted};
 ghost use Rattle.tera_meaning.specs.Registry.{Registry, Entry};
+ghost use Rattle.tera_registry.specs.Edges.{IsFirstCircle};
 ghost use Rattle.tera_registry.specs.Order.{Rises};
 ghost use Rattle.tera_registry.specs.Links.{IsUp, AreUps, Inside, Stands, IsTop, AreTops, IsFurther, AreRoots, climbed};
 ghost use Rattle.tera_registry.specs.Kept.{entry_of, entries_of, seen};
 
-use crate::definers::any_lacks;
 use crate::names::resolve;
 use crate::template::Template;
 use std::alloc::{AllocError, Global};
@@ -135,33 +134,27 @@ fn note(ups: &[Up], tops: &mut [Option<Top>], of: usize, top: Top)
     });
 }
 
-/// Links templates: the place of the last parent of each. Refuses those that do not go together, with the first fault by
-/// name.
-pub fn link(
+/// Whether the first template that leads into a circle stands at a place.
+fn is_at(circle: Option<usize>, place: usize) -> bool
+    ensures there { result ≡ true → circle ≡ Some place }
+    ensures not_there { result ≡ false → circle ≢ Some place }
+{
+    match circle {
+        None => false,
+        Some(other) => other == place,
+    }
+}
+
+/// The place of the last parent of each template, or the first fault by name, where it is known at which place the first
+/// template stands that leads into a circle.
+pub fn roots(
     alloc: Global,
     templates: &[Rc<Template>],
     prefixes: &[String],
+    circle: Option<usize>,
 ) -> TeraResult<Vec<usize>>
-    requires { Rises (entries_of templates.now) }
-    ensures answer { Gives (λ _. seen templates.now prefixes.now) result (accepted (seen templates.now prefixes.now)) }
-    ensures roots { IfOk result (λ v. AreRoots (seen templates.now prefixes.now) v.items (length templates.now)) }
-{
-    let roots = match roots(alloc, templates, prefixes) {
-        Ok(roots) => roots,
-        Err(fault) => return Err(fault),
-    };
-    if any_lacks(templates, prefixes) {
-        return Err(Error::message(
-            alloc,
-            "a template has a block that none of its parents has, or calls what is not there",
-        ));
-    }
-    Ok(roots)
-}
-
-/// The place of the last parent of each template, or the first fault by name.
-fn roots(alloc: Global, templates: &[Rc<Template>], prefixes: &[String]) -> TeraResult<Vec<usize>>
-    requires { Rises (entries_of templates.now) }
+    requires rises { Rises (entries_of templates.now) }
+    requires circle { IsFirstCircle (seen templates.now prefixes.now) circle }
     ensures answer { Gives (λ _. seen templates.now prefixes.now) result (climbed (seen templates.now prefixes.now)) }
     ensures roots { IfOk result (λ v. AreRoots (seen templates.now prefixes.now) v.items (length templates.now)) }
 {
@@ -173,6 +166,9 @@ fn roots(alloc: Global, templates: &[Rc<Template>], prefixes: &[String]) -> Tera
     for place in 0..templates.len() {
         match climb(ups, tops, place) {
             Ok(top) => {
+                if is_at(circle, place) {
+                    return Err(Error::circular_include());
+                }
                 note(ups, tops, place, top);
                 roots.push(top.root)?;
             }

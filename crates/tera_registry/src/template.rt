@@ -2,6 +2,7 @@
 ghost use Rattle.std.specs.Prelude.{◌≡◌, map, string_bytes};
 ghost use Rattle.std.specs.Coded.{Coded-set, codes};
 ghost use Rattle.tera_tree.specs.Blocks as in_tree;
+ghost use Rattle.tera_tree.specs.Includes as in_nodes;
 ghost use Rattle.tera_tree.specs.View.{nodes_of};
 ghost use Rattle.tera_meaning.specs.Known.{lacks_a_callee};
 ghost use Rattle.tera_code.specs.Blocks.{block_of, block_listings};
@@ -25,6 +26,8 @@ pub struct Template {
     pub blocks: Vec<Block>,
     /// The names of those that are inside no other block.
     pub tops: Vec<Name>,
+    /// The names that it includes, in the order of its text.
+    pub includes: Vec<Name>,
     /// Whether it calls a filter, a test or a function that is not there.
     pub lacks: bool,
     pub meant: Meant,
@@ -32,5 +35,6 @@ pub struct Template {
     ghost divided: { map block_of blocks.items
         ≡ block_listings (string_bytes name) (in_tree.blocks (nodes_of meant.nodes)) } by { Prim.hlevel (codes, chunk.the_row.coded) },
     ghost lacking: { lacks ≡ lacks_a_callee (nodes_of meant.nodes) },
+    ghost included: { includes.items ≡ in_nodes.includes (nodes_of meant.nodes) } by { Prim.hlevel codes },
     ghost topped: { tops.items ≡ in_tree.top_blocks (nodes_of meant.nodes) } by { Prim.hlevel codes },
 }

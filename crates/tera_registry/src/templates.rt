@@ -2,7 +2,8 @@
 ghost use Rattle.std.specs.Prelude.{◌≡◌, ◌<◌, Some, None, Ok, map, length, slice_get, is_some, string_bytes, IsTrue, [], ◌∷◌};
 ghost use Rattle.tera_errors.specs.Answer.{Gives};
 ghost use Rattle.tera_tree.specs.Delimiters.{delimiters_of, accepted};
-ghost use Rattle.tera_meaning.specs.Accepted.{fault};
+ghost use Rattle.tera_tree.specs.View.{nodes_of};
+ghost use Rattle.tera_meaning.specs.Accepted.{fault, misses_an_include};
 ghost use Rattle.tera_meaning.specs.Lineage.{ancestors, definers_in};
 ghost use Rattle.tera_meaning.specs.Resolve.{resolve};
 ghost use Rattle.tera_meaning.specs.Registry.{Entry, Registry};
@@ -15,14 +16,15 @@ ghost use Rattle.tera_registry.specs.Batch.{ConfiguresOneOf, Adds, pairs_of};
 
 use crate::batch::put_all;
 use crate::definers::{At, first, first_above};
-use crate::lineage::link;
+use crate::includes::misses;
+use crate::link::link;
 use crate::names::resolve;
 use crate::template::Template;
 use std::alloc::Global;
 use std::rc::Rc;
 use tera_code::Chunk;
 use tera_errors::TeraResult;
-use tera_tree::Delimiters;
+use tera_tree::{Delimiters, Node};
 use tera_values::Sought;
 
 /// Templates by name, and the prefixes by which a name is looked up that none of them has.
@@ -57,6 +59,8 @@ pub struct Found<'t> {
     pub name: &'t str,
     /// The code that a rendering of it begins with: that of the last of its parents, or its own.
     pub chunk: &'t Chunk,
+    /// Its own code, which is what an include of it runs.
+    pub body: &'t Chunk,
     /// Those among which it was found.
     pub templates: &'t Templates,
     place: usize,
@@ -180,6 +184,7 @@ impl Templates {
         Some(Found {
             name: template.name.as_str(),
             chunk: &root.body,
+            body: &template.body,
             templates: self,
             place,
         })
@@ -250,6 +255,14 @@ impl Templates {
         ensures { (r : Registry) → result ≡ is_some (resolve (with_templates r self.now) name.now) }
     {
         resolve(self.all.as_slice(), self.prefixes.as_slice(), name).is_some()
+    }
+
+    /// Whether nodes include what is not there. Takes no memory.
+    pub fn misses_an_include(&self, nodes: &[Node<'_>]) -> bool
+        ensures { (r : Registry) → result
+            ≡ misses_an_include (with_templates r self.now) (nodes_of nodes.now) }
+    {
+        misses(self.all.as_slice(), self.prefixes.as_slice(), nodes)
     }
 
     /// The names of the templates, in byte order.

@@ -57,6 +57,7 @@ fn add(alloc: Global, node: &Node, found: &mut Vec<Name>) -> TeraResult<()>
         Node::Content { .. }
         | Node::Print { .. }
         | Node::Set { .. }
+        | Node::Include { .. }
         | Node::Break
         | Node::Continue => Ok(()),
     }

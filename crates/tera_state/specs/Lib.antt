@@ -9,3 +9,4 @@ pub mod Lending
 pub mod Scopes
 pub mod Rendered
 pub mod View
+pub mod Inputs

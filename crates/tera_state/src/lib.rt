@@ -12,6 +12,7 @@ pub mod rendered;
 pub mod scopes;
 pub mod stack;
 pub mod state;
+pub mod string_input;
 
 pub use bindings::Bindings;
 pub use found::Found;
@@ -24,3 +25,4 @@ pub use rendered::write_value;
 pub use scopes::Scopes;
 pub use stack::Stack;
 pub use state::{State, StateOver};
+pub use string_input::StringInput;

@@ -125,10 +125,7 @@ impl<'a, 'c> StateOver<'a, 'c> {
         let escaping = Escaping {
             autoescape: self.autoescape,
         };
-        match BuiltInFilter::named(name) {
-            Some(filter) => filter.call(self.alloc, value, &arguments, escaping),
-            None => Err(Error::message(self.alloc, "there is no such filter")),
-        }
+        BuiltInFilter::call_named(self.alloc, name, value, &arguments, escaping)
     }
 }
 

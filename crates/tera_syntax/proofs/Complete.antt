@@ -5,7 +5,7 @@ use Rattle.std.specs.Prelude.{option_and_then, codes}
 use Rattle.tera_tokens.specs.declared.token.Kind.TheVariants as k
 use Rattle.tera_tokens.specs.Token.{Token}
 use Rattle.tera_tokens.specs.Cut.{Piece}
-use Rattle.tera_tree.specs.Tree.{Content, Print, If, Set, Capture, FilterSection, For, Block, Break, Continue, Node, Nodes, NoNodes}
+use Rattle.tera_tree.specs.Tree.{Content, Print, If, Set, Capture, FilterSection, For, Block, Include, Break, Continue, Node, Nodes, NoNodes}
 use Rattle.tera_tree.specs.Depth.{depth, filters_depth, node_depth, nodes_depth}
 use Rattle.tera_syntax.specs.declared.heads.Surroundings.{Surroundings}
 use Rattle.tera_syntax.specs.Heads.{Head, IfHead, ForHead, SetHead, SectionHead, BlockHead, outside, make, head_depth, splits, chains, inside, ends}
@@ -37,6 +37,7 @@ node-some (Capture n fs b g) = omega arith
 node-some (FilterSection fs b) = omega arith
 node-some (For k n e b o) = omega arith
 node-some (Block n b s) = omega arith
+node-some (Include n s) = omega arith
 node-some Break = omega arith
 node-some Continue = omega arith
 

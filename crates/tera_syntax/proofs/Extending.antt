@@ -9,16 +9,15 @@ use Rattle.tera_tree.specs.Places.{in_place}
 use Rattle.tera_tree.specs.Blocks.{has_each_block_once}
 use Rattle.tera_tokens.specs.declared.token.Kind.TheVariants as k
 use Rattle.tera_tokens.specs.Token.{Token}
-use Rattle.tera_tokens.specs.Input.{begin, kind, text, next, same}
-use Rattle.tera_tokens.specs.Literal.{literal}
+use Rattle.tera_tokens.specs.Input.{begin, text, same}
 use Rattle.tera_tokens.specs.Cut.{Piece, Words, Comment, Variable, Block, Broken}
 use Rattle.tera_expressions.proofs.Steps.{guard, same-is, alike}
 use Rattle.tera_syntax.specs.declared.heads.Surroundings.{Surroundings}
 use Rattle.tera_syntax.specs.Heads.{outside, first, is_extends}
 use Rattle.tera_syntax.specs.Grammar.{Begins, Extends, is_space, Front, nothing, space, remark, DerivesFile, root, child}
-use Rattle.tera_syntax.specs.Reader.{Progress, begun, join, one, has_room, step, taken, room, statement, finished, run, nodes}
-use Rattle.tera_syntax.specs.File.{File, parent_of, extending, is_front_piece, kept, file_run, spelled, once, file}
-use Rattle.tera_syntax.proofs.OneTag.{extends_read}
+use Rattle.tera_syntax.specs.Reader.{Progress, begun, quoted_name, join, one, has_room, step, taken, room, statement, finished, run, nodes}
+use Rattle.tera_syntax.specs.File.{File, extending, is_front_piece, kept, file_run, spelled, once, file}
+use Rattle.tera_syntax.proofs.OneTag.{quotes-got, quotes-is, extends_read}
 use Rattle.tera_syntax.proofs.Complete.{at, put-read, complete_nodes}
 use Rattle.tera_syntax.proofs.Sound.{sound}
 use Rattle.tera_syntax.proofs.Placed.{derived_placed}
@@ -40,22 +39,8 @@ begins tokens e =
     let p = both (same k.Name (first tokens)) (bytes_eq (text (begin false tokens)) (codes "extends")) e in
     (same-is k.Name (first tokens) p.0, (bytes_eq-Decides (text (begin false tokens)) (codes "extends")).0 p.1)
 
-extends-got : (tokens : List Token) (name : Name) → is_extends tokens ≡ true → parent_of tokens ≡ Some name → Extends name tokens
-extends-got tokens name e h =
-    let i = next (begin false tokens) in
-    let g = guard (same k.Text (kind i)) (if same k.End (kind (next i)) then literal (text i) else None) name h in
-    let l = guard (same k.End (kind (next i))) (literal (text i)) name g.1 in
-    (begins tokens e, same-is k.Text (kind i) g.0, l.1, same-is k.End (kind (next i)) l.0)
-
 word-is : (tokens : List Token) → Begins (codes "extends") tokens → is_extends tokens ≡ true
 word-is tokens b = ap₂ (λ x y. x && y) (alike k.Name (first tokens) b.0) (ap (λ w. bytes_eq w (codes "extends")) b.1)
-
-parent-is : (tokens : List Token) (name : Name) → Extends name tokens → parent_of tokens ≡ Some name
-parent-is tokens name e =
-    let i = next (begin false tokens) in
-    ap (λ (b : Bool). if b then (if same k.End (kind (next i)) then literal (text i) else None) else None) (alike k.Text (kind i) e.1)
-    ∙ ap (λ (b : Bool). if b then literal (text i) else None) (alike k.End (kind (next i)) e.3)
-    ∙ e.2
 
 front-more : {i j : List Piece} (p : Piece) → is_front_piece p ≡ true → Front i j → Front (p ∷ i) j
 front-more (Words words place) f r = space f r
@@ -102,12 +87,12 @@ module _ (limit : ℕ) where
       let g = behind-got None i t tree h in
       subst (λ parent. Says s (p ∷ i) parent tree.nodes) g.1 (alone (ap (option_and_then (λ t. run limit t i)) e ∙ g.0))
 
-  child-got : (tokens : List Token) (i : List Piece) (s : Progress) (tree : Tree) → is_extends tokens ≡ true → (o : Option Name) → parent_of tokens ≡ o
+  child-got : (tokens : List Token) (i : List Piece) (s : Progress) (tree : Tree) → is_extends tokens ≡ true → (o : Option Name) → quoted_name tokens ≡ o
       → option_and_then (λ g. file_run limit g i) (extending o) ≡ Some tree → Says s (Block tokens ∷ i) tree.parent tree.nodes
   child-got tokens i s tree e None f h = absurd (cc)
   child-got tokens i s tree e (Some name) f h =
       let g = behind-got (Some name) i begun tree h in
-      subst (λ parent. Says s (Block tokens ∷ i) parent tree.nodes) g.1 (below nothing (extends-got tokens name e f) g.0)
+      subst (λ parent. Says s (Block tokens ∷ i) parent tree.nodes) g.1 (below nothing (quotes-got (codes "extends") tokens name (begins tokens e) f) g.0)
 
   module _ (i : List Piece) (tree : Tree) where
     -- what holds of the pieces behind the first
@@ -115,8 +100,8 @@ module _ (limit : ℕ) where
     Again = (s : Progress) → file_run limit (state None true s) i ≡ Some tree → Says s i tree.parent tree.nodes
 
     block-got : Again → (tokens : List Token) (s : Progress) (b : Bool) → is_extends tokens ≡ b
-        → option_and_then (λ g. file_run limit g i) (if b then extending (parent_of tokens) else kept limit (state None true s) (Block tokens)) ≡ Some tree → Says s (Block tokens ∷ i) tree.parent tree.nodes
-    block-got again tokens s true e h = child-got tokens i s tree e (parent_of tokens) refl h
+        → option_and_then (λ g. file_run limit g i) (if b then extending (quoted_name tokens) else kept limit (state None true s) (Block tokens)) ≡ Some tree → Says s (Block tokens ∷ i) tree.parent tree.nodes
+    block-got again tokens s true e h = child-got tokens i s tree e (quoted_name tokens) refl h
     block-got again tokens s false e h = kept-got (Block tokens) i tree again false refl s (step limit s (Block tokens)) refl h
 
     piece-got : Again → (p : Piece) (s : Progress) → file_run limit (state None true s) (p ∷ i) ≡ Some tree → Says s (p ∷ i) tree.parent tree.nodes
@@ -175,7 +160,7 @@ module _ (limit : ℕ) where
 
   block-read : (i : List Piece) (q : Surroundings) (found : Nodes) (tokens : List Token) (x : Nodes) (b : Bool) → is_extends tokens ≡ b
       → option_and_then (λ t. run limit t i) (statement limit (at q [] found) tokens) ≡ Some x
-      → option_and_then (λ g. file_run limit g i) (if b then extending (parent_of tokens) else kept limit (state None true (at q [] found)) (Block tokens)) ≡ Some (tree_with None x)
+      → option_and_then (λ g. file_run limit g i) (if b then extending (quoted_name tokens) else kept limit (state None true (at q [] found)) (Block tokens)) ≡ Some (tree_with None x)
   block-read i q found tokens x true e h =
       let n = ap (option_and_then (λ t. run limit t i)) (extends-unread q found tokens e) in
       let m : None ≡ Some x = sym n ∙ h in absurd (cc)
@@ -207,8 +192,8 @@ module _ (limit : ℕ) where
   tag-read : (j : List Piece) (tokens : List Token) (name : Name) (x : Nodes) → Extends name tokens → nodes limit j ≡ Some x → (s : Progress)
       → file_run limit (state None true s) (Block tokens ∷ j) ≡ Some (tree_with (Some name) x)
   tag-read j tokens name x e h s =
-      ap (λ (b : Bool). option_and_then (λ g. file_run limit g j) (if b then extending (parent_of tokens) else kept limit (state None true s) (Block tokens))) (word-is tokens e.0)
-      ∙ ap (λ o. option_and_then (λ g. file_run limit g j) (extending o)) (parent-is tokens name e)
+      ap (λ (b : Bool). option_and_then (λ g. file_run limit g j) (if b then extending (quoted_name tokens) else kept limit (state None true s) (Block tokens))) (word-is tokens e.0)
+      ∙ ap (λ o. option_and_then (λ g. file_run limit g j) (extending o)) (quotes-is (codes "extends") tokens name e)
       ∙ behind (Some name) j begun
       ∙ ap (option_map (tree_with (Some name))) h
 

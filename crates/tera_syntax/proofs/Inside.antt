@@ -1,11 +1,12 @@
 -- All spans of a tree lie inside the text that spells it.
-use Rattle.std.proofs.Common.{◌≡◌, ℕ, List, Option, length, IsTrue}
+use Rattle.std.proofs.Common.{◌≡◌, ℕ, false, List, Option, length, IsTrue}
 use Rattle.std.specs.Str.{IsUtf8}
 use Rattle.tera_errors.specs.Site.{Name, Text}
 use Rattle.tera_tree.specs.Delimiters.{delimiters_of, accepted}
 use Rattle.tera_tree.specs.declared.delimiters.Delimiters.{Delimiters}
 use Rattle.tera_tree.specs.Tree.{Expr, Filters, Node, Nodes, Tree}
 use Rattle.tera_tree.specs.Inside.{Within, ExprInside, FiltersInside, NodeInside, NodesInside, Inside}
+use Rattle.tera_tokens.specs.declared.token.Kind.{Kind}
 use Rattle.tera_tokens.specs.declared.token.Kind.TheVariants as k
 use Rattle.tera_tokens.specs.Token.{Token}
 use Rattle.tera_tokens.specs.Input.{Input, begin, kind, start, next, span}
@@ -16,7 +17,7 @@ use Rattle.tera_expressions.proofs.Calls.{calls_lie}
 use Rattle.tera_expressions.proofs.Inside.{expr_lies, filters_lie}
 use Rattle.tera_syntax.specs.declared.heads.Surroundings.{Surroundings}
 use Rattle.tera_syntax.specs.Heads.{Head, IfHead, ForHead, SetHead, SectionHead, BlockHead, make}
-use Rattle.tera_syntax.specs.Grammar.{DerivesWhole, whole, DerivesPipe, pipe, Simple, set, breaks, continues, Opens, choice, loop, capture, filtered, section, block, GoesOn, elif, DerivesNodes, empty, content, blank, comment, print, single, bodied, DerivesRest, ended, split, chained, Front, nothing, space, remark, DerivesFile, root, child}
+use Rattle.tera_syntax.specs.Grammar.{DerivesWhole, whole, DerivesPipe, pipe, Simple, set, includes, breaks, continues, Opens, choice, loop, capture, filtered, section, block, GoesOn, elif, DerivesNodes, empty, content, blank, comment, print, single, bodied, DerivesRest, ended, split, chained, Front, nothing, space, remark, DerivesFile, root, child}
 use Rattle.tera_syntax.specs.Spells.{Spells}
 
 -- nodes that were read between two places lie inside, and so do the pieces that are left
@@ -36,14 +37,15 @@ behind size i o = (onward_next size i o).orderly
 behind_two : (size : ℕ) (i : Input) → Orderly size i → Orderly size (next (next i))
 behind_two size i o = behind size (next i) (behind size i o)
 
+-- a token that stands here lies inside
+token_inside : (size : ℕ) (s : Kind) (i : Input) → kind i ≡ s → (s ≡ k.End → ⊥) → Orderly size i → Within size (span (start i) (next i))
+token_inside size s i e n o = (start_le size s i e n o, in_order-le size (next i).last (next i).ahead (behind size i o))
+
 simple_inside : (size : ℕ) {q : Surroundings} {node : Node} {tokens : List Token} → Simple q node tokens → InOrder size 0 tokens → NodeInside size node
 simple_inside size {q = q} {tokens = tokens} (set b n w) o = whole_inside size w (behind_two size (next (begin q.in_loop tokens)) (behind size (begin q.in_loop tokens) o))
+simple_inside size {tokens = tokens} (includes w) o = token_inside size k.Text (next (begin false tokens)) w.1 (λ q. cc) (behind size (begin false tokens) o)
 simple_inside size (breaks l w) o = tt
 simple_inside size (continues l w) o = tt
-
--- a name that stands here lies inside
-name_inside : (size : ℕ) (i : Input) → kind i ≡ k.Name → Orderly size i → Within size (span (start i) (next i))
-name_inside size i e o = (start_le size k.Name i e (λ q. cc) o, in_order-le size (next i).last (next i).ahead (behind size i o))
 
 -- the expressions and filters of a head lie inside, and its name
 abbrev HeadInside : ℕ → Head → Type 0
@@ -59,7 +61,7 @@ opens_inside size {q = q} {tokens = tokens} (loop e c w) o = let n = calls_lie s
 opens_inside size (capture b n) o = tt
 opens_inside size {q = q} {tokens = tokens} (filtered b n w) o = pipe_inside size w (behind_two size (next (begin q.in_loop tokens)) (behind size (begin q.in_loop tokens) o))
 opens_inside size {q = q} {tokens = tokens} (section b w) o = pipe_inside size w (behind size (begin q.in_loop tokens) o)
-opens_inside size {q = q} {tokens = tokens} (block b n) o = name_inside size (next (begin q.in_loop tokens)) n.0 (behind size (begin q.in_loop tokens) o)
+opens_inside size {q = q} {tokens = tokens} (block b n) o = token_inside size k.Name (next (begin q.in_loop tokens)) n.0 (λ q. cc) (behind size (begin q.in_loop tokens) o)
 
 goes_on_inside : (size : ℕ) {q : Surroundings} {head : Head} {tokens : List Token} → GoesOn q head tokens → InOrder size 0 tokens → HeadInside size head
 goes_on_inside size {q = q} {tokens = tokens} (elif e w) o = whole_inside size w (behind size (begin q.in_loop tokens) o)

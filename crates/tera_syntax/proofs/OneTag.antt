@@ -8,15 +8,16 @@ use Rattle.tera_tokens.specs.declared.token.Kind.TheVariants as k
 use Rattle.tera_tokens.specs.Token.{Token}
 use Rattle.tera_tokens.specs.Input.{Input, Outcome, begin, kind, text, start, next, span, same}
 use Rattle.tera_tokens.specs.Cut.{is_alone}
-use Rattle.tera_tree.specs.Tree.{Expr, Filters, NoFilters, Node, Set, Break, Continue}
+use Rattle.tera_tokens.specs.Literal.{literal}
+use Rattle.tera_tree.specs.Tree.{Expr, Filters, NoFilters, Node, Set, Include, Break, Continue}
 use Rattle.tera_tree.specs.Depth.{depth, filters_depth, node_depth}
 use Rattle.tera_expressions.specs.Headings.{Names, calls}
 use Rattle.tera_expressions.proofs.Calls.{calls-got, calls-is}
-use Rattle.tera_expressions.proofs.Steps.{guard, same-is, same-refl}
+use Rattle.tera_expressions.proofs.Steps.{guard, same-is, same-refl, alike}
 use Rattle.tera_syntax.specs.declared.heads.Surroundings.{Surroundings}
 use Rattle.tera_syntax.specs.Heads.{Head, IfHead, ForHead, SetHead, SectionHead, BlockHead, head_depth, is_end, is_named, first, ends}
-use Rattle.tera_syntax.specs.Grammar.{DerivesWhole, IsWord, Begins, set_word, Simple, set, breaks, continues, DerivesPipe, Opens, choice, loop, capture, filtered, section, block, GoesOn, elif}
-use Rattle.tera_syntax.specs.Reader.{Tag, Single, Opening, GoingOn, Turning, Closing, looping_by, setting, setting_by, sectioning, blocking, alone, leaving, named, tag_by, tag, whole, pipe}
+use Rattle.tera_syntax.specs.Grammar.{DerivesWhole, IsWord, Begins, Quotes, set_word, Simple, set, includes, breaks, continues, DerivesPipe, Opens, choice, loop, capture, filtered, section, block, GoesOn, elif}
+use Rattle.tera_syntax.specs.Reader.{Tag, Single, Opening, GoingOn, Turning, Closing, looping_by, setting, setting_by, sectioning, blocking, quoted_name, including, alone, leaving, named, tag_by, tag, whole, pipe}
 use Rattle.tera_syntax.proofs.Whole.{whole_sound, whole_complete, pipe_sound, pipe_complete}
 
 -- what is said of a tag with expressions no deeper than this, where it was read
@@ -53,6 +54,22 @@ named-text word name [] h = absurd (cc)
 named-text word name (t ∷ []) h = absurd (cc)
 named-text word name (t ∷ u ∷ []) h = is-word t.text word (both (bytes_eq t.text word) (same k.Name u.kind && bytes_eq u.text name) h).0
 named-text word name (t ∷ u ∷ v ∷ ts) h = absurd (cc)
+
+-- A word and a name in quotes
+
+pub quotes-got : (word : Text) (tokens : List Token) (name : Name) → Begins word tokens → quoted_name tokens ≡ Some name → Quotes word name tokens
+quotes-got word tokens name b h =
+    let i = next (begin false tokens) in
+    let g = guard (same k.Text (kind i)) (if same k.End (kind (next i)) then literal (text i) else None) name h in
+    let l = guard (same k.End (kind (next i))) (literal (text i)) name g.1 in
+    (b, same-is k.Text (kind i) g.0, l.1, same-is k.End (kind (next i)) l.0)
+
+pub quotes-is : (word : Text) (tokens : List Token) (name : Name) → Quotes word name tokens → quoted_name tokens ≡ Some name
+quotes-is word tokens name e =
+    let i = next (begin false tokens) in
+    ap (λ (b : Bool). if b then (if same k.End (kind (next i)) then literal (text i) else None) else None) (alike k.Text (kind i) e.1)
+    ∙ ap (λ (b : Bool). if b then literal (text i) else None) (alike k.End (kind (next i)) e.3)
+    ∙ e.2
 
 -- Soundness, a form at a time
 
@@ -121,6 +138,13 @@ module _ (limit : ℕ) (q outer : Surroundings) (tokens : List Token) (t : Tag) 
       let f = guard (same k.End (kind (next i))) (Some u) t g.1 in
       said u (block b (same-is k.Name (kind i) g.0, same-is k.End (kind (next i)) f.0), omega arith) (some-is u t f.1)
 
+  include-got : Begins (codes "include") tokens → including (next (begin false tokens)) ≡ Some t → Says
+  include-got b h =
+      let i = next (begin false tokens) in
+      let make : Name → Tag = λ name. Single (Include name (span (start i) (next i))) in
+      let p = mapped make (quoted_name tokens) t h in
+      said (make p.0) (includes (quotes-got (codes "include") tokens p.0 b p.1), omega arith) p.2
+
   alone-got : (s : Kind) (word : Text) (u : Tag) → first tokens ≡ s → (IsWord s word tokens → Meant limit q outer tokens u) → alone word tokens u ≡ Some t → Says
   alone-got s word u e m h =
       let g = guard (is_alone word tokens) (Some u) t h in
@@ -137,8 +161,11 @@ module _ (limit : ℕ) (q outer : Surroundings) (tokens : List Token) (t : Tag) 
   abbrev by-break : Text → Option Tag
   by-break word = if bytes_eq word (codes "break") then leaving q.may_leave (codes "break") tokens Break else by-continue word
 
+  abbrev by-include : Text → Option Tag
+  by-include word = if bytes_eq word (codes "include") then including (next (begin false tokens)) else by-break word
+
   abbrev by-block : Text → Option Tag
-  by-block word = if bytes_eq word (codes "block") then blocking (next (begin q.in_loop tokens)) else by-break word
+  by-block word = if bytes_eq word (codes "block") then blocking (next (begin q.in_loop tokens)) else by-include word
 
   abbrev by-filter : Text → Option Tag
   by-filter word = if bytes_eq word (codes "filter") then sectioning limit (next (begin q.in_loop tokens)) else by-block word
@@ -154,10 +181,15 @@ module _ (limit : ℕ) (q outer : Surroundings) (tokens : List Token) (t : Tag) 
   break-by e word true h = leaving-got (codes "break") Break e (λ l w. (breaks l w, omega arith)) h
   break-by e word false h = continue-by e (bytes_eq word (codes "continue")) h
 
+  include-by : first tokens ≡ k.Name → (word : Text) → text (begin false tokens) ≡ word → (b : Bool) → bytes_eq word (codes "include") ≡ b
+      → (if b then including (next (begin false tokens)) else by-break word) ≡ Some t → Says
+  include-by e word f true w h = include-got (e, f ∙ is-word word (codes "include") w) h
+  include-by e word f false w h = break-by e word (bytes_eq word (codes "break")) h
+
   block-by : first tokens ≡ k.Name → (word : Text) → text (begin false tokens) ≡ word → (b : Bool) → bytes_eq word (codes "block") ≡ b
-      → (if b then blocking (next (begin q.in_loop tokens)) else by-break word) ≡ Some t → Says
+      → (if b then blocking (next (begin q.in_loop tokens)) else by-include word) ≡ Some t → Says
   block-by e word f true w h = block-got (e, f ∙ is-word word (codes "block") w) h
-  block-by e word f false w h = break-by e word (bytes_eq word (codes "break")) h
+  block-by e word f false w h = include-by e word f (bytes_eq word (codes "include")) refl h
 
   filter-by : first tokens ≡ k.Name → (word : Text) → text (begin false tokens) ≡ word → (b : Bool) → bytes_eq word (codes "filter") ≡ b
       → (if b then sectioning limit (next (begin q.in_loop tokens)) else by-block word) ≡ Some t → Says
@@ -266,6 +298,18 @@ module _ (limit : ℕ) (q outer : Surroundings) (tokens : List Token) where
       ∙ name-stands i n.0 (if same k.End (kind (next i)) then u else None)
       ∙ ap (λ (b : Bool). if b then u else None) (ap (same k.End) n.1 ∙ same-refl k.End)
 
+  include-named : named limit q tokens (codes "include") ≡ including (next (begin false tokens))
+  unfolding named
+  include-named = refl
+
+  include-read : {name : Name} → Quotes (codes "include") name tokens
+      → tag limit q outer tokens ≡ Some (Single (Include name (span (start (next (begin false tokens))) (next (next (begin false tokens))))))
+  include-read {name = name} w =
+      let i = next (begin false tokens) in
+      by-word (codes "include") w.0
+      ∙ include-named
+      ∙ ap (option_map (λ name. Single (Include name (span (start i) (next i))))) (quotes-is (codes "include") tokens name w)
+
   alone-is : (word : Text) (u : Tag) → IsTrue (is_alone word tokens) → alone word tokens u ≡ Some u
   alone-is word u h = ap (λ (b : Bool). if b then Some u else None) h
 
@@ -274,6 +318,7 @@ module _ (limit : ℕ) (q outer : Surroundings) (tokens : List Token) where
 
   pub simple_read : {node : Node} → Simple q node tokens → node_depth node ≤ suc limit → tag limit q outer tokens ≡ Some (Single node)
   simple_read (set {e = e} b n w) le = set-read e b n w (omega (arith, le))
+  simple_read (includes w) le = include-read w
   simple_read (breaks l w) le = by-word (codes "break") (w.0, alone-text (codes "break") tokens w.1) ∙ break-named ∙ leaving-is (codes "break") Break l w.1
   simple_read (continues l w) le = by-word (codes "continue") (w.0, alone-text (codes "continue") tokens w.1) ∙ continue-named ∙ leaving-is (codes "continue") Continue l w.1
 

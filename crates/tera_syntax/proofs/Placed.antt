@@ -6,7 +6,7 @@ use Rattle.tera_tree.specs.Tree.{Node, Nodes}
 use Rattle.tera_tree.specs.Places.{node_in_place, in_place}
 use Rattle.tera_syntax.specs.declared.heads.Surroundings.{Surroundings}
 use Rattle.tera_syntax.specs.Heads.{Head, IfHead, ForHead, SetHead, SectionHead, BlockHead, make, inside}
-use Rattle.tera_syntax.specs.Grammar.{Simple, set, breaks, continues, DerivesNodes, empty, content, blank, comment, print, single, bodied, DerivesRest, ended, split, chained}
+use Rattle.tera_syntax.specs.Grammar.{Simple, set, includes, breaks, continues, DerivesNodes, empty, content, blank, comment, print, single, bodied, DerivesRest, ended, split, chained}
 
 and-true : (a b : Bool) → a ≡ true → b ≡ true → (a && b) ≡ true
 and-true true b e f = f
@@ -14,6 +14,7 @@ and-true false b e f = absurd (cc)
 
 simple_placed : {q : Surroundings} {node : Node} {tokens : List Token} → Simple q node tokens → IsTrue (node_in_place q.may_leave node)
 simple_placed (set b n w) = refl
+simple_placed (includes w) = refl
 simple_placed (breaks l w) = l
 simple_placed (continues l w) = l
 

@@ -3,14 +3,10 @@ use Rattle.std.specs.Prelude.{ℕ, List, [], ◌∷◌, Bool, true, false, ◌&&
 use Rattle.tera_errors.specs.Site.{Name}
 use Rattle.tera_tree.specs.Tree.{Tree}
 use Rattle.tera_tree.specs.Blocks.{has_each_block_once}
-use Rattle.tera_tokens.specs.declared.token.Kind.TheVariants as k
-use Rattle.tera_tokens.specs.Token.{Token}
-use Rattle.tera_tokens.specs.Input.{Input, begin, kind, text, next, same}
-use Rattle.tera_tokens.specs.Literal.{literal}
 use Rattle.tera_tokens.specs.Cut.{Piece, Words, Comment, Variable, Block, Broken}
 use Rattle.tera_syntax.specs.Heads.{is_extends}
 use Rattle.tera_syntax.specs.Grammar.{is_space}
-use Rattle.tera_syntax.specs.Reader.{Progress, begun, step, finished}
+use Rattle.tera_syntax.specs.Reader.{Progress, begun, quoted_name, step, finished}
 
 -- how far the reading is: what the text extends, whether white space and comments alone were read, and what was read
 pub record File : Type 0 where
@@ -20,14 +16,6 @@ pub record File : Type 0 where
 
 abbrev pub file_begun : File
 file_begun = record { parent = None; is_front = true; progress = begun }
-
--- the name in quotes that ends a tag
-abbrev pub parent_at : Input → Option Name
-parent_at i = if same k.Text (kind i) then (if same k.End (kind (next i)) then literal (text i) else None) else None
-
--- the same behind the first token
-abbrev pub parent_of : List Token → Option Name
-parent_of tokens = parent_at (next (begin false tokens))
 
 -- what was read in front of the tag is no node
 abbrev pub extending : Option Name → Option File
@@ -55,7 +43,7 @@ abbrev pub parent_in : Piece → Option Name
 parent_in (Words words place) = None
 parent_in Comment = None
 parent_in (Variable tokens) = None
-parent_in (Block tokens) = parent_of tokens
+parent_in (Block tokens) = quoted_name tokens
 parent_in Broken = None
 
 -- a piece more, where nodes are no deeper than this

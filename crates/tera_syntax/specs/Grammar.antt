@@ -3,7 +3,7 @@ use Rattle.std.specs.Prelude.{◌≡◌, ◌≢◌, List, [], ◌∷◌, length,
 use Rattle.std.specs.Str.{trim_start}
 use Rattle.tera_errors.specs.Site as site
 use Rattle.tera_errors.specs.declared.span.Span.{Span}
-use Rattle.tera_tree.specs.Tree.{Expr, Filters, NoFilters, Content, Print, Set, Break, Continue, Node, Nodes, NoNodes, MoreNodes}
+use Rattle.tera_tree.specs.Tree.{Expr, Filters, NoFilters, Content, Print, Set, Include, Break, Continue, Node, Nodes, NoNodes, MoreNodes}
 use Rattle.tera_tokens.specs.declared.token.Kind.{Kind}
 use Rattle.tera_tokens.specs.declared.token.Kind.TheVariants as k
 use Rattle.tera_tokens.specs.Token.{Token}
@@ -31,6 +31,12 @@ IsWord s word tokens = (first tokens ≡ s) × IsTrue (is_alone word tokens)
 abbrev pub Begins : site.Text → List Token → Type 0
 Begins word tokens = (first tokens ≡ k.Name) × (text (begin false tokens) ≡ word)
 
+-- the tag is this word, which is not reserved, and behind it this name in quotes
+abbrev pub Quotes : site.Text → site.Name → List Token → Type 0
+Quotes word name tokens =
+    let i = next (begin false tokens) in
+    Begins word tokens × (kind i ≡ k.Text) × (literal (text i) ≡ Some name) × (kind (next i) ≡ k.End)
+
 -- the word that binds a name, in all turns or in this one
 abbrev pub set_word : Bool → site.Text
 set_word true = codes "set_global"
@@ -40,6 +46,9 @@ set_word false = codes "set"
 pub data Simple : Surroundings → Node → List Token → Type 0 where
   set : {q : Surroundings} {is_global : Bool} {e : Expr} {tokens : List Token} → Begins (set_word is_global) tokens → Names (next (begin q.in_loop tokens)) k.Assign → DerivesWhole e (next (next (next (begin q.in_loop tokens))))
       → Simple q (Set (text (next (begin q.in_loop tokens))) e is_global) tokens
+  -- the span is that of the name with its quotes
+  includes : {q : Surroundings} {name : site.Name} {tokens : List Token} → Quotes (codes "include") name tokens
+      → Simple q (Include name (span (start (next (begin false tokens))) (next (next (begin false tokens))))) tokens
   breaks : {q : Surroundings} {tokens : List Token} → IsTrue q.may_leave → IsWord k.Name (codes "break") tokens → Simple q Break tokens
   continues : {q : Surroundings} {tokens : List Token} → IsTrue q.may_leave → IsWord k.Name (codes "continue") tokens → Simple q Continue tokens
 
@@ -86,9 +95,7 @@ mutual
 
 -- the tag is `extends` and this name in quotes
 abbrev pub Extends : site.Name → List Token → Type 0
-Extends name tokens =
-    let i = next (begin false tokens) in
-    Begins (codes "extends") tokens × (kind i ≡ k.Text) × (literal (text i) ≡ Some name) × (kind (next i) ≡ k.End)
+Extends name tokens = Quotes (codes "extends") name tokens
 
 -- nothing but white space
 abbrev pub is_space : site.Text → Bool

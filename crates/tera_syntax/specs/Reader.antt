@@ -6,10 +6,11 @@ use Rattle.tera_tokens.specs.declared.token.Kind.{Kind}
 use Rattle.tera_tokens.specs.declared.token.Kind.TheVariants as k
 use Rattle.tera_tokens.specs.Token.{Token}
 use Rattle.tera_tokens.specs.Input.{Input, Outcome, begin, kind, text, start, next, span, same}
+use Rattle.tera_tokens.specs.Literal.{literal}
 use Rattle.tera_expressions.specs.Expressions.{Deep, expr, filters}
 use Rattle.tera_expressions.specs.Headings.{calls}
 use Rattle.tera_tokens.specs.Cut.{Piece, Words, Comment, Variable, Block, Broken, is_alone}
-use Rattle.tera_tree.specs.Tree.{Expr, Filters, NoFilters, Content, Print, Set, Break, Continue, Node, Nodes, NoNodes, MoreNodes}
+use Rattle.tera_tree.specs.Tree.{Expr, Filters, NoFilters, Content, Print, Set, Include, Break, Continue, Node, Nodes, NoNodes, MoreNodes}
 use Rattle.tera_syntax.specs.declared.heads.Surroundings.{Surroundings}
 use Rattle.tera_syntax.specs.Heads.{Head, IfHead, ForHead, SetHead, SectionHead, BlockHead, outside, make, splits, chains, inside, first, ends}
 
@@ -151,6 +152,18 @@ sectioning limit i = option_map (λ fs. Opening (SectionHead fs)) (pipe limit i)
 abbrev pub blocking : Input → Option Tag
 blocking i = if same k.Name (kind i) then (if same k.End (kind (next i)) then Some (Opening (BlockHead (text i) (span (start i) (next i)))) else None) else None
 
+-- the name in quotes that ends a tag
+abbrev pub quoted_name_at : Input → Option Name
+quoted_name_at i = if same k.Text (kind i) then (if same k.End (kind (next i)) then literal (text i) else None) else None
+
+-- the same behind the first token
+abbrev pub quoted_name : List Token → Option Name
+quoted_name tokens = quoted_name_at (next (begin false tokens))
+
+-- behind `include`
+abbrev pub including : Input → Option Tag
+including i = option_map (λ name. Single (Include name (span (start i) (next i)))) (quoted_name_at i)
+
 -- a tag that is one word
 abbrev pub alone : Text → List Token → Tag → Option Tag
 alone word tokens tag = if is_alone word tokens then Some tag else None
@@ -166,8 +179,9 @@ named limit q tokens word =
     if bytes_eq word (codes "set_global") then setting limit true (next (begin q.in_loop tokens)) else (
     if bytes_eq word (codes "filter") then sectioning limit (next (begin q.in_loop tokens)) else (
     if bytes_eq word (codes "block") then blocking (next (begin q.in_loop tokens)) else (
+    if bytes_eq word (codes "include") then including (next (begin false tokens)) else (
     if bytes_eq word (codes "break") then leaving q.may_leave (codes "break") tokens Break else (
-    if bytes_eq word (codes "continue") then leaving q.may_leave (codes "continue") tokens Continue else Some Closing)))))
+    if bytes_eq word (codes "continue") then leaving q.may_leave (codes "continue") tokens Continue else Some Closing))))))
 
 -- whether a word that begins a statement begins with this byte and is this long
 abbrev pub may_begin : ℕ → ℕ → Bool
@@ -175,8 +189,9 @@ may_begin first size =
     if size == 3 then first == 115 else (
     if size == 5 then first == 98 else (
     if size == 6 then first == 102 else (
+    if size == 7 then first == 105 else (
     if size == 8 then first == 99 else (
-    if size == 10 then first == 115 else false))))
+    if size == 10 then first == 115 else false)))))
 
 abbrev pub tag_by : ℕ → Surroundings → Surroundings → List Token → Kind → Option Tag
 tag_by limit q outer tokens k.If = option_map (λ c. Opening (IfHead c)) (whole limit (next (begin q.in_loop tokens)))

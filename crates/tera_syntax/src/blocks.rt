@@ -67,7 +67,7 @@ fn gather_node<'s>(names: &mut Vec<BlockName<'s>>, node: &Node<'s>) -> Result<()
             gather(names, body.as_slice())
         }
         Node::Content { .. } | Node::Print { .. } | Node::Set { .. } => Ok(()),
-        Node::Break | Node::Continue => Ok(()),
+        Node::Include { .. } | Node::Break | Node::Continue => Ok(()),
     }
 }
 

@@ -2,23 +2,22 @@
 ghost use Rattle.std.specs.Prelude.{◌≡◌, IfErr, List};
 ghost use Rattle.tera_syntax.specs.File as spec;
 ghost use Rattle.tera_syntax.specs.Grammar.{is_space};
+ghost use Rattle.tera_syntax.specs.Reader.{quoted_name};
 ghost use Rattle.tera_syntax.specs.View.{FileBecomes, file_of};
 ghost use Rattle.tera_tokens.specs.Answers.{Answers, IsSyntax};
 ghost use Rattle.tera_tokens.specs.Found.{piece_of};
-ghost use Rattle.tera_tokens.specs.Takes.{input};
 ghost use Rattle.tera_tokens.specs.Token.{tokens_of};
 ghost use Rattle.tera_tokens.specs.declared.token.Token as token;
-ghost use Rattle.tera_tree.specs.View.{quoted_of, tree_of};
+ghost use Rattle.tera_tree.specs.View.{tree_of};
 
 use crate::heads::is_extends;
 use crate::progress::Progress;
-use crate::statements::step;
+use crate::statements::{behind, step};
+use crate::words::quoted_name;
 use std::alloc::Global;
 use tera_tokens::cut::Piece;
-use tera_tokens::input::{Tokens, same};
-use tera_tokens::literal::literal;
-use tera_tokens::refusal::{Reason, Refusal};
-use tera_tokens::token::{Kind, Token};
+use tera_tokens::refusal::Refusal;
+use tera_tokens::token::Token;
 use tera_tree::{ParserOutput, Quoted};
 
 /// How far the reading of a text is.
@@ -28,33 +27,6 @@ pub(crate) struct File<'s> {
     /// Whether white space and comments alone were read.
     is_front: bool,
     progress: Progress<'s>,
-}
-
-/// The name in quotes that ends a tag.
-fn parent<'s>(alloc: Global, ahead: &mut Tokens<'_, 's>) -> Result<Quoted<'s>, Refusal>
-    ensures { Answers quoted_of (spec.parent_at (input ahead.old)) result }
-{
-    if !same(Kind::Text, ahead.kind()) {
-        return Err(ahead.refuse(Reason::Expected(Kind::Text)));
-    }
-    let quoted = ahead.text();
-    ahead.take();
-    if !same(Kind::End, ahead.kind()) {
-        return Err(ahead.refuse(Reason::TagGoesOn));
-    }
-    match literal(alloc, quoted)? {
-        Some(name) => Ok(name),
-        None => Err(ahead.refuse(Reason::Expected(Kind::Text))),
-    }
-}
-
-/// The same behind the first token.
-fn parent_of<'s>(alloc: Global, tag: &[Token<'s>]) -> Result<Quoted<'s>, Refusal>
-    ensures { Answers quoted_of (spec.parent_of (tokens_of tag.now)) result }
-{
-    let mut ahead = Tokens::begin(tag, false);
-    ahead.take();
-    parent(alloc, &mut ahead)
 }
 
 fn is_extends_piece(piece: Piece<'_>, tokens: &[Token<'_>]) -> bool
@@ -114,9 +86,10 @@ impl<'s> File<'s> {
 
     /// The tag `extends`. What was read in front of it is no node.
     fn extend(&mut self, alloc: Global, tag: &[Token<'s>]) -> Result<(), Refusal>
-        ensures { FileBecomes (spec.extending (spec.parent_of (tokens_of tag.now))) result self.new }
+        ensures { FileBecomes (spec.extending (quoted_name (tokens_of tag.now))) result self.new }
     {
-        self.parent = Some(parent_of(alloc, tag)?);
+        let mut ahead = behind(tag, false);
+        self.parent = Some(quoted_name(alloc, &mut ahead)?);
         self.is_front = false;
         self.progress = Progress::begin(alloc);
         Ok(())

@@ -1,10 +1,12 @@
 // Statements that begin with a word which is not reserved, and ends.
-ghost use Rattle.std.specs.Prelude.{◌≡◌, List, get_or, option_and_then};
+ghost use Rattle.std.specs.Prelude.{◌≡◌, IfOk, List, get_or, option_and_then};
 ghost use Rattle.tera_syntax.specs.Reader as spec;
 ghost use Rattle.tera_syntax.specs.View.{Becomes, progress_of};
+ghost use Rattle.tera_tokens.specs.Answers.{Answers};
+ghost use Rattle.tera_tokens.specs.Input.{next};
 ghost use Rattle.tera_tokens.specs.Takes.{input};
 ghost use Rattle.tera_tokens.specs.Token.{Token, tokens_of};
-ghost use Rattle.tera_tree.specs.View.{node_of};
+ghost use Rattle.tera_tree.specs.View.{node_of, quoted_of};
 
 use crate::heads::Head;
 use crate::progress::{Progress, refused};
@@ -12,9 +14,10 @@ use crate::statements::{behind, pipe, put, whole};
 use std::alloc::Global;
 use tera_tokens::cut::is_alone;
 use tera_tokens::input::{Tokens, same};
+use tera_tokens::literal::literal;
 use tera_tokens::refusal::{Reason, Refusal};
 use tera_tokens::token::{Kind, Token};
-use tera_tree::Node;
+use tera_tree::{Node, Quoted};
 
 /// Behind `set` or `set_global`.
 fn set<'s>(
@@ -92,6 +95,45 @@ fn block<'s>(
     progress.open(alloc, false, Head::Block(name, ahead.span(start)), tag)
 }
 
+/// The name in quotes that ends a tag.
+pub(crate) fn quoted_name<'s>(
+    alloc: Global,
+    ahead: &mut Tokens<'_, 's>,
+) -> Result<Quoted<'s>, Refusal>
+    ensures value { Answers quoted_of (spec.quoted_name_at (input ahead.old)) result }
+    ensures place { IfOk result (λ name. input ahead.new ≡ next (input ahead.old)) }
+{
+    if !same(Kind::Text, ahead.kind()) {
+        return Err(ahead.refuse(Reason::Expected(Kind::Text)));
+    }
+    let quoted = ahead.text();
+    ahead.take();
+    if !same(Kind::End, ahead.kind()) {
+        return Err(ahead.refuse(Reason::TagGoesOn));
+    }
+    match literal(alloc, quoted)? {
+        Some(name) => Ok(name),
+        None => Err(ahead.refuse(Reason::Expected(Kind::Text))),
+    }
+}
+
+/// Behind `include`.
+fn include<'s>(
+    progress: &mut Progress<'s>,
+    alloc: Global,
+    tag: &[Token<'_>],
+    ahead: &mut Tokens<'_, 's>,
+) -> Result<(), Refusal>
+    ensures { let s = progress_of progress.old in
+        let meant = spec.including (input ahead.old) in
+        Becomes (option_and_then (spec.taken 200 s (tokens_of tag.now)) meant) result progress.new }
+{
+    let start = ahead.start();
+    let name = quoted_name(alloc, ahead)?;
+    let span = ahead.span(start);
+    put(progress, Node::Include { name, span }, tag)
+}
+
 /// A tag that is one word and leaves a turn of the loop that it stands in.
 fn leave<'s>(
     progress: &mut Progress<'s>,
@@ -122,6 +164,7 @@ fn may_begin(first: u8, size: usize) -> bool
         3 => first == b's',
         5 => first == b'b',
         6 => first == b'f',
+        7 => first == b'i',
         8 => first == b'c',
         10 => first == b's',
         _ => false,
@@ -182,6 +225,10 @@ fn begun<'s>(
         "block" => {
             let mut ahead = behind(tag, progress.surroundings.in_loop);
             block(progress, alloc, tag, &mut ahead)
+        }
+        "include" => {
+            let mut ahead = behind(tag, false);
+            include(progress, alloc, tag, &mut ahead)
         }
         "break" => leave(progress, tag, "break", Node::Break),
         "continue" => leave(progress, tag, "continue", Node::Continue),

@@ -4,6 +4,8 @@
 #[cfg(test)]
 mod applications;
 #[cfg(test)]
+mod includes;
+#[cfg(test)]
 mod readings;
 #[cfg(test)]
 mod rows;

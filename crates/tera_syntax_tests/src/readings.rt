@@ -3,6 +3,7 @@ ghost use Rattle.std.specs.Prelude.{IsTrue, IfSome, OnOk};
 ghost use Rattle.tera_tree.specs.Delimiters.{accepted, delimiters_of};
 
 use crate::applications::{APPLICATION_NESTS, APPLICATIONS, UNREAD_APPLICATIONS};
+use crate::includes::{INCLUDE_NESTS, INCLUDES, UNREAD_INCLUDES};
 use crate::rows::{NESTS, Nest, OTHERS, Other, REFUSED, Row, TREES, Text, UNUSABLE, Unusable};
 use crate::sections::{SECTION_NESTS, SECTIONS, UNREAD_SECTIONS};
 use crate::shown::Shown;
@@ -194,6 +195,33 @@ fn deep_applications(rt: HostRuntime) {
     let wrong = match standard(rt.alloc()) {
         Some(delimiters) => first_deep(rt.alloc(), &delimiters, &APPLICATION_NESTS),
         None => Some(APPLICATION_NESTS.len()),
+    };
+    assert_eq!(rt; wrong, None);
+}
+
+#[test]
+fn includes(rt: HostRuntime) {
+    let wrong = match standard(rt.alloc()) {
+        Some(delimiters) => first_wrong(rt.alloc(), &delimiters, &INCLUDES),
+        None => Some("want of memory"),
+    };
+    assert_eq!(rt; wrong, None);
+}
+
+#[test]
+fn unread_includes(rt: HostRuntime) {
+    let wrong = match standard(rt.alloc()) {
+        Some(delimiters) => first_read(rt.alloc(), &delimiters, &UNREAD_INCLUDES),
+        None => Some("want of memory"),
+    };
+    assert_eq!(rt; wrong, None);
+}
+
+#[test]
+fn deep_includes(rt: HostRuntime) {
+    let wrong = match standard(rt.alloc()) {
+        Some(delimiters) => first_deep(rt.alloc(), &delimiters, &INCLUDE_NESTS),
+        None => Some(INCLUDE_NESTS.len()),
     };
     assert_eq!(rt; wrong, None);
 }

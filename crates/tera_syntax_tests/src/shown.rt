@@ -277,6 +277,11 @@ impl Shown {
                     self.nodes(body);
                     self.put_span(*span);
                 }
+                Node::Include { name, span } => {
+                    self.put("(include ");
+                    self.put(name.as_str());
+                    self.put_span(*span);
+                }
                 Node::Break => self.put("(break)"),
                 Node::Continue => self.put("(continue)"),
             }

@@ -28,6 +28,8 @@ mod faults;
 #[cfg(test)]
 mod global_context;
 #[cfg(test)]
+mod includes;
+#[cfg(test)]
 mod inheritance;
 #[cfg(test)]
 mod language;

@@ -7,19 +7,21 @@ pub fn put_number(text: &mut String, number: usize) -> bool {
     write!(text, "{number}").is_ok()
 }
 
-/// A line `NUMBER TEXT` for the template of this number, which extends the next one.
-fn put_child(lines: &mut String, number: usize) -> bool {
+/// A line `NUMBER TEXT` for the template of this number, which names the next one in this tag.
+fn put_line(lines: &mut String, number: usize, tag: &str) -> bool {
     put_number(lines, number)
-        && lines.push_str(" {% extends '").is_ok()
+        && lines.push_str(" {% ").is_ok()
+        && lines.push_str(tag).is_ok()
+        && lines.push_str(" '").is_ok()
         && put_number(lines, number.saturating_add(1))
         && lines.push_str("' %}\n").is_ok()
 }
 
-/// A line each for so many templates in a row, of which each but the last extends the next.
-fn row(alloc: Global, count: usize) -> Option<String> {
+/// A line each for so many templates in a row, of which each but the last names the next in this tag.
+fn row(alloc: Global, count: usize, tag: &str) -> Option<String> {
     let mut lines = String::new(alloc);
     for number in 1..count {
-        if !put_child(&mut lines, number) {
+        if !put_line(&mut lines, number, tag) {
             return None;
         }
     }
@@ -45,26 +47,23 @@ pub fn adds_all(alloc: Global, engine: &mut Tera, lines: &str) -> bool {
     engine.add_raw_templates(batch.as_slice()).is_ok()
 }
 
-fn is_row_shown(alloc: Global, engine: &mut Tera, count: usize, name: &str) -> bool {
-    match row(alloc, count) {
-        Some(lines) => {
-            let context = Context::new(alloc);
-            adds_all(alloc, engine, lines.as_str()) && shows(engine, &context, name, "the last")
-        }
-        None => false,
-    }
+fn is_shown(alloc: Global, engine: &mut Tera, lines: &str, name: &str) -> bool {
+    let context = Context::new(alloc);
+    adds_all(alloc, engine, lines) && shows(engine, &context, name, "the last")
 }
 
-fn shows_row(alloc: Global, count: usize, name: &str) -> bool {
-    match Tera::new(alloc) {
-        Ok(mut engine) => is_row_shown(alloc, &mut engine, count, name),
-        Err(_) => false,
+/// Whether a template of such a row puts out what the last one is.
+pub fn shows_row(alloc: Global, count: usize, tag: &str, name: &str) -> bool {
+    match (Tera::new(alloc), row(alloc, count, tag)) {
+        (Ok(mut engine), Some(lines)) => is_shown(alloc, &mut engine, lines.as_str(), name),
+        _ => false,
     }
 }
 
 #[test]
 fn many_parents(rt: HostRuntime) {
-    assert!(rt; shows_row(rt.alloc(), 301, "1") && shows_row(rt.alloc(), 10_000, "9990"));
+    assert!(rt; shows_row(rt.alloc(), 301, "extends", "1")
+        && shows_row(rt.alloc(), 10_000, "extends", "9990"));
 }
 
 fn shows_number(alloc: Global, engine: &mut Tera, context: &Context, number: usize) -> bool {

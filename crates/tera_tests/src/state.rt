@@ -1,6 +1,6 @@
 //! What objects of the caller are lent of a rendering.
 use std::alloc::Global;
-use tera::{Context, ErrorKind, Kwargs, State, Value};
+use tera::{ArgFromValue, Context, ErrorKind, Kwargs, State, StringInput, Value};
 
 /// A name, and the text that it stands for, if any.
 #[derive(Clone, Copy)]
@@ -144,4 +144,66 @@ fn filters_are_called(rt: HostRuntime) {
     let context = Context::new(alloc);
     let state = State::new(&context);
     assert!(rt; replaces(alloc, &state) && refuses_unknown(alloc, &state));
+}
+
+fn input_of(alloc: Global, row: Row) -> Option<StringInput> {
+    let mut arguments = Kwargs::new(alloc);
+    match value_of(alloc, row) {
+        Some(value) => {
+            if arguments.insert("of", value).is_ok() {
+                arguments.must_get("of").ok()
+            } else {
+                None
+            }
+        }
+        None => None,
+    }
+}
+
+fn renders(alloc: Global, state: &State<'_>, row: Row) -> bool {
+    match input_of(alloc, row) {
+        Some(input) => match input.rendered(state) {
+            Ok(text) => text.as_str() == row.2,
+            Err(_) => false,
+        },
+        None => false,
+    }
+}
+
+fn keeps_mark(alloc: Global, row: Row) -> bool {
+    match input_of(alloc, row) {
+        Some(input) => {
+            input.as_str() == row.0
+                && input.is_safe() == row.1
+                && match input.inherit_safety(alloc, "x") {
+                    Ok(value) => value.is_safe() == row.1 && value.as_str() == Some("x"),
+                    Err(_) => false,
+                }
+                && input.into_value().is_safe() == row.1
+        }
+        None => false,
+    }
+}
+
+fn renders_all(alloc: Global, state: &State<'_>) -> bool {
+    ROWS.iter().all(|row| renders(alloc, state, *row))
+}
+
+fn keeps_marks(alloc: Global) -> bool {
+    ROWS.iter().all(|row| keeps_mark(alloc, *row))
+}
+
+fn refuses_other_kinds(alloc: Global) -> bool {
+    match StringInput::from_value(alloc, &Value::none()) {
+        Ok(_) => false,
+        Err(error) => matches!(error.kind(), ErrorKind::InvalidArgument),
+    }
+}
+
+#[test]
+fn inputs_are_rendered(rt: HostRuntime) {
+    let alloc = rt.alloc();
+    let context = Context::new(alloc);
+    let state = State::new(&context);
+    assert!(rt; renders_all(alloc, &state) && keeps_marks(alloc) && refuses_other_kinds(alloc));
 }

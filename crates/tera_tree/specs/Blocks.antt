@@ -2,7 +2,7 @@
 use Rattle.std.specs.Prelude.{Bool, true, not, ◌&&◌, List, [], ◌∷◌, ◌++◌, map, bytes_eq}
 use Rattle.std.specs.List.{list_any}
 use Rattle.tera_errors.specs.Site as site
-use Rattle.tera_tree.specs.Tree.{Node, Content, Print, If, Set, Capture, FilterSection, For, Block, Break, Continue, Nodes, NoNodes, MoreNodes}
+use Rattle.tera_tree.specs.Tree.{Node, Content, Print, If, Set, Capture, FilterSection, For, Block, Include, Break, Continue, Nodes, NoNodes, MoreNodes}
 
 -- each with its name and its body, in the order of the text; those inside others too
 abbrev mutual
@@ -15,6 +15,7 @@ abbrev mutual
   node_blocks (FilterSection fs body) = blocks body
   node_blocks (For key n e body other) = blocks body ++ blocks other
   node_blocks (Block n body span) = (n, body) ∷ blocks body
+  node_blocks (Include n span) = []
   node_blocks Break = []
   node_blocks Continue = []
 
@@ -36,6 +37,7 @@ abbrev mutual
   node_top_blocks (FilterSection fs body) = top_blocks body
   node_top_blocks (For key n e body other) = top_blocks body ++ top_blocks other
   node_top_blocks (Block n body span) = n ∷ []
+  node_top_blocks (Include n span) = []
   node_top_blocks Break = []
   node_top_blocks Continue = []
 

@@ -1,6 +1,6 @@
 -- How deep trees are.
 use Rattle.std.specs.Prelude.{ℕ, suc, max, ◌≤◌, false, IsTrue}
-use Rattle.tera_tree.specs.Tree.{Expr, Nothing, Boolean, Integer, Text, Name, Attribute, Index, Slice, Not, Negate, Binary, And, Or, Ternary, Array, Map, Comprehension, Super, Filter, Test, Call, Optional, Absent, Present, Items, NoItems, MoreItems, Entries, NoEntries, MoreEntries, Arguments, NoArguments, MoreArguments, Filters, NoFilters, MoreFilters, Node, Content, Print, If, Set, Capture, FilterSection, For, Block, Break, Continue, Nodes, NoNodes, MoreNodes, Tree}
+use Rattle.tera_tree.specs.Tree.{Expr, Nothing, Boolean, Integer, Text, Name, Attribute, Index, Slice, Not, Negate, Binary, And, Or, Ternary, Array, Map, Comprehension, Super, Filter, Test, Call, Optional, Absent, Present, Items, NoItems, MoreItems, Entries, NoEntries, MoreEntries, Arguments, NoArguments, MoreArguments, Filters, NoFilters, MoreFilters, Node, Content, Print, If, Set, Capture, FilterSection, For, Block, Include, Break, Continue, Nodes, NoNodes, MoreNodes, Tree}
 use Rattle.tera_tree.specs.Places.{in_place}
 use Rattle.tera_tree.specs.Blocks.{has_each_block_once}
 
@@ -60,6 +60,7 @@ abbrev mutual
   node_depth (FilterSection fs body) = suc (max (filters_depth fs) (nodes_depth body))
   node_depth (For key n e body other) = suc (max (depth e) (max (nodes_depth body) (nodes_depth other)))
   node_depth (Block n body span) = suc (nodes_depth body)
+  node_depth (Include n span) = 1
   node_depth Break = 1
   node_depth Continue = 1
 

@@ -4,5 +4,6 @@ pub mod View
 pub mod Places
 pub mod Blocks
 pub mod Calls
+pub mod Includes
 pub mod Depth
 pub mod Inside

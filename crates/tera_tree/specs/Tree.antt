@@ -72,6 +72,8 @@ mutual
     FilterSection : (filters : Filters) (body : Nodes) → Node
     For : (key : Option site.Name) (name : site.Name) (target : Expr) (body : Nodes) (other : Nodes) → Node
     Block : (name : site.Name) (body : Nodes) (span : Span) → Node
+    -- the template to which the name resolves
+    Include : (name : site.Name) (span : Span) → Node
     Break : Node
     Continue : Node
 

@@ -50,6 +50,11 @@ pub enum Node<'s> {
         body: Vec<Node<'s>>,
         span: Span,
     },
+    /// `{% include "name" %}`. The span is that of the name with its quotes.
+    Include {
+        name: Quoted<'s>,
+        span: Span,
+    },
     /// `{% break %}`
     Break,
     /// `{% continue %}`
@@ -92,6 +97,7 @@ impl<'s> Drop for Node<'s> {
                 body: _,
                 span: _,
             } => {}
+            Node::Include { name: _, span: _ } => {}
             Node::Break => {}
             Node::Continue => {}
         }

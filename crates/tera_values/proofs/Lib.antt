@@ -1,4 +1,5 @@
 pub mod Named
+pub mod Places
 pub mod Contexts
 pub mod Contents
 pub mod Powers

@@ -1,5 +1,5 @@
 -- What arguments are read as.
-use Rattle.std.specs.Prelude.{ℕ, pos, Bool, true, false, cond, nat_lt, Option, Some, None, Result, Ok, Err}
+use Rattle.std.specs.Prelude.{ℕ, pos, false, cond, nat_lt, Option, Some, None, Result, Ok, Err}
 use Rattle.tera_errors.specs.Fault.{Fault, invalid_argument, missing_argument}
 use Rattle.tera_values_data.specs.Val.{Val, bool, int, text, array, map}
 
@@ -24,11 +24,6 @@ abbrev pub as_text : Reading
 as_text (text t s) = Ok (text t false)
 as_text v = Err invalid_argument
 
--- a text with its mark
-abbrev pub as_marked_text : Reading
-as_marked_text (text t s) = Ok (text t s)
-as_marked_text v = Err invalid_argument
-
 abbrev pub as_array : Reading
 as_array (array vs) = Ok (array vs)
 as_array v = Err invalid_argument
@@ -50,7 +45,3 @@ read reading (Some v) = given (reading v)
 abbrev pub read_needed : Reading → Option Val → Result Val Fault
 read_needed reading None = Err missing_argument
 read_needed reading (Some v) = reading v
-
-abbrev pub is_text : Val → Bool
-is_text (text t s) = true
-is_text v = false

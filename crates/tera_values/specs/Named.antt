@@ -1,5 +1,5 @@
 -- Things by name, in byte order of the names.
-use Rattle.std.specs.Prelude.{List, [], ◌∷◌, Option, Some, None, cond, map}
+use Rattle.std.specs.Prelude.{ℕ, suc, Result, Ok, Err, List, [], ◌∷◌, Option, Some, None, cond, map}
 use Rattle.std.specs.declared.cmp.Ordering.{Ordering}
 use Rattle.std.specs.Ordering.{nat_cmp, match_ordering}
 use Rattle.std.specs.Cmp.Lexicographic.{slice_cmp}
@@ -24,6 +24,15 @@ at_name n (e ∷ es) = cond (bytes_eq n e.0) (Some e.1) (at_name n es)
 abbrev pub put : {A : Type 0} → Name → A → Named A → Named A
 put n a [] = (n, a) ∷ []
 put n a (e ∷ es) = match_ordering (name_cmp n e.0) ((n, a) ∷ e ∷ es) ((n, a) ∷ es) (e ∷ put n a es)
+
+abbrev pub further : Result ℕ ℕ → Result ℕ ℕ
+further (Ok at) = Ok (suc at)
+further (Err at) = Err (suc at)
+
+-- where a name stands, or where it goes
+abbrev pub place : {A : Type 0} → Name → Named A → Result ℕ ℕ
+place n [] = Err 0
+place n (e ∷ es) = match_ordering (name_cmp n e.0) (Err 0) (Ok 0) (further (place n es))
 
 -- all of the first, put into the second one by one
 abbrev pub put_all : {A : Type 0} → Named A → Named A → Named A

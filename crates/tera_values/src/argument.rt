@@ -4,9 +4,8 @@ ghost use Rattle.tera_errors.specs.Fault.{Fault};
 ghost use Rattle.tera_errors.specs.Answer.{Gives, MemorySuffices};
 ghost use Rattle.tera_values_data.specs.Val.{Val, bool, int, text, array, map, vals, entries};
 ghost use Rattle.tera_values_data.specs.Access.{IsScalar};
-ghost use Rattle.tera_values.specs.Arguments.{as_bool, as_int, as_natural, as_text, as_marked_text, as_array, as_map};
+ghost use Rattle.tera_values.specs.Arguments.{as_bool, as_int, as_natural, as_text, as_array, as_map};
 
-use crate::string_input::StringInput;
 use std::alloc::Global;
 use tera_errors::{Error, TeraResult};
 use tera_values_data::{Map, Shape, Value};
@@ -119,19 +118,6 @@ impl ArgFromValue for String {
     fn from_value(alloc: Global, value: &Value) -> TeraResult<String> {
         match value.shape() {
             Shape::Text(content, _) => Ok(String::from_str(alloc, content)?),
-            _ => Err(Error::invalid_argument()),
-        }
-    }
-}
-
-impl ArgFromValue for StringInput {
-    ghost stands_for = { λ input. input };
-
-    ghost reading = { as_marked_text };
-
-    fn from_value(_alloc: Global, value: &Value) -> TeraResult<StringInput> {
-        match value.shape() {
-            Shape::Text(_, _) => Ok(StringInput::new(value.try_clone()?)),
             _ => Err(Error::invalid_argument()),
         }
     }

@@ -1,32 +1,37 @@
 // Arguments by name.
 ghost use Rattle.std.specs.Prelude.{◌≡◌, [], IfErr, IfSome, IsErr, OnOk, OnErr, option_copied, option_map};
 ghost use Rattle.tera_errors.specs.Answer.{Gives, Lacks, MemorySuffices};
-ghost use Rattle.tera_values.specs.Named.{at_name, put};
+ghost use Rattle.tera_values.specs.Named.{at_name, name_cmp, place, put, IsAscending};
 ghost use Rattle.tera_values.specs.Arguments.{read, read_needed};
 
 use crate::argument::ArgFromValue;
-use crate::context::Context;
+use crate::name::Name;
 use std::alloc::Global;
+use std::cmp::Ordering;
 use std::marker::Model;
 use tera_errors::{Error, TeraResult};
 use tera_values_data::Value;
 
-/// Arguments by name. Those that nothing asks for are ignored.
+/// Arguments by name. Those that nothing asks for are ignored. They stand in byte order of their names, since a call has
+/// few and gives them in that order: each goes to the end, and none is hashed.
 #[derive(Drop)]
 pub struct Kwargs {
-    values: Context,
+    alloc: Global,
+    entries: Vec<(Name, Value)>,
 }
 
 impl Model for Kwargs {
     ghost use Rattle.tera_values_data.specs.Val.{Val};
     ghost use Rattle.tera_values_data.specs.Code.{val_code};
-    ghost use Rattle.tera_values.specs.Named.{Named, named_code};
+    ghost use Rattle.tera_values.specs.Named.{Named, named_code, IsAscending};
 
     ghost Value = { Named Val };
 
     ghost coded = { named_code val_code };
 
-    ghost view = { λ k. k.values };
+    ghost view = { λ k. k.entries.items };
+
+    ghost invariant = { λ k. IsAscending k.entries.items };
 }
 
 impl Kwargs {
@@ -35,24 +40,43 @@ impl Kwargs {
         ensures { result ≡ [] }
     {
         Kwargs {
-            values: Context::new(alloc),
+            alloc,
+            entries: Vec::new(alloc),
         }
     }
 
-    /// Puts the value at the name, in place of one that stood there.
+    /// Puts the value at the name, in place of one that stood there. The name is copied.
     pub fn insert(&mut self, name: &str, value: Value) -> TeraResult<()>
         ensures ok { OnOk result (self.new ≡ put name.now value self.old) }
         ensures err { OnErr result (self.new ≡ self.old) }
         ensures lacks { IfErr result Lacks }
     {
-        self.values.insert(name, value)
+        let value = value.shared(self.alloc)?;
+        let name = Name::new(self.alloc, name)?;
+        self.put(name, value)
+    }
+
+    /// The same, and both are kept as they lie: neither is copied.
+    pub fn put(&mut self, name: Name, value: Value) -> TeraResult<()>
+        ensures ok { OnOk result (self.new ≡ put name value self.old) }
+        ensures err { OnErr result (self.new ≡ self.old) }
+        ensures lacks { IfErr result Lacks }
+    {
+        match place(self.entries.as_slice(), name.as_str()) {
+            Ok(at) => self.entries[at] = (name, value),
+            Err(at) => self.entries.insert(at, (name, value))?,
+        }
+        Ok(())
     }
 
     /// The argument as it lies. Takes no memory.
     pub fn value(&self, name: &str) -> Option<&Value>
         ensures { option_copied result ≡ at_name name.now self.now }
     {
-        self.values.get(name)
+        match place(self.entries.as_slice(), name) {
+            Ok(at) => Some(&self.entries[at].1),
+            Err(_) => None,
+        }
     }
 
     /// The argument, or none where it is absent; `InvalidArgument` where it is of a wrong type. Only what is read takes memory.
@@ -63,8 +87,8 @@ impl Kwargs {
             MemorySuffices result }
         ensures ready { IfSome (at_name name.now self.now) T.is_ready → MemorySuffices result }
     {
-        match self.values.get(name) {
-            Some(value) => Ok(Some(T::from_value(self.values.alloc(), value)?)),
+        match self.value(name) {
+            Some(value) => Ok(Some(T::from_value(self.alloc, value)?)),
             None => Ok(None),
         }
     }
@@ -77,9 +101,23 @@ impl Kwargs {
             MemorySuffices result }
         ensures ready { IfSome (at_name name.now self.now) T.is_ready → MemorySuffices result }
     {
-        match self.values.get(name) {
-            Some(value) => T::from_value(self.values.alloc(), value),
+        match self.value(name) {
+            Some(value) => T::from_value(self.alloc, value),
             None => Err(Error::missing_argument()),
         }
     }
+}
+
+// Where the name stands, or where it goes.
+fn place(entries: &[(Name, Value)], name: &str) -> Result<usize, usize>
+    requires { IsAscending entries.now }
+    ensures { result ≡ place name.now entries.now }
+{
+    entries.binary_search_by(|entry| compared(entry, name))
+}
+
+fn compared(entry: &(Name, Value), name: &str) -> Ordering
+    ensures { result ≡ name_cmp entry.now.0 name.now }
+{
+    entry.0.as_str().cmp(name)
 }

@@ -1,8 +1,8 @@
 // Arguments by name.
-use crate::sample::Sample::{Int, Ints, Pairs, Safe, Text, Truth};
+use crate::sample::Sample::{Int, Ints, Pairs, Text, Truth};
 use crate::sample::{Sample, is_value, refusal, value};
 use std::alloc::Global;
-use tera_values::{ArgFromValue, Kwargs, Map, StringInput, TeraResult, Value};
+use tera_values::{ArgFromValue, Kwargs, Map, TeraResult, Value};
 
 const WIDE: Sample = Int(4_294_967_296);
 
@@ -80,26 +80,6 @@ fn reads_text(alloc: Global) -> bool {
     }
 }
 
-fn is_marked(answer: TeraResult<Value>) -> bool {
-    match answer {
-        Ok(value) => value.is_safe(),
-        Err(_) => false,
-    }
-}
-
-fn reads_input(alloc: Global) -> bool {
-    let read: Option<TeraResult<StringInput>> = needed(alloc, Safe("<b>"), "x");
-    match read {
-        Some(Ok(input)) => {
-            input.is_safe()
-                && input.as_str() == "<b>"
-                && is_marked(input.inherit_safety(alloc, "x"))
-                && input.into_value().is_safe()
-        }
-        _ => false,
-    }
-}
-
 fn reads_items(alloc: Global) -> bool {
     let read: Option<TeraResult<Vec<Value>>> = needed(alloc, Ints(&[1, 2]), "x");
     match read {
@@ -131,7 +111,6 @@ fn arguments_are_read(rt: HostRuntime) {
         && reads_numbers(alloc)
         && reads_flags(alloc)
         && reads_text(alloc)
-        && reads_input(alloc)
         && reads_items(alloc)
         && reads_map(alloc)
         && reads_value(alloc);

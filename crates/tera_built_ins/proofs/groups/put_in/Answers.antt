@@ -13,20 +13,20 @@ found k places xs p is e = place-found k 0 (map group_view xs) p (ap (λ l. plac
 
 pub index_mut-requires : goal.index_mut-requires
 index_mut-requires c =
-    let at = found (key_view c.args.key.now) c.args.places.now c.args.gathered.now.items c.in-Some.place c.requires (sym c.place_of.ensures ∙ c.in-Some.is) in
+    let at = found (key_view c.args.key) c.args.places.now c.args.gathered.now.items c.in-Some.place c.requires (sym c.place_of.ensures ∙ c.in-Some.is) in
     omega (arith, at.is, at.there, length-map c.args.gathered.now.items group_view, c.args.gathered.now.ok)
 
 pub returns-in_ok-push-in-Some-clause-places : goal.returns-in_ok-push-in-Some-clause-places
 returns-in_ok-push-in-Some-clause-places c =
-    let at = found (key_view c.args.key.now) c.args.places.now c.args.gathered.now.items c.in-Some.place c.requires (sym c.place_of.ensures ∙ c.in-Some.is) in
+    let at = found (key_view c.args.key) c.args.places.now c.args.gathered.now.items c.in-Some.place c.requires (sym c.place_of.ensures ∙ c.in-Some.is) in
     let r = c.index_mut.result.now in
-    c.requires ∙ sym (at.stays c.args.item) ∙ ap (numbered 0) (sym (put_in-set (key_view c.args.key.now) group_view c.args.gathered.now.items c.in-Some.place at _ r c.args.item (ap (λ l. (key_view r.key, l)) c.in_ok-push-in-Some.ensures.items ∙ ap (λ g. (key_view g.key, g.items.items ++ c.args.item ∷ [])) c.index_mut.ensures.value)))
+    c.requires ∙ sym (at.stays c.args.item) ∙ ap (numbered 0) (sym (put_in-set (key_view c.args.key) group_view c.args.gathered.now.items c.in-Some.place at _ r c.args.item (ap (λ l. (key_view r.key, l)) c.in_ok-push-in-Some.ensures.items ∙ ap (λ g. (key_view g.key, g.items.items ++ c.args.item ∷ [])) c.index_mut.ensures.value)))
 
 pub returns-in_ok-push-in-Some-clause-groups : goal.returns-in_ok-push-in-Some-clause-groups
 returns-in_ok-push-in-Some-clause-groups c =
-    let at = found (key_view c.args.key.now) c.args.places.now c.args.gathered.now.items c.in-Some.place c.requires (sym c.place_of.ensures ∙ c.in-Some.is) in
+    let at = found (key_view c.args.key) c.args.places.now c.args.gathered.now.items c.in-Some.place c.requires (sym c.place_of.ensures ∙ c.in-Some.is) in
     let r = c.index_mut.result.now in
-    put_in-set (key_view c.args.key.now) group_view c.args.gathered.now.items c.in-Some.place at _ r c.args.item (ap (λ l. (key_view r.key, l)) c.in_ok-push-in-Some.ensures.items ∙ ap (λ g. (key_view g.key, g.items.items ++ c.args.item ∷ [])) c.index_mut.ensures.value)
+    put_in-set (key_view c.args.key) group_view c.args.gathered.now.items c.in-Some.place at _ r c.args.item (ap (λ l. (key_view r.key, l)) c.in_ok-push-in-Some.ensures.items ∙ ap (λ g. (key_view g.key, g.items.items ++ c.args.item ∷ [])) c.index_mut.ensures.value)
 
 absent : (k : KeyVal) (places : List (KeyVal × Val)) (xs : List declared.Group) (v : Val) → places ≡ numbered 0 (map group_view xs) → place_in (find k places) ≡ None → length xs ≤ 2 ^ 64
     → (insert_pair places k (int (pos (length xs))) ≡ numbered 0 (map group_view xs ++ (k, v ∷ []) ∷ [])) × (put_in k v (map group_view xs) ≡ map group_view xs ++ (k, v ∷ []) ∷ [])
@@ -37,10 +37,10 @@ absent k places xs v is e h =
 
 pub returns-in_ok-begin-in-None-clause-places : goal.returns-in_ok-begin-in-None-clause-places
 returns-in_ok-begin-in-None-clause-places c =
-    let new = absent (key_view c.args.key.now) c.args.places.now c.args.gathered.now.items c.args.item c.requires (sym c.place_of.ensures ∙ c.in-None.is) (omega (arith, c.args.gathered.now.ok, c.args.gathered.now.small)) in
+    let new = absent (key_view c.args.key) c.args.places.now c.args.gathered.now.items c.args.item c.requires (sym c.place_of.ensures ∙ c.in-None.is) (omega (arith, c.args.gathered.now.ok, c.args.gathered.now.small)) in
     c.in_ok-begin-in-None.ensures.places ∙ new.0 ∙ ap (numbered 0) (sym c.in_ok-begin-in-None.ensures.groups)
 
 pub returns-in_ok-begin-in-None-clause-groups : goal.returns-in_ok-begin-in-None-clause-groups
 returns-in_ok-begin-in-None-clause-groups c =
-    let new = absent (key_view c.args.key.now) c.args.places.now c.args.gathered.now.items c.args.item c.requires (sym c.place_of.ensures ∙ c.in-None.is) (omega (arith, c.args.gathered.now.ok, c.args.gathered.now.small)) in
+    let new = absent (key_view c.args.key) c.args.places.now c.args.gathered.now.items c.args.item c.requires (sym c.place_of.ensures ∙ c.in-None.is) (omega (arith, c.args.gathered.now.ok, c.args.gathered.now.small)) in
     c.in_ok-begin-in-None.ensures.groups ∙ sym new.1

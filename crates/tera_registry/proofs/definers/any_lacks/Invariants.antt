@@ -3,5 +3,5 @@ use Rattle.tera_registry.specs.Kept.{entries_of, seen}
 use Rattle.tera_registry.proofs.Absent.{NoneYet}
 use Rattle.tera_registry.proofs.definers.any_lacks.Given as goal
 
-abbrev pub invariant-loop-template : goal.invariant-loop-template
-invariant-loop-template l = NoneYet (lacks_something (seen l.templates l.prefixes)) (entries_of l.templates) l.template-index
+abbrev pub invariant-loop-place : goal.invariant-loop-place
+invariant-loop-place l = NoneYet (lacks_something (seen l.templates l.prefixes)) (entries_of l.templates) l.place

@@ -6,7 +6,8 @@ use Rattle.tera_registry.proofs.Element.{element}
 use Rattle.tera_registry.proofs.Kept.{length-entries}
 use Rattle.tera_registry.proofs.Climb.{top-parents, top-root}
 use Rattle.tera_registry.proofs.Linked.{no-roots, more-roots, ups-inside, all-ups}
-use Rattle.tera_registry.proofs.Checked.{checked-begins, checked-on, checked-says, checked-all}
+use Rattle.tera_registry.proofs.Checked.{checked-begins, checked-on, checked-says, checked-circle, checked-all}
+use Rattle.tera_registry.proofs.Circles.{leads-here, leads-nowhere, not-past-more}
 use Rattle.tera_registry.proofs.Noted.{only-none, no-tops}
 use Rattle.tera_registry.proofs.lineage.roots.Goals as goal
 
@@ -31,6 +32,19 @@ returns-in-Err-clause-answer c =
     let ups = all-ups ts ps _ _ c.as_slice-ups.ensures.value c.in_ok-all.ensures in
     checked-says c.in-Err.fault (seen ts ps) c.loop-place.place e.0 i.checked e.1 (c.in-Err.ensures (seen ts ps) e.0 ups i.tops e.1)
 
+pub returns-then-is_at-clause-answer : goal.returns-then-is_at-clause-answer
+returns-then-is_at-clause-answer c =
+    let ts = c.args.templates.now in
+    let ps = c.args.prefixes.now in
+    let r = seen ts ps in
+    let i = c.loop-place.invariant in
+    let e = element (entries_of ts) c.loop-place.place (omega (arith, length-entries ts, c.loop-place-test.true)) in
+    let ups = all-ups ts ps _ _ c.as_slice-ups.ensures.value c.in_ok-all.ensures in
+    let top = c.in-Ok.ensures r e.0 ups i.tops e.1 in
+    let above = top-parents r e.0 c.in-Ok.top top in
+    let leads = leads-here r c.args.circle c.loop-place.place e.0 c.requires.circle (c.is_at.ensures.there c.if-is_at.true) e.1 in
+    rw c.circular_include.ensures (checked-circle r c.loop-place.place e.0 above.0 i.checked e.1 above.1 leads)
+
 pub loop-place-preserved : goal.loop-place-preserved
 loop-place-preserved c =
     let ts = c.args.templates.now in
@@ -40,8 +54,10 @@ loop-place-preserved c =
     let ups = all-ups ts ps _ _ c.as_slice-ups.ensures.value c.in_ok-all.ensures in
     let top = c.in-Ok.ensures (seen ts ps) e.0 ups i.tops e.1 in
     let above = top-parents (seen ts ps) e.0 c.in-Ok.top top in
+    let not = c.is_at.ensures.not_there c.if-is_at.false in
     record {
-      checked = checked-on (seen ts ps) c.loop-place.place e.0 above.0 i.checked e.1 above.1;
+      checked = checked-on (seen ts ps) c.loop-place.place e.0 above.0 i.checked e.1 above.1 (leads-nowhere (seen ts ps) c.args.circle c.loop-place.place e.0 c.requires.circle i.not_past not e.1);
+      not_past = not-past-more c.args.circle c.loop-place.place i.not_past not;
       all_tops = c.note.ensures.as_many;
       tops = c.note.ensures.known (seen ts ps) e.0 ups i.tops e.1 top.1;
       roots = rw c.in_ok-push-in-Ok.ensures.items (more-roots (seen ts ps) _ c.in-Ok.top.root c.loop-place.place e.0 i.roots e.1 (top-root (seen ts ps) e.0 c.in-Ok.top top));
@@ -59,6 +75,7 @@ loop-place-init c =
     let ups = all-ups ts ps _ _ c.as_slice-ups.ensures.value c.in_ok-all.ensures in
     record {
       checked = checked-begins _;
+      not_past = λ k is. omega arith;
       all_tops = omega (arith, ap length c.as_mut_slice-tops.ensures.value, ap length items, length-replicate {A = Option Top} (length ts) None, ups.as_many, length-entries ts);
       tops = rw (c.as_mut_slice-tops.ensures.value, items) (no-tops _ (length ts));
       roots = rw c.new-roots.ensures.items (no-roots _);

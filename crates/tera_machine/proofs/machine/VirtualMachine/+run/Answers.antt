@@ -1,9 +1,13 @@
 use Rattle.std.proofs.Common.{arith, refl, ◌+◌}
+use Rattle.tera_meaning.specs.Run.{AnInclude}
+use Rattle.tera_machine.specs.Flow.{Written}
 use Rattle.tera_machine.specs.Subject.{here_of}
-use Rattle.tera_machine.proofs.Runs.{here_is, not_stuck, small, one_left, went_on, skipped, skip_within, went_to, place_within, went_out, finished, act_failed, at_ask}
+use Rattle.tera_machine.proofs.Runs.{here_is, not_stuck, small, one_left, went_on, skipped, skip_within, went_to, place_within, went_out, finished, act_failed, at_ask, at_request}
 use Rattle.tera_machine.proofs.Still.{still}
 use Rattle.tera_machine.proofs.Taking.{body_within, came_back}
-use Rattle.tera_machine.proofs.Took.{place_same, moved, stays_then, at_place, ends_at, take_failed, may_run, may_leave, body_over, body_stayed}
+use Rattle.tera_machine.proofs.Took.{place_same, moved, stays_then, at_place, ends_at, take_failed, may_run, run_failed, may_leave, body_over, body_stayed}
+use Rattle.tera_machine.proofs.Ways.{linked_in}
+use Rattle.tera_machine.proofs.Including.{include_failed, may_include, included_failed, may_rejoin, has_includer, include_over, include_stayed}
 use Rattle.tera_machine.proofs.machine.VirtualMachine.+run.Goals as goal
 
 pub run_counted-step-requires-clause-ready : goal.run_counted-step-requires-clause-ready
@@ -79,12 +83,12 @@ pub run_counted-take-requires : goal.run_counted-take-requires
 run_counted-take-requires g t c κs within =
     (omega (arith, one_left c.loop-instruction.invariant.progress c.in-Some.ensures.found, c.in-Some.ensures.count, c.loop-instruction.invariant.progress.counted, c.decreases), (within.0, (within.1, (c.requires.engine, (c.requires.linked, at_place (place_same c.args.self.now c.args.chunk.now.file c.args.chunk.now.file refl (moved c.step.new.self c.loop-instruction.invariant.stays c.in-Ok.ensures.1.0 c.in-Ok.ensures.1.1 (still (here_of c.args.self.now c.file.result.now c.loop-instruction.configuration) (c.loop-instruction.at + 1) c.in-Some.instruction _ _ _ c.in-Ok.ensures.0))) (body_within (at_ask c.loop-instruction.invariant.progress (here_is g.M.Limit.world c.args.self.now _ _ c.args.blocks.now c.loop-instruction.configuration c.args.configuration.now c.requires.engine c.file.ensures c.loop-instruction.invariant.stays.around) c.in-Some.ensures.found c.in-Some.ensures.count c.in-Ok.ensures.0 c.in-Ask.is)))))))
 
-pub run_counted-loop-instruction-smaller : goal.run_counted-loop-instruction-smaller
-run_counted-loop-instruction-smaller g t c =
+pub run_counted-loop-instruction-smaller-in-Ok-take : goal.run_counted-loop-instruction-smaller-in-Ok-take
+run_counted-loop-instruction-smaller-in-Ok-take g t c =
     omega (arith, one_left c.loop-instruction.invariant.progress c.in-Some.ensures.found, c.in-Some.ensures.count, c.in-Ok-take.ensures.counted)
 
-pub run_counted-loop-instruction-preserved : goal.run_counted-loop-instruction-preserved
-run_counted-loop-instruction-preserved g t c = record {
+pub run_counted-loop-instruction-preserved-in-Ok-take : goal.run_counted-loop-instruction-preserved-in-Ok-take
+run_counted-loop-instruction-preserved-in-Ok-take g t c = record {
   progress = came_back (at_ask c.loop-instruction.invariant.progress (here_is g.M.Limit.world c.args.self.now _ _ c.args.blocks.now c.loop-instruction.configuration c.args.configuration.now c.requires.engine c.file.ensures c.loop-instruction.invariant.stays.around) c.in-Some.ensures.found c.in-Some.ensures.count c.in-Ok.ensures.0 c.in-Ask.is) _ _ c.in-Ok-take.ensures.counted c.in-Ok-take.ensures.bounded (ends_at (place_same c.args.self.now c.args.chunk.now.file c.args.chunk.now.file refl (moved c.step.new.self c.loop-instruction.invariant.stays c.in-Ok.ensures.1.0 c.in-Ok.ensures.1.1 (still (here_of c.args.self.now c.file.result.now c.loop-instruction.configuration) (c.loop-instruction.at + 1) c.in-Some.instruction _ _ _ c.in-Ok.ensures.0))) c.in-Ok-take.ensures.ends);
   stays = stays_then (moved c.step.new.self c.loop-instruction.invariant.stays c.in-Ok.ensures.1.0 c.in-Ok.ensures.1.1 (still (here_of c.args.self.now c.file.result.now c.loop-instruction.configuration) (c.loop-instruction.at + 1) c.in-Some.instruction _ _ _ c.in-Ok.ensures.0)) c.in-Ok-take.ensures.stays;
 }
@@ -97,12 +101,38 @@ pub run_counted-returns-in-Err-take-clause-ends : goal.run_counted-returns-in-Er
 run_counted-returns-in-Err-take-clause-ends g t c =
     take_failed (place_same c.args.self.now c.args.chunk.now.file c.args.chunk.now.file refl (moved c.step.new.self c.loop-instruction.invariant.stays c.in-Ok.ensures.1.0 c.in-Ok.ensures.1.1 (still (here_of c.args.self.now c.file.result.now c.loop-instruction.configuration) (c.loop-instruction.at + 1) c.in-Some.instruction _ _ _ c.in-Ok.ensures.0))) (at_ask c.loop-instruction.invariant.progress (here_is g.M.Limit.world c.args.self.now _ _ c.args.blocks.now c.loop-instruction.configuration c.args.configuration.now c.requires.engine c.file.ensures c.loop-instruction.invariant.stays.around) c.in-Some.ensures.found c.in-Some.ensures.count c.in-Ok.ensures.0 c.in-Ask.is) _ _ _ c.in-Err-take.ensures.counted c.in-Err-take.ensures.ends
 
+pub run_counted-include-requires : goal.run_counted-include-requires
+run_counted-include-requires g t c κs within =
+    (omega (arith, one_left c.loop-instruction.invariant.progress c.in-Some.ensures.found, c.in-Some.ensures.count, c.loop-instruction.invariant.progress.counted, c.decreases), (within.0, (within.1, (c.requires.engine, (c.requires.linked, at_place (place_same c.args.self.now c.args.chunk.now.file c.args.chunk.now.file refl (moved c.step.new.self c.loop-instruction.invariant.stays c.in-Ok.ensures.1.0 c.in-Ok.ensures.1.1 (still (here_of c.args.self.now c.file.result.now c.loop-instruction.configuration) (c.loop-instruction.at + 1) c.in-Some.instruction _ _ _ c.in-Ok.ensures.0))) (body_within (at_request c.loop-instruction.invariant.progress (here_is g.M.Limit.world c.args.self.now _ _ c.args.blocks.now c.loop-instruction.configuration c.args.configuration.now c.requires.engine c.file.ensures c.loop-instruction.invariant.stays.around) c.in-Some.ensures.found c.in-Some.ensures.count (AnInclude c.in-Include.name.now c.in-Include.span) Written c.in-Ok.ensures.0 c.in-Include.is refl)))))))
+
+pub run_counted-loop-instruction-smaller : goal.run_counted-loop-instruction-smaller
+run_counted-loop-instruction-smaller g t c =
+    omega (arith, one_left c.loop-instruction.invariant.progress c.in-Some.ensures.found, c.in-Some.ensures.count, c.in-Ok-include.ensures.counted)
+
+pub run_counted-loop-instruction-preserved : goal.run_counted-loop-instruction-preserved
+run_counted-loop-instruction-preserved g t c = record {
+  progress = came_back (at_request c.loop-instruction.invariant.progress (here_is g.M.Limit.world c.args.self.now _ _ c.args.blocks.now c.loop-instruction.configuration c.args.configuration.now c.requires.engine c.file.ensures c.loop-instruction.invariant.stays.around) c.in-Some.ensures.found c.in-Some.ensures.count (AnInclude c.in-Include.name.now c.in-Include.span) Written c.in-Ok.ensures.0 c.in-Include.is refl) _ _ c.in-Ok-include.ensures.counted c.in-Ok-include.ensures.bounded (ends_at (place_same c.args.self.now c.args.chunk.now.file c.args.chunk.now.file refl (moved c.step.new.self c.loop-instruction.invariant.stays c.in-Ok.ensures.1.0 c.in-Ok.ensures.1.1 (still (here_of c.args.self.now c.file.result.now c.loop-instruction.configuration) (c.loop-instruction.at + 1) c.in-Some.instruction _ _ _ c.in-Ok.ensures.0))) c.in-Ok-include.ensures.ends);
+  stays = stays_then (moved c.step.new.self c.loop-instruction.invariant.stays c.in-Ok.ensures.1.0 c.in-Ok.ensures.1.1 (still (here_of c.args.self.now c.file.result.now c.loop-instruction.configuration) (c.loop-instruction.at + 1) c.in-Some.instruction _ _ _ c.in-Ok.ensures.0)) c.in-Ok-include.ensures.stays;
+}
+
+pub run_counted-returns-in-Err-include-clause-bounded : goal.run_counted-returns-in-Err-include-clause-bounded
+run_counted-returns-in-Err-include-clause-bounded g t c =
+    λ h. c.in-Err-include.ensures.bounded (omega (arith, one_left c.loop-instruction.invariant.progress c.in-Some.ensures.found, c.in-Some.ensures.count))
+
+pub run_counted-returns-in-Err-include-clause-ends : goal.run_counted-returns-in-Err-include-clause-ends
+run_counted-returns-in-Err-include-clause-ends g t c =
+    take_failed (place_same c.args.self.now c.args.chunk.now.file c.args.chunk.now.file refl (moved c.step.new.self c.loop-instruction.invariant.stays c.in-Ok.ensures.1.0 c.in-Ok.ensures.1.1 (still (here_of c.args.self.now c.file.result.now c.loop-instruction.configuration) (c.loop-instruction.at + 1) c.in-Some.instruction _ _ _ c.in-Ok.ensures.0))) (at_request c.loop-instruction.invariant.progress (here_is g.M.Limit.world c.args.self.now _ _ c.args.blocks.now c.loop-instruction.configuration c.args.configuration.now c.requires.engine c.file.ensures c.loop-instruction.invariant.stays.around) c.in-Some.ensures.found c.in-Some.ensures.count (AnInclude c.in-Include.name.now c.in-Include.span) Written c.in-Ok.ensures.0 c.in-Include.is refl) _ _ _ c.in-Err-include.ensures.counted c.in-Err-include.ensures.ends
+
 pub run_counted-returns-clause-stays : goal.run_counted-returns-clause-stays
 run_counted-returns-clause-stays g t c = c.loop-instruction.invariant.stays
 
 pub take-run_counted-requires : goal.take-run_counted-requires
 take-run_counted-requires g t c κs within =
     (omega (arith, c.decreases), (within.0, (within.1, (c.requires.engine, (c.requires.linked, may_run g.M.Limit.world c.args.self.now c.args.chunk.now.file c.args.asked c.args.blocks.now c.args.configuration.now c.requires.within c.in-Ok.ensures)))))
+
+pub take-returns-in-Err-run_counted-clause-ends : goal.take-returns-in-Err-run_counted-clause-ends
+take-returns-in-Err-run_counted-clause-ends g t c =
+    run_failed g.M.Limit.world c.args.self.now c.args.chunk.now.file c.args.asked c.args.blocks.now c.args.configuration.now c.requires.within c.in-Ok.ensures c.in-Err-run_counted.error _ _ c.in-Err-run_counted.ensures.ends
 
 pub take-leave-requires : goal.take-leave-requires
 take-leave-requires g t c =
@@ -115,3 +145,31 @@ take-returns-clause-ends g t c =
 pub take-returns-clause-stays : goal.take-returns-clause-stays
 take-returns-clause-stays g t c =
     body_stayed g.M.Limit.world c.args.self.now c.args.chunk.now.file c.args.asked c.args.blocks.now c.args.configuration.now c.requires.within c.in-Ok.ensures c.run_counted.new.configuration c.in-Ok-run_counted.ensures.ends c.in-Ok-run_counted.ensures.stays c.leave.new.blocks c.leave.new.configuration c.leave.result c.leave.ensures.ok
+
+pub include-returns-in-Err-clause-ends : goal.include-returns-in-Err-clause-ends
+include-returns-in-Err-clause-ends g t c =
+    include_failed g.M.Limit.world c.args.self.now c.args.chunk.now.file c.args.name.now c.args.span c.args.blocks.now c.args.configuration.now c.requires.within c.in-Err.error _ _ (omega arith) (c.in-Err.ensures c.args.configuration.now)
+
+pub include-run_counted-requires : goal.include-run_counted-requires
+include-run_counted-requires g t c κs within =
+    (omega (arith, c.decreases), (within.0, (within.1, (c.requires.engine, (linked_in c.for_template-machine.result g.M.Limit.world.registry c.in-Ok.found c.for_template-machine.ensures.template c.for_template-machine.ensures.templates (c.in-Ok.ensures c.args.configuration.now).among, may_include g.M.Limit.world c.args.self.now c.args.chunk.now.file c.args.name.now c.args.span c.args.blocks.now c.args.configuration.now c.requires.within (c.in-Ok.ensures c.args.configuration.now) c.for_template-machine.result c.in_template-inside.result c.for_template-machine.ensures.template c.for_template-machine.ensures.escapes c.in_template-inside.ensures.names c.in_template-inside.ensures.above c.in_template-inside.ensures.included c.in_ok-outer.ensures.begins)))))
+
+pub include-returns-in-Err-run_counted-clause-ends : goal.include-returns-in-Err-run_counted-clause-ends
+include-returns-in-Err-run_counted-clause-ends g t c =
+    included_failed g.M.Limit.world c.args.self.now c.args.chunk.now.file c.args.name.now c.args.span c.args.blocks.now c.args.configuration.now c.requires.within (c.in-Ok.ensures c.args.configuration.now) c.for_template-machine.result c.in_template-inside.result c.for_template-machine.ensures.template c.for_template-machine.ensures.escapes c.in_template-inside.ensures.names c.in_template-inside.ensures.above c.in_template-inside.ensures.included c.in_ok-outer.ensures.begins c.in-Err-run_counted.error _ _ c.in-Err-run_counted.ensures.ends
+
+pub include-end_include-requires-clause-text : goal.include-end_include-requires-clause-text
+include-end_include-requires-clause-text g t c =
+    may_rejoin g.M.Limit.world c.args.self.now c.args.chunk.now.file c.args.name.now c.args.span c.args.blocks.now c.args.configuration.now c.requires.within (c.in-Ok.ensures c.args.configuration.now) c.for_template-machine.result c.in_template-inside.result c.for_template-machine.ensures.template c.for_template-machine.ensures.escapes c.in_template-inside.ensures.names c.in_template-inside.ensures.above c.in_template-inside.ensures.included c.in_ok-outer.ensures.begins c.run_counted.new.configuration c.in-Ok-run_counted.ensures.ends
+
+pub include-end_include-requires-clause-state : goal.include-end_include-requires-clause-state
+include-end_include-requires-clause-state g t c =
+    has_includer g.M.Limit.world c.args.self.now c.args.chunk.now.file c.args.name.now c.args.span c.args.blocks.now c.args.configuration.now c.requires.within (c.in-Ok.ensures c.args.configuration.now) c.for_template-machine.result c.in_template-inside.result c.for_template-machine.ensures.template c.for_template-machine.ensures.escapes c.in_template-inside.ensures.names c.in_template-inside.ensures.above c.in_template-inside.ensures.included c.in_ok-outer.ensures.begins c.run_counted.new.configuration c.in-Ok-run_counted.ensures.ends c.in-Ok-run_counted.ensures.stays
+
+pub include-returns-clause-ends : goal.include-returns-clause-ends
+include-returns-clause-ends g t c =
+    include_over g.M.Limit.world c.args.self.now c.args.chunk.now.file c.args.name.now c.args.span c.args.blocks.now c.args.configuration.now c.requires.within (c.in-Ok.ensures c.args.configuration.now) c.for_template-machine.result c.in_template-inside.result c.for_template-machine.ensures.template c.for_template-machine.ensures.escapes c.in_template-inside.ensures.names c.in_template-inside.ensures.above c.in_template-inside.ensures.included c.in_ok-outer.ensures.begins c.run_counted.new.configuration c.in-Ok-run_counted.ensures.ends c.in-Ok-run_counted.ensures.stays c.end_include.new.self c.end_include.result c.end_include.ensures.rejoins c.end_include.ensures.lacks
+
+pub include-returns-clause-stays : goal.include-returns-clause-stays
+include-returns-clause-stays g t c =
+    include_stayed g.M.Limit.world c.args.self.now c.args.chunk.now.file c.args.name.now c.args.span c.args.blocks.now c.args.configuration.now c.requires.within (c.in-Ok.ensures c.args.configuration.now) c.for_template-machine.result c.in_template-inside.result c.for_template-machine.ensures.template c.for_template-machine.ensures.escapes c.in_template-inside.ensures.names c.in_template-inside.ensures.above c.in_template-inside.ensures.included c.in_ok-outer.ensures.begins c.run_counted.new.configuration c.in-Ok-run_counted.ensures.ends c.in-Ok-run_counted.ensures.stays c.end_include.new.self c.end_include.result c.end_include.ensures.rejoins

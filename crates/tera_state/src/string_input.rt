@@ -1,16 +1,17 @@
 // A text with its mark, as an argument.
-ghost use Rattle.std.specs.Prelude.{◌≡◌, Ok, Some, IsTrue};
+ghost use Rattle.std.specs.Prelude.{◌≡◌, Ok, Some, IsTrue, string_bytes};
 ghost use Rattle.tera_errors.specs.Answer.{Gives};
-ghost use Rattle.tera_values_data.specs.Val.{text};
-ghost use Rattle.tera_values_data.specs.Access.{is_safe, text_of};
-ghost use Rattle.tera_values.specs.Arguments.{is_text};
+ghost use Rattle.tera_values.specs.Val.{text};
+ghost use Rattle.tera_values.specs.Access.{is_safe, text_of};
+ghost use Rattle.tera_built_ins.specs.Tests.{is_text};
+ghost use Rattle.tera_state.specs.Inputs.{as_marked_text};
 
+use crate::state::StateOver;
 use std::alloc::Global;
 use std::marker::Model;
-use tera_errors::TeraResult;
-use tera_values_data::Value;
+use tera_values::{ArgFromValue, Error, Shape, TeraResult, Value};
 
-/// A text with its mark.
+/// A text with its mark, as an argument or the value of a name.
 #[derive(Drop)]
 pub struct StringInput {
     value: Value,
@@ -18,9 +19,9 @@ pub struct StringInput {
 
 impl Model for StringInput {
     ghost use Rattle.std.specs.Prelude.{IsTrue};
-    ghost use Rattle.tera_values_data.specs.Val.{Val};
-    ghost use Rattle.tera_values_data.specs.Code.{val_code};
-    ghost use Rattle.tera_values.specs.Arguments.{is_text};
+    ghost use Rattle.tera_values.specs.Val.{Val};
+    ghost use Rattle.tera_values.specs.Code.{val_code};
+    ghost use Rattle.tera_built_ins.specs.Tests.{is_text};
 
     ghost Value = { Val };
 
@@ -32,7 +33,9 @@ impl Model for StringInput {
 }
 
 impl StringInput {
-    pub(crate) fn new(value: Value) -> StringInput
+    ghost use Rattle.tera_state.specs.View.{view_of, written};
+
+    fn new(value: Value) -> StringInput
         requires { IsTrue (is_text value) }
         ensures { result ≡ value }
     {
@@ -72,6 +75,26 @@ impl StringInput {
             Value::safe_string(alloc, content)
         } else {
             Value::string(alloc, content)
+        }
+    }
+
+    /// What is written for the text where the state stands: its escape where text is escaped and this is not safe.
+    pub fn rendered(&self, state: &StateOver<'_, '_>) -> TeraResult<String>
+        ensures { Gives string_bytes result (Ok (written (view_of state.now) self.now)) }
+    {
+        state.escape_if_needed(&self.value)
+    }
+}
+
+impl ArgFromValue for StringInput {
+    ghost stands_for = { λ input. input };
+
+    ghost reading = { as_marked_text };
+
+    fn from_value(_alloc: Global, value: &Value) -> TeraResult<StringInput> {
+        match value.shape() {
+            Shape::Text(_, _) => Ok(StringInput::new(value.try_clone()?)),
+            _ => Err(Error::invalid_argument()),
         }
     }
 }

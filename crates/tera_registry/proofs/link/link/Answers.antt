@@ -5,12 +5,25 @@ use Rattle.tera_meaning.specs.Registry.{Registry}
 use Rattle.tera_meaning.specs.Adding.{accepted}
 use Rattle.tera_registry.specs.Kept.{seen}
 use Rattle.tera_registry.proofs.Ancestors.{grounded}
+use Rattle.tera_registry.proofs.Circles.{all-edges, closed, first_circle}
 use Rattle.tera_registry.proofs.Checked.{climbed-says, climbed-faultless, lacks-says, keeps-all}
-use Rattle.tera_registry.proofs.lineage.link.Goals as goal
+use Rattle.tera_registry.proofs.link.link.Goals as goal
 
 pub returns-in-Err-clause-answer : goal.returns-in-Err-clause-answer
 returns-in-Err-clause-answer c =
     climbed-says c.in-Err.fault (seen c.args.templates.now c.args.prefixes.now) c.in-Err.ensures.answer
+
+pub least_circle-requires : goal.least_circle-requires
+least_circle-requires c =
+    let ts = c.args.templates.now in
+    let e = all-edges ts c.args.prefixes.now _ _ c.as_slice.ensures.value c.in_ok-edges.ensures in
+    closed (seen ts c.args.prefixes.now) _ e
+
+pub roots-requires-clause-circle : goal.roots-requires-clause-circle
+roots-requires-clause-circle c =
+    let ts = c.args.templates.now in
+    let e = all-edges ts c.args.prefixes.now _ _ c.as_slice.ensures.value c.in_ok-edges.ensures in
+    first_circle (seen ts c.args.prefixes.now) _ c.in_ok-circle.circle e c.in_ok-circle.ensures
 
 pub any_lacks-requires-clause-grounded : goal.any_lacks-requires-clause-grounded
 any_lacks-requires-clause-grounded c =

@@ -1,0 +1,108 @@
+// Templates that are included: how the machine enters their bodies, and how it leaves them.
+ghost use Rattle.std.specs.Prelude.{◌≡◌, ◌≢◌, ◌∷◌, [], OnOk, IfOk, IfErr};
+ghost use Rattle.tera_errors.specs.Answer.{Lacks};
+ghost use Rattle.tera_tree.specs.Blocks.{is_among};
+ghost use Rattle.tera_state.specs.Scopes.{around_of};
+ghost use Rattle.tera_meaning.specs.Run.{AnInclude};
+ghost use Rattle.tera_registry.specs.Templates.{Finds};
+ghost use Rattle.tera_machine.specs.Config.{config_of};
+ghost use Rattle.tera_machine.specs.Included.{names_in};
+ghost use Rattle.tera_machine.specs.Includes.{FindsTemplate, Begins, Rejoins};
+ghost use Rattle.tera_machine.specs.Subject.{IsLinked, place_at};
+
+use crate::blocks::OpenBlocks;
+use crate::bodies::Outer;
+use crate::configuration::Configuration;
+use crate::machine::{Limit, VirtualMachine};
+use tera_code::Chunk;
+use tera_errors::Error;
+use tera_registry::{Found, Templates};
+use tera_values::{Name, Span, TeraResult};
+
+/// The templates that are included and open, the innermost first: each lies where its body is run.
+#[derive(Clone, Copy)]
+pub enum Included<'i> {
+    Nothing,
+    Template(&'i str, &'i Included<'i>),
+}
+
+impl<'i> Included<'i> {
+    /// Whether the template of this name is among them.
+    pub fn has(&self, name: &str) -> bool
+        ensures { result ≡ is_among name.now (names_in self.now) }
+    {
+        match self {
+            Included::Nothing => false,
+            Included::Template(other, outer) => name == *other || outer.has(name),
+        }
+    }
+}
+
+impl<'c> Configuration<'c> {
+    /// The body of an include begins, in a state that reads this one.
+    pub(crate) fn begin_include(&mut self) -> TeraResult<Outer>
+        ensures begins { IfOk result (λ outer. Begins self.old outer self.new) }
+        ensures lacks { IfErr result Lacks }
+    {
+        self.scopes.enter_include()?;
+        self.begin_body()
+    }
+
+    /// The body of an include ends: its text joins the one around it, and all else is as before it.
+    pub(crate) fn end_include(&mut self, outer: Outer) -> TeraResult<()>
+        requires text { (config_of self.old).captures ≢ [] }
+        requires state { self.old.scopes.below ≢ [] }
+        ensures rejoins { OnOk result (Rejoins self.old outer self.new) }
+        ensures lacks { IfErr result Lacks }
+    {
+        let Outer { places, ended } = outer;
+        self.places = places;
+        self.ended = ended;
+        self.scopes.leave();
+        let text = self.texts.end()?;
+        self.texts.append(text.as_str())
+    }
+}
+
+impl<'t> VirtualMachine<'t> {
+    // The template to which the name resolves.
+    fn found<M: Limit>(&self, name: &Name) -> Option<Found<'t>>
+        requires { IsLinked self.now M.world.registry }
+        ensures { Finds M.world.registry name.now result }
+    {
+        let templates: &'t Templates = self.templates;
+        templates.find(name.as_str())
+    }
+
+    /// The template to include, or the fault of the request.
+    pub(crate) fn included<M: Limit>(
+        &self,
+        chunk: &Chunk,
+        name: &Name,
+        span: Span,
+        blocks: &OpenBlocks<'t>,
+    ) -> TeraResult<Found<'t>>
+        requires { IsLinked self.now M.world.registry }
+        ensures { (c : Configuration) → FindsTemplate M.world
+            (place_at self.now chunk.now.file blocks.now c) (AnInclude name.now span)
+            (config_of c).run.vars result }
+    {
+        let Some(found) = self.found::<M>(name) else {
+            return Err(Error::rendering(
+                self.alloc,
+                "no template has this name",
+                chunk.file(),
+                span,
+            ));
+        };
+        if blocks.included.has(found.name) {
+            return Err(Error::rendering(
+                self.alloc,
+                "a template is included inside itself",
+                chunk.file(),
+                span,
+            ));
+        }
+        Ok(found)
+    }
+}

@@ -1,0 +1,12 @@
+use Rattle.std.proofs.Common.{◌≡◌, length, nat_lt, ap, ◌∙◌, arith}
+use Rattle.tera_tree.specs.Includes.{includes}
+use Rattle.tera_tree.specs.View.{nodes_of}
+use Rattle.tera_meaning.specs.Resolve.{resolve}
+use Rattle.tera_registry.proofs.Filled.{fewer-is}
+use Rattle.tera_registry.proofs.definers.misses.Goals as goal
+
+pub returns : goal.returns
+returns c = λ r is.
+    let names = includes (nodes_of c.args.of.now.meant.nodes) in
+    let long : c.len.result ≡ length names = omega (arith, c.len.ensures, ap length c.args.of.now.included) in
+    ap (nat_lt c.args.included) long ∙ fewer-is (resolve r) names c.args.included is

@@ -1,0 +1,25 @@
+use Rattle.std.proofs.Common.{◌++◌, sym, ap}
+use Rattle.tera_tree.specs.Includes.{node_includes}
+use Rattle.tera_code.proofs.Written.{on_ok_by}
+use Rattle.tera_registry.proofs.Bodies.{append-more, node_if, node_for, node_capture, node_section, node_block}
+use Rattle.tera_registry.proofs.includes.+names.Goals as goal
+
+pub add-returns-in_ok-add_all-in-If-clause-ok : goal.add-returns-in_ok-add_all-in-If-clause-ok
+add-returns-in_ok-add_all-in-If-clause-ok t c =
+    on_ok_by _ _ _ _ (append-more _ _ _ _ _ (ap node_includes (node_if _ c.in-If.condition c.in-If.body c.in-If.other _ _ c.in-If.is c.as_slice.ensures.value c.as_slice-in-If.ensures.value)) c.in_ok-add_all-in-If.ensures.ok) c.add_all-in-If.ensures.ok
+
+pub add-returns-in_ok-add_all-in-For-clause-ok : goal.add-returns-in_ok-add_all-in-For-clause-ok
+add-returns-in_ok-add_all-in-For-clause-ok t c =
+    on_ok_by _ _ _ _ (append-more _ _ _ _ _ (ap node_includes (node_for _ c.in-For.heading c.in-For.body c.in-For.other _ _ c.in-For.is c.as_slice-in-For.ensures.value c.as_slice-in-For-2.ensures.value)) c.in_ok-add_all-in-For.ensures.ok) c.add_all-in-For-2.ensures.ok
+
+pub add-returns-in-Capture-clause-ok : goal.add-returns-in-Capture-clause-ok
+add-returns-in-Capture-clause-ok t c =
+    on_ok_by _ _ _ _ (ap (λ x. c.args.found.now.items ++ x) (sym (ap node_includes (node_capture _ c.in-Capture.name c.in-Capture.filters c.in-Capture.body c.in-Capture.is_global _ c.in-Capture.is c.as_slice-in-Capture.ensures.value)))) c.add_all-in-Capture.ensures.ok
+
+pub add-returns-in-FilterSection-clause-ok : goal.add-returns-in-FilterSection-clause-ok
+add-returns-in-FilterSection-clause-ok t c =
+    on_ok_by _ _ _ _ (ap (λ x. c.args.found.now.items ++ x) (sym (ap node_includes (node_section _ c.in-FilterSection.filters c.in-FilterSection.body _ c.in-FilterSection.is c.as_slice-in-FilterSection.ensures.value)))) c.add_all-in-FilterSection.ensures.ok
+
+pub add-returns-in-Block-clause-ok : goal.add-returns-in-Block-clause-ok
+add-returns-in-Block-clause-ok t c =
+    on_ok_by _ _ _ _ (ap (λ x. c.args.found.now.items ++ x) (sym (ap node_includes (node_block _ c.in-Block.name c.in-Block.body c.in-Block.span _ c.in-Block.is c.as_slice-in-Block.ensures.value)))) c.add_all-in-Block.ensures.ok

@@ -1,0 +1,44 @@
+// Links templates, and refuses those that do not go together.
+ghost use Rattle.std.specs.Prelude.{length, IfOk};
+ghost use Rattle.tera_errors.specs.Answer.{Gives};
+ghost use Rattle.tera_meaning.specs.Adding.{accepted};
+ghost use Rattle.tera_registry.specs.Order.{Rises};
+ghost use Rattle.tera_registry.specs.Links.{AreRoots};
+ghost use Rattle.tera_registry.specs.Kept.{entries_of, seen};
+
+use crate::definers::any_lacks;
+use crate::edges::edges;
+use crate::lineage::roots;
+use crate::template::Template;
+use crate::walks::least_circle;
+use std::alloc::Global;
+use std::rc::Rc;
+use tera_errors::{Error, TeraResult};
+
+/// Links templates: the place of the last parent of each. Refuses those that do not go together, with the first fault by
+/// name.
+pub fn link(
+    alloc: Global,
+    templates: &[Rc<Template>],
+    prefixes: &[String],
+) -> TeraResult<Vec<usize>>
+    requires { Rises (entries_of templates.now) }
+    ensures answer { let r = seen templates.now prefixes.now in
+        Gives (λ _. r) result (accepted r) }
+    ensures roots { IfOk result
+        (λ v. AreRoots (seen templates.now prefixes.now) v.items (length templates.now)) }
+{
+    let edges = edges(alloc, templates, prefixes)?;
+    let circle = least_circle(alloc, edges.as_slice())?;
+    let roots = match roots(alloc, templates, prefixes, circle) {
+        Ok(roots) => roots,
+        Err(fault) => return Err(fault),
+    };
+    if any_lacks(templates, prefixes, edges.as_slice()) {
+        return Err(Error::message(
+            alloc,
+            "a template has a block that none of its parents has, or names what is not there",
+        ));
+    }
+    Ok(roots)
+}

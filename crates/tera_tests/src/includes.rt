@@ -322,6 +322,8 @@ fn refused_includes(rt: HostRuntime) {
 
 #[test]
 fn many_includes(rt: HostRuntime) {
-    assert!(rt; shows_row(rt.alloc(), 301, "include", "1")
-        && shows_row(rt.alloc(), 10_000, "include", "9800"));
+    assert!(rt;
+        shows_row(rt.alloc(), 301, "include", "1")
+            && shows_row(rt.alloc(), 10_000, "include", "9800")
+    );
 }

@@ -62,8 +62,10 @@ pub fn shows_row(alloc: Global, count: usize, tag: &str, name: &str) -> bool {
 
 #[test]
 fn many_parents(rt: HostRuntime) {
-    assert!(rt; shows_row(rt.alloc(), 301, "extends", "1")
-        && shows_row(rt.alloc(), 10_000, "extends", "9990"));
+    assert!(rt;
+        shows_row(rt.alloc(), 301, "extends", "1")
+            && shows_row(rt.alloc(), 10_000, "extends", "9990")
+    );
 }
 
 fn shows_number(alloc: Global, engine: &mut Tera, context: &Context, number: usize) -> bool {

@@ -12,7 +12,7 @@ use Rattle.tera_meaning.specs.Resolve.{resolve, root}
 use Rattle.tera_state.specs.Scope.{nothing_set}
 use Rattle.tera_meaning.specs.Run.{Signal, Answer, begun}
 use Rattle.tera_meaning.specs.Lineage.{Definer, definers}
-use Rattle.tera_meaning.specs.Rendering.{autoescapes, text_of, template_meaning, render, render_in, render_template, block_among, render_template_block, render_block, render_block_in}
+use Rattle.tera_meaning.specs.Rendering.{alone, autoescapes, text_of, template_meaning, render, render_in, render_template, block_among, render_template_block, render_block, render_block_in}
 use Rattle.tera_code.specs.Code.{nodes_code}
 use Rattle.tera_code.specs.Listing.{Listing}
 use Rattle.tera_marks.specs.Origin.{Traces}
@@ -43,10 +43,10 @@ answer-found t name context found flag leads is =
     let r = registry_of t in
     let top = root r leads.entry in
     let m : Subject → Answer Signal = λ s. meant s (begun nothing_set) in
-    ap (λ file. m (subject_of t (Some found.name.now) file (nodes_of_file r found.chunk.now.file) context flag)) (file-found r name found leads)
-    ∙ ap (λ ns. m (subject_of t (Some found.name.now) top.0 ns context flag)) (nodes-found r name found leads)
-    ∙ ap (λ b. m (subject_of t (Some found.name.now) top.0 top.1.tree.nodes context b)) (is ∙ ap (autoescapes r) leads.named)
-    ∙ ap (λ n. m (subject_of t (Some n) top.0 top.1.tree.nodes context (autoescapes r leads.entry.0))) leads.named
+    ap (λ file. m (subject_of (alone r) (Some found.name.now) file (nodes_of_file r found.chunk.now.file) context flag)) (file-found r name found leads)
+    ∙ ap (λ ns. m (subject_of (alone r) (Some found.name.now) top.0 ns context flag)) (nodes-found r name found leads)
+    ∙ ap (λ b. m (subject_of (alone r) (Some found.name.now) top.0 top.1.tree.nodes context b)) (is ∙ ap (autoescapes r) leads.named)
+    ∙ ap (λ n. m (subject_of (alone r) (Some n) top.0 top.1.tree.nodes context (autoescapes r leads.entry.0))) leads.named
 
 -- so its text is what the name renders to
 pub text-found : (t : Tera) (name : Name) (context : Named Val) (found : Found) (flag : Bool) → Leads (registry_of t) name found → flag ≡ autoescapes (registry_of t) found.name.now

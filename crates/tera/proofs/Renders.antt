@@ -1,33 +1,42 @@
 -- A rendering beside the registry, from what the reader answered.
-use Rattle.std.proofs.Common.{◌≡◌, Bool, true, false, ◌||◌, IsTrue, Option, Some, None, is_some, Result, Ok, Err, if◌then◌else◌, refl, sym, ap, ap₂, ◌∙◌}
-use Rattle.tera_errors.specs.Site.{Text}
+use Rattle.std.proofs.Common.{◌≡◌, Bool, true, false, ◌||◌, IsTrue, [], Option, Some, None, is_some, Result, Ok, Err, if◌then◌else◌, refl, sym, ap, ap₂, ◌∙◌}
+use Rattle.tera_errors.specs.Site.{Text, Name}
 use Rattle.tera_errors.specs.Fault.{Fault, message}
 use Rattle.tera_errors.specs.Answer.{Refusal, Says, Tells, Gives, GivesOneOf, SaysOneOf}
 use Rattle.tera_values.specs.Alphabet.{marking}
 use Rattle.tera_values.specs.Escape.{escape_html}
 use Rattle.tera_values.specs.Val.{Val}
 use Rattle.tera_values.specs.Named.{Named}
-use Rattle.tera_tree.specs.Tree.{Tree}
+use Rattle.tera_tree.specs.Tree.{Tree, Nodes}
 use Rattle.tera_tree.specs.View.{quoted_option}
 use Rattle.tera_tree.specs.declared.quoted.Quoted.{Quoted}
 use Rattle.tera_syntax.specs.Reads.{Reads}
-use Rattle.tera_state.specs.Scope.{Variables, nothing_set}
+use Rattle.tera_state.specs.Scope.{Around, Variables, nothing_set}
 use Rattle.tera_meaning.specs.Run.{Signal, Answer, Failed, Gave, begun}
 use Rattle.tera_meaning.specs.Registry.{Registry}
-use Rattle.tera_meaning.specs.Known.{has_unknown}
+use Rattle.tera_meaning.specs.Known.{lacks_a_callee}
+use Rattle.tera_meaning.specs.Components.{one_off_name}
 use Rattle.tera_meaning.specs.Accepted.{misses_an_include}
 use Rattle.tera_machine.specs.Config.{Config, config_of, starting}
-use Rattle.tera_machine.specs.Subject.{Subject, meant, meant_from, Means}
+use Rattle.tera_machine.specs.Subject.{Subject, template_of, meant, meant_from, Means}
+use Rattle.tera_machine.specs.declared.machine.VirtualMachine.{VirtualMachine}
+use Rattle.tera_meaning.specs.Whole.{Place}
 use Rattle.tera_machine.specs.declared.configuration.Configuration.{Configuration}
-use Rattle.tera.specs.Registry.{text_meant, one_off_meant}
+use Rattle.tera.specs.declared.engine.Tera.{Tera}
+use Rattle.tera.specs.Registry.{registry_of, place_at, place_in, subject_beside, text_meant, is_there, one_off_meant}
 use Rattle.tera.specs.Rendering.{OneOff, allowed}
-use Rattle.tera_meaning.specs.Rendering.{has_a_block, text_of, one_off_text, render_str, render_str_in, one_off_name}
+use Rattle.tera_meaning.specs.Rendering.{has_a_block, text_of, one_off_text, render_str, render_str_in}
 use Rattle.tera_marks.specs.Origin.{Traces}
 use Rattle.tera_marks.proofs.Traced.{markup_is_traced}
 
 -- what a body means where nothing was written or set yet
 pub begins-means : (about : Subject) (c : Configuration) (v : Variables) → config_of c ≡ starting (begun v) → v ≡ nothing_set → meant_from about c ≡ meant about (begun nothing_set)
 begins-means about c v starts empty = ap (λ x. meant about x.run) starts ∙ ap (λ w. meant about (begun w)) empty
+
+-- a machine in which no component is open runs a body where a rendering begins
+pub begins-at : (m : VirtualMachine) (file : Name) (around outer : Around) → around ≡ outer → m.depth ≡ 0 → place_in m file around ≡ place_at (template_of m) file outer m.autoescape
+begins-at m file around outer is outside =
+    ap₂ (λ a d. let p : Place = record { template = template_of m; file = file; around = a; autoescape = m.autoescape; depth = d; included = []; opened = []; above = [] } in p) is outside
 
 -- the fault that a run ends with is the answer
 pub fault-means : (meant : Answer Signal) (e : Refusal) (before after : Config) → Means meant before (Err e) after → Says e (text_of meant)
@@ -80,14 +89,23 @@ allows o tree parent none no_block =
 abbrev unless : Bool → Result Text Fault → Result Text Fault
 unless b meant = if b then Err message else meant
 
--- nodes that include what is not there are refused
+-- nodes that call what is not there are refused
+pub lacking-says : (s : Subject) (e : Refusal) → lacks_a_callee (is_there s.world) s.tree ≡ true → Tells e message → Says e (one_off_meant s)
+lacking-says s e lacks t =
+    told-says e (one_off_meant s) t (ap (λ b. unless (b || misses_an_include s.world.registry s.tree) (text_meant s)) lacks)
+
+-- and so are those that include it
 pub missing-says : (s : Subject) (e : Refusal) → misses_an_include s.world.registry s.tree ≡ true → Tells e message → Says e (one_off_meant s)
 missing-says s e missing t =
-    told-says e (one_off_meant s) t (ap (λ b. unless b (text_meant s)) (or-true (has_unknown s.tree) (misses_an_include s.world.registry s.tree) missing))
+    told-says e (one_off_meant s) t (ap (λ b. unless b (text_meant s)) (or-true (lacks_a_callee (is_there s.world) s.tree) (misses_an_include s.world.registry s.tree) missing))
 
 -- any others are rendered
-pub nothing-missing : (s : Subject) → has_unknown s.tree ≡ false → misses_an_include s.world.registry s.tree ≡ false → text_meant s ≡ one_off_meant s
+pub nothing-missing : (s : Subject) → lacks_a_callee (is_there s.world) s.tree ≡ false → misses_an_include s.world.registry s.tree ≡ false → text_meant s ≡ one_off_meant s
 nothing-missing s known there = sym (ap₂ (λ b c. unless (b || c) (text_meant s)) known there)
+
+-- what its nodes mean beside the registry is what its tree means
+pub beside-means : (t : Tera) (tree : Tree) (nodes : Nodes) (context : Named Val) (autoescape : Bool) → nodes ≡ tree.nodes → one_off_meant (subject_beside t nodes context autoescape) ≡ one_off_text (registry_of t) tree context autoescape
+beside-means t tree nodes context autoescape is = ap (λ (ns : Nodes). one_off_meant (subject_beside t ns context autoescape)) is
 
 module _ (r : Registry) (by_html : r.engine.escape ≡ escape_html) (text : Text) (context : Named Val) where
   -- the law, where the answer is what the reading means

@@ -1,5 +1,5 @@
 -- What an engine holds, as the definitions see it.
-use Rattle.std.specs.Prelude.{Bool, [], map, string_bytes, Option, Some, None, Result, Err, ◌||◌, if◌then◌else◌}
+use Rattle.std.specs.Prelude.{Bool, [], map, string_bytes, Option, Some, None, is_some, option_map, Result, Err, ◌||◌, if◌then◌else◌}
 use Rattle.tera_errors.specs.Site.{Text, Name}
 use Rattle.tera_errors.specs.Fault.{Fault, message}
 use Rattle.tera_values.specs.Val.{Val}
@@ -7,16 +7,20 @@ use Rattle.tera_values.specs.Named.{Named}
 use Rattle.tera_values.specs.Escape.{escape_html}
 use Rattle.tera_tree.specs.Delimiters.{delimiters_of}
 use Rattle.tera_tree.specs.Tree.{Nodes, NoNodes}
-use Rattle.tera_state.specs.Scope.{nothing_set}
+use Rattle.tera_tree.specs.Definitions.{definitions}
+use Rattle.tera_state.specs.Scope.{Around, nothing_set}
+use Rattle.tera_components.specs.Definition.{Info, definition_of, info_of}
 use Rattle.tera_meaning.specs.Run.{begun}
 use Rattle.tera_meaning.specs.Registry.{Entry, Registry}
 use Rattle.tera_meaning.specs.Resolve.{entry_at}
 use Rattle.tera_meaning.specs.Rendering.{alone, outermost, text_of, block_of}
-use Rattle.tera_meaning.specs.Known.{has_unknown}
+use Rattle.tera_meaning.specs.Known.{lacks_a_callee}
+use Rattle.tera_meaning.specs.Components.{Component, component, one_off_name}
 use Rattle.tera_meaning.specs.Accepted.{misses_an_include}
-use Rattle.tera_meaning.specs.Whole.{Place}
+use Rattle.tera_meaning.specs.Whole.{World, Place, component_at}
 use Rattle.tera_registry.specs.Templates.{templates_of, prefixes_of}
-use Rattle.tera_machine.specs.Subject.{Subject, meant}
+use Rattle.tera_machine.specs.Subject.{Subject, template_of, meant}
+use Rattle.tera_machine.specs.declared.machine.VirtualMachine.{VirtualMachine}
 use Rattle.tera.specs.declared.engine.Tera.{Tera}
 
 abbrev pub registry_of : Tera → Registry
@@ -29,22 +33,35 @@ registry_of t = record {
   engine = record { escape = escape_html };
 }
 
--- where a body stands that a rendering begins with: that of a template, or of a text beside the registry
-abbrev pub place_at : Tera → Option Name → Name → Named Val → Bool → Place
-place_at t template file context autoescape = record {
+-- where a body stands that a rendering begins with, with this around its variables
+abbrev pub place_at : Option Name → Name → Around → Bool → Place
+place_at template file around autoescape = record {
   template = template;
   file = file;
-  around = outermost (registry_of t) context;
+  around = around;
   autoescape = autoescape;
+  depth = 0;
   included = [];
   opened = [];
   above = [];
 }
 
--- nodes of a template's text, as what a run of the machine is about
-abbrev pub subject_of : Tera → Option Name → Name → Nodes → Named Val → Bool → Subject
-subject_of t template file nodes context autoescape =
-    record { world = alone (registry_of t); place = place_at t template file context autoescape; tree = nodes }
+-- nodes beside the templates of an engine, with the components that they define
+abbrev pub beside_of : Tera → Nodes → World
+beside_of t nodes = record { registry = registry_of t; beside = definitions nodes }
+
+-- what a run of the machine is about where nodes are rendered in a context
+abbrev pub subject_of : World → Option Name → Name → Nodes → Named Val → Bool → Subject
+subject_of w template file nodes context autoescape = record {
+  world = w;
+  place = place_at template file (outermost w.registry context) autoescape;
+  tree = nodes;
+}
+
+-- where these nodes are a text beside the registry
+abbrev pub subject_beside : Tera → Nodes → Named Val → Bool → Subject
+subject_beside t nodes context autoescape =
+    subject_of (beside_of t nodes) None one_off_name nodes context autoescape
 
 abbrev pub nodes_in : Option Entry → Nodes
 nodes_in None = NoNodes
@@ -57,17 +74,46 @@ nodes_of_file r file = nodes_in (entry_at file r.templates)
 -- the nodes of a template's text with which the rendering of a template begins
 abbrev pub subject_of_file : Tera → Name → Name → Named Val → Bool → Subject
 subject_of_file t template file context autoescape =
-    subject_of t (Some template) file (nodes_of_file (registry_of t) file) context autoescape
+    subject_of (alone (registry_of t)) (Some template) file (nodes_of_file (registry_of t) file) context autoescape
+
+-- the body of a component, with this around its variables
+abbrev pub subject_of_component : Tera → Option Component → Around → Bool → Subject
+subject_of_component t None around autoescape =
+    record { world = alone (registry_of t); place = place_at None [] around autoescape; tree = NoNodes }
+subject_of_component t (Some c) around autoescape =
+    record { world = alone (registry_of t); place = place_at None c.file around autoescape; tree = c.body }
+
+-- where a machine runs a body that has nothing else open, with this around its variables
+abbrev pub place_in : VirtualMachine → Name → Around → Place
+place_in m file around = record {
+  template = template_of m;
+  file = file;
+  around = around;
+  autoescape = m.autoescape;
+  depth = m.depth;
+  included = [];
+  opened = [];
+  above = [];
+}
 
 -- the text that a body means where it begins a rendering, or its fault
 abbrev pub text_meant : Subject → Result Text Fault
 text_meant s = text_of (meant s (begun nothing_set))
 
--- the same of a body that calls and includes nothing that is not there
+-- whether a name is that of a component of the world
+abbrev pub is_there : World → Name → Bool
+is_there w name = is_some (component_at w name)
+
+-- the text of a body that calls and includes nothing that is not there
 abbrev pub one_off_meant : Subject → Result Text Fault
 one_off_meant s =
-    if has_unknown s.tree || misses_an_include s.world.registry s.tree then Err message else text_meant s
+    if lacks_a_callee (is_there s.world) s.tree || misses_an_include s.world.registry s.tree then Err message
+    else text_meant s
 
 -- and the text that a block has when it ends last in it
 abbrev pub block_meant : Name → Subject → Result Text Fault
 block_meant block s = block_of block (meant s (begun nothing_set))
+
+-- what is told of the component of a name
+abbrev pub info_at : Registry → Name → Option Info
+info_at r name = option_map (λ c. info_of (definition_of c.signature)) (component r name)

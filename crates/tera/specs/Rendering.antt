@@ -1,5 +1,5 @@
 -- What the rendering calls may answer.
-use Rattle.std.specs.Prelude.{◌≡◌, Bool, IsTrue, ◌||◌, ◌++◌, Some, is_some, Result, Ok, Err, if◌then◌else◌}
+use Rattle.std.specs.Prelude.{◌≡◌, Bool, IsTrue, ◌||◌, ◌++◌, Option, Some, is_some, Result, Ok, Err, if◌then◌else◌}
 use Rattle.tera_errors.specs.Site.{Text, Name}
 use Rattle.tera_errors.specs.Fault.{Fault, message}
 use Rattle.tera_errors.specs.Answer.{Refusal, SaysOneOf}
@@ -9,8 +9,9 @@ use Rattle.tera_values.specs.Named.{Named}
 use Rattle.tera_tree.specs.Tree.{Tree}
 use Rattle.tera_syntax.specs.Reads.{Reads}
 use Rattle.tera_meaning.specs.Registry.{Entry, Registry}
+use Rattle.tera_meaning.specs.Components.{one_off_name}
 use Rattle.tera_meaning.specs.Resolve.{resolve}
-use Rattle.tera_meaning.specs.Rendering.{autoescapes, has_a_block, one_off_name, render, render_in, render_block, render_block_in, render_str, render_str_in}
+use Rattle.tera_meaning.specs.Rendering.{autoescapes, has_a_block, render, render_in, render_block, render_block_in, render_component, render_component_in, render_str, render_str_in}
 use Rattle.tera_marks.specs.Origin.{Traces}
 
 -- whether a text may be rendered beside the registry: it extends no template and has no block
@@ -35,6 +36,12 @@ pub record ByName (r : Registry) (name : Name) (context : Named Val) (answer : R
 pub record BlockByName (r : Registry) (name block : Name) (context : Named Val) (answer : Result Text Fault) : Type 0 where
   pub is : answer ≡ render_block r name block context
   pub origin : (t : Entry) → resolve r name ≡ Some t → IsTrue (autoescapes r t.0) → Traces (render_block_in marking r name block context) answer
+
+-- what the rendering of a component may answer: what it means with these arguments, implicits and body, and where texts are
+-- escaped, no markup but from template text or a value marked safe, as the body is
+pub record ComponentByName (r : Registry) (name : Name) (args implicits : Named Val) (body : Option Text) (autoescape : Bool) (answer : Result Text Fault) : Type 0 where
+  pub is : answer ≡ render_component r name args implicits body autoescape
+  pub origin : IsTrue autoescape → Traces (render_component_in marking r name args implicits body autoescape) answer
 
 -- how a call ends that appends what it renders to these bytes: they are followed by the text, or are as before
 abbrev pub AppendsOneOf : Result (Unit {0}) Refusal → Text → Text → (Result Text Fault → Type 0) → Type 0

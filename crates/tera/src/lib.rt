@@ -1,6 +1,7 @@
 //! Tera's template engine: compile, link, render.
 #![tactic(auto)]
 
+pub mod components;
 pub mod engine;
 mod rendering;
 pub mod templates;
@@ -8,6 +9,7 @@ mod texts;
 
 pub use engine::Tera;
 pub use tera_code::{Chunk, Compiler, Instruction, Steps};
+pub use tera_components::{ComponentArg, ComponentDefinition, ComponentInfo};
 pub use tera_machine::VirtualMachine;
 pub use tera_state::{ForLoop, ForLoopIterator, State, StringInput};
 pub use tera_syntax::parse;

@@ -1,11 +1,13 @@
 // From a text, or the code of a body, to what it renders to.
-ghost use Rattle.std.specs.Prelude.{◌≡◌, None, string_bytes};
+ghost use Rattle.std.specs.Prelude.{◌≡◌, [], OnOk, string_bytes};
 ghost use Rattle.tera_errors.specs.Answer.{Gives, GivesOneOf};
+ghost use Rattle.tera_tree.specs.Blocks.{blocks};
 ghost use Rattle.tera_tree.specs.View.{nodes_of, tree_of};
+ghost use Rattle.tera_state.specs.Scope.{nothing_set};
+ghost use Rattle.tera_state.specs.Scopes.{around_of, variables_of};
 ghost use Rattle.tera_code.specs.Code.{nodes_code};
 ghost use Rattle.tera_registry.specs.Templates.{with_templates};
 ghost use Rattle.tera.specs.Rendering.{OneOff, allowed};
-ghost use Rattle.tera_meaning.specs.Rendering.{one_off_name};
 ghost use Rattle.tera_machine.specs.Subject.{Subject, IsLinked, template_of};
 
 use crate::engine::Tera;
@@ -14,8 +16,9 @@ use std::marker::Brand;
 use std::sync::ledger::{Blank, Ledger};
 use tera_code::{Chunk, Steps, compiled};
 use tera_machine::{Configuration, VirtualMachine};
+use tera_registry::Found;
+use tera_registry::components::components;
 use tera_registry::tops::top_blocks;
-use tera_registry::{Found, lacks_a_callee};
 use tera_state::Scopes;
 use tera_syntax::parse;
 use tera_tree::{Node, ParserOutput};
@@ -25,7 +28,7 @@ use tera_values::{Context, Error, Name, TeraResult};
 const ONE_OFF: &str = "__tera_one_off";
 
 impl Tera {
-    ghost use Rattle.tera.specs.Registry.{registry_of, nodes_of_file, subject_of, subject_of_file, text_meant, one_off_meant, block_meant};
+    ghost use Rattle.tera.specs.Registry.{registry_of, nodes_of_file, place_in, subject_of, subject_beside, subject_of_file, text_meant, one_off_meant, block_meant};
 
     pub(crate) fn read_and_render(
         &self,
@@ -60,17 +63,22 @@ impl Tera {
     ) -> TeraResult<String>
         ghost about: { Subject }
         requires ledger { (blank.name ≡ L.name) × (blank.parts ≡ L.parts) × (L.parts ≡ 1) }
-        requires subject { about ≡ subject_of self.now None one_off_name (nodes_of nodes.now) context.now autoescape }
+        requires subject { about
+            ≡ subject_beside self.now (nodes_of nodes.now) context.now autoescape }
+        requires plain { blocks (nodes_of nodes.now) ≡ [] }
         ensures { Gives string_bytes result (one_off_meant about) }
     {
-        let chunk = compiled(self.alloc, ONE_OFF, nodes)?;
-        if lacks_a_callee(&chunk) {
-            return Err(Error::message(self.alloc, "what is called is not there"));
+        let alloc = self.alloc;
+        let chunk = compiled(alloc, ONE_OFF, nodes)?;
+        let own = components(alloc, ONE_OFF, nodes)?;
+        if self.templates.lacks_a_callee(&chunk, own.as_slice()) {
+            return Err(Error::message(alloc, "what is called is not there"));
         }
         if self.templates.misses_an_include(nodes) {
-            return Err(Error::message(self.alloc, "what is included is not there"));
+            return Err(Error::message(alloc, "what is included is not there"));
         }
-        let machine = VirtualMachine::new_with_autoescape(self.alloc, autoescape, &self.templates);
+        let alone = VirtualMachine::new_with_autoescape(alloc, autoescape, &self.templates);
+        let machine = alone.with_components(own.as_slice());
         self.run_body::<L>(&machine, &chunk, context, blank)
     }
 
@@ -120,9 +128,11 @@ impl Tera {
     ) -> TeraResult<String>
         ghost about: { Subject }
         requires ledger { (blank.name ≡ L.name) × (blank.parts ≡ L.parts) × (L.parts ≡ 1) }
-        requires linked { IsLinked machine.now (registry_of self.now) }
-        requires subject { about ≡ subject_of self.now (template_of machine.now) chunk.now.file
-            about.tree context.now machine.now.autoescape }
+        requires registry { about.world.registry ≡ registry_of self.now }
+        requires linked { IsLinked machine.now about.world }
+        requires outside { machine.now.depth ≡ 0 }
+        requires subject { about ≡ subject_of about.world (template_of machine.now)
+            chunk.now.file about.tree context.now machine.now.autoescape }
         requires code { chunk.now.code ≡ nodes_code about.tree 0 }
         ensures { Gives string_bytes result (block_meant block.now about) }
     {
@@ -132,7 +142,7 @@ impl Tera {
         machine.run_for_block::<L>(chunk, block, &mut configuration, &mut steps)
     }
 
-    // The text of a body. The subject is the body's: it tells the machine what it means.
+    // The text of a body that reads this context. The subject is the body's: it tells the machine what it means.
     fn run_body<L: Ledger>(
         &self,
         machine: &VirtualMachine<'_>,
@@ -142,12 +152,35 @@ impl Tera {
     ) -> TeraResult<String>
         ghost about: { Subject }
         requires ledger { (blank.name ≡ L.name) × (blank.parts ≡ L.parts) × (L.parts ≡ 1) }
-        requires linked { IsLinked machine.now (registry_of self.now) }
-        requires subject { about ≡ subject_of self.now (template_of machine.now) chunk.now.file about.tree context.now machine.now.autoescape }
+        requires registry { about.world.registry ≡ registry_of self.now }
+        requires linked { IsLinked machine.now about.world }
+        requires outside { machine.now.depth ≡ 0 }
+        requires subject { about ≡ subject_of about.world (template_of machine.now)
+            chunk.now.file about.tree context.now machine.now.autoescape }
         requires code { chunk.now.code ≡ nodes_code about.tree 0 }
         ensures { Gives string_bytes result (text_meant about) }
     {
         let scopes = Scopes::new(self.alloc, context, Some(&self.global_context));
+        self.run_within::<L>(machine, chunk, scopes, blank)
+    }
+
+    // The same where it reads these scopes.
+    pub(crate) fn run_within<L: Ledger>(
+        &self,
+        machine: &VirtualMachine<'_>,
+        chunk: &Chunk,
+        scopes: Scopes<'_>,
+        blank: Blank,
+    ) -> TeraResult<String>
+        ghost about: { Subject }
+        requires ledger { (blank.name ≡ L.name) × (blank.parts ≡ L.parts) × (L.parts ≡ 1) }
+        requires registry { about.world.registry ≡ registry_of self.now }
+        requires linked { IsLinked machine.now about.world }
+        requires place { place_in machine.now chunk.now.file (around_of scopes) ≡ about.place }
+        requires fresh { variables_of scopes ≡ nothing_set }
+        requires code { chunk.now.code ≡ nodes_code about.tree 0 }
+        ensures { Gives string_bytes result (text_meant about) }
+    {
         let mut configuration = Configuration::new(self.alloc, scopes);
         let mut steps = Steps::<L>::new(blank);
         match machine.run::<L>(chunk, &mut configuration, &mut steps) {
@@ -159,7 +192,8 @@ impl Tera {
 
 // Refuses a text that extends a template, and one that has a block.
 fn allow(alloc: Global, output: &ParserOutput) -> TeraResult<()>
-    ensures { Gives (λ done. done) result (allowed (tree_of output.now)) }
+    ensures done { Gives (λ done. done) result (allowed (tree_of output.now)) }
+    ensures plain { OnOk result (blocks (nodes_of output.now.nodes.items) ≡ []) }
 {
     if output.parent.is_some() {
         return Err(Error::message(alloc, "no template may be extended here"));

@@ -3,11 +3,11 @@ use Rattle.std.proofs.Common.{◌≡◌, ℕ, suc, List, [], ◌∷◌, ◌++◌
 use Rattle.std.proofs.lemmas.List.Elements.{filter_map-append}
 use Rattle.tera_errors.specs.Site as site
 use Rattle.tera_errors.specs.declared.span.Span.{Span}
-use Rattle.tera_tree.specs.Tree.{Expr, Nothing, Boolean, Integer, Text, Name, Attribute, Index, Slice, Not, Negate, Binary, And, Or, Ternary, Array, Map, Comprehension, Super, Filter, Test, Call, Optional, Absent, Present, Items, NoItems, MoreItems, Entries, NoEntries, MoreEntries, Arguments, NoArguments, MoreArguments, Filters, NoFilters, MoreFilters, Node, Content, Print, If, Set, Capture, FilterSection, For, Block, Include, Break, Continue, Nodes, NoNodes, MoreNodes}
+use Rattle.tera_tree.specs.Tree.{Expr, Nothing, Boolean, Integer, Text, Name, Attribute, Index, Slice, Not, Negate, Binary, And, Or, Ternary, Array, Map, Comprehension, Super, Filter, Test, Call, Component, Optional, Absent, Present, Items, NoItems, MoreItems, Entries, NoEntries, MoreEntries, Arguments, NoArguments, MoreArguments, Filters, NoFilters, MoreFilters, Node, Content, Print, If, Set, Capture, FilterSection, For, Block, Include, ComponentCall, Definition, Break, Continue, Nodes, NoNodes, MoreNodes}
 use Rattle.tera_tree.specs.Calls.{Callee, AFilter, expr_calls, optional_calls, items_calls, entries_calls, arguments_calls, filters_calls, node_calls, calls}
 use Rattle.tera_code.specs.declared.instruction.Instruction.{Instruction}
 use Rattle.tera_code.specs.declared.instruction.Instruction.TheVariants as instruction
-use Rattle.tera_code.specs.Code.{Code, expr_code, bound_code, turn_code, items_code, entries_code, arguments_code, filters_code, section_code, is_context, print_code, named, node_code, nodes_code}
+use Rattle.tera_code.specs.Code.{Code, expr_code, bound_code, turn_code, items_code, entries_code, arguments_code, filters_code, section_code, captured_code, is_context, print_code, named, node_code, nodes_code}
 use Rattle.tera_code.specs.Called.{callees, CodeCallsTheSame}
 
 -- one part after another
@@ -47,6 +47,7 @@ mutual
   expr_callees (Filter e n all span) = both (expr_code e) _ (expr_callees e) (both (arguments_code all) _ (arguments_callees all) refl)
   expr_callees (Test e n all span) = both (expr_code e) _ (expr_callees e) (both (arguments_code all) _ (arguments_callees all) refl)
   expr_callees (Call n all span) = both (arguments_code all) _ (arguments_callees all) refl
+  expr_callees (Component n all span) = both (entries_code all) _ (entries_callees all) refl
 
   bound_callees : (o : Optional) → callees (bound_code o) ≡ optional_calls o
   bound_callees Absent = refl
@@ -104,6 +105,9 @@ mutual
       both (expr_code e) _ (expr_callees e) (both (nodes_code body 0) _ (nodes_callees body 0) (nodes_callees other drops))
   node_callees (Block n body span) drops = refl
   node_callees (Include n span) drops = refl
+  node_callees (ComponentCall n all body span) drops =
+      both (captured_code (nodes_code body (suc drops)) span) _ (before (nodes_code body (suc drops)) _ (nodes_callees body (suc drops)) refl) (both (entries_code all) _ (entries_callees all) refl)
+  node_callees (Definition s body) drops = refl
   node_callees Break drops = refl
   node_callees Continue drops = refl
 

@@ -1,46 +1,52 @@
--- Blocks that are found one after another.
+-- Blocks and components that are found one after another.
 use Rattle.std.proofs.Common.{◌≡◌, ℕ, Bool, Bor, List, [], ◌∷◌, ◌++◌, map, Vec, Box, Global, sym, ap, ap₂, ◌∙◌, append_assoc, append-nil}
 use Rattle.std.proofs.lemmas.List.{map-append}
 use Rattle.tera_errors.specs.Site as site
 use Rattle.tera_errors.specs.declared.span.Span.{Span}
 use Rattle.tera_tree.specs.declared.expression.Heading.{Heading}
 use Rattle.tera_tree.specs.declared.expression.Expression.{Expression}
+use Rattle.tera_tree.specs.declared.expression.Entry.{Entry}
+use Rattle.tera_tree.specs.declared.component.Signature.{Signature}
 use Rattle.tera_tree.specs.declared.node.Node.{Node}
 use Rattle.tera_tree.specs.declared.node.SectionFilter.{SectionFilter}
 use Rattle.tera_tree.specs.declared.node.Node.TheVariants as variant
-use Rattle.tera_tree.specs.Tree.{Nodes}
-use Rattle.tera_tree.specs.View.{node_of, nodes_of}
+use Rattle.tera_tree.specs.Tree as tree
+use Rattle.tera_tree.specs.View.{signature_of, node_of, nodes_of}
 use Rattle.tera_tree.specs.Blocks.{blocks, node_blocks}
-use Rattle.tera_tree.proofs.Views.{view_if, view_capture, view_section, view_for, view_block}
+use Rattle.tera_tree.proofs.Views.{view_if, view_capture, view_section, view_for, view_block, view_component_call, view_definition}
 use Rattle.tera_code.specs.declared.blocks.Block.{Block}
 use Rattle.tera_code.specs.Listing.{Listing}
+use Rattle.tera_tree.specs.Definitions.{definitions, node_definitions}
+use Rattle.tera_code.specs.declared.components.Component.{Component}
+use Rattle.tera_code.specs.Code.{listing_of}
 use Rattle.tera_code.specs.Blocks.{block_of, block_listing, block_listings}
+use Rattle.tera_code.specs.Components.{component_of, component_listing, component_listings}
 
 abbrev Kept : Type 0
 Kept = List (site.Name × Listing)
 
 abbrev Bodies : Type 0
-Bodies = List (site.Name × Nodes)
+Bodies = List (site.Name × tree.Nodes)
 
 -- some are found, and others are to come
-pub found_more : (file : site.Name) (old mid : Kept) (some others whole : Bodies) → whole ≡ some ++ others → mid ≡ old ++ block_listings file some → mid ++ block_listings file others ≡ old ++ block_listings file whole
-found_more file old mid some others whole e h =
-    ap (λ x. x ++ block_listings file others) h
-    ∙ append_assoc old (block_listings file some) (block_listings file others)
-    ∙ ap (λ x. old ++ x) (sym (map-append (block_listing file) some others))
-    ∙ ap (λ x. old ++ block_listings file x) (sym e)
+pub found_more : {A B : Type 0} (f : A → B) (old mid : List B) (some others whole : List A) → whole ≡ some ++ others → mid ≡ old ++ map f some → mid ++ map f others ≡ old ++ map f whole
+found_more f old mid some others whole e h =
+    ap (λ x. x ++ map f others) h
+    ∙ append_assoc old (map f some) (map f others)
+    ∙ ap (λ x. old ++ x) (sym (map-append f some others))
+    ∙ ap (λ x. old ++ map f x) (sym e)
 
 -- those of one node are found, and those of the rest are to come
 pub found_node : (file : site.Name) (old mid all : Kept) (node : Node) (before rest : List Node) → before ≡ node ∷ rest → mid ≡ old ++ block_listings file (node_blocks (node_of node)) → old ++ block_listings file (blocks (nodes_of before)) ≡ all → mid ++ block_listings file (blocks (nodes_of rest)) ≡ all
 found_node file old mid all node before rest e h is =
-    found_more file old mid (node_blocks (node_of node)) (blocks (nodes_of rest)) (blocks (nodes_of before)) (ap (λ x. blocks (nodes_of x)) e) h ∙ is
+    found_more (block_listing file) old mid (node_blocks (node_of node)) (blocks (nodes_of rest)) (blocks (nodes_of before)) (ap (λ x. blocks (nodes_of x)) e) h ∙ is
 
 -- none is to come
 pub found_all : (file : site.Name) (old all : Kept) (rest : List Node) → rest ≡ [] → old ++ block_listings file (blocks (nodes_of rest)) ≡ all → old ≡ all
 found_all file old all rest e is = sym (append-nil old) ∙ ap (λ x. old ++ block_listings file (blocks (nodes_of x))) (sym e) ∙ is
 
 -- one is found, and those inside it are to come
-pub found_one : (file : site.Name) (old mid : List Block) (block : Block) (body : site.Name × Nodes) (inside : Bodies) → mid ≡ old ++ block ∷ [] → block_of block ≡ block_listing file body → map block_of mid ++ block_listings file inside ≡ map block_of old ++ block_listings file (body ∷ inside)
+pub found_one : (file : site.Name) (old mid : List Block) (block : Block) (body : site.Name × tree.Nodes) (inside : Bodies) → mid ≡ old ++ block ∷ [] → block_of block ≡ block_listing file body → map block_of mid ++ block_listings file inside ≡ map block_of old ++ block_listings file (body ∷ inside)
 found_one file old mid block body inside e h =
     ap (λ x. map block_of x ++ block_listings file inside) e
     ∙ ap (λ x. x ++ block_listings file inside) (map-append block_of old (block ∷ []))
@@ -71,8 +77,40 @@ blocks_section node filters body xs is a =
     ∙ ap node_blocks (sym (view_section filters body))
     ∙ ap (λ n. node_blocks (node_of n)) (sym is)
 
+pub blocks_component_call : (node : Node) (name : Bor (List ℕ)) (attributes : Vec Entry Global) (body : Vec Node Global) (span : Span) (xs : List Node) → node ≡ variant.ComponentCall name attributes body span → xs ≡ body.items → blocks (nodes_of xs) ≡ node_blocks (node_of node)
+blocks_component_call node name attributes body span xs is a =
+    ap (λ x. blocks (nodes_of x)) a
+    ∙ ap node_blocks (sym (view_component_call name attributes body span))
+    ∙ ap (λ n. node_blocks (node_of n)) (sym is)
+
+pub blocks_definition : (node : Node) (signature : Box Signature Global) (body : Vec Node Global) (xs : List Node) → node ≡ variant.Definition signature body → xs ≡ body.items → blocks (nodes_of xs) ≡ node_blocks (node_of node)
+blocks_definition node signature body xs is a =
+    ap (λ x. blocks (nodes_of x)) a
+    ∙ ap node_blocks (sym (view_definition signature body))
+    ∙ ap (λ n. node_blocks (node_of n)) (sym is)
+
 pub blocks_block : (node : Node) (name : Bor (List ℕ)) (body : Vec Node Global) (span : Span) (xs : List Node) → node ≡ variant.Block name body span → xs ≡ body.items → (name.now, nodes_of xs) ∷ blocks (nodes_of xs) ≡ node_blocks (node_of node)
 blocks_block node name body span xs is a =
     ap (λ x. (name.now, nodes_of x) ∷ blocks (nodes_of x)) a
     ∙ ap node_blocks (sym (view_block name body span))
     ∙ ap (λ n. node_blocks (node_of n)) (sym is)
+
+-- those of one node are found, and those of the rest are to come
+pub defined_node : (file : site.Name) (mid old all : List (tree.Signature × Listing)) (node : Node) (before rest : List Node) → before ≡ node ∷ rest → mid ≡ old ++ component_listings file (node_definitions (node_of node)) → old ++ component_listings file (definitions (nodes_of before)) ≡ all
+    → mid ++ component_listings file (definitions (nodes_of rest)) ≡ all
+defined_node file mid old all node before rest e h is =
+    found_more (component_listing file) old mid (node_definitions (node_of node)) (definitions (nodes_of rest)) (definitions (nodes_of before)) (ap (λ x. definitions (nodes_of x)) e) h ∙ is
+
+-- none is to come
+pub defined_all : (file : site.Name) (old all : List (tree.Signature × Listing)) (rest : List Node) → rest ≡ [] → old ++ component_listings file (definitions (nodes_of rest)) ≡ all → old ≡ all
+defined_all file old all rest e is = sym (append-nil old) ∙ ap (λ x. old ++ component_listings file (definitions (nodes_of x))) (sym e) ∙ is
+
+pub defined_one : (file : site.Name) (old mid : List Component) (component : Component) (node : Node) (signature : Box Signature Global) (body : Vec Node Global) (xs : List Node) → node ≡ variant.Definition signature body → xs ≡ body.items → mid ≡ old ++ component ∷ []
+    → component.signature.now ≡ signature.value → component.code ≡ listing_of file (nodes_of xs) → map component_of mid ≡ map component_of old ++ component_listings file (node_definitions (node_of node))
+defined_one file old mid component node signature body xs is a e h g =
+    ap (λ x. map component_of x) e
+    ∙ map-append component_of old (component ∷ [])
+    ∙ ap₂ (λ s c. map component_of old ++ (signature_of s, c) ∷ []) h g
+    ∙ ap (λ x. map component_of old ++ (signature_of signature.value, listing_of file (nodes_of x)) ∷ []) a
+    ∙ ap (λ n. map component_of old ++ component_listings file (node_definitions n)) (sym (view_definition signature body))
+    ∙ ap (λ n. map component_of old ++ component_listings file (node_definitions (node_of n))) (sym is)

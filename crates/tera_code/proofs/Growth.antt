@@ -130,6 +130,8 @@ module _ (s t : Shelf) (u : IsUtf8 s.pool) (v : IsUtf8 t.pool) (g : Grows s t) w
   within_stays (packed.JumpIfTrueOrPop skip) w = tt
   within_stays (packed.TakeBlock name span) w = (below_name name w.0, below_span span w.1)
   within_stays (packed.TakeInclude name span) w = (below_name name w.0, below_span span w.1)
+  within_stays (packed.TakeComponent has_body name keys span) w =
+      (below_name name w.0, below_longer s.keys t.keys keys g.1.1.1.1.0 w.1, below_span span w.2)
   within_stays (packed.TakeAbove span arguments) w = below_span span w
   within_stays (packed.ApplyFilter call span) w = (below_call call w.0, below_span span w.1)
   within_stays (packed.ApplyTest call span) w = (below_call call w.0, below_span span w.1)
@@ -170,6 +172,9 @@ module _ (s t : Shelf) (u : IsUtf8 s.pool) (v : IsUtf8 t.pool) (g : Grows s t) w
   unpacked_stays (packed.JumpIfTrueOrPop skip) w = refl
   unpacked_stays (packed.TakeBlock name span) w = ap₂ (λ x y. instruction.TakeBlock x y) (name_same name w.0) (span_same span w.1)
   unpacked_stays (packed.TakeInclude name span) w = ap₂ (λ x y. instruction.TakeInclude x y) (name_same name w.0) (span_same span w.1)
+  unpacked_stays (packed.TakeComponent has_body name keys span) w =
+      ap₂ (λ x y. instruction.TakeComponent x y has_body (span_at t span)) (name_same name w.0) (at_longer s.keys t.keys keys _ g.1.1.1.1.0 w.1)
+      ∙ ap (λ z. instruction.TakeComponent (name_at s name) (get_or s.keys keys []) has_body z) (span_same span w.2)
   unpacked_stays (packed.TakeAbove span arguments) w = ap (λ y. instruction.TakeAbove arguments y) (span_same span w)
   unpacked_stays (packed.ApplyFilter call span) w = ap₂ (λ (x : Text × List Text) y. instruction.ApplyFilter x.0 x.1 y) (call_same call w.0) (span_same span w.1)
   unpacked_stays (packed.ApplyTest call span) w = ap₂ (λ (x : Text × List Text) y. instruction.ApplyTest x.0 x.1 y) (call_same call w.0) (span_same span w.1)

@@ -15,12 +15,12 @@ use Rattle.tera_tree.specs.declared.node.SectionFilter.{SectionFilter}
 use Rattle.tera_tree.specs.declared.node.Node.TheVariants as variant
 use Rattle.tera_tree.specs.Tree.{Key, Arguments, If}
 use Rattle.tera_tree.specs.View.{key_option, literal_option, comprehension_of, optional_of, expr_of, items_of, entries_of, arguments_of, filters_of, node_of, nodes_of, for_of}
-use Rattle.tera_tree.proofs.Views.{view_array, view_map, view_super, view_filter, view_test, view_call, view_if, view_capture, view_section, view_for}
+use Rattle.tera_tree.proofs.Views.{view_array, view_map, view_super, view_filter, view_test, view_call, view_component, view_if, view_capture, view_section, view_component_call, view_for}
 use Rattle.tera_code.specs.declared.instruction.Instruction.{Instruction}
 use Rattle.tera_code.specs.declared.instruction.Instruction.TheVariants as instruction
 use Rattle.tera_code.specs.Listing.{Listing}
 use Rattle.tera_tree.specs.View.{keys_of}
-use Rattle.tera_code.specs.Code.{expr_code, items_code, entries_code, arguments_code, arguments_length, argument_names, section_code, node_code, nodes_code, turn_code, spreads_of, keys_in, lengthened}
+use Rattle.tera_code.specs.Code.{expr_code, items_code, entries_code, arguments_code, arguments_length, argument_names, section_code, captured_code, handed_code, node_code, nodes_code, turn_code, spreads_of, keys_in, lengthened}
 use Rattle.tera_code.specs.Places.{filled, behind, looped}
 use Rattle.tera_code.proofs.Lengthened.{lengthened-lengthened}
 use Rattle.tera_code.proofs.Filled.{keep_written, comprehension_written}
@@ -124,6 +124,16 @@ call_written l m n e name arguments span xs ys r is a b h =
     ∙ ap (λ t. lengthened l (expr_code t)) (sym (view_call name arguments span))
     ∙ ap (λ t. lengthened l (expr_code (expr_of t))) (sym is))
 
+-- attributes are written, and what takes them
+pub component_written : (l m n : Listing) (e : Expression) (name : Bor (List ℕ)) (attributes : Vec Entry Global) (span : Span) (xs ys : List Entry) (r : Result (Unit {0}) Refusal) → e ≡ expression.Component name attributes span → xs ≡ attributes.items → ys ≡ attributes.items
+    → m ≡ lengthened l (entries_code (entries_of xs)) → OnOk r (n ≡ lengthened m (instruction.TakeComponent name.now (keys_in (entries_of ys)) false span ∷ [])) → OnOk r (n ≡ lengthened l (expr_code (expr_of e)))
+component_written l m n e name attributes span xs ys r is a b h =
+    let take = λ (y : List Entry). instruction.TakeComponent name.now (keys_in (entries_of y)) false span ∷ [] in
+    on_ok_by r n _ _ (ap₂ (λ k y. lengthened k (take y)) (h ∙ ap (λ x. lengthened l (entries_code (entries_of x))) a) b
+    ∙ lengthened-lengthened l (entries_code (entries_of attributes.items)) (take attributes.items)
+    ∙ ap (λ t. lengthened l (expr_code t)) (sym (view_component name attributes span))
+    ∙ ap (λ t. lengthened l (expr_code (expr_of t))) (sym is))
+
 pub if_written : (l m : Listing) (node : Node) (drops : ℕ) (condition : Box Expression Global) (body other : Vec Node Global) (e : Expression) (xs ys : List Node) (r : Result (Unit {0}) Refusal) → node ≡ variant.If condition body other → e ≡ condition.value → xs ≡ body.items → ys ≡ other.items
     → OnOk r (m ≡ lengthened l (node_code (If (expr_of e) (nodes_of xs) (nodes_of ys)) drops)) → OnOk r (m ≡ lengthened l (node_code (node_of node) drops))
 if_written l m node drops condition body other e xs ys r is c a b h =
@@ -158,6 +168,17 @@ section_written l m n node drops filters body fs xs r is a b h =
     on_ok_by r n _ _ (ap (λ k. lengthened k (instruction.WriteTop ∷ [])) (h ∙ ap₂ (λ y z. lengthened l (section y z)) a b)
     ∙ lengthened-lengthened l (section filters.items body.items) (instruction.WriteTop ∷ [])
     ∙ ap (λ t. lengthened l (node_code t drops)) (sym (view_section filters body))
+    ∙ ap (λ t. lengthened l (node_code (node_of t) drops)) (sym is))
+
+-- the text of a body is written, and the component that is handed it
+pub component_call_written : (l m n : Listing) (node : Node) (drops : ℕ) (name : Bor (List ℕ)) (attributes : Vec Entry Global) (body : Vec Node Global) (span : Span) (es : List Entry) (xs : List Node) (r : Result (Unit {0}) Refusal) → node ≡ variant.ComponentCall name attributes body span → es ≡ attributes.items → xs ≡ body.items
+    → m ≡ lengthened l (captured_code (nodes_code (nodes_of xs) (suc drops)) span) → OnOk r (n ≡ lengthened m (handed_code name.now (entries_of es) span)) → OnOk r (n ≡ lengthened l (node_code (node_of node) drops))
+component_call_written l m n node drops name attributes body span es xs r is a b h =
+    let text = λ (z : List Node). captured_code (nodes_code (nodes_of z) (suc drops)) span in
+    let hand = λ (y : List Entry). handed_code name.now (entries_of y) span in
+    on_ok_by r n _ _ (ap₂ (λ k y. lengthened k (hand y)) (h ∙ ap (λ z. lengthened l (text z)) b) a
+    ∙ lengthened-lengthened l (text body.items) (hand attributes.items)
+    ∙ ap (λ t. lengthened l (node_code t drops)) (sym (view_component_call name attributes body span))
     ∙ ap (λ t. lengthened l (node_code (node_of t) drops)) (sym is))
 
 view_comprehension : (value : Box Expression Global) (heading : Box Heading Global) (condition : Option (Box Expression Global)) (span : Span) → expr_of (expression.Comprehension value heading condition span) ≡ comprehension_of value.value heading.value condition span

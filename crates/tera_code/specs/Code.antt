@@ -3,7 +3,7 @@ use Rattle.std.specs.Prelude.{ℕ, suc, Bool, true, false, ◌+◌, cond, List, 
 use Rattle.tera_errors.specs.Site as site
 use Rattle.tera_errors.specs.declared.span.Span.{Span}
 use Rattle.tera_values.specs.Val as val
-use Rattle.tera_tree.specs.Tree.{Key, Expr, Nothing, Boolean, Integer, Text, Name, Attribute, Index, Slice, Not, Negate, Binary, And, Or, Ternary, Array, Map, Comprehension, Super, Filter, Test, Call, Optional, Absent, Present, Items, NoItems, MoreItems, Entries, NoEntries, MoreEntries, Arguments, NoArguments, MoreArguments, Filters, NoFilters, MoreFilters, first_span, Node, Content, Print, If, Set, Capture, FilterSection, For, Block, Include, Break, Continue, Nodes, NoNodes, MoreNodes}
+use Rattle.tera_tree.specs.Tree.{Key, Expr, Nothing, Boolean, Integer, Text, Name, Attribute, Index, Slice, Not, Negate, Binary, And, Or, Ternary, Array, Map, Comprehension, Super, Filter, Test, Call, Component, Optional, Absent, Present, Items, NoItems, MoreItems, Entries, NoEntries, MoreEntries, Arguments, NoArguments, MoreArguments, Filters, NoFilters, MoreFilters, first_span, Node, Content, Print, If, Set, Capture, FilterSection, For, Block, Include, ComponentCall, Definition, Break, Continue, Nodes, NoNodes, MoreNodes}
 use Rattle.tera_code.specs.declared.instruction.Instruction.{Instruction}
 use Rattle.tera_code.specs.declared.instruction.Instruction.TheVariants as instruction
 use Rattle.tera_code.specs.Listing.{Listing}
@@ -94,6 +94,8 @@ abbrev mutual
       expr_code value ++ (arguments_code arguments ++ instruction.ApplyTest name (argument_names arguments) span ∷ [])
   expr_code (Call name arguments span) =
       arguments_code arguments ++ instruction.CallFunction name (argument_names arguments) span ∷ []
+  expr_code (Component name attributes span) =
+      entries_code attributes ++ instruction.TakeComponent name (keys_in attributes) false span ∷ []
 
   -- a bound that isn't written is none
   pub bound_code : Optional → Code
@@ -137,6 +139,15 @@ filters_code (MoreFilters name arguments span rest) =
 abbrev pub section_code : Filters → Code → Code
 section_code fs body = instruction.StartCapture ∷ (body ++ (instruction.EndCapture (first_span fs) ∷ filters_code fs))
 
+-- the text that a body puts out, on top of the operands
+abbrev pub captured_code : Code → Span → Code
+captured_code body span = instruction.StartCapture ∷ (body ++ instruction.EndCapture span ∷ [])
+
+-- a component is handed the text that is on top of the operands, and what it makes of that and of its attributes is put out
+abbrev pub handed_code : site.Name → Entries → Span → Code
+handed_code name attributes span =
+    entries_code attributes ++ (instruction.TakeComponent name (keys_in attributes) true span ∷ instruction.WriteTop ∷ [])
+
 -- the number is that of the captures that were begun in the innermost loop: a jump to its end drops them
 abbrev mutual
   pub node_code : Node → ℕ → Code
@@ -152,6 +163,9 @@ abbrev mutual
       expr_code target ++ loop_tail key name (nodes_code body 0) (nodes_code other drops)
   node_code (Block name body span) drops = instruction.TakeBlock name span ∷ []
   node_code (Include name span) drops = instruction.TakeInclude name span ∷ []
+  node_code (ComponentCall name attributes body span) drops =
+      captured_code (nodes_code body (suc drops)) span ++ handed_code name attributes span
+  node_code (Definition signature body) drops = []
   node_code Break drops = instruction.LeaveLoop drops ∷ []
   node_code Continue drops = instruction.LeaveTurn drops ∷ []
 

@@ -1,5 +1,6 @@
--- Kinds of expressions.
-use Rattle.tera_tree.specs.Tree.{Expr, Nothing, Boolean, Integer, Text, Name, Attribute, Index, Slice, Not, Negate, Binary, And, Or, Ternary, Array, Map, Comprehension, Super, Filter, Test, Call}
+-- Kinds of expressions and of nodes.
+use Rattle.std.specs.Prelude.{Bool, true, false}
+use Rattle.tera_tree.specs.Tree.{Expr, Nothing, Boolean, Integer, Text, Name, Attribute, Index, Slice, Not, Negate, Binary, And, Or, Ternary, Array, Map, Comprehension, Super, Filter, Test, Call, Component, Node, If, For, Capture, FilterSection, ComponentCall}
 
 pub data Group : Type 0 where
   -- has no parts
@@ -14,7 +15,7 @@ pub data Group : Type 0 where
   Collection : Group
   -- goes over items
   Loop : Group
-  -- is made elsewhere of arguments by name
+  -- is made elsewhere of what it is given by name
   Request : Group
 
 abbrev pub group : Expr → Group
@@ -39,3 +40,17 @@ group (Super all span) = Request
 group (Filter value name all span) = Request
 group (Test value name all span) = Request
 group (Call name all span) = Request
+group (Component name all span) = Request
+
+-- has another body, for where the first one doesn't run
+abbrev pub has_other_body : Node → Bool
+has_other_body (If condition body other) = true
+has_other_body (For key name target body other) = true
+has_other_body node = false
+
+-- what its body puts out is kept apart
+abbrev pub captures_body : Node → Bool
+captures_body (Capture name fs body is_global) = true
+captures_body (FilterSection fs body) = true
+captures_body (ComponentCall name all body span) = true
+captures_body node = false

@@ -5,5 +5,6 @@ pub mod Code
 pub mod Places
 pub mod Group
 pub mod Blocks
+pub mod Components
 pub mod Asked
 pub mod Called

@@ -61,6 +61,8 @@ fn add(alloc: Global, file: &str, node: &Node, found: &mut Vec<Block>) -> TeraRe
         }
         Node::Capture { body, .. } => add_all(alloc, file, body.as_slice(), found),
         Node::FilterSection { body, .. } => add_all(alloc, file, body.as_slice(), found),
+        Node::ComponentCall { body, .. } => add_all(alloc, file, body.as_slice(), found),
+        Node::Definition { body, .. } => add_all(alloc, file, body.as_slice(), found),
         Node::Block { name, body, .. } => {
             let body = body.as_slice();
             found.push(made(alloc, file, name, body)?)?;

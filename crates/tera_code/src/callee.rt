@@ -6,4 +6,5 @@ pub enum Callee<'a> {
     Filter(&'a str),
     Test(&'a str),
     Function(&'a str),
+    Component(&'a str),
 }

@@ -1,21 +1,22 @@
-// Filters, tests, functions and `super`, whose arguments are given by name.
+// Filters, tests, functions, `super` and components, which are given by name what they are made of.
 ghost use Rattle.std.specs.Prelude.{◌≡◌, [], ◌∷◌, Ok, OnOk, IfErr};
 ghost use Rattle.tera_errors.specs.Answer.{Gives, Lacks};
 ghost use Rattle.tera_code.specs.declared.instruction.Instruction.TheVariants as instruction;
-ghost use Rattle.tera_code.specs.Code.{expr_code, arguments_code, argument_names, filters_code, lengthened};
+ghost use Rattle.tera_code.specs.Code.{expr_code, arguments_code, argument_names, filters_code, keys_in, lengthened};
 ghost use Rattle.tera_code.specs.Group.{group, Request};
 ghost use Rattle.tera_tree.specs.Tree.{MoreFilters, NoFilters};
-ghost use Rattle.tera_tree.specs.View.{expr_of, arguments_of, filters_of};
+ghost use Rattle.tera_tree.specs.View.{expr_of, entries_of, arguments_of, filters_of};
 
 use crate::compiler::Compiler;
-use crate::content::{LentName, Names};
+use crate::content::{Keys, LentName, Names};
 use crate::instruction::Instruction;
+use crate::parts::keys;
 use std::alloc::Global;
-use tera_tree::{Argument, Expression, SectionFilter};
+use tera_tree::{Argument, Entry, Expression, SectionFilter};
 use tera_values::{Name, Span, TeraResult};
 
 impl Compiler {
-    // What is made elsewhere of arguments by name.
+    // What is made elsewhere of what it is given by name.
     #[cycle(expressions)]
     pub(crate) fn request(&mut self, expression: &Expression) -> TeraResult<()>
         requires { group (expr_of expression.now) ≡ Request }
@@ -59,6 +60,14 @@ impl Compiler {
             } => {
                 self.arguments(arguments.as_slice())?;
                 self.call_function(name, arguments.as_slice(), *span)
+            }
+            Expression::Component {
+                name,
+                attributes,
+                span,
+            } => {
+                self.entries(attributes.as_slice())?;
+                self.take_component(name, attributes.as_slice(), false, *span)
             }
             _ => unreachable!(),
         }
@@ -136,6 +145,27 @@ impl Compiler {
         self.emit(Instruction::CallFunction {
             name: LentName::new(&name),
             arguments: Names::new(names.as_slice()),
+            span,
+        })
+    }
+
+    pub(crate) fn take_component(
+        &mut self,
+        name: &str,
+        attributes: &[Entry],
+        has_body: bool,
+        span: Span,
+    ) -> TeraResult<()>
+        ensures ok { OnOk result (self.new ≡ lengthened self.old (instruction.TakeComponent
+            name.now (keys_in (entries_of attributes.now)) has_body span ∷ [])) }
+        ensures lacks { IfErr result Lacks }
+    {
+        let name = Name::new(self.alloc(), name)?;
+        let keys = keys(self.alloc(), attributes)?;
+        self.emit(Instruction::TakeComponent {
+            name: LentName::new(&name),
+            keys: Keys::new(keys.as_slice()),
+            has_body,
             span,
         })
     }

@@ -1,10 +1,11 @@
 // Names that are bound, and texts that are captured for them.
-ghost use Rattle.std.specs.Prelude.{◌≡◌, [], ◌∷◌, suc, OnOk, IfOk, IfErr};
+ghost use Rattle.std.specs.Prelude.{◌≡◌, [], ◌∷◌, suc, true, OnOk, IfOk, IfErr};
 ghost use Rattle.tera_errors.specs.Answer.{Lacks};
 ghost use Rattle.tera_code.specs.declared.instruction.Instruction.TheVariants as instruction;
-ghost use Rattle.tera_code.specs.Code.{node_code, nodes_code, section_code, lengthened};
+ghost use Rattle.tera_code.specs.Code.{node_code, nodes_code, section_code, captured_code, lengthened};
+ghost use Rattle.tera_code.specs.Group.{captures_body};
 ghost use Rattle.tera_tree.specs.Tree.{Set, first_span};
-ghost use Rattle.tera_tree.specs.View.{expr_of, filters_of, nodes_of};
+ghost use Rattle.tera_tree.specs.View.{expr_of, filters_of, node_of, nodes_of};
 
 use crate::compiler::Compiler;
 use crate::content::LentName;
@@ -24,6 +25,40 @@ impl Compiler {
         self.store(name, is_global)
     }
 
+    // What begins with a capture of its body.
+    #[cycle(nodes)]
+    pub(crate) fn capturing(&mut self, node: &Node, drops: usize) -> TeraResult<()>
+        requires { captures_body (node_of node.now) ≡ true }
+        ensures ok { OnOk result (self.new ≡ lengthened self.old (node_code (node_of node.now) drops)) }
+        ensures lacks { IfErr result Lacks }
+    {
+        match node {
+            Node::Capture {
+                name,
+                filters,
+                body,
+                is_global,
+            } => {
+                self.section(filters.as_slice(), body.as_slice(), drops)?;
+                self.store(name, *is_global)
+            }
+            Node::FilterSection { filters, body } => {
+                self.section(filters.as_slice(), body.as_slice(), drops)?;
+                self.emit(Instruction::WriteTop)
+            }
+            Node::ComponentCall {
+                name,
+                attributes,
+                body,
+                span,
+            } => {
+                self.captured(body.as_slice(), *span, drops)?;
+                self.hand(name, attributes.as_slice(), *span)
+            }
+            _ => unreachable!(),
+        }
+    }
+
     // The text that the body puts out, through the filters, on top of the operands.
     #[cycle(nodes)]
     pub(crate) fn section(
@@ -36,10 +71,20 @@ impl Compiler {
             (section_code (filters_of filters.now) (nodes_code (nodes_of body.now) (suc drops)))) }
         ensures lacks { IfErr result Lacks }
     {
+        self.captured(body, first_span(filters), drops)?;
+        self.filters(filters)
+    }
+
+    // The text that the body puts out, on top of the operands.
+    #[cycle(nodes)]
+    pub(crate) fn captured(&mut self, body: &[Node], span: Span, drops: usize) -> TeraResult<()>
+        ensures ok { OnOk result (self.new
+            ≡ lengthened self.old (captured_code (nodes_code (nodes_of body.now) (suc drops)) span)) }
+        ensures lacks { IfErr result Lacks }
+    {
         self.emit(Instruction::StartCapture)?;
         self.nodes(body, one_more(drops)?)?;
-        self.emit(Instruction::EndCapture(first_span(filters)))?;
-        self.filters(filters)
+        self.emit(Instruction::EndCapture(span))
     }
 
     // The operand on top becomes the value of the name.

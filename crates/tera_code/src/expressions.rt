@@ -38,7 +38,8 @@ impl Compiler {
             Expression::Super { .. }
             | Expression::Filter { .. }
             | Expression::Test { .. }
-            | Expression::Call { .. } => self.request(expression),
+            | Expression::Call { .. }
+            | Expression::Component { .. } => self.request(expression),
         }
     }
 
@@ -201,7 +202,7 @@ impl Compiler {
     }
 
     #[cycle(expressions)]
-    fn entries(&mut self, entries: &[Entry]) -> TeraResult<()>
+    pub(crate) fn entries(&mut self, entries: &[Entry]) -> TeraResult<()>
         ensures ok { OnOk result (self.new ≡ lengthened self.old (entries_code (entries_of entries.now))) }
         ensures lacks { IfErr result Lacks }
     {

@@ -94,6 +94,14 @@ pub enum Instruction<'a> {
         name: LentName<'a>,
         span: Span,
     },
+    /// Takes as many operands as there are keys, the values of a component's attributes, and the text below them where it has a
+    /// body, and puts the text that the component makes of these on top of the operands.
+    TakeComponent {
+        name: LentName<'a>,
+        keys: Keys<'a>,
+        has_body: bool,
+        span: Span,
+    },
     /// Drops so many operands, and puts the text that the next template above makes of the block that runs on top of the
     /// operands.
     TakeAbove {

@@ -1,10 +1,11 @@
 // Nodes.
-ghost use Rattle.std.specs.Prelude.{◌≡◌, [], ◌∷◌, OnOk, IfOk, IfErr, MatchOption, Some, None};
+ghost use Rattle.std.specs.Prelude.{◌≡◌, [], ◌∷◌, true, OnOk, IfOk, IfErr, MatchOption, Some, None};
 ghost use Rattle.tera_errors.specs.Answer.{Lacks};
 ghost use Rattle.tera_code.specs.declared.instruction.Instruction.TheVariants as instruction;
-ghost use Rattle.tera_code.specs.Code.{named, node_code, nodes_code, listing_of, lengthened};
-ghost use Rattle.tera_tree.specs.Tree.{If, Print};
-ghost use Rattle.tera_tree.specs.View.{expr_of, for_of, node_of, nodes_of};
+ghost use Rattle.tera_code.specs.Code.{named, handed_code, node_code, nodes_code, listing_of, lengthened};
+ghost use Rattle.tera_code.specs.Group.{has_other_body};
+ghost use Rattle.tera_tree.specs.Tree.{Print};
+ghost use Rattle.tera_tree.specs.View.{expr_of, entries_of, node_of, nodes_of};
 
 use crate::chunk::Chunk;
 use crate::compiler::Compiler;
@@ -12,7 +13,7 @@ use crate::content::LentName;
 use crate::instruction::Instruction;
 use crate::parts::is_context;
 use std::alloc::Global;
-use tera_tree::{Expression, Heading, Node};
+use tera_tree::{Entry, Expression, Node};
 use tera_values::{Name, Span, TeraResult};
 
 impl Compiler {
@@ -52,86 +53,62 @@ impl Compiler {
         match node {
             Node::Content { text, span: _ } => self.emit_text(text),
             Node::Print { value } => self.print(value),
-            Node::If {
-                condition,
-                body,
-                other,
-            } => self.choice(condition, body.as_slice(), other.as_slice(), drops),
+            Node::If { .. } | Node::For { .. } => self.branching(node, drops),
             Node::Set {
                 name,
                 value,
                 is_global,
             } => self.set(name, value, *is_global),
-            Node::Capture {
-                name,
-                filters,
-                body,
-                is_global,
-            } => {
-                self.section(filters.as_slice(), body.as_slice(), drops)?;
-                self.store(name, *is_global)
+            Node::Capture { .. } | Node::FilterSection { .. } | Node::ComponentCall { .. } => {
+                self.capturing(node, drops)
             }
-            Node::FilterSection { filters, body } => {
-                self.section(filters.as_slice(), body.as_slice(), drops)?;
-                self.emit(Instruction::WriteTop)
-            }
-            Node::For {
-                heading,
-                body,
-                other,
-            } => self.for_loop(heading, body.as_slice(), other.as_slice(), drops),
             Node::Block {
                 name,
                 body: _,
                 span,
             } => self.block(name, *span),
             Node::Include { name, span } => self.include(name.as_str(), *span),
+            Node::Definition { .. } => Ok(()),
             Node::Break => self.emit(Instruction::LeaveLoop(drops)),
             Node::Continue => self.emit(Instruction::LeaveTurn(drops)),
         }
     }
 
-    // One of two bodies.
+    // What has another body, for where the first one doesn't run.
     #[cycle(nodes)]
-    fn choice(
-        &mut self,
-        condition: &Expression,
-        body: &[Node],
-        other: &[Node],
-        drops: usize,
-    ) -> TeraResult<()>
-        ensures ok { OnOk result (self.new ≡ lengthened self.old (node_code
-            (If (expr_of condition.now) (nodes_of body.now) (nodes_of other.now)) drops)) }
+    fn branching(&mut self, node: &Node, drops: usize) -> TeraResult<()>
+        requires { has_other_body (node_of node.now) ≡ true }
+        ensures ok { OnOk result (self.new ≡ lengthened self.old (node_code (node_of node.now) drops)) }
         ensures lacks { IfErr result Lacks }
     {
-        self.expression(condition)?;
-        let place = self.keep_place()?;
-        self.nodes(body, drops)?;
-        let place = self.divide(place)?;
-        self.nodes(other, drops)?;
-        self.fill(place, Instruction::Jump(self.behind(place)))
-    }
-
-    // The body for each item, and the other one where there is none.
-    #[cycle(nodes)]
-    fn for_loop(
-        &mut self,
-        heading: &Heading,
-        body: &[Node],
-        other: &[Node],
-        drops: usize,
-    ) -> TeraResult<()>
-        ensures ok { OnOk result (self.new
-            ≡ lengthened self.old (node_code (for_of heading.now body.now other.now) drops)) }
-        ensures lacks { IfErr result Lacks }
-    {
-        self.expression(&heading.target)?;
-        let place = self.keep_place()?;
-        self.nodes(body, 0)?;
-        self.end_turns(place, heading, true)?;
-        let place = self.keep_place()?;
-        self.nodes(other, drops)?;
-        self.fill(place, Instruction::EndLoop(self.behind(place)))
+        match node {
+            Node::If {
+                condition,
+                body,
+                other,
+            } => {
+                self.expression(condition)?;
+                let place = self.keep_place()?;
+                self.nodes(body.as_slice(), drops)?;
+                let place = self.divide(place)?;
+                self.nodes(other.as_slice(), drops)?;
+                self.fill(place, Instruction::Jump(self.behind(place)))
+            }
+            Node::For {
+                heading,
+                body,
+                other,
+            } => {
+                self.expression(&heading.target)?;
+                let place = self.keep_place()?;
+                self.nodes(body.as_slice(), 0)?;
+                self.end_turns(place, heading, true)?;
+                let place = self.keep_place()?;
+                self.nodes(other.as_slice(), drops)?;
+                self.fill(place, Instruction::EndLoop(self.behind(place)))
+            }
+            _ => unreachable!(),
+        }
     }
 
     // The block is put out as the template that is rendered has it: its body is compiled by itself.
@@ -145,6 +122,17 @@ impl Compiler {
             name: LentName::new(&name),
             span,
         })
+    }
+
+    // The component is handed the text on top of the operands; what it makes of that and of its attributes is put out.
+    pub(crate) fn hand(&mut self, name: &str, attributes: &[Entry], span: Span) -> TeraResult<()>
+        ensures ok { OnOk result (self.new
+            ≡ lengthened self.old (handed_code name.now (entries_of attributes.now) span)) }
+        ensures lacks { IfErr result Lacks }
+    {
+        self.entries(attributes)?;
+        self.take_component(name, attributes, true, span)?;
+        self.emit(Instruction::WriteTop)
     }
 
     // What the name resolves to is found where the template is rendered.

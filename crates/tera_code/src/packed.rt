@@ -109,6 +109,12 @@ pub(crate) enum Packed {
         name: u32,
         span: u32,
     },
+    TakeComponent {
+        has_body: bool,
+        name: u32,
+        keys: u32,
+        span: u32,
+    },
     TakeAbove {
         span: u32,
         arguments: usize,
@@ -338,6 +344,31 @@ impl Tables {
         Ok(Packed::TakeInclude { name, span })
     }
 
+    fn take_component(
+        &mut self,
+        alloc: Global,
+        name: &LentName<'_>,
+        keys: &Keys<'_>,
+        has_body: bool,
+        span: Span,
+    ) -> TeraResult<Packed>
+        ensures grows { Grows (shelf_of self.old) (shelf_of self.new) }
+        ensures ok { IfOk result (λ p. Packs (shelf_of self.new) p
+            (instruction.TakeComponent name.now keys.now has_body span)) }
+        ensures lacks { IfErr result Lacks }
+    {
+        let name = number(&mut self.names, name.share()?)?;
+        let keys = copies(alloc, keys.as_slice())?;
+        let keys = number(&mut self.keys, keys)?;
+        let span = number(&mut self.spans, span)?;
+        Ok(Packed::TakeComponent {
+            has_body,
+            name,
+            keys,
+            span,
+        })
+    }
+
     fn start_loop(
         &mut self,
         key: &Option<LentName<'_>>,
@@ -464,6 +495,12 @@ impl Tables {
             Instruction::JumpIfTrueOrPop(skip) => Ok(Packed::JumpIfTrueOrPop(skip)),
             Instruction::TakeBlock { name, span } => self.take_block(&name, span),
             Instruction::TakeInclude { name, span } => self.take_include(&name, span),
+            Instruction::TakeComponent {
+                name,
+                keys,
+                has_body,
+                span,
+            } => self.take_component(alloc, &name, &keys, has_body, span),
             Instruction::TakeAbove { arguments, span } => {
                 let span = number(&mut self.spans, span)?;
                 Ok(Packed::TakeAbove { span, arguments })

@@ -93,7 +93,7 @@ fn spreads(alloc: Global, items: &[Item]) -> TeraResult<Vec<bool>>
     Ok(flags)
 }
 
-fn keys(alloc: Global, entries: &[Entry]) -> TeraResult<Vec<Option<OwnedKey>>>
+pub(crate) fn keys(alloc: Global, entries: &[Entry]) -> TeraResult<Vec<Option<OwnedKey>>>
     ensures { Gives (λ k. keys_of k.items) result (Ok (keys_in (entries_of entries.now))) }
 {
     let mut keys = Vec::new(alloc);

@@ -167,6 +167,20 @@ impl Tables {
                 name: LentName::new(self.whole_name(name)),
                 span: self.span(span),
             },
+            Packed::TakeComponent {
+                has_body,
+                name,
+                keys,
+                span,
+            } => {
+                let keys = &self.keys[keys as usize];
+                Instruction::TakeComponent {
+                    name: LentName::new(self.whole_name(name)),
+                    keys: Keys::new(keys.as_slice()),
+                    has_body,
+                    span: self.span(span),
+                }
+            }
             Packed::TakeAbove { span, arguments } => Instruction::TakeAbove {
                 arguments,
                 span: self.span(span),

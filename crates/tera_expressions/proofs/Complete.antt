@@ -1,22 +1,23 @@
 -- What is derived is read.
 use Rattle.std.proofs.Common.{◌≡◌, ℕ, zero, suc, ◌≤◌, ◌⊎◌, inl, inr, max, ◌∷◌, Bool, true, false, Option, Some, refl, sym, ◌∙◌, ap, arith}
 use Rattle.tera_tree.specs.declared.expression.BinaryOperator.TheVariants as binary
-use Rattle.tera_tree.specs.Tree.{Expr, Nothing, Boolean, Integer, Text, Name, Attribute, Index, Slice, Optional, Not, Negate, Binary, Ternary, Array, Items, NoItems, MoreItems, Map, Comprehension, Filter, Test, Key, Entries, NoEntries, MoreEntries, Arguments}
+use Rattle.tera_tree.specs.Tree.{Expr, Nothing, Boolean, Integer, Text, Name, Attribute, Index, Slice, Optional, Not, Negate, Binary, Ternary, Array, Items, NoItems, MoreItems, Map, Comprehension, Filter, Test, Component, Key, Entries, NoEntries, MoreEntries, Arguments}
 use Rattle.tera_tree.specs.Depth.{depth, items_depth, entries_depth, optional_depth, arguments_depth}
 use Rattle.tera_tokens.specs.declared.token.Kind.TheVariants as k
 use Rattle.tera_tokens.specs.Input.{Input, kind, start, text, next, left, span}
-use Rattle.tera_expressions.specs.Grammar.{Derives, quoted, tighter, choice, operation, not, not_in, minus, power, attribute, index, slice, DerivesPart, absent, present, DerivesStep, no_step, step, int, is_true, is_false, nothing, name, of_loop, parentheses, array, map, DerivesEntry, keyed, spread_map, DerivesEntries, no_entries, one_entry, more_entries, DerivesItem, plain, spread, DerivesItems, none, one, more, comprehension, DerivesCondition, no_condition, condition, call, filter, test, not_test, DerivesArgument, argument, DerivesArguments, no_arguments, one_argument, more_arguments, DerivesGiven, not_given, given}
+use Rattle.tera_expressions.specs.Grammar.{Derives, quoted, tighter, choice, operation, not, not_in, minus, power, attribute, index, slice, DerivesPart, absent, present, DerivesStep, no_step, step, int, is_true, is_false, nothing, name, of_loop, parentheses, array, map, DerivesEntry, keyed, spread_map, DerivesEntries, no_entries, one_entry, more_entries, DerivesItem, plain, spread, DerivesItems, none, one, more, comprehension, DerivesCondition, no_condition, condition, call, component, DerivesValue, text_value, braced_value, DerivesAttribute, named_attribute, spread_attribute, DerivesAttributes, no_attributes, more_attributes, filter, test, not_test, DerivesArgument, argument, DerivesArguments, no_arguments, one_argument, more_arguments, DerivesGiven, not_given, given}
 use Rattle.tera_expressions.specs.Expressions as r
-use Rattle.tera_expressions.specs.Arguments.{call_form}
+use Rattle.tera_expressions.specs.Arguments.{call_form, begins_attribute}
 use Rattle.tera_expressions.specs.Loops.{behind_loop}
 use Rattle.tera_expressions.specs.Expressions.{deep, needs, expr, behind_dots, join_items, one_item, join_entries}
 use Rattle.tera_expressions.proofs.Steps.{differ, unlike, alike, test-name}
 use Rattle.tera_expressions.proofs.Precedence.{operator-depth, is-no-end, operator-needs, dot-needs, bracket-needs, needs-some, not-three, not-eight, stops-up, ends-up, ends, eight-of-nine, if-kind, not-kind, is-kind, bar-kind, power-kind, closing-kinds, needs-at, gives-at, begin-kinds, ends-bound, ends-target, at-most}
-use Rattle.tera_expressions.proofs.Extent.{next-left, token, word-left, shorter, shorter-entry, shorter-entries, shorter-part, shorter-step, shorter-item, shorter-all, shorter-argument, shorter-given, starts-so, item-starts, entry-starts, argument-starts, step-begins, condition-begins}
+use Rattle.tera_expressions.proofs.Extent.{next-left, token, word-left, shorter, shorter-entry, shorter-entries, shorter-part, shorter-step, shorter-item, shorter-all, shorter-attribute, shorter-attributes, shorter-argument, shorter-given, starts-so, item-starts, entry-starts, argument-starts, step-begins, condition-begins}
 use Rattle.tera_expressions.proofs.Rows.{list-nil, list-one, list-more, list-only, row-nil, row-one, row-more, row-start}
 use Rattle.tera_expressions.proofs.Forms.{deep-node, some-depth, infixed-is, operator-is, power-is, not_in-is, choice-is, attribute-is, index-is, slice-is, prefixed-is, item-none, item-one, item-more, behind-last, behind-comma, empty-is, array-is, no-condition-is, condition-is, comprehension-is, key-is, dots-is, entry-none, entry-one, entry-more, map-is, int-is, quoted-is, part-colon, part-bracket, part-some, step-none, step-some}
 use Rattle.tera_expressions.proofs.Alone.{called_no_loop}
 use Rattle.tera_expressions.proofs.ArgumentRows.{put-depth, grown, call-depth, argument-is, arguments-none, arguments-one, arguments-more, call-is}
+use Rattle.tera_expressions.proofs.AttributeRows.{attribute-begins, ends-attributes, attributes-stop, attributes-more, text-is, value-is, named-is, spread-is, component-is}
 use Rattle.tera_expressions.proofs.Passing.{given-none, given-some, filter-is, test-is, not_test-is}
 use Rattle.tera_expressions.proofs.Turning.{close, lower, reading-open, Goes, whole, part-read, goes-on, goes-first, head-is, goes-leaf}
 
@@ -126,6 +127,11 @@ mutual
       goes-first b m n floor 11 os k.Name (call_form (text i) all (span (start i) (next a))) i (next a) y h (λ e. cc) begin-kinds.3 fl (omega arith)
       (head-is (suc b) (expr b) i k.Name h ∙ ap (λ o. r.name_by (suc b) (expr b) o i) (called_no_loop i e)
       ∙ rw e (call-is (suc b) (expr b) all i a (goes-arguments d g b (left (next (next i))) (omega arith) (omega arith)) dep)) c
+  goes (component {xs = xs} {i = i} {a = a} h w d g) b m n floor os y dep fl st fu c =
+      let t1 = token k.Less i h (λ e. cc) in let t2 = word-left (next i) w in let t3 = token k.TagEnd a g (λ e. cc) in let s1 = shorter-attributes d in
+      goes-first b m n floor 11 os k.Less (Component (text (next i)) xs (span (start i) (next a))) i (next a) y h (λ e. cc) begin-kinds.10 fl (omega arith)
+      (head-is (suc b) (expr b) i k.Less h ∙ component-is (suc b) (expr b) xs i a w
+      (goes-attributes d (ends-attributes (kind a) (inl g)) (suc b) b (left (next (next i))) NoEntries 0 (omega arith) (omega arith) ∙ row-start xs (entries_depth xs) a) g dep) c
   goes (parentheses {x = x} {i = i} {a = a} h d g) b m n floor os y dep fl st fu c =
       let n1 = needs-at (kind a) k.RightParenthesis 12 g closing-kinds.1 in
       let t1 = next-left k.LeftParenthesis i h (λ e. cc) in let t2 = next-left k.RightParenthesis a g (λ e. cc) in
@@ -174,6 +180,31 @@ mutual
       let w = goes-entry q n1 (suc b) b (omega arith) in
       entry-more (suc b) (expr b) n found d s x i w.0 v (Some ((join_entries found (MoreEntries s x xs), max d (entries_depth (MoreEntries s x xs))), next a)) (entry-starts q) w.1 w.2 h
       (goes-entries u g b n (join_entries found (r.one_entry s x)) (max d (depth x)) (omega arith) (omega arith) ∙ row-more found s x xs d (next a))
+
+  -- the value of an attribute, as the attribute has it
+  goes-value : {x : Expr} {i a : Input} → DerivesValue x i a → (limit b : ℕ) → depth x ≤ b → r.attribute_value limit (expr b) i ≡ Some (deep x, a)
+  goes-value (text_value {t = t} {i = i} h e) limit b le = text-is limit (expr b) t i h e
+  goes-value (braced_value {x = x} {i = i} {a = a} h d g) limit b le =
+      let n1 = needs-at (kind a) k.RightBrace 12 g closing-kinds.6 in
+      value-is limit (expr b) x i a h (whole 0 x (next i) a (goes d) (inr (omega arith)) (inr (omega arith)) (some-depth x) b le) g
+
+  goes-attribute : {key : Option Key} {x : Expr} {i a : Input} → DerivesAttribute key x i a → (limit b : ℕ) → depth x ≤ b → (found : Entries)
+      → r.any_attribute limit (expr b) found i ≡ Some ((join_entries found (r.one_entry key x), depth x), a)
+  goes-attribute (named_attribute {x = x} {i = i} {j = a} h q v) limit b le found = named-is limit (expr b) found x i a h q (goes-value v limit b le)
+  goes-attribute (spread_attribute {x = x} {i = i} {a = a} h q d g) limit b le found =
+      let n1 = needs-at (kind a) k.RightBrace 12 g closing-kinds.6 in
+      spread-is limit (expr b) found x i a h q (whole 0 x (next (next i)) a (goes d) (inr (omega arith)) (inr (omega arith)) (some-depth x) b le) g
+
+  -- attributes are read behind others, where none follows
+  pub goes-attributes : {xs : Entries} {i a : Input} → DerivesAttributes xs i a → begins_attribute (kind a) ≡ false → (limit b n : ℕ) (found : Entries) (d : ℕ) → entries_depth xs ≤ b → left i ≤ n
+      → r.attributes_from limit (expr b) n found d i ≡ Some ((join_entries found xs, max d (entries_depth xs)), a)
+  goes-attributes (no_attributes {i = i}) g limit b n found d le fu = attributes-stop limit (expr b) n found d i g ∙ row-nil found d i
+  goes-attributes (more_attributes q u) g limit b zero found d le fu = let s1 = shorter-attribute q in absurd (omega arith)
+  goes-attributes (more_attributes {key = s} {x = x} {xs = xs} {i = i} {a = v} {j = a} q u) g limit b (suc n) found d le fu =
+      let s1 = shorter-attribute q in
+      attributes-more limit (expr b) n found d (join_entries found (r.one_entry s x), depth x) i v (Some ((join_entries found (MoreEntries s x xs), max d (entries_depth (MoreEntries s x xs))), a)) (attribute-begins q)
+      (goes-attribute q limit b (omega arith) found)
+      (goes-attributes u g limit b n (join_entries found (r.one_entry s x)) (max d (depth x)) (omega arith) (omega arith) ∙ row-more found s x xs d a)
 
   -- an argument is read, and put
   goes-argument : {found all : Arguments} {i a : Input} → DerivesArgument found all i a → needs (kind a) ≡ 12 → (limit b : ℕ) → arguments_depth all ≤ b

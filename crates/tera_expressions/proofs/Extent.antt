@@ -6,7 +6,7 @@ use Rattle.tera_tokens.specs.declared.token.Kind.TheVariants as k
 use Rattle.tera_tokens.specs.Token.{Token}
 use Rattle.tera_tokens.specs.Input.{Input, same, kind, kind_of, text, next, after, left, is_word}
 use Rattle.tera_expressions.specs.Keys.{key_at, key_by}
-use Rattle.tera_expressions.specs.Grammar.{Derives, quoted, tighter, choice, operation, not, not_in, minus, power, attribute, index, slice, DerivesPart, absent, present, DerivesStep, no_step, step, int, is_true, is_false, nothing, name, of_loop, parentheses, array, map, DerivesEntry, keyed, spread_map, DerivesEntries, no_entries, one_entry, more_entries, DerivesItem, plain, spread, DerivesItems, none, one, more, comprehension, DerivesCondition, no_condition, condition, call, filter, test, not_test, DerivesArgument, argument, DerivesArguments, no_arguments, one_argument, more_arguments, DerivesGiven, not_given, given}
+use Rattle.tera_expressions.specs.Grammar.{Derives, quoted, tighter, choice, operation, not, not_in, minus, power, attribute, index, slice, DerivesPart, absent, present, DerivesStep, no_step, step, int, is_true, is_false, nothing, name, of_loop, parentheses, array, map, DerivesEntry, keyed, spread_map, DerivesEntries, no_entries, one_entry, more_entries, DerivesItem, plain, spread, DerivesItems, none, one, more, comprehension, DerivesCondition, no_condition, condition, call, component, DerivesValue, text_value, braced_value, DerivesAttribute, named_attribute, spread_attribute, DerivesAttributes, no_attributes, more_attributes, filter, test, not_test, DerivesArgument, argument, DerivesArguments, no_arguments, one_argument, more_arguments, DerivesGiven, not_given, given}
 use Rattle.tera_expressions.specs.Headings.{Calls, value, key_and_value}
 use Rattle.tera_errors.specs.Site as site
 use Rattle.tera_expressions.proofs.Steps.{unlike, alike, test-name}
@@ -82,12 +82,27 @@ mutual
       let p1 = shorter d in let p2 = shorter-calls c in let p3 = shorter t in let p4 = shorter-condition o in
       let t1 = token k.LeftBracket i h (λ e. cc) in let t2 = token k.For a f (λ e. cc) in let t3 = token k.RightBracket e g (λ e. cc) in omega arith
   shorter (call {i = i} {a = a} h e d g) = let p1 = shorter-arguments d in let t1 = token k.Name i h (λ e. cc) in let t2 = next-le (next i) in let t3 = token k.RightParenthesis a g (λ e. cc) in omega arith
+  shorter (component {i = i} {a = a} h w d g) =
+      let p1 = shorter-attributes d in let t1 = token k.Less i h (λ e. cc) in let t2 = word-left (next i) w in let t3 = token k.TagEnd a g (λ e. cc) in omega arith
   shorter (filter {a = a} d h g q) = let p1 = shorter d in let p2 = shorter-given q in let t1 = token k.Bar a h (λ e. cc) in let t2 = word-left (next a) g in omega arith
   shorter (test {a = a} d h g q) =
       let p1 = shorter d in let p2 = shorter-given q in let t1 = token k.Is a h (λ e. cc) in let t2 = word-left (next a) (test-name (kind (next a)) g).0 in omega arith
   shorter (not_test {a = a} d h f g q) =
       let p1 = shorter d in let p2 = shorter-given q in let t1 = token k.Is a h (λ e. cc) in let t2 = token k.Not (next a) f (λ e. cc) in
       let t3 = word-left (next (next a)) (test-name (kind (next (next a))) g).0 in omega arith
+
+  pub shorter-value : {x : Expr} {i j : Input} → DerivesValue x i j → left j < left i
+  shorter-value (text_value {i = i} h e) = token k.Text i h (λ e. cc)
+  shorter-value (braced_value {i = i} {a = a} h d g) = let p1 = shorter d in let t1 = token k.LeftBrace i h (λ e. cc) in let t2 = token k.RightBrace a g (λ e. cc) in omega arith
+
+  pub shorter-attribute : {key : Option Key} {x : Expr} {i j : Input} → DerivesAttribute key x i j → left j < left i
+  shorter-attribute (named_attribute {i = i} h q v) = let p1 = shorter-value v in let t1 = word-left i h in let t2 = token k.Assign (next i) q (λ e. cc) in omega arith
+  shorter-attribute (spread_attribute {i = i} {a = a} h q d g) =
+      let p1 = shorter d in let t1 = token k.LeftBrace i h (λ e. cc) in let t2 = token k.Spread (next i) q (λ e. cc) in let t3 = token k.RightBrace a g (λ e. cc) in omega arith
+
+  pub shorter-attributes : {xs : Entries} {i j : Input} → DerivesAttributes xs i j → left j ≤ left i
+  shorter-attributes no_attributes = omega arith
+  shorter-attributes (more_attributes d q) = let p1 = shorter-attribute d in let p2 = shorter-attributes q in omega arith
 
   pub shorter-given : {all : Arguments} {i j : Input} → DerivesGiven all i j → left j ≤ left i
   shorter-given (not_given h) = omega arith
@@ -154,6 +169,7 @@ starts-so (is_false h) = (λ e. cc, λ e. cc, λ e. cc)
 starts-so (nothing h) = (λ e. cc, λ e. cc, λ e. cc)
 starts-so (name h e g) = (λ e. cc, λ e. cc, λ e. cc)
 starts-so (call h e d g) = (λ e. cc, λ e. cc, λ e. cc)
+starts-so (component h w d g) = (λ e. cc, λ e. cc, λ e. cc)
 starts-so (filter d h g q) = starts-so d
 starts-so (test d h g q) = starts-so d
 starts-so (not_test d h f g q) = starts-so d

@@ -1,13 +1,13 @@
 -- All spans of an expression lie inside the text that its tokens stand in.
 use Rattle.std.proofs.Common.{◌≡◌, ℕ, ◌≤◌, Bool, true, Option, refl, arith}
 use Rattle.tera_errors.specs.declared.span.Span.{Span}
-use Rattle.tera_tree.specs.Tree.{Expr, Optional, Items, Key, Entries, Arguments, Filters}
+use Rattle.tera_tree.specs.Tree.{Expr, Text, Optional, Items, Key, Entries, Arguments, Filters}
 use Rattle.tera_tree.specs.Inside.{Within, ExprInside, OptionalInside, ItemsInside, EntriesInside, ArgumentsInside, FiltersInside}
 use Rattle.tera_tokens.specs.declared.token.Kind.{Kind}
 use Rattle.tera_tokens.specs.declared.token.Kind.TheVariants as k
 use Rattle.tera_tokens.specs.Input.{Input, kind, start, text, next, span, is_word}
 use Rattle.tera_tokens.proofs.Order.{Orderly, Onward, onward_none, onward_then, onward_next, start_le, in_order-le}
-use Rattle.tera_expressions.specs.Grammar.{Operator, or, and, equal, not_equal, less, greater, less_or_equal, greater_or_equal, is_in, concat, add, subtract, multiply, divide, floor_divide, remainder, Derives, quoted, tighter, choice, operation, not, not_in, minus, power, attribute, index, slice, DerivesPart, absent, present, DerivesStep, no_step, step, int, is_true, is_false, nothing, name, of_loop, parentheses, array, map, DerivesEntry, keyed, spread_map, DerivesEntries, no_entries, one_entry, more_entries, DerivesItem, plain, spread, DerivesItems, none, one, more, comprehension, DerivesCondition, no_condition, condition, call, filter, test, not_test, DerivesArgument, argument, DerivesArguments, no_arguments, one_argument, more_arguments, DerivesGiven, not_given, given, DerivesFilters, last_filter, more_filters}
+use Rattle.tera_expressions.specs.Grammar.{Operator, or, and, equal, not_equal, less, greater, less_or_equal, greater_or_equal, is_in, concat, add, subtract, multiply, divide, floor_divide, remainder, Derives, quoted, tighter, choice, operation, not, not_in, minus, power, attribute, index, slice, DerivesPart, absent, present, DerivesStep, no_step, step, int, is_true, is_false, nothing, name, of_loop, parentheses, array, map, DerivesEntry, keyed, spread_map, DerivesEntries, no_entries, one_entry, more_entries, DerivesItem, plain, spread, DerivesItems, none, one, more, comprehension, DerivesCondition, no_condition, condition, call, component, DerivesValue, text_value, braced_value, DerivesAttribute, named_attribute, spread_attribute, DerivesAttributes, no_attributes, more_attributes, filter, test, not_test, DerivesArgument, argument, DerivesArguments, no_arguments, one_argument, more_arguments, DerivesGiven, not_given, given, DerivesFilters, last_filter, more_filters}
 use Rattle.tera_expressions.proofs.Calls.{calls_lie}
 use Rattle.tera_expressions.proofs.ArgumentRows.{put-inside, call-inside}
 use Rattle.tera_expressions.proofs.Extent.{word-some}
@@ -147,6 +147,11 @@ module _ (size : ℕ) where
         let m = past (next i) n.orderly in
         let p = arguments_lie d m.orderly tt in
         begins k.Name i h (λ e. cc) o (onward_then m (onward_then p.onward (past a p.onward.orderly))) (λ w. call-inside size (text i) _ (span (start i) (next a)) p.inside w)
+    expr_lies (component {i = i} {a = a} h w d g) o =
+        let n = past i o in
+        let m = past (next i) n.orderly in
+        let p = attributes_lie d m.orderly in
+        begins k.Less i h (λ e. cc) o (onward_then m (onward_then p.onward (past a p.onward.orderly))) (λ w. (p.inside, w))
     expr_lies (filter {a = a} d h g q) o =
         let p = expr_lies d o in
         let n = past a p.onward.orderly in
@@ -166,6 +171,34 @@ module _ (size : ℕ) where
         let u = past (next (next a)) m.orderly in
         let r = given_lies q u.orderly in
         goes_on p (onward_then n (onward_then m (onward_then u r.onward))) (λ w. ((p.inside, r.inside, w), w))
+
+    value_lies : {x : Expr} {i j : Input} → DerivesValue x i j → Orderly size i → Read size (ExprInside size x) i j
+    value_lies (text_value {t = t} {i = i} h e) o =
+        let p : Lies size (Text t (span (start i) (next i))) i (next i) = leaf k.Text i h (λ e. cc) o (λ w. w) in
+        record { inside = p.inside; onward = p.onward }
+    value_lies (braced_value {i = i} {a = a} h d g) o =
+        let n = past i o in
+        let p = expr_lies d n.orderly in
+        record { inside = p.inside; onward = onward_then n (onward_then p.onward (past a p.onward.orderly)) }
+
+    attribute_lies : {key : Option Key} {x : Expr} {i j : Input} → DerivesAttribute key x i j → Orderly size i → Read size (ExprInside size x) i j
+    attribute_lies (named_attribute {i = i} h q v) o =
+        let n = past i o in
+        let m = past (next i) n.orderly in
+        let p = value_lies v m.orderly in
+        record { inside = p.inside; onward = onward_then n (onward_then m p.onward) }
+    attribute_lies (spread_attribute {i = i} {a = a} h q d g) o =
+        let n = past i o in
+        let m = past (next i) n.orderly in
+        let p = expr_lies d m.orderly in
+        record { inside = p.inside; onward = onward_then n (onward_then m (onward_then p.onward (past a p.onward.orderly))) }
+
+    pub attributes_lie : {xs : Entries} {i j : Input} → DerivesAttributes xs i j → Orderly size i → Read size (EntriesInside size xs) i j
+    attributes_lie (no_attributes {i = i}) o = record { inside = tt; onward = onward_none size i o }
+    attributes_lie (more_attributes d q) o =
+        let p = attribute_lies d o in
+        let r = attributes_lie q p.onward.orderly in
+        record { inside = (p.inside, r.inside); onward = onward_then p.onward r.onward }
 
     given_lies : {all : Arguments} {i j : Input} → DerivesGiven all i j → Orderly size i → Read size (ArgumentsInside size all) i j
     given_lies (not_given {i = i} h) o = record { inside = tt; onward = onward_none size i o }

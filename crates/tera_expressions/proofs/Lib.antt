@@ -3,6 +3,8 @@ pub mod Steps
 pub mod Precedence
 pub mod Rows
 pub mod Calls
+pub mod Gathered
+pub mod AttributeRows
 pub mod Sound
 pub mod Extent
 pub mod Forms
@@ -11,8 +13,14 @@ pub mod ArgumentOrder
 pub mod Passing
 pub mod Placed
 pub mod FilterRows
+pub mod PartRows
+pub mod Fit
+pub mod ParameterRows
+pub mod Written
+pub mod Signatures
 pub mod Turning
 pub mod Complete
 pub mod Inside
 pub mod Sections
+pub mod AttributeLaws
 pub mod Alone

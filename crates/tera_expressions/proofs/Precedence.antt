@@ -7,7 +7,7 @@ use Rattle.tera_tree.specs.Depth.{depth}
 use Rattle.tera_tokens.specs.declared.token.Kind.{Kind}
 use Rattle.tera_tokens.specs.declared.token.Kind.TheVariants as k
 use Rattle.tera_tokens.specs.Input.{Input}
-use Rattle.tera_expressions.specs.Grammar.{Operator, or, and, equal, not_equal, less, greater, less_or_equal, greater_or_equal, is_in, concat, add, subtract, multiply, divide, floor_divide, remainder, Dot, dot, optional_dot, Bracket, bracket, optional_bracket, Derives, quoted, tighter, choice, operation, not, not_in, minus, power, attribute, index, slice, int, is_true, is_false, nothing, name, of_loop, parentheses, array, map, comprehension, call, filter, test, not_test}
+use Rattle.tera_expressions.specs.Grammar.{Operator, or, and, equal, not_equal, less, greater, less_or_equal, greater_or_equal, is_in, concat, add, subtract, multiply, divide, floor_divide, remainder, Dot, dot, optional_dot, Bracket, bracket, optional_bracket, Derives, quoted, tighter, choice, operation, not, not_in, minus, power, attribute, index, slice, int, is_true, is_false, nothing, name, of_loop, parentheses, array, map, comprehension, call, component, filter, test, not_test}
 use Rattle.tera_expressions.specs.Expressions.{needs, gives, begins, goes_on}
 
 -- No operator in this place binds more tightly than the level.
@@ -185,9 +185,9 @@ gives-at s t n h e = ap gives h ∙ e
 pub begins-at : (s t : Kind) (n : ℕ) → s ≡ t → begins t ≡ n → begins s ≡ n
 begins-at s t n h e = ap begins h ∙ e
 
-pub begin-kinds : (begins k.Not ≡ 3) × (begins k.Minus ≡ 8) × (begins k.Int ≡ 11) × (begins k.Name ≡ 11) × (begins k.LeftBracket ≡ 11) × (begins k.True ≡ 11) × (begins k.False ≡ 11) × (begins k.Nothing ≡ 11) × (begins k.Text ≡ 11) × (begins k.LeftBrace ≡ 11)
+pub begin-kinds : (begins k.Not ≡ 3) × (begins k.Minus ≡ 8) × (begins k.Int ≡ 11) × (begins k.Name ≡ 11) × (begins k.LeftBracket ≡ 11) × (begins k.True ≡ 11) × (begins k.False ≡ 11) × (begins k.Nothing ≡ 11) × (begins k.Text ≡ 11) × (begins k.LeftBrace ≡ 11) × (begins k.Less ≡ 11)
 unfolding begins
-begin-kinds = (refl, refl, refl, refl, refl, refl, refl, refl, refl, refl)
+begin-kinds = (refl, refl, refl, refl, refl, refl, refl, refl, refl, refl, refl)
 
 pub ends-bound : (s : Kind) → (s ≡ k.Colon) ⊎ (s ≡ k.RightBracket) → needs s ≡ 12
 ends-bound s (inl h) = needs-at s k.Colon 12 h closing-kinds.5
@@ -217,6 +217,7 @@ at-most (is_false h) = omega arith
 at-most (nothing h) = omega arith
 at-most (name h e g) = omega arith
 at-most (call h e d g) = omega arith
+at-most (component h w d g) = omega arith
 at-most (filter d h g q) = omega arith
 at-most (test d h g q) = omega arith
 at-most (not_test d h f g q) = omega arith

@@ -75,7 +75,7 @@ module _ (limit : ℕ) (part : ℕ → Parser Deep) (reads : Reads part) where
       (λ q. let s = some-pair ((t.0.0, max d t.0.1), t.1) (z, j) q.1 in
       subst (λ z. GotFilters limit found d i z j) s.0 (subst (λ j. GotFilters limit found d i (t.0.0, max d t.0.1) j) s.1 (last-got found d i t.1 t.0 w)))
 
-reads-expr : (b : ℕ) → Reads (expr b)
+pub reads-expr : (b : ℕ) → Reads (expr b)
 reads-expr b i j x h = let w = what_is_read b i j x h in (w.0, w.1)
 
 pub filters_are_derived : (b : ℕ) (i j : Input) (z : Filters × ℕ) → r.filters b i ≡ Some (z, j) → DerivesFilters z.0 i j × (z.1 ≡ filters_depth z.0) × (filters_depth z.0 ≤ b)

@@ -1,5 +1,5 @@
 -- What is read is derived.
-use Rattle.std.proofs.Common.{◌≡◌, ℕ, zero, suc, ◌≤◌, max, ℤ, List, [], ◌∷◌, Bool, true, false, nat_le, Option, Some, None, option_map, if◌then◌else◌, refl, sym, ◌∙◌, ap, subst, arith}
+use Rattle.std.proofs.Common.{◌≡◌, ℕ, zero, suc, ◌≤◌, max, ℤ, List, [], ◌∷◌, Bool, true, false, nat_le, Option, Some, None, option_map, if◌then◌else◌, refl, sym, subst, arith}
 use Rattle.std.proofs.lemmas.Grind.{common_steps}
 use Rattle.tera_errors.specs.Site as site
 use Rattle.tera_errors.specs.declared.span.Span.{Span}
@@ -11,9 +11,8 @@ use Rattle.tera_tokens.specs.declared.token.Kind.{Kind}
 use Rattle.tera_tokens.specs.declared.token.Kind.TheVariants as k
 use Rattle.tera_tokens.specs.Input.{Input, Parser, and_then, same, kind, start, text, next, left, span, expect, is_word}
 use Rattle.tera_tokens.specs.Literal.{integer, literal}
-use Rattle.tera_expressions.specs.Keys.{key_at}
 use Rattle.tera_expressions.specs.Loops.{loop_name, behind_loop}
-use Rattle.tera_expressions.specs.Grammar.{Operator, or, and, equal, not_equal, less, greater, less_or_equal, greater_or_equal, is_in, concat, add, subtract, multiply, divide, floor_divide, remainder, Dot, dot, optional_dot, Bracket, bracket, optional_bracket, Derives, quoted, tighter, choice, operation, not, not_in, minus, power, attribute, index, slice, DerivesPart, absent, present, DerivesStep, no_step, step, int, is_true, is_false, nothing, name, of_loop, parentheses, array, map, DerivesEntry, keyed, spread_map, DerivesEntries, no_entries, one_entry, more_entries, DerivesItem, plain, spread, DerivesItems, none, one, more, comprehension, DerivesCondition, no_condition, condition, call, filter, test, not_test}
+use Rattle.tera_expressions.specs.Grammar.{Operator, or, and, equal, not_equal, less, greater, less_or_equal, greater_or_equal, is_in, concat, add, subtract, multiply, divide, floor_divide, remainder, Dot, dot, optional_dot, Bracket, bracket, optional_bracket, Derives, quoted, tighter, choice, operation, not, not_in, minus, power, attribute, index, slice, DerivesPart, absent, present, DerivesStep, no_step, step, int, is_true, is_false, nothing, name, of_loop, parentheses, array, map, DerivesItem, comprehension, DerivesCondition, no_condition, condition, call, filter, test, not_test}
 use Rattle.tera_expressions.specs.Headings.{Calls, calls}
 use Rattle.tera_expressions.specs.Arguments.{is_call, call_form, is_test_name}
 use Rattle.tera_expressions.specs.Expressions as r
@@ -22,7 +21,8 @@ use Rattle.tera_expressions.proofs.Precedence.{gives-below, on-means, operator-d
 use Rattle.tera_expressions.proofs.Calls.{calls-got}
 use Rattle.tera_expressions.proofs.ArgumentRows.{Reads, arguments-got, call-depth}
 use Rattle.tera_expressions.proofs.Passing.{passed-got}
-use Rattle.tera_expressions.proofs.Rows.{join-none, join-join, join-no-entries, join-entries}
+use Rattle.tera_expressions.proofs.Gathered.{GotItems, got_items, taken, same-items, no-items, one-item, more-items, GotEntries, got_entries, took, same-entries, no-more-entries, last-entry, an-entry-more, Keyed, entry_key-got, item-at}
+use Rattle.tera_expressions.proofs.AttributeRows.{component-got}
 use Rattle.tera_expressions.proofs.Steps.{and_then-some, guard, chosen, same-is, expect-some, some-pair, either, same-value, node-got}
 
 data Got : ℕ → ℕ → Deep → Input → Input → Type 0 where
@@ -57,74 +57,6 @@ opened-got zero os os' i p j w h = same-opens os os' i p j w h
 opened-got (suc n) os os' i p j w h = either (chosen (same k.LeftParenthesis (kind p)) (opened n (start p ∷ os) (next p)) (Some (os, p)) (Some (os', j)) h)
     (λ q. opened-got n (start p ∷ os) os' i (next p) j (paren w (same-is k.LeftParenthesis (kind p) q.0)) q.1)
     (λ q. same-opens os os' i p j w q.1)
-
--- the items of an array
-data GotItems : Items → ℕ → Input → Items × ℕ → Input → Type 0 where
-  got_items : {found xs : Items} {d : ℕ} {i a : Input} {z : Items × ℕ} → DerivesItems xs i a → kind a ≡ k.RightBracket → z.0 ≡ join_items found xs → z.1 ≡ max d (items_depth xs) → GotItems found d i z (next a)
-
-abbrev taken : Items × ℕ → Input → Option ((Items × ℕ) × Input)
-taken z i = Some (z, i)
-
-same-items : (found : Items) (d : ℕ) (i : Input) (y z : Items × ℕ) (a j : Input) → taken y a ≡ taken z j → GotItems found d i y a → GotItems found d i z j
-same-items found d i y z a j h p = let q = some-pair (y, a) (z, j) h in subst (λ w. GotItems found d i w j) q.0 (subst (λ w. GotItems found d i y w) q.1 p)
-
-no-items : (found : Items) (d : ℕ) (i : Input) → kind i ≡ k.RightBracket → GotItems found d i (found, d) (next i)
-no-items found d i h = got_items none h (sym (join-none found)) (omega arith)
-
-one-item : (found f : Items) (s : Bool) (x : Expr) (d m : ℕ) (i a : Input) → f ≡ join_items found (one_item s x) → m ≡ max d (depth x) → DerivesItem s x i a → kind a ≡ k.RightBracket → GotItems found d i (f, m) (next a)
-one-item found f s x d m i a ef em p h = got_items (one p) h ef (omega arith)
-
-more-items : (found f : Items) (s : Bool) (x : Expr) (d m : ℕ) (i a j : Input) (z : Items × ℕ) → f ≡ join_items found (one_item s x) → m ≡ max d (depth x) → DerivesItem s x i a → kind a ≡ k.Comma → GotItems f m (next a) z j
-    → GotItems found d i z j
-more-items found f s x d m i a j z ef em p h (got_items {xs = xs} q g e dz) = got_items (more p h q) g (e ∙ ap (λ f. join_items f xs) ef ∙ join-join found (one_item s x) xs) (omega arith)
-
--- the entries of a map
-data GotEntries : Entries → ℕ → Input → Entries × ℕ → Input → Type 0 where
-  got_entries : {found xs : Entries} {d : ℕ} {i a : Input} {z : Entries × ℕ} → DerivesEntries xs i a → kind a ≡ k.RightBrace → z.0 ≡ join_entries found xs → z.1 ≡ max d (entries_depth xs) → GotEntries found d i z (next a)
-
-abbrev took : Entries × ℕ → Input → Option ((Entries × ℕ) × Input)
-took z i = Some (z, i)
-
-same-entries : (found : Entries) (d : ℕ) (i : Input) (y z : Entries × ℕ) (a j : Input) → took y a ≡ took z j → GotEntries found d i y a → GotEntries found d i z j
-same-entries found d i y z a j h p = let q = some-pair (y, a) (z, j) h in subst (λ w. GotEntries found d i w j) q.0 (subst (λ w. GotEntries found d i y w) q.1 p)
-
-no-more-entries : (found : Entries) (d : ℕ) (i : Input) → kind i ≡ k.RightBrace → GotEntries found d i (found, d) (next i)
-no-more-entries found d i h = got_entries no_entries h (sym (join-no-entries found)) (omega arith)
-
-last-entry : (found : Entries) (s : Option Key) (x : Expr) (d : ℕ) (i a : Input) → DerivesEntry s x i a → kind a ≡ k.RightBrace → GotEntries found d i (join_entries found (r.one_entry s x), max d (depth x)) (next a)
-last-entry found s x d i a p h = got_entries (one_entry p) h refl (omega arith)
-
-an-entry-more : (found : Entries) (s : Option Key) (x : Expr) (d : ℕ) (i a j : Input) (z : Entries × ℕ) → DerivesEntry s x i a → kind a ≡ k.Comma → GotEntries (join_entries found (r.one_entry s x)) (max d (depth x)) (next a) z j
-    → GotEntries found d i z j
-an-entry-more found s x d i a j z p h (got_entries {xs = xs} q g e f) = got_entries (more_entries p h q) g (e ∙ join-entries found (r.one_entry s x) xs) (omega arith)
-
-abbrev at-key : Option Key → Input → Option (Option Key × Input)
-at-key key i = Some (key, i)
-
--- what stands before the value of an entry
-abbrev Keyed : Option Key → Input → Input → Type 0
-Keyed key i m = (x : Expr) (a : Input) → Derives 0 x m a → DerivesEntry key x i a
-
-same-key : (i : Input) (key key' : Option Key) (m m' : Input) → at-key key m ≡ at-key key' m' → Keyed key i m → Keyed key' i m'
-same-key i key key' m m' h p = let q = some-pair (key, m) (key', m') h in subst (λ w. Keyed w i m') q.0 (subst (λ w. Keyed key i w) q.1 p)
-
-keyed-got : (o : Option Key) (i m : Input) (key : Option Key) → key_at i ≡ o → r.keyed o i ≡ Some (key, m) → Keyed key i m
-keyed-got None i m key e h = cc
-keyed-got (Some word) i m key e h =
-    let q = and_then-some (expect k.Colon (next i)) (λ _. λ j. at-key (Some word) j) (key, m) h in
-    let u = expect-some k.Colon (next i) q.1 q.0 q.2 in
-    same-key i (Some word) key q.1 m q.3 (λ x a d. keyed e u.0 (subst (λ j. Derives 0 x j a) u.1 d))
-
-entry_key-got : (i m : Input) (key : Option Key) → r.entry_key i ≡ Some (key, m) → Keyed key i m
-unfolding r.entry_key
-entry_key-got i m key h =
-    either (chosen (same k.Spread (kind i)) (at-key None (next i)) (r.keyed (key_at i) i) (Some (key, m)) h)
-    (λ q. same-key i None key (next i) m q.1 (λ x a d. spread_map (same-is k.Spread (kind i) q.0) d))
-    (λ q. keyed-got (key_at i) i m key refl q.1)
-
-item-at : (t : Bool) (x : Expr) (i a : Input) → same k.Spread (kind i) ≡ t → Derives 0 x (if t then next i else i) a → DerivesItem t x i a
-item-at true x i a e d = spread (same-is k.Spread (kind i) e) d
-item-at false x i a e d = plain d
 
 abbrev some-part : Optional × ℕ → Input → Option ((Optional × ℕ) × Input)
 some-part z i = Some (z, i)
@@ -537,6 +469,9 @@ module _ (limit b : ℕ) (part : ℕ → Parser Deep) (sound : Sound b part) whe
       node-got (λ y j. Got limit 11 y i j) limit q.0.1 (made q.1) q.1 j y q.3 (omega (arith, f, v))
       (λ ok. subst P (sym g.3) (λ ok. got ok (call h e g.1 g.2)) ok)
 
+  component-by-got : (i j : Input) (y : Deep) → kind i ≡ k.Less → r.component limit part i ≡ Some (y, j) → Got limit 11 y i j
+  component-by-got i j y h hh = component-got limit part reads (λ y j. Got limit 11 y i j) i j y h (λ _ _ d ok. got ok d) hh
+
   name-got : (o : Option site.Name) (i j : Input) (y : Deep) → loop_name i ≡ o → kind i ≡ k.Name → r.name_by limit part o i ≡ Some (y, j) → Got limit 11 y i j
   name-got None i j y e h hh =
       either (chosen (is_call i) (r.call limit part i) (node limit 0 (Name (text i) (span (start i) (next i))) (next i)) (Some (y, j)) hh)
@@ -564,6 +499,7 @@ module _ (limit b : ℕ) (part : ℕ → Parser Deep) (sound : Sound b part) whe
   head-by-got k.Name i j y h hh = name-got (loop_name i) i j y refl h hh
   head-by-got k.LeftBracket i j y h hh = bracketed-got i j y h hh
   head-by-got k.LeftBrace i j y h hh = map-got i j y h hh
+  head-by-got k.Less i j y h hh = component-by-got i j y h hh
   head-by-got _ i j y h hh = cc
 
   begins-small : (s : Kind) → begins s ≤ 11

@@ -1,5 +1,5 @@
--- Calls, and their arguments in order.
-use Rattle.std.specs.Prelude.{◌≡◌, ◌&&◌, not, bytes_eq, codes, Bool, Option, Some, None, option_map, if◌then◌else◌}
+-- Calls, and their arguments in order; components, and their attributes.
+use Rattle.std.specs.Prelude.{◌≡◌, ◌&&◌, ◌||◌, not, bytes_eq, codes, Bool, Option, Some, None, option_map, if◌then◌else◌}
 use Rattle.std.specs.declared.cmp.Ordering.{Ordering}
 use Rattle.std.specs.declared.cmp.Ordering.TheVariants.{Less}
 use Rattle.std.specs.Ordering.{nat_cmp, match_ordering}
@@ -45,3 +45,7 @@ AreInOrder (MoreArguments n x rest) = IsBefore n rest × AreInOrder rest
 -- the name of an argument, any word, and the place behind the sign that follows
 unfoldable pub argument_name : Parser Name
 argument_name = λ i. if is_word (kind i) then and_then (expect k.Assign (next i)) (λ _. λ j. Some (text i, j)) else None
+
+-- an attribute of a component begins with its name, any word, or with the brace before a map that is spread
+unfoldable pub begins_attribute : Kind → Bool
+begins_attribute s = is_word s || same k.LeftBrace s

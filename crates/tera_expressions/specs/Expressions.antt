@@ -3,7 +3,7 @@ use Rattle.std.specs.Prelude.{ℕ, zero, suc, ◌+◌, max, List, [], ◌∷◌,
 use Rattle.tera_errors.specs.declared.span.Span.{Span}
 use Rattle.tera_tree.specs.declared.expression.BinaryOperator.{BinaryOperator}
 use Rattle.tera_tree.specs.declared.expression.BinaryOperator.TheVariants as binary
-use Rattle.tera_tree.specs.Tree.{Expr, Nothing, Boolean, Integer, Text, Name, Attribute, Index, Slice, Optional, Absent, Present, Not, Negate, Binary, And, Or, Ternary, Array, Items, NoItems, MoreItems, Map, Comprehension, Filter, Test, Key, Entries, NoEntries, MoreEntries, Arguments, NoArguments, Filters, NoFilters, MoreFilters}
+use Rattle.tera_tree.specs.Tree.{Expr, Nothing, Boolean, Integer, Text, Name, Attribute, Index, Slice, Optional, Absent, Present, Not, Negate, Binary, And, Or, Ternary, Array, Items, NoItems, MoreItems, Map, Comprehension, Filter, Test, Component, Key, TextKey, Entries, NoEntries, MoreEntries, Arguments, NoArguments, Filters, NoFilters, MoreFilters}
 use Rattle.tera_tree.specs.Depth.{depth}
 use Rattle.tera_tokens.specs.declared.token.Kind.{Kind}
 use Rattle.tera_tokens.specs.declared.token.Kind.TheVariants as k
@@ -12,7 +12,7 @@ use Rattle.tera_tokens.specs.Literal.{integer, literal}
 use Rattle.tera_expressions.specs.Keys.{key_at}
 use Rattle.tera_expressions.specs.Loops.{loop_name, behind_loop}
 use Rattle.tera_expressions.specs.Headings.{calls}
-use Rattle.tera_expressions.specs.Arguments.{is_call, call_form, is_test_name, put_argument, argument_name}
+use Rattle.tera_expressions.specs.Arguments.{is_call, call_form, is_test_name, put_argument, argument_name, begins_attribute}
 use Rattle.tera_errors.specs.Site as site
 
 -- an expression, and how deep it is
@@ -338,6 +338,52 @@ module _ (limit : ℕ) (sub : ℕ → Parser Deep) where
   unfoldable pub call : Parser Deep
   call = λ i. ((λ j. arguments_from (left j) NoArguments 0 j) >>= call_of (start i) (text i)) (next (next i))
 
+  -- an expression that a brace closes
+  unfoldable pub braced : Parser Deep
+  braced = sub 0 >>= (λ x. expect k.RightBrace >>= (λ _. λ j. Some (x, j)))
+
+  abbrev pub quoted_value : Option site.Text → Parser Deep
+  quoted_value None = refuse
+  quoted_value (Some t) = λ i. Some (deep (Text t (span (start i) (next i))), next i)
+
+  -- the value of an attribute: a text, or an expression in braces
+  unfoldable pub attribute_value : Parser Deep
+  attribute_value = λ i. if same k.LeftBrace (kind i) then braced (next i)
+      else (if same k.Text (kind i) then quoted_value (literal (text i)) i else None)
+
+  -- an attribute behind those that were found, and the depth of its value
+  abbrev pub with_attribute : Entries → Option Key → Deep → Parser (Entries × ℕ)
+  with_attribute found key x = λ j. Some ((join_entries found (one_entry key x.expr), x.depth), j)
+
+  unfoldable pub named_attribute : Entries → Parser (Entries × ℕ)
+  named_attribute found = argument_name >>= (λ name. attribute_value >>= with_attribute found (Some (TextKey name)))
+
+  -- from behind its brace
+  unfoldable pub spread_attribute : Entries → Parser (Entries × ℕ)
+  spread_attribute found = expect k.Spread >>= (λ _. braced >>= with_attribute found None)
+
+  -- one of both
+  unfoldable pub any_attribute : Entries → Parser (Entries × ℕ)
+  any_attribute found = λ i. if same k.LeftBrace (kind i) then spread_attribute found (next i) else named_attribute found i
+
+  -- attributes of a component, up to where none begins
+  unfoldable pub attributes_from : ℕ → Entries → ℕ → Parser (Entries × ℕ)
+  attributes_from zero found d = λ i. Some ((found, d), i)
+  attributes_from (suc n) found d = λ i. if begins_attribute (kind i) then and_then (any_attribute found i) (λ p. attributes_from n p.0 (max d p.1))
+      else Some ((found, d), i)
+
+  -- a component by this name with these attributes, from its end on
+  unfoldable pub component_of : ℕ → site.Name → Entries → ℕ → Parser Deep
+  component_of from n all d = expect k.TagEnd >>= (λ _. λ j. node limit d (Component n all (span from j)) j)
+
+  -- from its name on
+  abbrev pub component_by_name : ℕ → Parser Deep
+  component_by_name from = λ i. if is_word (kind i)
+      then and_then (attributes_from (left (next i)) NoEntries 0 (next i)) (λ xs. component_of from (text i) xs.0 xs.1) else None
+
+  unfoldable pub component : Parser Deep
+  component = λ i. component_by_name (start i) (next i)
+
   abbrev pub leaf : Option Expr → Parser Deep
   leaf None = refuse
   leaf (Some x) = node limit 0 x
@@ -357,6 +403,7 @@ module _ (limit : ℕ) (sub : ℕ → Parser Deep) where
   head_by k.Name = λ i. name_by (loop_name i) i
   head_by k.LeftBracket = λ i. bracketed (start i) (next i)
   head_by k.LeftBrace = map
+  head_by k.Less = component
   head_by _ = refuse
 
   -- what stands before the first operator
@@ -388,3 +435,11 @@ expr (suc limit) floor = level (suc limit) (expr limit) floor
 unfoldable pub filters : ℕ → Parser (Filters × ℕ)
 filters zero = refuse
 filters (suc limit) = λ i. filters_from (suc limit) (expr limit) (left i) NoFilters 0 i
+
+-- what was read, if it is no deeper than the number
+abbrev pub no_deeper : ℕ → Entries × ℕ → Parser (Entries × ℕ)
+no_deeper limit xs = λ j. if nat_le xs.1 limit then Some (xs, j) else None
+
+-- attributes of a component, no deeper than the number, and the greatest depth
+unfoldable pub attributes : ℕ → Parser (Entries × ℕ)
+attributes limit = λ i. and_then (attributes_from limit (expr limit) (left i) NoEntries 0 i) (no_deeper limit)

@@ -3,7 +3,7 @@ use Rattle.std.specs.Prelude.{◌≡◌, ℕ, suc, ℤ, Bool, true, false, Optio
 use Rattle.tera_errors.specs.Site as site
 use Rattle.tera_errors.specs.declared.span.Span.{Span}
 use Rattle.tera_tree.specs.declared.expression.BinaryOperator.TheVariants as binary
-use Rattle.tera_tree.specs.Tree.{Expr, Nothing, Boolean, Integer, Text, Name, Attribute, Index, Slice, Optional, Absent, Present, Not, Negate, Binary, And, Or, Ternary, Array, Items, NoItems, MoreItems, Map, Comprehension, Filter, Test, Key, Entries, NoEntries, MoreEntries, Arguments, NoArguments, Filters, NoFilters, MoreFilters}
+use Rattle.tera_tree.specs.Tree.{Expr, Nothing, Boolean, Integer, Text, Name, Attribute, Index, Slice, Optional, Absent, Present, Not, Negate, Binary, And, Or, Ternary, Array, Items, NoItems, MoreItems, Map, Comprehension, Filter, Test, Component, Key, TextKey, Entries, NoEntries, MoreEntries, Arguments, NoArguments, Filters, NoFilters, MoreFilters}
 use Rattle.tera_tokens.specs.declared.token.Kind.{Kind}
 use Rattle.tera_tokens.specs.declared.token.Kind.TheVariants as k
 use Rattle.tera_tokens.specs.Input.{Input, kind, text, start, next, span, is_word}
@@ -78,6 +78,9 @@ mutual
     of_loop : {n : site.Name} {i : Input} → kind i ≡ k.Name → loop_name i ≡ Some n → Derives 11 (Name n (span (start i) (behind_loop i))) i (behind_loop i)
     call : {all : Arguments} {i a : Input} → kind i ≡ k.Name → is_call i ≡ true → DerivesArguments NoArguments all (next (next i)) a → kind a ≡ k.RightParenthesis
         → Derives 11 (call_form (text i) all (span (start i) (next a))) i (next a)
+    -- its name may be a reserved word
+    component : {xs : Entries} {i a : Input} → kind i ≡ k.Less → is_word (kind (next i)) ≡ true → DerivesAttributes xs (next (next i)) a → kind a ≡ k.TagEnd
+        → Derives 11 (Component (text (next i)) xs (span (start i) (next a))) i (next a)
     -- parentheses are no part of what they are around
     parentheses : {x : Expr} {i a : Input} → kind i ≡ k.LeftParenthesis → Derives 0 x (next i) a → kind a ≡ k.RightParenthesis → Derives 11 x i (next a)
     array : {xs : Items} {i a : Input} → kind i ≡ k.LeftBracket → DerivesItems xs (next i) a → kind a ≡ k.RightBracket
@@ -125,6 +128,24 @@ mutual
     one_entry : {key : Option Key} {x : Expr} {i j : Input} → DerivesEntry key x i j → DerivesEntries (MoreEntries key x NoEntries) i j
     more_entries : {key : Option Key} {x : Expr} {xs : Entries} {i a j : Input} → DerivesEntry key x i a → kind a ≡ k.Comma → DerivesEntries xs (next a) j
         → DerivesEntries (MoreEntries key x xs) i j
+
+  -- the value of an attribute: a text, or an expression in braces
+  pub data DerivesValue : Expr → Input → Input → Type 0 where
+    text_value : {t : site.Text} {i : Input} → kind i ≡ k.Text → literal (text i) ≡ Some t → DerivesValue (Text t (span (start i) (next i))) i (next i)
+    braced_value : {x : Expr} {i a : Input} → kind i ≡ k.LeftBrace → Derives 0 x (next i) a → kind a ≡ k.RightBrace → DerivesValue x i (next a)
+
+  -- an attribute of a component, whose name may be a reserved word, or a map that is spread in braces
+  pub data DerivesAttribute : Option Key → Expr → Input → Input → Type 0 where
+    named_attribute : {x : Expr} {i j : Input} → is_word (kind i) ≡ true → kind (next i) ≡ k.Assign → DerivesValue x (next (next i)) j
+        → DerivesAttribute (Some (TextKey (text i))) x i j
+    spread_attribute : {x : Expr} {i a : Input} → kind i ≡ k.LeftBrace → kind (next i) ≡ k.Spread → Derives 0 x (next (next i)) a → kind a ≡ k.RightBrace
+        → DerivesAttribute None x i (next a)
+
+  -- attributes in the order of the text, with nothing between
+  pub data DerivesAttributes : Entries → Input → Input → Type 0 where
+    no_attributes : {i : Input} → DerivesAttributes NoEntries i i
+    more_attributes : {key : Option Key} {x : Expr} {xs : Entries} {i a j : Input} → DerivesAttribute key x i a → DerivesAttributes xs a j
+        → DerivesAttributes (MoreEntries key x xs) i j
 
   -- An argument, put at its place among those before it. Its name may be a reserved word, and is the name of no other.
   pub data DerivesArgument : Arguments → Arguments → Input → Input → Type 0 where

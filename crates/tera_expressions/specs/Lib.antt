@@ -4,4 +4,6 @@ pub mod Headings
 pub mod Arguments
 pub mod Expressions
 pub mod Grammar
+pub mod Literals
+pub mod Parameters
 pub mod Parts

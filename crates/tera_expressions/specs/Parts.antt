@@ -1,5 +1,6 @@
 -- How the reader's parts of expressions stand to their definitions.
-use Rattle.std.specs.Prelude.{◌≡◌, ℕ, List, Bool, Option, Some, None, option_map, suc, Result, Ok, Err, option_copied}
+use Rattle.std.specs.Prelude.{◌≡◌, ℕ, List, [], ◌∷◌, map, Vec, Bool, Option, Some, None, option_map, suc, Result, Ok, Err, option_copied}
+use Rattle.std.specs.Borrow.{Bor}
 use Rattle.std.specs.declared.alloc.Global.{Global}
 use denote.Ref.{MutBor}
 use Rattle.tera_errors.specs.Site.{Name}
@@ -7,8 +8,10 @@ use Rattle.tera_errors.specs.declared.span.Span.{Span}
 use Rattle.tera_tree.specs.declared.expression.Expression.{Expression}
 use Rattle.tera_tree.specs.declared.expression.Item as item
 use Rattle.tera_tree.specs.declared.expression.Entry as entry
-use Rattle.tera_tree.specs.Tree.{Expr, Key, Optional, And, Or, Binary, Arguments, NoArguments, MoreArguments}
-use Rattle.tera_tree.specs.View.{expr_of, optional_of, items_of, entries_of}
+use Rattle.tera_tree.specs.declared.component.Parameter as parameter
+use Rattle.tera_tree.specs.Definitions.{rest_names}
+use Rattle.tera_tree.specs.Tree.{Expr, Parameter, Key, Optional, And, Or, Binary, Arguments, NoArguments, MoreArguments}
+use Rattle.tera_tree.specs.View.{expr_of, optional_of, items_of, entries_of, parameter_of}
 use Rattle.tera_tokens.specs.declared.refusal.Refusal.{Refusal}
 use Rattle.tera_tokens.specs.declared.refusal.Refusal.TheVariants.{Syntax, OutOfMemory}
 use Rattle.tera_tokens.specs.declared.input.Tokens.{Tokens}
@@ -66,3 +69,12 @@ Makes meant (Err OutOfMemory) = Unit {0}
 abbrev pub place_of : Name → Arguments → Option ℕ
 place_of n NoArguments = Some 0
 place_of n (MoreArguments m y rest) = match_ordering (name_cmp n m) (Some 0) None (option_map suc (place_of n rest))
+
+-- the names of a signature: those of its parameters, and of what takes all other arguments
+abbrev pub signature_names : List parameter.Parameter → Option Name → List Name
+signature_names [] rest = rest_names rest
+signature_names (p ∷ ps) rest = p.name.now ∷ signature_names ps rest
+
+-- what stands in its parentheses
+abbrev pub parameters_of : Vec parameter.Parameter Global × Option (Bor Name) → List Parameter × Option Name
+parameters_of p = (map parameter_of p.0.items, option_copied p.1)

@@ -108,7 +108,7 @@ impl<'s, F: Fn(Global, &mut Tokens<'_, 's>, usize, u8) -> Result<Deep<'s>, Refus
 
 /// Goes past the name of an argument and the sign behind it.
 #[tactic(auto, unfolding(crate::specs::Arguments::argument_name))]
-fn argument_name(tokens: &mut Tokens<'_, '_>) -> Result<(), Refusal>
+pub(crate) fn argument_name(tokens: &mut Tokens<'_, '_>) -> Result<(), Refusal>
     ensures { let meant = call.argument_name (input tokens.old) in
         Takes (λ done. text (input tokens.old)) meant result tokens.new }
 {

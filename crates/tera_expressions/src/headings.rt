@@ -47,7 +47,7 @@ fn called<'s>(
 
 /// Takes a name.
 #[tactic(auto, unfolding(crate::specs::Headings::name))]
-fn name<'s>(tokens: &mut Tokens<'_, 's>) -> Result<&'s str, Refusal>
+pub(crate) fn name<'s>(tokens: &mut Tokens<'_, 's>) -> Result<&'s str, Refusal>
     ensures { Takes (λ t. t.now) (spec.name (input tokens.old)) result tokens.new }
 {
     if !same(Kind::Name, tokens.kind()) {

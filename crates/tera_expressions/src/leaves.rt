@@ -44,6 +44,7 @@ impl<'s, F: Fn(Global, &mut Tokens<'_, 's>, usize, u8) -> Result<Deep<'s>, Refus
                 self.bracketed(tokens, start)
             }
             Kind::LeftBrace => self.map(tokens),
+            Kind::Less => self.component(tokens),
             _ => Err(tokens.refuse(Reason::NoExpression)),
         }
     }

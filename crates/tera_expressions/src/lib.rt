@@ -6,6 +6,8 @@ mod applications;
 mod arguments;
 mod climb;
 mod collections;
+/// Components that are called, and their attributes.
+pub mod components;
 mod comprehensions;
 /// Expressions, to a greatest depth.
 pub mod expressions;
@@ -15,5 +17,8 @@ pub mod filters;
 pub mod headings;
 mod leaves;
 mod levels;
+mod literals;
 mod operators;
+/// Signatures of components.
+pub mod parameters;
 mod reader;

@@ -102,7 +102,7 @@ module _ (w : World) where
   below_rank : (n : ℕ) (p : Place) → rank w p < n → Below w p
   below_rank zero p l q u c = absurd (omega arith)
   below_rank (suc n) p l q u c =
-      subst (Asked w p q u c) (sym (unrolls plain w p q c.run.vars)) (asked_along p q u c (way w p q c.run.vars) refl (falls w p q c.run.vars) (λ p' lower. below_rank n p' (omega (arith, l, lower))))
+      subst (Asked w p q u c) (sym (unrolls plain w p q c.run.vars)) (asked_along p q u c (way w p q c.run.vars) refl (falls plain w p q c.run.vars) (λ p' lower. below_rank n p' (omega (arith, l, lower))))
 
   -- the bodies that any place takes give what they mean
   pub all_below : (p : Place) → Below w p

@@ -1,31 +1,33 @@
 -- The code of an expression gives what the expression means.
-use Rattle.std.proofs.Common.{◌≡◌, ℕ, suc, ◌+◌, ◌≤◌, Bool, true, false, cond, List, [], ◌∷◌, ◌++◌, length, Option, Some, Result, Ok, Err, refl, sym, ap, ◌∙◌, subst, arith, length-append, append-nil}
+use Rattle.std.proofs.Common.{◌≡◌, ℕ, suc, ◌+◌, ◌≤◌, Bool, true, false, cond, List, [], ◌∷◌, ◌++◌, length, Option, Some, None, Result, Ok, Err, refl, sym, ap, ◌∙◌, subst, arith, length-append, append-nil}
 use Rattle.std.specs.Prelude.{slice_get}
 use Rattle.std.specs.List.{zip}
 use Rattle.tera_errors.specs.declared.span.Span.{Span}
 use Rattle.tera_errors.specs.Site as site
 use Rattle.tera_errors.specs.Fault.{Fault}
-use Rattle.tera_tree.specs.Tree.{Key, Expr, Nothing, Boolean, Integer, Text, Name, Attribute, Index, Slice, Not, Negate, Binary, And, Or, Ternary, Array, Map, Comprehension, Super, Filter, Test, Call, Optional, Absent, Present, Items, NoItems, MoreItems, Entries, NoEntries, MoreEntries, Arguments, NoArguments, MoreArguments}
+use Rattle.tera_tree.specs.Tree.{Key, Expr, Nothing, Boolean, Integer, Text, Name, Attribute, Index, Slice, Not, Negate, Binary, And, Or, Ternary, Array, Map, Comprehension, Super, Filter, Test, Call, Component, Optional, Absent, Present, Items, NoItems, MoreItems, Entries, NoEntries, MoreEntries, Arguments, NoArguments, MoreArguments}
+use Rattle.tera_values.specs.Alphabet.{plain}
 use Rattle.tera_values.specs.Val as val
 use Rattle.tera_values.specs.Access.{truthy}
 use Rattle.tera_state.specs.Scope.{Turn, Heading, look, dump}
 use Rattle.tera_operators.specs.Operand.{Evaluated, Outcome}
 use Rattle.tera_operators.specs.Accesses.{attribute_of, item_of, slice_of}
 use Rattle.tera_operators.specs.Operators.{not_of, negative_of, binary_of}
-use Rattle.tera_operators.specs.Literals.{array_of, map_of}
+use Rattle.tera_operators.specs.Literals.{array_of, map_entries, map_of}
+use Rattle.tera_components.specs.Definition.{named_arguments}
 use Rattle.tera_operators.specs.Calls.{filter_applied, test_applied, function_called}
 use Rattle.tera_meaning.specs.Here.{Here, escaping_at}
 use Rattle.tera_meaning.specs.Whole.{World, Place, here_at, whole}
-use Rattle.tera_meaning.specs.Run.{Run, Gave, Above, Oracle, Meaning, ◌▹◌, visit, reads, answered, onward, gives, value_at}
-use Rattle.tera_meaning.specs.Meaning.{turns_of, if_kept, comprehension, expr_meaning, condition_meaning, bound_meaning, items_meaning, entries_meaning, arguments_meaning}
+use Rattle.tera_meaning.specs.Run.{Run, Gave, Above, AComponent, Request, Oracle, Meaning, ◌▹◌, visit, reads, answered, asks, onward, gives, value_at}
+use Rattle.tera_meaning.specs.Meaning.{turns_of, if_kept, comprehension, component_meaning_in, expr_meaning, condition_meaning, bound_meaning, items_meaning, entries_meaning, arguments_meaning}
 use Rattle.tera_code.specs.declared.instruction.Instruction.{Instruction}
 use Rattle.tera_code.specs.declared.instruction.Instruction.TheVariants as instruction
 use Rattle.tera_code.specs.Code.{expr_code, turn_code, keep_code, keep_tail, bound_code, items_code, entries_code, choice_tail, comprehension_tail, is_context, spreads_of, keys_in, arguments_code, arguments_length, argument_names}
 use Rattle.tera_machine.specs.Config.{Config}
-use Rattle.tera_machine.specs.Flow.{Pushed, Ask}
+use Rattle.tera_machine.specs.Flow.{Use, Pushed, Ask}
 use Rattle.tera_machine.specs.Did.{Goes, outcome}
 use Rattle.tera_machine.specs.Loops.{begun_with}
-use Rattle.tera_machine.specs.Act.{act, topmost, made_of, called_on, branched, above_in}
+use Rattle.tera_machine.specs.Act.{act, topmost, made_of, called_on, branched, above_in, handed, component_asked, component_given}
 use Rattle.tera_machine.specs.Exec.{Code}
 use Rattle.tera_machine.proofs.Literals.{push_all, firsts, seconds, zip-firsts, length-seconds, topmost-push_all}
 use Rattle.tera_machine.proofs.Places.{StandsAt, stands_front, stands_back, stands_within, parts, round}
@@ -50,7 +52,7 @@ module _ (w : World) (place : Place) (code : Code) (below : Below w place) where
   holds_items (MoreItems is_spread value rest) r =
       holds_onward _ _ (expr_meaning here call value r) _ (holds_any (expr_meaning here call value r)) (λ a r1 _. holds_onward _ _ (items_meaning here call rest r1) _ (holds_items rest r1) (λ all r2 h. ap (λ bs. is_spread ∷ bs) h))
 
-  holds_entries : (entries : Entries) (r : Run) → Holds (λ all. firsts all ≡ keys_in entries) (entries_meaning here call entries r)
+  pub holds_entries : (entries : Entries) (r : Run) → Holds (λ all. firsts all ≡ keys_in entries) (entries_meaning here call entries r)
   holds_entries NoEntries r = refl
   holds_entries (MoreEntries key value rest) r =
       holds_onward _ _ (expr_meaning here call value r) _ (holds_any (expr_meaning here call value r)) (λ a r1 _. holds_onward _ _ (entries_meaning here call rest r1) _ (holds_entries rest r1) (λ all r2 h. ap (λ ks. key ∷ ks) h))
@@ -90,6 +92,25 @@ module _ (w : World) (place : Place) (code : Code) (below : Below w place) where
       let c : Config = config_at (all_over (seconds all) (over a base)) r in
       ap (λ o. called_on f names o c) (topmost-push_all (length names) (seconds all) (a ∷ base.operands) (length-seconds names all e))
       ∙ ap (λ ps. outcome (f a ps) base.operands c) (zip-firsts names all e)
+
+  -- the attributes are there, above the body that the component is handed
+  takes_component : (next : ℕ) (name : site.Name) (keys : List (Option Key)) (has_body : Bool) (all : List (Option Key × Evaluated)) (below0 base : Base) (body : Option val.Val) (r : Run) (span : Span) → firsts all ≡ keys → handed has_body below0.operands ≡ Some (body, base.operands) → act here next (instruction.TakeComponent name keys has_body span) (config_at (all_over (seconds all) below0) r) ≡ component_asked place.autoescape name span (map_entries place.file all) (Some (body, base.operands)) (config_at (all_over (seconds all) below0) r)
+  takes_component next name keys has_body all below0 base body r span e h =
+      let c : Config = config_at (all_over (seconds all) below0) r in
+      ap (λ o. component_given here name keys has_body span o c) (topmost-push_all (length keys) (seconds all) below0.operands (length-seconds keys all e))
+      ∙ ap (λ ps. component_asked place.autoescape name span (map_entries place.file ps) (handed has_body below0.operands) c) (zip-firsts keys all e)
+      ∙ ap (λ o. component_asked place.autoescape name span (map_entries place.file all) o c) h
+
+  -- and the component's text is on top of the operands below
+  pub component_runs : (ip : ℕ) (name : site.Name) (keys : List (Option Key)) (has_body : Bool) (all : List (Option Key × Evaluated)) (below0 base : Base) (body : Option val.Val) (r : Run) (span : Span) (s : ℕ) {t : ℕ} → t ≤ s → slice_get code ip ≡ Some (instruction.TakeComponent name keys has_body span) → firsts all ≡ keys → handed has_body below0.operands ≡ Some (body, base.operands) → config_at base r ≡ config_at (record below0 { operands = base.operands }) r → Runs w place code (spot ip (all_over (seconds all) below0) r) (s + 1) t (Top (ip + 1) base) (component_meaning_in plain here call name all body span r)
+  component_runs ip name keys has_body all below0 base body r span s l i e h same =
+      let c : Config = config_at (all_over (seconds all) below0) r in
+      let tk = instruction.TakeComponent name keys has_body span in
+      let takes = takes_component (ip + 1) name keys has_body all below0 base body r span e h in
+      let top : site.Text → Meaning Evaluated = λ t. value_at (val.text t place.autoescape) span in
+      let q : List (val.KeyVal × val.Val) → Request = λ given. AComponent name (named_arguments given) body span in
+      let u : Use = Pushed place.autoescape span in
+      answered_runs w place code s (map_entries place.file all) r (λ given r1. onward (asks call (q given) r1) top) tk l i (λ f g. takes ∙ ap (λ o. component_asked place.autoescape name span o (Some (body, base.operands)) c) g) (λ given g. asked_runs w place code (config_at base r) s (q given) u r top tk (call (q given) r.vars) l i (takes ∙ ap (λ o. component_asked place.autoescape name span o (Some (body, base.operands)) c) g ∙ ap (λ d. Goes d (Ask (q given) u)) (sym same)) (below (q given) u (config_at base r)) (λ after. done w place code l))
 
   calls_function : (next : ℕ) (name : site.Name) (names : List site.Name) (all : List (site.Name × Evaluated)) (base : Base) (r : Run) (span : Span) → firsts all ≡ names → act here next (instruction.CallFunction name names span) (config_at (all_over (seconds all) base) r) ≡ outcome (function_called place.file name all span) base.operands (config_at (all_over (seconds all) base) r)
   calls_function next name names all base r span e =
@@ -281,6 +302,13 @@ module _ (w : World) (place : Place) (code : Code) (below : Below w place) where
         let len : p + 1 ≡ ip + length (ca ++ i ∷ []) = omega (arith, length-append ca (i ∷ [])) in
         let at = (stands_back code ip ca (i ∷ []) has).0 in
         top_at w place code _ len (spend w place code (onward_where w place code (λ all. firsts all ≡ names) (omega arith) (holds_arguments arguments r) (arguments_runs arguments ip base r (stands_front code ip ca _ has)) (λ all r1 e. outcome_runs p (push_all (seconds all) base.operands) base r1 7 (function_called here.file name all span) i (omega arith) at (calls_function (p + 1) name names all base r1 span e))))
+    expr_runs (Component name attributes span) ip base r has =
+        let i = instruction.TakeComponent name (keys_in attributes) false span in
+        let ci = entries_code attributes in
+        let p = ip + length ci in
+        let len : p + 1 ≡ ip + length (ci ++ i ∷ []) = omega (arith, length-append ci (i ∷ [])) in
+        let at = (stands_back code ip ci (i ∷ []) has).0 in
+        top_at w place code _ len (spend w place code (onward_where w place code (λ all. firsts all ≡ keys_in attributes) (omega arith) (holds_entries attributes r) (entries_runs attributes ip base r (stands_front code ip ci _ has)) (λ all r1 e. component_runs p name (keys_in attributes) false all base base None r1 span 7 (omega arith) at e refl refl)))
     expr_runs (Comprehension value key name target condition span) ip base r has =
         let heading : Heading = record { name = name; key = key; counts = false } in
         let ct = expr_code target in
@@ -331,7 +359,7 @@ module _ (w : World) (place : Place) (code : Code) (below : Below w place) where
         let len : ip + length cv + length cr ≡ ip + length (cv ++ cr) = omega (arith, length-append cv cr) in
         tops_at w place code _ len (onward_runs w place code (omega arith) (expr_runs value ip base r (stands_front code ip cv cr has)) (λ a r1. onward_runs w place code (omega arith) (items_runs rest (ip + length cv) (over a base) r1 (stands_back code ip cv cr has)) (λ all r2. done w place code (omega arith))))
 
-    entries_runs : (entries : Entries) (ip : ℕ) (base : Base) (r : Run) → StandsAt code ip (entries_code entries) → Runs w place code (spot ip base r) 0 0 (Tops (ip + length (entries_code entries)) base) (entries_meaning here call entries r)
+    pub entries_runs : (entries : Entries) (ip : ℕ) (base : Base) (r : Run) → StandsAt code ip (entries_code entries) → Runs w place code (spot ip base r) 0 0 (Tops (ip + length (entries_code entries)) base) (entries_meaning here call entries r)
     entries_runs NoEntries ip base r has =
         let len : ip ≡ ip + 0 = omega arith in tops_at w place code _ len (done w place code (omega arith))
     entries_runs (MoreEntries key value rest) ip base r has =

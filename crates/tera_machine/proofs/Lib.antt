@@ -4,7 +4,9 @@ pub mod Still
 pub mod Noting
 pub mod Runs
 pub mod Took
+pub mod Rejoining
 pub mod Including
+pub mod Calling
 pub mod Ways
 pub mod Opened
 pub mod Looping

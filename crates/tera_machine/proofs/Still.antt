@@ -9,14 +9,16 @@ use Rattle.tera_state.specs.Scope.{Turn}
 use Rattle.tera_meaning.specs.Here.{Here, escaping_at}
 use Rattle.tera_operators.specs.Operand.{Evaluated, Outcome}
 use Rattle.tera_operators.specs.Operators.{not_of}
-use Rattle.tera_operators.specs.Literals.{array_of, map_of}
+use Rattle.tera_values.specs.Val.{Val, KeyVal}
+use Rattle.tera_tree.specs.Tree.{Key}
+use Rattle.tera_operators.specs.Literals.{array_of, map_entries, map_of}
 use Rattle.tera_operators.specs.Calls.{filter_applied, test_applied, function_called}
 use Rattle.tera_code.specs.declared.instruction.Instruction.{Instruction}
-use Rattle.tera_code.specs.declared.instruction.Instruction.TheVariants.{WriteText, WriteTop, WriteName, LoadConst, LoadName, LoadAttribute, LoadItem, Slice, Not, Negate, Binary, MakeArray, MakeMap, Jump, PopJumpIfFalse, JumpIfFalseOrPop, JumpIfTrueOrPop, Store, LoadContext, StartLoop, NextTurn, EndLoop, Keep, EndComprehension, StartCapture, EndCapture, LeaveLoop, LeaveTurn, TakeBlock, TakeAbove, TakeInclude, ApplyFilter, ApplyTest, CallFunction}
+use Rattle.tera_code.specs.declared.instruction.Instruction.TheVariants.{WriteText, WriteTop, WriteName, LoadConst, LoadName, LoadAttribute, LoadItem, Slice, Not, Negate, Binary, MakeArray, MakeMap, Jump, PopJumpIfFalse, JumpIfFalseOrPop, JumpIfTrueOrPop, Store, LoadContext, StartLoop, NextTurn, EndLoop, Keep, EndComprehension, StartCapture, EndCapture, LeaveLoop, LeaveTurn, TakeBlock, TakeAbove, TakeInclude, TakeComponent, ApplyFilter, ApplyTest, CallFunction}
 use Rattle.tera_machine.specs.Config.{Config, Loop}
 use Rattle.tera_machine.specs.Flow.{Flow}
 use Rattle.tera_machine.specs.Did.{Did, Goes, Faults, Sticks, holding, outcome}
-use Rattle.tera_machine.specs.Act.{act, put_out, stored_in, top_written_in, on_one, on_two, on_four, topmost, made_of, called_on, branched, popped_branch_in, kept_if_falsy_in, kept_if_truthy_in, above_in}
+use Rattle.tera_machine.specs.Act.{act, put_out, stored_in, top_written_in, on_one, on_two, on_four, topmost, made_of, called_on, branched, popped_branch_in, kept_if_falsy_in, kept_if_truthy_in, above_in, handed, component_asked, component_given}
 use Rattle.tera_machine.specs.Loops.{begun_over, begun_with, started_on, went_round, round_in, ended_in, kept_in, collected_in}
 use Rattle.tera_machine.specs.Captures.{captured_in}
 
@@ -82,6 +84,16 @@ truthy_still skip (a ∷ rest) c = branched_still _ rest c.operands skip c
 above_still : (span : Span) (o : Option (List Evaluated × List Evaluated)) (c : Config) → IsStill c (above_in span o c)
 above_still span None c = tt
 above_still span (Some (all, rest)) c = refl
+
+asked_still : (safe : Bool) (name : Name) (span : Span) (given : Result (List (KeyVal × Val)) Fault) (o : Option (Option Val × List Evaluated)) (c : Config) → IsStill c (component_asked safe name span given o c)
+asked_still safe name span given None c = tt
+asked_still safe name span (Err fault) (Some (body, rest)) c = tt
+asked_still safe name span (Ok given) (Some (body, rest)) c = refl
+
+given_still : (here : Here) (name : Name) (keys : List (Option Key)) (has_body : Bool) (span : Span) (o : Option (List Evaluated × List Evaluated)) (c : Config) → IsStill c (component_given here name keys has_body span o c)
+given_still here name keys has_body span None c = tt
+given_still here name keys has_body span (Some (all, rest)) c =
+    asked_still here.autoescape name span (map_entries here.file (zip keys all)) (handed has_body rest) c
 
 over_still : (next size : ℕ) (turns : List Turn) (os : List Evaluated) (c : Config) → IsStill c (begun_over next size turns (holding os c))
 over_still next size [] os c = refl
@@ -159,6 +171,8 @@ module _ (here : Here) (next : ℕ) where
   act_still (TakeBlock name span) c = refl
   act_still (TakeAbove arguments span) c = above_still span _ c
   act_still (TakeInclude name span) c = refl
+  act_still (TakeComponent name keys has_body span) c =
+      given_still here name keys has_body span (topmost (length keys) c.operands) c
   act_still (ApplyFilter name names span) c =
       called_still (λ a given. filter_applied here.file (escaping_at here) name a given span) names (topmost (length names) c.operands) c
   act_still (ApplyTest name names span) c =

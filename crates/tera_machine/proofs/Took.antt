@@ -32,15 +32,15 @@ use Rattle.tera_machine.proofs.Taking.{AtAsk, body_failed, refused, inner_within
 
 pub place_same : (m : VirtualMachine) (file file0 : Name) {b0 b : OpenBlocks} {c0 c : Configuration} → file ≡ file0 → Stays b0 c0 b c → place_at m file b c ≡ place_at m file0 b0 c0
 place_same m file file0 {b0} {b} {c0} {c} e s =
-    ap₂ (λ f a. record { template = template_of m; file = f; around = a; autoescape = m.autoescape; included = names_in b.included; opened = b.names; above = definers_of b.above }) e s.around
-    ∙ ap₂ (λ ns ds. record { template = template_of m; file = file0; around = around_of c0.scopes; autoescape = m.autoescape; included = names_in b.included; opened = ns; above = definers_of ds }) s.names s.above
-    ∙ ap (λ i. record { template = template_of m; file = file0; around = around_of c0.scopes; autoescape = m.autoescape; included = names_in i; opened = b0.names; above = definers_of b0.above }) s.included
+    ap₂ (λ f a. record { template = template_of m; file = f; around = a; autoescape = m.autoescape; depth = m.depth; included = names_in b.included; opened = b.names; above = definers_of b.above }) e s.around
+    ∙ ap₂ (λ ns ds. record { template = template_of m; file = file0; around = around_of c0.scopes; autoescape = m.autoescape; depth = m.depth; included = names_in b.included; opened = ns; above = definers_of ds }) s.names s.above
+    ∙ ap (λ i. record { template = template_of m; file = file0; around = around_of c0.scopes; autoescape = m.autoescape; depth = m.depth; included = names_in i; opened = b0.names; above = definers_of b0.above }) s.included
 
 -- where nothing is open
 pub place_none : (m : VirtualMachine) (file : Name) (b : OpenBlocks) (c : Configuration) → b.names ≡ [] → definers_of b.above ≡ [] → names_in b.included ≡ [] → place_at m file b c ≡ place_of m file c
 place_none m file b c e f g =
-    ap₂ (λ ns ds. record { template = template_of m; file = file; around = around_of c.scopes; autoescape = m.autoescape; included = names_in b.included; opened = ns; above = ds }) e f
-    ∙ ap (λ ns. record { template = template_of m; file = file; around = around_of c.scopes; autoescape = m.autoescape; included = ns; opened = []; above = [] }) g
+    ap₂ (λ ns ds. record { template = template_of m; file = file; around = around_of c.scopes; autoescape = m.autoescape; depth = m.depth; included = names_in b.included; opened = ns; above = ds }) e f
+    ∙ ap (λ ns. record { template = template_of m; file = file; around = around_of c.scopes; autoescape = m.autoescape; depth = m.depth; included = ns; opened = []; above = [] }) g
 
 pub stays_then : {b0 b1 b2 : OpenBlocks} {c0 c1 c2 : Configuration} → Stays b0 c0 b1 c1 → Stays b1 c1 b2 c2 → Stays b0 c0 b2 c2
 stays_then s t = record {
@@ -81,9 +81,9 @@ take_failed e at (Some f) c3 n3 le h = body_failed at f n3 le (ends_at e h)
 -- what was found is entered
 pub enters : {w : World} (m : VirtualMachine) (file : Name) (a : Asked) (b0 : OpenBlocks) (c0 : Configuration) (d : Nearest) (b : OpenBlocks) (c : Configuration) → IsBody w (place_at m file b0 c0) a (config_of c0).run.vars d → b.names ≡ opened_by a b0.names → b.above ≡ d.above → b.included ≡ b0.included → c.scopes ≡ c0.scopes → config_of c ≡ entered (config_of c0).run.vars (config_of c0) → Entered w (place_at m file b0 c0) (request_of a) (config_of c0) (place_at m d.chunk.now.file b c) d.chunk.now.code (config_of c)
 enters m file a b0 c0 d b c h names above included scopes config =
-    let same = ap₂ (λ f x. record { template = template_of m; file = f; around = around_of x; autoescape = m.autoescape; included = names_in b0.included; opened = opened_by a b0.names; above = definers_of d.above }) (sym (ap (λ (l : Listing). l.file) h.code)) (sym scopes)
-    ∙ ap₂ (λ ns ds. record { template = template_of m; file = d.chunk.now.file; around = around_of c.scopes; autoescape = m.autoescape; included = names_in b0.included; opened = ns; above = definers_of ds }) (sym names) (sym above)
-    ∙ ap (λ i. record { template = template_of m; file = d.chunk.now.file; around = around_of c.scopes; autoescape = m.autoescape; included = names_in i; opened = b.names; above = definers_of b.above }) (sym included) in
+    let same = ap₂ (λ f x. record { template = template_of m; file = f; around = around_of x; autoescape = m.autoescape; depth = m.depth; included = names_in b0.included; opened = opened_by a b0.names; above = definers_of d.above }) (sym (ap (λ (l : Listing). l.file) h.code)) (sym scopes)
+    ∙ ap₂ (λ ns ds. record { template = template_of m; file = d.chunk.now.file; around = around_of c.scopes; autoescape = m.autoescape; depth = m.depth; included = names_in b0.included; opened = ns; above = definers_of ds }) (sym names) (sym above)
+    ∙ ap (λ i. record { template = template_of m; file = d.chunk.now.file; around = around_of c.scopes; autoescape = m.autoescape; depth = m.depth; included = names_in i; opened = b.names; above = definers_of b.above }) (sym included) in
     record {
       vars = (config_of c0).run.vars;
       body = h.definer.body;

@@ -9,18 +9,20 @@ use Rattle.tera_errors.specs.Answer.{Refusal}
 use Rattle.tera_tree.specs.Tree.{Key}
 use Rattle.tera_tree.specs.declared.expression.BinaryOperator.{BinaryOperator}
 use Rattle.tera_values.specs.Access.{truthy}
+use Rattle.tera_values.specs.Val.{Val, KeyVal}
 use Rattle.tera_operators.specs.Operand.{Evaluated, Outcome}
 use Rattle.tera_operators.specs.Accesses.{attribute_of, item_of, slice_of}
 use Rattle.tera_operators.specs.Operators.{not_of, negative_of, binary_of}
-use Rattle.tera_operators.specs.Literals.{array_of, map_of}
+use Rattle.tera_operators.specs.Literals.{array_of, map_entries, map_of}
 use Rattle.tera_operators.specs.Calls.{filter_applied, test_applied, function_called}
 use Rattle.tera_state.specs.Scope.{Around, Turn, look, dump, assign}
 use Rattle.tera_state.specs.Scopes.{around_of, coming_of, coming_around}
+use Rattle.tera_components.specs.Definition.{named_arguments}
 use Rattle.tera_meaning.specs.Here.{Here, escaping_at}
-use Rattle.tera_meaning.specs.Run.{ABlock, Above, AnInclude}
+use Rattle.tera_meaning.specs.Run.{ABlock, Above, AnInclude, AComponent}
 use Rattle.tera_meaning.specs.Meaning.{output}
 use Rattle.tera_code.specs.declared.instruction.Instruction.{Instruction}
-use Rattle.tera_code.specs.declared.instruction.Instruction.TheVariants.{WriteText, WriteTop, WriteName, LoadConst, LoadName, LoadAttribute, LoadItem, Slice, Not, Negate, Binary, MakeArray, MakeMap, Jump, PopJumpIfFalse, JumpIfFalseOrPop, JumpIfTrueOrPop, Store, LoadContext, StartLoop, NextTurn, EndLoop, Keep, EndComprehension, StartCapture, EndCapture, LeaveLoop, LeaveTurn, TakeBlock, TakeAbove, TakeInclude, ApplyFilter, ApplyTest, CallFunction}
+use Rattle.tera_code.specs.declared.instruction.Instruction.TheVariants.{WriteText, WriteTop, WriteName, LoadConst, LoadName, LoadAttribute, LoadItem, Slice, Not, Negate, Binary, MakeArray, MakeMap, Jump, PopJumpIfFalse, JumpIfFalseOrPop, JumpIfTrueOrPop, Store, LoadContext, StartLoop, NextTurn, EndLoop, Keep, EndComprehension, StartCapture, EndCapture, LeaveLoop, LeaveTurn, TakeBlock, TakeAbove, TakeInclude, TakeComponent, ApplyFilter, ApplyTest, CallFunction}
 use Rattle.tera_machine.specs.declared.configuration.Configuration.{Configuration}
 use Rattle.tera_machine.specs.declared.machine.Flow as declared
 use Rattle.tera_machine.specs.Config.{Config, config_of}
@@ -174,6 +176,28 @@ above_in span (Some (all, rest)) c = Goes (holding rest c) (Ask (Above span) (Pu
 abbrev pub above_taken : ℕ → Span → Config → Did
 above_taken arguments span c = above_in span (topmost arguments c.operands) c
 
+-- the text that a component is handed, if it has a body, and the operands below that
+abbrev pub handed : Bool → List Evaluated → Option (Option Val × List Evaluated)
+handed false operands = Some (None, operands)
+handed true [] = None
+handed true (a ∷ rest) = Some (Some a.value, rest)
+
+-- a component is given these entries; its text becomes an operand, safe where texts are escaped
+abbrev pub component_asked : Bool → site.Name → Span → Result (List (KeyVal × Val)) Fault → Option (Option Val × List Evaluated) → Config → Did
+component_asked safe name span given None c = Sticks
+component_asked safe name span (Err fault) (Some (body, rest)) c = Faults fault
+component_asked safe name span (Ok given) (Some (body, rest)) c =
+    Goes (holding rest c) (Ask (AComponent name (named_arguments given) body span) (Pushed safe span))
+
+abbrev pub component_given : Here → site.Name → List (Option Key) → Bool → Span → Option (List Evaluated × List Evaluated) → Config → Did
+component_given here name keys has_body span None c = Sticks
+component_given here name keys has_body span (Some (all, rest)) c =
+    component_asked here.autoescape name span (map_entries here.file (zip keys all)) (handed has_body rest) c
+
+abbrev pub component_taken : Here → site.Name → List (Option Key) → Bool → Span → Config → Did
+component_taken here name keys has_body span c =
+    component_given here name keys has_body span (topmost (length keys) c.operands) c
+
 -- next is the place behind the instruction
 abbrev pub act : Here → ℕ → Instruction → Config → Did
 act here next (WriteText text) = text_written text
@@ -207,6 +231,7 @@ act here next (LeaveTurn drops) = turn_left drops
 act here next (TakeBlock name span) = block_taken name span
 act here next (TakeAbove arguments span) = above_taken arguments span
 act here next (TakeInclude name span) = include_taken name span
+act here next (TakeComponent name keys has_body span) = component_taken here name keys has_body span
 act here next (ApplyFilter name names span) = filter_called here name names span
 act here next (ApplyTest name names span) = test_called here.file name names span
 act here next (CallFunction name names span) = function_answered here.file name names span

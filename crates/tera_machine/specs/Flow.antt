@@ -1,9 +1,11 @@
 -- Where the machine goes on.
 use Rattle.std.specs.Prelude.{ℕ, Bool, true}
 use Rattle.tera_errors.specs.declared.span.Span.{Span}
-use Rattle.tera_meaning.specs.Run.{Request, ABlock, Above, AnInclude}
+use Rattle.tera_components.specs.Definition.{named_arguments}
+use Rattle.tera_meaning.specs.Run.{Request, ABlock, Above, AnInclude, AComponent}
 use Rattle.tera_machine.specs.declared.asked.Asked.{Asked}
 use Rattle.tera_machine.specs.declared.asked.Asked.TheVariants as asked
+use Rattle.tera_machine.specs.declared.asked.AskedComponent.{AskedComponent}
 use Rattle.tera_machine.specs.declared.machine.Flow as declared
 use Rattle.tera_machine.specs.declared.machine.Flow.TheVariants as flow
 
@@ -30,6 +32,13 @@ abbrev pub use_of : Asked → Use
 use_of (asked.Block name span) = Written
 use_of (asked.Above span) = Pushed true span
 
+-- the same for a component
+abbrev pub component_request : AskedComponent → Request
+component_request a = AComponent a.name.now (named_arguments a.given) a.body a.span
+
+abbrev pub component_use : AskedComponent → Use
+component_use a = Pushed a.safe a.span
+
 -- what instructions come to
 abbrev pub flow_of : declared.Flow → Flow
 flow_of flow.On = On
@@ -38,3 +47,4 @@ flow_of (flow.To place count) = To place count
 flow_of flow.Out = Out
 flow_of (flow.Ask a) = Ask (request_of a) (use_of a)
 flow_of (flow.Include name span) = Ask (AnInclude name.now span) Written
+flow_of (flow.Component a) = Ask (component_request a.value) (component_use a.value)

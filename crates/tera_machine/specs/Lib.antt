@@ -12,3 +12,5 @@ pub mod Subject
 pub mod Wanted
 pub mod Bodies
 pub mod Includes
+pub mod Apart
+pub mod Components

@@ -1,18 +1,23 @@
 -- What a run of the machine is about.
-use Rattle.std.specs.Prelude.{◌≡◌, [], Option, Some, None, Result, Ok, Err, option_map}
+use Rattle.std.specs.Prelude.{◌≡◌, [], List, map, Option, Some, None, Result, Ok, Err, option_map}
 use Rattle.tera_errors.specs.Site.{Name}
 use Rattle.tera_errors.specs.Answer.{Refusal}
 use Rattle.tera_values.specs.Escape.{escape_html}
 use Rattle.tera_tree.specs.Tree.{Nodes}
 use Rattle.tera_state.specs.Scopes.{around_of}
+use Rattle.tera_components.specs.Definition.{Definition}
+use Rattle.tera_code.specs.Listing.{Listing}
+use Rattle.tera_meaning.specs.Components.{one_off_name}
 use Rattle.tera_meaning.specs.Here.{Engine, Here}
 use Rattle.tera_meaning.specs.Registry.{Registry}
 use Rattle.tera_meaning.specs.Run.{Signal, Answer, Failed, Gave, Meaning, visit}
 use Rattle.tera_meaning.specs.Meaning.{nodes_meaning}
 use Rattle.tera_meaning.specs.Whole.{World, Place, here_at, whole}
+use Rattle.tera_registry.specs.Components.{kept_of, kept_as}
 use Rattle.tera_registry.specs.Templates.{with_templates, definers_of}
 use Rattle.tera_registry.specs.declared.templates.Found.{Found}
 use Rattle.tera_machine.specs.declared.blocks.OpenBlocks.{OpenBlocks}
+use Rattle.tera_machine.specs.declared.components.Beside.{Beside}
 use Rattle.tera_machine.specs.declared.configuration.Configuration.{Configuration}
 use Rattle.tera_machine.specs.declared.machine.VirtualMachine.{VirtualMachine}
 use Rattle.tera_machine.specs.Included.{names_in}
@@ -44,9 +49,18 @@ abbrev pub is_from : Option Found → Registry → Type 0
 is_from None r = Unit {0}
 is_from (Some found) r = with_templates r found.templates.now ≡ r
 
+-- the components of the text beside the templates, as they are kept
+abbrev pub kept_beside : Option Beside → List (Definition × Listing)
+kept_beside None = []
+kept_beside (Some b) = map kept_of b.components.now
+
+abbrev pub AreBeside : VirtualMachine → World → Type 0
+AreBeside m w = kept_beside m.beside ≡ map (kept_as one_off_name) w.beside
+
 -- the templates are those of the registry, and so is the one that is rendered
-abbrev pub IsLinked : VirtualMachine → Registry → Type 0
-IsLinked m r = is_from m.template r × (with_templates r m.templates.now ≡ r)
+abbrev pub IsLinked : VirtualMachine → World → Type 0
+IsLinked m w =
+    is_from m.template w.registry × ((with_templates w.registry m.templates.now ≡ w.registry) × AreBeside m w)
 
 -- where a body of this file stands while the machine runs it, with these templates and blocks open
 abbrev pub place_at : VirtualMachine → Name → OpenBlocks → Configuration → Place
@@ -55,6 +69,7 @@ place_at m file blocks c = record {
   file = file;
   around = around_of c.scopes;
   autoescape = m.autoescape;
+  depth = m.depth;
   included = names_in blocks.included;
   opened = blocks.names;
   above = definers_of blocks.above;
@@ -67,6 +82,7 @@ place_of m file c = record {
   file = file;
   around = around_of c.scopes;
   autoescape = m.autoescape;
+  depth = m.depth;
   included = [];
   opened = [];
   above = [];

@@ -1,15 +1,15 @@
 // One instruction, by groups.
-ghost use Rattle.std.specs.Prelude.{Ok, ℕ, Bool};
-ghost use Rattle.tera_errors.specs.Answer.{Tells};
+ghost use Rattle.std.specs.Prelude.{◌≡◌, ◌≢◌, Ok, Some, None, ℕ, Bool, IfOk, IfErr};
+ghost use Rattle.tera_errors.specs.Answer.{Tells, Lacks};
 ghost use Rattle.tera_errors.specs.Fault.{rendering_error};
 ghost use Rattle.tera_machine.specs.Config.{config_of};
-ghost use Rattle.tera_machine.specs.Did.{pushed};
-ghost use Rattle.tera_machine.specs.Act.{act, IsReady, IsSmall, Does, text_written, outcome_put, top_written, name_written, name_loaded, context_loaded, stored, attribute_loaded, item_loaded, sliced, denied, negated, operated, array_made, map_made, popped_branch, kept_if_falsy, kept_if_truthy, above_taken};
+ghost use Rattle.tera_machine.specs.Did.{pushed, holding};
+ghost use Rattle.tera_machine.specs.Act.{act, IsReady, IsSmall, Does, text_written, outcome_put, top_written, name_written, name_loaded, context_loaded, stored, attribute_loaded, item_loaded, sliced, denied, negated, operated, array_made, map_made, handed, component_taken, popped_branch, kept_if_falsy, kept_if_truthy, above_taken};
 ghost use Rattle.tera_machine.specs.Subject.{here_of};
 ghost use Rattle.tera_state.specs.Scopes.{around_of};
 ghost use Rattle.tera_tree.specs.declared.expression.BinaryOperator.{BinaryOperator as Operator};
 
-use crate::asked::Asked;
+use crate::asked::{Asked, AskedComponent};
 use crate::configuration::Configuration;
 use crate::machine::{Flow, VirtualMachine};
 use std::alloc::Global;
@@ -78,6 +78,12 @@ impl<'c> Configuration<'c> {
             }
             Instruction::TakeAbove { arguments, span } => self.take_above(*arguments, *span),
             Instruction::TakeInclude { name, span } => Ok(Flow::Include(name.as_name(), *span)),
+            Instruction::TakeComponent {
+                name,
+                keys,
+                has_body,
+                span,
+            } => self.take_component(machine, file, name.as_name(), keys, *has_body, *span),
             Instruction::ApplyFilter {
                 name,
                 arguments,
@@ -368,6 +374,55 @@ impl<'c> Configuration<'c> {
         }
         drop(self.operands.pop_many(arguments)?);
         Ok(Flow::Ask(Asked::Above(span)))
+    }
+
+    // The text that a component is handed, if it has a body. It is kept in shared form, so that a copy of it is a count.
+    fn handed(&mut self, alloc: Global, has_body: bool) -> TeraResult<Option<Value>>
+        requires { handed has_body self.old.operands ≢ None }
+        ensures handed { IfOk result (λ body. handed has_body self.old.operands
+            ≡ Some (body, self.new.operands)) }
+        ensures rest { config_of self.new
+            ≡ holding self.new.operands (config_of self.old) }
+        ensures stays { self.new.scopes ≡ self.old.scopes }
+        ensures places { self.new.places ≡ self.old.places }
+        ensures lacks { IfErr result Lacks }
+    {
+        if !has_body {
+            return Ok(None);
+        }
+        match self.operands.pop() {
+            Some(operand) => Ok(Some(operand.into_value().shared(alloc)?)),
+            None => unreachable!(),
+        }
+    }
+
+    fn take_component<'f>(
+        &mut self,
+        machine: &VirtualMachine<'_>,
+        file: &str,
+        name: &'f Name,
+        keys: &Keys<'_>,
+        has_body: bool,
+        span: Span,
+    ) -> TeraResult<Flow<'f>>
+        requires { IsReady (component_taken (here_of machine.now file.now self.old) name.now keys.now has_body span) self.old }
+        ensures { Does (component_taken (here_of machine.now file.now self.old) name.now keys.now has_body span) self.old result self.new }
+    {
+        let keys = keys.as_slice();
+        if self.operands.len() < keys.len() {
+            unreachable!()
+        }
+        let operands = self.operands.pop_many(keys.len())?;
+        let body = self.handed(machine.alloc, has_body)?;
+        let given = tera_operators::entries(machine.alloc, file, keys, operands)?;
+        let asked = AskedComponent {
+            name,
+            given,
+            body,
+            safe: machine.autoescape,
+            span,
+        };
+        Ok(Flow::Component(Box::new(machine.alloc, asked)?))
     }
 
     #[inline(always)]

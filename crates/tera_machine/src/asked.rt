@@ -1,5 +1,5 @@
 // What an instruction asks of bodies that stand elsewhere.
-use tera_values::{Name, Span};
+use tera_values::{Map, Name, Span, Value};
 
 /// A body to take: a block by its name, at the span of the name, or what the next template above makes of the block that
 /// runs, at the span of the call.
@@ -7,4 +7,15 @@ use tera_values::{Name, Span};
 pub enum Asked<'f> {
     Block(&'f Name, Span),
     Above(Span),
+}
+
+/// A component to run, at the span of its call: the entries that its attributes make, at will the text that it is handed, and
+/// whether the text that it makes is safe.
+#[derive(Drop)]
+pub struct AskedComponent<'f> {
+    pub name: &'f Name,
+    pub given: Map,
+    pub body: Option<Value>,
+    pub safe: bool,
+    pub span: Span,
 }

@@ -100,7 +100,7 @@ impl<'c> Configuration<'c> {
 impl<'t> VirtualMachine<'t> {
     // Those who define a block for the template that is rendered.
     fn definers<M: Limit>(&self, name: &Name) -> Definers<'t>
-        requires { IsLinked self.now M.world.registry }
+        requires { IsLinked self.now M.world }
         ensures { definers_of result ≡ definers M.world.registry (template_of self.now) name.now }
     {
         match self.template {
@@ -116,7 +116,7 @@ impl<'t> VirtualMachine<'t> {
         asked: Asked<'_>,
         blocks: &OpenBlocks<'t>,
     ) -> TeraResult<Definer<'t>>
-        requires { IsLinked self.now M.world.registry }
+        requires { IsLinked self.now M.world }
         ensures { (c : Configuration) → FindsBody M.world
             (place_at self.now chunk.now.file blocks.now c) asked.entry
             (config_of c).run.vars result }
@@ -161,7 +161,7 @@ impl<'t> VirtualMachine<'t> {
         blocks: &mut OpenBlocks<'t>,
         configuration: &mut Configuration<'_>,
     ) -> TeraResult<Inside<'t>>
-        requires { IsLinked self.now M.world.registry }
+        requires { IsLinked self.now M.world }
         ensures { Enters M.world self.now chunk.now.file asked.entry blocks.old configuration.old
             result blocks.new configuration.new }
     {

@@ -2,12 +2,15 @@
 ghost use Rattle.std.specs.Prelude.{◌≡◌, ◌≢◌, ◌∷◌, [], OnOk, IfOk, IfErr};
 ghost use Rattle.tera_errors.specs.Answer.{Lacks};
 ghost use Rattle.tera_tree.specs.Blocks.{is_among};
-ghost use Rattle.tera_state.specs.Scopes.{around_of};
+ghost use Rattle.tera_state.specs.Scope.{in_include};
+ghost use Rattle.tera_state.specs.Scopes.{around_of, variables_of};
 ghost use Rattle.tera_meaning.specs.Run.{AnInclude};
 ghost use Rattle.tera_registry.specs.Templates.{Finds};
 ghost use Rattle.tera_machine.specs.Config.{config_of};
+ghost use Rattle.tera_machine.specs.Flow.{Written};
 ghost use Rattle.tera_machine.specs.Included.{names_in};
-ghost use Rattle.tera_machine.specs.Includes.{FindsTemplate, Begins, Rejoins};
+ghost use Rattle.tera_machine.specs.Includes.{FindsTemplate};
+ghost use Rattle.tera_machine.specs.Apart.{Begins, Rejoins};
 ghost use Rattle.tera_machine.specs.Subject.{IsLinked, place_at};
 
 use crate::blocks::OpenBlocks;
@@ -41,7 +44,9 @@ impl<'i> Included<'i> {
 impl<'c> Configuration<'c> {
     /// The body of an include begins, in a state that reads this one.
     pub(crate) fn begin_include(&mut self) -> TeraResult<Outer>
-        ensures begins { IfOk result (λ outer. Begins self.old outer self.new) }
+        ensures begins { IfOk result (λ outer. Begins
+            (in_include (around_of self.old.scopes) (variables_of self.old.scopes))
+            self.old outer self.new) }
         ensures lacks { IfErr result Lacks }
     {
         self.scopes.enter_include()?;
@@ -52,7 +57,7 @@ impl<'c> Configuration<'c> {
     pub(crate) fn end_include(&mut self, outer: Outer) -> TeraResult<()>
         requires text { (config_of self.old).captures ≢ [] }
         requires state { self.old.scopes.below ≢ [] }
-        ensures rejoins { OnOk result (Rejoins self.old outer self.new) }
+        ensures rejoins { OnOk result (Rejoins Written self.old outer self.new) }
         ensures lacks { IfErr result Lacks }
     {
         let Outer { places, ended } = outer;
@@ -67,7 +72,7 @@ impl<'c> Configuration<'c> {
 impl<'t> VirtualMachine<'t> {
     // The template to which the name resolves.
     fn found<M: Limit>(&self, name: &Name) -> Option<Found<'t>>
-        requires { IsLinked self.now M.world.registry }
+        requires { IsLinked self.now M.world }
         ensures { Finds M.world.registry name.now result }
     {
         let templates: &'t Templates = self.templates;
@@ -82,7 +87,7 @@ impl<'t> VirtualMachine<'t> {
         span: Span,
         blocks: &OpenBlocks<'t>,
     ) -> TeraResult<Found<'t>>
-        requires { IsLinked self.now M.world.registry }
+        requires { IsLinked self.now M.world }
         ensures { (c : Configuration) → FindsTemplate M.world
             (place_at self.now chunk.now.file blocks.now c) (AnInclude name.now span)
             (config_of c).run.vars result }

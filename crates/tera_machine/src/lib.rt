@@ -7,6 +7,7 @@ pub mod blocks;
 pub mod bodies;
 mod calls;
 mod captures;
+pub mod components;
 pub mod configuration;
 pub mod ended;
 pub mod includes;
@@ -17,7 +18,7 @@ mod step;
 pub mod texts;
 pub mod wanted;
 
-pub use asked::Asked;
+pub use asked::{Asked, AskedComponent};
 pub use blocks::OpenBlocks;
 pub use configuration::Configuration;
 pub use ended::Ended;

@@ -1,5 +1,5 @@
 // A run of a body, and of those that it takes.
-ghost use Rattle.std.specs.Prelude.{◌≡◌, ℕ, ◌+◌, ◌-◌, ◌*◌, ◌≤◌, [], None, Some, IsTrue, OnOk, string_bytes};
+ghost use Rattle.std.specs.Prelude.{◌≡◌, ℕ, ◌+◌, ◌-◌, ◌*◌, ◌≤◌, [], None, Some, IsTrue, OnOk, string_bytes, map};
 ghost use Rattle.tera_meaning.specs.Run.{AnInclude, visits_of};
 ghost use Rattle.tera_meaning.specs.Registry.{new_registry};
 ghost use Rattle.tera_errors.specs.Answer.{Gives};
@@ -7,26 +7,28 @@ ghost use Rattle.tera_meaning.specs.Rendering.{alone, block_of};
 ghost use Rattle.tera_meaning.specs.Whole.{World};
 ghost use Rattle.tera_state.specs.Scopes.{around_of};
 ghost use Rattle.tera_code.specs.Code.{nodes_code};
+ghost use Rattle.tera_registry.specs.Components.{kept_of};
 ghost use Rattle.tera_machine.specs.Config.{config_of};
 ghost use Rattle.tera_machine.specs.Exec.{EndsWithin, Ran};
-ghost use Rattle.tera_machine.specs.Flow.{Written, request_of, use_of};
+ghost use Rattle.tera_machine.specs.Flow.{Written, request_of, use_of, component_request, component_use};
 ghost use Rattle.tera_machine.specs.Progress.{BodyWithin};
 ghost use Rattle.tera_machine.specs.Bodies.{Stays, BodyRan};
-ghost use Rattle.tera_machine.specs.Subject.{Subject, IsLinked, meant_from, engine_of, place_at, place_of, Means};
+ghost use Rattle.tera_machine.specs.Subject.{Subject, IsLinked, kept_beside, meant_from, engine_of, place_at, place_of, Means};
 
-use crate::asked::Asked;
+use crate::asked::{Asked, AskedComponent};
 use crate::blocks::OpenBlocks;
+use crate::components::{Beside, Called};
 use crate::configuration::Configuration;
 use crate::wanted::Wanted;
 use std::alloc::Global;
 use std::marker::Brand;
 use std::sync::ledger::Ledger;
 use tera_code::{Chunk, Steps};
-use tera_registry::{Found, Templates};
+use tera_registry::{Component, Found, Templates};
 use tera_values::{Name, Span, TeraResult};
 
 /// Where the machine goes on.
-#[derive(Clone, Copy)]
+#[derive(Drop)]
 pub enum Flow<'f> {
     /// At the next instruction.
     On,
@@ -40,6 +42,8 @@ pub enum Flow<'f> {
     Ask(Asked<'f>),
     /// At the next instruction, when the template of this name was included, at the span of the name.
     Include(&'f Name, Span),
+    /// At the next instruction, when this component was run.
+    Component(Box<AskedComponent<'f>>),
 }
 
 /// What a run stands on, and how high the count of instructions may rise. Contracts alone see it.
@@ -55,14 +59,17 @@ impl Limit for Brand {
     ghost most = { 0 };
 }
 
-/// Runs compiled bodies. It holds what no run changes: among the templates it finds what is included, and of the template
-/// that is rendered, where one is, it takes blocks.
+/// Runs compiled bodies. It holds what no run changes: among the templates it finds what is included and what components are
+/// called, of the template that is rendered, where one is, it takes blocks, and it knows the components of a text beside the
+/// templates, and how many components are open around what it runs.
 #[derive(Clone, Copy)]
 pub struct VirtualMachine<'t> {
     pub(crate) alloc: Global,
     pub(crate) autoescape: bool,
     pub(crate) templates: &'t Templates,
     pub(crate) template: Option<Found<'t>>,
+    pub(crate) beside: Option<Beside<'t>>,
+    pub(crate) depth: usize,
 }
 
 impl<'t> VirtualMachine<'t> {
@@ -71,6 +78,8 @@ impl<'t> VirtualMachine<'t> {
         ensures escapes { IsTrue result.autoescape }
         ensures templates { result.templates.now ≡ templates.now }
         ensures alone { result.template ≡ None }
+        ensures beside { kept_beside result.beside ≡ [] }
+        ensures depth { result.depth ≡ 0 }
     {
         VirtualMachine::new_with_autoescape(alloc, true, templates)
     }
@@ -84,12 +93,16 @@ impl<'t> VirtualMachine<'t> {
         ensures escapes { result.autoescape ≡ autoescape }
         ensures templates { result.templates.now ≡ templates.now }
         ensures alone { result.template ≡ None }
+        ensures beside { kept_beside result.beside ≡ [] }
+        ensures depth { result.depth ≡ 0 }
     {
         VirtualMachine {
             alloc,
             autoescape,
             templates,
             template: None,
+            beside: None,
+            depth: 0,
         }
     }
 
@@ -98,12 +111,66 @@ impl<'t> VirtualMachine<'t> {
         ensures escapes { result.autoescape ≡ autoescape }
         ensures templates { result.templates.now ≡ template.entry.templates.now }
         ensures template { result.template ≡ Some template.entry }
+        ensures beside { kept_beside result.beside ≡ [] }
+        ensures depth { result.depth ≡ 0 }
     {
         VirtualMachine {
             alloc,
             autoescape,
             templates: template.templates,
             template: Some(template),
+            beside: None,
+            depth: 0,
+        }
+    }
+
+    /// The same, for a text that defines these components.
+    pub fn with_components(self, components: &'t [Component]) -> VirtualMachine<'t>
+        ensures escapes { result.autoescape ≡ self.entry.autoescape }
+        ensures templates { result.templates.now ≡ self.entry.templates.now }
+        ensures template { result.template ≡ self.entry.template }
+        ensures beside { kept_beside result.beside ≡ map kept_of components.now }
+        ensures depth { result.depth ≡ self.entry.depth }
+    {
+        VirtualMachine {
+            beside: Some(Beside { components }),
+            ..self
+        }
+    }
+
+    // The same for a template that is included.
+    fn in_template(&self, template: Found<'t>) -> VirtualMachine<'t>
+        ensures escapes { result.autoescape ≡ self.now.autoescape }
+        ensures templates { result.templates.now ≡ template.entry.templates.now }
+        ensures template { result.template ≡ Some template.entry }
+        ensures beside { result.beside ≡ self.now.beside }
+        ensures depth { result.depth ≡ self.now.depth }
+    {
+        VirtualMachine {
+            alloc: self.alloc,
+            autoescape: self.autoescape,
+            templates: template.templates,
+            template: Some(template),
+            beside: self.beside,
+            depth: self.depth,
+        }
+    }
+
+    // The same for a component, where so many are open with it. It takes no blocks.
+    fn in_component(&self, depth: usize) -> VirtualMachine<'t>
+        ensures escapes { result.autoescape ≡ self.now.autoescape }
+        ensures templates { result.templates.now ≡ self.now.templates.now }
+        ensures alone { result.template ≡ None }
+        ensures beside { result.beside ≡ self.now.beside }
+        ensures depth { result.depth ≡ depth }
+    {
+        VirtualMachine {
+            alloc: self.alloc,
+            autoescape: self.autoescape,
+            templates: self.templates,
+            template: None,
+            beside: self.beside,
+            depth,
         }
     }
 
@@ -116,7 +183,7 @@ impl<'t> VirtualMachine<'t> {
     ) -> TeraResult<()>
         ghost about: { Subject }
         requires engine { engine_of self.now ≡ about.world.registry.engine }
-        requires linked { IsLinked self.now about.world.registry }
+        requires linked { IsLinked self.now about.world }
         requires place { place_of self.now chunk.now.file configuration.old ≡ about.place }
         requires code { chunk.now.code ≡ nodes_code about.tree 0 }
         requires own { (config_of configuration.old).loops ≡ [] }
@@ -140,7 +207,7 @@ impl<'t> VirtualMachine<'t> {
     ) -> TeraResult<String>
         ghost about: { Subject }
         requires engine { engine_of self.now ≡ about.world.registry.engine }
-        requires linked { IsLinked self.now about.world.registry }
+        requires linked { IsLinked self.now about.world }
         requires place { place_of self.now chunk.now.file configuration.old ≡ about.place }
         requires code { chunk.now.code ≡ nodes_code about.tree 0 }
         requires own { (config_of configuration.old).loops ≡ [] }
@@ -175,7 +242,7 @@ impl<'t> VirtualMachine<'t> {
         steps: &mut Steps<L>,
     ) -> TeraResult<()>
         requires engine { engine_of self.now ≡ M.world.registry.engine }
-        requires linked { IsLinked self.now M.world.registry }
+        requires linked { IsLinked self.now M.world }
         requires within { EndsWithin M.world
             (place_at self.now chunk.now.file blocks.old configuration.old) chunk.now.code 0
             (config_of configuration.old) (M.most - steps.old) }
@@ -211,6 +278,13 @@ impl<'t> VirtualMachine<'t> {
                         Err(error) => return Err(error),
                     }
                 }
+                Flow::Component(asked) => {
+                    let asked = Box::into_inner(asked);
+                    match self.component::<M, L>(chunk, asked, blocks, configuration, steps) {
+                        Ok(()) => at = next,
+                        Err(error) => return Err(error),
+                    }
+                }
             }
         }
         Ok(())
@@ -228,7 +302,7 @@ impl<'t> VirtualMachine<'t> {
         steps: &mut Steps<L>,
     ) -> TeraResult<()>
         requires engine { engine_of self.now ≡ M.world.registry.engine }
-        requires linked { IsLinked self.now M.world.registry }
+        requires linked { IsLinked self.now M.world }
         requires within { BodyWithin M.world
             (place_at self.now chunk.now.file blocks.old configuration.old) (request_of asked)
             (use_of asked) (config_of configuration.old) (M.most - steps.old) }
@@ -265,7 +339,7 @@ impl<'t> VirtualMachine<'t> {
         steps: &mut Steps<L>,
     ) -> TeraResult<()>
         requires engine { engine_of self.now ≡ M.world.registry.engine }
-        requires linked { IsLinked self.now M.world.registry }
+        requires linked { IsLinked self.now M.world }
         requires within { BodyWithin M.world
             (place_at self.now chunk.now.file blocks.now configuration.old)
             (AnInclude name.now span) Written (config_of configuration.old) (M.most - steps.old) }
@@ -281,7 +355,7 @@ impl<'t> VirtualMachine<'t> {
             Ok(found) => found,
             Err(error) => return Err(error),
         };
-        let machine = VirtualMachine::for_template(self.alloc, self.autoescape, found);
+        let machine = self.in_template(found);
         let mut inside = OpenBlocks::in_template(self.alloc, found.name, &blocks.included);
         let outer = configuration.begin_include()?;
         match machine.run_counted::<M, L>(found.body, &mut inside, configuration, steps) {
@@ -289,5 +363,52 @@ impl<'t> VirtualMachine<'t> {
             Err(error) => return Err(error),
         }
         configuration.end_include(outer)
+    }
+
+    // The component that is called, from the beginning of its body to its end.
+    #[cycle(run)]
+    #[inline(never)]
+    fn component<M: Limit, L: Ledger>(
+        &self,
+        chunk: &Chunk,
+        asked: AskedComponent<'_>,
+        blocks: &OpenBlocks<'t>,
+        configuration: &mut Configuration<'_>,
+        steps: &mut Steps<L>,
+    ) -> TeraResult<()>
+        requires engine { engine_of self.now ≡ M.world.registry.engine }
+        requires linked { IsLinked self.now M.world }
+        requires within { BodyWithin M.world
+            (place_at self.now chunk.now.file blocks.now configuration.old)
+            (component_request asked) (component_use asked) (config_of configuration.old)
+            (M.most - steps.old) }
+        ensures counted { steps.old ≤ steps.new }
+        ensures bounded { steps.old ≤ M.most → steps.new ≤ M.most }
+        ensures ends { BodyRan M.world (place_at self.now chunk.now.file blocks.now
+            configuration.old) (component_request asked.entry) (component_use asked.entry)
+            (config_of configuration.old) result (config_of configuration.new)
+            (steps.new - steps.old) }
+        ensures stays { OnOk result (Stays blocks.now configuration.old blocks.now
+            configuration.new) }
+    {
+        let safe = asked.safe;
+        let span = asked.span;
+        let called = match self.called::<M>(chunk, asked, configuration) {
+            Ok(called) => called,
+            Err(error) => return Err(error),
+        };
+        let Called {
+            code,
+            context,
+            depth,
+        } = called;
+        let machine = self.in_component(depth);
+        let mut inside = OpenBlocks::new(self.alloc, Wanted::none());
+        let outer = configuration.begin_component(context)?;
+        match machine.run_counted::<M, L>(code, &mut inside, configuration, steps) {
+            Ok(()) => {}
+            Err(error) => return Err(error),
+        }
+        configuration.end_component(safe, span, outer)
     }
 }

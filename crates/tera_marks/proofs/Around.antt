@@ -39,7 +39,7 @@ pub record AroundStands (a : AroundOf Marked) (b : AroundOf ℕ) : Type 0 where
   pub frame : FrameStands a.frame b.frame
   pub above : Each AboveStands a.above b.above
 
-option_or-stands : {x x' : Option (ValOf Marked)} {y y' : Option (ValOf ℕ)} → OptionStands Stands x y → OptionStands Stands x' y' → OptionStands Stands (option_or x x') (option_or y y')
+pub option_or-stands : {x x' : Option (ValOf Marked)} {y y' : Option (ValOf ℕ)} → OptionStands Stands x y → OptionStands Stands x' y' → OptionStands Stands (option_or x x') (option_or y y')
 option_or-stands (value s) t = value s
 option_or-stands no_value t = t
 
@@ -69,7 +69,7 @@ in_variables-stands n k = option_or-stands (in_turns-stands n k.turns) (at_name-
 outermost-stands : (n : Name) {f : FrameOf Marked} {g : FrameOf ℕ} → FrameStands f g → OptionStands Stands (outermost n f) (outermost n g)
 outermost-stands n k = option_or-stands (at_name-stands n k.context) (at_name-stands n k.global)
 
-defined-stands : {x : Option (ValOf Marked)} {y : Option (ValOf ℕ)} → OptionStands Stands x y → OptionStands Stands (defined x) (defined y)
+pub defined-stands : {x : Option (ValOf Marked)} {y : Option (ValOf ℕ)} → OptionStands Stands x y → OptionStands Stands (defined x) (defined y)
 defined-stands no_value = no_value
 defined-stands (value {a = v} {b = w} s) = rw (undefined-same s) (go (is_undefined w))
   where
@@ -133,7 +133,7 @@ pub close_turn-stands : {v : VariablesOf Marked} {w : VariablesOf ℕ} → Varia
 close_turn-stands k = record { turns = inner_turns-stand k.turns; sets = k.sets }
 
 -- all that is bound
-put-stands : (n : Name) {v : ValOf Marked} {w : ValOf ℕ} → Stands v w → {vs : Named (ValOf Marked)} {ws : Named (ValOf ℕ)} → Each Binds vs ws → Each Binds (put n v vs) (put n w ws)
+pub put-stands : (n : Name) {v : ValOf Marked} {w : ValOf ℕ} → Stands v w → {vs : Named (ValOf Marked)} {ws : Named (ValOf ℕ)} → Each Binds vs ws → Each Binds (put n v vs) (put n w ws)
 put-stands n s none = more (refl, s) none
 put-stands n {v} {w} s (more {x = b} {y = c} {xs = vs} {ys = ws} k ks) = rw k.0 (go (name_cmp n c.0) (put-stands n s ks))
   where
@@ -151,7 +151,7 @@ put_turns-stand : {ts : List (TurnOf Marked)} {us : List (TurnOf ℕ)} → Each 
 put_turns-stand none ks = ks
 put_turns-stand (more t ts) ks = put_all-stands t.sets (put_turns-stand ts ks)
 
-text_keys-stand : {vs : Named (ValOf Marked)} {ws : Named (ValOf ℕ)} → Each Binds vs ws → Each Pair (text_keys vs) (text_keys ws)
+pub text_keys-stand : {vs : Named (ValOf Marked)} {ws : Named (ValOf ℕ)} → Each Binds vs ws → Each Pair (text_keys vs) (text_keys ws)
 text_keys-stand none = none
 text_keys-stand (more k ks) = more (ap ktext k.0, k.1) (text_keys-stand ks)
 

@@ -1,27 +1,29 @@
 -- The marked meaning of a tree stands for the plain one, where answers to requests do.
-use Rattle.std.proofs.Common.{◌≡◌, ℕ, ◌+◌, Bool, true, false, List, refl, codes, Result, Ok, if◌then◌else◌}
+use Rattle.std.proofs.Common.{◌≡◌, ℕ, ◌+◌, Bool, true, false, List, ◌∷◌, refl, subst, codes, Option, filter_map, Result, Ok, if◌then◌else◌}
 use Rattle.std.specs.Str.{bytes_eq}
+use Rattle.std.specs.List.{cons_option}
 use Rattle.tera_errors.specs.Site as site
 use Rattle.tera_errors.specs.declared.span.Span.{Span}
 use Rattle.tera_errors.specs.Fault.{Fault}
-use Rattle.tera_tree.specs.Tree.{Expr, Nothing, Boolean, Integer, Text, Name, Attribute, Index, Slice, Not, Negate, Binary, And, Or, Ternary, Array, Map, Comprehension, Super, Filter, Test, Call, Optional, Absent, Present, Items, NoItems, MoreItems, Entries, NoEntries, MoreEntries, Arguments, NoArguments, MoreArguments, Filters, NoFilters, MoreFilters, Node, Content, Print, If, Set, Capture, FilterSection, For, Block, Include, Break, Continue, Nodes, NoNodes, MoreNodes}
+use Rattle.tera_tree.specs.Tree.{Key, Expr, Nothing, Boolean, Integer, Text, Name, Attribute, Index, Slice, Not, Negate, Binary, And, Or, Ternary, Array, Map, Comprehension, Super, Filter, Test, Call, Component, Optional, Absent, Present, Items, NoItems, MoreItems, Entries, NoEntries, MoreEntries, Arguments, NoArguments, MoreArguments, Filters, NoFilters, MoreFilters, Node, Content, Print, If, Set, Capture, FilterSection, For, Block, Include, ComponentCall, Definition, Break, Continue, Nodes, NoNodes, MoreNodes}
 use Rattle.tera_marks.proofs.Each.{Each, none, more, each-append}
-use Rattle.tera_marks.proofs.Standing.{Bears, trusted_mark, Stands, nones, bools, ints, texts, arrays, seen-is, bearing-each, escaped-each, printed-each, ResultStands, answers, refuses}
-use Rattle.tera_marks.proofs.Moving.{undefined-same, safe-same, truthy-same, all-stand}
-use Rattle.tera_marks.proofs.Around.{TurnStands, VariablesStand, AroundStands, look-stands, assign-stands, open_turn-stands, close_turn-stands, dump-stands}
+use Rattle.tera_marks.proofs.Standing.{Bears, trusted_mark, Stands, nones, bools, ints, texts, arrays, seen-is, bearing-each, escaped-each, printed-each, OptionStands, no_value, value, ResultStands, answers, refuses}
+use Rattle.tera_marks.proofs.Moving.{undefined-same, safe-same, truthy-same, all-stand, Pair}
+use Rattle.tera_marks.proofs.Around.{Binds, TurnStands, VariablesStand, AroundStands, look-stands, assign-stands, open_turn-stands, close_turn-stands, dump-stands}
 use Rattle.tera_marks.proofs.Turning.{turns-stand}
-use Rattle.tera_marks.proofs.Operating.{Operand, Listed, placed-stands, attribute-stands, item-stands, sliced-stands, not-stands, negative-stands, binary-stands, array-stands, map-stands}
+use Rattle.tera_marks.proofs.Operating.{Operand, Listed, placed-stands, attribute-stands, item-stands, sliced-stands, not-stands, negative-stands, binary-stands, array-stands, map-stands, entries-are}
 use Rattle.tera_marks.proofs.Calling.{filter-stands, test-stands, function-stands}
 use Rattle.tera_values.specs.Alphabet.{Marked, template, escaped, made, plain, marking, bytes_of}
-use Rattle.tera_values.specs.Val.{ValOf}
+use Rattle.tera_values.specs.Val.{KeyVal, kbool, kint, ktext, ValOf}
 use Rattle.tera_values.specs.Access.{is_undefined, is_safe, truthy}
 use Rattle.tera_values.specs.Printed.{printed_of}
 use Rattle.tera_values.specs.Escape.{escape_html}
 use Rattle.tera_operators.specs.Operand.{EvaluatedOf, fault_at}
 use Rattle.tera_state.specs.Rendered.{rendered_in}
 use Rattle.tera_state.specs.Scope.{AroundOf, VariablesOf, TurnOf, Heading, look, dump}
-use Rattle.tera_meaning.specs.Run.{Signal, On, Broke, Continued, RunOf, AnswerOf, Failed, Gave, MeaningOf, OracleOf, ◌▹◌, onward, more as counted, visit, gives, answered, value_at, if_else, reads, changes, writes, go_on, put_back, captured, RequestOf, ABlock, Above, AnInclude, joined_answer, asks}
-use Rattle.tera_meaning.specs.Meaning.{output_in, written_in, turns_of_in, named_value, if_kept, comprehension, after_turn, loop, loop_or_else, expr_meaning_in, bound_meaning_in, condition_meaning_in, items_meaning_in, entries_meaning_in, arguments_meaning_in, filters_meaning_in, put_out, node_meaning_in, nodes_meaning_in}
+use Rattle.tera_meaning.specs.Run.{Signal, On, Broke, Continued, RunOf, AnswerOf, Failed, Gave, MeaningOf, OracleOf, ◌▹◌, onward, more as counted, visit, gives, answered, value_at, if_else, reads, changes, writes, go_on, put_back, captured, RequestOf, ABlock, Above, AnInclude, AComponent, joined_answer, asks}
+use Rattle.tera_components.specs.Definition.{named_by}
+use Rattle.tera_meaning.specs.Meaning.{output_in, written_in, turns_of_in, named_value, if_kept, comprehension, after_turn, loop, loop_or_else, expr_meaning_in, bound_meaning_in, condition_meaning_in, items_meaning_in, entries_meaning_in, arguments_meaning_in, filters_meaning_in, put_out, component_meaning_in, node_meaning_in, nodes_meaning_in}
 use Rattle.tera_meaning.specs.Here.{Engine, HereOf, escaping_at}
 
 pub record Ended (b : site.Name × List Marked) (c : site.Name × List ℕ) : Type 0 where
@@ -111,6 +113,8 @@ pub data RequestStands : RequestOf Marked → RequestOf ℕ → Type 0 where
   blocks : (name : site.Name) (span : Span) → RequestStands (ABlock name span) (ABlock name span)
   aboves : (span : Span) → RequestStands (Above span) (Above span)
   includes : (name : site.Name) (span : Span) → RequestStands (AnInclude name span) (AnInclude name span)
+  components : (name : site.Name) {given : List (site.Name × ValOf Marked)} {others : List (site.Name × ValOf ℕ)} {body : Option (ValOf Marked)} {other : Option (ValOf ℕ)} (span : Span)
+      → Each Binds given others → OptionStands Stands body other → RequestStands (AComponent name given body span) (AComponent name others other span)
 
 abbrev pub OracleStands : OracleOf Marked → OracleOf ℕ → Type 0
 OracleStands c d = (q : RequestOf Marked) (q' : RequestOf ℕ) (v : VariablesOf Marked) (w : VariablesOf ℕ) → RequestStands q q' → VariablesStand v w → AnswerStands Same (c q v) (d q' w)
@@ -157,6 +161,17 @@ loop_or_else-means : {m m' : MeaningOf Marked Signal} {n n' : MeaningOf ℕ Sign
 loop_or_else-means h e none = e
 loop_or_else-means h e (more k ks) = loop-means h (more k ks)
 
+-- arguments that are named by their keys
+named-each : {es : List (KeyVal × ValOf Marked)} {fs : List (KeyVal × ValOf ℕ)} → Each Pair es fs → Each Binds (filter_map named_by es) (filter_map named_by fs)
+named-each none = none
+named-each (more {x = e} {y = f} {xs = es} {ys = fs} s ss) =
+    subst (λ k. Each Binds (filter_map named_by (e ∷ es)) (cons_option (named_by (k, f.1)) (filter_map named_by fs))) s.0 (go e.0 (named-each ss))
+  where
+    go : (k : KeyVal) → Each Binds (filter_map named_by es) (filter_map named_by fs) → Each Binds (cons_option (named_by (k, e.1)) (filter_map named_by es)) (cons_option (named_by (k, f.1)) (filter_map named_by fs))
+    go (ktext n) rest = more (refl, s.1) rest
+    go (kbool b) rest = rest
+    go (kint z) rest = rest
+
 -- where nodes stand: texts are escaped
 abbrev pub escaping : {C : Type 0} → site.Name → Engine → AroundOf C → HereOf C
 escaping file engine around = record { file = file; around = around; autoescape = true; engine = engine }
@@ -185,6 +200,12 @@ module _ (file : site.Name) (engine : Engine) (by_html : engine.escape ≡ escap
 
   turns_of-stand : (h : Heading) {a : EvaluatedOf Marked} {b : EvaluatedOf ℕ} → Operand a b → ResultStands (Each TurnStands) (turns_of_in marking here h a) (turns_of_in plain there h b)
   turns_of-stand h k = rw k.span (placed-stands (Each TurnStands) file _ (turns-stand h k.value))
+
+  -- what a component puts out keeps its marks, and is safe
+  component-means : (name : site.Name) {all : List (Option Key × EvaluatedOf Marked)} {every : List (Option Key × EvaluatedOf ℕ)} {body : Option (ValOf Marked)} {other : Option (ValOf ℕ)} (span : Span)
+      → Each Listed all every → OptionStands Stands body other → Means Operand (component_meaning_in marking here c name all body span) (component_meaning_in plain there d name every other span)
+  component-means name span ks b =
+      bind Operand (answered-means (entries-are file ks)) (λ es fs ss. bind Operand (asks-means answered_for (components name span (named-each ss) b)) (λ t u ts. value-means span (texts true ts)))
 
   mutual
     expr-means : (x : Expr) → Means Operand (expr_meaning_in marking here c x) (expr_meaning_in plain there d x)
@@ -217,6 +238,8 @@ module _ (file : site.Name) (engine : Engine) (by_html : engine.escape ≡ escap
         visit-means (bind Operand (expr-means x) (λ a b k. bind Operand (arguments-mean xs) (λ vs ws ks. answered-means (test-stands file name span ks k))))
     expr-means (Call name xs span) =
         visit-means (bind Operand (arguments-mean xs) (λ vs ws ks. answered-means (function-stands file name span ks)))
+    expr-means (Component name xs span) =
+        visit-means (bind Operand (entries-mean xs) (λ vs ws ks. component-means name span ks no_value))
 
     bound-means : (x : Optional) → Means Operand (bound_meaning_in marking here c x) (bound_meaning_in plain there d x)
     bound-means Absent = gives-means _ _ (record { value = nones; span = refl })
@@ -267,6 +290,10 @@ module _ (file : site.Name) (engine : Engine) (by_html : engine.escape ≡ escap
         loop_or_else-means (nodes-mean body) (nodes-mean other) ks)))
     node-means (Block name body span) = visit-means (bind Same (asks-means answered_for (blocks name span)) (λ t u ts. writes-means ts))
     node-means (Include name span) = visit-means (bind Same (asks-means answered_for (includes name span)) (λ t u ts. writes-means ts))
+    node-means (ComponentCall name xs body span) =
+        visit-means (bind Same (captured-means (nodes-mean body)) (λ x y k. go_on-means k.0 (bind Same (entries-mean xs) (λ vs ws ks.
+        bind Same (component-means name span ks (value (texts true k.1))) (λ a b l. written-means l)))))
+    node-means (Definition s body) = gives-means _ _ refl
     node-means Break = visit-means (gives-means _ _ refl)
     node-means Continue = visit-means (gives-means _ _ refl)
 

@@ -1,23 +1,28 @@
 -- Each body that is taken stands lower, so the count of levels does not matter.
-use Rattle.std.proofs.Common.{◌≡◌, ℕ, zero, suc, ◌+◌, ◌*◌, ◌<◌, ◌≤◌, Bool, true, false, cond, ◌||◌, List, [], ◌∷◌, ◌++◌, length, Option, Some, None, refl, sym, ap, ◌∙◌, arith, true≢false, ◌⊎◌, inl, inr, ⊎_elim, mul-le-mul_right, suc-mul}
+use Rattle.std.proofs.Common.{◌≡◌, ℕ, zero, suc, ◌+◌, ◌-◌, ◌*◌, ◌<◌, ◌≤◌, Bool, true, false, cond, ◌||◌, List, [], ◌∷◌, ◌++◌, length, nat_lt, Option, Some, None, refl, sym, ap, ◌∙◌, arith, true≢false, ◌⊎◌, inl, inr, ⊎_elim, mul-le-mul_right, suc-mul}
 use Rattle.std.specs.Prelude.{filter_map, flat_map, map, bytes_eq, Result, Ok, Err}
 use Rattle.std.specs.Option.{option_or}
 use Rattle.std.specs.List.{cons_option}
 use Rattle.std.proofs.lemmas.Slice.Eq.{bytes_eq-Decides}
 use Rattle.std.proofs.lemmas.Option.{none-some}
+use Rattle.std.proofs.lemmas.Bool.{ltb-true}
+use Rattle.std.proofs.lemmas.List.{length-map}
 use mathlib.Core.Path.{fun_ext}
 use Rattle.tera_errors.specs.Site.{Name}
-use Rattle.tera_errors.specs.Fault.{Fault}
+use Rattle.tera_errors.specs.Fault.{Fault, message}
 use Rattle.tera_tree.specs.Tree.{Nodes}
 use Rattle.tera_tree.specs.Blocks.{blocks, block_names, is_among}
 use Rattle.tera_values.specs.Alphabet.{Alphabet, plain}
 use Rattle.tera_values.specs.Named.{Named}
-use Rattle.tera_state.specs.Scope.{VariablesOf, nothing_set}
-use Rattle.tera_meaning.specs.Run.{RequestOf, ABlock, Above, AnInclude, OracleOf}
+use Rattle.tera_values.specs.Val.{ValOf}
+use Rattle.tera_state.specs.Scope.{VariablesOf, in_component, look_implicit, nothing_set}
+use Rattle.tera_components.specs.Context.{component_context_in}
+use Rattle.tera_meaning.specs.Components.{Component}
+use Rattle.tera_meaning.specs.Run.{RequestOf, ABlock, Above, AnInclude, AComponent, OracleOf}
 use Rattle.tera_meaning.specs.Registry.{Template, Entry, Registry}
 use Rattle.tera_meaning.specs.Resolve.{entry_at, first_there, resolve, onto, or_missing, up, or_none}
 use Rattle.tera_meaning.specs.Lineage.{Definer, definer_in, ancestors, definers_in, definers_from, definers}
-use Rattle.tera_meaning.specs.Whole.{World, PlaceOf, WayOf, Refuses, Takes, takes_definer, place_of_include, takes_template, fault_in, way, ends, not_among, names, all_blocks, rank, FamilyOf, body_meaning_in, along, level, levels, whole_in, MeaningUnrolls}
+use Rattle.tera_meaning.specs.Whole.{World, PlaceOf, WayOf, Refuses, Takes, takes_definer, place_of_include, takes_template, max_depth, place_of_component, takes_context, takes_component, component_at, fault_in, way_in, ends, not_among, names, all_blocks, rank, FamilyOf, body_meaning_in, along, level, levels, whole_in, MeaningUnrolls}
 
 -- lower in the first number, or in the second
 lower_first : (a a' b b' m : ℕ) → a' < a → b' < m → a' * m + b' < a * m + b
@@ -215,14 +220,26 @@ definers_of_named r (Some template) block l =
 
 -- A body that is taken stands lower.
 
+-- where fewer bodies are left, all blocks may be open anew
+fresh_falls : (r : Registry) (a a' opened above : ℕ) → a' < a
+    → (a' * suc (length (all_blocks r)) + not_among (all_blocks r) []) * suc (suc (length r.templates)) + 0 < (a * suc (length (all_blocks r)) + opened) * suc (suc (length r.templates)) + above
+fresh_falls r a a' opened above less =
+    let size = suc (length (all_blocks r)) in
+    let small : not_among (all_blocks r) [] < size = omega (arith, left_bound (all_blocks r) []) in
+    let lower = lower_first a a' opened (not_among (all_blocks r) []) size less small in
+    lower_first (a * size + opened) (a' * size + not_among (all_blocks r) []) above 0 (suc (suc (length r.templates))) lower (omega arith)
+
 module _ {C : Type 0} where
   abbrev pub IsLower : World → PlaceOf C → WayOf C → Type 0
   IsLower w p (Refuses fault) = Unit {0}
   IsLower w p (Takes p' v body) = rank w p' < rank w p
 
-  -- templates that are not included in a place, and blocks that are not open
+  -- templates that are not included in a place, with the components that may still be open, and blocks that are not open
   abbrev left_templates : World → PlaceOf C → ℕ
   left_templates w p = not_among (names w.registry.templates) p.included
+
+  abbrev left_bodies : World → PlaceOf C → ℕ
+  left_bodies w p = (max_depth - p.depth) * suc (length w.registry.templates) + left_templates w p
 
   abbrev left_blocks : World → PlaceOf C → ℕ
   left_blocks w p = not_among (all_blocks w.registry) p.opened
@@ -239,7 +256,7 @@ module _ {C : Type 0} where
       let there : 0 < length (definers r p.template name) = omega (arith, size) in
       let less = left_less name (all_blocks r) p.opened (definers_of_named r p.template name there) e in
       let small : length ds < suc (suc (length r.templates)) = omega (arith, size, definers_bound r p.template name) in
-      let base = left_templates w p * suc (length (all_blocks r)) in
+      let base = left_bodies w p * suc (length (all_blocks r)) in
       let lower : base + not_among (all_blocks r) (name ∷ p.opened) < base + left_blocks w p = omega (arith, less) in
       lower_first (base + left_blocks w p) (base + not_among (all_blocks r) (name ∷ p.opened)) (length p.above) (length ds) (suc (suc (length r.templates))) lower small
 
@@ -257,27 +274,51 @@ module _ {C : Type 0} where
   template_falls w p v fault t h true e = tt
   template_falls w p v fault t h false e =
       let r = w.registry in
-      let size = suc (length (all_blocks r)) in
       let ns = names r.templates in
       let less = left_less t.0 ns p.included (among_names t r.templates h) e in
-      let blocks : not_among (all_blocks r) [] < size = omega (arith, left_bound (all_blocks r) []) in
-      let lower = lower_first (left_templates w p) (not_among ns (t.0 ∷ p.included)) (left_blocks w p) (not_among (all_blocks r) []) size less blocks in
-      let steps = suc (suc (length r.templates)) in
-      lower_first (left_templates w p * size + left_blocks w p) (not_among ns (t.0 ∷ p.included) * size + not_among (all_blocks r) []) (length p.above) 0 steps lower (omega arith)
+      let base = (max_depth - p.depth) * suc (length r.templates) in
+      let lower : base + not_among ns (t.0 ∷ p.included) < left_bodies w p = omega (arith, less) in
+      fresh_falls r (left_bodies w p) (base + not_among ns (t.0 ∷ p.included)) (left_blocks w p) (length p.above) lower
 
   include_falls : (w : World) (p : PlaceOf C) (v : VariablesOf C) (fault : Fault) (o : Option Entry) → ((t : Entry) → o ≡ Some t → IsThere t w.registry.templates) → IsLower w p (takes_template p v fault o)
   include_falls w p v fault None h = tt
   include_falls w p v fault (Some t) h = template_falls w p v fault t (h t refl) (is_among t.0 p.included) refl
 
-  -- each body that is taken has a lower rank
-  pub falls : (w : World) (p : PlaceOf C) (q : RequestOf C) (v : VariablesOf C) → IsLower w p (way w p q v)
-  falls w p (ABlock name span) v =
-      block_falls w p name v (fault_in p span) (is_among name p.opened) refl (definers w.registry p.template name) refl
-  falls w p (Above span) v = above_falls w p v (fault_in p span) p.above refl
-  falls w p (AnInclude name span) v =
-      include_falls w p v (fault_in p span) (resolve w.registry name) (λ t e. resolved_there w.registry name t e)
+  abbrev way_of_context : PlaceOf C → VariablesOf C → Component → Named (ValOf C) → Bool → WayOf C
+  way_of_context p v c context is_shallow =
+      cond is_shallow (Takes (place_of_component (in_component context p.around v) p.autoescape (suc p.depth) c.file) nothing_set c.body) (Refuses message)
+
+  -- one more component is open, and all templates may be included anew
+  context_falls : (w : World) (p : PlaceOf C) (v : VariablesOf C) (c : Component) (context : Named (ValOf C)) (b : Bool) → nat_lt p.depth max_depth ≡ b → IsLower w p (way_of_context p v c context b)
+  context_falls w p v c context false e = tt
+  context_falls w p v c context true e =
+      let r = w.registry in
+      let ns = names r.templates in
+      let shallow : p.depth < 20 = ltb-true p.depth 20 e in
+      let less : max_depth - suc p.depth < max_depth - p.depth = omega (arith, shallow) in
+      let many : not_among ns [] < suc (length r.templates) = omega (arith, left_bound ns [], length-map r.templates (λ t. t.0)) in
+      let lower = lower_first (max_depth - p.depth) (max_depth - suc p.depth) (left_templates w p) (not_among ns []) (suc (length r.templates)) less many in
+      fresh_falls r (left_bodies w p) ((max_depth - suc p.depth) * suc (length r.templates) + not_among ns []) (left_blocks w p) (length p.above) lower
+
+  fitting_falls : (w : World) (p : PlaceOf C) (v : VariablesOf C) (c : Component) (fault : Fault) (o : Option (Named (ValOf C))) → IsLower w p (takes_context p v c fault o)
+  fitting_falls w p v c fault None = tt
+  fitting_falls w p v c fault (Some context) = context_falls w p v c context (nat_lt p.depth max_depth) refl
 
 module _ {C : Type 0} (alphabet : Alphabet C) (w : World) where
+  component_falls : (p : PlaceOf C) (v : VariablesOf C) (given : List (Name × ValOf C)) (body : Option (ValOf C)) (fault : Fault) (o : Option Component) → IsLower w p (takes_component alphabet p v given body fault o)
+  component_falls p v given body fault None = tt
+  component_falls p v given body fault (Some c) =
+      fitting_falls w p v c fault (component_context_in alphabet c.signature given body (λ name. look_implicit name p.around v))
+
+  -- each body that is taken has a lower rank
+  pub falls : (p : PlaceOf C) (q : RequestOf C) (v : VariablesOf C) → IsLower w p (way_in alphabet w p q v)
+  falls p (ABlock name span) v =
+      block_falls w p name v (fault_in p span) (is_among name p.opened) refl (definers w.registry p.template name) refl
+  falls p (Above span) v = above_falls w p v (fault_in p span) p.above refl
+  falls p (AnInclude name span) v =
+      include_falls w p v (fault_in p span) (resolve w.registry name) (λ t e. resolved_there w.registry name t e)
+  falls p (AComponent name given body span) v = component_falls p v given body (fault_in p span) (component_at w name)
+
   -- two families agree on the body that is taken
   abbrev Agree : FamilyOf C → FamilyOf C → WayOf C → Type 0
   Agree f g (Refuses fault) = Unit {0}
@@ -294,7 +335,7 @@ module _ {C : Type 0} (alphabet : Alphabet C) (w : World) where
   -- a level asks of the places below alone
   pub level_same : (f g : FamilyOf C) (p : PlaceOf C) → ((p' : PlaceOf C) → rank w p' < rank w p → f p' ≡ g p') → level alphabet w f p ≡ level alphabet w g p
   level_same f g p h =
-      fun_ext (λ q. fun_ext (λ v. along_same f g q v (way w p q v) (agree f g p (way w p q v) (falls w p q v) h)))
+      fun_ext (λ q. fun_ext (λ v. along_same f g q v (way_in alphabet w p q v) (agree f g p (way_in alphabet w p q v) (falls p q v) h)))
 
   -- any count of levels above the rank gives the same
   pub stable : (n m : ℕ) (p : PlaceOf C) → rank w p < n → rank w p < m → levels alphabet w n p ≡ levels alphabet w m p

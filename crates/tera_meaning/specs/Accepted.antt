@@ -1,5 +1,5 @@
 -- Whether the templates of a registry go together.
-use Rattle.std.specs.Prelude.{ℕ, zero, suc, Bool, true, false, ◌&&◌, ◌||◌, List, [], ◌∷◌, length, Option, Some, None, is_some, is_none, Result, Ok, Err, if◌then◌else◌}
+use Rattle.std.specs.Prelude.{ℕ, zero, suc, Bool, true, false, ◌&&◌, ◌||◌, List, [], ◌∷◌, ◌++◌, length, Option, Some, None, is_some, is_none, Result, Ok, Err, if◌then◌else◌}
 use Rattle.std.specs.List.{list_any, filter_map}
 use Rattle.std.specs.Option.{option_or}
 use Rattle.tera_errors.specs.Site.{Name}
@@ -10,6 +10,7 @@ use Rattle.tera_tree.specs.Includes.{includes}
 use Rattle.tera_meaning.specs.Registry.{Entry, Registry}
 use Rattle.tera_meaning.specs.Resolve.{resolve, parents}
 use Rattle.tera_meaning.specs.Known.{lacks_a_callee}
+use Rattle.tera_meaning.specs.Components.{definer_of, has_a_tie}
 use Rattle.tera_meaning.specs.Lineage.{Definer, ancestors, definers_in}
 
 abbrev pub fault_of_parents : Result (List Entry) Fault → Option Fault
@@ -29,18 +30,19 @@ can_walk r (suc n) t = list_any (can_walk r n) (includes_of r t)
 abbrev pub leads_into_a_circle : Registry → Entry → Bool
 leads_into_a_circle r t = can_walk r (length r.templates) t
 
-abbrev pub fault_of_includes : Bool → Option Fault
-fault_of_includes true = Some circular_include
-fault_of_includes false = None
+abbrev pub fault_if : Bool → Fault → Option Fault
+fault_if true fault = Some fault
+fault_if false fault = None
 
--- the first fault of a template: that of its parents, then that of its includes
-unfoldable pub template_fault : Registry → Entry → Option Fault
-template_fault r t = option_or (fault_of_parents (parents r t)) (fault_of_includes (leads_into_a_circle r t))
+-- the first fault of a template behind these: that of its parents, then that of its includes, then that of its components
+unfoldable pub template_fault : Registry → List Entry → Entry → Option Fault
+template_fault r before t =
+    option_or (fault_of_parents (parents r t)) (option_or (fault_if (leads_into_a_circle r t) circular_include) (fault_if (has_a_tie r before t) message))
 
--- the first fault, template by template
-unfoldable pub first_fault : Registry → List Entry → Option Fault
-first_fault r [] = None
-first_fault r (t ∷ rest) = option_or (template_fault r t) (first_fault r rest)
+-- the first fault, template by template, behind these
+unfoldable pub first_fault : Registry → List Entry → List Entry → Option Fault
+first_fault r before [] = None
+first_fault r before (t ∷ rest) = option_or (template_fault r before t) (first_fault r (before ++ t ∷ []) rest)
 
 abbrev pub is_none_left : List Definer → Bool
 is_none_left [] = true
@@ -58,10 +60,13 @@ loses_a_block r t = is_some t.1.tree.parent && list_any (is_lost r t) (top_block
 abbrev pub misses_an_include : Registry → Nodes → Bool
 misses_an_include r nodes = list_any (λ name. is_none (resolve r name)) (includes nodes)
 
+abbrev pub is_component : Registry → Name → Bool
+is_component r name = is_some (definer_of r name)
+
 -- whether a template names what is not there
 abbrev pub lacks_something : Registry → Entry → Bool
 lacks_something r t =
-    loses_a_block r t || (lacks_a_callee t.1.tree.nodes || misses_an_include r t.1.tree.nodes)
+    loses_a_block r t || (lacks_a_callee (is_component r) t.1.tree.nodes || misses_an_include r t.1.tree.nodes)
 
 -- what is not there of what templates name
 unfoldable pub missing : Registry → Option Fault
@@ -69,4 +74,4 @@ missing r = if list_any (lacks_something r) r.templates then Some message else N
 
 -- none where the registry is accepted
 unfoldable pub fault : Registry → Option Fault
-fault r = option_or (first_fault r r.templates) (missing r)
+fault r = option_or (first_fault r [] r.templates) (missing r)

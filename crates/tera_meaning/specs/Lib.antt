@@ -4,6 +4,7 @@ pub mod Meaning
 pub mod Registry
 pub mod Resolve
 pub mod Lineage
+pub mod Components
 pub mod Known
 pub mod Accepted
 pub mod Adding

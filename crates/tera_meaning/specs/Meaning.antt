@@ -1,8 +1,9 @@
 -- What trees mean, where the meaning of bodies that stand elsewhere is given.
-use Rattle.std.specs.Prelude.{Bool, true, false, List, [], ◌∷◌, ◌++◌, Option, Result, Ok, codes, bytes_eq, if◌then◌else◌}
+use Rattle.std.specs.Prelude.{Bool, true, false, List, [], ◌∷◌, ◌++◌, Option, Some, None, Result, Ok, codes, bytes_eq, if◌then◌else◌}
 use Rattle.tera_errors.specs.Site as site
 use Rattle.tera_errors.specs.Fault.{Fault}
-use Rattle.tera_tree.specs.Tree.{Key, Expr, Nothing, Boolean, Integer, Text, Name, Attribute, Index, Slice, Not, Negate, Binary, And, Or, Ternary, Array, Map, Comprehension, Super, Filter, Test, Call, Optional, Absent, Present, Items, NoItems, MoreItems, Entries, NoEntries, MoreEntries, Arguments, NoArguments, MoreArguments, Filters, NoFilters, MoreFilters, first_span, Node, Content, Print, If, Set, Capture, FilterSection, For, Block, Include, Break, Continue, Nodes, NoNodes, MoreNodes}
+use Rattle.tera_errors.specs.declared.span.Span.{Span}
+use Rattle.tera_tree.specs.Tree.{Key, Expr, Nothing, Boolean, Integer, Text, Name, Attribute, Index, Slice, Not, Negate, Binary, And, Or, Ternary, Array, Map, Comprehension, Super, Filter, Test, Call, Component, Optional, Absent, Present, Items, NoItems, MoreItems, Entries, NoEntries, MoreEntries, Arguments, NoArguments, MoreArguments, Filters, NoFilters, MoreFilters, first_span, Node, Content, Print, If, Set, Capture, FilterSection, For, Block, Include, ComponentCall, Definition, Break, Continue, Nodes, NoNodes, MoreNodes}
 use Rattle.tera_values.specs.Alphabet.{Alphabet, plain, template, made}
 use Rattle.tera_values.specs.Val.{ValOf, none, bool, int, text, array, vals}
 use Rattle.tera_values.specs.Access.{is_undefined, truthy}
@@ -10,12 +11,13 @@ use Rattle.tera_values.specs.Named.{Named}
 use Rattle.tera_operators.specs.Operand.{Evaluated, EvaluatedOf, fault_at, placed}
 use Rattle.tera_operators.specs.Accesses.{attribute_of, item_in, sliced_in}
 use Rattle.tera_operators.specs.Operators.{not_of, negative_in, binary_in}
-use Rattle.tera_operators.specs.Literals.{array_of, map_of}
+use Rattle.tera_operators.specs.Literals.{array_of, map_entries, map_of}
 use Rattle.tera_operators.specs.Calls.{filter_applied_in, test_applied_in, function_called_in}
 use Rattle.tera_state.specs.Rendered.{rendered_in}
 use Rattle.tera_state.specs.Scope.{AroundOf, VariablesOf, TurnOf, Turn, Heading, look, dump, assign, open_turn, close_turn, loop_turns_in}
+use Rattle.tera_components.specs.Definition.{named_arguments}
 use Rattle.tera_meaning.specs.Here.{Here, HereOf, escaping_at}
-use Rattle.tera_meaning.specs.Run.{Signal, On, Broke, Continued, Meaning, MeaningOf, Oracle, OracleOf, ABlock, Above, AnInclude, ◌▹◌, visit, gives, answered, value_at, if_else, reads, changes, writes, go_on, captured, asks}
+use Rattle.tera_meaning.specs.Run.{Signal, On, Broke, Continued, Meaning, MeaningOf, Oracle, OracleOf, ABlock, Above, AnInclude, AComponent, ◌▹◌, visit, gives, answered, value_at, if_else, reads, changes, writes, go_on, captured, asks}
 
 module _ {C : Type 0} (alphabet : Alphabet C) where
   -- the text that a value is put out as, at the operand's span; undefined has none
@@ -82,6 +84,13 @@ abbrev pub put_out : {C : Type 0} → HereOf C → Filters → List C → Evalua
 put_out here fs t = record { value = text t here.autoescape; span = first_span fs }
 
 module _ {C : Type 0} (alphabet : Alphabet C) (here : HereOf C) (call : OracleOf C) where
+  -- what a component puts out, where these are its attributes and the body that it is handed
+  abbrev pub component_meaning_in : site.Name → List (Option Key × EvaluatedOf C) → Option (ValOf C) → Span → MeaningOf C (EvaluatedOf C)
+  component_meaning_in name all body span =
+      answered (map_entries here.file all)
+      ▹ λ given. asks call (AComponent name (named_arguments given) body span)
+      ▹ λ t. value_at (text t here.autoescape) span
+
   abbrev mutual
     pub expr_meaning_in : Expr → MeaningOf C (EvaluatedOf C)
     expr_meaning_in (Nothing span) = visit (value_at none span)
@@ -139,6 +148,9 @@ module _ {C : Type 0} (alphabet : Alphabet C) (here : HereOf C) (call : OracleOf
         ▹ λ given. answered (test_applied_in alphabet here.file name a given span))
     expr_meaning_in (Call name arguments span) =
         visit (arguments_meaning_in arguments ▹ λ given. answered (function_called_in alphabet here.file name given span))
+    -- Arguments go together as the entries of a map do. The text of a component is safe where autoescape is on.
+    expr_meaning_in (Component name attributes span) =
+        visit (entries_meaning_in attributes ▹ λ all. component_meaning_in name all None span)
 
     pub bound_meaning_in : Optional → MeaningOf C (EvaluatedOf C)
     bound_meaning_in Absent = gives no_bound
@@ -193,6 +205,12 @@ module _ {C : Type 0} (alphabet : Alphabet C) (here : HereOf C) (call : OracleOf
         ▹ λ turns. loop_or_else (nodes_meaning_in body) (nodes_meaning_in other) turns)
     node_meaning_in (Block name body span) = visit (asks call (ABlock name span) ▹ writes)
     node_meaning_in (Include name span) = visit (asks call (AnInclude name span) ▹ writes)
+    node_meaning_in (ComponentCall name attributes body span) =
+        visit (captured (nodes_meaning_in body)
+        ▹ λ c. go_on c.0 (entries_meaning_in attributes
+        ▹ λ all. component_meaning_in name all (Some (text c.1 here.autoescape)) span
+        ▹ written_in alphabet here))
+    node_meaning_in (Definition signature body) = gives On
     node_meaning_in Break = visit (gives Broke)
     node_meaning_in Continue = visit (gives Continued)
 

@@ -1,21 +1,24 @@
 -- What the rendering calls answer.
-use Rattle.std.specs.Prelude.{Bool, true, false, ◌||◌, List, [], ◌∷◌, codes, is_some, nat_eq, bytes_eq, Option, Some, None, Result, Ok, Err, if◌then◌else◌}
+use Rattle.std.specs.Prelude.{Bool, true, false, ◌||◌, List, [], ◌∷◌, is_some, nat_eq, bytes_eq, Option, Some, None, option_map, Result, Ok, Err, if◌then◌else◌}
 use Rattle.std.specs.List.{list_any, ends_with}
 use Rattle.tera_errors.specs.Site.{Text, Name}
-use Rattle.tera_errors.specs.Fault.{Fault, message, template_not_found}
+use Rattle.tera_errors.specs.Fault.{Fault, message, template_not_found, component_not_found}
 use Rattle.tera_values.specs.Alphabet.{Alphabet, plain}
-use Rattle.tera_values.specs.Val.{Val}
+use Rattle.tera_values.specs.Val.{Val, ValOf, text}
 use Rattle.tera_values.specs.Named.{Named}
 use Rattle.tera_tree.specs.Tree.{Tree, Nodes}
 use Rattle.tera_tree.specs.Blocks.{top_blocks}
-use Rattle.tera_state.specs.Scope.{AroundOf, Around, outside, nothing_set}
+use Rattle.tera_state.specs.Scope.{AroundOf, Around, outside, in_component, look_implicit, nothing_set}
 use Rattle.tera_meaning.specs.Run.{Signal, Answer, AnswerOf, Failed, Gave}
 use Rattle.tera_meaning.specs.Registry.{Entry, Registry}
 use Rattle.tera_meaning.specs.Resolve.{resolve, root}
-use Rattle.tera_meaning.specs.Known.{has_unknown}
+use Rattle.tera_tree.specs.Definitions.{definitions}
+use Rattle.tera_components.specs.Context.{component_context_in}
+use Rattle.tera_meaning.specs.Components.{Component, component, one_off_name}
+use Rattle.tera_meaning.specs.Known.{lacks_a_callee}
 use Rattle.tera_meaning.specs.Accepted.{misses_an_include}
 use Rattle.tera_meaning.specs.Lineage.{Definer, definers}
-use Rattle.tera_meaning.specs.Whole.{World, Place, PlaceOf, meaning_in}
+use Rattle.tera_meaning.specs.Whole.{World, Place, PlaceOf, component_at, place_of_component, meaning_in}
 
 abbrev pub text_of : {C : Type 0} → AnswerOf C Signal → Result (List C) Fault
 text_of (Failed fault n) = Err fault
@@ -32,11 +35,11 @@ block_of block (Failed fault n) = Err fault
 block_of block (Gave signal run n) = Ok (last_text block [] run.blocks)
 
 abbrev pub alone : Registry → World
-alone r = record { registry = r }
+alone r = record { registry = r; beside = [] }
 
--- the name of a text that is rendered beside the registry
-abbrev pub one_off_name : Name
-one_off_name = codes "__tera_one_off"
+-- with the components of a text beside the registry
+abbrev pub beside : Registry → Tree → World
+beside r tree = record { registry = r; beside = definitions tree.nodes }
 
 -- whether texts are escaped in a template of this name
 abbrev pub autoescapes : Registry → Name → Bool
@@ -50,6 +53,10 @@ has_some (a ∷ as') = true
 abbrev pub has_a_block : Nodes → Bool
 has_a_block nodes = has_some (top_blocks nodes)
 
+-- its own components are there as well
+abbrev pub is_component_beside : Registry → Tree → Name → Bool
+is_component_beside r tree name = is_some (component_at (beside r tree) name)
+
 module _ {C : Type 0} (alphabet : Alphabet C) where
   -- around the variables of a rendering: the caller's context, and the global one
   abbrev pub outermost_in : Registry → Named Val → AroundOf C
@@ -57,16 +64,16 @@ module _ {C : Type 0} (alphabet : Alphabet C) where
 
   abbrev pub one_off_place_in : Registry → Named Val → Bool → PlaceOf C
   one_off_place_in r context autoescape =
-      record { template = None; file = one_off_name; around = outermost_in r context; autoescape = autoescape; included = []; opened = []; above = [] }
+      record { template = None; file = one_off_name; around = outermost_in r context; autoescape = autoescape; depth = 0; included = []; opened = []; above = [] }
 
   abbrev pub one_off_meaning_in : Registry → Tree → Named Val → Bool → AnswerOf C Signal
   one_off_meaning_in r tree context autoescape =
-      meaning_in alphabet (alone r) (one_off_place_in r context autoescape) nothing_set tree.nodes
+      meaning_in alphabet (beside r tree) (one_off_place_in r context autoescape) nothing_set tree.nodes
 
   -- the text of a tree that calls and includes nothing that is not there
   abbrev pub one_off_text_in : Registry → Tree → Named Val → Bool → Result (List C) Fault
   one_off_text_in r tree context autoescape =
-      if has_unknown tree.nodes || misses_an_include r tree.nodes then Err message else text_of (one_off_meaning_in r tree context autoescape)
+      if lacks_a_callee (is_component_beside r tree) tree.nodes || misses_an_include r tree.nodes then Err message else text_of (one_off_meaning_in r tree context autoescape)
 
   -- the reader's fault; a text beside the registry may extend no template, have no block, and call and include nothing that
   -- is not there; else the text of what was read
@@ -79,7 +86,7 @@ module _ {C : Type 0} (alphabet : Alphabet C) where
   -- that is rendered.
   abbrev pub template_place_in : Registry → Entry → Named Val → PlaceOf C
   template_place_in r t context =
-      record { template = Some t.0; file = (root r t).0; around = outermost_in r context; autoescape = autoescapes r t.0; included = []; opened = []; above = [] }
+      record { template = Some t.0; file = (root r t).0; around = outermost_in r context; autoescape = autoescapes r t.0; depth = 0; included = []; opened = []; above = [] }
 
   abbrev pub template_meaning_in : Registry → Entry → Named Val → AnswerOf C Signal
   template_meaning_in r t context =
@@ -106,6 +113,24 @@ module _ {C : Type 0} (alphabet : Alphabet C) where
   -- A block that nobody defines is refused.
   abbrev pub render_block_in : Registry → Name → Name → Named Val → Result (List C) Fault
   render_block_in r name block context = render_template_block_in r (resolve r name) block context
+
+  abbrev pub within_context_in : Registry → AroundOf C → Bool → Component → Option (Named (ValOf C)) → Result (List C) Fault
+  within_context_in r caller autoescape c None = Err message
+  within_context_in r caller autoescape c (Some context) =
+      text_of (meaning_in alphabet (alone r) (place_of_component (in_component context caller nothing_set) autoescape 0 c.file) nothing_set c.body)
+
+  abbrev pub render_found_component_in : Registry → Option Component → Named Val → Named Val → Option Text → Bool → Result (List C) Fault
+  render_found_component_in r None given implicits body autoescape = Err component_not_found
+  render_found_component_in r (Some c) given implicits body autoescape =
+      let caller = outermost_in r implicits in
+      let handed = option_map (λ t. alphabet.handed (text t true)) body in
+      within_context_in r caller autoescape c (component_context_in alphabet c.signature (alphabet.all_handed given) handed (λ name. look_implicit name caller nothing_set))
+
+  -- The text of a component with these arguments. A body that is handed in is a safe text. Implicit parameters are looked up in
+  -- a state that has the implicits as its context, and the global context.
+  abbrev pub render_component_in : Registry → Name → Named Val → Named Val → Option Text → Bool → Result (List C) Fault
+  render_component_in r name given implicits body autoescape =
+      render_found_component_in r (component r name) given implicits body autoescape
 
 -- of texts of bytes: this is what runs
 abbrev pub outermost : Registry → Named Val → Around
@@ -143,3 +168,6 @@ render_template_block = render_template_block_in plain
 
 abbrev pub render_block : Registry → Name → Name → Named Val → Result Text Fault
 render_block = render_block_in plain
+
+abbrev pub render_component : Registry → Name → Named Val → Named Val → Option Text → Bool → Result Text Fault
+render_component = render_component_in plain

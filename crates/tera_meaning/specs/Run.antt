@@ -1,5 +1,5 @@
 -- What a tree gives, and what it does on the way.
-use Rattle.std.specs.Prelude.{ℕ, ◌+◌, Bool, true, false, List, [], ◌++◌, Result, Ok, Err}
+use Rattle.std.specs.Prelude.{ℕ, ◌+◌, Bool, true, false, List, [], ◌++◌, Option, Result, Ok, Err}
 use Rattle.tera_errors.specs.declared.span.Span.{Span}
 use Rattle.tera_errors.specs.Site.{Name}
 use Rattle.tera_errors.specs.Fault.{Fault}
@@ -101,7 +101,7 @@ put_back before (Gave signal r n) = Gave (signal, r.text) (record r { text = bef
 abbrev pub captured : {C : Type 0} → MeaningOf C Signal → MeaningOf C (Signal × List C)
 captured body r = put_back r.text (body (record r { text = [] }))
 
--- what is asked of a body that stands elsewhere: components are a further case
+-- what is asked of a body that stands elsewhere
 pub data RequestOf (C : Type 0) : Type 0 where
   -- a block, at the span of its name
   ABlock : (name : Name) (span : Span) → RequestOf C
@@ -109,6 +109,8 @@ pub data RequestOf (C : Type 0) : Type 0 where
   Above : (span : Span) → RequestOf C
   -- the template to which a name resolves, at the span of the name
   AnInclude : (name : Name) (span : Span) → RequestOf C
+  -- a component with these arguments in their order, and at will the body that it is handed, at the span of the call
+  AComponent : (name : Name) (given : List (Name × ValOf C)) (body : Option (ValOf C)) (span : Span) → RequestOf C
 
 abbrev pub Request : Type 0
 Request = RequestOf ℕ

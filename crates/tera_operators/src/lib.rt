@@ -18,7 +18,7 @@ pub use arithmetic::negative;
 pub use arrays::array;
 pub use calls::{filter, function, test};
 pub use compare::not;
-pub use maps::map;
+pub use maps::{entries, map};
 pub use operand::Operand;
 pub use operator::binary;
 pub use place::fault_at;

@@ -145,7 +145,7 @@ fn has_spread(keys: &[Option<OwnedKey>]) -> bool
 
 /// All entries, by whether one of them is spread.
 #[tactic(auto, using(crate::proofs::Keeping::with_spread, crate::proofs::Keeping::without_spread))]
-fn entries(
+pub fn entries(
     alloc: Global,
     file: &str,
     keys: &[Option<OwnedKey>],

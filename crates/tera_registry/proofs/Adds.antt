@@ -1,19 +1,23 @@
 -- What an adding call makes of a whole registry.
-use Rattle.std.proofs.Common.{◌≡◌, ℕ, zero, suc, List, [], ◌∷◌, length, map, Some, None, Result, Ok, Err, String, string_bytes, Global, refl, sym, ap, ap₂, ◌∙◌}
+use Rattle.std.proofs.Common.{◌≡◌, ℕ, zero, suc, List, [], ◌∷◌, ◌++◌, length, map, Some, None, Result, Ok, Err, String, string_bytes, Global, refl, sym, ap, ap₂, ◌∙◌}
 use Rattle.std.specs.declared.rc.Rc.{Rc}
 use Rattle.std.specs.List.{AllZip, list_any}
 use mathlib.Core.Path.{fun_ext}
 use Rattle.std.specs.Option.{option_or}
 use Rattle.tera_errors.specs.Site.{Name, Text}
-use Rattle.tera_errors.specs.Fault.{Fault}
+use Rattle.tera_errors.specs.Fault.{Fault, message, circular_include}
 use Rattle.tera_errors.specs.Answer.{Refusal, Says, SaysOneOf}
 use Rattle.tera_tree.specs.Delimiters.{Delims}
 use Rattle.tera_values.specs.Named.{Named, put_all}
 use Rattle.tera_meaning.specs.Registry.{Template, Entry, Registry, new_registry}
-use Rattle.tera_meaning.specs.Accepted.{fault_of_parents, includes_of, can_walk, fault_of_includes, template_fault, first_fault, missing, fault}
+use Rattle.tera_meaning.specs.Accepted.{fault_of_parents, includes_of, can_walk, fault_if, template_fault, first_fault, missing, fault}
+use Rattle.tera_meaning.specs.Components.{has_a_tie}
 use Rattle.tera_meaning.specs.Resolve.{parents}
 use Rattle.tera_meaning.specs.Adding.{unless_faulty, accepted}
 use Rattle.tera_registry.specs.declared.template.Template.{Template as Stored}
+use Rattle.std.specs.declared.collections.BTreeMap.{BTreeMap}
+use Rattle.tera_registry.specs.declared.choices.Choice.{Choice}
+use Rattle.tera_registry.specs.Choices.{AreChosen}
 use Rattle.tera_registry.specs.Batch.{ReadsBatch, Adds}
 use Rattle.tera_registry.specs.Put.{put_among, Puts}
 use Rattle.tera_registry.specs.Order.{Rises}
@@ -32,19 +36,20 @@ unfolding can_walk
 walks-same r zero t = refl
 walks-same r (suc n) t = ap (λ p. list_any p (includes_of r t)) (fun_ext (walks-same r n))
 
-fault-of-one-same : (r : Registry) (t : Entry) → template_fault r t ≡ template_fault (bare r.templates r.prefixes) t
+fault-of-one-same : (r : Registry) (before : List Entry) (t : Entry) → template_fault r before t ≡ template_fault (bare r.templates r.prefixes) before t
 unfolding template_fault
-fault-of-one-same r t =
-    ap (λ b. option_or (fault_of_parents (parents r t)) (fault_of_includes b)) (walks-same r (length r.templates) t)
+fault-of-one-same r before t =
+    ap (λ b. option_or (fault_of_parents (parents r t)) (option_or (fault_if b circular_include) (fault_if (has_a_tie r before t) message))) (walks-same r (length r.templates) t)
 
-first-same : (r : Registry) (es : List Entry) → first_fault r es ≡ first_fault (bare r.templates r.prefixes) es
+first-same : (r : Registry) (before es : List Entry) → first_fault r before es ≡ first_fault (bare r.templates r.prefixes) before es
 unfolding first_fault
-first-same r [] = refl
-first-same r (t ∷ es) = ap₂ option_or (fault-of-one-same r t) (first-same r es)
+first-same r before [] = refl
+first-same r before (t ∷ es) =
+    ap₂ option_or (fault-of-one-same r before t) (first-same r (before ++ t ∷ []) es)
 
 pub fault-same : (r : Registry) → fault r ≡ fault (bare r.templates r.prefixes)
 unfolding fault missing
-fault-same r = ap (λ o. option_or o (missing r)) (first-same r r.templates)
+fault-same r = ap (λ o. option_or o (missing r)) (first-same r [] r.templates)
 
 accepted-ok : (r : Registry) → accepted (bare r.templates r.prefixes) ≡ Ok (bare r.templates r.prefixes) → accepted r ≡ Ok r
 accepted-ok r e = ap (unless_faulty r) (fault-same r ∙ faultless (bare r.templates r.prefixes) e)
@@ -135,3 +140,6 @@ module _ (ts lent : List (Rc Stored Global)) (ps lent_ps : List (String Global))
   pub kept-linked : (roots : List ℕ) → AreRoots (seen lent lent_ps) roots (length lent) → IsLinked ts ps roots
   kept-linked roots a =
       let meant : AreRoots (seen ts ps) roots (length ts) = rw (e, f) at a in linked ts ps roots meant
+
+  pub kept-chosen : (choices : BTreeMap (String Global) Choice Global) → AreChosen (seen lent lent_ps) choices → AreChosen (seen ts ps) choices
+  kept-chosen choices a = rw (e, f) at a

@@ -1,16 +1,17 @@
 -- The parents of a template and those of the one that it extends, and who defines a block among them.
-use Rattle.std.proofs.Common.{◌≡◌, ℕ, zero, suc, ◌<◌, List, [], ◌∷◌, length, get_or, map, Option, Some, None, Result, Ok, Err, refl, sym, ap, ap₂, subst, ◌∙◌, arith, slice_get, option_map, String, Global}
+use Rattle.std.proofs.Common.{◌≡◌, ℕ, zero, suc, ◌<◌, List, [], ◌∷◌, ◌++◌, length, get_or, map, Option, Some, None, Result, Ok, Err, refl, sym, ap, ap₂, subst, ◌∙◌, arith, slice_get, option_map, String, Global}
 use Rattle.std.specs.declared.rc.Rc.{Rc}
 use Rattle.std.specs.List.{cons_option}
 use Rattle.std.specs.Option.{option_or}
 use Rattle.std.proofs.lemmas.Option.{slice_get_read, slice_get-map}
-use Rattle.tera_errors.specs.Fault.{Fault, circular_extend}
+use Rattle.tera_errors.specs.Fault.{Fault, message, circular_extend, circular_include}
 use Rattle.tera_errors.specs.Site.{Name}
 use Rattle.tera_tree.specs.Tree.{Nodes}
 use Rattle.tera_meaning.specs.Registry.{Registry, Entry}
 use Rattle.tera_meaning.specs.Resolve.{entry_at, onto, or_missing, or_none, up, resolve, parents}
 use Rattle.tera_meaning.specs.Lineage.{Definer, definers_in, ancestors}
-use Rattle.tera_meaning.specs.Accepted.{fault_of_parents, fault_of_includes, leads_into_a_circle, template_fault, first_fault, fault, is_none_left}
+use Rattle.tera_meaning.specs.Accepted.{fault_of_parents, fault_if, leads_into_a_circle, template_fault, first_fault, fault, is_none_left}
+use Rattle.tera_meaning.specs.Components.{has_a_tie}
 use Rattle.tera_code.specs.declared.blocks.Block.{Block}
 use Rattle.tera_code.specs.Code.{listing_of}
 use Rattle.tera_code.specs.Listing.{Listing}
@@ -94,22 +95,22 @@ faultless-parents : (o : Result (List Entry) Fault) → fault_of_parents o ≡ N
 faultless-parents (Ok ps) e = refl
 faultless-parents (Err g) e = (let x : Some g ≡ None = e in cc)
 
-one-grounded : (r : Registry) (t : Entry) → template_fault r t ≡ None → parents r t ≡ Ok (ancestors r t)
+one-grounded : (r : Registry) (before : List Entry) (t : Entry) → template_fault r before t ≡ None → parents r t ≡ Ok (ancestors r t)
 unfolding template_fault
-one-grounded r t none =
-    faultless-parents (parents r t) (none-each (fault_of_parents (parents r t)) (fault_of_includes (leads_into_a_circle r t)) none).0
+one-grounded r before t none =
+    faultless-parents (parents r t) (none-each (fault_of_parents (parents r t)) (option_or (fault_if (leads_into_a_circle r t) circular_include) (fault_if (has_a_tie r before t) message)) none).0
 
-each-grounded : (r : Registry) (es : List Entry) (i : ℕ) (t : Entry) → first_fault r es ≡ None → slice_get es i ≡ Some t → parents r t ≡ Ok (ancestors r t)
+each-grounded : (r : Registry) (before es : List Entry) (i : ℕ) (t : Entry) → first_fault r before es ≡ None → slice_get es i ≡ Some t → parents r t ≡ Ok (ancestors r t)
 unfolding first_fault
-each-grounded r [] i t none at = (let x : None ≡ Some t = at in cc)
-each-grounded r (e ∷ es) zero t none at =
+each-grounded r before [] i t none at = (let x : None ≡ Some t = at in cc)
+each-grounded r before (e ∷ es) zero t none at =
     (let x : e ≡ t = (let q : Some e ≡ Some t = at in cc) in
-    let ok : parents r e ≡ Ok (ancestors r e) = one-grounded r e (none-each (template_fault r e) (first_fault r es) none).0 in rw (← x) ok)
-each-grounded r (e ∷ es) (suc i) t none at =
-    each-grounded r es i t (none-each (template_fault r e) (first_fault r es) none).1 at
+    let ok : parents r e ≡ Ok (ancestors r e) = one-grounded r before e (none-each (template_fault r before e) (first_fault r (before ++ e ∷ []) es) none).0 in rw (← x) ok)
+each-grounded r before (e ∷ es) (suc i) t none at =
+    each-grounded r (before ++ e ∷ []) es i t (none-each (template_fault r before e) (first_fault r (before ++ e ∷ []) es) none).1 at
 
-pub grounded : (r : Registry) → first_fault r r.templates ≡ None → Grounded r
-grounded r none = record { each = λ i t at. each-grounded r r.templates i t none at }
+pub grounded : (r : Registry) → first_fault r [] r.templates ≡ None → Grounded r
+grounded r none = record { each = λ i t at. each-grounded r [] r.templates i t none at }
 
 -- Who defines a block, from a template on.
 

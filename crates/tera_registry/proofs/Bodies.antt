@@ -8,9 +8,11 @@ use Rattle.tera_tree.specs.declared.expression.Expression.{Expression}
 use Rattle.tera_tree.specs.declared.node.Node as declared
 use Rattle.tera_tree.specs.declared.node.SectionFilter.{SectionFilter}
 use Rattle.tera_tree.specs.declared.node.Node.TheVariants as variant
-use Rattle.tera_tree.specs.Tree.{If, Capture, FilterSection, Block}
-use Rattle.tera_tree.specs.View.{node_of, nodes_of, filters_of, expr_of, for_of}
-use Rattle.tera_tree.proofs.Views.{view_if, view_capture, view_section, view_for, view_block}
+use Rattle.tera_tree.specs.declared.expression.Entry.{Entry}
+use Rattle.tera_tree.specs.declared.component.Signature.{Signature}
+use Rattle.tera_tree.specs.Tree.{If, Capture, FilterSection, Block, ComponentCall, Definition}
+use Rattle.tera_tree.specs.View.{node_of, nodes_of, filters_of, entries_of, signature_of, expr_of, for_of}
+use Rattle.tera_tree.proofs.Views.{view_if, view_capture, view_section, view_for, view_block, view_component_call, view_definition}
 
 -- some are found, and others are to come
 pub append-more : {X : Type 0} (old mid some others whole : List X) → whole ≡ some ++ others → mid ≡ old ++ some → mid ++ others ≡ old ++ whole
@@ -44,3 +46,11 @@ node_section node fs body xs is a =
 pub node_block : (node : declared.Node) (name : Bor (List ℕ)) (body : Vec declared.Node Global) (span : Span) (xs : List declared.Node) → node ≡ variant.Block name body span → xs ≡ body.items → node_of node ≡ Block name.now (nodes_of xs) span
 node_block node name body span xs is a =
     ap node_of is ∙ view_block name body span ∙ ap (λ x. Block name.now (nodes_of x) span) (sym a)
+
+pub node_call : (node : declared.Node) (name : Bor (List ℕ)) (attributes : Vec Entry Global) (body : Vec declared.Node Global) (span : Span) (xs : List declared.Node) → node ≡ variant.ComponentCall name attributes body span → xs ≡ body.items → node_of node ≡ ComponentCall name.now (entries_of attributes.items) (nodes_of xs) span
+node_call node name attributes body span xs is a =
+    ap node_of is ∙ view_component_call name attributes body span ∙ ap (λ x. ComponentCall name.now (entries_of attributes.items) (nodes_of x) span) (sym a)
+
+pub node_definition : (node : declared.Node) (signature : Box Signature Global) (body : Vec declared.Node Global) (xs : List declared.Node) → node ≡ variant.Definition signature body → xs ≡ body.items → node_of node ≡ Definition (signature_of signature.value) (nodes_of xs)
+node_definition node signature body xs is a =
+    ap node_of is ∙ view_definition signature body ∙ ap (λ x. Definition (signature_of signature.value) (nodes_of x)) (sym a)

@@ -1,57 +1,74 @@
 -- The first fault of templates, one after another.
-use Rattle.std.proofs.Common.{◌≡◌, ℕ, ◌+◌, ◌≤◌, Bool, true, false, if◌then◌else◌, List, length, drop, Option, Some, None, Ok, Err, refl, ap, ◌∙◌, slice_get}
+use Rattle.std.proofs.Common.{◌≡◌, ℕ, ◌+◌, ◌≤◌, Bool, true, false, if◌then◌else◌, List, [], length, take, drop, Option, Some, None, Result, Ok, Err, refl, sym, ap, ap₂, ◌∙◌, slice_get}
 use Rattle.std.specs.Option.{option_or}
 use Rattle.std.specs.List.{list_any}
 use Rattle.std.proofs.lemmas.List.{drop_all}
 use Rattle.tera_errors.specs.Fault.{Fault, message, circular_include}
-use Rattle.tera_errors.specs.Answer.{Refusal, Says}
+use Rattle.tera_errors.specs.Answer.{Refusal, Says, Tells}
 use Rattle.tera_meaning.specs.Registry.{Registry, Entry}
 use Rattle.tera_meaning.specs.Resolve.{parents}
-use Rattle.tera_meaning.specs.Accepted.{fault_of_parents, fault_of_includes, leads_into_a_circle, template_fault, first_fault, lacks_something, missing, fault}
+use Rattle.tera_meaning.specs.Accepted.{fault_of_parents, fault_if, leads_into_a_circle, template_fault, first_fault, lacks_something, missing, fault}
+use Rattle.tera_meaning.specs.Components.{has_a_tie}
 use Rattle.tera_meaning.specs.Adding.{unless_faulty, accepted}
+use Rattle.tera_registry.specs.Choices.{ties_at}
 use Rattle.tera_registry.specs.Links.{climbed}
-use Rattle.tera_registry.proofs.Rows.{drop-at}
+use Rattle.tera_registry.proofs.Rows.{drop-at, take-more}
 
 -- The templates before a place have no fault.
 pub record Checked (r : Registry) (i : ℕ) : Type 0 where
-  pub is : first_fault r r.templates ≡ first_fault r (drop i r.templates)
+  pub is : first_fault r [] r.templates ≡ first_fault r (take i r.templates) (drop i r.templates)
 
 pub checked-begins : (r : Registry) → Checked r 0
 checked-begins r = record { is = refl }
 
-next : (r : Registry) (i : ℕ) (t : Entry) → Checked r i → slice_get r.templates i ≡ Some t → first_fault r r.templates ≡ option_or (template_fault r t) (first_fault r (drop (i + 1) r.templates))
+next : (r : Registry) (i : ℕ) (t : Entry) → Checked r i → slice_get r.templates i ≡ Some t → first_fault r [] r.templates ≡ option_or (template_fault r (take i r.templates) t) (first_fault r (take (i + 1) r.templates) (drop (i + 1) r.templates))
 unfolding first_fault
-next r i t c at = c.is ∙ ap (first_fault r) (drop-at r.templates i t at)
+next r i t c at =
+    let before = take i r.templates in
+    c.is ∙ ap (first_fault r before) (drop-at r.templates i t at) ∙ ap (λ b. option_or (template_fault r before t) (first_fault r b (drop (i + 1) r.templates))) (take-more r.templates i t at)
 
--- a template has the fault of its parents, and else that of its includes
-parents-fault : (r : Registry) (t : Entry) (f : Fault) → parents r t ≡ Err f → template_fault r t ≡ Some f
+-- a template has the fault of its parents, else that of its includes, and else that of its components
+parents-fault : (r : Registry) (before : List Entry) (t : Entry) (f : Fault) → parents r t ≡ Err f → template_fault r before t ≡ Some f
 unfolding template_fault
-parents-fault r t f e = ap (λ o. option_or (fault_of_parents o) (fault_of_includes (leads_into_a_circle r t))) e
+parents-fault r before t f e =
+    ap (λ o. option_or (fault_of_parents o) (option_or (fault_if (leads_into_a_circle r t) circular_include) (fault_if (has_a_tie r before t) message))) e
 
-includes-fault : (r : Registry) (t : Entry) (ps : List Entry) (leads : Bool) → parents r t ≡ Ok ps → leads_into_a_circle r t ≡ leads → template_fault r t ≡ fault_of_includes leads
+later-fault : (r : Registry) (before : List Entry) (t : Entry) (ps : List Entry) (leads ties : Bool) → parents r t ≡ Ok ps → leads_into_a_circle r t ≡ leads → has_a_tie r before t ≡ ties → template_fault r before t ≡ option_or (fault_if leads circular_include) (fault_if ties message)
 unfolding template_fault
-includes-fault r t ps leads e is =
-    ap (λ o. option_or (fault_of_parents o) (fault_of_includes (leads_into_a_circle r t))) e ∙ ap fault_of_includes is
+later-fault r before t ps leads ties e l b =
+    ap (λ o. option_or (fault_of_parents o) (option_or (fault_if (leads_into_a_circle r t) circular_include) (fault_if (has_a_tie r before t) message))) e ∙ ap₂ (λ x y. option_or (fault_if x circular_include) (fault_if y message)) l b
 
-pub checked-on : (r : Registry) (i : ℕ) (t : Entry) (ps : List Entry) → Checked r i → slice_get r.templates i ≡ Some t → parents r t ≡ Ok ps → leads_into_a_circle r t ≡ false → Checked r (i + 1)
-checked-on r i t ps c at e none = record {
-  is = next r i t c at ∙ ap (λ o. option_or o (first_fault r (drop (i + 1) r.templates))) (includes-fault r t ps false e none);
+pub checked-on : (r : Registry) (i : ℕ) (t : Entry) (ps : List Entry) → Checked r i → slice_get r.templates i ≡ Some t → parents r t ≡ Ok ps → leads_into_a_circle r t ≡ false → ties_at r i t ≡ false → Checked r (i + 1)
+checked-on r i t ps c at e leads ties = record {
+  is = next r i t c at ∙ ap (λ o. option_or o (first_fault r (take (i + 1) r.templates) (drop (i + 1) r.templates))) (later-fault r (take i r.templates) t ps false false e leads ties);
 }
 
-checked-fault : (r : Registry) (i : ℕ) (t : Entry) (f : Fault) → Checked r i → slice_get r.templates i ≡ Some t → template_fault r t ≡ Some f → climbed r ≡ Err f
+checked-fault : (r : Registry) (i : ℕ) (t : Entry) (f : Fault) → Checked r i → slice_get r.templates i ≡ Some t → template_fault r (take i r.templates) t ≡ Some f → climbed r ≡ Err f
 checked-fault r i t f c at e =
-    ap (unless_faulty r) (next r i t c at ∙ ap (λ o. option_or o (first_fault r (drop (i + 1) r.templates))) e)
+    ap (unless_faulty r) (next r i t c at ∙ ap (λ o. option_or o (first_fault r (take (i + 1) r.templates) (drop (i + 1) r.templates))) e)
 
 pub checked-says : (e : Refusal) (r : Registry) (i : ℕ) (t : Entry) → Checked r i → slice_get r.templates i ≡ Some t → Says e (parents r t) → Says e (climbed r)
 checked-says None r i t c at says = tt
-checked-says (Some f) r i t c at says = checked-fault r i t f c at (parents-fault r t f says)
+checked-says (Some f) r i t c at says =
+    checked-fault r i t f c at (parents-fault r (take i r.templates) t f says)
 
 pub checked-circle : (r : Registry) (i : ℕ) (t : Entry) (ps : List Entry) → Checked r i → slice_get r.templates i ≡ Some t → parents r t ≡ Ok ps → leads_into_a_circle r t ≡ true → climbed r ≡ Err circular_include
-checked-circle r i t ps c at e leads = checked-fault r i t circular_include c at (includes-fault r t ps true e leads)
+checked-circle r i t ps c at e leads =
+    checked-fault r i t circular_include c at (later-fault r (take i r.templates) t ps true (ties_at r i t) e leads refl)
+
+pub checked-tie : (r : Registry) (i : ℕ) (t : Entry) (ps : List Entry) → Checked r i → slice_get r.templates i ≡ Some t → parents r t ≡ Ok ps → leads_into_a_circle r t ≡ false → ties_at r i t ≡ true → climbed r ≡ Err message
+checked-tie r i t ps c at e leads ties =
+    checked-fault r i t message c at (later-fault r (take i r.templates) t ps false true e leads ties)
+
+-- a message is the fault where the answer is one
+pub told : {A : Type 0} (e : Refusal) (answer : Result A Fault) → Tells e message → answer ≡ Err message → Says e answer
+told None answer tells is = tt
+told (Some f) answer tells is = is ∙ ap Err (sym tells)
 
 pub checked-all : (r : Registry) (i : ℕ) → Checked r i → length r.templates ≤ i → climbed r ≡ Ok r
 unfolding first_fault
-checked-all r i c over = ap (unless_faulty r) (c.is ∙ ap (first_fault r) (drop_all i r.templates over))
+checked-all r i c over =
+    ap (unless_faulty r) (c.is ∙ ap (first_fault r (take i r.templates)) (drop_all i r.templates over))
 
 faultless-by : (r : Registry) (o : Option Fault) → unless_faulty r o ≡ Ok r → o ≡ None
 faultless-by r None e = refl
@@ -69,14 +86,14 @@ faulty r f e = faulty-by r (fault r) f e
 
 -- Parents first, and then what is missing.
 
-pub climbed-faultless : (r : Registry) → climbed r ≡ Ok r → first_fault r r.templates ≡ None
-climbed-faultless r e = faultless-by r (first_fault r r.templates) e
+pub climbed-faultless : (r : Registry) → climbed r ≡ Ok r → first_fault r [] r.templates ≡ None
+climbed-faultless r e = faultless-by r (first_fault r [] r.templates) e
 
 pub climbed-says : (e : Refusal) (r : Registry) → Says e (climbed r) → Says e (accepted r)
 unfolding fault
 climbed-says None r says = tt
 climbed-says (Some f) r says =
-    ap (λ o. unless_faulty r (option_or o (missing r))) (faulty-by r (first_fault r r.templates) f says)
+    ap (λ o. unless_faulty r (option_or o (missing r))) (faulty-by r (first_fault r [] r.templates) f says)
 
 missing-is : (r : Registry) (b : Bool) (o : Option Fault) → (if b then Some message else None) ≡ o → list_any (lacks_something r) r.templates ≡ b → missing r ≡ o
 unfolding missing
@@ -98,6 +115,6 @@ none-first None p e = refl
 none-first (Some f) p e = (let q : Some f ≡ None = e in cc)
 
 -- where the whole has no fault, no template has one
-pub no-first-fault : (r : Registry) → fault r ≡ None → first_fault r r.templates ≡ None
+pub no-first-fault : (r : Registry) → fault r ≡ None → first_fault r [] r.templates ≡ None
 unfolding fault
-no-first-fault r none = none-first (first_fault r r.templates) (missing r) none
+no-first-fault r none = none-first (first_fault r [] r.templates) (missing r) none

@@ -1,7 +1,6 @@
 -- Edges between places are includes between templates, and walks along the ones are walks along the others.
-use Rattle.std.proofs.Common.{◌≡◌, ℕ, zero, suc, ◌+◌, ◌≤◌, Bool, true, false, ◌||◌, List, [], ◌∷◌, length, Option, Some, None, Vec, String, Global, inl, inr, refl, sym, ap, ◌∙◌, arith, slice_get}
+use Rattle.std.proofs.Common.{◌≡◌, ℕ, zero, suc, Bool, ◌||◌, List, [], ◌∷◌, length, Option, Some, None, Vec, String, Global, refl, sym, ap, ◌∙◌, arith, slice_get}
 use Rattle.std.specs.List.{list_any, cons_option}
-use Rattle.std.proofs.lemmas.Bool.{cases_lt}
 use Rattle.std.proofs.lemmas.Option.{slice_get_within}
 use Rattle.tera_meaning.specs.Registry.{Registry, Entry}
 use Rattle.tera_meaning.specs.Accepted.{can_walk, leads_into_a_circle}
@@ -43,28 +42,3 @@ first_circle r edges None a least = λ i t at.
     sym (circles-leads r edges a i t at) ∙ least i (omega (arith, a.as_many, slice_get_within r.templates i t at))
 first_circle r edges (Some c) a least =
     ((λ i t lt at. sym (circles-leads r edges a i t at) ∙ least.2 i lt), (λ t at. sym (circles-leads r edges a c t at) ∙ least.1))
-
--- Templates are linked one after another, up to the first that leads into a circle.
-
--- no place before this one is that of the circle
-abbrev pub NotPast : Option ℕ → ℕ → Type 0
-NotPast circle place = (c : ℕ) → circle ≡ Some c → place ≤ c
-
-pub not-past-more : (circle : Option ℕ) (place : ℕ) → NotPast circle place → (circle ≡ Some place → ⊥) → NotPast circle (place + 1)
-not-past-more circle place before not = λ c is.
-    elim (cases_lt place c) [
-      | inl lt ↦ omega arith
-      | inr after ↦ (let e : c ≡ place = omega (arith, before c is) in absurd (not (is ∙ ap Some e)))
-    ]
-
-pub leads-here : (r : Registry) (circle : Option ℕ) (place : ℕ) (t : Entry) → IsFirstCircle r circle → circle ≡ Some place → slice_get r.templates place ≡ Some t → leads_into_a_circle r t ≡ true
-leads-here r None place t first is at = (let q : None ≡ Some place = is in cc)
-leads-here r (Some c) place t first is at =
-    (let q : Some c ≡ Some place = is in
-    let e : c ≡ place = cc in
-    first.1 t (ap (slice_get r.templates) e ∙ at))
-
-pub leads-nowhere : (r : Registry) (circle : Option ℕ) (place : ℕ) (t : Entry) → IsFirstCircle r circle → NotPast circle place → (circle ≡ Some place → ⊥) → slice_get r.templates place ≡ Some t → leads_into_a_circle r t ≡ false
-leads-nowhere r None place t first before not at = first place t at
-leads-nowhere r (Some c) place t first before not at =
-    first.0 place t (let le = not-past-more (Some c) place before not c refl in omega arith) at

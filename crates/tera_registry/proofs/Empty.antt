@@ -1,8 +1,14 @@
 -- No templates.
-use Rattle.std.proofs.Common.{◌≡◌, ℕ, List, [], Some, None, Global, String, refl}
+use Rattle.std.proofs.Common.{◌≡◌, ℕ, List, [], Some, None, Global, String, string_bytes, nat_cmp, refl, ap}
 use Rattle.std.specs.declared.rc.Rc.{Rc}
 use Rattle.tera_meaning.specs.Accepted.{fault, first_fault, missing}
 use Rattle.tera_registry.specs.declared.template.Template.{Template as Stored}
+use Rattle.std.specs.declared.collections.BTreeMap.{BTreeMap}
+use Rattle.std.specs.Map.{lookup}
+use Rattle.std.specs.Ordering.{is_eq}
+use Rattle.std.specs.Cmp.Lexicographic.{slice_cmp}
+use Rattle.tera_registry.specs.declared.choices.Choice.{Choice}
+use Rattle.tera_registry.specs.Choices.{chosen, AreChosen}
 use Rattle.tera_registry.specs.Order.{Rises}
 use Rattle.tera_registry.specs.Links.{IsLinked}
 use Rattle.tera_registry.specs.Kept.{entries_of, seen}
@@ -23,3 +29,8 @@ none-linked ts ps roots e f = rw (e, f) (record {
   inside = λ i k got. (let q : None ≡ Some k = got in cc);
   those = λ i k t u got. (let q : None ≡ Some k = got in cc);
 })
+
+pub none-chosen : (ts : List (Rc Stored Global)) (ps : List (String Global)) (choices : BTreeMap (String Global) Choice Global) → ts ≡ [] → choices.entries ≡ [] → AreChosen (seen ts ps) choices
+none-chosen ts ps choices e f = λ q.
+    let none : chosen choices q ≡ None = ap (lookup (λ k. is_eq (slice_cmp nat_cmp q (string_bytes k)))) f in
+    rw e none

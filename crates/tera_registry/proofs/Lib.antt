@@ -4,6 +4,7 @@ pub mod Rows
 pub mod Placed
 pub mod Kept
 pub mod Lacking
+pub mod Calling
 pub mod Resolved
 pub mod Climb
 pub mod Linked
@@ -20,3 +21,11 @@ pub mod Ways
 pub mod Turn
 pub mod Filled
 pub mod Circles
+pub mod First
+pub mod Priorities
+pub mod Best
+pub mod Chosen
+pub mod Choosing
+pub mod Definitions
+pub mod Besides
+pub mod Listed

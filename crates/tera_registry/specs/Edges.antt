@@ -1,7 +1,8 @@
 -- What templates include, by place. No public contract speaks of it.
-use Rattle.std.specs.Prelude.{◌≡◌, ◌<◌, ℕ, true, false, List, length, filter_map, slice_get, slice_index_or, Option, Some, None}
+use Rattle.std.specs.Prelude.{◌≡◌, ◌<◌, ℕ, List, length, filter_map, slice_get, slice_index_or, Option, Some}
 use Rattle.tera_meaning.specs.Registry.{Registry, Entry}
 use Rattle.tera_meaning.specs.Accepted.{includes_of, leads_into_a_circle}
+use Rattle.tera_registry.specs.First.{IsFirstOne}
 use Rattle.tera_registry.specs.Walks.{targets, target}
 
 -- those that stand at these places
@@ -20,7 +21,4 @@ pub record AreEdges (r : Registry) (edges : List (List ℕ)) (many : ℕ) : Type
 
 -- there stands the first template that leads into a circle, or nowhere where none does
 abbrev pub IsFirstCircle : Registry → Option ℕ → Type 0
-IsFirstCircle r None = (i : ℕ) (t : Entry) → slice_get r.templates i ≡ Some t → leads_into_a_circle r t ≡ false
-IsFirstCircle r (Some c) =
-    ((i : ℕ) (t : Entry) → i < c → slice_get r.templates i ≡ Some t → leads_into_a_circle r t ≡ false)
-    × ((t : Entry) → slice_get r.templates c ≡ Some t → leads_into_a_circle r t ≡ true)
+IsFirstCircle r = IsFirstOne r (λ place t. leads_into_a_circle r t)

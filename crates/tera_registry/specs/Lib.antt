@@ -2,9 +2,13 @@ pub mod Order
 pub mod Places
 pub mod Code
 pub mod Kept
+pub mod Components
+pub mod Choices
+pub mod Beside
 pub mod Known
 pub mod Batch
 pub mod Put
+pub mod First
 pub mod Walks
 pub mod Edges
 pub mod Links

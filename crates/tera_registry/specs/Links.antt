@@ -19,7 +19,7 @@ use Rattle.tera_registry.specs.Kept.{entries_of, seen}
 
 -- a registry in which each template has all its parents, or the first fault of one
 abbrev pub climbed : Registry → Result Registry Fault
-climbed r = unless_faulty r (first_fault r r.templates)
+climbed r = unless_faulty r (first_fault r [] r.templates)
 
 -- the place of the template that one extends
 abbrev pub IsUp : Registry → Up → Option Name → Type 0

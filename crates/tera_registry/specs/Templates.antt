@@ -5,12 +5,15 @@ use Rattle.tera_values.specs.Named.{Named}
 use Rattle.tera_meaning.specs.Registry.{Template, Entry, Registry}
 use Rattle.tera_meaning.specs.Resolve.{resolve, root}
 use Rattle.tera_meaning.specs.Lineage.{Definer}
+use Rattle.tera_meaning.specs.Components.{Component}
+use Rattle.tera_components.specs.Definition.{definition_of}
 use Rattle.tera_code.specs.Code.{listing_of}
 use Rattle.tera_registry.specs.declared.templates.Templates.{Templates}
 use Rattle.tera_registry.specs.declared.templates.Found.{Found}
 use Rattle.tera_registry.specs.declared.templates.Start.{Start}
 use Rattle.tera_registry.specs.declared.templates.Definers.{Definers}
 use Rattle.tera_registry.specs.declared.templates.Definer.{Definer as Nearest}
+use Rattle.tera_registry.specs.declared.templates.Defined.{Defined}
 use Rattle.tera_registry.specs.Kept.{entries_of, seen}
 use Rattle.tera_registry.specs.Definers.{from_place, above_place}
 
@@ -65,3 +68,14 @@ pub record IsNearest (ds : List Definer) (nearest : Nearest) : Type 0 where
 abbrev pub AreNext : List Definer → Option Nearest → Type 0
 AreNext ds None = ds ≡ []
 AreNext ds (Some nearest) = IsNearest ds nearest
+
+-- what is found of a component is what its signature says, and the code of its body in the text of its template
+pub record IsKept (c : Component) (found : Defined) : Type 0 where
+  pub given : found.definition.now ≡ definition_of c.signature
+  pub code : found.chunk.now ≡ listing_of c.file c.body
+
+-- what is found of the component of a name
+abbrev pub IsDefined : Option Component → Option Defined → Type 0
+IsDefined c None = c ≡ None
+IsDefined None (Some found) = ⊥
+IsDefined (Some c) (Some found) = IsKept c found

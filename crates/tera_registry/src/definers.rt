@@ -1,10 +1,12 @@
 // Who defines a block for a template, and which blocks are lost.
-ghost use Rattle.std.specs.Prelude.{◌≡◌, ◌<◌, ◌∷◌, length, slice_get, Some, Ok};
+ghost use Rattle.std.specs.Prelude.{◌≡◌, ◌<◌, ◌∷◌, not, is_some, length, slice_get, Some, Ok};
 ghost use Rattle.std.specs.List.{list_any};
-ghost use Rattle.tera_meaning.specs.Accepted.{loses_a_block, lacks_something, includes_of, misses_an_include};
+ghost use Rattle.tera_meaning.specs.Accepted.{loses_a_block, lacks_something, is_component, includes_of, misses_an_include};
+ghost use Rattle.tera_meaning.specs.Known.{lacks_a_callee};
 ghost use Rattle.tera_meaning.specs.Lineage.{ancestors, definers_in};
 ghost use Rattle.tera_meaning.specs.Registry.{Entry, Registry};
 ghost use Rattle.tera_meaning.specs.Resolve.{entry_at, parents};
+ghost use Rattle.tera_registry.specs.Choices.{chosen, AreChosen};
 ghost use Rattle.tera_registry.specs.Definers.{IsFirst, Grounded, blocks_of};
 ghost use Rattle.tera_registry.specs.Edges.{AreEdges};
 ghost use Rattle.tera_registry.specs.Order.{Rises};
@@ -12,8 +14,10 @@ ghost use Rattle.tera_registry.specs.Places.{IsPlace};
 ghost use Rattle.tera_registry.specs.Kept.{entry_of, entries_of, seen};
 ghost use Rattle.tera_registry.specs.Walks.{rows};
 
+use crate::choices::Choice;
 use crate::lineage::{Up, above};
 use crate::template::Template;
+use std::collections::BTreeMap;
 use std::rc::Rc;
 use tera_values::Sought;
 
@@ -118,33 +122,65 @@ fn misses(of: &Template, included: usize) -> bool
     included < of.includes.len()
 }
 
+/// Whether a template calls a component that nobody defines.
+fn misses_a_component(choices: &BTreeMap<String, Choice>, of: &Template) -> bool
+    ensures { result ≡ list_any (λ n. not (is_some (chosen choices.now n)))
+        of.now.component_calls.items }
+{
+    of.component_calls
+        .iter()
+        .any(|name| !choices.contains_key(name.as_str()))
+}
+
+/// Whether a template calls what is not there.
+fn misses_a_callee(choices: &BTreeMap<String, Choice>, of: &Template) -> bool
+    ensures { (r : Registry) → AreChosen r choices.now
+        → result ≡ lacks_a_callee (is_component r) (entry_of of.now).1.tree.nodes }
+{
+    of.lacks || misses_a_component(choices, of)
+}
+
 /// Whether a template names what is not there: a block that is never put out, or what it calls or includes. So many of
 /// those that it includes are there.
-fn lacks(templates: &[Rc<Template>], prefixes: &[String], of: &Template, included: usize) -> bool
+fn lacks(
+    templates: &[Rc<Template>],
+    prefixes: &[String],
+    of: &Template,
+    included: usize,
+    choices: &BTreeMap<String, Choice>,
+) -> bool
     requires rises { Rises (entries_of templates.now) }
     requires grounded { Grounded (seen templates.now prefixes.now) }
     requires parents { parents (seen templates.now prefixes.now) (entry_of of.now)
         ≡ Ok (ancestors (seen templates.now prefixes.now) (entry_of of.now)) }
     requires included { included
         ≡ length (includes_of (seen templates.now prefixes.now) (entry_of of.now)) }
+    requires choices { AreChosen (seen templates.now prefixes.now) choices.now }
     ensures { result ≡ lacks_something (seen templates.now prefixes.now) (entry_of of.now) }
 {
-    loses(templates, prefixes, of) || of.lacks || misses(of, included)
+    loses(templates, prefixes, of) || misses_a_callee(choices, of) || misses(of, included)
 }
 
-/// Whether any template names what is not there, where this is what each includes.
-pub fn any_lacks(templates: &[Rc<Template>], prefixes: &[String], edges: &[Vec<usize>]) -> bool
+/// Whether any template names what is not there, where this is what each includes, and these are the definitions of
+/// components that are taken.
+pub fn any_lacks(
+    templates: &[Rc<Template>],
+    prefixes: &[String],
+    edges: &[Vec<usize>],
+    choices: &BTreeMap<String, Choice>,
+) -> bool
     requires rises { Rises (entries_of templates.now) }
     requires grounded { Grounded (seen templates.now prefixes.now) }
     requires edges { let r = seen templates.now prefixes.now in
         AreEdges r (rows edges.now) (length templates.now) }
     requires as_many { length edges.now ≡ length templates.now }
+    requires choices { AreChosen (seen templates.now prefixes.now) choices.now }
     ensures { result ≡ list_any (lacks_something (seen templates.now prefixes.now))
         (entries_of templates.now) }
 {
     for place in 0..templates.len() {
         let template: &Template = &templates[place];
-        if lacks(templates, prefixes, template, edges[place].len()) {
+        if lacks(templates, prefixes, template, edges[place].len(), choices) {
             return true;
         }
     }

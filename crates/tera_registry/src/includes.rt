@@ -59,6 +59,8 @@ fn add(alloc: Global, node: &Node, found: &mut Vec<Name>) -> TeraResult<()>
         Node::Capture { body, .. } => add_all(alloc, body.as_slice(), found),
         Node::FilterSection { body, .. } => add_all(alloc, body.as_slice(), found),
         Node::Block { body, .. } => add_all(alloc, body.as_slice(), found),
+        Node::ComponentCall { body, .. } => add_all(alloc, body.as_slice(), found),
+        Node::Definition { body, .. } => add_all(alloc, body.as_slice(), found),
         Node::Include { name, .. } => {
             found.push(Name::new(alloc, name.as_str())?)?;
             Ok(())
@@ -105,6 +107,8 @@ fn node_misses(templates: &[Rc<Template>], prefixes: &[String], node: &Node) -> 
         Node::Capture { body, .. } => misses(templates, prefixes, body.as_slice()),
         Node::FilterSection { body, .. } => misses(templates, prefixes, body.as_slice()),
         Node::Block { body, .. } => misses(templates, prefixes, body.as_slice()),
+        Node::ComponentCall { body, .. } => misses(templates, prefixes, body.as_slice()),
+        Node::Definition { body, .. } => misses(templates, prefixes, body.as_slice()),
         Node::Include { name, .. } => resolve(templates, prefixes, name.as_str()).is_none(),
         Node::Content { .. }
         | Node::Print { .. }

@@ -1,23 +1,23 @@
 // What code calls that is not there.
-ghost use Rattle.std.specs.Prelude.{◌≡◌, ℕ, option_and_then, slice_get};
+ghost use Rattle.std.specs.Prelude.{◌≡◌, true, option_and_then, slice_get};
 ghost use Rattle.std.specs.List.{list_any};
-ghost use Rattle.tera_tree.specs.Tree.{Nodes};
 ghost use Rattle.tera_code.specs.Called.{callee_of, called_by};
-ghost use Rattle.tera_code.specs.Code.{nodes_code};
-ghost use Rattle.tera_meaning.specs.Known.{is_known, has_unknown};
+ghost use Rattle.tera_meaning.specs.Known.{is_known};
 ghost use Rattle.tera_registry.specs.Known.{is_missing, code_lacks, bodies_lack};
 
+use crate::components::Component;
 use tera_built_ins::{BuiltInFilter, BuiltInFunction, BuiltInTest};
 use tera_code::{Block, Callee, Chunk};
 
-/// Whether there is such a filter, test or function.
+/// Whether there is such a filter, test or function; components are taken to be there.
 fn is_known(callee: Callee<'_>) -> bool
-    ensures { result ≡ is_known (callee_of callee.entry) }
+    ensures { result ≡ is_known (λ name. true) (callee_of callee.entry) }
 {
     match callee {
         Callee::Filter(name) => BuiltInFilter::named(name).is_some(),
         Callee::Test(name) => BuiltInTest::named(name).is_some(),
         Callee::Function(name) => BuiltInFunction::named(name).is_some(),
+        Callee::Component(_) => true,
     }
 }
 
@@ -43,14 +43,6 @@ fn code_lacks(chunk: &Chunk) -> bool
     false
 }
 
-/// Whether the body whose code this is calls a filter, a test or a function that is not there.
-#[tactic(auto, using(crate::proofs::Lacking::code_lacks_as_nodes))]
-pub fn lacks_a_callee(chunk: &Chunk) -> bool
-    ensures { (nodes : Nodes) → chunk.now.code ≡ nodes_code nodes 0 → result ≡ has_unknown nodes }
-{
-    code_lacks(chunk)
-}
-
 /// Whether the code of a block calls what is not there.
 fn any_block_lacks(blocks: &[Block]) -> bool
     ensures { result ≡ list_any (λ b. code_lacks b.code.code) blocks.now }
@@ -58,12 +50,24 @@ fn any_block_lacks(blocks: &[Block]) -> bool
     blocks.iter().any(|block| code_lacks(&block.code))
 }
 
-/// Whether the code of a body, or that of a block, calls what is not there.
-pub fn any_lacks(body: &Chunk, blocks: &[Block]) -> bool
-    ensures { result ≡ bodies_lack body.now blocks.now }
+/// Whether the code of a component calls what is not there.
+fn any_component_lacks(components: &[Component]) -> bool
+    ensures { result ≡ list_any (λ c. code_lacks c.code.code) components.now }
+{
+    components
+        .iter()
+        .any(|component| code_lacks(&component.code))
+}
+
+/// Whether the code of a body, that of a block, or that of a component calls what is not there.
+pub fn any_lacks(body: &Chunk, blocks: &[Block], components: &[Component]) -> bool
+    ensures { result ≡ bodies_lack body.now blocks.now components.now }
 {
     if code_lacks(body) {
         return true;
     }
-    any_block_lacks(blocks)
+    if any_block_lacks(blocks) {
+        return true;
+    }
+    any_component_lacks(components)
 }

@@ -3,6 +3,10 @@
 #![tactic(auto)]
 
 mod batch;
+mod beside;
+mod calls;
+mod choices;
+pub mod components;
 mod definers;
 mod edges;
 mod includes;
@@ -11,10 +15,11 @@ mod lineage;
 mod link;
 mod meant;
 mod names;
+mod priority;
 mod template;
 pub mod templates;
 pub mod tops;
 mod walks;
 
-pub use known::lacks_a_callee;
-pub use templates::{Definer, Definers, Found, Templates};
+pub use components::Component;
+pub use templates::{Defined, Definer, Definers, Found, Templates};

@@ -2,6 +2,7 @@
 ghost use Rattle.std.specs.Prelude.{◌≡◌, ◌≢◌, ◌<◌, ◌≤◌, length, slice_get, IfOk, Some, true, false};
 ghost use Rattle.tera_errors.specs.Answer.{Gives};
 ghost use Rattle.tera_meaning.specs.Registry.{Registry, Entry};
+ghost use Rattle.tera_registry.specs.Choices.{IsFirstTie};
 ghost use Rattle.tera_registry.specs.Edges.{IsFirstCircle};
 ghost use Rattle.tera_registry.specs.Order.{Rises};
 ghost use Rattle.tera_registry.specs.Links.{IsUp, AreUps, Inside, Stands, IsTop, AreTops, IsFurther, AreRoots, climbed};
@@ -134,27 +135,29 @@ fn note(ups: &[Up], tops: &mut [Option<Top>], of: usize, top: Top)
     });
 }
 
-/// Whether the first template that leads into a circle stands at a place.
-fn is_at(circle: Option<usize>, place: usize) -> bool
-    ensures there { result ≡ true → circle ≡ Some place }
-    ensures not_there { result ≡ false → circle ≢ Some place }
+/// Whether what was looked for stands at a place.
+fn is_at(found: Option<usize>, place: usize) -> bool
+    ensures there { result ≡ true → found ≡ Some place }
+    ensures not_there { result ≡ false → found ≢ Some place }
 {
-    match circle {
+    match found {
         None => false,
         Some(other) => other == place,
     }
 }
 
 /// The place of the last parent of each template, or the first fault by name, where it is known at which place the first
-/// template stands that leads into a circle.
+/// template stands that leads into a circle, and at which the first that ties with another.
 pub fn roots(
     alloc: Global,
     templates: &[Rc<Template>],
     prefixes: &[String],
     circle: Option<usize>,
+    tie: Option<usize>,
 ) -> TeraResult<Vec<usize>>
     requires rises { Rises (entries_of templates.now) }
     requires circle { IsFirstCircle (seen templates.now prefixes.now) circle }
+    requires tie { IsFirstTie (seen templates.now prefixes.now) tie }
     ensures answer { Gives (λ _. seen templates.now prefixes.now) result (climbed (seen templates.now prefixes.now)) }
     ensures roots { IfOk result (λ v. AreRoots (seen templates.now prefixes.now) v.items (length templates.now)) }
 {
@@ -168,6 +171,12 @@ pub fn roots(
             Ok(top) => {
                 if is_at(circle, place) {
                     return Err(Error::circular_include());
+                }
+                if is_at(tie, place) {
+                    return Err(Error::message(
+                        alloc,
+                        "two templates define a component, and neither is preferred",
+                    ));
                 }
                 note(ups, tops, place, top);
                 roots.push(top.root)?;

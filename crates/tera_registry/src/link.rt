@@ -3,42 +3,49 @@ ghost use Rattle.std.specs.Prelude.{length, IfOk};
 ghost use Rattle.tera_errors.specs.Answer.{Gives};
 ghost use Rattle.tera_meaning.specs.Adding.{accepted};
 ghost use Rattle.tera_registry.specs.Order.{Rises};
+ghost use Rattle.tera_registry.specs.Choices.{AreChosen};
 ghost use Rattle.tera_registry.specs.Links.{AreRoots};
 ghost use Rattle.tera_registry.specs.Kept.{entries_of, seen};
 
+use crate::choices::{Choice, Taken, choices};
 use crate::definers::any_lacks;
 use crate::edges::edges;
 use crate::lineage::roots;
 use crate::template::Template;
 use crate::walks::least_circle;
 use std::alloc::Global;
+use std::collections::BTreeMap;
 use std::rc::Rc;
 use tera_errors::{Error, TeraResult};
 
-/// Links templates: the place of the last parent of each. Refuses those that do not go together, with the first fault by
-/// name.
-pub fn link(
-    alloc: Global,
-    templates: &[Rc<Template>],
-    prefixes: &[String],
-) -> TeraResult<Vec<usize>>
+/// How templates go together: the place of the last parent of each, and which definition of each component is taken.
+#[derive(Drop)]
+pub struct Links {
+    pub roots: Vec<usize>,
+    pub choices: BTreeMap<String, Choice>,
+}
+
+/// Links templates. Refuses those that do not go together, with the first fault by name.
+pub fn link(alloc: Global, templates: &[Rc<Template>], prefixes: &[String]) -> TeraResult<Links>
     requires { Rises (entries_of templates.now) }
     ensures answer { let r = seen templates.now prefixes.now in
         Gives (λ _. r) result (accepted r) }
     ensures roots { IfOk result
-        (λ v. AreRoots (seen templates.now prefixes.now) v.items (length templates.now)) }
+        (λ l. AreRoots (seen templates.now prefixes.now) l.roots.items (length templates.now)) }
+    ensures choices { IfOk result (λ l. AreChosen (seen templates.now prefixes.now) l.choices) }
 {
     let edges = edges(alloc, templates, prefixes)?;
     let circle = least_circle(alloc, edges.as_slice())?;
-    let roots = match roots(alloc, templates, prefixes, circle) {
+    let Taken { choices, tie } = choices(alloc, templates, prefixes)?;
+    let roots = match roots(alloc, templates, prefixes, circle, tie) {
         Ok(roots) => roots,
         Err(fault) => return Err(fault),
     };
-    if any_lacks(templates, prefixes, edges.as_slice()) {
+    if any_lacks(templates, prefixes, edges.as_slice(), &choices) {
         return Err(Error::message(
             alloc,
             "a template has a block that none of its parents has, or names what is not there",
         ));
     }
-    Ok(roots)
+    Ok(Links { roots, choices })
 }

@@ -1,28 +1,37 @@
 // All templates of an engine, linked.
-ghost use Rattle.std.specs.Prelude.{◌≡◌, ◌<◌, Some, None, Ok, map, length, slice_get, is_some, string_bytes, IsTrue, [], ◌∷◌};
-ghost use Rattle.tera_errors.specs.Answer.{Gives};
+ghost use Rattle.std.specs.Prelude.{◌≡◌, ◌<◌, IfOk, IfErr, Some, None, Ok, map, length, slice_get, is_some, string_bytes, IsTrue, [], ◌∷◌};
+ghost use Rattle.tera_errors.specs.Answer.{Gives, Lacks};
 ghost use Rattle.tera_tree.specs.Delimiters.{delimiters_of, accepted};
 ghost use Rattle.tera_tree.specs.View.{nodes_of};
-ghost use Rattle.tera_meaning.specs.Accepted.{fault, misses_an_include};
+ghost use Rattle.tera_meaning.specs.Accepted.{fault, is_component, misses_an_include};
 ghost use Rattle.tera_meaning.specs.Lineage.{ancestors, definers_in};
+ghost use Rattle.tera_meaning.specs.Components.{AreComponentNames};
 ghost use Rattle.tera_meaning.specs.Resolve.{resolve};
 ghost use Rattle.tera_meaning.specs.Registry.{Entry, Registry};
 ghost use Rattle.std.specs.Coded.{codes};
 ghost use Rattle.tera_code.specs.contracts.chunk.Chunk as chunk;
+ghost use Rattle.tera_registry.specs.contracts.choices.Choice as choice;
+ghost use Rattle.tera_registry.specs.Choices.{AreChosen};
 ghost use Rattle.tera_registry.specs.Order.{Rises, Rises-prop};
 ghost use Rattle.tera_registry.specs.Links.{IsLinked};
 ghost use Rattle.tera_registry.specs.Kept.{entries_of, seen};
 ghost use Rattle.tera_registry.specs.Batch.{ConfiguresOneOf, Adds, pairs_of};
 
 use crate::batch::put_all;
+use crate::beside::{any_misses, code_misses};
+use crate::choices::Choice;
+use crate::components::Component;
 use crate::definers::{At, first, first_above};
 use crate::includes::misses;
+use crate::known::any_lacks;
 use crate::link::link;
 use crate::names::resolve;
 use crate::template::Template;
 use std::alloc::Global;
+use std::collections::BTreeMap;
 use std::rc::Rc;
 use tera_code::Chunk;
+use tera_components::ComponentDefinition;
 use tera_errors::TeraResult;
 use tera_tree::{Delimiters, Node};
 use tera_values::Sought;
@@ -33,9 +42,11 @@ pub struct Templates {
     all: Vec<Rc<Template>>,
     prefixes: Vec<String>,
     roots: Vec<usize>,
+    choices: BTreeMap<String, Choice>,
     ghost rises: { Rises (entries_of all.items) } by { Rises-prop _ },
     ghost accepted: { fault (seen all.items prefixes.items) ≡ None },
     ghost linked: { IsLinked all.items prefixes.items roots.items } by { Prim.hlevel (codes, chunk.the_row.coded) },
+    ghost chosen: { AreChosen (seen all.items prefixes.items) choices } by { Prim.hlevel (codes, choice.the_row.coded) },
 }
 
 // By hand, so that templates that go out of scope are one call.
@@ -46,10 +57,12 @@ impl Drop for Templates {
             all,
             prefixes,
             roots,
+            choices,
         } = self;
         drop(all);
         drop(prefixes);
         drop(roots);
+        drop(choices);
     }
 }
 
@@ -66,6 +79,13 @@ pub struct Found<'t> {
     place: usize,
     ghost stands: { slice_get (map (λ t. t.0) (entries_of templates.now.all.items)) place
         ≡ Some name.now } by { Prim.hlevel codes },
+}
+
+/// A component that was found by its name: what it is given, and its code.
+#[derive(Clone, Copy)]
+pub struct Defined<'t> {
+    pub definition: &'t ComponentDefinition,
+    pub chunk: &'t Chunk,
 }
 
 impl<'t> Found<'t> {
@@ -136,7 +156,15 @@ impl<'t> Definers<'t> {
 }
 
 impl Templates {
-    ghost use Rattle.tera_registry.specs.Templates.{templates_of, prefixes_of, with_templates, is_empty, Finds, registry_in, started, AreNext};
+    ghost use Rattle.tera_registry.specs.Templates.{templates_of, prefixes_of, with_templates, is_empty, Finds, IsDefined, registry_in, started, AreNext};
+    ghost use Rattle.tera_errors.specs.Site.{Name};
+    ghost use Rattle.tera_tree.specs.Tree.{Tree};
+    ghost use Rattle.tera_tree.specs.Blocks.{blocks};
+    ghost use Rattle.tera_code.specs.Code.{nodes_code};
+    ghost use Rattle.tera_meaning.specs.Components.{component};
+    ghost use Rattle.tera_meaning.specs.Known.{lacks_a_callee};
+    ghost use Rattle.tera_meaning.specs.Rendering.{is_component_beside};
+    ghost use Rattle.tera_registry.specs.Components.{kept_of, kept_all};
     ghost use Rattle.tera_registry.specs.Definers.{from_place, above_place, from_found};
 
     /// None yet. Takes no memory.
@@ -149,6 +177,7 @@ impl Templates {
             all: Vec::new(alloc),
             prefixes,
             roots: Vec::new(alloc),
+            choices: BTreeMap::new(alloc),
         }
     }
 
@@ -165,12 +194,13 @@ impl Templates {
             Ok(()) => {}
             Err(refusal) => return Err(refusal),
         }
-        let roots = match link(self.alloc, all.as_slice(), self.prefixes.as_slice()) {
-            Ok(roots) => roots,
+        let links = match link(self.alloc, all.as_slice(), self.prefixes.as_slice()) {
+            Ok(links) => links,
             Err(fault) => return Err(fault),
         };
         self.all = all;
-        self.roots = roots;
+        self.roots = links.roots;
+        self.choices = links.choices;
         Ok(())
     }
 
@@ -257,6 +287,38 @@ impl Templates {
         resolve(self.all.as_slice(), self.prefixes.as_slice(), name).is_some()
     }
 
+    /// The component of a name: the definition that is taken of it. Takes no memory.
+    pub fn component(&self, name: &str) -> Option<Defined<'_>>
+        ensures { (r : Registry) → IsDefined (component (with_templates r self.now) name.now) result }
+    {
+        let choice = self.choices.get(name)?;
+        let template: &Template = &self.all[choice.template];
+        let component = &template.components[choice.component];
+        Some(Defined {
+            definition: &component.definition,
+            chunk: &component.code,
+        })
+    }
+
+    /// Whether a template defines a component of this name. Takes no memory.
+    pub fn contains_component(&self, name: &str) -> bool
+        ensures { (r : Registry) → result ≡ is_component (with_templates r self.now) name.now }
+    {
+        self.choices.contains_key(name)
+    }
+
+    /// Whether a text beside the templates calls what is not there: this is the code of its own body, these are its
+    /// components, and it has no block. Takes no memory.
+    pub fn lacks_a_callee(&self, body: &Chunk, own: &[Component]) -> bool
+        ensures { (r : Registry) (tree : Tree) (file : Name) → body.now.code ≡ nodes_code tree.nodes 0
+            → map kept_of own.now ≡ kept_all file tree.nodes → blocks tree.nodes ≡ []
+            → result ≡ lacks_a_callee (is_component_beside (with_templates r self.now) tree) tree.nodes }
+    {
+        any_lacks(body, &[], own)
+            || code_misses(&self.choices, own, body)
+            || any_misses(&self.choices, own)
+    }
+
     /// Whether nodes include what is not there. Takes no memory.
     pub fn misses_an_include(&self, nodes: &[Node<'_>]) -> bool
         ensures { (r : Registry) → result
@@ -272,6 +334,19 @@ impl Templates {
         let mut names = Vec::new(self.alloc);
         for template in &self.all {
             names.push(template.name.clone()?)?;
+        }
+        Ok(names)
+    }
+
+    /// The names of the components, each once, in byte order.
+    pub fn component_names(&self) -> TeraResult<Vec<String>>
+        ensures names { (r : Registry) → IfOk result
+            (λ v. AreComponentNames (with_templates r self.now) (map string_bytes v.items)) }
+        ensures lacks { IfErr result Lacks }
+    {
+        let mut names = Vec::new(self.alloc);
+        for name in self.choices.keys() {
+            names.push(name.clone()?)?;
         }
         Ok(names)
     }

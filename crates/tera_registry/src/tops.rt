@@ -50,6 +50,8 @@ fn add(alloc: Global, node: &Node, found: &mut Vec<Name>) -> TeraResult<()>
         }
         Node::Capture { body, .. } => add_all(alloc, body.as_slice(), found),
         Node::FilterSection { body, .. } => add_all(alloc, body.as_slice(), found),
+        Node::ComponentCall { body, .. } => add_all(alloc, body.as_slice(), found),
+        Node::Definition { body, .. } => add_all(alloc, body.as_slice(), found),
         Node::Block { name, .. } => {
             found.push(Name::new(alloc, name)?)?;
             Ok(())

@@ -1,5 +1,6 @@
 pub mod Splits
 pub mod Fields
+pub mod Keeping
 pub mod Bodies
 pub mod Scripts
 pub mod Passages
@@ -7,3 +8,4 @@ pub mod Devices
 pub mod Sessions
 pub mod Programs
 pub mod Numbers
+pub mod Joining

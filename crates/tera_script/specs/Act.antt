@@ -23,6 +23,10 @@ pub data Act : Type 0 where
   render_named : (name : Name) → Act
   -- render the block of this name in it
   render_block_named : (name : Name) (block : Name) → Act
+  -- render the component of this name, where entries of the context with these names are implicits, and all others arguments
+  render_component_named : (name : Name) (autoescape : Bool) (implicits : List Name) → Act
+  -- render each component by itself
+  preview_components : (autoescape : Bool) → Act
 
 abbrev pub act_of : Command → Act
 act_of (command.Text name body) = put_value name.now (text body.now false)
@@ -35,6 +39,9 @@ act_of (command.Suffix suffixes) = set_suffixes (texts_of suffixes.items)
 act_of (command.Prefix prefixes) = set_prefixes (texts_of prefixes.items)
 act_of (command.Render name) = render_named name.now
 act_of (command.Block name block) = render_block_named name.now block.now
+act_of (command.Component name autoescape implicits) =
+    render_component_named name.now autoescape (texts_of implicits.items)
+act_of (command.Preview autoescape) = preview_components autoescape
 
 abbrev pub acts_of : List Command → List Act
 acts_of commands = map act_of commands

@@ -9,8 +9,10 @@ use Rattle.tera_values.specs.Val.{Val}
 use Rattle.tera_meaning.specs.Registry.{Registry}
 use Rattle.tera_registry.specs.Batch.{Adds}
 use Rattle.tera.specs.Configuring.{with_prefixes, with_suffixes}
-use Rattle.tera.specs.Rendering.{ByName, BlockByName, OneOff}
-use Rattle.tera_script.specs.Act.{Act, put_value, render_text, join_batch, add_batch, set_suffixes, set_prefixes, render_named, render_block_named}
+use Rattle.tera.specs.Rendering.{ByName, BlockByName, ComponentByName, OneOff}
+use Rattle.tera_script.specs.Act.{Act, put_value, render_text, join_batch, add_batch, set_suffixes, set_prefixes, render_named, render_block_named, render_component_named, preview_components}
+use Rattle.tera_script.specs.Entries.{with_names, without_names}
+use Rattle.tera_script.specs.Preview.{Previews}
 use Rattle.tera_script.specs.Reply.{Replied, done, says, refuses, line_of}
 use Rattle.tera_script.specs.Script.{script_of}
 
@@ -62,6 +64,11 @@ Answers now (set_prefixes prefixes) reply next =
 Answers now (render_named name) reply next = Rendered reply (ByName now.registry name now.context) × (next ≡ now)
 Answers now (render_block_named name block) reply next =
     Rendered reply (BlockByName now.registry name block now.context) × (next ≡ now)
+Answers now (render_component_named name autoescape implicits) reply next =
+    Rendered reply (ComponentByName now.registry name (without_names implicits now.context) (with_names implicits now.context) None autoescape)
+    × (next ≡ now)
+Answers now (preview_components autoescape) reply next =
+    Rendered reply (Previews now.registry now.context autoescape) × (next ≡ now)
 Answers now (render_text autoescape body) reply next =
     Rendered reply (OneOff now.registry body now.context autoescape) × (next ≡ now)
 

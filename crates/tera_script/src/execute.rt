@@ -1,9 +1,12 @@
 // Commands on an engine.
-ghost use Rattle.std.specs.Prelude.{◌≡◌, IfOk, IfErr, OnOk, OnErr, ◌<◌, ◌≤◌, ◌+◌, ◌++◌, ◌∷◌, [], vec_len, vec_capacity};
+ghost use Rattle.std.specs.Prelude.{◌≡◌, None, string_bytes, IfOk, IfErr, OnOk, OnErr, ◌<◌, ◌≤◌, ◌+◌, ◌++◌, ◌∷◌, [], vec_len, vec_capacity};
+ghost use Rattle.tera.specs.Lent.{texts_of};
 ghost use Rattle.tera.specs.Registry.{registry_of};
-ghost use Rattle.tera_errors.specs.Answer.{Lacks};
+ghost use Rattle.tera.specs.Rendering.{ComponentByName};
+ghost use Rattle.tera_errors.specs.Answer.{GivesOneOf, Lacks};
 ghost use Rattle.tera_registry.specs.Batch.{Adds, ConfiguresOneOf, pairs_of};
 ghost use Rattle.tera_script.specs.Act.{act_of, acts_of};
+ghost use Rattle.tera_script.specs.Entries.{with_names, without_names};
 ghost use Rattle.tera_script.specs.Reply.{reply_seen, replies_seen, done_seen, rendered_seen};
 ghost use Rattle.tera_script.specs.Seen.{session_of};
 ghost use Rattle.tera_script.specs.Session.{Answers, Leads};
@@ -11,6 +14,8 @@ ghost use Rattle.tera_values.specs.Named.{put};
 ghost use Rattle.tera_values.specs.Val.{text};
 
 use crate::command::Command;
+use crate::entries::entries;
+use crate::preview::preview;
 use crate::reply::Reply;
 use std::alloc::Global;
 use tera::{Context, Tera, TeraResult, Value};
@@ -86,6 +91,17 @@ fn reply_to<'a>(
         }
         Command::Render { name } => text_reply(engine.render(name, context)),
         Command::Block { name, block } => text_reply(engine.render_block(name, block, context)),
+        Command::Component {
+            name,
+            autoescape,
+            implicits,
+        } => {
+            let implicits = implicits.as_slice();
+            text_reply(component(engine, context, name, *autoescape, implicits))
+        }
+        Command::Preview { autoescape } => {
+            text_reply(preview(alloc, engine, context, *autoescape))
+        }
     }
 }
 
@@ -107,6 +123,23 @@ fn text_reply(answer: TeraResult<String>) -> Reply
         Ok(text) => Reply::Text(text),
         Err(error) => Reply::Fault(error),
     }
+}
+
+// The text of a component: entries of the context with one of these names are implicits, and all others arguments.
+fn component(
+    engine: &Tera,
+    context: &Context,
+    name: &str,
+    autoescape: bool,
+    implicits: &[&str],
+) -> TeraResult<String>
+    ensures { GivesOneOf string_bytes result (ComponentByName (registry_of engine.now) name.now
+        (without_names (texts_of implicits.now) context.now)
+        (with_names (texts_of implicits.now) context.now) None autoescape) }
+{
+    let args = entries(context, false, implicits)?;
+    let implicits = entries(context, true, implicits)?;
+    engine.render_component(name, &args, &implicits, None, autoescape)
 }
 
 fn put_text(

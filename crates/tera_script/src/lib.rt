@@ -3,11 +3,13 @@
 
 mod body;
 pub mod command;
+mod entries;
 mod execute;
 mod input;
 mod lines;
 pub mod outcome;
 mod output;
+mod preview;
 pub mod program;
 pub mod reply;
 mod script;

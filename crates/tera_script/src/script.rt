@@ -3,8 +3,8 @@ ghost use Rattle.std.specs.Prelude.{◌≡◌, ◌==◌, MatchOption, IfOk, slic
 ghost use Rattle.tera_script.specs.Act.{act_of};
 ghost use Rattle.tera_script.specs.Found.{IsCommand, IsNone};
 ghost use Rattle.tera_script.specs.Lines.{lines_of};
-ghost use Rattle.tera_script.specs.Script.{is_plain, head_of, head_named, only_field, two_fields, checked_fields, switch, integer, int_of, add_of, listed, render_of, block_of, opening_named, act_named, with_body, script_of_lines, script_of};
-ghost use Rattle.tera_script.specs.Seen.{act_seen, fields_seen, head_seen, opening_seen, plain_opening, script_seen, text_seen, texts_seen};
+ghost use Rattle.tera_script.specs.Script.{is_plain, head_of, head_named, only_field, two_fields, checked_fields, switch, integer, int_of, add_of, listed, render_of, block_of, component_head, component_of, preview_of, opening_named, act_named, with_body, script_of_lines, script_of};
+ghost use Rattle.tera_script.specs.Seen.{act_seen, component_head_seen, fields_seen, head_seen, opening_seen, plain_opening, script_seen, text_seen, texts_seen};
 ghost use Rattle.tera_script.specs.Words.{words_after};
 
 use crate::body::first_body;
@@ -168,6 +168,50 @@ fn block_of(fields: Option<&str>) -> Option<Command<'_>>
     Some(Command::Block { name, block })
 }
 
+// A name, whether `on` or `off` follows, and the fields behind these.
+fn component_head(fields: Option<&str>) -> Option<(&str, bool, Option<&str>)>
+    ensures { component_head_seen result ≡ component_head (words_after fields.entry) }
+{
+    let (name, rest) = first_word(fields?);
+    let (flag, more) = first_word(rest?);
+    if name.is_empty() {
+        return None;
+    }
+    match switch(flag) {
+        Some(autoescape) => Some((name, autoescape, more)),
+        None => None,
+    }
+}
+
+// `component`, with its name, `on` or `off`, and the names of implicits.
+fn component_of<'a>(
+    alloc: Global,
+    fields: Option<&'a str>,
+) -> Result<Option<Command<'a>>, AllocError>
+    ensures { IfOk result (λ found. act_seen found ≡ component_of (words_after fields.entry)) }
+{
+    let Some((name, autoescape, more)) = component_head(fields) else {
+        return Ok(None);
+    };
+    match checked_fields(alloc, more)? {
+        Some(implicits) => Ok(Some(Command::Component {
+            name,
+            autoescape,
+            implicits,
+        })),
+        None => Ok(None),
+    }
+}
+
+// `preview`, with `on` or `off`.
+fn preview_of(fields: Option<&str>) -> Option<Command<'static>>
+    ensures { act_seen result ≡ preview_of (words_after fields.entry) }
+{
+    Some(Command::Preview {
+        autoescape: switch(only_field(fields)?)?,
+    })
+}
+
 // The word of a command with a body, and its field.
 fn opening_named<'a>(word: &str, fields: Option<&'a str>) -> Option<Opening<'a>>
     ensures { opening_seen result ≡ opening_named word.now (words_after fields.entry) }
@@ -198,6 +242,8 @@ fn command_named<'a>(
         "prefix" => listed(alloc, false, fields),
         "render" => Ok(render_of(fields)),
         "block" => Ok(block_of(fields)),
+        "component" => component_of(alloc, fields),
+        "preview" => Ok(preview_of(fields)),
         _ => Ok(None),
     }
 }

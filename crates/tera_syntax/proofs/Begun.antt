@@ -25,6 +25,7 @@ none_begun limit q tokens word h =
       unlike word (codes "set_global") h refl,
       unlike word (codes "filter") h refl,
       unlike word (codes "block") h refl,
+      unlike word (codes "component") h refl,
       unlike word (codes "include") h refl,
       unlike word (codes "break") h refl,
       unlike word (codes "continue") h refl,

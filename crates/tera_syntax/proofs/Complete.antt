@@ -1,16 +1,16 @@
 -- What is derived is read.
 use Rattle.std.proofs.Common.{◌≡◌, ℕ, suc, ◌-◌, ◌≤◌, ◌<◌, max, nat_lt, List, [], ◌∷◌, Bool, true, false, Option, Some, None, IsTrue, if◌then◌else◌, refl, ap, sym, ◌∙◌, arith, length}
 use Rattle.std.proofs.lemmas.Grind.{common_steps}
-use Rattle.std.specs.Prelude.{option_and_then, codes}
+use Rattle.std.specs.Prelude.{option_map, option_and_then, codes}
 use Rattle.tera_tokens.specs.declared.token.Kind.TheVariants as k
 use Rattle.tera_tokens.specs.Token.{Token}
 use Rattle.tera_tokens.specs.Cut.{Piece}
-use Rattle.tera_tree.specs.Tree.{Content, Print, If, Set, Capture, FilterSection, For, Block, Include, Break, Continue, Node, Nodes, NoNodes}
-use Rattle.tera_tree.specs.Depth.{depth, filters_depth, node_depth, nodes_depth}
+use Rattle.tera_tree.specs.Tree.{Content, Print, If, Set, Capture, FilterSection, For, Block, Include, ComponentCall, Definition, Break, Continue, Node, Nodes, NoNodes}
+use Rattle.tera_tree.specs.Depth.{depth, entries_depth, filters_depth, parameters_depth, node_depth, nodes_depth}
 use Rattle.tera_syntax.specs.declared.heads.Surroundings.{Surroundings}
-use Rattle.tera_syntax.specs.Heads.{Head, IfHead, ForHead, SetHead, SectionHead, BlockHead, outside, make, head_depth, splits, chains, inside, ends}
+use Rattle.tera_syntax.specs.Heads.{Head, IfHead, ForHead, SetHead, SectionHead, BlockHead, CallHead, DefinitionHead, outside, nested, make, head_depth, splits, chains, inside, ends}
 use Rattle.tera_syntax.specs.Grammar.{IsWord, Simple, Opens, GoesOn, DerivesNodes, empty, content, blank, comment, print, single, bodied, DerivesRest, ended, split, chained}
-use Rattle.tera_syntax.specs.Reader.{Frame, Progress, Tag, Single, Opening, GoingOn, Turning, Closing, join, one, printed, put, room, opened, closed, around, tag, taken, statement, run, nodes}
+use Rattle.tera_syntax.specs.Reader.{Frame, Progress, Tag, Single, Opening, GoingOn, Turning, Closing, join, one, printed, put, room, opened, aside, closed, around, tag, taken, statement, run, nodes}
 use Rattle.tera_syntax.proofs.Rows.{join-none, join-join}
 use Rattle.tera_syntax.proofs.Whole.{whole_complete}
 use Rattle.tera_syntax.proofs.OneTag.{simple_read, opens_read, goes_on_read, else_read, ends_read}
@@ -38,6 +38,8 @@ node-some (FilterSection fs b) = omega arith
 node-some (For k n e b o) = omega arith
 node-some (Block n b s) = omega arith
 node-some (Include n s) = omega arith
+node-some (ComponentCall n es b s) = omega arith
+node-some (Definition s b) = omega arith
 node-some Break = omega arith
 node-some Continue = omega arith
 
@@ -56,6 +58,8 @@ head-fits (ForHead k n e) b o m le = three-fit (depth e) (nodes_depth b) (nodes_
 head-fits (SetHead n fs g) b o m le = two-fit (filters_depth fs) (nodes_depth b) m le
 head-fits (SectionHead fs) b o m le = two-fit (filters_depth fs) (nodes_depth b) m le
 head-fits (BlockHead n s) b o m le = (omega arith, omega (arith, le))
+head-fits (CallHead n es s) b o m le = two-fit (entries_depth es) (nodes_depth b) m le
+head-fits (DefinitionHead s) b o m le = two-fit (parameters_depth s.parameters) (nodes_depth b) m le
 
 other-fits : (h : Head) (b o : Nodes) (m : ℕ) → splits h ≡ true → node_depth (make h b o) ≤ suc m → nodes_depth o ≤ m
 other-fits (IfHead c) b o m q le = third-fits (depth c) (nodes_depth b) (nodes_depth o) m le
@@ -63,6 +67,8 @@ other-fits (ForHead k n e) b o m q le = third-fits (depth e) (nodes_depth b) (no
 other-fits (SetHead n fs g) b o m q le = absurd (cc)
 other-fits (SectionHead fs) b o m q le = absurd (cc)
 other-fits (BlockHead n s) b o m q le = absurd (cc)
+other-fits (CallHead n es s) b o m q le = absurd (cc)
+other-fits (DefinitionHead s) b o m q le = absurd (cc)
 
 chains-split : (h : Head) → chains h ≡ true → splits h ≡ true
 chains-split (IfHead c) q = refl
@@ -70,6 +76,8 @@ chains-split (ForHead k n e) q = refl
 chains-split (SetHead n fs g) q = absurd (cc)
 chains-split (SectionHead fs) q = absurd (cc)
 chains-split (BlockHead n s) q = absurd (cc)
+chains-split (CallHead n es s) q = absurd (cc)
+chains-split (DefinitionHead s) q = absurd (cc)
 
 rest-fits : {q : Surroundings} {h : Head} {o : Nodes} {i j : List Piece} → DerivesRest q h o i j → (b : Nodes) (m : ℕ) → node_depth (make h b o) ≤ suc m → nodes_depth o ≤ m
 rest-fits (ended e) b m le = omega arith
@@ -122,10 +130,10 @@ module _ (limit : ℕ) where
         statement-by here tokens Closing (ends_read (room limit here) p q tokens h e)
         ∙ may-turn (ends h tokens) (closed (asking before h c q ∷ fs) body) e
 
-    else-turns : splits h ≡ true → IsWord k.Else (codes "else") tokens → statement limit here tokens ≡ Some (at q (halved before h c q body ∷ fs) NoNodes)
+    else-turns : splits h ≡ true → IsWord k.Else (codes "else") tokens → statement limit here tokens ≡ Some (at (nested q) (halved before h c q body ∷ fs) NoNodes)
     else-turns s w =
         statement-by here tokens Turning (else_read (room limit here) p q tokens w)
-        ∙ may-turn (splits h) (Some (at q (halved before h c q body ∷ fs) NoNodes)) s
+        ∙ ap (option_map aside) (may-turn (splits h) (Some (at q (halved before h c q body ∷ fs) NoNodes)) s)
 
     goes-on : (f : Head) → chains h ≡ true → GoesOn q f tokens → suc (length fs) < limit → head_depth f ≤ limit - suc (suc (length fs))
         → statement limit here tokens ≡ Some (at (inside f q) (asking NoNodes f true q ∷ halved before h c q body ∷ fs) NoNodes)
@@ -181,7 +189,7 @@ module _ (limit : ℕ) where
     rests {q = q} {h = h} (split {tokens = tokens} {last = last} {body = x} {i = i} {j = j} s w d e) p before c fs body le =
         ap (option_and_then (λ t. run limit t i)) (else-turns p q c before h fs body tokens s w)
         ∙ reads d (halved before h c q body ∷ fs) NoNodes le
-        ∙ ap (option_and_then (λ t. run limit t j)) (half-ended-read q q c before h fs body last x e)
+        ∙ ap (option_and_then (λ t. run limit t j)) (half-ended-read (nested q) q c before h fs body last x e)
     rests {q = q} {h = h} (chained {further = f} {tokens = tokens} {body = x} {other = y} {i = i} s g b o) p before c fs body le =
         let n = make f x y in
         let z = first-fits (node_depth n) 0 limit (suc (length fs)) (node-some n) le in

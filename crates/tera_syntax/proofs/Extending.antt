@@ -7,6 +7,7 @@ use Rattle.tera_tree.specs.Tree.{Content, Nodes, NoNodes, Tree}
 use Rattle.tera_tree.specs.Depth.{nodes_depth}
 use Rattle.tera_tree.specs.Places.{in_place}
 use Rattle.tera_tree.specs.Blocks.{has_each_block_once}
+use Rattle.tera_tree.specs.Definitions.{defines_at_top, has_each_component_once}
 use Rattle.tera_tokens.specs.declared.token.Kind.TheVariants as k
 use Rattle.tera_tokens.specs.Token.{Token}
 use Rattle.tera_tokens.specs.Input.{begin, text, same}
@@ -20,13 +21,17 @@ use Rattle.tera_syntax.specs.File.{File, extending, is_front_piece, kept, file_r
 use Rattle.tera_syntax.proofs.OneTag.{quotes-got, quotes-is, extends_read}
 use Rattle.tera_syntax.proofs.Complete.{at, put-read, complete_nodes}
 use Rattle.tera_syntax.proofs.Sound.{sound}
-use Rattle.tera_syntax.proofs.Placed.{derived_placed}
+use Rattle.tera_syntax.proofs.Placed.{derived_placed, derived_defined}
 
 abbrev tree_with : Option Name → Nodes → Tree
 tree_with parent found = record { parent = parent; nodes = found }
 
 abbrev state : Option Name → Bool → Progress → File
 state parent is_front s = record { parent = parent; is_front = is_front; progress = s }
+
+-- no two blocks have one name, and no two components
+abbrev pub IsOnce : Tree → Type 0
+IsOnce tree = IsTrue (has_each_block_once tree.nodes) × IsTrue (has_each_component_once tree.nodes)
 
 -- The tag
 
@@ -122,14 +127,14 @@ module _ (limit : ℕ) where
   spelled_sound : (i : List Piece) (tree : Tree) → spelled limit i ≡ Some tree → DerivesFile tree.parent tree.nodes i × (nodes_depth tree.nodes ≤ limit)
   spelled_sound i tree h = derived (says i begun tree h)
 
-  once-got : (o : Option Tree) (tree : Tree) → option_and_then once o ≡ Some tree → (o ≡ Some tree) × IsTrue (has_each_block_once tree.nodes)
+  once-got : (o : Option Tree) (tree : Tree) → option_and_then once o ≡ Some tree → (o ≡ Some tree) × IsOnce tree
   once-got None tree h = absurd (cc)
   once-got (Some t) tree h =
-      let g = guard (has_each_block_once t.nodes) (Some t) tree h in
+      let g = guard (has_each_block_once t.nodes && has_each_component_once t.nodes) (Some t) tree h in
       let e : t ≡ tree = let s = g.1 in cc in
-      (g.1, subst (λ t. IsTrue (has_each_block_once t.nodes)) e g.0)
+      (g.1, subst IsOnce e (both (has_each_block_once t.nodes) (has_each_component_once t.nodes) g.0))
 
-  pub file_sound : (i : List Piece) (tree : Tree) → file limit i ≡ Some tree → DerivesFile tree.parent tree.nodes i × (nodes_depth tree.nodes ≤ limit) × IsTrue (has_each_block_once tree.nodes)
+  pub file_sound : (i : List Piece) (tree : Tree) → file limit i ≡ Some tree → DerivesFile tree.parent tree.nodes i × (nodes_depth tree.nodes ≤ limit) × IsOnce tree
   file_sound i tree h =
       let o = once-got (spelled limit i) tree h in
       let s = spelled_sound i tree o.0 in
@@ -202,8 +207,8 @@ module _ (limit : ℕ) where
   spelled_complete {x = x} (child {name = name} {tokens = tokens} {j = j} r e d) lt le =
       front-read r outside NoNodes (tree_with (Some name) x) lt (λ found. tag-read j tokens name x e (complete_nodes limit x j d le) (at outside [] found))
 
-  pub file_complete : {i : List Piece} (tree : Tree) → DerivesFile tree.parent tree.nodes i → 0 < limit → nodes_depth tree.nodes ≤ limit → IsTrue (has_each_block_once tree.nodes) → file limit i ≡ Some tree
-  file_complete tree d lt le o = ap (option_and_then once) (spelled_complete d lt le) ∙ ap (λ (b : Bool). if b then Some tree else None) o
+  pub file_complete : {i : List Piece} (tree : Tree) → DerivesFile tree.parent tree.nodes i → 0 < limit → nodes_depth tree.nodes ≤ limit → IsOnce tree → file limit i ≡ Some tree
+  file_complete tree d lt le o = ap (option_and_then once) (spelled_complete d lt le) ∙ ap₂ (λ (a b : Bool). if a && b then Some tree else None) o.0 o.1
 
 -- where no piece begins, nothing is read
 pub file_broken : (limit : ℕ) (f : File) → file_run limit f (Broken ∷ []) ≡ None
@@ -216,3 +221,7 @@ file_broken limit f = by f.is_front
 pub file_placed : {parent : Option Name} {x : Nodes} {i : List Piece} → DerivesFile parent x i → IsTrue (in_place false x)
 file_placed (root d) = derived_placed d
 file_placed (child r e d) = derived_placed d
+
+pub file_defined : {parent : Option Name} {x : Nodes} {i : List Piece} → DerivesFile parent x i → IsTrue (defines_at_top x)
+file_defined (root d) = derived_defined d
+file_defined (child r e d) = derived_defined d

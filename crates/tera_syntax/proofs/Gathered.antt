@@ -1,10 +1,12 @@
--- The names of a tree's blocks, one behind another.
+-- The names of a tree's blocks and components, one behind another.
 use Rattle.std.proofs.Common.{◌≡◌, List, [], ◌∷◌, ◌++◌, map, Vec, Box, Bor, Bool, Global, Result, Ok, Err, OnOk, ap, ap₂, sym, ◌∙◌}
 use Rattle.std.proofs.lemmas.List.{append_assoc, map-append}
 use Rattle.tera_errors.specs.Site.{Name, Text}
 use Rattle.tera_errors.specs.declared.span.Span.{Span}
 use Rattle.tera_tokens.specs.declared.refusal.Refusal.{Refusal}
 use Rattle.tera_tree.specs.declared.expression.Expression.{Expression}
+use Rattle.tera_tree.specs.declared.component.Signature.{Signature}
+use Rattle.tera_tree.specs.declared.expression.Entry.{Entry}
 use Rattle.tera_tree.specs.declared.expression.Heading.{Heading}
 use Rattle.tera_tree.specs.declared.node.Node as declared
 use Rattle.tera_tree.specs.declared.node.SectionFilter.{SectionFilter}
@@ -12,8 +14,8 @@ use Rattle.tera_tree.specs.declared.node.Node.TheVariants as variant
 use Rattle.tera_tree.specs.Tree.{Nodes}
 use Rattle.tera_tree.specs.Blocks.{blocks, block_names}
 use Rattle.tera_tree.specs.View.{node_of, nodes_of}
-use Rattle.tera_tree.proofs.Views.{view_if, view_for, view_capture, view_section, view_block}
-use Rattle.tera_syntax.specs.declared.blocks.BlockName.{BlockName}
+use Rattle.tera_tree.proofs.Views.{view_if, view_for, view_capture, view_section, view_block, view_component_call, view_definition}
+use Rattle.tera_syntax.specs.declared.blocks.PlacedName.{PlacedName}
 use Rattle.tera_syntax.specs.View.{names_of, node_names}
 
 -- a body of a node, and the other
@@ -42,13 +44,25 @@ module _ (result : Result (Unit {0}) Refusal) (old new : List Name) (node : decl
       let s = ap (λ xs. block_names (nodes_of xs)) a ∙ ap node_names (sym (view_section filters body)) ∙ ap (λ n. node_names (node_of n)) (sym is) in
       on_ok result (λ e. e ∙ ap (λ names. old ++ names) s) h
 
-  pub block_gathered : (t : Bor Text) (body : Vec declared.Node Global) (span : Span) (xs : List declared.Node) (names pushed : List BlockName) (b : BlockName) → node ≡ variant.Block t body span → xs ≡ body.items
+  pub block_gathered : (t : Bor Text) (body : Vec declared.Node Global) (span : Span) (xs : List declared.Node) (names pushed : List PlacedName) (b : PlacedName) → node ≡ variant.Block t body span → xs ≡ body.items
       → old ≡ names_of names → pushed ≡ names ++ b ∷ [] → b.name.now ≡ t.now → OnOk result (new ≡ names_of pushed ++ block_names (nodes_of xs)) → OnOk result (new ≡ old ++ node_names (node_of node))
   block_gathered t body span xs names pushed b is a o p w h =
       let m : names_of pushed ≡ old ++ t.now ∷ [] = ap names_of p ∙ map-append (λ n. n.name.now) names (b ∷ []) ∙ ap₂ (λ x y. x ++ y ∷ []) (sym o) w in
       let s = ap node_names (sym (view_block t body span)) ∙ ap (λ n. node_names (node_of n)) (sym is) in
       on_ok result (λ e. behind_two old (names_of pushed) new (t.now ∷ []) (block_names (nodes_of body.items)) m (e ∙ ap (λ xs. names_of pushed ++ block_names (nodes_of xs)) a)
       ∙ ap (λ names. old ++ names) s) h
+
+  pub call_gathered : (t : Bor Text) (attributes : Vec Entry Global) (body : Vec declared.Node Global) (span : Span) (xs : List declared.Node) → node ≡ variant.ComponentCall t attributes body span → xs ≡ body.items
+      → OnOk result (new ≡ old ++ block_names (nodes_of xs)) → OnOk result (new ≡ old ++ node_names (node_of node))
+  call_gathered t attributes body span xs is a h =
+      let s = ap (λ xs. block_names (nodes_of xs)) a ∙ ap node_names (sym (view_component_call t attributes body span)) ∙ ap (λ n. node_names (node_of n)) (sym is) in
+      on_ok result (λ e. e ∙ ap (λ names. old ++ names) s) h
+
+  pub definition_gathered : (signature : Box Signature Global) (body : Vec declared.Node Global) (xs : List declared.Node) → node ≡ variant.Definition signature body → xs ≡ body.items
+      → OnOk result (new ≡ old ++ block_names (nodes_of xs)) → OnOk result (new ≡ old ++ node_names (node_of node))
+  definition_gathered signature body xs is a h =
+      let s = ap (λ xs. block_names (nodes_of xs)) a ∙ ap node_names (sym (view_definition signature body)) ∙ ap (λ n. node_names (node_of n)) (sym is) in
+      on_ok result (λ e. e ∙ ap (λ names. old ++ names) s) h
 
   both_gathered : (body other : Nodes) (middle : List Name) (xs ys : Nodes) → map (λ b. b.0) (blocks body ++ blocks other) ≡ node_names (node_of node) → xs ≡ body → ys ≡ other
       → middle ≡ old ++ block_names xs → OnOk result (new ≡ middle ++ block_names ys) → OnOk result (new ≡ old ++ node_names (node_of node))

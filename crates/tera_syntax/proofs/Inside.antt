@@ -1,23 +1,23 @@
 -- All spans of a tree lie inside the text that spells it.
-use Rattle.std.proofs.Common.{◌≡◌, ℕ, false, List, Option, length, IsTrue}
+use Rattle.std.proofs.Common.{◌≡◌, ℕ, arith, Bool, false, List, Option, length, IsTrue}
 use Rattle.std.specs.Str.{IsUtf8}
 use Rattle.tera_errors.specs.Site.{Name, Text}
 use Rattle.tera_tree.specs.Delimiters.{delimiters_of, accepted}
 use Rattle.tera_tree.specs.declared.delimiters.Delimiters.{Delimiters}
 use Rattle.tera_tree.specs.Tree.{Expr, Filters, Node, Nodes, Tree}
-use Rattle.tera_tree.specs.Inside.{Within, ExprInside, FiltersInside, NodeInside, NodesInside, Inside}
+use Rattle.tera_tree.specs.Inside.{Within, ExprInside, EntriesInside, FiltersInside, NodeInside, NodesInside, Inside}
 use Rattle.tera_tokens.specs.declared.token.Kind.{Kind}
 use Rattle.tera_tokens.specs.declared.token.Kind.TheVariants as k
 use Rattle.tera_tokens.specs.Token.{Token}
 use Rattle.tera_tokens.specs.Input.{Input, begin, kind, start, next, span}
 use Rattle.tera_tokens.specs.Cut.{Piece}
-use Rattle.tera_tokens.proofs.Order.{InOrder, in_order-le, Orderly, onward_next, start_le}
+use Rattle.tera_tokens.proofs.Order.{InOrder, in_order-le, Orderly, Onward, onward_next, onward_then, start_le}
 use Rattle.tera_tokens.proofs.Stretches.{PiecesInside, pieces_inside}
 use Rattle.tera_expressions.proofs.Calls.{calls_lie}
-use Rattle.tera_expressions.proofs.Inside.{expr_lies, filters_lie}
+use Rattle.tera_expressions.proofs.Inside.{expr_lies, attributes_lie, filters_lie}
 use Rattle.tera_syntax.specs.declared.heads.Surroundings.{Surroundings}
-use Rattle.tera_syntax.specs.Heads.{Head, IfHead, ForHead, SetHead, SectionHead, BlockHead, make}
-use Rattle.tera_syntax.specs.Grammar.{DerivesWhole, whole, DerivesPipe, pipe, Simple, set, includes, breaks, continues, Opens, choice, loop, capture, filtered, section, block, GoesOn, elif, DerivesNodes, empty, content, blank, comment, print, single, bodied, DerivesRest, ended, split, chained, Front, nothing, space, remark, DerivesFile, root, child}
+use Rattle.tera_syntax.specs.Heads.{Head, IfHead, ForHead, SetHead, SectionHead, BlockHead, CallHead, DefinitionHead, make, first}
+use Rattle.tera_syntax.specs.Grammar.{DerivesWhole, whole, DerivesPipe, pipe, Simple, set, includes, breaks, continues, Opens, choice, loop, capture, filtered, section, block, call, definition, GoesOn, elif, DerivesNodes, empty, content, blank, comment, print, single, bodied, DerivesRest, ended, split, chained, Front, nothing, space, remark, DerivesFile, root, child}
 use Rattle.tera_syntax.specs.Spells.{Spells}
 
 -- nodes that were read between two places lie inside, and so do the pieces that are left
@@ -41,6 +41,18 @@ behind_two size i o = behind size (next i) (behind size i o)
 token_inside : (size : ℕ) (s : Kind) (i : Input) → kind i ≡ s → (s ≡ k.End → ⊥) → Orderly size i → Within size (span (start i) (next i))
 token_inside size s i e n o = (start_le size s i e n o, in_order-le size (next i).last (next i).ahead (behind size i o))
 
+-- the first kind, whatever the tag stands in
+first_here : (s : Kind) (q : Bool) (tokens : List Token) → first tokens ≡ s → kind (begin q tokens) ≡ s
+unfolding kind
+first_here s q tokens e = e
+
+-- what begins with a token lies inside
+stretch_inside : (size : ℕ) (s : Kind) (i j : Input) → kind i ≡ s → (s ≡ k.End → ⊥) → Orderly size i → Onward size (next i) j → Within size (span (start i) j)
+stretch_inside size s i j e n o w =
+    let l = start_le size s i e n o in
+    let m = w.later in
+    (omega (arith, l, m), in_order-le size j.last j.ahead w.orderly)
+
 simple_inside : (size : ℕ) {q : Surroundings} {node : Node} {tokens : List Token} → Simple q node tokens → InOrder size 0 tokens → NodeInside size node
 simple_inside size {q = q} {tokens = tokens} (set b n w) o = whole_inside size w (behind_two size (next (begin q.in_loop tokens)) (behind size (begin q.in_loop tokens) o))
 simple_inside size {tokens = tokens} (includes w) o = token_inside size k.Text (next (begin false tokens)) w.1 (λ q. cc) (behind size (begin false tokens) o)
@@ -54,6 +66,8 @@ HeadInside size (ForHead key n e) = ExprInside size e
 HeadInside size (SetHead n fs is_global) = FiltersInside size fs
 HeadInside size (SectionHead fs) = FiltersInside size fs
 HeadInside size (BlockHead n place) = Within size place
+HeadInside size (CallHead n all place) = EntriesInside size all × Within size place
+HeadInside size (DefinitionHead s) = Unit {0}
 
 opens_inside : (size : ℕ) {q : Surroundings} {head : Head} {tokens : List Token} → Opens q head tokens → InOrder size 0 tokens → HeadInside size head
 opens_inside size {q = q} {tokens = tokens} (choice e w) o = whole_inside size w (behind size (begin q.in_loop tokens) o)
@@ -61,7 +75,14 @@ opens_inside size {q = q} {tokens = tokens} (loop e c w) o = let n = calls_lie s
 opens_inside size (capture b n) o = tt
 opens_inside size {q = q} {tokens = tokens} (filtered b n w) o = pipe_inside size w (behind_two size (next (begin q.in_loop tokens)) (behind size (begin q.in_loop tokens) o))
 opens_inside size {q = q} {tokens = tokens} (section b w) o = pipe_inside size w (behind size (begin q.in_loop tokens) o)
-opens_inside size {q = q} {tokens = tokens} (block b n) o = token_inside size k.Name (next (begin q.in_loop tokens)) n.0 (λ q. cc) (behind size (begin q.in_loop tokens) o)
+opens_inside size {q = q} {tokens = tokens} (call {a = a} e w d g f) o =
+    let i = begin q.in_loop tokens in
+    let n = onward_next size i o in
+    let m = onward_next size (next i) n.orderly in
+    let p = attributes_lie size d m.orderly in
+    (p.inside, stretch_inside size k.Less i (next a) (first_here k.Less q.in_loop tokens e) (λ q. cc) o (onward_then m (onward_then p.onward (onward_next size a p.onward.orderly))))
+opens_inside size (definition t b d e) o = tt
+opens_inside size {q = q} {tokens = tokens} (block m b n) o = token_inside size k.Name (next (begin q.in_loop tokens)) n.0 (λ q. cc) (behind size (begin q.in_loop tokens) o)
 
 goes_on_inside : (size : ℕ) {q : Surroundings} {head : Head} {tokens : List Token} → GoesOn q head tokens → InOrder size 0 tokens → HeadInside size head
 goes_on_inside size {q = q} {tokens = tokens} (elif e w) o = whole_inside size w (behind size (begin q.in_loop tokens) o)
@@ -72,6 +93,8 @@ made_inside size (ForHead key n e) body other h b o = (h, b, o)
 made_inside size (SetHead n fs is_global) body other h b o = (h, b)
 made_inside size (SectionHead fs) body other h b o = (h, b)
 made_inside size (BlockHead n place) body other h b o = (b, h)
+made_inside size (CallHead n all place) body other h b o = (h.0, b, h.1)
+made_inside size (DefinitionHead s) body other h b o = b
 
 mutual
   nodes_lie : (size : ℕ) {q : Surroundings} {nodes : Nodes} {i j : List Piece} → DerivesNodes q nodes i j → PiecesInside size i → Lie size nodes j

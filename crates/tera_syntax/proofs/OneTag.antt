@@ -1,24 +1,26 @@
 -- One tag: what is read is what it may be, and the other way round.
-use Rattle.std.proofs.Common.{◌≡◌, ℕ, suc, ◌≤◌, List, [], ◌∷◌, Bool, true, false, ◌&&◌, ◌||◌, Option, Some, None, IsTrue, if◌then◌else◌, bytes_eq, codes, refl, ap, ◌∙◌, subst, arith}
+use Rattle.std.proofs.Common.{◌≡◌, ℕ, suc, ◌≤◌, List, [], ◌∷◌, Bool, true, false, ◌&&◌, ◌||◌, Option, Some, None, IsTrue, if◌then◌else◌, bytes_eq, codes, refl, ap, sym, ◌∙◌, subst, arith}
 use Rattle.std.specs.Prelude.{option_map}
 use Rattle.std.proofs.lemmas.Slice.Eq.{bytes_eq-Decides}
 use Rattle.tera_errors.specs.Site.{Text, Name}
 use Rattle.tera_tokens.specs.declared.token.Kind.{Kind}
 use Rattle.tera_tokens.specs.declared.token.Kind.TheVariants as k
 use Rattle.tera_tokens.specs.Token.{Token}
-use Rattle.tera_tokens.specs.Input.{Input, Outcome, begin, kind, text, start, next, span, same}
+use Rattle.tera_tokens.specs.Input.{Input, Outcome, begin, kind, text, start, next, span, same, is_word}
 use Rattle.tera_tokens.specs.Cut.{is_alone}
 use Rattle.tera_tokens.specs.Literal.{literal}
-use Rattle.tera_tree.specs.Tree.{Expr, Filters, NoFilters, Node, Set, Include, Break, Continue}
-use Rattle.tera_tree.specs.Depth.{depth, filters_depth, node_depth}
+use Rattle.tera_tree.specs.Tree.{Expr, Entries, Filters, NoFilters, Signature, Node, Set, Include, Break, Continue}
+use Rattle.tera_tree.specs.Depth.{depth, entries_depth, filters_depth, parameters_depth, node_depth}
+use Rattle.tera_expressions.specs.Grammar.{DerivesAttributes}
 use Rattle.tera_expressions.specs.Headings.{Names, calls}
+use Rattle.tera_expressions.specs.Parameters.{DerivesSignature}
 use Rattle.tera_expressions.proofs.Calls.{calls-got, calls-is}
-use Rattle.tera_expressions.proofs.Steps.{guard, same-is, same-refl, alike}
+use Rattle.tera_expressions.proofs.Steps.{guard, chosen, either, same-is, same-refl, alike, unlike}
 use Rattle.tera_syntax.specs.declared.heads.Surroundings.{Surroundings}
-use Rattle.tera_syntax.specs.Heads.{Head, IfHead, ForHead, SetHead, SectionHead, BlockHead, head_depth, is_end, is_named, first, ends}
-use Rattle.tera_syntax.specs.Grammar.{DerivesWhole, IsWord, Begins, Quotes, set_word, Simple, set, includes, breaks, continues, DerivesPipe, Opens, choice, loop, capture, filtered, section, block, GoesOn, elif}
-use Rattle.tera_syntax.specs.Reader.{Tag, Single, Opening, GoingOn, Turning, Closing, looping_by, setting, setting_by, sectioning, blocking, quoted_name, including, alone, leaving, named, tag_by, tag, whole, pipe}
-use Rattle.tera_syntax.proofs.Whole.{whole_sound, whole_complete, pipe_sound, pipe_complete}
+use Rattle.tera_syntax.specs.Heads.{Head, IfHead, ForHead, SetHead, SectionHead, BlockHead, CallHead, DefinitionHead, head_depth, end_kind, is_end, is_named, is_call_end, first, ends}
+use Rattle.tera_syntax.specs.Grammar.{DerivesWhole, IsWord, Begins, Quotes, set_word, Simple, set, includes, breaks, continues, DerivesPipe, Opens, choice, loop, capture, filtered, section, block, call, definition, GoesOn, elif}
+use Rattle.tera_syntax.specs.Reader.{Tag, Single, Opening, GoingOn, Turning, Closing, looping_by, setting, setting_by, sectioning, block_at, blocking, signed, defining, called, calling, quoted_name, including, alone, leaving, named, tag_by, tag, whole, pipe}
+use Rattle.tera_syntax.proofs.Whole.{whole_sound, whole_complete, pipe_sound, pipe_complete, signed_sound, signed_complete, called_sound, called_complete}
 
 -- what is said of a tag with expressions no deeper than this, where it was read
 abbrev pub Meant : ℕ → Surroundings → Surroundings → List Token → Tag → Type 0
@@ -52,8 +54,18 @@ named-text : (word name : Text) (tokens : List Token) → is_named word name tok
 unfolding text
 named-text word name [] h = absurd (cc)
 named-text word name (t ∷ []) h = absurd (cc)
-named-text word name (t ∷ u ∷ []) h = is-word t.text word (both (bytes_eq t.text word) (same k.Name u.kind && bytes_eq u.text name) h).0
+named-text word name (t ∷ u ∷ []) h = is-word t.text word (both (bytes_eq t.text word) (is_word u.kind && bytes_eq u.text name) h).0
 named-text word name (t ∷ u ∷ v ∷ ts) h = absurd (cc)
+
+-- what ends a call begins with a slash, behind the first token
+slash-text : (q : Bool) (name : Text) (tokens : List Token) → is_call_end name tokens ≡ true → same k.Slash (kind (next (begin q tokens))) ≡ true
+unfolding kind next
+slash-text q name [] h = absurd (cc)
+slash-text q name (t ∷ []) h = absurd (cc)
+slash-text q name (t ∷ u ∷ []) h = absurd (cc)
+slash-text q name (t ∷ u ∷ v ∷ []) h = absurd (cc)
+slash-text q name (t ∷ u ∷ v ∷ w ∷ []) h = (both (same k.Slash u.kind) ((is_word v.kind && bytes_eq v.text name) && same k.Greater w.kind) h).0
+slash-text q name (t ∷ u ∷ v ∷ w ∷ z ∷ ts) h = absurd (cc)
 
 -- A word and a name in quotes
 
@@ -130,13 +142,33 @@ module _ (limit : ℕ) (q outer : Surroundings) (tokens : List Token) (t : Tag) 
       let w = pipe_sound limit i p.0 p.1 in
       said (Opening (SectionHead p.0)) (section b w.0, w.1) p.2
 
-  block-got : Begins (codes "block") tokens → blocking (next (begin q.in_loop tokens)) ≡ Some t → Says
+  block-got : Begins (codes "block") tokens → blocking q.may_have_blocks (next (begin q.in_loop tokens)) ≡ Some t → Says
   block-got b h =
       let i = next (begin q.in_loop tokens) in
       let u = Opening (BlockHead (text i) (span (start i) (next i))) in
-      let g = guard (same k.Name (kind i)) (if same k.End (kind (next i)) then Some u else None) t h in
+      let m = guard q.may_have_blocks (block_at i) t h in
+      let g = guard (same k.Name (kind i)) (if same k.End (kind (next i)) then Some u else None) t m.1 in
       let f = guard (same k.End (kind (next i))) (Some u) t g.1 in
-      said u (block b (same-is k.Name (kind i) g.0, same-is k.End (kind (next i)) f.0), omega arith) (some-is u t f.1)
+      said u (block m.0 b (same-is k.Name (kind i) g.0, same-is k.End (kind (next i)) f.0), omega arith) (some-is u t f.1)
+
+  definition-got : Begins (codes "component") tokens → defining q.is_top limit (next (begin false tokens)) ≡ Some t → Says
+  definition-got b h =
+      let i = next (begin false tokens) in
+      let make : Signature → Tag = λ s. Opening (DefinitionHead s) in
+      let g = guard q.is_top (option_map make (signed limit i)) t h in
+      let p = mapped make (signed limit i) t g.1 in
+      let w = signed_sound limit i p.0 p.1 in
+      said (make p.0) (definition g.0 b w.1 w.2, w.3) p.2
+
+  call-got : first tokens ≡ k.Less → calling limit (begin q.in_loop tokens) ≡ Some t → Says
+  call-got e h =
+      let i = begin q.in_loop tokens in
+      either (chosen (same k.Slash (kind (next i))) (Some Closing) (option_map Opening (called limit (start i) (next i))) (Some t) h)
+      (λ c. said Closing tt (some-is Closing t c.1))
+      (λ c. let p = mapped Opening (called limit (start i) (next i)) t c.1 in
+      let w = called_sound limit (start i) (next i) p.0 p.1 in
+      let f = w.fits in
+      said (Opening (CallHead (text (next i)) w.attributes (span (start i) (next w.place)))) (call e w.word w.derived w.shut w.end, f) (ap Opening w.made ∙ p.2))
 
   include-got : Begins (codes "include") tokens → including (next (begin false tokens)) ≡ Some t → Says
   include-got b h =
@@ -164,8 +196,11 @@ module _ (limit : ℕ) (q outer : Surroundings) (tokens : List Token) (t : Tag) 
   abbrev by-include : Text → Option Tag
   by-include word = if bytes_eq word (codes "include") then including (next (begin false tokens)) else by-break word
 
+  abbrev by-component : Text → Option Tag
+  by-component word = if bytes_eq word (codes "component") then defining q.is_top limit (next (begin false tokens)) else by-include word
+
   abbrev by-block : Text → Option Tag
-  by-block word = if bytes_eq word (codes "block") then blocking (next (begin q.in_loop tokens)) else by-include word
+  by-block word = if bytes_eq word (codes "block") then blocking q.may_have_blocks (next (begin q.in_loop tokens)) else by-component word
 
   abbrev by-filter : Text → Option Tag
   by-filter word = if bytes_eq word (codes "filter") then sectioning limit (next (begin q.in_loop tokens)) else by-block word
@@ -186,10 +221,15 @@ module _ (limit : ℕ) (q outer : Surroundings) (tokens : List Token) (t : Tag) 
   include-by e word f true w h = include-got (e, f ∙ is-word word (codes "include") w) h
   include-by e word f false w h = break-by e word (bytes_eq word (codes "break")) h
 
+  component-by : first tokens ≡ k.Name → (word : Text) → text (begin false tokens) ≡ word → (b : Bool) → bytes_eq word (codes "component") ≡ b
+      → (if b then defining q.is_top limit (next (begin false tokens)) else by-include word) ≡ Some t → Says
+  component-by e word f true w h = definition-got (e, f ∙ is-word word (codes "component") w) h
+  component-by e word f false w h = include-by e word f (bytes_eq word (codes "include")) refl h
+
   block-by : first tokens ≡ k.Name → (word : Text) → text (begin false tokens) ≡ word → (b : Bool) → bytes_eq word (codes "block") ≡ b
-      → (if b then blocking (next (begin q.in_loop tokens)) else by-include word) ≡ Some t → Says
+      → (if b then blocking q.may_have_blocks (next (begin q.in_loop tokens)) else by-component word) ≡ Some t → Says
   block-by e word f true w h = block-got (e, f ∙ is-word word (codes "block") w) h
-  block-by e word f false w h = include-by e word f (bytes_eq word (codes "include")) refl h
+  block-by e word f false w h = component-by e word f (bytes_eq word (codes "component")) refl h
 
   filter-by : first tokens ≡ k.Name → (word : Text) → text (begin false tokens) ≡ word → (b : Bool) → bytes_eq word (codes "filter") ≡ b
       → (if b then sectioning limit (next (begin q.in_loop tokens)) else by-block word) ≡ Some t → Says
@@ -215,6 +255,7 @@ module _ (limit : ℕ) (q outer : Surroundings) (tokens : List Token) (t : Tag) 
   tag-by-got k.Elif e h = elif-got e h
   tag-by-got k.For e h = for-got e (calls (next (begin q.in_loop tokens))) refl h
   tag-by-got k.Else e h = alone-got k.Else (codes "else") Turning e (λ w. w) h
+  tag-by-got k.Less e h = call-got e h
   tag-by-got k.Name e h = named-got e h
   tag-by-got _ e h = absurd (cc)
 
@@ -284,19 +325,48 @@ module _ (limit : ℕ) (q outer : Surroundings) (tokens : List Token) where
   section-read : {fs : Filters} → Begins (codes "filter") tokens → DerivesPipe fs (next (begin q.in_loop tokens)) → filters_depth fs ≤ limit → tag limit q outer tokens ≡ Some (Opening (SectionHead fs))
   section-read b w le = by-word (codes "filter") b ∙ filter-named ∙ ap (option_map (λ fs. Opening (SectionHead fs))) (pipe_complete w limit le)
 
-  block-named : named limit q tokens (codes "block") ≡ blocking (next (begin q.in_loop tokens))
+  block-named : named limit q tokens (codes "block") ≡ blocking q.may_have_blocks (next (begin q.in_loop tokens))
   unfolding named
   block-named = refl
 
-  block-read : Begins (codes "block") tokens → Names (next (begin q.in_loop tokens)) k.End
+  block-read : IsTrue q.may_have_blocks → Begins (codes "block") tokens → Names (next (begin q.in_loop tokens)) k.End
       → tag limit q outer tokens ≡ Some (Opening (BlockHead (text (next (begin q.in_loop tokens))) (span (start (next (begin q.in_loop tokens))) (next (next (begin q.in_loop tokens))))))
-  block-read b n =
+  block-read m b n =
       let i = next (begin q.in_loop tokens) in
       let u = Some (Opening (BlockHead (text i) (span (start i) (next i)))) in
       by-word (codes "block") b
       ∙ block-named
+      ∙ ap (λ (b : Bool). if b then block_at i else None) m
       ∙ name-stands i n.0 (if same k.End (kind (next i)) then u else None)
       ∙ ap (λ (b : Bool). if b then u else None) (ap (same k.End) n.1 ∙ same-refl k.End)
+
+  component-named : named limit q tokens (codes "component") ≡ defining q.is_top limit (next (begin false tokens))
+  unfolding named
+  component-named = refl
+
+  definition-read : {s : Signature} {j : Input} → IsTrue q.is_top → Begins (codes "component") tokens → DerivesSignature s (next (begin false tokens)) j → kind j ≡ k.End → parameters_depth s.parameters ≤ limit
+      → tag limit q outer tokens ≡ Some (Opening (DefinitionHead s))
+  definition-read m b d e le =
+      let i = next (begin false tokens) in
+      let make : Signature → Tag = λ s. Opening (DefinitionHead s) in
+      by-word (codes "component") b
+      ∙ component-named
+      ∙ ap (λ (b : Bool). if b then option_map make (signed limit i) else None) m
+      ∙ ap (option_map make) (signed_complete d e limit le)
+
+  -- a word is no slash
+  no-slash : (i : Input) → is_word (kind i) ≡ true → same k.Slash (kind i) ≡ false
+  unfolding is_word
+  no-slash i h = unlike k.Slash (kind i) (λ e. let f : is_word k.Slash ≡ true = ap is_word (sym e) ∙ h in cc)
+
+  call-read : {xs : Entries} {a : Input} → first tokens ≡ k.Less → is_word (kind (next (begin q.in_loop tokens))) ≡ true → DerivesAttributes xs (next (next (begin q.in_loop tokens))) a → kind a ≡ k.Greater
+      → kind (next a) ≡ k.End → entries_depth xs ≤ limit
+      → tag limit q outer tokens ≡ Some (Opening (CallHead (text (next (begin q.in_loop tokens))) xs (span (start (begin q.in_loop tokens)) (next a))))
+  call-read {xs = xs} {a = a} e w d g f le =
+      let i = begin q.in_loop tokens in
+      by-kind k.Less e
+      ∙ ap (λ (b : Bool). if b then Some Closing else option_map Opening (called limit (start i) (next i))) (no-slash (next i) w)
+      ∙ ap (option_map Opening) (called_complete limit (start i) (next i) a xs w d g f le)
 
   include-named : named limit q tokens (codes "include") ≡ including (next (begin false tokens))
   unfolding named
@@ -331,7 +401,9 @@ module _ (limit : ℕ) (q outer : Surroundings) (tokens : List Token) where
   opens_read (capture b n) le = capture-read b n
   opens_read (filtered b n w) le = filtered-read b n w le
   opens_read (section b w) le = section-read b w le
-  opens_read (block b n) le = block-read b n
+  opens_read (block m b n) le = block-read m b n
+  opens_read (call e w d g f) le = call-read e w d g f le
+  opens_read (definition m b d e) le = definition-read m b d e le
 
   pub goes_on_read : {head : Head} → GoesOn outer head tokens → head_depth head ≤ limit → tag limit q outer tokens ≡ Some (GoingOn head)
   goes_on_read (elif e w) le = by-kind k.Elif e ∙ ap (option_map (λ c. GoingOn (IfHead c))) (whole_complete w limit le)
@@ -353,13 +425,20 @@ module _ (limit : ℕ) (q outer : Surroundings) (tokens : List Token) where
   block-end e name true f h = by-end e (codes "endblock") refl f
   block-end e name false f h = by-word (codes "endblock") (e, named-text (codes "endblock") name tokens h)
 
-  end-read : (head : Head) → first tokens ≡ k.Name → is_end head tokens ≡ true → tag limit q outer tokens ≡ Some Closing
+  component-end : first tokens ≡ k.Name → (name : Text) (b : Bool) → is_alone (codes "endcomponent") tokens ≡ b → (b || is_named (codes "endcomponent") name tokens) ≡ true → tag limit q outer tokens ≡ Some Closing
+  unfolding named
+  component-end e name true f h = by-end e (codes "endcomponent") refl f
+  component-end e name false f h = by-word (codes "endcomponent") (e, named-text (codes "endcomponent") name tokens h)
+
+  end-read : (head : Head) → first tokens ≡ end_kind head → is_end head tokens ≡ true → tag limit q outer tokens ≡ Some Closing
   unfolding named
   end-read (IfHead c) e h = by-end e (codes "endif") refl h
   end-read (ForHead key n c) e h = by-end e (codes "endfor") refl h
   end-read (SetHead n fs is_global) e h = set-end e is_global (is_alone (codes "endset") tokens) refl h
   end-read (SectionHead fs) e h = by-end e (codes "endfilter") refl h
   end-read (BlockHead n place) e h = block-end e n (is_alone (codes "endblock") tokens) refl h
+  end-read (CallHead n all place) e h = by-kind k.Less e ∙ ap (λ (b : Bool). if b then Some Closing else option_map Opening (called limit (start (begin q.in_loop tokens)) (next (begin q.in_loop tokens)))) (slash-text q.in_loop n tokens h)
+  end-read (DefinitionHead s) e h = component-end e s.name (is_alone (codes "endcomponent") tokens) refl h
 
   pub extends_read : Begins (codes "extends") tokens → tag limit q outer tokens ≡ Some Closing
   unfolding named
@@ -367,5 +446,5 @@ module _ (limit : ℕ) (q outer : Surroundings) (tokens : List Token) where
 
   pub ends_read : (head : Head) → IsTrue (ends head tokens) → tag limit q outer tokens ≡ Some Closing
   ends_read head h =
-      let p = both (same k.Name (first tokens)) (is_end head tokens) h in
-      end-read head (same-is k.Name (first tokens) p.0) p.1
+      let p = both (same (end_kind head) (first tokens)) (is_end head tokens) h in
+      end-read head (same-is (end_kind head) (first tokens) p.0) p.1

@@ -29,7 +29,7 @@ pub refused_by : {Y : Type 0} (meant : Option Y) (why : _) (at : Span) (r : read
 refused_by meant why at r e h = let P : reader.Refusal → Type 0 = Refuses meant in subst P e h
 
 pub spells_none : (name : Name) (d : Delims) (text : Text) → file 200 (pieces d text) ≡ None → SpellsNone name d text
-spells_none name d text h tree flat spells = let e = file_complete 200 tree spells (omega arith) flat.0 flat.2 in absurd (cc)
+spells_none name d text h tree flat spells = let e = file_complete 200 tree spells (omega arith) flat.0 (flat.2, flat.4) in absurd (cc)
 
 words_read : (words : Text) (at : Span) → (n : Tree) × (file 200 (Words words at ∷ []) ≡ Some n)
 words_read [] at = (_, refl)

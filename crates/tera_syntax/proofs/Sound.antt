@@ -1,17 +1,17 @@
 -- What is read is derived.
 use Rattle.std.proofs.Common.{◌≡◌, ℕ, suc, ◌-◌, ◌≤◌, ◌<◌, max, nat_lt, List, [], ◌∷◌, Bool, true, false, Option, Some, None, IsTrue, if◌then◌else◌, refl, sym, ◌∙◌, subst, arith, length}
 use Rattle.std.proofs.lemmas.Grind.{common_steps}
-use Rattle.std.specs.Prelude.{option_and_then, codes}
+use Rattle.std.specs.Prelude.{option_map, option_and_then, codes}
 use Rattle.tera_tokens.specs.declared.token.Kind.TheVariants as k
 use Rattle.tera_tokens.specs.Token.{Token}
 use Rattle.tera_tokens.specs.Input.{begin}
 use Rattle.tera_tokens.specs.Cut.{Piece, Words, Comment, Variable, Block, Broken}
 use Rattle.tera_tree.specs.Tree.{Expr, Content, Print, Node, Nodes, NoNodes}
-use Rattle.tera_tree.specs.Depth.{depth, filters_depth, node_depth, nodes_depth}
+use Rattle.tera_tree.specs.Depth.{depth, entries_depth, filters_depth, parameters_depth, node_depth, nodes_depth}
 use Rattle.tera_syntax.specs.declared.heads.Surroundings.{Surroundings}
-use Rattle.tera_syntax.specs.Heads.{Head, IfHead, ForHead, SetHead, SectionHead, BlockHead, outside, make, head_depth, splits, chains, inside, ends}
+use Rattle.tera_syntax.specs.Heads.{Head, IfHead, ForHead, SetHead, SectionHead, BlockHead, CallHead, DefinitionHead, outside, nested, make, head_depth, splits, chains, inside, ends}
 use Rattle.tera_syntax.specs.Grammar.{IsWord, Opens, GoesOn, DerivesNodes, empty, content, blank, comment, print, single, bodied, DerivesRest, ended, split, chained}
-use Rattle.tera_syntax.specs.Reader.{Frame, Progress, Tag, Single, Opening, GoingOn, Turning, Closing, join, one, printed, put, room, made, row, opened, turned, turned_by, closed, shut, around, tag, taken, statement, run, nodes, whole}
+use Rattle.tera_syntax.specs.Reader.{Frame, Progress, Tag, Single, Opening, GoingOn, Turning, Closing, join, one, printed, put, room, made, row, opened, turned, turned_by, aside, closed, shut, around, tag, taken, statement, run, nodes, whole}
 use Rattle.tera_syntax.proofs.Rows.{join-none, join-join, deep}
 use Rattle.tera_syntax.proofs.Whole.{whole_sound}
 use Rattle.tera_syntax.proofs.OneTag.{Meant, tag_sound}
@@ -60,6 +60,8 @@ made-small (ForHead k n e) b o m p q r = three-small (depth e) (nodes_depth b) (
 made-small (SetHead n fs g) b o m p q r = two-small (filters_depth fs) (nodes_depth b) m p q
 made-small (SectionHead fs) b o m p q r = two-small (filters_depth fs) (nodes_depth b) m p q
 made-small (BlockHead n s) b o m p q r = omega (arith, q)
+made-small (CallHead n es s) b o m p q r = two-small (entries_depth es) (nodes_depth b) m p q
+made-small (DefinitionHead s) b o m p q r = two-small (parameters_depth s.parameters) (nodes_depth b) m p q
 
 -- what a step that was taken says
 if_then : {A B : Type 0} (b : Bool) (f : A → Option B) (o : Option A) (y : B) → option_and_then f (if b then o else None) ≡ Some y → (b ≡ true) × (option_and_then f o ≡ Some y)
@@ -111,7 +113,7 @@ module _ (limit : ℕ) (i : List Piece) (x : Nodes) where
     goes-on-got q f fs found h e s a lt le (in_other n d small w r) = absurd (cc)
 
     else-got : (q : Surroundings) (f : Frame) (fs : List Frame) (found : Nodes) → f.body ≡ None → IsTrue (splits f.head) → IsWord k.Else (codes "else") tokens
-        → Goes limit f.surroundings (half f found ∷ fs) NoNodes i x → Goes limit q (f ∷ fs) found (Block tokens ∷ i) x
+        → Goes limit (nested f.surroundings) (half f found ∷ fs) NoNodes i x → Goes limit q (f ∷ fs) found (Block tokens ∷ i) x
     else-got q f fs found e s a (in_body n d small w less r) = absurd (cc)
     else-got q f fs found e s a (in_other {body = body} {y = y} {l = l} n d small w g) =
         let p : body ≡ join found NoNodes = sym (join-none found ∙ (let q : found ≡ body = cc in q)) in
@@ -157,14 +159,19 @@ module _ (limit : ℕ) (i : List Piece) (x : Nodes) where
         goes-on-turned again q f fs found h g.0 a le f.body refl g.1
 
     else-turned : Again → (q : Surroundings) (f : Frame) (fs : List Frame) (found : Nodes) → IsTrue (splits f.head) → IsWord k.Else (codes "else") tokens
-        → (b : Option Nodes) → f.body ≡ b → option_and_then (λ t. run limit t i) (turned_by f b fs found) ≡ Some x → Goes limit q (f ∷ fs) found (Block tokens ∷ i) x
+        → (b : Option Nodes) → f.body ≡ b → option_and_then (λ t. run limit t i) (option_map aside (turned_by f b fs found)) ≡ Some x → Goes limit q (f ∷ fs) found (Block tokens ∷ i) x
     else-turned again q f fs found s a (Some body) n e = absurd (cc)
-    else-turned again q f fs found s a None n e = else-got q f fs found n s a (again f.surroundings (half f found ∷ fs) NoNodes e)
+    else-turned again q f fs found s a None n e = else-got q f fs found n s a (again (nested f.surroundings) (half f found ∷ fs) NoNodes e)
 
-    else-by : Again → (q : Surroundings) (fs : List Frame) (found : Nodes) → IsWord k.Else (codes "else") tokens → option_and_then (λ t. run limit t i) (turned splits fs found) ≡ Some x → Goes limit q fs found (Block tokens ∷ i) x
+    aside-if : (b : Bool) (o : Option Progress) → option_and_then (λ t. run limit t i) (option_map aside (if b then o else None)) ≡ Some x
+        → (b ≡ true) × (option_and_then (λ t. run limit t i) (option_map aside o) ≡ Some x)
+    aside-if true o h = (refl, h)
+    aside-if false o h = absurd (cc)
+
+    else-by : Again → (q : Surroundings) (fs : List Frame) (found : Nodes) → IsWord k.Else (codes "else") tokens → option_and_then (λ t. run limit t i) (option_map aside (turned splits fs found)) ≡ Some x → Goes limit q fs found (Block tokens ∷ i) x
     else-by again q [] found a e = absurd (cc)
     else-by again q (f ∷ fs) found a e =
-        let g = if_then (splits f.head) (λ t. run limit t i) (turned_by f f.body fs found) x e in
+        let g = aside-if (splits f.head) (turned_by f f.body fs found) e in
         else-turned again q f fs found g.0 a f.body refl g.1
 
     end-by : Again → (q : Surroundings) (fs : List Frame) (found : Nodes) → option_and_then (λ t. run limit t i) (shut tokens fs found) ≡ Some x → Goes limit q fs found (Block tokens ∷ i) x

@@ -1,18 +1,24 @@
--- An expression, or filters, that are all from here to the end of a tag.
+-- An expression, filters, a signature or a call that are all from here to the end of a tag.
 use Rattle.std.proofs.Common.{◌≡◌, ℕ, zero, suc, ◌≤◌, ◌<◌, nat_lt, length, Bool, true, false, Some, None, if◌then◌else◌, refl, ap, ◌∙◌, subst, arith}
 use Rattle.std.proofs.lemmas.Grind.{common_steps}
 use Rattle.tera_tokens.specs.declared.token.Kind.TheVariants as k
-use Rattle.tera_tokens.specs.Input.{Input, Outcome, kind, same}
-use Rattle.tera_expressions.specs.Expressions.{Deep, expr, filters}
-use Rattle.tera_tree.specs.Tree.{Expr, Filters, Node}
-use Rattle.tera_tree.specs.Depth.{depth, filters_depth}
-use Rattle.tera_expressions.specs.Grammar.{Derives, DerivesFilters}
+use Rattle.tera_tokens.specs.declared.token.Kind.{Kind}
+use Rattle.tera_tokens.specs.Input.{Input, Outcome, kind, text, next, span, same, is_word}
+use Rattle.tera_expressions.specs.Expressions.{Deep, expr, filters, attributes}
+use Rattle.tera_expressions.specs.Parameters.{DerivesSignature, signature}
+use Rattle.tera_expressions.specs.Arguments.{begins_attribute}
+use Rattle.tera_tree.specs.Tree.{Expr, Entries, Filters, Signature, Node}
+use Rattle.tera_tree.specs.Depth.{depth, entries_depth, filters_depth, parameters_depth}
+use Rattle.tera_expressions.specs.Grammar.{Derives, DerivesAttributes, DerivesFilters}
 use Rattle.tera_syntax.specs.Grammar.{DerivesWhole, whole, DerivesPipe, pipe}
+use Rattle.tera_syntax.specs.Heads.{Head, CallHead}
 use Rattle.tera_syntax.specs.Reader as r
-use Rattle.tera_expressions.proofs.Steps.{same-is, same-refl}
+use Rattle.tera_expressions.proofs.Steps.{guard, alike, same-is, same-refl}
 use Rattle.tera_expressions.proofs.Sound.{what_is_read}
 use Rattle.tera_expressions.proofs.Complete.{complete}
 use Rattle.tera_expressions.proofs.Sections.{filters_are_derived, filters_are_read}
+use Rattle.tera_expressions.proofs.AttributeLaws.{attributes_are_derived, attributes_are_read}
+use Rattle.tera_expressions.proofs.Signatures.{what_is_signed, signature_is}
 
 ended_by : {A : Type 0} (q : Bool) (x y : A) → (if q then Some x else None) ≡ Some y → (q ≡ true) × (x ≡ y)
 ended_by true x y h = (refl, cc)
@@ -55,6 +61,68 @@ unfolding r.pipe
 pipe_complete (pipe {fs = fs} {i = i} {end = j} d e) limit le =
     let q : same k.End (kind j) ≡ true = ap (same k.End) e ∙ same-refl k.End in
     rw (filters_are_read fs i j d e limit le, q) refl
+
+signed_from : (o : Outcome Signature) (s : Signature) → r.signature_ended o ≡ Some s → (p : Signature × Input) × (o ≡ Some p) × (kind p.1 ≡ k.End) × (p.0 ≡ s)
+signed_from None s h = absurd (cc)
+signed_from (Some p) s h =
+    let e = ended_by (same k.End (kind p.1)) p.0 s h in
+    (p, refl, same-is k.End (kind p.1) e.0, e.1)
+
+pub signed_sound : (limit : ℕ) (i : Input) (s : Signature) → r.signed limit i ≡ Some s → (j : Input) × DerivesSignature s i j × (kind j ≡ k.End) × (parameters_depth s.parameters ≤ limit)
+unfolding r.signed
+signed_sound limit i s h =
+    let p = signed_from (signature limit i) s h in
+    let d = what_is_signed limit i p.0.1 p.0.0 p.1 in
+    (p.0.1, subst (λ s. DerivesSignature s i p.0.1) p.3 d.0, p.2, subst (λ s. parameters_depth s.parameters ≤ limit) p.3 d.1)
+
+pub signed_complete : {s : Signature} {i j : Input} → DerivesSignature s i j → kind j ≡ k.End → (limit : ℕ) → parameters_depth s.parameters ≤ limit → r.signed limit i ≡ Some s
+unfolding r.signed
+signed_complete {j = j} d e limit le = rw (signature_is d limit le, alike k.End (kind j) e) refl
+
+-- a call's name and attributes, from behind the `<` that stands at a place
+pub record Calls (limit from : ℕ) (i : Input) (head : Head) : Type 0 where
+  pub attributes : Entries
+  pub place : Input
+  pub word : is_word (kind i) ≡ true
+  pub derived : DerivesAttributes attributes (next i) place
+  pub shut : kind place ≡ k.Greater
+  pub end : kind (next place) ≡ k.End
+  pub made : CallHead (text i) attributes (span from (next place)) ≡ head
+  pub fits : entries_depth attributes ≤ limit
+
+called_from : (limit from : ℕ) (i : Input) (head : Head) (o : Outcome (Entries × ℕ)) → is_word (kind i) ≡ true → attributes limit (next i) ≡ o → r.call_ended (text i) from o ≡ Some head → Calls limit from i head
+called_from limit from i head None w e h = absurd (cc)
+called_from limit from i head (Some p) w e h =
+    let made = Some (CallHead (text i) p.0.0 (span from (next p.1))) in
+    let g = guard (same k.Greater (kind p.1)) (if same k.End (kind (next p.1)) then made else None) head h in
+    let f = guard (same k.End (kind (next p.1))) made head g.1 in
+    let d = attributes_are_derived limit (next i) p.1 p.0 e in
+    record {
+      attributes = p.0.0;
+      place = p.1;
+      word = w;
+      derived = d.0;
+      shut = same-is k.Greater (kind p.1) g.0;
+      end = same-is k.End (kind (next p.1)) f.0;
+      made = (let e = f.1 in cc);
+      fits = d.2;
+    }
+
+pub called_sound : (limit from : ℕ) (i : Input) (head : Head) → r.called limit from i ≡ Some head → Calls limit from i head
+unfolding r.called
+called_sound limit from i head h =
+    let g = guard (is_word (kind i)) (r.call_ended (text i) from (attributes limit (next i))) head h in
+    called_from limit from i head (attributes limit (next i)) g.0 refl g.1
+
+stops : (s : Kind) → s ≡ k.Greater → begins_attribute s ≡ false
+unfolding begins_attribute is_word same
+stops s h = ap begins_attribute h
+
+pub called_complete : (limit from : ℕ) (i a : Input) (xs : Entries) → is_word (kind i) ≡ true → DerivesAttributes xs (next i) a → kind a ≡ k.Greater → kind (next a) ≡ k.End → entries_depth xs ≤ limit
+    → r.called limit from i ≡ Some (CallHead (text i) xs (span from (next a)))
+unfolding r.called
+called_complete limit from i a xs w d g e le =
+    rw (w, attributes_are_read xs (next i) a d (stops (kind a) g) limit le, alike k.Greater (kind a) g, alike k.End (kind (next a)) e) refl
 
 whole_room : (limit : ℕ) (i : Input) (x : Expr) → r.whole limit i ≡ Some x → 0 < limit
 unfolding r.whole expr

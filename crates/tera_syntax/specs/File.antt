@@ -3,6 +3,7 @@ use Rattle.std.specs.Prelude.{ℕ, List, [], ◌∷◌, Bool, true, false, ◌&&
 use Rattle.tera_errors.specs.Site.{Name}
 use Rattle.tera_tree.specs.Tree.{Tree}
 use Rattle.tera_tree.specs.Blocks.{has_each_block_once}
+use Rattle.tera_tree.specs.Definitions.{has_each_component_once}
 use Rattle.tera_tokens.specs.Cut.{Piece, Words, Comment, Variable, Block, Broken}
 use Rattle.tera_syntax.specs.Heads.{is_extends}
 use Rattle.tera_syntax.specs.Grammar.{is_space}
@@ -63,10 +64,10 @@ file_run limit f (piece ∷ rest) = option_and_then (λ g. file_run limit g rest
 abbrev pub spelled : ℕ → List Piece → Option Tree
 spelled limit pieces = file_run limit file_begun pieces
 
--- a tree, if no two of its blocks have one name
+-- a tree, if no two of its blocks have one name, and no two of its components
 abbrev pub once : Tree → Option Tree
-once tree = if has_each_block_once tree.nodes then Some tree else None
+once tree = if has_each_block_once tree.nodes && has_each_component_once tree.nodes then Some tree else None
 
--- the tree of all pieces, no deeper than this, if no two of its blocks have one name
+-- the tree of all pieces, no deeper than this, if no two of its blocks have one name, and no two of its components
 abbrev pub file : ℕ → List Piece → Option Tree
 file limit pieces = option_and_then once (spelled limit pieces)

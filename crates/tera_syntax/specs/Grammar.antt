@@ -3,17 +3,18 @@ use Rattle.std.specs.Prelude.{◌≡◌, ◌≢◌, List, [], ◌∷◌, length,
 use Rattle.std.specs.Str.{trim_start}
 use Rattle.tera_errors.specs.Site as site
 use Rattle.tera_errors.specs.declared.span.Span.{Span}
-use Rattle.tera_tree.specs.Tree.{Expr, Filters, NoFilters, Content, Print, Set, Include, Break, Continue, Node, Nodes, NoNodes, MoreNodes}
+use Rattle.tera_tree.specs.Tree.{Expr, Entries, Filters, NoFilters, Signature, Content, Print, Set, Include, Break, Continue, Node, Nodes, NoNodes, MoreNodes}
 use Rattle.tera_tokens.specs.declared.token.Kind.{Kind}
 use Rattle.tera_tokens.specs.declared.token.Kind.TheVariants as k
 use Rattle.tera_tokens.specs.Token.{Token}
-use Rattle.tera_tokens.specs.Input.{Input, begin, kind, text, start, next, span}
+use Rattle.tera_tokens.specs.Input.{Input, begin, kind, text, start, next, span, is_word}
 use Rattle.tera_tokens.specs.Literal.{literal}
 use Rattle.tera_tokens.specs.Cut.{Piece, Words, Comment, Variable, Block, is_alone}
-use Rattle.tera_expressions.specs.Grammar.{Derives, DerivesFilters}
+use Rattle.tera_expressions.specs.Grammar.{Derives, DerivesAttributes, DerivesFilters}
 use Rattle.tera_expressions.specs.Headings.{Names, Calls}
+use Rattle.tera_expressions.specs.Parameters.{DerivesSignature}
 use Rattle.tera_syntax.specs.declared.heads.Surroundings.{Surroundings}
-use Rattle.tera_syntax.specs.Heads.{Head, IfHead, ForHead, SetHead, SectionHead, BlockHead, outside, make, splits, chains, inside, first, ends}
+use Rattle.tera_syntax.specs.Heads.{Head, IfHead, ForHead, SetHead, SectionHead, BlockHead, CallHead, DefinitionHead, outside, nested, make, splits, chains, inside, first, ends}
 
 -- The tokens from here to the end of the tag are the expression.
 pub data DerivesWhole : Expr → Input → Type 0 where
@@ -62,8 +63,14 @@ pub data Opens : Surroundings → Head → List Token → Type 0 where
   filtered : {q : Surroundings} {is_global : Bool} {fs : Filters} {tokens : List Token} → Begins (set_word is_global) tokens → Names (next (begin q.in_loop tokens)) k.Bar → DerivesPipe fs (next (next (next (begin q.in_loop tokens))))
       → Opens q (SetHead (text (next (begin q.in_loop tokens))) fs is_global) tokens
   section : {q : Surroundings} {fs : Filters} {tokens : List Token} → Begins (codes "filter") tokens → DerivesPipe fs (next (begin q.in_loop tokens)) → Opens q (SectionHead fs) tokens
-  block : {q : Surroundings} {tokens : List Token} → Begins (codes "block") tokens → Names (next (begin q.in_loop tokens)) k.End
+  block : {q : Surroundings} {tokens : List Token} → IsTrue q.may_have_blocks → Begins (codes "block") tokens → Names (next (begin q.in_loop tokens)) k.End
       → Opens q (BlockHead (text (next (begin q.in_loop tokens))) (span (start (next (begin q.in_loop tokens))) (next (next (begin q.in_loop tokens))))) tokens
+  -- its name may be a reserved word; the span is that of `<` to `>`
+  call : {q : Surroundings} {xs : Entries} {a : Input} {tokens : List Token} → first tokens ≡ k.Less → is_word (kind (next (begin q.in_loop tokens))) ≡ true
+      → DerivesAttributes xs (next (next (begin q.in_loop tokens))) a → kind a ≡ k.Greater → kind (next a) ≡ k.End
+      → Opens q (CallHead (text (next (begin q.in_loop tokens))) xs (span (start (begin q.in_loop tokens)) (next a))) tokens
+  definition : {q : Surroundings} {s : Signature} {j : Input} {tokens : List Token} → IsTrue q.is_top → Begins (codes "component") tokens → DerivesSignature s (next (begin false tokens)) j → kind j ≡ k.End
+      → Opens q (DefinitionHead s) tokens
 
 -- A tag that goes on with a statement: what follows is a statement that stands alone in the other body.
 pub data GoesOn : Surroundings → Head → List Token → Type 0 where
@@ -89,7 +96,7 @@ mutual
   pub data DerivesRest : Surroundings → Head → Nodes → List Piece → List Piece → Type 0 where
     ended : {q : Surroundings} {head : Head} {tokens : List Token} {i : List Piece} → IsTrue (ends head tokens) → DerivesRest q head NoNodes (Block tokens ∷ i) i
     split : {q : Surroundings} {head : Head} {tokens last : List Token} {body : Nodes} {i j : List Piece} → IsTrue (splits head) → IsWord k.Else (codes "else") tokens
-        → DerivesNodes q body i (Block last ∷ j) → IsTrue (ends head last) → DerivesRest q head body (Block tokens ∷ i) j
+        → DerivesNodes (nested q) body i (Block last ∷ j) → IsTrue (ends head last) → DerivesRest q head body (Block tokens ∷ i) j
     chained : {q : Surroundings} {head further : Head} {tokens : List Token} {body other : Nodes} {i m j : List Piece} → IsTrue (chains head) → GoesOn q further tokens
         → DerivesNodes (inside further q) body i m → DerivesRest q further other m j → DerivesRest q head (MoreNodes (make further body other) NoNodes) (Block tokens ∷ i) j
 

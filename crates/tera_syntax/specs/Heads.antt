@@ -2,18 +2,22 @@
 use Rattle.std.specs.Prelude.{ℕ, List, [], ◌∷◌, Bool, true, false, ◌&&◌, ◌||◌, bytes_eq, codes, Option}
 use Rattle.tera_errors.specs.Site as site
 use Rattle.tera_errors.specs.declared.span.Span.{Span}
-use Rattle.tera_tree.specs.Tree.{Expr, Filters, If, For, Capture, FilterSection, Block, Node, Nodes}
-use Rattle.tera_tree.specs.Depth.{depth, filters_depth}
+use Rattle.tera_tree.specs.Tree.{Expr, Entries, Filters, Signature, If, For, Capture, FilterSection, Block, ComponentCall, Definition, Node, Nodes}
+use Rattle.tera_tree.specs.Depth.{depth, entries_depth, filters_depth, parameters_depth}
 use Rattle.tera_tokens.specs.declared.token.Kind.{Kind}
 use Rattle.tera_tokens.specs.declared.token.Kind.TheVariants as k
 use Rattle.tera_tokens.specs.Token.{Token}
-use Rattle.tera_tokens.specs.Input.{begin, kind, text, same}
+use Rattle.tera_tokens.specs.Input.{begin, kind, text, same, is_word}
 use Rattle.tera_tokens.specs.Cut.{is_alone}
 use Rattle.tera_syntax.specs.declared.heads.Surroundings.{Surroundings}
 
--- what a text's first tag stands in: no loop
+-- what a text's first tag stands in: nothing
 abbrev pub outside : Surroundings
-outside = record { in_loop = false; may_leave = false }
+outside = record { in_loop = false; may_leave = false; is_top = true; may_have_blocks = true }
+
+-- what stands in a statement that changes nothing else: no component is defined there
+abbrev pub nested : Surroundings → Surroundings
+nested q = record { in_loop = q.in_loop; may_leave = q.may_leave; is_top = false; may_have_blocks = q.may_have_blocks }
 
 pub data Head : Type 0 where
   IfHead : (condition : Expr) → Head
@@ -22,6 +26,8 @@ pub data Head : Type 0 where
   SectionHead : (filters : Filters) → Head
   -- with where its name stands
   BlockHead : (name : site.Name) (span : Span) → Head
+  CallHead : (name : site.Name) (attributes : Entries) (span : Span) → Head
+  DefinitionHead : (signature : Signature) → Head
 
 -- the statement with this body, and what stands behind its `else`
 abbrev pub make : Head → Nodes → Nodes → Node
@@ -30,14 +36,18 @@ make (ForHead key n e) body other = For key n e body other
 make (SetHead n fs is_global) body other = Capture n fs body is_global
 make (SectionHead fs) body other = FilterSection fs body
 make (BlockHead n span) body other = Block n body span
+make (CallHead n all span) body other = ComponentCall n all body span
+make (DefinitionHead s) body other = Definition s body
 
--- how deep the expressions and filters of its tag are
+-- how deep the expressions, filters, attributes and defaults of its tag are
 abbrev pub head_depth : Head → ℕ
 head_depth (IfHead c) = depth c
 head_depth (ForHead key n e) = depth e
 head_depth (SetHead n fs is_global) = filters_depth fs
 head_depth (SectionHead fs) = filters_depth fs
 head_depth (BlockHead n span) = 0
+head_depth (CallHead n all span) = entries_depth all
+head_depth (DefinitionHead s) = parameters_depth s.parameters
 
 -- it may have an `else`
 abbrev pub splits : Head → Bool
@@ -46,6 +56,8 @@ splits (ForHead key n e) = true
 splits (SetHead n fs is_global) = false
 splits (SectionHead fs) = false
 splits (BlockHead n span) = false
+splits (CallHead n all span) = false
+splits (DefinitionHead s) = false
 
 -- it may have an `elif`
 abbrev pub chains : Head → Bool
@@ -54,14 +66,19 @@ chains (ForHead key n e) = false
 chains (SetHead n fs is_global) = false
 chains (SectionHead fs) = false
 chains (BlockHead n span) = false
+chains (CallHead n all span) = false
+chains (DefinitionHead s) = false
 
--- What its body stands in. A block's body keeps the names of a loop around it, and can't leave a turn of that loop.
+-- What its body stands in. A block's body keeps the names of a loop around it, and can't leave a turn of that loop; the body
+-- that a component is handed can. The body of a component's definition is in no loop, and has no blocks.
 abbrev pub inside : Head → Surroundings → Surroundings
-inside (IfHead c) around = around
-inside (ForHead key n e) around = record { in_loop = true; may_leave = true }
-inside (SetHead n fs is_global) around = around
-inside (SectionHead fs) around = around
-inside (BlockHead n span) around = record { in_loop = around.in_loop; may_leave = false }
+inside (IfHead c) around = nested around
+inside (ForHead key n e) around = record { in_loop = true; may_leave = true; is_top = false; may_have_blocks = around.may_have_blocks }
+inside (SetHead n fs is_global) around = nested around
+inside (SectionHead fs) around = nested around
+inside (BlockHead n span) around = record { in_loop = around.in_loop; may_leave = false; is_top = false; may_have_blocks = around.may_have_blocks }
+inside (CallHead n all span) around = nested around
+inside (DefinitionHead s) around = record { in_loop = false; may_leave = false; is_top = false; may_have_blocks = false }
 
 -- the kind of a tag's first token
 abbrev pub first : List Token → Kind
@@ -73,17 +90,34 @@ is_extends tokens = same k.Name (first tokens) && bytes_eq (text (begin false to
 
 -- the tokens are this word, and behind it this name
 abbrev pub is_named : site.Text → site.Name → List Token → Bool
-is_named word name (t ∷ u ∷ []) = bytes_eq t.text word && (same k.Name u.kind && bytes_eq u.text name)
+is_named word name (t ∷ u ∷ []) = bytes_eq t.text word && (is_word u.kind && bytes_eq u.text name)
 is_named word name tokens = false
 
--- the tokens are the word of its end; behind that of a block its name may stand
+-- behind the first token stand a slash, this name and what closes
+abbrev pub is_call_end : site.Name → List Token → Bool
+is_call_end name (t ∷ u ∷ v ∷ w ∷ []) = same k.Slash u.kind && ((is_word v.kind && bytes_eq v.text name) && same k.Greater w.kind)
+is_call_end name tokens = false
+
+-- the kind of the first token of its end
+abbrev pub end_kind : Head → Kind
+end_kind (IfHead c) = k.Name
+end_kind (ForHead key n e) = k.Name
+end_kind (SetHead n fs is_global) = k.Name
+end_kind (SectionHead fs) = k.Name
+end_kind (BlockHead n span) = k.Name
+end_kind (CallHead n all span) = k.Less
+end_kind (DefinitionHead s) = k.Name
+
+-- The tokens are its end, by the first one's kind. Behind the word that ends a block or a component its name may stand.
 abbrev pub is_end : Head → List Token → Bool
 is_end (IfHead c) tokens = is_alone (codes "endif") tokens
 is_end (ForHead key n e) tokens = is_alone (codes "endfor") tokens
 is_end (SetHead n fs is_global) tokens = is_alone (codes "endset") tokens || (is_global && is_alone (codes "endset_global") tokens)
 is_end (SectionHead fs) tokens = is_alone (codes "endfilter") tokens
 is_end (BlockHead n span) tokens = is_alone (codes "endblock") tokens || is_named (codes "endblock") n tokens
+is_end (CallHead n all span) tokens = is_call_end n tokens
+is_end (DefinitionHead s) tokens = is_alone (codes "endcomponent") tokens || is_named (codes "endcomponent") s.name tokens
 
 -- the tag ends a statement with this head
 abbrev pub ends : Head → List Token → Bool
-ends head tokens = same k.Name (first tokens) && is_end head tokens
+ends head tokens = same (end_kind head) (first tokens) && is_end head tokens

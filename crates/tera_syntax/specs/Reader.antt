@@ -5,14 +5,15 @@ use Rattle.tera_errors.specs.declared.span.Span.{Span}
 use Rattle.tera_tokens.specs.declared.token.Kind.{Kind}
 use Rattle.tera_tokens.specs.declared.token.Kind.TheVariants as k
 use Rattle.tera_tokens.specs.Token.{Token}
-use Rattle.tera_tokens.specs.Input.{Input, Outcome, begin, kind, text, start, next, span, same}
+use Rattle.tera_tokens.specs.Input.{Input, Outcome, begin, kind, text, start, next, span, same, is_word}
 use Rattle.tera_tokens.specs.Literal.{literal}
-use Rattle.tera_expressions.specs.Expressions.{Deep, expr, filters}
+use Rattle.tera_expressions.specs.Expressions.{Deep, expr, filters, attributes}
 use Rattle.tera_expressions.specs.Headings.{calls}
+use Rattle.tera_expressions.specs.Parameters.{signature}
 use Rattle.tera_tokens.specs.Cut.{Piece, Words, Comment, Variable, Block, Broken, is_alone}
-use Rattle.tera_tree.specs.Tree.{Expr, Filters, NoFilters, Content, Print, Set, Include, Break, Continue, Node, Nodes, NoNodes, MoreNodes}
+use Rattle.tera_tree.specs.Tree.{Expr, Entries, Filters, NoFilters, Signature, Content, Print, Set, Include, Break, Continue, Node, Nodes, NoNodes, MoreNodes}
 use Rattle.tera_syntax.specs.declared.heads.Surroundings.{Surroundings}
-use Rattle.tera_syntax.specs.Heads.{Head, IfHead, ForHead, SetHead, SectionHead, BlockHead, outside, make, splits, chains, inside, first, ends}
+use Rattle.tera_syntax.specs.Heads.{Head, IfHead, ForHead, SetHead, SectionHead, BlockHead, CallHead, DefinitionHead, outside, nested, make, splits, chains, inside, first, ends}
 
 abbrev pub ended : Outcome Deep → Option Expr
 ended None = None
@@ -101,6 +102,10 @@ abbrev pub turned : (Head → Bool) → List Frame → Nodes → Option Progress
 turned may [] found = None
 turned may (f ∷ fs) found = if may f.head then turned_by f f.body fs found else None
 
+-- what follows stands in the statement too
+abbrev pub aside : Progress → Progress
+aside s = record { frames = s.frames; found = s.found; surroundings = nested s.surroundings }
+
 abbrev pub closed : List Frame → Nodes → Option Progress
 closed [] found = None
 closed (f ∷ fs) found = if f.is_chained then closed fs (row f found) else Some (record { frames = fs; found = row f found; surroundings = f.surroundings })
@@ -148,9 +153,36 @@ setting limit is_global i = if same k.Name (kind i) then setting_by limit is_glo
 abbrev pub sectioning : ℕ → Input → Option Tag
 sectioning limit i = option_map (λ fs. Opening (SectionHead fs)) (pipe limit i)
 
--- behind `block`
-abbrev pub blocking : Input → Option Tag
-blocking i = if same k.Name (kind i) then (if same k.End (kind (next i)) then Some (Opening (BlockHead (text i) (span (start i) (next i)))) else None) else None
+abbrev pub block_at : Input → Option Tag
+block_at i = if same k.Name (kind i) then (if same k.End (kind (next i)) then Some (Opening (BlockHead (text i) (span (start i) (next i)))) else None) else None
+
+-- behind `block`, where blocks may stand
+abbrev pub blocking : Bool → Input → Option Tag
+blocking q i = if q then block_at i else None
+
+abbrev pub signature_ended : Outcome Signature → Option Signature
+signature_ended None = None
+signature_ended (Some p) = if same k.End (kind p.1) then Some p.0 else None
+
+-- a signature that is all from here to the end of the tag, with defaults no deeper than this
+unfoldable pub signed : ℕ → Input → Option Signature
+signed limit i = signature_ended (signature limit i)
+
+-- behind `component`, where components may be defined
+abbrev pub defining : Bool → ℕ → Input → Option Tag
+defining q limit i = if q then option_map (λ s. Opening (DefinitionHead s)) (signed limit i) else None
+
+abbrev pub call_ended : Name → ℕ → Outcome (Entries × ℕ) → Option Head
+call_ended name from None = None
+call_ended name from (Some p) = if same k.Greater (kind p.1) then (if same k.End (kind (next p.1)) then Some (CallHead name p.0.0 (span from (next p.1))) else None) else None
+
+-- the name of a component and its attributes, no deeper than this, up to what closes the tag, which starts at a place
+unfoldable pub called : ℕ → ℕ → Input → Option Head
+called limit from i = if is_word (kind i) then call_ended (text i) from (attributes limit (next i)) else None
+
+-- a tag that begins with `<`: a call with a body, or the end of one
+abbrev pub calling : ℕ → Input → Option Tag
+calling limit i = if same k.Slash (kind (next i)) then Some Closing else option_map Opening (called limit (start i) (next i))
 
 -- the name in quotes that ends a tag
 abbrev pub quoted_name_at : Input → Option Name
@@ -178,10 +210,11 @@ named limit q tokens word =
     if bytes_eq word (codes "set") then setting limit false (next (begin q.in_loop tokens)) else (
     if bytes_eq word (codes "set_global") then setting limit true (next (begin q.in_loop tokens)) else (
     if bytes_eq word (codes "filter") then sectioning limit (next (begin q.in_loop tokens)) else (
-    if bytes_eq word (codes "block") then blocking (next (begin q.in_loop tokens)) else (
+    if bytes_eq word (codes "block") then blocking q.may_have_blocks (next (begin q.in_loop tokens)) else (
+    if bytes_eq word (codes "component") then defining q.is_top limit (next (begin false tokens)) else (
     if bytes_eq word (codes "include") then including (next (begin false tokens)) else (
     if bytes_eq word (codes "break") then leaving q.may_leave (codes "break") tokens Break else (
-    if bytes_eq word (codes "continue") then leaving q.may_leave (codes "continue") tokens Continue else Some Closing))))))
+    if bytes_eq word (codes "continue") then leaving q.may_leave (codes "continue") tokens Continue else Some Closing)))))))
 
 -- whether a word that begins a statement begins with this byte and is this long
 abbrev pub may_begin : ℕ → ℕ → Bool
@@ -191,13 +224,15 @@ may_begin first size =
     if size == 6 then first == 102 else (
     if size == 7 then first == 105 else (
     if size == 8 then first == 99 else (
-    if size == 10 then first == 115 else false)))))
+    if size == 9 then first == 99 else (
+    if size == 10 then first == 115 else false))))))
 
 abbrev pub tag_by : ℕ → Surroundings → Surroundings → List Token → Kind → Option Tag
 tag_by limit q outer tokens k.If = option_map (λ c. Opening (IfHead c)) (whole limit (next (begin q.in_loop tokens)))
 tag_by limit q outer tokens k.For = option_map Opening (looping limit (next (begin q.in_loop tokens)))
 tag_by limit q outer tokens k.Elif = option_map (λ c. GoingOn (IfHead c)) (whole limit (next (begin outer.in_loop tokens)))
 tag_by limit q outer tokens k.Else = alone (codes "else") tokens Turning
+tag_by limit q outer tokens k.Less = calling limit (begin q.in_loop tokens)
 tag_by limit q outer tokens k.Name = named limit q tokens (text (begin false tokens))
 tag_by limit q outer tokens _ = None
 
@@ -209,7 +244,7 @@ abbrev pub taken : ℕ → Progress → List Token → Tag → Option Progress
 taken limit s tokens (Single node) = put limit s node
 taken limit s tokens (Opening head) = opened limit false s head
 taken limit s tokens (GoingOn head) = option_and_then (λ t. opened limit true t head) (turned chains s.frames s.found)
-taken limit s tokens Turning = turned splits s.frames s.found
+taken limit s tokens Turning = option_map aside (turned splits s.frames s.found)
 taken limit s tokens Closing = shut tokens s.frames s.found
 
 -- a statement, or a tag that belongs to one

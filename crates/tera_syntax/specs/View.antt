@@ -8,11 +8,12 @@ use Rattle.tera_tokens.specs.Answers.{Refuses}
 use Rattle.tera_errors.specs.Site.{Name}
 use Rattle.tera_tree.specs.Tree.{Node, Nodes}
 use Rattle.tera_tree.specs.Blocks.{node_blocks}
-use Rattle.tera_tree.specs.View.{expr_of, filters_of, nodes_of, quoted_option}
-use Rattle.tera_syntax.specs.Heads.{Head, IfHead, ForHead, SetHead, SectionHead, BlockHead}
+use Rattle.tera_tree.specs.Definitions.{node_definitions}
+use Rattle.tera_tree.specs.View.{expr_of, entries_of, filters_of, signature_of, nodes_of, quoted_option}
+use Rattle.tera_syntax.specs.Heads.{Head, IfHead, ForHead, SetHead, SectionHead, BlockHead, CallHead, DefinitionHead}
 use Rattle.tera_syntax.specs.Reader.{Frame, Progress}
 use Rattle.tera_syntax.specs.File.{File}
-use Rattle.tera_syntax.specs.declared.blocks.BlockName.{BlockName}
+use Rattle.tera_syntax.specs.declared.blocks.PlacedName.{PlacedName}
 use Rattle.tera_syntax.specs.declared.file.File as file
 use Rattle.tera_syntax.specs.declared.heads.Head as head
 use Rattle.tera_syntax.specs.declared.heads.Head.TheVariants as variant
@@ -28,6 +29,8 @@ head_of (variant.For h) = heading_of h.value
 head_of (variant.Set t fs is_global) = SetHead t.now (filters_of fs.items) is_global
 head_of (variant.Section fs) = SectionHead (filters_of fs.items)
 head_of (variant.Block t span) = BlockHead t.now span
+head_of (variant.Call t all span) = CallHead t.now (entries_of all.items) span
+head_of (variant.Definition s) = DefinitionHead (signature_of s.value)
 
 abbrev pub body_of : Option (Vec declared.Node Global) → Option Nodes
 body_of None = None
@@ -46,12 +49,16 @@ progress_of s = record { frames = frames_of s.frames.items; found = nodes_of s.f
 abbrev pub file_of : file.File → File
 file_of f = record { parent = quoted_option f.parent; is_front = f.is_front; progress = progress_of f.progress }
 
-abbrev pub names_of : List BlockName → List Name
+abbrev pub names_of : List PlacedName → List Name
 names_of names = map (λ n. n.name.now) names
 
 -- the names of the blocks of a node
 abbrev pub node_names : Node → List Name
 node_names node = map (λ b. b.0) (node_blocks node)
+
+-- the names of the components that a node defines
+abbrev pub node_components : Node → List Name
+node_components node = map (λ d. d.0.name) (node_definitions node)
 
 -- What is read becomes what is meant. After a refusal nothing is said of it.
 abbrev pub Becomes : Option Progress → Result (Unit {0}) Refusal → progress.Progress → Type 0

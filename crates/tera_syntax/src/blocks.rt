@@ -1,10 +1,11 @@
-// The names of a tree's blocks.
+// The names of a tree's blocks and components.
 ghost use Rattle.std.specs.Prelude.{◌≡◌, ◌++◌, OnOk, IfErr, is_some, not};
 ghost use Rattle.tera_syntax.specs.File as spec;
-ghost use Rattle.tera_syntax.specs.View.{names_of, node_names};
+ghost use Rattle.tera_syntax.specs.View.{names_of, node_components, node_names};
 ghost use Rattle.tera_tokens.specs.Answers.{Answers};
 ghost use Rattle.tera_tokens.specs.declared.refusal.Refusal.TheVariants.{OutOfMemory};
 ghost use Rattle.tera_tree.specs.Blocks.{are_distinct, block_names, is_among};
+ghost use Rattle.tera_tree.specs.Definitions.{component_names};
 ghost use Rattle.tera_tree.specs.View.{node_of, nodes_of, tree_of};
 
 use std::alloc::Global;
@@ -12,16 +13,16 @@ use tera_errors::Span;
 use tera_tokens::refusal::{Reason, Refusal};
 use tera_tree::{Node, ParserOutput};
 
-/// A block's name, and where it stands.
+/// The name of a block or a component, and where it stands.
 #[derive(Clone, Copy)]
-struct BlockName<'s> {
+struct PlacedName<'s> {
     name: &'s str,
     span: Span,
 }
 
 /// Puts the names of all blocks of the nodes behind those that are there.
 #[cycle(names)]
-fn gather<'s>(names: &mut Vec<BlockName<'s>>, nodes: &[Node<'s>]) -> Result<(), Refusal>
+fn gather<'s>(names: &mut Vec<PlacedName<'s>>, nodes: &[Node<'s>]) -> Result<(), Refusal>
     ensures ok { let more = block_names (nodes_of nodes.now) in
         OnOk result (names_of names.new.items ≡ names_of names.old.items ++ more) }
     ensures lacks { IfErr result (λ refusal. refusal ≡ OutOfMemory) }
@@ -33,7 +34,7 @@ fn gather<'s>(names: &mut Vec<BlockName<'s>>, nodes: &[Node<'s>]) -> Result<(), 
 }
 
 #[cycle(names)]
-fn gather_node<'s>(names: &mut Vec<BlockName<'s>>, node: &Node<'s>) -> Result<(), Refusal>
+fn gather_node<'s>(names: &mut Vec<PlacedName<'s>>, node: &Node<'s>) -> Result<(), Refusal>
     ensures ok { let more = node_names (node_of node.now) in
         OnOk result (names_of names.new.items ≡ names_of names.old.items ++ more) }
     ensures lacks { IfErr result (λ refusal. refusal ≡ OutOfMemory) }
@@ -63,16 +64,64 @@ fn gather_node<'s>(names: &mut Vec<BlockName<'s>>, node: &Node<'s>) -> Result<()
         } => gather(names, body.as_slice()),
         Node::FilterSection { filters: _, body } => gather(names, body.as_slice()),
         Node::Block { name, body, span } => {
-            names.push(BlockName { name, span: *span })?;
+            names.push(PlacedName { name, span: *span })?;
             gather(names, body.as_slice())
         }
+        Node::ComponentCall {
+            name: _,
+            attributes: _,
+            body,
+            span: _,
+        } => gather(names, body.as_slice()),
+        Node::Definition { signature: _, body } => gather(names, body.as_slice()),
         Node::Content { .. } | Node::Print { .. } | Node::Set { .. } => Ok(()),
         Node::Include { .. } | Node::Break | Node::Continue => Ok(()),
     }
 }
 
+/// Puts the names of all components that the nodes define behind those that are there. One stands
+/// behind the text before it.
+fn gather_components<'s>(names: &mut Vec<PlacedName<'s>>, nodes: &[Node<'s>]) -> Result<(), Refusal>
+    ensures ok { let more = component_names (nodes_of nodes.now) in
+        OnOk result (names_of names.new.items ≡ names_of names.old.items ++ more) }
+    ensures lacks { IfErr result (λ refusal. refusal ≡ OutOfMemory) }
+{
+    let mut at = 0;
+    for node in nodes {
+        gather_component(names, node, at)?;
+        at = end_of(node, at);
+    }
+    Ok(())
+}
+
+fn gather_component<'s>(
+    names: &mut Vec<PlacedName<'s>>,
+    node: &Node<'s>,
+    at: usize,
+) -> Result<(), Refusal>
+    ensures ok { let more = node_components (node_of node.now) in
+        OnOk result (names_of names.new.items ≡ names_of names.old.items ++ more) }
+    ensures lacks { IfErr result (λ refusal. refusal ≡ OutOfMemory) }
+{
+    if let Node::Definition { signature, body: _ } = node {
+        names.push(PlacedName {
+            name: signature.name,
+            span: Span { start: at, end: at },
+        })?;
+    }
+    Ok(())
+}
+
+/// Where a text ends, and before any other node the place that is given.
+fn end_of(node: &Node<'_>, at: usize) -> usize {
+    match node {
+        Node::Content { text: _, span } => span.end,
+        _ => at,
+    }
+}
+
 /// Where the name stands among these, if it does.
-fn find(name: &str, names: &[BlockName<'_>]) -> Option<Span>
+fn find(name: &str, names: &[PlacedName<'_>]) -> Option<Span>
     ensures { is_some result ≡ is_among name.now (names_of names.now) }
 {
     for other in names {
@@ -84,7 +133,7 @@ fn find(name: &str, names: &[BlockName<'_>]) -> Option<Span>
 }
 
 /// Where a name stands again that stands before, if one does.
-fn twice(names: &[BlockName<'_>]) -> Option<Span>
+fn twice(names: &[PlacedName<'_>]) -> Option<Span>
     ensures { is_some result ≡ not (are_distinct (names_of names.now)) }
 {
     let mut at = 0;
@@ -98,14 +147,19 @@ fn twice(names: &[BlockName<'_>]) -> Option<Span>
     None
 }
 
-/// The tree, where no two of its blocks have one name.
+/// The tree, where no two of its blocks have one name, and no two of its components.
 pub(crate) fn once<'s>(alloc: Global, output: ParserOutput<'s>) -> Result<ParserOutput<'s>, Refusal>
     ensures { Answers tree_of (spec.once (tree_of output.entry)) result }
 {
     let mut names = Vec::new(alloc);
     gather(&mut names, output.nodes.as_slice())?;
-    match twice(names.as_slice()) {
+    if let Some(span) = twice(names.as_slice()) {
+        return Err(Refusal::Syntax(Reason::BlockTwice, span));
+    }
+    let mut components = Vec::new(alloc);
+    gather_components(&mut components, output.nodes.as_slice())?;
+    match twice(components.as_slice()) {
         None => Ok(output),
-        Some(span) => Err(Refusal::Syntax(Reason::BlockTwice, span)),
+        Some(span) => Err(Refusal::Syntax(Reason::ComponentTwice, span)),
     }
 }

@@ -7,9 +7,9 @@ ghost use Rattle.tera_tree.specs.View.{node_of, nodes_of};
 
 use tera_errors::Span;
 use tera_tokens::cut::is_alone;
-use tera_tokens::input::{Tokens, same};
+use tera_tokens::input::{Tokens, is_word, same};
 use tera_tokens::token::{Kind, Token};
-use tera_tree::{Expression, Heading, Node, SectionFilter};
+use tera_tree::{Entry, Expression, Heading, Node, SectionFilter, Signature};
 
 /// What a tag stands in.
 #[derive(Clone, Copy)]
@@ -18,16 +18,34 @@ pub(crate) struct Surroundings {
     pub in_loop: bool,
     /// Whether `break` and `continue` may stand here: inside a loop's body, with no block between.
     pub may_leave: bool,
+    /// Whether nothing is open: components are defined here alone.
+    pub is_top: bool,
+    /// Whether a block may stand here, which is in no component.
+    pub may_have_blocks: bool,
 }
 
 impl Surroundings {
-    /// No loop.
+    /// Nothing.
     pub fn outside() -> Surroundings
         ensures { result ≡ spec.outside }
     {
         Surroundings {
             in_loop: false,
             may_leave: false,
+            is_top: true,
+            may_have_blocks: true,
+        }
+    }
+
+    /// What stands in a statement that changes nothing else: no component is defined there.
+    pub fn nested(self) -> Surroundings
+        ensures { result ≡ spec.nested self }
+    {
+        Surroundings {
+            in_loop: self.in_loop,
+            may_leave: self.may_leave,
+            is_top: false,
+            may_have_blocks: self.may_have_blocks,
         }
     }
 }
@@ -45,6 +63,10 @@ pub(crate) enum Head<'s> {
     Section(Vec<SectionFilter<'s>>),
     /// `block name`, and where the name stands.
     Block(&'s str, Span),
+    /// `<name attributes>`, and from where to where it stands.
+    Call(&'s str, Vec<Entry<'s>>, Span),
+    /// `component signature`
+    Definition(Box<Signature<'s>>),
 }
 
 impl<'s> Head<'s> {
@@ -59,6 +81,10 @@ impl<'s> Head<'s> {
             Head::Set(name, filters, is_global) => Node::capture(name, filters, body, is_global),
             Head::Section(filters) => Node::filter_section(filters, body),
             Head::Block(name, span) => Node::block(name, body, span),
+            Head::Call(name, attributes, span) => {
+                Node::component_call(name, attributes, body, span)
+            }
+            Head::Definition(signature) => Node::definition(signature, body),
         }
     }
 
@@ -69,6 +95,7 @@ impl<'s> Head<'s> {
         match self {
             Head::If(_) | Head::For(_) => true,
             Head::Set(_, _, _) | Head::Section(_) | Head::Block(_, _) => false,
+            Head::Call(_, _, _) | Head::Definition(_) => false,
         }
     }
 
@@ -79,28 +106,52 @@ impl<'s> Head<'s> {
         match self {
             Head::If(_) => true,
             Head::For(_) | Head::Set(_, _, _) | Head::Section(_) | Head::Block(_, _) => false,
+            Head::Call(_, _, _) | Head::Definition(_) => false,
         }
     }
 
     /// What its body stands in. A block's body keeps the names of a loop around it, and can't leave
-    /// a turn of that loop.
+    /// a turn of that loop; the body that a component is handed can.
     pub fn inside(&self, around: Surroundings) -> Surroundings
         ensures { result ≡ spec.inside (head_of self.now) around }
     {
         match self {
-            Head::If(_) | Head::Set(_, _, _) | Head::Section(_) => around,
+            Head::If(_) | Head::Set(_, _, _) | Head::Section(_) => around.nested(),
+            Head::Call(_, _, _) => around.nested(),
             Head::For(_) => Surroundings {
                 in_loop: true,
                 may_leave: true,
+                is_top: false,
+                may_have_blocks: around.may_have_blocks,
             },
             Head::Block(_, _) => Surroundings {
                 in_loop: around.in_loop,
                 may_leave: false,
+                is_top: false,
+                may_have_blocks: around.may_have_blocks,
+            },
+            Head::Definition(_) => Surroundings {
+                in_loop: false,
+                may_leave: false,
+                is_top: false,
+                may_have_blocks: false,
             },
         }
     }
 
-    /// Whether the tokens are the word of its end. Behind that of a block its name may stand.
+    /// The kind of the first token of its end.
+    fn end_kind(&self) -> Kind
+        ensures { result ≡ spec.end_kind (head_of self.now) }
+    {
+        match self {
+            Head::If(_) | Head::For(_) | Head::Set(_, _, _) | Head::Section(_) => Kind::Name,
+            Head::Block(_, _) | Head::Definition(_) => Kind::Name,
+            Head::Call(_, _, _) => Kind::Less,
+        }
+    }
+
+    /// Whether the tokens are its end, by the first one's kind. Behind the word that ends a block or
+    /// a component its name may stand.
     fn is_end(&self, tokens: &[Token<'_>]) -> bool
         ensures { result ≡ spec.is_end (head_of self.now) (tokens_of tokens.now) }
     {
@@ -114,6 +165,10 @@ impl<'s> Head<'s> {
             Head::Block(name, _) => {
                 is_alone("endblock", tokens) || is_named("endblock", name, tokens)
             }
+            Head::Call(name, _, _) => is_call_end(name, tokens),
+            Head::Definition(signature) => {
+                is_alone("endcomponent", tokens) || is_named("endcomponent", signature.name, tokens)
+            }
         }
     }
 
@@ -121,7 +176,7 @@ impl<'s> Head<'s> {
     pub fn is_ended_by(&self, tokens: &[Token<'_>]) -> bool
         ensures { result ≡ spec.ends (head_of self.now) (tokens_of tokens.now) }
     {
-        same(Kind::Name, first(tokens)) && self.is_end(tokens)
+        same(self.end_kind(), first(tokens)) && self.is_end(tokens)
     }
 }
 
@@ -144,8 +199,19 @@ fn is_named(word: &str, name: &str, tokens: &[Token<'_>]) -> bool
     ensures { result ≡ spec.is_named word.now name.now (tokens_of tokens.now) }
 {
     match tokens {
-        [first, second] => {
-            first.text == word && same(Kind::Name, second.kind) && second.text == name
+        [first, second] => { first.text == word && is_word(second.kind) && second.text == name }
+        _ => false,
+    }
+}
+
+/// Whether a slash, this name and `>` stand behind the first token.
+fn is_call_end(name: &str, tokens: &[Token<'_>]) -> bool
+    ensures { result ≡ spec.is_call_end name.now (tokens_of tokens.now) }
+{
+    match tokens {
+        [_, slash, named, close] => {
+            same(Kind::Slash, slash.kind)
+                && (is_word(named.kind) && named.text == name && same(Kind::Greater, close.kind))
         }
         _ => false,
     }

@@ -2,6 +2,7 @@
 #![tactic(auto)]
 
 mod blocks;
+mod components;
 mod file;
 mod heads;
 pub mod laws;
@@ -12,6 +13,6 @@ mod words;
 
 pub use reader::parse;
 pub use tera_tree::{
-    Argument, BinaryOperator, Delimiters, Entry, Expression, Heading, Item, LiteralKey, Node,
-    ParserOutput, SectionFilter,
+    Argument, ArgumentType, BinaryOperator, Delimiters, Entry, Expression, Heading, Item, Literal,
+    LiteralEntry, LiteralKey, Node, Parameter, ParserOutput, SectionFilter, Signature,
 };

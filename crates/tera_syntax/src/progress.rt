@@ -1,5 +1,5 @@
 // What is open while a text is read, and the nodes that were read.
-ghost use Rattle.std.specs.Prelude.{◌≡◌, ◌-◌, suc, length, true, Some, IfErr};
+ghost use Rattle.std.specs.Prelude.{◌≡◌, ◌-◌, suc, length, true, Some, IfErr, option_map};
 ghost use Rattle.tera_syntax.specs.Heads as heads;
 ghost use Rattle.tera_syntax.specs.Reader as spec;
 ghost use Rattle.tera_syntax.specs.View.{Becomes, body_of, frame_of, head_of, progress_of};
@@ -165,11 +165,27 @@ impl<'s> Progress<'s> {
     /// `else`: what was read is the body.
     pub fn split(&mut self, alloc: Global, tag: &[Token<'_>]) -> Result<(), Refusal>
         ensures { let s = progress_of self.old in
-            Becomes (spec.turned heads.splits s.frames s.found) result self.new }
+            let meant = option_map spec.aside (spec.turned heads.splits s.frames s.found) in
+            Becomes meant result self.new }
     {
         match self.frames.last() {
-            Some(frame) if frame.head.splits() => self.turn(alloc, tag),
+            Some(frame) if frame.head.splits() => self.turn_aside(alloc, tag),
             _ => Err(refused(tag, Reason::NotOpen)),
+        }
+    }
+
+    /// The same where it may have an `else`.
+    fn turn_aside(&mut self, alloc: Global, tag: &[Token<'_>]) -> Result<(), Refusal>
+        ensures { let s = progress_of self.old in
+            let meant = option_map spec.aside (spec.turned (λ head. true) s.frames s.found) in
+            Becomes meant result self.new }
+    {
+        match self.turn(alloc, tag) {
+            Ok(()) => {
+                self.surroundings = self.surroundings.nested();
+                Ok(())
+            }
+            Err(refusal) => Err(refusal),
         }
     }
 

@@ -9,6 +9,7 @@ ghost use Rattle.tera_tokens.specs.Takes.{input};
 ghost use Rattle.tera_tokens.specs.Token.{tokens_of};
 ghost use Rattle.tera_tree.specs.View.{expr_of, filters_of, node_of};
 
+use crate::components::call;
 use crate::heads::{Head, first};
 use crate::progress::{Progress, refused};
 use crate::words::named;
@@ -121,6 +122,7 @@ fn statement<'s>(
             progress.open(alloc, true, Head::If(condition), tag)
         }
         Kind::Else if is_alone("else", tag) => progress.split(alloc, tag),
+        Kind::Less => call(progress, alloc, tag),
         Kind::Name => {
             let word = Tokens::begin(tag, false).text();
             named(progress, alloc, tag, word)

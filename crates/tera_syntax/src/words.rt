@@ -8,6 +8,7 @@ ghost use Rattle.tera_tokens.specs.Takes.{input};
 ghost use Rattle.tera_tokens.specs.Token.{Token, tokens_of};
 ghost use Rattle.tera_tree.specs.View.{node_of, quoted_of};
 
+use crate::components::define;
 use crate::heads::Head;
 use crate::progress::{Progress, refused};
 use crate::statements::{behind, pipe, put, whole};
@@ -80,9 +81,12 @@ fn block<'s>(
     ahead: &mut Tokens<'_, 's>,
 ) -> Result<(), Refusal>
     ensures { let s = progress_of progress.old in
-        let meant = spec.blocking (input ahead.old) in
+        let meant = spec.blocking s.surroundings.may_have_blocks (input ahead.old) in
         Becomes (option_and_then (spec.taken 200 s (tokens_of tag.now)) meant) result progress.new }
 {
+    if !progress.surroundings.may_have_blocks {
+        return Err(refused(tag, Reason::OutOfPlace));
+    }
     if !same(Kind::Name, ahead.kind()) {
         return Err(ahead.refuse(Reason::Expected(Kind::Name)));
     }
@@ -165,7 +169,7 @@ fn may_begin(first: u8, size: usize) -> bool
         5 => first == b'b',
         6 => first == b'f',
         7 => first == b'i',
-        8 => first == b'c',
+        8 | 9 => first == b'c',
         10 => first == b's',
         _ => false,
     }
@@ -225,6 +229,10 @@ fn begun<'s>(
         "block" => {
             let mut ahead = behind(tag, progress.surroundings.in_loop);
             block(progress, alloc, tag, &mut ahead)
+        }
+        "component" => {
+            let mut ahead = behind(tag, false);
+            define(progress, alloc, tag, &mut ahead)
         }
         "include" => {
             let mut ahead = behind(tag, false);

@@ -4,6 +4,8 @@
 #[cfg(test)]
 mod applications;
 #[cfg(test)]
+mod components;
+#[cfg(test)]
 mod includes;
 #[cfg(test)]
 mod readings;

@@ -3,6 +3,7 @@ ghost use Rattle.std.specs.Prelude.{IsTrue, IfSome, OnOk};
 ghost use Rattle.tera_tree.specs.Delimiters.{accepted, delimiters_of};
 
 use crate::applications::{APPLICATION_NESTS, APPLICATIONS, UNREAD_APPLICATIONS};
+use crate::components::{CALLS, COMPONENT_NESTS, DEFINITIONS, UNREAD_CALLS, UNREAD_DEFINITIONS};
 use crate::includes::{INCLUDE_NESTS, INCLUDES, UNREAD_INCLUDES};
 use crate::rows::{NESTS, Nest, OTHERS, Other, REFUSED, Row, TREES, Text, UNUSABLE, Unusable};
 use crate::sections::{SECTION_NESTS, SECTIONS, UNREAD_SECTIONS};
@@ -222,6 +223,51 @@ fn deep_includes(rt: HostRuntime) {
     let wrong = match standard(rt.alloc()) {
         Some(delimiters) => first_deep(rt.alloc(), &delimiters, &INCLUDE_NESTS),
         None => Some(INCLUDE_NESTS.len()),
+    };
+    assert_eq!(rt; wrong, None);
+}
+
+#[test]
+fn definitions(rt: HostRuntime) {
+    let wrong = match standard(rt.alloc()) {
+        Some(delimiters) => first_wrong(rt.alloc(), &delimiters, &DEFINITIONS),
+        None => Some("want of memory"),
+    };
+    assert_eq!(rt; wrong, None);
+}
+
+#[test]
+fn unread_definitions(rt: HostRuntime) {
+    let wrong = match standard(rt.alloc()) {
+        Some(delimiters) => first_read(rt.alloc(), &delimiters, &UNREAD_DEFINITIONS),
+        None => Some("want of memory"),
+    };
+    assert_eq!(rt; wrong, None);
+}
+
+#[test]
+fn component_calls(rt: HostRuntime) {
+    let wrong = match standard(rt.alloc()) {
+        Some(delimiters) => first_wrong(rt.alloc(), &delimiters, &CALLS),
+        None => Some("want of memory"),
+    };
+    assert_eq!(rt; wrong, None);
+}
+
+#[test]
+fn unread_component_calls(rt: HostRuntime) {
+    let wrong = match standard(rt.alloc()) {
+        Some(delimiters) => first_read(rt.alloc(), &delimiters, &UNREAD_CALLS),
+        None => Some("want of memory"),
+    };
+    assert_eq!(rt; wrong, None);
+}
+
+#[test]
+fn deep_components(rt: HostRuntime) {
+    let wrong = match standard(rt.alloc()) {
+        Some(delimiters) => first_deep(rt.alloc(), &delimiters, &COMPONENT_NESTS),
+        None => Some(COMPONENT_NESTS.len()),
     };
     assert_eq!(rt; wrong, None);
 }

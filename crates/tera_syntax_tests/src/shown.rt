@@ -1,7 +1,9 @@
 //! Trees in words, for tests: each node with its parts and its span.
 use std::alloc::{AllocError, Global};
 use tera_errors::Span;
-use tera_syntax::{Argument, Expression, Heading, Node, SectionFilter};
+use tera_syntax::{
+    Argument, Entry, Expression, Heading, Literal, LiteralKey, Node, SectionFilter, Signature,
+};
 
 /// Words that are written one behind another.
 #[derive(Drop)]
@@ -96,6 +98,22 @@ impl Shown {
         }
     }
 
+    /// Attributes of a component, each with its name, or the dots of a map that is spread.
+    #[cycle(expression)]
+    fn attributes(&mut self, attributes: &[Entry]) {
+        for attribute in attributes {
+            match &attribute.key {
+                Some(LiteralKey::Text(name)) => {
+                    self.put(" ");
+                    self.put(name.as_str());
+                    self.put("=");
+                }
+                _ => self.put(" ..."),
+            }
+            self.expression(&attribute.value);
+        }
+    }
+
     /// An expression: its word, its parts and its span.
     #[cycle(expression)]
     pub fn expression(&mut self, expression: &Expression) {
@@ -185,6 +203,14 @@ impl Shown {
                 self.put(name);
                 self.arguments(arguments);
             }
+            Expression::Component {
+                name,
+                attributes,
+                ..
+            } => {
+                self.put(name);
+                self.attributes(attributes);
+            }
             _ => {}
         }
         self.put_span(span_of(expression));
@@ -204,6 +230,74 @@ impl Shown {
             self.arguments(&filter.arguments);
             self.put_span(filter.span);
         }
+    }
+
+    fn put_key(&mut self, key: &LiteralKey) {
+        match key {
+            LiteralKey::Bool(value) => self.put_made(format!(in self.alloc; "{value}")),
+            LiteralKey::Int(value) => self.put_made(format!(in self.alloc; "{value}")),
+            LiteralKey::Text(text) => {
+                let text = text.as_str();
+                self.put_made(format!(in self.alloc; "'{text}'"));
+            }
+        }
+    }
+
+    /// A value that is written out, with a comma behind each part.
+    fn literal(&mut self, value: &Literal) {
+        match value {
+            Literal::None => self.put("none"),
+            Literal::Bool(value) => self.put_made(format!(in self.alloc; "{value}")),
+            Literal::Int(value) => self.put_made(format!(in self.alloc; "{value}")),
+            Literal::Text(text) => {
+                let text = text.as_str();
+                self.put_made(format!(in self.alloc; "'{text}'"));
+            }
+            Literal::Array(items) => {
+                self.put("[");
+                for item in items {
+                    self.literal(item);
+                    self.put(",");
+                }
+                self.put("]");
+            }
+            Literal::Map(entries) => {
+                self.put("{");
+                for entry in entries {
+                    self.put_key(&entry.key);
+                    self.put(":");
+                    self.literal(&entry.value);
+                    self.put(",");
+                }
+                self.put("}");
+            }
+        }
+    }
+
+    /// A component's name and its parameters.
+    fn signature(&mut self, signature: &Signature) {
+        self.put(signature.name);
+        self.put("(");
+        let mut between = "";
+        for parameter in &signature.parameters {
+            self.put(between);
+            between = ",";
+            self.put(if parameter.is_implicit { "@" } else { "" });
+            self.put(parameter.name);
+            if let Some(of_type) = &parameter.of_type {
+                self.put_made(format!(in self.alloc; ": {of_type:?}"));
+            }
+            if let Some(value) = &parameter.default {
+                self.put("=");
+                self.literal(value);
+            }
+        }
+        if let Some(rest) = &signature.rest {
+            self.put(between);
+            self.put("...");
+            self.put(rest);
+        }
+        self.put(")");
     }
 
     /// Nodes, one behind another.
@@ -282,6 +376,26 @@ impl Shown {
                     self.put(name.as_str());
                     self.put_span(*span);
                 }
+                Node::ComponentCall {
+                    name,
+                    attributes,
+                    body,
+                    span,
+                } => {
+                    self.put("(<");
+                    self.put(name);
+                    self.attributes(attributes);
+                    self.put(" of ");
+                    self.nodes(body);
+                    self.put_span(*span);
+                }
+                Node::Definition { signature, body } => {
+                    self.put("(component ");
+                    self.signature(signature);
+                    self.put(" of ");
+                    self.nodes(body);
+                    self.put(")");
+                }
                 Node::Break => self.put("(break)"),
                 Node::Continue => self.put("(continue)"),
             }
@@ -311,7 +425,8 @@ fn span_of(expression: &Expression) -> Span {
         | Expression::Super { span, .. }
         | Expression::Filter { span, .. }
         | Expression::Test { span, .. }
-        | Expression::Call { span, .. } => *span
+        | Expression::Call { span, .. }
+        | Expression::Component { span, .. } => *span
     }
 }
 
@@ -334,6 +449,7 @@ fn word(expression: &Expression) -> &'static str {
         Expression::Filter { .. } => "|",
         Expression::Test { .. } => "is",
         Expression::Call { .. } => "call ",
+        Expression::Component { .. } => "<",
         _ => "",
     }
 }

@@ -2,6 +2,8 @@
 #![tactic(auto)]
 
 #[cfg(test)]
+mod absent_calls;
+#[cfg(test)]
 mod batches;
 #[cfg(test)]
 mod blocks;
@@ -11,6 +13,10 @@ mod built_ins;
 mod cases;
 #[cfg(test)]
 mod commands;
+#[cfg(test)]
+mod component_calls;
+#[cfg(test)]
+mod components;
 #[cfg(test)]
 mod comprehensions;
 #[cfg(test)]
@@ -45,6 +51,8 @@ mod many_templates;
 mod memory;
 #[cfg(test)]
 mod other_delimiters;
+#[cfg(test)]
+mod previews;
 #[cfg(test)]
 mod refused_renderings;
 #[cfg(test)]

@@ -22,6 +22,16 @@ pub enum Reason {
     NoEnd,
     /// Another block has the same name.
     BlockTwice,
+    /// Another component has the same name.
+    ComponentTwice,
+    /// A component inside anything else, or a block in a component.
+    OutOfPlace,
+    /// Two parameters have one name, or one is called `body`.
+    ParameterTwice,
+    /// A default that is no text, integer or constant, and no array or map of such.
+    NoLiteral,
+    /// No type has this name.
+    NoType,
     /// A token follows what the tag is.
     TagGoesOn,
     TooDeep,
@@ -45,9 +55,15 @@ impl Reason {
             Reason::NotOpen => "what this tag ends or goes on with is not open here",
             Reason::NoEnd => "the end of a statement is due here",
             Reason::BlockTwice => "another block has this name",
+            Reason::ComponentTwice => "another component has the same name",
+            Reason::OutOfPlace => "this may not stand inside of what is open here",
+            Reason::ParameterTwice => "two parameters have one name, or one is called `body`",
+            Reason::NoLiteral => "a text, an integer, a constant, an array or a map is due here",
+            Reason::NoType => "no type has this name",
             Reason::TagGoesOn => "the tag goes on where its end is due",
             Reason::TooDeep => "what stands here is nested too deeply",
             Reason::LargeInteger => "the integer is too large",
+            Reason::Expected(Kind::LeftParenthesis) => "`(` is due here",
             Reason::Expected(Kind::RightParenthesis) => "`)` is due here",
             Reason::Expected(Kind::RightBracket) => "`]` is due here",
             Reason::Expected(Kind::RightBrace) => "`}` is due here",

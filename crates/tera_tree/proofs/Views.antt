@@ -9,12 +9,17 @@ use Rattle.tera_tree.specs.declared.expression.Entry as entry
 use Rattle.tera_tree.specs.declared.expression.Argument as argument
 use Rattle.tera_tree.specs.declared.expression.Expression.{Expression, Row_of-Item, end_of-Item, more_of-Item, items-the_row-Item, items_hidden-the_row-Item-0, Row_of-Entry, end_of-Entry, more_of-Entry, items-the_row-Entry, items_hidden-the_row-Entry-1, Row_of-Argument, end_of-Argument, more_of-Argument, items-the_row-Argument, items_hidden-the_row-Argument-2}
 use Rattle.tera_tree.specs.declared.expression.Expression.TheVariants as expression
+use Rattle.tera_tree.specs.declared.component.Literal.{Row_of-Literal, end_of-Literal, more_of-Literal, items-the_row-Literal, items_hidden-the_row-Literal-0, Row_of-LiteralEntry, end_of-LiteralEntry, more_of-LiteralEntry, items-the_row-LiteralEntry, items_hidden-the_row-LiteralEntry-1}
+use Rattle.tera_tree.specs.declared.component.Literal as declared_literal
+use Rattle.tera_tree.specs.declared.component.Literal.TheVariants as written
+use Rattle.tera_tree.specs.declared.component.LiteralEntry.{LiteralEntry}
+use Rattle.tera_tree.specs.declared.component.Signature as signature
 use Rattle.tera_tree.specs.declared.node.Node.{Row_of-Node, end_of-Node, more_of-Node, items-the_row-Node, items_hidden-the_row-Node-0}
 use Rattle.tera_tree.specs.declared.node.Node as declared
 use Rattle.tera_tree.specs.declared.node.SectionFilter.{SectionFilter}
 use Rattle.tera_tree.specs.declared.node.Node.TheVariants as variant
-use Rattle.tera_tree.specs.Tree.{Array, Map, Super, Filter, Test, Call, MoreItems, MoreEntries, MoreArguments, If, Capture, FilterSection, For, Block, MoreNodes}
-use Rattle.tera_tree.specs.View.{literal_option, expr_of, row_items, items_of, row_entries, entries_of, row_arguments, arguments_of, filters_of, node_of, row_nodes, nodes_of, for_of}
+use Rattle.tera_tree.specs.Tree.{Array, Map, Super, Filter, Test, Call, Component, ArrayLiteral, MapLiteral, MoreLiterals, MoreLiteralEntries, MoreItems, MoreEntries, MoreArguments, If, Capture, FilterSection, For, Block, ComponentCall, Definition, MoreNodes}
+use Rattle.tera_tree.specs.View.{literal_of, literal_option, expr_of, row_items, items_of, row_entries, entries_of, row_arguments, arguments_of, written_of, row_literals, literals_of, row_literal_entries, literal_entries_of, signature_of, filters_of, node_of, row_nodes, nodes_of, for_of}
 
 pub items_row : (m : _) (row : Row_of-Item m) → row_items row ≡ items_of (items-the_row-Item m row)
 items_row m end_of-Item = refl
@@ -32,12 +37,29 @@ pub nodes_row : (m : _) (row : Row_of-Node m) → row_nodes row ≡ nodes_of (it
 nodes_row m end_of-Node = refl
 nodes_row m (more_of-Node n rest) = ap (λ r. MoreNodes (node_of n) r) (nodes_row _ rest)
 
+pub literals_row : (m : _) (row : Row_of-Literal m) → row_literals row ≡ literals_of (items-the_row-Literal m row)
+literals_row m end_of-Literal = refl
+literals_row m (more_of-Literal v rest) = ap (λ r. MoreLiterals (written_of v) r) (literals_row _ rest)
+
+pub literal_entries_row : (m : _) (row : Row_of-LiteralEntry m) → row_literal_entries row ≡ literal_entries_of (items-the_row-LiteralEntry m row)
+literal_entries_row m end_of-LiteralEntry = refl
+literal_entries_row m (more_of-LiteralEntry k v rest) = ap (λ r. MoreLiteralEntries (literal_of k) (written_of v) r) (literal_entries_row _ rest)
+
+abbrev literals_in : declared_literal.Literal → (n : Count) × Row_of-Literal n
+literals_in (written.Array' _ row) = (_, row)
+literals_in _ = (_, end_of-Literal)
+
+abbrev literal_entries_in : declared_literal.Literal → (n : Count) × Row_of-LiteralEntry n
+literal_entries_in (written.Map' _ row) = (_, row)
+literal_entries_in _ = (_, end_of-LiteralEntry)
+
 abbrev items_in : Expression → (n : Count) × Row_of-Item n
 items_in (expression.Array' _ row _) = (_, row)
 items_in _ = (_, end_of-Item)
 
 abbrev entries_in : Expression → (n : Count) × Row_of-Entry n
 entries_in (expression.Map' _ row _) = (_, row)
+entries_in (expression.Component' _ _ row _) = (_, row)
 entries_in _ = (_, end_of-Entry)
 
 abbrev arguments_in : Expression → (n : Count) × Row_of-Argument n
@@ -53,6 +75,8 @@ body_in (variant.Capture' _ _ _ row _) = (_, row)
 body_in (variant.FilterSection' _ _ row) = (_, row)
 body_in (variant.For' _ _ row _ _) = (_, row)
 body_in (variant.Block' _ _ row _) = (_, row)
+body_in (variant.ComponentCall' _ _ _ row _) = (_, row)
+body_in (variant.Definition' _ _ row) = (_, row)
 body_in _ = (_, end_of-Node)
 
 abbrev other_in : declared.Node → (n : Count) × Row_of-Node n
@@ -90,6 +114,11 @@ view_test v n all span = ap (λ x. Test (expr_of v.value) n.now x span) (argumen
 pub view_call : (n : Bor Text) (all : Vec argument.Argument Global) (span : Span) → expr_of (expression.Call n all span) ≡ Call n.now (arguments_of all.items) span
 view_call n all span = ap (λ x. Call n.now x span) (arguments_are (arguments_in (expression.Call n all span)) all (items_hidden-the_row-Argument-2 all))
 
+pub view_component : (n : Bor Text) (all : Vec entry.Entry Global) (span : Span) → expr_of (expression.Component n all span) ≡ Component n.now (entries_of all.items) span
+view_component n all span =
+    let r = entries_in (expression.Component n all span) in
+    ap (λ x. Component n.now x span) (entries_row r.0 r.1 ∙ ap entries_of (items_hidden-the_row-Entry-1 all))
+
 pub view_block : (t : Bor Text) (body : Vec declared.Node Global) (span : Span) → node_of (variant.Block t body span) ≡ Block t.now (nodes_of body.items) span
 view_block t body span = ap (λ x. Block t.now x span) (nodes_is (body_in (variant.Block t body span)) body (items_hidden-the_row-Node-0 body))
 
@@ -106,3 +135,21 @@ view_section filters body = ap (λ x. FilterSection (filters_of filters.items) x
 pub view_for : (h : Box Heading Global) (body other : Vec declared.Node Global) → node_of (variant.For h body other) ≡ for_of h.value body.items other.items
 view_for h body other =
     ap₂ (λ x y. For (option_copied h.value.key) h.value.name.now (expr_of h.value.target) x y) (nodes_is (body_in (variant.For h body other)) body (items_hidden-the_row-Node-0 body)) (nodes_is (other_in (variant.For h body other)) other (items_hidden-the_row-Node-0 other))
+
+pub view_component_call : (t : Bor Text) (es : Vec entry.Entry Global) (body : Vec declared.Node Global) (span : Span)
+    → node_of (variant.ComponentCall t es body span) ≡ ComponentCall t.now (entries_of es.items) (nodes_of body.items) span
+view_component_call t es body span =
+    ap (λ x. ComponentCall t.now (entries_of es.items) x span) (nodes_is (body_in (variant.ComponentCall t es body span)) body (items_hidden-the_row-Node-0 body))
+
+pub view_definition : (s : Box signature.Signature Global) (body : Vec declared.Node Global) → node_of (variant.Definition s body) ≡ Definition (signature_of s.value) (nodes_of body.items)
+view_definition s body = ap (λ x. Definition (signature_of s.value) x) (nodes_is (body_in (variant.Definition s body)) body (items_hidden-the_row-Node-0 body))
+
+pub view_array_literal : (all : Vec declared_literal.Literal Global) → written_of (written.Array all) ≡ ArrayLiteral (literals_of all.items)
+view_array_literal all =
+    let r = literals_in (written.Array all) in
+    ap ArrayLiteral (literals_row r.0 r.1 ∙ ap literals_of (items_hidden-the_row-Literal-0 all))
+
+pub view_map_literal : (all : Vec LiteralEntry Global) → written_of (written.Map all) ≡ MapLiteral (literal_entries_of all.items)
+view_map_literal all =
+    let r = literal_entries_in (written.Map all) in
+    ap MapLiteral (literal_entries_row r.0 r.1 ∙ ap literal_entries_of (items_hidden-the_row-LiteralEntry-1 all))

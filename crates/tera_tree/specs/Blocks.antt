@@ -2,7 +2,7 @@
 use Rattle.std.specs.Prelude.{Bool, true, not, ◌&&◌, List, [], ◌∷◌, ◌++◌, map, bytes_eq}
 use Rattle.std.specs.List.{list_any}
 use Rattle.tera_errors.specs.Site as site
-use Rattle.tera_tree.specs.Tree.{Node, Content, Print, If, Set, Capture, FilterSection, For, Block, Include, Break, Continue, Nodes, NoNodes, MoreNodes}
+use Rattle.tera_tree.specs.Tree.{Node, Content, Print, If, Set, Capture, FilterSection, For, Block, Include, ComponentCall, Definition, Break, Continue, Nodes, NoNodes, MoreNodes}
 
 -- each with its name and its body, in the order of the text; those inside others too
 abbrev mutual
@@ -16,6 +16,8 @@ abbrev mutual
   node_blocks (For key n e body other) = blocks body ++ blocks other
   node_blocks (Block n body span) = (n, body) ∷ blocks body
   node_blocks (Include n span) = []
+  node_blocks (ComponentCall n all body span) = blocks body
+  node_blocks (Definition s body) = blocks body
   node_blocks Break = []
   node_blocks Continue = []
 
@@ -38,6 +40,8 @@ abbrev mutual
   node_top_blocks (For key n e body other) = top_blocks body ++ top_blocks other
   node_top_blocks (Block n body span) = n ∷ []
   node_top_blocks (Include n span) = []
+  node_top_blocks (ComponentCall n all body span) = top_blocks body
+  node_top_blocks (Definition s body) = top_blocks body
   node_top_blocks Break = []
   node_top_blocks Continue = []
 

@@ -1,13 +1,14 @@
 -- What a tree calls.
 use Rattle.std.specs.Prelude.{List, [], ◌∷◌, ◌++◌}
 use Rattle.tera_errors.specs.Site as site
-use Rattle.tera_tree.specs.Tree.{Expr, Nothing, Boolean, Integer, Text, Name, Attribute, Index, Slice, Not, Negate, Binary, And, Or, Ternary, Array, Map, Comprehension, Super, Filter, Test, Call, Optional, Absent, Present, Items, NoItems, MoreItems, Entries, NoEntries, MoreEntries, Arguments, NoArguments, MoreArguments, Filters, NoFilters, MoreFilters, Node, Content, Print, If, Set, Capture, FilterSection, For, Block, Include, Break, Continue, Nodes, NoNodes, MoreNodes}
+use Rattle.tera_tree.specs.Tree.{Expr, Nothing, Boolean, Integer, Text, Name, Attribute, Index, Slice, Not, Negate, Binary, And, Or, Ternary, Array, Map, Comprehension, Super, Filter, Test, Call, Component, Optional, Absent, Present, Items, NoItems, MoreItems, Entries, NoEntries, MoreEntries, Arguments, NoArguments, MoreArguments, Filters, NoFilters, MoreFilters, Node, Content, Print, If, Set, Capture, FilterSection, For, Block, Include, ComponentCall, Definition, Break, Continue, Nodes, NoNodes, MoreNodes}
 
--- a name that is called as a filter, a test or a function
+-- a name that is called as a filter, a test, a function or a component
 pub data Callee : Type 0 where
   AFilter : (name : site.Name) → Callee
   ATest : (name : site.Name) → Callee
   AFunction : (name : site.Name) → Callee
+  AComponent : (name : site.Name) → Callee
 
 -- all that is called, in the order in which it is evaluated where all of it is
 abbrev mutual
@@ -33,6 +34,7 @@ abbrev mutual
   expr_calls (Filter e n all span) = expr_calls e ++ (arguments_calls all ++ AFilter n ∷ [])
   expr_calls (Test e n all span) = expr_calls e ++ (arguments_calls all ++ ATest n ∷ [])
   expr_calls (Call n all span) = arguments_calls all ++ AFunction n ∷ []
+  expr_calls (Component n all span) = entries_calls all ++ AComponent n ∷ []
 
   pub optional_calls : Optional → List Callee
   optional_calls Absent = []
@@ -54,7 +56,7 @@ abbrev pub filters_calls : Filters → List Callee
 filters_calls NoFilters = []
 filters_calls (MoreFilters n all span rest) = (arguments_calls all ++ AFilter n ∷ []) ++ filters_calls rest
 
--- what a block calls is no part of what the nodes around it call
+-- what a block or a component calls is no part of what the nodes around it call
 abbrev mutual
   pub node_calls : Node → List Callee
   node_calls (Content t span) = []
@@ -66,6 +68,8 @@ abbrev mutual
   node_calls (For key n e body other) = expr_calls e ++ (calls body ++ calls other)
   node_calls (Block n body span) = []
   node_calls (Include n span) = []
+  node_calls (ComponentCall n all body span) = calls body ++ (entries_calls all ++ AComponent n ∷ [])
+  node_calls (Definition s body) = []
   node_calls Break = []
   node_calls Continue = []
 

@@ -1,9 +1,9 @@
 -- What a tree includes.
 use Rattle.std.specs.Prelude.{List, [], ◌∷◌, ◌++◌}
 use Rattle.tera_errors.specs.Site as site
-use Rattle.tera_tree.specs.Tree.{Node, Content, Print, If, Set, Capture, FilterSection, For, Block, Include, Break, Continue, Nodes, NoNodes, MoreNodes}
+use Rattle.tera_tree.specs.Tree.{Node, Content, Print, If, Set, Capture, FilterSection, For, Block, Include, ComponentCall, Definition, Break, Continue, Nodes, NoNodes, MoreNodes}
 
--- the names that are included, in the order of the text; those in blocks too
+-- the names that are included, in the order of the text; those in blocks and components too
 abbrev mutual
   pub node_includes : Node → List site.Name
   node_includes (Content t span) = []
@@ -15,6 +15,8 @@ abbrev mutual
   node_includes (For key n e body other) = includes body ++ includes other
   node_includes (Block n body span) = includes body
   node_includes (Include n span) = n ∷ []
+  node_includes (ComponentCall n all body span) = includes body
+  node_includes (Definition s body) = includes body
   node_includes Break = []
   node_includes Continue = []
 

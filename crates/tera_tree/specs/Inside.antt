@@ -1,7 +1,7 @@
 -- Trees of which every span is a stretch of the text.
 use Rattle.std.specs.Prelude.{ℕ, ◌≤◌}
 use Rattle.tera_errors.specs.declared.span.Span.{Span}
-use Rattle.tera_tree.specs.Tree.{Expr, Nothing, Boolean, Integer, Text, Name, Attribute, Index, Slice, Not, Negate, Binary, And, Or, Ternary, Array, Map, Comprehension, Super, Filter, Test, Call, Optional, Absent, Present, Items, NoItems, MoreItems, Entries, NoEntries, MoreEntries, Arguments, NoArguments, MoreArguments, Filters, NoFilters, MoreFilters, Node, Content, Print, If, Set, Capture, FilterSection, For, Block, Include, Break, Continue, Nodes, NoNodes, MoreNodes, Tree}
+use Rattle.tera_tree.specs.Tree.{Expr, Nothing, Boolean, Integer, Text, Name, Attribute, Index, Slice, Not, Negate, Binary, And, Or, Ternary, Array, Map, Comprehension, Super, Filter, Test, Call, Component, Optional, Absent, Present, Items, NoItems, MoreItems, Entries, NoEntries, MoreEntries, Arguments, NoArguments, MoreArguments, Filters, NoFilters, MoreFilters, Node, Content, Print, If, Set, Capture, FilterSection, For, Block, Include, ComponentCall, Definition, Break, Continue, Nodes, NoNodes, MoreNodes, Tree}
 
 -- a stretch of a text of this size
 abbrev pub Within : ℕ → Span → Type 0
@@ -31,6 +31,7 @@ abbrev mutual
   ExprInside size (Filter e n all span) = ExprInside size e × ArgumentsInside size all × Within size span
   ExprInside size (Test e n all span) = ExprInside size e × ArgumentsInside size all × Within size span
   ExprInside size (Call n all span) = ArgumentsInside size all × Within size span
+  ExprInside size (Component n all span) = EntriesInside size all × Within size span
 
   pub OptionalInside : ℕ → Optional → Type 0
   OptionalInside size Absent = Unit {0}
@@ -63,6 +64,8 @@ abbrev mutual
   NodeInside size (For key n e body other) = ExprInside size e × NodesInside size body × NodesInside size other
   NodeInside size (Block n body span) = NodesInside size body × Within size span
   NodeInside size (Include n span) = Within size span
+  NodeInside size (ComponentCall n all body span) = EntriesInside size all × NodesInside size body × Within size span
+  NodeInside size (Definition s body) = NodesInside size body
   NodeInside size Break = Unit {0}
   NodeInside size Continue = Unit {0}
 

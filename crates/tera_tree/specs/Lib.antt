@@ -3,6 +3,7 @@ pub mod Tree
 pub mod View
 pub mod Places
 pub mod Blocks
+pub mod Definitions
 pub mod Calls
 pub mod Includes
 pub mod Depth

@@ -1,9 +1,9 @@
 -- Where `break` and `continue` stand.
 use Rattle.std.specs.Prelude.{Bool, true, false, ◌&&◌}
-use Rattle.tera_tree.specs.Tree.{Node, Content, Print, If, Set, Capture, FilterSection, For, Block, Include, Break, Continue, Nodes, NoNodes, MoreNodes}
+use Rattle.tera_tree.specs.Tree.{Node, Content, Print, If, Set, Capture, FilterSection, For, Block, Include, ComponentCall, Definition, Break, Continue, Nodes, NoNodes, MoreNodes}
 
 -- They stand in the body of a loop alone; the flag says whether the nodes do. What stands behind a loop's `else` is no part
--- of its body, and the body of a block is no part of a loop around it.
+-- of its body, and the body of a block is no part of a loop around it, while that which a component is handed is.
 abbrev mutual
   pub node_in_place : Bool → Node → Bool
   node_in_place q (Content t span) = true
@@ -15,6 +15,8 @@ abbrev mutual
   node_in_place q (For key n e body other) = in_place true body && in_place q other
   node_in_place q (Block n body span) = in_place false body
   node_in_place q (Include n span) = true
+  node_in_place q (ComponentCall n all body span) = in_place q body
+  node_in_place q (Definition s body) = in_place false body
   node_in_place q Break = q
   node_in_place q Continue = q
 

@@ -1,8 +1,9 @@
 -- Trees as plain data.
-use Rattle.std.specs.Prelude.{ℤ, Bool, Option}
+use Rattle.std.specs.Prelude.{ℤ, Bool, List, Option}
 use Rattle.tera_errors.specs.Site as site
 use Rattle.tera_errors.specs.declared.span.Span.{Span}
 use Rattle.tera_tree.specs.declared.expression.BinaryOperator.{BinaryOperator}
+use Rattle.tera_tree.specs.declared.component.ArgumentType.{ArgumentType}
 
 -- a key that is written out
 pub data Key : Type 0 where
@@ -33,6 +34,8 @@ mutual
     Filter : (value : Expr) (name : site.Name) (arguments : Arguments) (span : Span) → Expr
     Test : (value : Expr) (name : site.Name) (arguments : Arguments) (span : Span) → Expr
     Call : (name : site.Name) (arguments : Arguments) (span : Span) → Expr
+    -- its attributes are entries at text keys
+    Component : (name : site.Name) (attributes : Entries) (span : Span) → Expr
 
   pub data Optional : Type 0 where
     Absent : Optional
@@ -51,6 +54,37 @@ mutual
   pub data Arguments : Type 0 where
     NoArguments : Arguments
     MoreArguments : (name : site.Name) (value : Expr) (rest : Arguments) → Arguments
+
+-- a value that is written out
+mutual
+  pub data Literal : Type 0 where
+    NothingLiteral : Literal
+    BooleanLiteral : (value : Bool) → Literal
+    IntegerLiteral : (value : ℤ) → Literal
+    TextLiteral : (text : site.Text) → Literal
+    ArrayLiteral : (items : Literals) → Literal
+    MapLiteral : (entries : LiteralEntries) → Literal
+
+  pub data Literals : Type 0 where
+    NoLiterals : Literals
+    MoreLiterals : (value : Literal) (rest : Literals) → Literals
+
+  pub data LiteralEntries : Type 0 where
+    NoLiteralEntries : LiteralEntries
+    MoreLiteralEntries : (key : Key) (value : Literal) (rest : LiteralEntries) → LiteralEntries
+
+-- what a component is given by a name; where it is implicit and not given, it is looked up in the callers
+pub record Parameter : Type 0 where
+  pub name : site.Name
+  pub is_implicit : Bool
+  pub of_type : Option ArgumentType
+  pub default : Option Literal
+
+-- a component's name, its parameters, and the name of what takes all other arguments
+pub record Signature : Type 0 where
+  pub name : site.Name
+  pub parameters : List Parameter
+  pub rest : Option site.Name
 
 -- filters of a text that a body puts out, the first one first
 pub data Filters : Type 0 where
@@ -74,6 +108,10 @@ mutual
     Block : (name : site.Name) (body : Nodes) (span : Span) → Node
     -- the template to which the name resolves
     Include : (name : site.Name) (span : Span) → Node
+    -- a component that is handed what its body puts out
+    ComponentCall : (name : site.Name) (attributes : Entries) (body : Nodes) (span : Span) → Node
+    -- a component, which puts out nothing where it is defined
+    Definition : (signature : Signature) (body : Nodes) → Node
     Break : Node
     Continue : Node
 

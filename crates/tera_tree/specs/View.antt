@@ -16,12 +16,18 @@ use Rattle.tera_tree.specs.declared.quoted.Quoted.TheVariants as quoted
 use Rattle.tera_tree.specs.declared.expression.Item as item
 use Rattle.tera_tree.specs.declared.expression.Entry as entry
 use Rattle.tera_tree.specs.declared.expression.Argument as argument
+use Rattle.tera_tree.specs.declared.component.Literal.{Row_of-Literal, end_of-Literal, more_of-Literal, Row_of-LiteralEntry, end_of-LiteralEntry, more_of-LiteralEntry}
+use Rattle.tera_tree.specs.declared.component.Literal as declared_literal
+use Rattle.tera_tree.specs.declared.component.Literal.TheVariants as written
+use Rattle.tera_tree.specs.declared.component.LiteralEntry.{LiteralEntry}
+use Rattle.tera_tree.specs.declared.component.Parameter as parameter
+use Rattle.tera_tree.specs.declared.component.Signature as signature
 use Rattle.tera_tree.specs.declared.node.SectionFilter.{SectionFilter}
 use Rattle.tera_tree.specs.declared.node.Node.{Row_of-Node, end_of-Node, more_of-Node}
 use Rattle.tera_tree.specs.declared.node.Node as declared
 use Rattle.tera_tree.specs.declared.node.Node.TheVariants as variant
 use Rattle.tera_tree.specs.declared.node.ParserOutput.{ParserOutput}
-use Rattle.tera_tree.specs.Tree.{Key, BoolKey, IntKey, TextKey, Expr, Nothing, Boolean, Integer, Text, Name, Attribute, Index, Slice, Not, Negate, Binary, And, Or, Ternary, Array, Map, Comprehension, Super, Filter, Test, Call, Optional, Absent, Present, Items, NoItems, MoreItems, Entries, NoEntries, MoreEntries, Arguments, NoArguments, MoreArguments, Filters, NoFilters, MoreFilters, Node, Content, Print, If, Set, Capture, FilterSection, For, Block, Include, Break, Continue, Nodes, NoNodes, MoreNodes, Tree}
+use Rattle.tera_tree.specs.Tree.{Key, BoolKey, IntKey, TextKey, Expr, Nothing, Boolean, Integer, Text, Name, Attribute, Index, Slice, Not, Negate, Binary, And, Or, Ternary, Array, Map, Comprehension, Super, Filter, Test, Call, Component, Optional, Absent, Present, Items, NoItems, MoreItems, Entries, NoEntries, MoreEntries, Arguments, NoArguments, MoreArguments, Literal, NothingLiteral, BooleanLiteral, IntegerLiteral, TextLiteral, ArrayLiteral, MapLiteral, Literals, NoLiterals, MoreLiterals, LiteralEntries, NoLiteralEntries, MoreLiteralEntries, Parameter, Signature, Filters, NoFilters, MoreFilters, Node, Content, Print, If, Set, Capture, FilterSection, For, Block, Include, ComponentCall, Definition, Break, Continue, Nodes, NoNodes, MoreNodes, Tree}
 
 abbrev pub quoted_of : Quoted → site.Text
 quoted_of (quoted.Lent t) = t.now
@@ -75,6 +81,7 @@ abbrev mutual
   expr_of (expression.Filter' p e t m all span) = Filter (expr_of e) t.now (row_arguments all) span
   expr_of (expression.Test' p e t m all span) = Test (expr_of e) t.now (row_arguments all) span
   expr_of (expression.Call' t m all span) = Call t.now (row_arguments all) span
+  expr_of (expression.Component' t m all span) = Component t.now (row_entries all) span
 
   pub held_of : Held-Expression-Comprehension-2 → Optional
   held_of Expression-Comprehension-2-None' = Absent
@@ -121,6 +128,41 @@ filters_of [] = NoFilters
 filters_of (f ∷ rest) = MoreFilters f.name.now (arguments_of f.arguments.items) f.span (filters_of rest)
 
 abbrev mutual
+  pub written_of : declared_literal.Literal → Literal
+  written_of written.None = NothingLiteral
+  written_of (written.Bool b) = BooleanLiteral b
+  written_of (written.Int z) = IntegerLiteral z
+  written_of (written.Text t) = TextLiteral (quoted_of t)
+  written_of (written.Array' m all) = ArrayLiteral (row_literals all)
+  written_of (written.Map' m all) = MapLiteral (row_literal_entries all)
+
+  pub row_literals : {m : _} → Row_of-Literal m → Literals
+  row_literals end_of-Literal = NoLiterals
+  row_literals (more_of-Literal v rest) = MoreLiterals (written_of v) (row_literals rest)
+
+  pub row_literal_entries : {m : _} → Row_of-LiteralEntry m → LiteralEntries
+  row_literal_entries end_of-LiteralEntry = NoLiteralEntries
+  row_literal_entries (more_of-LiteralEntry k v rest) = MoreLiteralEntries (literal_of k) (written_of v) (row_literal_entries rest)
+
+abbrev pub literals_of : List declared_literal.Literal → Literals
+literals_of [] = NoLiterals
+literals_of (v ∷ rest) = MoreLiterals (written_of v) (literals_of rest)
+
+abbrev pub literal_entries_of : List LiteralEntry → LiteralEntries
+literal_entries_of [] = NoLiteralEntries
+literal_entries_of (e ∷ rest) = MoreLiteralEntries (literal_of e.key) (written_of e.value) (literal_entries_of rest)
+
+abbrev pub written_option : Option declared_literal.Literal → Option Literal
+written_option None = None
+written_option (Some v) = Some (written_of v)
+
+abbrev pub parameter_of : parameter.Parameter → Parameter
+parameter_of p = record { name = p.name.now; is_implicit = p.is_implicit; of_type = p.of_type; default = written_option p.default }
+
+abbrev pub signature_of : signature.Signature → Signature
+signature_of s = record { name = s.name.now; parameters = map_list parameter_of s.parameters.items; rest = option_copied s.rest }
+
+abbrev mutual
   pub node_of : declared.Node → Node
   node_of (variant.Content t span) = Content t.now span
   node_of (variant.Print e) = Print (expr_of e.value)
@@ -131,6 +173,8 @@ abbrev mutual
   node_of (variant.For' h m body n other) = For (option_copied h.value.key) h.value.name.now (expr_of h.value.target) (row_nodes body) (row_nodes other)
   node_of (variant.Block' t m body span) = Block t.now (row_nodes body) span
   node_of (variant.Include t span) = Include (quoted_of t) span
+  node_of (variant.ComponentCall' t es m body span) = ComponentCall t.now (entries_of es.items) (row_nodes body) span
+  node_of (variant.Definition' s m body) = Definition (signature_of s.value) (row_nodes body)
   node_of variant.Break = Break
   node_of variant.Continue = Continue
 

@@ -154,6 +154,12 @@ pub enum Expression<'s> {
         arguments: Vec<Argument<'s>>,
         span: Span,
     },
+    /// `<name key={value} {...map}/>`: a component. Its attributes are entries at text keys, in the order of the text.
+    Component {
+        name: &'s str,
+        attributes: Vec<Entry<'s>>,
+        span: Span,
+    },
 }
 
 // By hand, so that a tree that goes out of scope is one call and not a match on every form.
@@ -244,6 +250,11 @@ impl<'s> Drop for Expression<'s> {
             Expression::Call {
                 name: _,
                 arguments: _,
+                span: _,
+            } => {}
+            Expression::Component {
+                name: _,
+                attributes: _,
                 span: _,
             } => {}
         }

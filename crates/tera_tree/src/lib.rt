@@ -1,12 +1,14 @@
 //! Trees of templates, and the delimiters that tell tags from text.
 #![tactic(auto)]
 
+pub mod component;
 pub mod delimiters;
 pub mod expression;
 pub mod make;
 pub mod node;
 pub mod quoted;
 
+pub use component::{ArgumentType, Literal, LiteralEntry, Parameter, Signature};
 pub use delimiters::Delimiters;
 pub use expression::{
     Argument, BinaryOperator, Bounds, Entry, Expression, Heading, Item, LiteralKey, OwnedKey,

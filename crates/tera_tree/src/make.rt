@@ -1,8 +1,9 @@
 // Trees from their parts.
 ghost use Rattle.std.specs.Prelude.{◌≡◌};
-ghost use Rattle.tera_tree.specs.Tree.{Attribute, Index, Not, Negate, Binary, And, Or, Ternary, Array, Map, Super, Filter, Test, Call, If, Set, Capture, FilterSection, Block};
-ghost use Rattle.tera_tree.specs.View.{expr_of, slice_of, comprehension_of, items_of, entries_of, arguments_of, filters_of, node_of, nodes_of, for_of};
+ghost use Rattle.tera_tree.specs.Tree.{Attribute, Index, Not, Negate, Binary, And, Or, Ternary, Array, Map, Super, Filter, Test, Call, Component, ArrayLiteral, MapLiteral, If, Set, Capture, FilterSection, Block, ComponentCall, Definition};
+ghost use Rattle.tera_tree.specs.View.{expr_of, slice_of, comprehension_of, items_of, entries_of, arguments_of, written_of, literals_of, literal_entries_of, signature_of, filters_of, node_of, nodes_of, for_of};
 
+use crate::component::{Literal, LiteralEntry, Signature};
 use crate::expression::{Argument, BinaryOperator, Bounds, Entry, Expression, Heading, Item};
 use crate::node::{Node, SectionFilter};
 use tera_errors::Span;
@@ -209,6 +210,33 @@ impl<'s> Expression<'s> {
             span,
         }
     }
+
+    /// `<name attributes/>`
+    pub fn component(name: &'s str, attributes: Vec<Entry<'s>>, span: Span) -> Expression<'s>
+        ensures { expr_of result ≡ Component name.now (entries_of attributes.entry.items) span }
+    {
+        Expression::Component {
+            name,
+            attributes,
+            span,
+        }
+    }
+}
+
+impl<'s> Literal<'s> {
+    /// `[value, ..]`
+    pub fn array(items: Vec<Literal<'s>>) -> Literal<'s>
+        ensures { written_of result ≡ ArrayLiteral (literals_of items.entry.items) }
+    {
+        Literal::Array(items)
+    }
+
+    /// `{key: value, ..}`
+    pub fn map(entries: Vec<LiteralEntry<'s>>) -> Literal<'s>
+        ensures { written_of result ≡ MapLiteral (literal_entries_of entries.entry.items) }
+    {
+        Literal::Map(entries)
+    }
 }
 
 impl<'s> Node<'s> {
@@ -271,6 +299,32 @@ impl<'s> Node<'s> {
         ensures { node_of result ≡ Block name.now (nodes_of body.entry.items) span }
     {
         Node::Block { name, body, span }
+    }
+
+    /// `{% <name attributes> %}body{% </name> %}`
+    pub fn component_call(
+        name: &'s str,
+        attributes: Vec<Entry<'s>>,
+        body: Vec<Node<'s>>,
+        span: Span,
+    ) -> Node<'s>
+        ensures { node_of result ≡ ComponentCall name.now (entries_of attributes.entry.items)
+            (nodes_of body.entry.items) span }
+    {
+        Node::ComponentCall {
+            name,
+            attributes,
+            body,
+            span,
+        }
+    }
+
+    /// `{% component signature %}body{% endcomponent %}`
+    pub fn definition(signature: Box<Signature<'s>>, body: Vec<Node<'s>>) -> Node<'s>
+        ensures { node_of result ≡ Definition (signature_of signature.entry.value)
+            (nodes_of body.entry.items) }
+    {
+        Node::Definition { signature, body }
     }
 
     /// `{% for heading %}body{% else %}other{% endfor %}`

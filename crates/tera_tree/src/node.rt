@@ -1,5 +1,6 @@
 // Nodes of a template. They borrow names and texts from its source.
-use crate::expression::{Argument, Expression, Heading};
+use crate::component::Signature;
+use crate::expression::{Argument, Entry, Expression, Heading};
 use crate::quoted::Quoted;
 use tera_errors::Span;
 
@@ -55,6 +56,18 @@ pub enum Node<'s> {
         name: Quoted<'s>,
         span: Span,
     },
+    /// `{% <name attributes> %}body{% </name> %}`: a component that is handed a body. The span is that of the first tag's `<` to `>`.
+    ComponentCall {
+        name: &'s str,
+        attributes: Vec<Entry<'s>>,
+        body: Vec<Node<'s>>,
+        span: Span,
+    },
+    /// `{% component signature %}body{% endcomponent %}`. It writes nothing where it stands.
+    Definition {
+        signature: Box<Signature<'s>>,
+        body: Vec<Node<'s>>,
+    },
     /// `{% break %}`
     Break,
     /// `{% continue %}`
@@ -98,6 +111,16 @@ impl<'s> Drop for Node<'s> {
                 span: _,
             } => {}
             Node::Include { name: _, span: _ } => {}
+            Node::ComponentCall {
+                name: _,
+                attributes: _,
+                body: _,
+                span: _,
+            } => {}
+            Node::Definition {
+                signature: _,
+                body: _,
+            } => {}
             Node::Break => {}
             Node::Continue => {}
         }

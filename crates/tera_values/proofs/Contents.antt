@@ -57,15 +57,15 @@ module _ {A : Type 0} where
         put_all-put (by_name es) (string_bytes k) a m
         (sym (found es (string_bytes k)) ∙ absent k es (IsDistinct-head string_eq k (keys_of es) h))
 
-  among : (P : Name → Type 0) (pre : Named A) (e : Name × A) (post : Named A) → AllByRecursion P (map (λ d. d.0) (pre ++ e ∷ post)) → P e.0
+  pub among : (P : Name → Type 0) (pre : Named A) (e : Name × A) (post : Named A) → AllByRecursion P (map (λ d. d.0) (pre ++ e ∷ post)) → P e.0
   among P [] e post h = h.0
   among P (p ∷ pre) e post h = among P pre e post h.1
 
-  ascends : (p : Name × A) (es : Named A) → IsAscending (p ∷ es) → AllByRecursion (λ j. name_cmp p.0 j ≡ Less) (map (λ d. d.0) es) × IsAscending es
+  pub ascends : (p : Name × A) (es : Named A) → IsAscending (p ∷ es) → AllByRecursion (λ j. name_cmp p.0 j ≡ Less) (map (λ d. d.0) es) × IsAscending es
   unfolding IsStrictlySortedBy
   ascends p es h = h
 
-  found_among : (pre : Named A) (e : Name × A) (post : Named A) → IsAscending (pre ++ e ∷ post) → at_name e.0 (pre ++ e ∷ post) ≡ Some e.1
+  pub found_among : (pre : Named A) (e : Name × A) (post : Named A) → IsAscending (pre ++ e ∷ post) → at_name e.0 (pre ++ e ∷ post) ≡ Some e.1
   found_among [] e post h = ap (λ (b : Bool). cond b (Some e.1) (at_name e.0 post)) ((bytes_decides e.0 e.0).1 refl)
   found_among (p ∷ pre) e post h =
       let s = ascends p (pre ++ e ∷ post) h in

@@ -1,9 +1,11 @@
-//! Tests of values, of arguments by name and of operators: each call that takes memory once with ample memory, and the rows
-//! that no clause says.
+//! Tests of values, of arguments by name, of operators and of the contexts of components: each call that takes memory once
+//! with ample memory, and the rows that no clause says.
 #![tactic(auto)]
 
 #[cfg(test)]
 mod arguments;
+#[cfg(test)]
+mod components;
 #[cfg(test)]
 mod names;
 #[cfg(test)]

@@ -2,7 +2,7 @@ use Rattle.std.proofs.Common.{◌++◌, map, sym, ap, ◌∙◌}
 use Rattle.tera_tree.specs.View.{nodes_of}
 use Rattle.tera_code.specs.Blocks.{block_of, block_listings}
 use Rattle.tera_code.proofs.Written.{on_ok_by}
-use Rattle.tera_code.proofs.Found.{found_more, found_one, blocks_if, blocks_for, blocks_capture, blocks_section, blocks_block}
+use Rattle.tera_code.proofs.Found.{found_more, found_one, blocks_if, blocks_for, blocks_capture, blocks_section, blocks_block, blocks_component_call, blocks_definition}
 use Rattle.tera_code.proofs.blocks.+blocks.Goals as goal
 
 pub add-returns-in_ok-add_all-in-If-clause-ok : goal.add-returns-in_ok-add_all-in-If-clause-ok
@@ -27,3 +27,11 @@ add-returns-in_ok-push-in-Block-clause-ok t c =
     found_one _ _ _ _ (c.in-Block.name.now, nodes_of c.as_slice-body.result.now) _ c.in_ok-push-in-Block.ensures.items c.in_ok-made-in-Block.ensures.ok
     ∙ ap (λ x. map block_of c.args.found.now.items ++ block_listings c.args.file.now x) (blocks_block _ c.in-Block.name c.in-Block.body c.in-Block.span _ c.in-Block.is c.as_slice-body.ensures.value)
     ) c.add_all-in-Block.ensures.ok
+
+pub add-returns-in-ComponentCall-clause-ok : goal.add-returns-in-ComponentCall-clause-ok
+add-returns-in-ComponentCall-clause-ok t c =
+    on_ok_by _ _ _ _ (ap (λ x. map block_of c.args.found.now.items ++ block_listings c.args.file.now x) (blocks_component_call _ c.in-ComponentCall.name c.in-ComponentCall.attributes c.in-ComponentCall.body c.in-ComponentCall.span _ c.in-ComponentCall.is c.as_slice-in-ComponentCall.ensures.value)) c.add_all-in-ComponentCall.ensures.ok
+
+pub add-returns-in-Definition-clause-ok : goal.add-returns-in-Definition-clause-ok
+add-returns-in-Definition-clause-ok t c =
+    on_ok_by _ _ _ _ (ap (λ x. map block_of c.args.found.now.items ++ block_listings c.args.file.now x) (blocks_definition _ c.in-Definition.signature c.in-Definition.body _ c.in-Definition.is c.as_slice-in-Definition.ensures.value)) c.add_all-in-Definition.ensures.ok

@@ -6,7 +6,7 @@ use Rattle.tera_tree.specs.View.{node_of, nodes_of}
 use Rattle.tera_meaning.specs.Registry.{Registry}
 use Rattle.tera_meaning.specs.Resolve.{resolve}
 use Rattle.tera_registry.specs.Kept.{entries_of, seen}
-use Rattle.tera_registry.proofs.Bodies.{any-first, any-second, node_if, node_for, node_capture, node_section, node_block}
+use Rattle.tera_registry.proofs.Bodies.{any-first, any-second, node_if, node_for, node_capture, node_section, node_block, node_call, node_definition}
 use Rattle.tera_registry.proofs.Filled.{is_none-place}
 use Rattle.tera_registry.proofs.includes.+missing.Goals as goal
 
@@ -57,6 +57,16 @@ pub node_misses-returns-in-Block : goal.node_misses-returns-in-Block
 node_misses-returns-in-Block t c =
     let p = is_missing (seen c.args.templates.now c.args.prefixes.now) in
     c.misses-in-Block.ensures ∙ sym (ap (λ n. list_any p (node_includes n)) (node_block _ c.in-Block.name c.in-Block.body c.in-Block.span _ c.in-Block.is c.as_slice-in-Block.ensures.value))
+
+pub node_misses-returns-in-ComponentCall : goal.node_misses-returns-in-ComponentCall
+node_misses-returns-in-ComponentCall t c =
+    let p = is_missing (seen c.args.templates.now c.args.prefixes.now) in
+    c.misses-in-ComponentCall.ensures ∙ sym (ap (λ n. list_any p (node_includes n)) (node_call _ c.in-ComponentCall.name c.in-ComponentCall.attributes c.in-ComponentCall.body c.in-ComponentCall.span _ c.in-ComponentCall.is c.as_slice-in-ComponentCall.ensures.value))
+
+pub node_misses-returns-in-Definition : goal.node_misses-returns-in-Definition
+node_misses-returns-in-Definition t c =
+    let p = is_missing (seen c.args.templates.now c.args.prefixes.now) in
+    c.misses-in-Definition.ensures ∙ sym (ap (λ n. list_any p (node_includes n)) (node_definition _ c.in-Definition.signature c.in-Definition.body _ c.in-Definition.is c.as_slice-in-Definition.ensures.value))
 
 pub node_misses-returns-in-Include : goal.node_misses-returns-in-Include
 node_misses-returns-in-Include t c =

@@ -2,13 +2,14 @@ use Rattle.std.proofs.Common.{◌≡◌, length}
 use Rattle.tera_registry.specs.Links.{AreTops, AreRoots}
 use Rattle.tera_registry.specs.Kept.{seen}
 use Rattle.tera_registry.proofs.Checked.{Checked}
-use Rattle.tera_registry.proofs.Circles.{NotPast}
+use Rattle.tera_registry.proofs.First.{NotPast}
 use Rattle.tera_registry.proofs.lineage.roots.Given as goal
 
 abbrev pub invariant-loop-place : goal.invariant-loop-place
 invariant-loop-place l = record {
   checked : Checked (seen l.templates l.prefixes) l.place;
   not_past : NotPast l.circle l.place;
+  no_tie : NotPast l.tie l.place;
   all_tops : length l.tops ≡ length l.ups;
   tops : AreTops (seen l.templates l.prefixes) l.tops;
   roots : AreRoots (seen l.templates l.prefixes) l.roots.items l.place;

@@ -1,12 +1,9 @@
-use Rattle.std.proofs.Common.{◌≡◌, Some, None, Err, sym, ap, ◌∙◌}
-use Rattle.tera_errors.specs.Fault.{message}
-use Rattle.tera_errors.specs.Answer.{Refusal, Says, Tells}
-use Rattle.tera_meaning.specs.Registry.{Registry}
+use Rattle.std.proofs.Common.{sym}
 use Rattle.tera_meaning.specs.Adding.{accepted}
 use Rattle.tera_registry.specs.Kept.{seen}
 use Rattle.tera_registry.proofs.Ancestors.{grounded}
 use Rattle.tera_registry.proofs.Circles.{all-edges, closed, first_circle}
-use Rattle.tera_registry.proofs.Checked.{climbed-says, climbed-faultless, lacks-says, keeps-all}
+use Rattle.tera_registry.proofs.Checked.{climbed-says, climbed-faultless, lacks-says, keeps-all, told}
 use Rattle.tera_registry.proofs.link.link.Goals as goal
 
 pub returns-in-Err-clause-answer : goal.returns-in-Err-clause-answer
@@ -29,14 +26,10 @@ pub any_lacks-requires-clause-grounded : goal.any_lacks-requires-clause-grounded
 any_lacks-requires-clause-grounded c =
     grounded (seen c.args.templates.now c.args.prefixes.now) (climbed-faultless (seen c.args.templates.now c.args.prefixes.now) c.in-Ok.ensures.answer)
 
-told : (e : Refusal) (r : Registry) → Tells e message → accepted r ≡ Err message → Says e (accepted r)
-told None r t is = tt
-told (Some f) r t is = is ∙ ap Err (sym t)
-
 pub returns-then-any_lacks-clause-answer : goal.returns-then-any_lacks-clause-answer
 returns-then-any_lacks-clause-answer c =
     let r = seen c.args.templates.now c.args.prefixes.now in
-    told c.message.result r c.message.ensures (lacks-says r c.in-Ok.ensures.answer (sym c.if-any_lacks.ensures))
+    told c.message.result (accepted r) c.message.ensures (lacks-says r c.in-Ok.ensures.answer (sym c.if-any_lacks.ensures))
 
 pub returns-clause-answer : goal.returns-clause-answer
 returns-clause-answer c =

@@ -1,7 +1,7 @@
 use Rattle.std.proofs.Common.{◌++◌, sym, ap}
 use Rattle.tera_tree.specs.Blocks.{node_top_blocks}
 use Rattle.tera_code.proofs.Written.{on_ok_by}
-use Rattle.tera_registry.proofs.Bodies.{append-more, node_if, node_for, node_capture, node_section}
+use Rattle.tera_registry.proofs.Bodies.{append-more, node_if, node_for, node_capture, node_section, node_call, node_definition}
 use Rattle.tera_registry.proofs.tops.+tops.Goals as goal
 
 pub add-returns-in_ok-add_all-in-If-clause-ok : goal.add-returns-in_ok-add_all-in-If-clause-ok
@@ -19,3 +19,11 @@ add-returns-in-Capture-clause-ok t c =
 pub add-returns-in-FilterSection-clause-ok : goal.add-returns-in-FilterSection-clause-ok
 add-returns-in-FilterSection-clause-ok t c =
     on_ok_by _ _ _ _ (ap (λ x. c.args.found.now.items ++ x) (sym (ap node_top_blocks (node_section _ c.in-FilterSection.filters c.in-FilterSection.body _ c.in-FilterSection.is c.as_slice-in-FilterSection.ensures.value)))) c.add_all-in-FilterSection.ensures.ok
+
+pub add-returns-in-ComponentCall-clause-ok : goal.add-returns-in-ComponentCall-clause-ok
+add-returns-in-ComponentCall-clause-ok t c =
+    on_ok_by _ _ _ _ (ap (λ x. c.args.found.now.items ++ x) (sym (ap node_top_blocks (node_call _ c.in-ComponentCall.name c.in-ComponentCall.attributes c.in-ComponentCall.body c.in-ComponentCall.span _ c.in-ComponentCall.is c.as_slice-in-ComponentCall.ensures.value)))) c.add_all-in-ComponentCall.ensures.ok
+
+pub add-returns-in-Definition-clause-ok : goal.add-returns-in-Definition-clause-ok
+add-returns-in-Definition-clause-ok t c =
+    on_ok_by _ _ _ _ (ap (λ x. c.args.found.now.items ++ x) (sym (ap node_top_blocks (node_definition _ c.in-Definition.signature c.in-Definition.body _ c.in-Definition.is c.as_slice-in-Definition.ensures.value)))) c.add_all-in-Definition.ensures.ok

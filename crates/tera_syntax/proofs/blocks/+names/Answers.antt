@@ -1,5 +1,5 @@
 use Rattle.std.proofs.Common.{refl}
-use Rattle.tera_syntax.proofs.Gathered.{capture_gathered, section_gathered, block_gathered, if_gathered, for_gathered}
+use Rattle.tera_syntax.proofs.Gathered.{capture_gathered, section_gathered, block_gathered, call_gathered, definition_gathered, if_gathered, for_gathered}
 use Rattle.tera_syntax.proofs.blocks.+names.Goals as goal
 
 pub gather_node-returns-in_ok-gather-in-If-clause-ok : goal.gather_node-returns-in_ok-gather-in-If-clause-ok
@@ -24,3 +24,11 @@ pub gather_node-returns-in_ok-push-in-Block-clause-ok : goal.gather_node-returns
 gather_node-returns-in_ok-push-in-Block-clause-ok t c =
     block_gathered _ _ _ _ c.in-Block.name c.in-Block.body c.in-Block.span _ c.args.names.now.items _ _ c.in-Block.is c.as_slice-in-Block.ensures.value refl
     c.in_ok-push-in-Block.ensures.items refl c.gather-in-Block.ensures.ok
+
+pub gather_node-returns-in-ComponentCall-clause-ok : goal.gather_node-returns-in-ComponentCall-clause-ok
+gather_node-returns-in-ComponentCall-clause-ok t c =
+    call_gathered _ _ _ _ c.in-ComponentCall.name c.in-ComponentCall.attributes c.in-ComponentCall.body c.in-ComponentCall.span _ c.in-ComponentCall.is c.as_slice-in-ComponentCall.ensures.value c.gather-in-ComponentCall.ensures.ok
+
+pub gather_node-returns-in-Definition-clause-ok : goal.gather_node-returns-in-Definition-clause-ok
+gather_node-returns-in-Definition-clause-ok t c =
+    definition_gathered _ _ _ _ c.in-Definition.signature c.in-Definition.body _ c.in-Definition.is c.as_slice-in-Definition.ensures.value c.gather-in-Definition.ensures.ok

@@ -1,4 +1,4 @@
 use Rattle.tera.proofs.engine.Tera.run_body.Given as goal
 
-abbrev pub ghost-run : goal.ghost-run
-ghost-run g a = g.about
+abbrev pub ghost-run_within : goal.ghost-run_within
+ghost-run_within g a = g.about

@@ -3,7 +3,7 @@ use Rattle.tera_tree.specs.View.{expr_of}
 use Rattle.tera_code.specs.declared.instruction.Instruction.TheVariants as instruction
 use Rattle.tera_code.specs.Code.{expr_code, choice_code, lengthened}
 use Rattle.tera_code.proofs.Filled.{jump_written, choice_written}
-use Rattle.tera_code.proofs.Written.{array_written, map_written, super_written, filter_written, test_written, call_written, on_ok_by, kept, kept_if, comprehended}
+use Rattle.tera_code.proofs.Written.{array_written, map_written, super_written, filter_written, test_written, call_written, component_written, on_ok_by, kept, kept_if, comprehended}
 use Rattle.tera_code.proofs.compiler.Compiler.+expressions.Goals as goal
 
 pub collection-returns-in_ok-items-in-Array-clause-ok : goal.collection-returns-in_ok-items-in-Array-clause-ok
@@ -64,3 +64,7 @@ request-returns-in_ok-arguments-in-Test-clause-ok t c =
 pub request-returns-in_ok-arguments-in-Call-clause-ok : goal.request-returns-in_ok-arguments-in-Call-clause-ok
 request-returns-in_ok-arguments-in-Call-clause-ok t c =
     call_written _ _ _ _ c.in-Call.name c.in-Call.arguments c.in-Call.span _ _ _ c.in-Call.is c.as_slice-in-Call.ensures.value c.as_slice-in-Call-2.ensures.value c.in_ok-arguments-in-Call.ensures.ok c.call_function.ensures.ok
+
+pub request-returns-in_ok-entries-in-Component-clause-ok : goal.request-returns-in_ok-entries-in-Component-clause-ok
+request-returns-in_ok-entries-in-Component-clause-ok t c =
+    component_written _ _ _ _ c.in-Component.name c.in-Component.attributes c.in-Component.span _ _ _ c.in-Component.is c.as_slice-in-Component.ensures.value c.as_slice-in-Component-2.ensures.value c.in_ok-entries-in-Component.ensures.ok c.take_component.ensures.ok

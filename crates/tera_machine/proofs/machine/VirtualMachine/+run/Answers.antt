@@ -1,13 +1,15 @@
-use Rattle.std.proofs.Common.{arith, refl, ◌+◌}
+use Rattle.std.proofs.Common.{arith, refl, sym, ap, ◌+◌}
 use Rattle.tera_meaning.specs.Run.{AnInclude}
-use Rattle.tera_machine.specs.Flow.{Written}
+use Rattle.tera_machine.specs.Flow.{Written, Ask, component_request, component_use}
 use Rattle.tera_machine.specs.Subject.{here_of}
 use Rattle.tera_machine.proofs.Runs.{here_is, not_stuck, small, one_left, went_on, skipped, skip_within, went_to, place_within, went_out, finished, act_failed, at_ask, at_request}
 use Rattle.tera_machine.proofs.Still.{still}
 use Rattle.tera_machine.proofs.Taking.{body_within, came_back}
 use Rattle.tera_machine.proofs.Took.{place_same, moved, stays_then, at_place, ends_at, take_failed, may_run, run_failed, may_leave, body_over, body_stayed}
-use Rattle.tera_machine.proofs.Ways.{linked_in}
-use Rattle.tera_machine.proofs.Including.{include_failed, may_include, included_failed, may_rejoin, has_includer, include_over, include_stayed}
+use Rattle.tera_machine.proofs.Ways.{linked_in, linked_alone}
+use Rattle.tera_machine.proofs.Rejoining.{may_begin, apart_failed, may_rejoin, has_outer, apart_over, apart_stayed}
+use Rattle.tera_machine.proofs.Including.{include_failed, include_entered}
+use Rattle.tera_machine.proofs.Calling.{call_failed, call_entered}
 use Rattle.tera_machine.proofs.machine.VirtualMachine.+run.Goals as goal
 
 pub run_counted-step-requires-clause-ready : goal.run_counted-step-requires-clause-ready
@@ -105,12 +107,12 @@ pub run_counted-include-requires : goal.run_counted-include-requires
 run_counted-include-requires g t c κs within =
     (omega (arith, one_left c.loop-instruction.invariant.progress c.in-Some.ensures.found, c.in-Some.ensures.count, c.loop-instruction.invariant.progress.counted, c.decreases), (within.0, (within.1, (c.requires.engine, (c.requires.linked, at_place (place_same c.args.self.now c.args.chunk.now.file c.args.chunk.now.file refl (moved c.step.new.self c.loop-instruction.invariant.stays c.in-Ok.ensures.1.0 c.in-Ok.ensures.1.1 (still (here_of c.args.self.now c.file.result.now c.loop-instruction.configuration) (c.loop-instruction.at + 1) c.in-Some.instruction _ _ _ c.in-Ok.ensures.0))) (body_within (at_request c.loop-instruction.invariant.progress (here_is g.M.Limit.world c.args.self.now _ _ c.args.blocks.now c.loop-instruction.configuration c.args.configuration.now c.requires.engine c.file.ensures c.loop-instruction.invariant.stays.around) c.in-Some.ensures.found c.in-Some.ensures.count (AnInclude c.in-Include.name.now c.in-Include.span) Written c.in-Ok.ensures.0 c.in-Include.is refl)))))))
 
-pub run_counted-loop-instruction-smaller : goal.run_counted-loop-instruction-smaller
-run_counted-loop-instruction-smaller g t c =
+pub run_counted-loop-instruction-smaller-in-Ok-include : goal.run_counted-loop-instruction-smaller-in-Ok-include
+run_counted-loop-instruction-smaller-in-Ok-include g t c =
     omega (arith, one_left c.loop-instruction.invariant.progress c.in-Some.ensures.found, c.in-Some.ensures.count, c.in-Ok-include.ensures.counted)
 
-pub run_counted-loop-instruction-preserved : goal.run_counted-loop-instruction-preserved
-run_counted-loop-instruction-preserved g t c = record {
+pub run_counted-loop-instruction-preserved-in-Ok-include : goal.run_counted-loop-instruction-preserved-in-Ok-include
+run_counted-loop-instruction-preserved-in-Ok-include g t c = record {
   progress = came_back (at_request c.loop-instruction.invariant.progress (here_is g.M.Limit.world c.args.self.now _ _ c.args.blocks.now c.loop-instruction.configuration c.args.configuration.now c.requires.engine c.file.ensures c.loop-instruction.invariant.stays.around) c.in-Some.ensures.found c.in-Some.ensures.count (AnInclude c.in-Include.name.now c.in-Include.span) Written c.in-Ok.ensures.0 c.in-Include.is refl) _ _ c.in-Ok-include.ensures.counted c.in-Ok-include.ensures.bounded (ends_at (place_same c.args.self.now c.args.chunk.now.file c.args.chunk.now.file refl (moved c.step.new.self c.loop-instruction.invariant.stays c.in-Ok.ensures.1.0 c.in-Ok.ensures.1.1 (still (here_of c.args.self.now c.file.result.now c.loop-instruction.configuration) (c.loop-instruction.at + 1) c.in-Some.instruction _ _ _ c.in-Ok.ensures.0))) c.in-Ok-include.ensures.ends);
   stays = stays_then (moved c.step.new.self c.loop-instruction.invariant.stays c.in-Ok.ensures.1.0 c.in-Ok.ensures.1.1 (still (here_of c.args.self.now c.file.result.now c.loop-instruction.configuration) (c.loop-instruction.at + 1) c.in-Some.instruction _ _ _ c.in-Ok.ensures.0)) c.in-Ok-include.ensures.stays;
 }
@@ -122,6 +124,28 @@ run_counted-returns-in-Err-include-clause-bounded g t c =
 pub run_counted-returns-in-Err-include-clause-ends : goal.run_counted-returns-in-Err-include-clause-ends
 run_counted-returns-in-Err-include-clause-ends g t c =
     take_failed (place_same c.args.self.now c.args.chunk.now.file c.args.chunk.now.file refl (moved c.step.new.self c.loop-instruction.invariant.stays c.in-Ok.ensures.1.0 c.in-Ok.ensures.1.1 (still (here_of c.args.self.now c.file.result.now c.loop-instruction.configuration) (c.loop-instruction.at + 1) c.in-Some.instruction _ _ _ c.in-Ok.ensures.0))) (at_request c.loop-instruction.invariant.progress (here_is g.M.Limit.world c.args.self.now _ _ c.args.blocks.now c.loop-instruction.configuration c.args.configuration.now c.requires.engine c.file.ensures c.loop-instruction.invariant.stays.around) c.in-Some.ensures.found c.in-Some.ensures.count (AnInclude c.in-Include.name.now c.in-Include.span) Written c.in-Ok.ensures.0 c.in-Include.is refl) _ _ _ c.in-Err-include.ensures.counted c.in-Err-include.ensures.ends
+
+pub run_counted-component-requires : goal.run_counted-component-requires
+run_counted-component-requires g t c κs within =
+    (omega (arith, one_left c.loop-instruction.invariant.progress c.in-Some.ensures.found, c.in-Some.ensures.count, c.loop-instruction.invariant.progress.counted, c.decreases), (within.0, (within.1, (c.requires.engine, (c.requires.linked, at_place (place_same c.args.self.now c.args.chunk.now.file c.args.chunk.now.file refl (moved c.step.new.self c.loop-instruction.invariant.stays c.in-Ok.ensures.1.0 c.in-Ok.ensures.1.1 (still (here_of c.args.self.now c.file.result.now c.loop-instruction.configuration) (c.loop-instruction.at + 1) c.in-Some.instruction _ _ _ c.in-Ok.ensures.0))) (body_within (at_request c.loop-instruction.invariant.progress (here_is g.M.Limit.world c.args.self.now _ _ c.args.blocks.now c.loop-instruction.configuration c.args.configuration.now c.requires.engine c.file.ensures c.loop-instruction.invariant.stays.around) c.in-Some.ensures.found c.in-Some.ensures.count (component_request c.into_inner-asked.result) (component_use c.into_inner-asked.result) c.in-Ok.ensures.0 c.in-Component.is (ap (λ a. Ask (component_request a) (component_use a)) (sym c.into_inner-asked.ensures)))))))))
+
+pub run_counted-loop-instruction-smaller : goal.run_counted-loop-instruction-smaller
+run_counted-loop-instruction-smaller g t c =
+    omega (arith, one_left c.loop-instruction.invariant.progress c.in-Some.ensures.found, c.in-Some.ensures.count, c.in-Ok-component.ensures.counted)
+
+pub run_counted-loop-instruction-preserved : goal.run_counted-loop-instruction-preserved
+run_counted-loop-instruction-preserved g t c = record {
+  progress = came_back (at_request c.loop-instruction.invariant.progress (here_is g.M.Limit.world c.args.self.now _ _ c.args.blocks.now c.loop-instruction.configuration c.args.configuration.now c.requires.engine c.file.ensures c.loop-instruction.invariant.stays.around) c.in-Some.ensures.found c.in-Some.ensures.count (component_request c.into_inner-asked.result) (component_use c.into_inner-asked.result) c.in-Ok.ensures.0 c.in-Component.is (ap (λ a. Ask (component_request a) (component_use a)) (sym c.into_inner-asked.ensures))) _ _ c.in-Ok-component.ensures.counted c.in-Ok-component.ensures.bounded (ends_at (place_same c.args.self.now c.args.chunk.now.file c.args.chunk.now.file refl (moved c.step.new.self c.loop-instruction.invariant.stays c.in-Ok.ensures.1.0 c.in-Ok.ensures.1.1 (still (here_of c.args.self.now c.file.result.now c.loop-instruction.configuration) (c.loop-instruction.at + 1) c.in-Some.instruction _ _ _ c.in-Ok.ensures.0))) c.in-Ok-component.ensures.ends);
+  stays = stays_then (moved c.step.new.self c.loop-instruction.invariant.stays c.in-Ok.ensures.1.0 c.in-Ok.ensures.1.1 (still (here_of c.args.self.now c.file.result.now c.loop-instruction.configuration) (c.loop-instruction.at + 1) c.in-Some.instruction _ _ _ c.in-Ok.ensures.0)) c.in-Ok-component.ensures.stays;
+}
+
+pub run_counted-returns-in-Err-component-clause-bounded : goal.run_counted-returns-in-Err-component-clause-bounded
+run_counted-returns-in-Err-component-clause-bounded g t c =
+    λ h. c.in-Err-component.ensures.bounded (omega (arith, one_left c.loop-instruction.invariant.progress c.in-Some.ensures.found, c.in-Some.ensures.count))
+
+pub run_counted-returns-in-Err-component-clause-ends : goal.run_counted-returns-in-Err-component-clause-ends
+run_counted-returns-in-Err-component-clause-ends g t c =
+    take_failed (place_same c.args.self.now c.args.chunk.now.file c.args.chunk.now.file refl (moved c.step.new.self c.loop-instruction.invariant.stays c.in-Ok.ensures.1.0 c.in-Ok.ensures.1.1 (still (here_of c.args.self.now c.file.result.now c.loop-instruction.configuration) (c.loop-instruction.at + 1) c.in-Some.instruction _ _ _ c.in-Ok.ensures.0))) (at_request c.loop-instruction.invariant.progress (here_is g.M.Limit.world c.args.self.now _ _ c.args.blocks.now c.loop-instruction.configuration c.args.configuration.now c.requires.engine c.file.ensures c.loop-instruction.invariant.stays.around) c.in-Some.ensures.found c.in-Some.ensures.count (component_request c.into_inner-asked.result) (component_use c.into_inner-asked.result) c.in-Ok.ensures.0 c.in-Component.is (ap (λ a. Ask (component_request a) (component_use a)) (sym c.into_inner-asked.ensures))) _ _ _ c.in-Err-component.ensures.counted c.in-Err-component.ensures.ends
 
 pub run_counted-returns-clause-stays : goal.run_counted-returns-clause-stays
 run_counted-returns-clause-stays g t c = c.loop-instruction.invariant.stays
@@ -148,28 +172,56 @@ take-returns-clause-stays g t c =
 
 pub include-returns-in-Err-clause-ends : goal.include-returns-in-Err-clause-ends
 include-returns-in-Err-clause-ends g t c =
-    include_failed g.M.Limit.world c.args.self.now c.args.chunk.now.file c.args.name.now c.args.span c.args.blocks.now c.args.configuration.now c.requires.within c.in-Err.error _ _ (omega arith) (c.in-Err.ensures c.args.configuration.now)
+    include_failed g.M.Limit.world c.args.self.now c.args.chunk.now.file c.args.name.now c.args.span c.args.blocks.now c.args.configuration.now c.in-Err.error _ _ (omega arith) (c.in-Err.ensures c.args.configuration.now)
 
 pub include-run_counted-requires : goal.include-run_counted-requires
 include-run_counted-requires g t c κs within =
-    (omega (arith, c.decreases), (within.0, (within.1, (c.requires.engine, (linked_in c.for_template-machine.result g.M.Limit.world.registry c.in-Ok.found c.for_template-machine.ensures.template c.for_template-machine.ensures.templates (c.in-Ok.ensures c.args.configuration.now).among, may_include g.M.Limit.world c.args.self.now c.args.chunk.now.file c.args.name.now c.args.span c.args.blocks.now c.args.configuration.now c.requires.within (c.in-Ok.ensures c.args.configuration.now) c.for_template-machine.result c.in_template-inside.result c.for_template-machine.ensures.template c.for_template-machine.ensures.escapes c.in_template-inside.ensures.names c.in_template-inside.ensures.above c.in_template-inside.ensures.included c.in_ok-outer.ensures.begins)))))
+    (omega (arith, c.decreases), (within.0, (within.1, (c.requires.engine, (linked_in c.args.self.now c.in_template-machine.result g.M.Limit.world c.in-Ok.found c.requires.linked c.in_template-machine.ensures.template c.in_template-machine.ensures.templates c.in_template-machine.ensures.beside (c.in-Ok.ensures c.args.configuration.now).among, may_begin c.args.configuration.now c.begin_include.new.self (λ v r. refl) c.requires.within (include_entered g.M.Limit.world c.args.self.now c.args.chunk.now.file c.args.name.now c.args.span c.args.blocks.now c.args.configuration.now (c.in-Ok.ensures c.args.configuration.now) c.in_template-machine.result c.in_template-inside.result c.in_template-machine.ensures.template c.in_template-machine.ensures.escapes c.in_template-machine.ensures.depth c.in_template-inside.ensures.names c.in_template-inside.ensures.above c.in_template-inside.ensures.included c.in_ok-outer.ensures.begins))))))
 
 pub include-returns-in-Err-run_counted-clause-ends : goal.include-returns-in-Err-run_counted-clause-ends
 include-returns-in-Err-run_counted-clause-ends g t c =
-    included_failed g.M.Limit.world c.args.self.now c.args.chunk.now.file c.args.name.now c.args.span c.args.blocks.now c.args.configuration.now c.requires.within (c.in-Ok.ensures c.args.configuration.now) c.for_template-machine.result c.in_template-inside.result c.for_template-machine.ensures.template c.for_template-machine.ensures.escapes c.in_template-inside.ensures.names c.in_template-inside.ensures.above c.in_template-inside.ensures.included c.in_ok-outer.ensures.begins c.in-Err-run_counted.error _ _ c.in-Err-run_counted.ensures.ends
+    apart_failed c.args.configuration.now c.begin_include.new.self (λ v r. refl) c.requires.within (include_entered g.M.Limit.world c.args.self.now c.args.chunk.now.file c.args.name.now c.args.span c.args.blocks.now c.args.configuration.now (c.in-Ok.ensures c.args.configuration.now) c.in_template-machine.result c.in_template-inside.result c.in_template-machine.ensures.template c.in_template-machine.ensures.escapes c.in_template-machine.ensures.depth c.in_template-inside.ensures.names c.in_template-inside.ensures.above c.in_template-inside.ensures.included c.in_ok-outer.ensures.begins) c.in-Err-run_counted.error _ _ c.in-Err-run_counted.ensures.ends
 
 pub include-end_include-requires-clause-text : goal.include-end_include-requires-clause-text
 include-end_include-requires-clause-text g t c =
-    may_rejoin g.M.Limit.world c.args.self.now c.args.chunk.now.file c.args.name.now c.args.span c.args.blocks.now c.args.configuration.now c.requires.within (c.in-Ok.ensures c.args.configuration.now) c.for_template-machine.result c.in_template-inside.result c.for_template-machine.ensures.template c.for_template-machine.ensures.escapes c.in_template-inside.ensures.names c.in_template-inside.ensures.above c.in_template-inside.ensures.included c.in_ok-outer.ensures.begins c.run_counted.new.configuration c.in-Ok-run_counted.ensures.ends
+    may_rejoin c.args.configuration.now c.begin_include.new.self (λ v r. refl) c.requires.within (include_entered g.M.Limit.world c.args.self.now c.args.chunk.now.file c.args.name.now c.args.span c.args.blocks.now c.args.configuration.now (c.in-Ok.ensures c.args.configuration.now) c.in_template-machine.result c.in_template-inside.result c.in_template-machine.ensures.template c.in_template-machine.ensures.escapes c.in_template-machine.ensures.depth c.in_template-inside.ensures.names c.in_template-inside.ensures.above c.in_template-inside.ensures.included c.in_ok-outer.ensures.begins) c.run_counted.new.configuration c.in-Ok-run_counted.ensures.ends
 
 pub include-end_include-requires-clause-state : goal.include-end_include-requires-clause-state
 include-end_include-requires-clause-state g t c =
-    has_includer g.M.Limit.world c.args.self.now c.args.chunk.now.file c.args.name.now c.args.span c.args.blocks.now c.args.configuration.now c.requires.within (c.in-Ok.ensures c.args.configuration.now) c.for_template-machine.result c.in_template-inside.result c.for_template-machine.ensures.template c.for_template-machine.ensures.escapes c.in_template-inside.ensures.names c.in_template-inside.ensures.above c.in_template-inside.ensures.included c.in_ok-outer.ensures.begins c.run_counted.new.configuration c.in-Ok-run_counted.ensures.ends c.in-Ok-run_counted.ensures.stays
+    has_outer c.args.configuration.now c.begin_include.new.self (λ v r. refl) c.requires.within (include_entered g.M.Limit.world c.args.self.now c.args.chunk.now.file c.args.name.now c.args.span c.args.blocks.now c.args.configuration.now (c.in-Ok.ensures c.args.configuration.now) c.in_template-machine.result c.in_template-inside.result c.in_template-machine.ensures.template c.in_template-machine.ensures.escapes c.in_template-machine.ensures.depth c.in_template-inside.ensures.names c.in_template-inside.ensures.above c.in_template-inside.ensures.included c.in_ok-outer.ensures.begins) c.run_counted.new.configuration c.in-Ok-run_counted.ensures.ends c.in_ok-outer.ensures.begins refl c.in-Ok-run_counted.ensures.stays
 
 pub include-returns-clause-ends : goal.include-returns-clause-ends
 include-returns-clause-ends g t c =
-    include_over g.M.Limit.world c.args.self.now c.args.chunk.now.file c.args.name.now c.args.span c.args.blocks.now c.args.configuration.now c.requires.within (c.in-Ok.ensures c.args.configuration.now) c.for_template-machine.result c.in_template-inside.result c.for_template-machine.ensures.template c.for_template-machine.ensures.escapes c.in_template-inside.ensures.names c.in_template-inside.ensures.above c.in_template-inside.ensures.included c.in_ok-outer.ensures.begins c.run_counted.new.configuration c.in-Ok-run_counted.ensures.ends c.in-Ok-run_counted.ensures.stays c.end_include.new.self c.end_include.result c.end_include.ensures.rejoins c.end_include.ensures.lacks
+    apart_over c.args.configuration.now c.begin_include.new.self (λ v r. refl) c.requires.within (include_entered g.M.Limit.world c.args.self.now c.args.chunk.now.file c.args.name.now c.args.span c.args.blocks.now c.args.configuration.now (c.in-Ok.ensures c.args.configuration.now) c.in_template-machine.result c.in_template-inside.result c.in_template-machine.ensures.template c.in_template-machine.ensures.escapes c.in_template-machine.ensures.depth c.in_template-inside.ensures.names c.in_template-inside.ensures.above c.in_template-inside.ensures.included c.in_ok-outer.ensures.begins) c.run_counted.new.configuration c.in-Ok-run_counted.ensures.ends c.in_ok-outer.ensures.begins refl c.in-Ok-run_counted.ensures.stays c.end_include.new.self c.end_include.result c.end_include.ensures.rejoins c.end_include.ensures.lacks
 
 pub include-returns-clause-stays : goal.include-returns-clause-stays
 include-returns-clause-stays g t c =
-    include_stayed g.M.Limit.world c.args.self.now c.args.chunk.now.file c.args.name.now c.args.span c.args.blocks.now c.args.configuration.now c.requires.within (c.in-Ok.ensures c.args.configuration.now) c.for_template-machine.result c.in_template-inside.result c.for_template-machine.ensures.template c.for_template-machine.ensures.escapes c.in_template-inside.ensures.names c.in_template-inside.ensures.above c.in_template-inside.ensures.included c.in_ok-outer.ensures.begins c.run_counted.new.configuration c.in-Ok-run_counted.ensures.ends c.in-Ok-run_counted.ensures.stays c.end_include.new.self c.end_include.result c.end_include.ensures.rejoins
+    apart_stayed c.args.configuration.now c.begin_include.new.self (λ v r. refl) c.requires.within (include_entered g.M.Limit.world c.args.self.now c.args.chunk.now.file c.args.name.now c.args.span c.args.blocks.now c.args.configuration.now (c.in-Ok.ensures c.args.configuration.now) c.in_template-machine.result c.in_template-inside.result c.in_template-machine.ensures.template c.in_template-machine.ensures.escapes c.in_template-machine.ensures.depth c.in_template-inside.ensures.names c.in_template-inside.ensures.above c.in_template-inside.ensures.included c.in_ok-outer.ensures.begins) c.run_counted.new.configuration c.in-Ok-run_counted.ensures.ends c.in_ok-outer.ensures.begins refl c.in-Ok-run_counted.ensures.stays c.args.blocks.now c.end_include.new.self c.end_include.result c.end_include.ensures.rejoins
+
+pub component-returns-in-Err-clause-ends : goal.component-returns-in-Err-clause-ends
+component-returns-in-Err-clause-ends g t c =
+    call_failed g.M.Limit.world c.args.self.now c.args.chunk.now.file (component_request c.args.asked) (component_use c.args.asked) c.args.blocks.now c.args.configuration.now c.in-Err.error _ _ (omega arith) (c.in-Err.ensures c.args.blocks.now)
+
+pub component-run_counted-requires : goal.component-run_counted-requires
+component-run_counted-requires g t c κs within =
+    (omega (arith, c.decreases), (within.0, (within.1, (c.requires.engine, (linked_alone c.args.self.now c.in_component-machine.result g.M.Limit.world c.requires.linked c.in_component-machine.ensures.alone c.in_component-machine.ensures.templates c.in_component-machine.ensures.beside, may_begin c.args.configuration.now c.begin_component.new.self (λ v r. refl) c.requires.within (call_entered g.M.Limit.world c.args.self.now c.args.chunk.now.file (component_request c.args.asked) (component_use c.args.asked) c.args.blocks.now c.args.configuration.now (c.in-Ok.ensures c.args.blocks.now) c.in_component-machine.result c.new-inside.result c.in_component-machine.ensures.alone c.in_component-machine.ensures.escapes c.in_component-machine.ensures.depth c.new-inside.ensures.names c.new-inside.ensures.above c.new-inside.ensures.included c.in_ok-outer.ensures.begins))))))
+
+pub component-returns-in-Err-run_counted-clause-ends : goal.component-returns-in-Err-run_counted-clause-ends
+component-returns-in-Err-run_counted-clause-ends g t c =
+    apart_failed c.args.configuration.now c.begin_component.new.self (λ v r. refl) c.requires.within (call_entered g.M.Limit.world c.args.self.now c.args.chunk.now.file (component_request c.args.asked) (component_use c.args.asked) c.args.blocks.now c.args.configuration.now (c.in-Ok.ensures c.args.blocks.now) c.in_component-machine.result c.new-inside.result c.in_component-machine.ensures.alone c.in_component-machine.ensures.escapes c.in_component-machine.ensures.depth c.new-inside.ensures.names c.new-inside.ensures.above c.new-inside.ensures.included c.in_ok-outer.ensures.begins) c.in-Err-run_counted.error _ _ c.in-Err-run_counted.ensures.ends
+
+pub component-end_component-requires-clause-text : goal.component-end_component-requires-clause-text
+component-end_component-requires-clause-text g t c =
+    may_rejoin c.args.configuration.now c.begin_component.new.self (λ v r. refl) c.requires.within (call_entered g.M.Limit.world c.args.self.now c.args.chunk.now.file (component_request c.args.asked) (component_use c.args.asked) c.args.blocks.now c.args.configuration.now (c.in-Ok.ensures c.args.blocks.now) c.in_component-machine.result c.new-inside.result c.in_component-machine.ensures.alone c.in_component-machine.ensures.escapes c.in_component-machine.ensures.depth c.new-inside.ensures.names c.new-inside.ensures.above c.new-inside.ensures.included c.in_ok-outer.ensures.begins) c.run_counted.new.configuration c.in-Ok-run_counted.ensures.ends
+
+pub component-end_component-requires-clause-state : goal.component-end_component-requires-clause-state
+component-end_component-requires-clause-state g t c =
+    has_outer c.args.configuration.now c.begin_component.new.self (λ v r. refl) c.requires.within (call_entered g.M.Limit.world c.args.self.now c.args.chunk.now.file (component_request c.args.asked) (component_use c.args.asked) c.args.blocks.now c.args.configuration.now (c.in-Ok.ensures c.args.blocks.now) c.in_component-machine.result c.new-inside.result c.in_component-machine.ensures.alone c.in_component-machine.ensures.escapes c.in_component-machine.ensures.depth c.new-inside.ensures.names c.new-inside.ensures.above c.new-inside.ensures.included c.in_ok-outer.ensures.begins) c.run_counted.new.configuration c.in-Ok-run_counted.ensures.ends c.in_ok-outer.ensures.begins refl c.in-Ok-run_counted.ensures.stays
+
+pub component-returns-clause-ends : goal.component-returns-clause-ends
+component-returns-clause-ends g t c =
+    apart_over c.args.configuration.now c.begin_component.new.self (λ v r. refl) c.requires.within (call_entered g.M.Limit.world c.args.self.now c.args.chunk.now.file (component_request c.args.asked) (component_use c.args.asked) c.args.blocks.now c.args.configuration.now (c.in-Ok.ensures c.args.blocks.now) c.in_component-machine.result c.new-inside.result c.in_component-machine.ensures.alone c.in_component-machine.ensures.escapes c.in_component-machine.ensures.depth c.new-inside.ensures.names c.new-inside.ensures.above c.new-inside.ensures.included c.in_ok-outer.ensures.begins) c.run_counted.new.configuration c.in-Ok-run_counted.ensures.ends c.in_ok-outer.ensures.begins refl c.in-Ok-run_counted.ensures.stays c.end_component.new.self c.end_component.result c.end_component.ensures.rejoins c.end_component.ensures.lacks
+
+pub component-returns-clause-stays : goal.component-returns-clause-stays
+component-returns-clause-stays g t c =
+    apart_stayed c.args.configuration.now c.begin_component.new.self (λ v r. refl) c.requires.within (call_entered g.M.Limit.world c.args.self.now c.args.chunk.now.file (component_request c.args.asked) (component_use c.args.asked) c.args.blocks.now c.args.configuration.now (c.in-Ok.ensures c.args.blocks.now) c.in_component-machine.result c.new-inside.result c.in_component-machine.ensures.alone c.in_component-machine.ensures.escapes c.in_component-machine.ensures.depth c.new-inside.ensures.names c.new-inside.ensures.above c.new-inside.ensures.included c.in_ok-outer.ensures.begins) c.run_counted.new.configuration c.in-Ok-run_counted.ensures.ends c.in_ok-outer.ensures.begins refl c.in-Ok-run_counted.ensures.stays c.args.blocks.now c.end_component.new.self c.end_component.result c.end_component.ensures.rejoins

@@ -14,6 +14,9 @@ decreases-take g l = 2 * (g.M.Limit.most - l.steps.now) + 1
 abbrev pub decreases-include : goal.decreases-include
 decreases-include g l = 2 * (g.M.Limit.most - l.steps.now) + 1
 
+abbrev pub decreases-component : goal.decreases-component
+decreases-component g l = 2 * (g.M.Limit.most - l.steps.now) + 1
+
 abbrev pub invariant-run_counted-loop-instruction : goal.invariant-run_counted-loop-instruction
 invariant-run_counted-loop-instruction g l = record {
   progress : Progress g.M.Limit.most g.M.Limit.world (place_at l.self l.chunk.file l.fn.blocks l.fn.configuration) l.chunk.code (config_of l.fn.configuration) l.fn.steps l.at (config_of l.configuration) l.steps;

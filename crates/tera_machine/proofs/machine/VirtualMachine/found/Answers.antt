@@ -3,4 +3,4 @@ use Rattle.tera_machine.proofs.machine.VirtualMachine.found.Goals as goal
 
 pub returns : goal.returns
 returns g c =
-    found_in c.args.self.now g.M.Limit.world.registry c.args.name.now c.as_str.result.now c.find.result c.requires c.as_str.ensures c.find.ensures
+    found_in c.args.self.now g.M.Limit.world c.args.name.now c.as_str.result.now c.find.result c.requires c.as_str.ensures c.find.ensures

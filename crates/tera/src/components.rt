@@ -1,0 +1,155 @@
+// Components by name.
+ghost use Rattle.std.specs.Prelude.{◌≡◌, Some, Ok, true, map, option_map, string_bytes, IfOk, IfErr};
+ghost use Rattle.tera_errors.specs.Answer.{Gives, GivesOneOf, Lacks};
+ghost use Rattle.tera_values.specs.Val.{text};
+ghost use Rattle.tera_state.specs.Scope.{nothing_set};
+ghost use Rattle.tera_state.specs.Scopes.{around_of, variables_of};
+ghost use Rattle.tera_code.specs.Code.{listing_of};
+ghost use Rattle.tera_meaning.specs.Accepted.{is_component};
+ghost use Rattle.tera_meaning.specs.Components.{AreComponentNames, component};
+ghost use Rattle.tera_meaning.specs.Rendering.{render_component};
+ghost use Rattle.tera_registry.specs.Templates.{IsDefined};
+ghost use Rattle.tera_machine.specs.Subject.{Subject};
+ghost use Rattle.tera.specs.Lent.{lent_text};
+ghost use Rattle.tera.specs.Rendering.{ComponentByName, AppendsOneOf};
+
+use crate::engine::Tera;
+use std::alloc::Global;
+use std::marker::Brand;
+use std::sync::ledger::{Blank, Ledger};
+use tera_components::ComponentInfo;
+use tera_machine::VirtualMachine;
+use tera_registry::Defined;
+use tera_state::Scopes;
+use tera_values::{Context, Error, TeraResult, Value};
+
+impl Tera {
+    ghost use Rattle.tera.specs.Registry.{registry_of, subject_of_component, text_meant, info_at};
+
+    /// Whether a template defines a component of this name. Takes no memory.
+    pub fn contains_component(&self, name: &str) -> bool
+        ensures { result ≡ is_component (registry_of self.now) name.now }
+    {
+        self.templates.contains_component(name)
+    }
+
+    /// The names of the components, each once, in byte order.
+    pub fn get_component_names(&self) -> TeraResult<Vec<String>>
+        ensures names { IfOk result
+            (λ v. AreComponentNames (registry_of self.now) (map string_bytes v.items)) }
+        ensures lacks { IfErr result Lacks }
+    {
+        self.templates.component_names()
+    }
+
+    /// What is told of the component of this name, if there is one.
+    pub fn get_component_definition(&self, name: &str) -> TeraResult<Option<ComponentInfo>>
+        ensures { Gives (λ i. i) result (Ok (info_at (registry_of self.now) name.now)) }
+    {
+        match self.templates.component(name) {
+            Some(found) => {
+                let info = ComponentInfo::new(self.alloc, found.definition)?;
+                Ok(Some(info))
+            }
+            None => Ok(None),
+        }
+    }
+
+    /// Renders the component of this name with these arguments and, at will, a body, which is put out as it is. Implicit
+    /// parameters are looked up among the implicits, and then in the global context. A component that is not there is refused
+    /// with `ComponentNotFound`, and arguments that do not fit it with `Message`.
+    pub fn render_component(
+        &self,
+        name: &str,
+        args: &Context,
+        implicits: &Context,
+        body: Option<&str>,
+        autoescape: bool,
+    ) -> TeraResult<String>
+        ensures { GivesOneOf string_bytes result (ComponentByName (registry_of self.now) name.now
+            args.now implicits.now (lent_text body.entry) autoescape) }
+    {
+        match self.templates.component(name) {
+            Some(found) => self.render_found_component(found, args, implicits, body, autoescape),
+            None => Err(Error::component_not_found()),
+        }
+    }
+
+    /// Appends what `render_component` answers. After a refusal the vector is as before.
+    pub fn render_component_to(
+        &self,
+        name: &str,
+        args: &Context,
+        implicits: &Context,
+        body: Option<&str>,
+        autoescape: bool,
+        out: &mut Vec<u8>,
+    ) -> TeraResult<()>
+        ensures { AppendsOneOf result out.old.items out.new.items
+            (ComponentByName (registry_of self.now) name.now args.now implicits.now
+            (lent_text body.entry) autoescape) }
+    {
+        let text = self.render_component(name, args, implicits, body, autoescape)?;
+        out.extend_from_slice(text.as_bytes())?;
+        Ok(())
+    }
+
+    // The text of a component that was found, which runs in a context of its own. Implicit parameters are looked up in a state
+    // that has the implicits as its context, and the global context.
+    fn render_found_component(
+        &self,
+        found: Defined<'_>,
+        args: &Context,
+        implicits: &Context,
+        body: Option<&str>,
+        autoescape: bool,
+    ) -> TeraResult<String>
+        requires { IsDefined (component (registry_of self.now) found.definition.now.name)
+            (Some found) }
+        ensures { Gives string_bytes result (render_component (registry_of self.now)
+            found.entry.definition.now.name args.now implicits.now (lent_text body.entry)
+            autoescape) }
+    {
+        let body = handed(self.alloc, body)?;
+        let mut scopes = Scopes::new(self.alloc, implicits, Some(&self.global_context));
+        let definition = found.definition;
+        let context = match definition.build_context_by_name(self.alloc, args, &scopes, body) {
+            Ok(context) => context,
+            Err(error) => return Err(error),
+        };
+        scopes.enter_component(context)?;
+        self.run_component::<Brand>(found, scopes, autoescape, Blank::new(1))
+    }
+
+    // The text of the body of a component, which reads these scopes. The subject is the body's.
+    fn run_component<L: Ledger>(
+        &self,
+        found: Defined<'_>,
+        scopes: Scopes<'_>,
+        autoescape: bool,
+        blank: Blank,
+    ) -> TeraResult<String>
+        ghost about: { Subject }
+        requires ledger { (blank.name ≡ L.name) × (blank.parts ≡ L.parts) × (L.parts ≡ 1) }
+        requires subject { about ≡ subject_of_component self.now
+            (component (registry_of self.now) found.definition.now.name)
+            (around_of scopes) autoescape }
+        requires code { found.chunk.now ≡ listing_of about.place.file about.tree }
+        requires fresh { variables_of scopes ≡ nothing_set }
+        ensures { Gives string_bytes result (text_meant about) }
+    {
+        let machine = VirtualMachine::new_with_autoescape(self.alloc, autoescape, &self.templates);
+        self.run_within::<L>(&machine, found.chunk, scopes, blank)
+    }
+}
+
+// The body that a component is handed, as a safe text.
+fn handed(alloc: Global, body: Option<&str>) -> TeraResult<Option<Value>>
+    ensures { Gives (λ b. b) result
+        (Ok (option_map (λ t. text t true) (lent_text body.entry))) }
+{
+    match body {
+        Some(text) => Ok(Some(Value::safe_string(alloc, text)?)),
+        None => Ok(None),
+    }
+}

@@ -1,0 +1,5 @@
+pub mod Rows
+pub mod Arguments
+pub mod Kept
+pub mod LeftOver
+pub mod Calls

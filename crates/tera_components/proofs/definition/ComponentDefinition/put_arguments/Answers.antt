@@ -1,0 +1,26 @@
+use Rattle.std.proofs.Common.{rules, List, Option, ◌∙◌}
+use Rattle.tera_errors.specs.Answer.{Says}
+use Rattle.tera_errors.specs.Site.{Name}
+use Rattle.tera_values.specs.Val.{Val}
+use Rattle.tera_values.specs.Named.{Named}
+use Rattle.tera_state.specs.Scope.{look_implicit}
+use Rattle.tera_state.specs.Scopes.{around_of, variables_of}
+use Rattle.tera_components.specs.Definition.{named_arguments, with_formals, or_message}
+use Rattle.tera_components.proofs.Calls.{with_formals_refused, with_formals_next}
+use Rattle.tera_components.proofs.definition.ComponentDefinition.put_arguments.Goals as goal
+
+pub returns-in_err-value : goal.returns-in_err-value
+returns-in_err-value c =
+    let look : Name → Val = λ n. look_implicit n (around_of c.args.caller.now) (variables_of c.args.caller.now) in
+    let given : List (Name × Val) = named_arguments c.args.given.now in
+    let meant : Option (Named Val) = with_formals look given c.args.self.now.formals c.args.context.now in
+    let says : Says c.in_err-value.field-0.0 (or_message meant) =
+    with_formals_refused look given c.deref-argument-items.result.now c.loop-argument.argument-index c.argument-item.result c.loop-argument.context c.in_err-value.field-0.0 meant c.loop-argument-test.true c.argument-item.is c.loop-argument.invariant c.in_err-value.ensures in
+    search rules
+
+pub loop-argument-preserved : goal.loop-argument-preserved
+loop-argument-preserved c =
+    let look : Name → Val = λ n. look_implicit n (around_of c.args.caller.now) (variables_of c.args.caller.now) in
+    let given : List (Name × Val) = named_arguments c.args.given.now in
+    c.loop-argument.invariant
+    ∙ with_formals_next look given c.deref-argument-items.result.now c.loop-argument.argument-index c.argument-item.result c.loop-argument.context c.insert.new.self _ c.in_ok-value.value c.loop-argument-test.true c.argument-item.is c.in_ok-value.ensures c.name.ensures c.in_ok-insert.ensures.ok

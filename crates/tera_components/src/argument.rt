@@ -1,0 +1,156 @@
+// Parameters of components, and the values that they take.
+ghost use Rattle.std.specs.Prelude.{◌≡◌, Ok, option_copied};
+ghost use Rattle.tera_errors.specs.Answer.{Gives};
+ghost use Rattle.tera_tree.specs.View.{parameter_of};
+ghost use Rattle.tera_values.specs.Named.{at_name};
+ghost use Rattle.tera_state.specs.Scope.{look_implicit};
+ghost use Rattle.tera_state.specs.Scopes.{around_of, variables_of};
+ghost use Rattle.tera_components.specs.Context.{is_of_type, looked_up};
+ghost use Rattle.tera_components.specs.Definition.{formal_of, named_arguments, offered, formal_value, or_message};
+
+use crate::faults;
+use crate::literals::value_from;
+use std::alloc::Global;
+use std::marker::Model;
+use tera_state::Scopes;
+use tera_tree::{ArgumentType, Parameter};
+use tera_values::{Map, Name, Shape, TeraResult, Value};
+
+/// A parameter of a component. Its default is kept as a value, so that a copy of that is a count.
+#[derive(Drop)]
+pub struct ComponentArg {
+    name: Name,
+    is_implicit: bool,
+    of_type: Option<ArgumentType>,
+    default: Option<Value>,
+}
+
+impl Model for ComponentArg {
+    ghost use Rattle.tera_components.specs.Definition.{Formal, formal_code};
+
+    ghost Value = { Formal };
+
+    ghost coded = { formal_code };
+
+    ghost view = { λ a. record { name = a.name; is_implicit = a.is_implicit; of_type = a.of_type; default = a.default } };
+}
+
+fn is_of_type(value: &Value, of_type: ArgumentType) -> bool
+    ensures { result ≡ is_of_type of_type value.now }
+{
+    match value.shape() {
+        Shape::Text(..) => matches!(of_type, ArgumentType::String),
+        Shape::Bool(_) => matches!(of_type, ArgumentType::Bool),
+        Shape::Int(_) => matches!(of_type, ArgumentType::Integer | ArgumentType::Number),
+        Shape::Array(_) => matches!(of_type, ArgumentType::Array),
+        Shape::Map(_) => matches!(of_type, ArgumentType::Map),
+        Shape::Undefined | Shape::None | Shape::Bytes(_) => false,
+    }
+}
+
+impl ComponentArg {
+    pub(crate) fn new(alloc: Global, parameter: &Parameter<'_>) -> TeraResult<ComponentArg>
+        ensures { Gives (λ a. a) result (Ok (formal_of (parameter_of parameter.now))) }
+    {
+        let default = match &parameter.default {
+            Some(literal) => Some(value_from(alloc, literal)?.shared(alloc)?),
+            None => None,
+        };
+        Ok(ComponentArg {
+            name: Name::new(alloc, parameter.name)?,
+            is_implicit: parameter.is_implicit,
+            of_type: parameter.of_type,
+            default,
+        })
+    }
+
+    /// The parameter's name.
+    pub fn name(&self) -> &str
+        ensures { result.now ≡ self.now.name }
+    {
+        self.name.as_str()
+    }
+
+    /// The same parameter.
+    pub fn try_clone(&self) -> TeraResult<ComponentArg>
+        ensures { Gives (λ a. a) result (Ok self.now) }
+    {
+        let default = match &self.default {
+            Some(value) => Some(value.try_clone()?),
+            None => None,
+        };
+        Ok(ComponentArg {
+            name: self.name.share()?,
+            is_implicit: self.is_implicit,
+            of_type: self.of_type,
+            default,
+        })
+    }
+
+    // What an implicit parameter finds in the callers.
+    fn look_up(&self, alloc: Global, caller: &Scopes<'_>) -> TeraResult<Option<Value>>
+        ensures { Gives (λ o. o) result (Ok (looked_up
+            (λ n. look_implicit n (around_of caller.now) (variables_of caller.now))
+            self.now.is_implicit self.now.name)) }
+    {
+        if !self.is_implicit {
+            return Ok(None);
+        }
+        let found = caller.look_implicit(&self.name.sought());
+        if found.is_undefined() {
+            return Ok(None);
+        }
+        Ok(Some(found.to_value(alloc)?))
+    }
+
+    // What is given, undefined too; else what is looked up; else the default.
+    fn offer(&self, alloc: Global, given: &Map, caller: &Scopes<'_>) -> TeraResult<Option<Value>>
+        ensures { Gives (λ o. o) result (Ok (offered
+            (λ n. look_implicit n (around_of caller.now) (variables_of caller.now))
+            (named_arguments given.now) self.now)) }
+    {
+        if let Some(value) = argument_at(given, self.name.as_str()) {
+            return Ok(Some(value.try_clone()?));
+        }
+        if let Some(value) = self.look_up(alloc, caller)? {
+            return Ok(Some(value));
+        }
+        match &self.default {
+            Some(value) => Ok(Some(value.try_clone()?)),
+            None => Ok(None),
+        }
+    }
+
+    /// The value that the parameter takes in a call of this component; a `Message` where there is none, or one of another type.
+    pub(crate) fn value(
+        &self,
+        alloc: Global,
+        component: &str,
+        given: &Map,
+        caller: &Scopes<'_>,
+    ) -> TeraResult<Value>
+        ensures { Gives (λ v. v) result (or_message (formal_value
+            (λ n. look_implicit n (around_of caller.now) (variables_of caller.now))
+            (named_arguments given.now) self.now)) }
+    {
+        let value = match self.offer(alloc, given, caller)? {
+            Some(value) => value,
+            None => return Err(faults::missing(alloc, component, self.name.as_str())),
+        };
+        match self.of_type {
+            Some(of_type) if !is_of_type(&value, of_type) => {
+                let name = self.name.as_str();
+                Err(faults::unfit(alloc, component, name, of_type, value.name()))
+            }
+            _ => Ok(value),
+        }
+    }
+}
+
+// The argument of this name.
+#[tactic(auto, using(crate::proofs::Arguments::find_ktext))]
+fn argument_at<'a>(given: &'a Map, name: &str) -> Option<&'a Value>
+    ensures { option_copied result ≡ at_name name.now (named_arguments given.entry.now) }
+{
+    given.get_text(name)
+}

@@ -1,0 +1,228 @@
+// Components as they are kept, and the contexts of their calls.
+ghost use Rattle.std.specs.Prelude.{◌≡◌, Ok, List, [], OnOk, IfErr};
+ghost use Rattle.tera_errors.specs.Answer.{Gives, Lacks};
+ghost use Rattle.tera_errors.specs.Site.{Name};
+ghost use Rattle.tera_tree.specs.Tree.{Signature as Signed};
+ghost use Rattle.tera_tree.specs.View.{signature_of};
+ghost use Rattle.tera_tree.specs.Blocks.{is_among};
+ghost use Rattle.tera_values.specs.Val.{Val};
+ghost use Rattle.tera_values.specs.View.{key_view};
+ghost use Rattle.tera_values.specs.Named.{text_keys};
+ghost use Rattle.tera_state.specs.Scope.{look_implicit};
+ghost use Rattle.tera_state.specs.Scopes.{around_of, variables_of};
+ghost use Rattle.tera_components.specs.Context.{component_context, with_rest, with_body};
+ghost use Rattle.tera_components.specs.Definition.{definition_of, formal_names, named_arguments, left_over, is_left, kept_over, with_formals, call_context, or_message};
+
+use crate::argument::ComponentArg;
+use crate::faults;
+use std::alloc::Global;
+use std::marker::Model;
+use tera_state::Scopes;
+use tera_tree::Signature;
+use tera_values::{Context, Key, Map, Name, Shape, TeraResult, Value};
+
+/// What a component is given, as its signature says. It borrows nothing from the source.
+#[derive(Drop)]
+pub struct ComponentDefinition {
+    name: Name,
+    arguments: Vec<ComponentArg>,
+    /// The names of these as keys, so that they are found fast.
+    names: Map,
+    rest: Option<Name>,
+}
+
+impl Model for ComponentDefinition {
+    ghost use Rattle.tera_components.specs.Definition.{Definition, definition_code};
+
+    ghost Value = { Definition };
+
+    ghost coded = { definition_code };
+
+    ghost view = { λ d. record { name = d.name; formals = d.arguments.items; rest = d.rest } };
+
+    ghost use Rattle.tera_components.specs.Definition.{AreNames};
+
+    ghost invariant = { λ d. AreNames d.names d.arguments.items };
+}
+
+impl ComponentDefinition {
+    /// What the signature says. Defaults are made here, and not at each call.
+    pub fn new(alloc: Global, signature: &Signature<'_>) -> TeraResult<ComponentDefinition>
+        ensures { Gives (λ d. d) result (Ok (definition_of (signature_of signature.now))) }
+    {
+        let mut arguments = Vec::with_capacity(alloc, signature.parameters.len())?;
+        let mut names = Map::new(alloc);
+        for parameter in signature.parameters.iter() {
+            let name = String::from_str(alloc, parameter.name)?;
+            names.insert(Key::Text(name), Value::none())?;
+            arguments.push(ComponentArg::new(alloc, parameter)?)?;
+        }
+        let rest = match signature.rest {
+            Some(name) => Some(Name::new(alloc, name)?),
+            None => None,
+        };
+        Ok(ComponentDefinition {
+            name: Name::new(alloc, signature.name)?,
+            arguments,
+            names,
+            rest,
+        })
+    }
+
+    /// The component's name.
+    pub fn name(&self) -> &str
+        ensures { result.now ≡ self.now.name }
+    {
+        self.name.as_str()
+    }
+
+    /// The parameters in their order, without what takes all other arguments.
+    pub fn arguments(&self) -> &[ComponentArg]
+        ensures { result.now ≡ self.now.formals }
+    {
+        self.arguments.as_slice()
+    }
+
+    // Whether a parameter has this name.
+    fn takes(&self, name: &str) -> bool
+        ensures { result ≡ is_among name.now (formal_names self.now) }
+    {
+        self.names.get_text(name).is_some()
+    }
+
+    // Whether the key is the name of an argument that no parameter takes.
+    fn leaves(&self, key: &Key) -> bool
+        ensures { result ≡ is_left self.now (key_view key.now) }
+    {
+        match key {
+            Key::Text(name) => !self.takes(name.as_str()),
+            _ => false,
+        }
+    }
+
+    // Puts a copy of the entry behind those that are there, if it is left over.
+    fn keep(&self, key: &Key, value: &Value, all: &mut Map) -> TeraResult<()>
+        ensures ok { OnOk result (all.new
+            ≡ kept_over self.now all.old (key_view key.now, value.now)) }
+        ensures lacks { IfErr result Lacks }
+    {
+        if !self.leaves(key) {
+            return Ok(());
+        }
+        let key = key.try_clone()?;
+        let value = value.try_clone()?;
+        all.insert(key, value)
+    }
+
+    // The arguments that no parameter takes.
+    fn others(&self, alloc: Global, given: &Map) -> TeraResult<Map>
+        ensures { Gives (λ m. m) result
+            (Ok (text_keys (left_over self.now (named_arguments given.now)))) }
+    {
+        let mut all = Map::new(alloc);
+        for place in 0..given.len() {
+            if let Some((key, value)) = given.entry_at(place) {
+                self.keep(key, value, &mut all)?;
+            }
+        }
+        Ok(all)
+    }
+
+    // Puts the values of the parameters at their names.
+    fn put_arguments(
+        &self,
+        alloc: Global,
+        given: &Map,
+        caller: &Scopes<'_>,
+        context: &mut Context,
+    ) -> TeraResult<()>
+        ensures { Gives (λ _. context.new) result (or_message (with_formals
+            (λ n. look_implicit n (around_of caller.now) (variables_of caller.now))
+            (named_arguments given.now) self.now.formals context.old)) }
+    {
+        for argument in self.arguments.iter() {
+            let value = argument.value(alloc, self.name.as_str(), given, caller)?;
+            context.insert(argument.name(), value)?;
+        }
+        Ok(())
+    }
+
+    // Puts what no parameter takes at its name, and refuses it where it has none.
+    fn put_others(&self, alloc: Global, others: Map, context: &mut Context) -> TeraResult<()>
+        ensures { (over : List (Name × Val)) → others ≡ text_keys over →
+            Gives (λ _. context.new) result
+            (or_message (with_rest self.now.rest over context.old)) }
+    {
+        if let Some(rest) = &self.rest {
+            return context.insert(rest.as_str(), Value::map(others));
+        }
+        match others.entry_at(0) {
+            Some((name, _)) => Err(faults::unknown(alloc, self.name.as_str(), name)),
+            None => Ok(()),
+        }
+    }
+
+    fn context(
+        &self,
+        alloc: Global,
+        given: &Map,
+        caller: &Scopes<'_>,
+        body: Option<Value>,
+    ) -> TeraResult<Context>
+        ensures { Gives (λ c. c) result (or_message (call_context self.now
+            (named_arguments given.now) body
+            (λ n. look_implicit n (around_of caller.now) (variables_of caller.now)))) }
+    {
+        let others = self.others(alloc, given)?;
+        let mut context = begun(alloc, body)?;
+        self.put_arguments(alloc, given, caller, &mut context)?;
+        self.put_others(alloc, others, &mut context)?;
+        Ok(context)
+    }
+
+    /// The context of a call with these arguments; a `Message` where they do not fit. A key that is no text names no argument.
+    pub fn build_context(
+        &self,
+        alloc: Global,
+        given: &Map,
+        caller: &Scopes<'_>,
+        body: Option<Value>,
+    ) -> TeraResult<Context>
+        ensures { (s : Signed) → self.now ≡ definition_of s →
+            Gives (λ c. c) result (or_message (component_context s
+            (named_arguments given.now) body
+            (λ n. look_implicit n (around_of caller.now) (variables_of caller.now)))) }
+    {
+        self.context(alloc, given, caller, body)
+    }
+
+    /// The same where the arguments are values by name, in byte order of these.
+    pub fn build_context_by_name(
+        &self,
+        alloc: Global,
+        given: &Context,
+        caller: &Scopes<'_>,
+        body: Option<Value>,
+    ) -> TeraResult<Context>
+        ensures { (s : Signed) → self.now ≡ definition_of s →
+            Gives (λ c. c) result (or_message (component_context s given.now body
+            (λ n. look_implicit n (around_of caller.now) (variables_of caller.now)))) }
+    {
+        let given = given.to_value()?;
+        match given.shape() {
+            Shape::Map(given) => self.build_context(alloc, given, caller, body),
+            _ => unreachable!(),
+        }
+    }
+}
+
+// A context with the body alone.
+fn begun(alloc: Global, body: Option<Value>) -> TeraResult<Context>
+    ensures { Gives (λ c. c) result (Ok (with_body body [])) }
+{
+    let mut context = Context::new(alloc);
+    if let Some(body) = body {
+        context.insert("body", body)?;
+    }
+    Ok(context)
+}

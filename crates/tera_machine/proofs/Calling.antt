@@ -1,0 +1,198 @@
+-- Components that are called follow the pure machine.
+use Rattle.std.proofs.Common.{◌≡◌, ℕ, suc, ◌+◌, ◌<◌, ◌≤◌, Bool, true, false, List, [], ◌∷◌, length, drop, get_or, Option, Some, None, Result, Ok, Err, refl, sym, ap, ap₂, ◌∙◌, subst}
+use Rattle.std.specs.Prelude.{nat_lt, option_map, map, bytes_eq, if◌then◌else◌}
+use Rattle.std.specs.Option.{option_or}
+use Rattle.std.proofs.lemmas.Bool.{lt-ltb, le-ltb}
+use Rattle.std.proofs.lemmas.List.{drop_more}
+use Rattle.tera_errors.specs.Site.{Name}
+use Rattle.tera_errors.specs.declared.span.Span.{Span}
+use Rattle.tera_errors.specs.Fault.{Fault, message}
+use Rattle.tera_errors.specs.Answer.{Refusal, Says, Tells}
+use Rattle.tera_tree.specs.Tree.{Signature, Nodes}
+use Rattle.tera_values.specs.Alphabet.{plain}
+use Rattle.tera_values.specs.Val.{Val}
+use Rattle.tera_values.specs.Named.{Named}
+use Rattle.tera_operators.specs.Operand.{Retells}
+use Rattle.tera_state.specs.Scope.{Variables, nothing_set, look_implicit, in_component}
+use Rattle.tera_state.specs.Scopes.{variables_of, around_of}
+use Rattle.tera_components.specs.Context.{component_context}
+use Rattle.tera_components.specs.Definition.{Definition, definition_of, or_message}
+use Rattle.tera_meaning.specs.Registry.{Registry}
+use Rattle.tera_meaning.specs.Components.{Component, component_named, component, one_off_name}
+use Rattle.tera_meaning.specs.Run.{Request, AComponent}
+use Rattle.tera_meaning.specs.Whole.{World, Place, Refuses, Takes, component_at, place_of_component, takes_context, takes_component, fault_in, way}
+use Rattle.tera_code.specs.Listing.{Listing}
+use Rattle.tera_registry.specs.Components.{kept_of, kept_as}
+use Rattle.tera_registry.specs.declared.components.Component.{Component as Kept}
+use Rattle.tera_registry.specs.Templates.{with_templates, definers_of, IsKept, IsDefined}
+use Rattle.tera_registry.specs.declared.templates.Defined.{Defined}
+use Rattle.tera_registry.specs.declared.templates.Found.{Found}
+use Rattle.tera_machine.specs.declared.bodies.Outer.{Outer}
+use Rattle.tera_machine.specs.declared.blocks.OpenBlocks.{OpenBlocks}
+use Rattle.tera_machine.specs.declared.components.Called.{Called}
+use Rattle.tera_machine.specs.declared.configuration.Configuration.{Configuration}
+use Rattle.tera_machine.specs.declared.machine.VirtualMachine.{VirtualMachine}
+use Rattle.tera_machine.specs.Config.{Config, config_of}
+use Rattle.tera_machine.specs.Flow.{Use}
+use Rattle.tera_machine.specs.Included.{names_in}
+use Rattle.tera_machine.specs.Subject.{IsLinked, kept_beside, template_of, place_at}
+use Rattle.tera_machine.specs.Bodies.{Entered, BodyRan}
+use Rattle.tera_machine.specs.Apart.{Begins}
+use Rattle.tera_machine.specs.Components.{kept_meant, found_of, first_kept, IsCalled, Calls}
+use Rattle.tera_machine.proofs.Taking.{refused}
+
+-- Which component a name leads to.
+
+-- the first of a name among those that a text defines is the component that is meant
+first_meant : (file name : Name) (ds : List (Signature × Nodes)) → first_kept name (map (kept_as file) ds) ≡ option_map kept_meant (component_named file name ds)
+first_meant file name [] = refl
+first_meant file name (d ∷ ds) = by (bytes_eq name d.0.name) (first_meant file name ds)
+  where
+    by : (b : Bool) → first_kept name (map (kept_as file) ds) ≡ option_map kept_meant (component_named file name ds) → (if b then Some (kept_as file d) else first_kept name (map (kept_as file) ds)) ≡ option_map kept_meant (if b then Some (record { file = file; signature = d.0; body = d.1 }) else component_named file name ds)
+    by true rest = refl
+    by false rest = rest
+
+-- one of those that are kept, and those behind it
+pub kept_step : (name : Name) (cs : List Kept) (i : ℕ) (c : Kept) → i < length cs → c ≡ get_or cs i c → first_kept name (map kept_of (drop i cs)) ≡ (if bytes_eq name c.definition.name then Some (kept_of c) else first_kept name (map kept_of (drop (i + 1) cs)))
+kept_step name cs i c l at =
+    ap (λ ks. first_kept name (map kept_of ks)) (drop_more cs i c l ∙ ap (λ k. k ∷ drop (i + 1) cs) (sym at))
+
+abbrev given_or : Definition → Option (Definition × Listing) → Definition
+given_or other None = other
+given_or other (Some k) = k.0
+
+abbrev code_or : Listing → Option (Definition × Listing) → Listing
+code_or other None = other
+code_or other (Some k) = k.1
+
+defined_by : (o : Option Component) (r : Option Defined) → option_map found_of r ≡ option_map kept_meant o → IsDefined o r
+defined_by None None e = refl
+defined_by None (Some d) e = absurd (no_some e)
+  where
+    no_some : Some (found_of d) ≡ None → ⊥
+    no_some e = cc
+defined_by (Some c) None e = absurd (no_none e)
+  where
+    no_none : None ≡ Some (kept_meant c) → ⊥
+    no_none e = cc
+defined_by (Some c) (Some d) e =
+    record { given = ap (given_or d.definition.now) e; code = ap (code_or d.chunk.now) e }
+
+pub defined_beside : (m : VirtualMachine) (w : World) (name : Name) (r : Option Defined) → IsLinked m w → option_map found_of r ≡ first_kept name (kept_beside m.beside) → IsDefined (component_named one_off_name name w.beside) r
+defined_beside m w name r linked e =
+    defined_by (component_named one_off_name name w.beside) r (e ∙ ap (first_kept name) linked.1.1 ∙ first_meant one_off_name name w.beside)
+
+pub defined_in : (m : VirtualMachine) (w : World) (name text : Name) (r : Option Defined) → IsLinked m w → text ≡ name → ((s : Registry) → IsDefined (component (with_templates s m.templates.now) text) r) → IsDefined (component w.registry name) r
+defined_in m w name text r linked e h =
+    subst (λ n. IsDefined (component w.registry n) r) e (subst (λ s. IsDefined (component s text) r) linked.1.0 (h w.registry))
+
+pub defined_first : (a b : Option Component) (d : Defined) → IsDefined a (Some d) → IsDefined (option_or a b) (Some d)
+defined_first None b d h = absurd h
+defined_first (Some c) b d h = h
+
+pub defined_else : (a b : Option Component) (r : Option Defined) → IsDefined a None → IsDefined b r → IsDefined (option_or a b) r
+defined_else a b r e h = subst (λ x. IsDefined (option_or x b) r) (sym e) h
+
+there : (o : Option Component) (d : Defined) → IsDefined o (Some d) → (c : Component) × (o ≡ Some c) × IsKept c d
+there None d h = absurd h
+there (Some c) d h = (c, refl, h)
+
+-- How a call is answered.
+
+module _ (w : World) (p : Place) (name : Name) (given : List (Name × Val)) (body : Option Val) (span : Span) (v : Variables) where
+  abbrev q : Request
+  q = AComponent name given body span
+
+  abbrev look : Name → Val
+  look n = look_implicit n p.around v
+
+  way_is : (o : Option Component) → component_at w name ≡ o → way w p q v ≡ takes_component plain p v given body (fault_in p span) o
+  way_is o e = ap (takes_component plain p v given body (fault_in p span)) e
+
+  told_refused : (told : Refusal) (fault : Fault) → way w p q v ≡ Refuses fault → Tells told fault → Calls w p q v (Err told)
+  told_refused None fault e h = tt
+  told_refused (Some t) fault e h = e ∙ ap Refuses (sym h)
+
+  -- a name that leads nowhere
+  pub nobody_called : (told : Refusal) → IsDefined (component_at w name) None → Tells told (fault_in p span) → Calls w p q v (Err told)
+  nobody_called told e h = told_refused told (fault_in p span) (way_is None e) h
+
+  module _ (found : Defined) (is : IsDefined (component_at w name) (Some found)) where
+    abbrev c : Component
+    c = (there (component_at w name) found is).0
+
+    kept : IsKept c found
+    kept = (there (component_at w name) found is).2
+
+    in_context : (o : Option (Named Val)) → component_context c.signature given body look ≡ o → way w p q v ≡ takes_context p v c (fault_in p span) o
+    in_context o e =
+        way_is (Some c) (there (component_at w name) found is).1 ∙ ap (takes_context p v c (fault_in p span)) e
+
+    no_context : (o : Option (Named Val)) (fault : Fault) → or_message o ≡ Err fault → o ≡ None
+    no_context None fault e = refl
+    no_context (Some context) fault e = absurd (no_err e)
+      where
+        no_err : Ok context ≡ Err fault → ⊥
+        no_err e = cc
+
+    the_context : (o : Option (Named Val)) (context : Named Val) → or_message o ≡ Ok context → o ≡ Some context
+    the_context (Some other) context e = ok_some e
+      where
+        ok_some : ◌≡◌ {A = Result (Named Val) Fault} (Ok other) (Ok context) → Some other ≡ Some context
+        ok_some e = cc
+    the_context None context e = absurd (no_ok e)
+      where
+        no_ok : ◌≡◌ {A = Result (Named Val) Fault} (Err message) (Ok context) → ⊥
+        no_ok e = cc
+
+    -- arguments that do not fit
+    pub unfit : (refusal told : Refusal) → ((s : Signature) → found.definition.now ≡ definition_of s → Says refusal (or_message (component_context s given body look))) → Retells refusal told (fault_in p span) → Calls w p q v (Err told)
+    unfit None told says h = subst (λ x. Calls w p q v (Err x)) (sym h) tt
+    unfit (Some fault) told says h =
+        told_refused told (fault_in p span) (in_context None (no_context (component_context c.signature given body look) fault (says c.signature kept.given))) h
+
+    module _ (context : Named Val) (made : (s : Signature) → found.definition.now ≡ definition_of s → or_message (component_context s given body look) ≡ Ok context) where
+      deep : (b : Bool) → nat_lt p.depth 20 ≡ b → way w p q v ≡ (if b then Takes (place_of_component (in_component context p.around v) p.autoescape (suc p.depth) c.file) nothing_set c.body else Refuses message)
+      deep b e =
+          in_context (Some context) (the_context (component_context c.signature given body look) context (made c.signature kept.given))
+          ∙ ap (λ x. if x then Takes (place_of_component (in_component context p.around v) p.autoescape (suc p.depth) c.file) nothing_set c.body else Refuses message) e
+
+      -- components that are open too deep
+      pub too_deep : (told : Refusal) → 20 ≤ p.depth → Tells told message → Calls w p q v (Err told)
+      too_deep told l h = told_refused told message (deep false (le-ltb p.depth 20 l)) h
+
+      -- and else it runs
+      pub is_called : (called : Called) → p.depth < 20 → called.context ≡ context → called.code.now ≡ found.chunk.now → called.depth ≡ suc p.depth → IsCalled w p q v called
+      is_called called l x y z = record {
+        file = c.file;
+        body = c.body;
+        takes = deep true (lt-ltb p.depth 20 l) ∙ ap (λ k. Takes (place_of_component (in_component k p.around v) p.autoescape (suc p.depth) c.file) nothing_set c.body) (sym x);
+        code = y ∙ kept.code;
+        depth = z;
+      }
+
+-- A component's body that is taken.
+
+module _ (w : World) (m : VirtualMachine) (file : Name) (q : Request) (u : Use) (b0 : OpenBlocks) (c0 : Configuration) where
+  -- a request that is refused
+  pub call_failed : (r : Refusal) (c1 : Config) (k : ℕ) → k ≡ 0 → Calls w (place_at m file b0 c0) q (config_of c0).run.vars (Err r) → BodyRan w (place_at m file b0 c0) q u (config_of c0) (Err r) c1 k
+  call_failed None c1 k z h = tt
+  call_failed (Some f) c1 k z h = refused f k z h
+
+  module _ {called : Called} (is : IsCalled w (place_at m file b0 c0) q (config_of c0).run.vars called) (m1 : VirtualMachine) (b1 : OpenBlocks) {outer : Outer} {c1 : Configuration} (template : m1.template ≡ None) (escapes : m1.autoescape ≡ m.autoescape) (depth : m1.depth ≡ called.depth) (names : b1.names ≡ []) (above : definers_of b1.above ≡ []) (included : names_in b1.included ≡ []) (begins : Begins (in_component called.context (around_of c0.scopes) (variables_of c0.scopes)) c0 outer c1) where
+    same_place : place_of_component (in_component called.context (around_of c0.scopes) (variables_of c0.scopes)) m.autoescape (suc m.depth) is.file ≡ place_at m1 called.code.now.file b1 c1
+    same_place =
+        let x = in_component called.context (around_of c0.scopes) (variables_of c0.scopes) in
+        ap₂ (λ f d. record { template = None; file = f; around = x; autoescape = m.autoescape; depth = d; included = []; opened = []; above = [] }) (sym (ap (λ (l : Listing). l.file) is.code)) (sym (depth ∙ is.depth))
+        ∙ ap₂ (λ o a. record { template = o; file = called.code.now.file; around = a; autoescape = m.autoescape; depth = m1.depth; included = []; opened = []; above = [] }) (sym (ap (λ o. option_map (λ (f : Found). f.name.now) o) template)) (sym begins.around)
+        ∙ ap₂ (λ e i. record { template = template_of m1; file = called.code.now.file; around = around_of c1.scopes; autoescape = e; depth = m1.depth; included = i; opened = []; above = [] }) (sym escapes) (sym included)
+        ∙ ap₂ (λ ns ds. record { template = template_of m1; file = called.code.now.file; around = around_of c1.scopes; autoescape = m1.autoescape; depth = m1.depth; included = names_in b1.included; opened = ns; above = ds }) (sym names) (sym above)
+
+    pub call_entered : Entered w (place_at m file b0 c0) q (config_of c0) (place_at m1 called.code.now.file b1 c1) called.code.now.code (config_of c1)
+    call_entered = record {
+      vars = nothing_set;
+      body = is.body;
+      takes = is.takes ∙ ap (λ p. Takes p nothing_set is.body) same_place;
+      is = ap (λ (l : Listing). l.code) is.code;
+      config = begins.config;
+    }

@@ -1,0 +1,69 @@
+-- A text beside the templates, whose own components are there as well.
+use Rattle.std.proofs.Common.{◌≡◌, Bool, true, false, not, ◌||◌, is_some, bytes_eq, if◌then◌else◌, List, [], ◌∷◌, map, Option, Some, None, Global, String, refl, sym, ap, ap₂, ◌∙◌}
+use Rattle.std.specs.declared.collections.BTreeMap.{BTreeMap}
+use Rattle.std.specs.List.{list_any, flat_map}
+use Rattle.std.specs.Option.{option_or}
+use Rattle.std.proofs.lemmas.List.Folds.{list_any-append}
+use Rattle.tera_errors.specs.Site.{Name}
+use Rattle.tera_tree.specs.Tree.{Tree, Signature, Nodes}
+use Rattle.tera_tree.specs.Blocks as in_tree
+use Rattle.tera_tree.specs.Definitions.{definitions}
+use Rattle.tera_code.specs.Listing.{Listing}
+use Rattle.tera_code.specs.Code.{nodes_code}
+use Rattle.tera_code.specs.Blocks.{block_listings}
+use Rattle.tera_meaning.specs.Registry.{Registry}
+use Rattle.tera_meaning.specs.Known.{lacks_a_callee}
+use Rattle.tera_meaning.specs.Components.{Component, component_named, component, one_off_name}
+use Rattle.tera_meaning.specs.Rendering.{is_component_beside}
+use Rattle.tera_registry.specs.declared.components.Component.{Component as Kept}
+use Rattle.tera_registry.specs.declared.choices.Choice.{Choice}
+use Rattle.tera_registry.specs.Known.{bodies_lack}
+use Rattle.tera_registry.specs.Components.{kept_of, kept_all, kept_names, component_calls, code_calls}
+use Rattle.tera_registry.specs.Choices.{chosen, chosen_of, AreChosen}
+use Rattle.tera_registry.specs.Beside.{is_there, code_misses}
+use Rattle.tera_registry.proofs.Definitions.{component-none, component-place}
+use Rattle.tera_registry.proofs.Choosing.{any-same, kept-names-are}
+use Rattle.tera_registry.proofs.Lacking.{codes_lack_as_tree}
+use Rattle.tera_registry.proofs.Calling.{codes_call_as_tree, lacks-parts}
+
+taken-there : (r : Registry) (n : Name) (c : Option Choice) → chosen_of r n ≡ c → is_some c ≡ is_some (component r n)
+taken-there r n None e = sym (ap is_some (component-none r n None (sym e) refl))
+taken-there r n (Some c) e = sym (ap is_some (component-place r n c e).is)
+
+by-name : (file n : Name) (d : Signature × Nodes) (ds : List (Signature × Nodes)) (b : Bool) → list_any (λ m. bytes_eq n m) (map (λ d. d.0.name) ds) ≡ is_some (component_named file n ds) → (b || list_any (λ m. bytes_eq n m) (map (λ d. d.0.name) ds)) ≡ is_some (if b then Some (record { file = file; signature = d.0; body = d.1 }) else component_named file n ds)
+by-name file n d ds true rest = refl
+by-name file n d ds false rest = rest
+
+named-there : (file n : Name) (ds : List (Signature × Nodes)) → list_any (λ m. bytes_eq n m) (map (λ d. d.0.name) ds) ≡ is_some (component_named file n ds)
+named-there file n [] = refl
+named-there file n (d ∷ ds) = by-name file n d ds (bytes_eq n d.0.name) (named-there file n ds)
+
+own-there : (n : Name) (own : List Kept) → list_any (λ c. bytes_eq n c.definition.name) own ≡ list_any (λ m. bytes_eq n m) (kept_names own)
+own-there n [] = refl
+own-there n (c ∷ own) = ap (λ b. bytes_eq n c.definition.name || b) (own-there n own)
+
+either-there : (a b : Option Component) → is_some (option_or a b) ≡ (is_some a || is_some b)
+either-there None b = refl
+either-there (Some c) b = refl
+
+there-beside : (r : Registry) (tree : Tree) (file : Name) (choices : BTreeMap (String Global) Choice Global) (own : List Kept) → AreChosen r choices → map kept_of own ≡ kept_all file tree.nodes → (n : Name) → is_there choices own n ≡ is_component_beside r tree n
+there-beside r tree file choices own known kept n =
+    let of_all : is_some (chosen choices n) ≡ is_some (component r n) = ap is_some (known n) ∙ taken-there r n (chosen_of r n) refl in
+    let of_own = own-there n own ∙ ap (list_any (λ m. bytes_eq n m)) (kept-names-are file tree.nodes own kept) ∙ named-there one_off_name n (definitions tree.nodes) in
+    ap₂ (λ x y. x || y) of_all of_own ∙ sym (either-there (component r n) (component_named one_off_name n (definitions tree.nodes)))
+
+any-flat : (p : Name → Bool) (f : Kept → List Name) (own : List Kept) → list_any (λ c. list_any p (f c)) own ≡ list_any p (flat_map f own)
+any-flat p f [] = refl
+any-flat p f (c ∷ own) = ap (λ b. list_any p (f c) || b) (any-flat p f own) ∙ sym (list_any-append p (f c) (flat_map f own))
+
+pub beside-lacks : (r : Registry) (tree : Tree) (file : Name) (choices : BTreeMap (String Global) Choice Global) (own : List Kept) (body : Listing) → AreChosen r choices → body.code ≡ nodes_code tree.nodes 0 → map kept_of own ≡ kept_all file tree.nodes → in_tree.blocks tree.nodes ≡ []
+    → (bodies_lack body [] own || (code_misses choices own body.code || list_any (λ c. code_misses choices own c.code.code) own)) ≡ lacks_a_callee (is_component_beside r tree) tree.nodes
+beside-lacks r tree file choices own body known code kept none =
+    let p : Name → Bool = λ n. not (is_there choices own n) in
+    let no_blocks : [] ≡ block_listings file (in_tree.blocks tree.nodes) = ap (block_listings file) (sym none) in
+    let others = codes_lack_as_tree file body [] own tree.nodes code no_blocks kept in
+    let calls = any-flat p (λ c. code_calls c.code.code) own in
+    let joined = ap (λ b. list_any p (code_calls body.code) || b) calls ∙ sym (list_any-append p (code_calls body.code) (flat_map (λ c. code_calls c.code.code) own)) in
+    let all = ap (list_any p) (codes_call_as_tree file body own tree.nodes code none kept) in
+    let same = any-same p (λ n. not (is_component_beside r tree n)) (component_calls tree.nodes) (λ n. ap not (there-beside r tree file choices own known kept n)) in
+    ap₂ (λ x y. x || y) others (joined ∙ all ∙ same) ∙ sym (lacks-parts (is_component_beside r tree) tree.nodes)

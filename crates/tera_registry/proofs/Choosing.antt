@@ -1,0 +1,105 @@
+-- Definitions taken one by one.
+use Rattle.std.proofs.Common.{◌≡◌, ℕ, suc, ◌+◌, ◌<◌, ◌≤◌, Bool, true, false, ◌||◌, if◌then◌else◌, bytes_eq, List, [], ◌∷◌, ◌++◌, length, take, drop, map, Option, Some, None, refl, sym, ap, ◌∙◌, inl, inr, arith, slice_get, get_or, option_map, String, Global}
+use Rattle.std.specs.Cmp.Lexicographic.{bytes_decides}
+use Rattle.std.specs.Map.{update}
+use Rattle.std.specs.declared.collections.BTreeMap.{BTreeMap}
+use Rattle.std.proofs.lemmas.Bool.{cases_Bool}
+use Rattle.std.specs.List.{list_any}
+use Rattle.std.proofs.lemmas.List.{drop_all, length-take}
+use Rattle.std.proofs.lemmas.Option.{slice_get_read, slice_get-map, slice_get_within}
+use Rattle.std.proofs.lemmas.Simd.{map-map}
+use Rattle.tera_registry.specs.declared.components.Component.{Component}
+use Rattle.tera_registry.specs.Components.{kept_of, kept_as, kept_all, kept_names}
+use Rattle.tera_errors.specs.Site.{Name}
+use Rattle.tera_tree.specs.Tree.{Nodes}
+use Rattle.tera_tree.specs.Definitions.{definitions, component_names}
+use Rattle.tera_meaning.specs.Registry.{Entry, Registry}
+use Rattle.tera_meaning.specs.Components.{priority, is_tie}
+use Rattle.tera_registry.specs.declared.choices.Choice.{Choice}
+use Rattle.tera_registry.specs.Choices.{chosen, improves, better_choice, is_tied, chosen_in, chosen_from, ties_at}
+use Rattle.tera_registry.proofs.Rows.{drop-at, take-more}
+use Rattle.tera_registry.proofs.Chosen.{tie-of}
+
+bytes_eq-flip : (a b : Name) → bytes_eq a b ≡ bytes_eq b a
+bytes_eq-flip a b =
+    elim (cases_Bool (bytes_eq a b)) [
+      | inl same ↦ same ∙ sym ((bytes_decides b a).1 (sym ((bytes_decides a b).0 same)))
+      | inr other ↦ (elim (cases_Bool (bytes_eq b a)) [
+        | inl same ↦ (let t : bytes_eq a b ≡ true = (bytes_decides a b).1 (sym ((bytes_decides b a).0 same)) in cc)
+        | inr none ↦ other ∙ sym none
+      ])
+    ]
+
+-- a better one is put at its name
+pub chose : (old new : BTreeMap (String Global) Choice Global) (key name : Name) (w : Choice) (q : Name) → key ≡ name → improves (chosen old name) w.priority ≡ true → chosen new q ≡ update bytes_eq (chosen old) key (Some w) q → chosen new q ≡ if bytes_eq q name then better_choice (chosen old q) w else chosen old q
+chose old new key name w q keyed is there =
+    let put : chosen new q ≡ update bytes_eq (chosen old) name (Some w) q = rw (← keyed) there in
+    elim (cases_Bool (bytes_eq q name)) [
+      | inl same ↦
+          (let e : q ≡ name = (bytes_decides q name).0 same in
+          let better : improves (chosen old q) w.priority ≡ true = rw e is in
+          put ∙ ap (λ b. if b then Some w else chosen old q) (bytes_eq-flip name q ∙ same) ∙ sym (ap (λ b. if b then better_choice (chosen old q) w else chosen old q) same ∙ ap (λ b. if b then Some w else chosen old q) better))
+      | inr other ↦
+          put ∙ ap (λ b. if b then Some w else chosen old q) (bytes_eq-flip name q ∙ other) ∙ sym (ap (λ b. if b then better_choice (chosen old q) w else chosen old q) other)
+    ]
+
+-- one that is not better is left out
+pub left-out : (old : BTreeMap (String Global) Choice Global) (name : Name) (w : Choice) (q : Name) → improves (chosen old name) w.priority ≡ false → chosen old q ≡ if bytes_eq q name then better_choice (chosen old q) w else chosen old q
+left-out old name w q is =
+    elim (cases_Bool (bytes_eq q name)) [
+      | inl same ↦
+          (let e : q ≡ name = (bytes_decides q name).0 same in
+          let worse : improves (chosen old q) w.priority ≡ false = rw e is in
+          sym (ap (λ b. if b then better_choice (chosen old q) w else chosen old q) same ∙ ap (λ b. if b then Some w else chosen old q) worse))
+      | inr other ↦ sym (ap (λ b. if b then better_choice (chosen old q) w else chosen old q) other)
+    ]
+
+-- one name more
+pub chosen-more : (q n : Name) (place p k : ℕ) (names : List Name) (old : Option Choice) → slice_get names k ≡ Some n → chosen_in q place p k (drop k names) old ≡ chosen_in q place p (k + 1) (drop (k + 1) names) (if bytes_eq q n then better_choice old (record { template = place; component = k; priority = p }) else old)
+chosen-more q n place p k names old at =
+    let next : suc k ≡ k + 1 = omega arith in
+    let new = if bytes_eq q n then better_choice old (record { template = place; component = k; priority = p }) else old in
+    ap (λ ns. chosen_in q place p k ns old) (drop-at names k n at) ∙ ap (λ i. chosen_in q place p i (drop (k + 1) names) new) next
+
+-- all names
+pub chosen-all-names : (q : Name) (place p k : ℕ) (names : List Name) (old : Option Choice) → length names ≤ k → chosen_in q place p k (drop k names) old ≡ old
+chosen-all-names q place p k names old over = ap (λ ns. chosen_in q place p k ns old) (drop_all k names over)
+
+-- one template more
+pub chosen-push : (r : Registry) (q : Name) (place : ℕ) (ts : List Entry) (t : Entry) (old : Option Choice) → chosen_from r q place (ts ++ t ∷ []) old ≡ chosen_in q (place + length ts) (priority r t.0) 0 (component_names t.1.tree.nodes) (chosen_from r q place ts old)
+chosen-push r q place [] t old =
+    let e : place ≡ place + 0 = omega arith in
+    ap (λ i. chosen_in q i (priority r t.0) 0 (component_names t.1.tree.nodes) old) e
+chosen-push r q place (u ∷ ts) t old =
+    let next = chosen_in q place (priority r u.0) 0 (component_names u.1.tree.nodes) old in
+    let e : suc place + length ts ≡ place + length (u ∷ ts) = omega arith in
+    chosen-push r q (suc place) ts t next ∙ ap (λ i. chosen_in q i (priority r t.0) 0 (component_names t.1.tree.nodes) (chosen_from r q (suc place) ts next)) e
+
+pub name-at : (cs : List Component) (k : ℕ) (c : Component) → k < length cs → c ≡ get_or cs k c → slice_get (kept_names cs) k ≡ Some c.definition.name
+name-at cs k c lt is =
+    slice_get-map (λ (c : Component). c.definition.name) cs k ∙ ap (option_map (λ (c : Component). c.definition.name)) (slice_get_read cs (length cs) k c refl lt is)
+
+pub chosen-next : (r : Registry) (q : Name) (place : ℕ) (t : Entry) → slice_get r.templates place ≡ Some t → chosen_in q place (priority r t.0) 0 (component_names t.1.tree.nodes) (chosen_from r q 0 (take place r.templates) None) ≡ chosen_from r q 0 (take (place + 1) r.templates) None
+chosen-next r q place t at =
+    let before = take place r.templates in
+    let here : 0 + length before ≡ place = omega (arith, length-take place r.templates, slice_get_within r.templates place t at) in
+    sym (chosen-push r q 0 before t None ∙ ap (λ i. chosen_in q i (priority r t.0) 0 (component_names t.1.tree.nodes) (chosen_from r q 0 before None)) here) ∙ ap (λ l. chosen_from r q 0 l None) (take-more r.templates place t at)
+
+-- The names of the components that are kept.
+
+pub kept-names-are : (file : Name) (nodes : Nodes) (cs : List Component) → map kept_of cs ≡ kept_all file nodes → kept_names cs ≡ component_names nodes
+kept-names-are file nodes cs e =
+    sym (map-map (λ k. k.0.name) kept_of cs) ∙ ap (map (λ k. k.0.name)) e ∙ map-map (λ k. k.0.name) (kept_as file) (definitions nodes)
+
+any-over : (f : Name → Bool) (cs : List Component) → list_any (λ c. f c.definition.name) cs ≡ list_any f (kept_names cs)
+any-over f [] = refl
+any-over f (c ∷ cs) = ap (λ b. f c.definition.name || b) (any-over f cs)
+
+pub any-same : (f g : Name → Bool) (ns : List Name) → ((n : Name) → f n ≡ g n) → list_any f ns ≡ list_any g ns
+any-same f g [] same = refl
+any-same f g (n ∷ ns) same = ap (λ b. b || list_any f ns) (same n) ∙ ap (λ b. g n || b) (any-same f g ns same)
+
+-- a template that ties with what was taken before it
+pub ties-is : (r : Registry) (place : ℕ) (t : Entry) (cs : List Component) (taken : BTreeMap (String Global) Choice Global) (p : ℕ) → kept_names cs ≡ component_names t.1.tree.nodes → p ≡ priority r t.0 → ((q : Name) → chosen taken q ≡ chosen_from r q 0 (take place r.templates) None) → list_any (λ c. is_tied (chosen taken c.definition.name) p) cs ≡ ties_at r place t
+ties-is r place t cs taken p names good known =
+    any-over (λ n. is_tied (chosen taken n) p) cs ∙ ap (list_any (λ n. is_tied (chosen taken n) p)) names ∙ any-same _ (is_tie r (take place r.templates) t) (component_names t.1.tree.nodes) (λ n. ap (λ o. is_tied o p) (known n) ∙ ap (is_tied (chosen_from r n 0 (take place r.templates) None)) good ∙ tie-of r n place t)

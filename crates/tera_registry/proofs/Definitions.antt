@@ -1,0 +1,88 @@
+-- The component of a name, found by place.
+use Rattle.std.proofs.Common.{◌≡◌, ℕ, ◌<◌, Bool, true, not, ◌||◌, is_some, List, [], ◌∷◌, ◌++◌, length, map, get_or, Option, Some, None, Result, Ok, option_map, option_and_then, Box, Vec, Global, String, refl, sym, ap, ap₂, ◌∙◌, arith, slice_get}
+use Rattle.std.specs.declared.collections.BTreeMap.{BTreeMap}
+use Rattle.std.specs.List.{list_any}
+use Rattle.std.proofs.lemmas.List.{length-map, map-append}
+use Rattle.std.proofs.lemmas.Option.{slice_get_read, slice_get-map, slice_get_within}
+use Rattle.tera_errors.specs.Site.{Name}
+use Rattle.tera_errors.specs.Fault.{Fault}
+use Rattle.tera_tree.specs.Tree.{Signature, Nodes}
+use Rattle.tera_tree.specs.Definitions.{definitions, node_definitions}
+use Rattle.tera_tree.specs.View.{node_of, nodes_of, signature_of}
+use Rattle.tera_tree.specs.declared.node.Node.{Node as Read}
+use Rattle.tera_tree.specs.declared.node.Node.TheVariants as variant
+use Rattle.tera_tree.specs.declared.component.Signature.{Signature as Written}
+use Rattle.tera_tree.proofs.Views.{view_definition}
+use Rattle.tera_code.specs.Code.{listing_of}
+use Rattle.tera_components.specs.Definition.{Definition, definition_of}
+use Rattle.tera_meaning.specs.Registry.{Entry, Registry}
+use Rattle.tera_meaning.specs.Known.{lacks_a_callee}
+use Rattle.tera_meaning.specs.Accepted.{is_component}
+use Rattle.tera_meaning.specs.Components.{component_in, component, definer_of}
+use Rattle.tera_registry.specs.declared.components.Component.{Component as Kept}
+use Rattle.tera_registry.specs.declared.choices.Choice.{Choice}
+use Rattle.tera_registry.specs.Components.{kept_of, kept_as, kept_all, component_calls}
+use Rattle.tera_registry.specs.Choices.{chosen, chosen_of, AreChosen}
+use Rattle.tera_registry.proofs.Calling.{lacks-parts}
+use Rattle.tera_registry.proofs.Chosen.{IsChosen, chosen-is}
+
+pub component-there : (r : Registry) (n : Name) → is_some (chosen_of r n) ≡ is_component r n
+component-there r n = by_choice (chosen_of r n) (chosen-is r n)
+  where
+    by_choice : (c : Option Choice) → IsChosen r n c (definer_of r n) → is_some c ≡ is_component r n
+    by_choice None is = sym (ap is_some is)
+    by_choice (Some c) is = sym (ap is_some is.taken)
+
+pub component-none : (r : Registry) (n : Name) (c : Option Choice) → c ≡ chosen_of r n → c ≡ None → component r n ≡ None
+component-none r n c e none =
+    let is : IsChosen r n None (definer_of r n) = rw (sym e ∙ none) at (chosen-is r n) in
+    ap (option_and_then (component_in n)) is
+
+-- where the definition stands that is taken
+pub record Place (r : Registry) (n : Name) (c : Choice) : Type 0 where
+  pub template : Entry
+  pub definition : Signature × Nodes
+  pub template_at : slice_get r.templates c.template ≡ Some template
+  pub at : slice_get (definitions template.1.tree.nodes) c.component ≡ Some definition
+  pub is : component r n ≡ Some (record { file = template.0; signature = definition.0; body = definition.1 })
+
+pub component-place : (r : Registry) (n : Name) (c : Choice) → chosen_of r n ≡ Some c → Place r n c
+component-place r n c e =
+    let is : IsChosen r n (Some c) (definer_of r n) = rw e at (chosen-is r n) in
+    record {
+      template = is.template;
+      definition = is.there.definition;
+      template_at = is.at;
+      at = is.there.at;
+      is = ap (option_and_then (component_in n)) is.taken ∙ is.there.is;
+    }
+
+pub kept-within : (file : Name) (nodes : Nodes) (cs : List Kept) (k : ℕ) (d : Signature × Nodes) → map kept_of cs ≡ kept_all file nodes → slice_get (definitions nodes) k ≡ Some d → k < length cs
+kept-within file nodes cs k d e at =
+    omega (arith, slice_get_within (definitions nodes) k d at, length-map (definitions nodes) (kept_as file), length-map cs kept_of, ap length e)
+
+pub kept-at : (file : Name) (nodes : Nodes) (cs : List Kept) (k : ℕ) (d : Signature × Nodes) (c : Kept) → map kept_of cs ≡ kept_all file nodes → slice_get (definitions nodes) k ≡ Some d → c ≡ get_or cs k c → kept_of c ≡ kept_as file d
+kept-at file nodes cs k d c e at is =
+    let q : Some (kept_of c) ≡ Some (kept_as file d) = sym (slice_get-map kept_of cs k ∙ ap (option_map kept_of) (slice_get_read cs (length cs) k c refl (kept-within file nodes cs k d e at) is)) ∙ ap (λ l. slice_get l k) e ∙ slice_get-map (kept_as file) (definitions nodes) k ∙ ap (option_map (kept_as file)) at in
+    cc
+
+-- one component more
+pub kept-one : (file : Name) (old mid : List Kept) (c : Kept) (node : Read) (signature : Box Written Global) (body : Vec Read Global) (lent : Written) (xs : List Read) → node ≡ variant.Definition signature body → lent ≡ signature.value → xs ≡ body.items → mid ≡ old ++ c ∷ []
+    → ◌≡◌ {A = Result Definition Fault} (Ok (definition_of (signature_of lent))) (Ok c.definition) → c.code ≡ listing_of file (nodes_of xs) → map kept_of mid ≡ map kept_of old ++ map (kept_as file) (node_definitions (node_of node))
+kept-one file old mid c node signature body lent xs is s a e h g =
+    let given : definition_of (signature_of lent) ≡ c.definition = cc in
+    ap (map kept_of) e
+    ∙ map-append kept_of old (c ∷ [])
+    ∙ ap₂ (λ d l. map kept_of old ++ (d, l) ∷ []) (sym given) g
+    ∙ ap₂ (λ w x. map kept_of old ++ (definition_of (signature_of w), listing_of file (nodes_of x)) ∷ []) s a
+    ∙ ap (λ n. map kept_of old ++ map (kept_as file) (node_definitions n)) (sym (view_definition signature body))
+    ∙ ap (λ n. map kept_of old ++ map (kept_as file) (node_definitions (node_of n))) (sym is)
+
+-- what a template calls is there or not
+pub misses-callee : (r : Registry) (nodes : Nodes) (choices : BTreeMap (String Global) Choice Global) (names : List Name) (lacks : Bool) → AreChosen r choices → lacks ≡ lacks_a_callee (λ name. true) nodes → names ≡ component_calls nodes → (lacks || list_any (λ n. not (is_some (chosen choices n))) names) ≡ lacks_a_callee (is_component r) nodes
+misses-callee r nodes choices names lacks known others calls =
+    ap₂ (λ x y. x || y) others (ap (list_any (λ n. not (is_some (chosen choices n)))) calls ∙ all-same (component_calls nodes)) ∙ sym (lacks-parts (is_component r) nodes)
+  where
+    all-same : (ns : List Name) → list_any (λ n. not (is_some (chosen choices n))) ns ≡ list_any (λ n. not (is_component r n)) ns
+    all-same [] = refl
+    all-same (n ∷ ns) = ap₂ (λ x y. not x || y) (ap is_some (known n) ∙ component-there r n) (all-same ns)

@@ -1,0 +1,40 @@
+use Rattle.std.proofs.Common.{◌≡◌, Some, None, string_bytes, sym, ap, ◌∙◌, arith, slice_get}
+use Rattle.std.proofs.lemmas.List.{take_all}
+use Rattle.tera_meaning.specs.Components.{priority}
+use Rattle.tera_tree.specs.View.{nodes_of}
+use Rattle.tera_tree.specs.Definitions.{component_names}
+use Rattle.tera_registry.specs.Kept.{entry_of, entries_of, seen}
+use Rattle.tera_registry.specs.Components.{kept_names}
+use Rattle.tera_registry.specs.Choices.{chosen, chosen_in, chosen_from, ties_at}
+use Rattle.tera_registry.proofs.Kept.{entry-at-place, length-entries}
+use Rattle.tera_registry.proofs.First.{first-more, first-of-all}
+use Rattle.tera_registry.proofs.Choosing.{chosen-next, kept-names-are, ties-is}
+use Rattle.tera_registry.proofs.choices.choices.Goals as goal
+
+pub loop-place-preserved : goal.loop-place-preserved
+loop-place-preserved c =
+    let ts = c.args.templates.now in
+    let r = seen ts c.args.prefixes.now in
+    let i = c.loop-place.place in
+    let u = c.deref-template.result.now in
+    let t = entry_of u in
+    let at : slice_get (entries_of ts) i ≡ Some t = entry-at-place ts i c.index-templates-place.result c.loop-place-test.true c.index-templates-place.is ∙ ap (λ x. Some (entry_of x)) (sym c.deref-template.ensures) in
+    let good : c.priority-priority.result ≡ priority r t.0 = c.priority-priority.ensures ∙ ap (priority r) c.as_str.ensures.value in
+    let names : kept_names u.components.items ≡ component_names t.1.tree.nodes = kept-names-are (string_bytes u.name) (nodes_of u.meant.nodes) u.components.items u.defined in
+    record {
+      taken = λ q.
+          c.in_ok-choose_all.ensures q ∙ ap (λ p. chosen_in q i p 0 (kept_names u.components.items) (chosen c.loop-place.taken q)) good ∙ ap (λ ns. chosen_in q i (priority r t.0) 0 ns (chosen c.loop-place.taken q)) names ∙ ap (chosen_in q i (priority r t.0) 0 (component_names t.1.tree.nodes)) (c.loop-place.invariant.taken q) ∙ chosen-next r q i t at;
+      tie = rw c.first-tie.ensures (first-more r (ties_at r) i t c.loop-place.tie c.ties.result c.loop-place.invariant.tie at (c.ties.ensures ∙ ties-is r i t u.components.items c.loop-place.taken c.priority-priority.result names good c.loop-place.invariant.taken));
+    }
+
+pub returns-clause-taken : goal.returns-clause-taken
+returns-clause-taken c = λ q.
+    let ts = c.args.templates.now in
+    let r = seen ts c.args.prefixes.now in
+    c.loop-place.invariant.taken q ∙ ap (λ l. chosen_from r q 0 l None) (take_all c.loop-place.place (entries_of ts) (omega (arith, length-entries ts, c.loop-place-test.false)))
+
+pub returns-clause-tie : goal.returns-clause-tie
+returns-clause-tie c =
+    let ts = c.args.templates.now in
+    let r = seen ts c.args.prefixes.now in
+    first-of-all r (ties_at r) c.loop-place.place c.loop-place.tie c.loop-place.invariant.tie (omega (arith, length-entries ts, c.loop-place-test.false))

@@ -1,0 +1,57 @@
+-- Which definition of each component is taken, by place. No public contract speaks of it.
+use Rattle.std.specs.Prelude.{◌≡◌, ℕ, suc, Bool, true, false, nat_lt, nat_eq, bytes_eq, List, [], ◌∷◌, take, Option, Some, None, if◌then◌else◌, String}
+use Rattle.std.specs.declared.alloc.Global.{Global}
+use Rattle.std.specs.declared.collections.BTreeMap.{BTreeMap}
+use Rattle.std.specs.BTreeMap.{get_by_text}
+use Rattle.tera_errors.specs.Site.{Name}
+use Rattle.tera_tree.specs.Definitions.{component_names}
+use Rattle.tera_meaning.specs.Registry.{Entry, Registry}
+use Rattle.tera_meaning.specs.Components.{priority, has_a_tie}
+use Rattle.tera_registry.specs.First.{IsFirstOne}
+use Rattle.tera_registry.specs.declared.choices.Choice.{Choice}
+
+-- what stands at a name
+abbrev pub chosen : BTreeMap (String Global) Choice Global → Name → Option Choice
+chosen = get_by_text
+
+-- whether definitions of this priority are better than one that was taken
+abbrev pub improves : Option Choice → ℕ → Bool
+improves None p = true
+improves (Some old) p = nat_lt p old.priority
+
+-- the better of one that was taken and a further one; the first where they are as good
+abbrev pub better_choice : Option Choice → Choice → Option Choice
+better_choice old new = if improves old new.priority then Some new else old
+
+-- whether one was taken that is as good as definitions of this priority
+abbrev pub is_tied : Option Choice → ℕ → Bool
+is_tied None p = false
+is_tied (Some old) p = nat_eq old.priority p
+
+-- what is taken of a name after these definitions of the template at a place, the first of which has this number
+abbrev pub chosen_in : Name → ℕ → ℕ → ℕ → List Name → Option Choice → Option Choice
+chosen_in name place p k [] old = old
+chosen_in name place p k (n ∷ ns) old =
+    chosen_in name place p (suc k) ns (if bytes_eq name n then better_choice old (record { template = place; component = k; priority = p }) else old)
+
+-- what is taken of a name after these templates, the first of which stands at this place
+abbrev pub chosen_from : Registry → Name → ℕ → List Entry → Option Choice → Option Choice
+chosen_from r name place [] old = old
+chosen_from r name place (t ∷ ts) old =
+    chosen_from r name (suc place) ts (chosen_in name place (priority r t.0) 0 (component_names t.1.tree.nodes) old)
+
+-- what is taken of a name
+abbrev pub chosen_of : Registry → Name → Option Choice
+chosen_of r name = chosen_from r name 0 r.templates None
+
+-- at each name stands what is taken of it
+abbrev pub AreChosen : Registry → BTreeMap (String Global) Choice Global → Type 0
+AreChosen r choices = (name : Name) → chosen choices name ≡ chosen_of r name
+
+-- whether a template at this place has a component as good as the best of those before it
+abbrev pub ties_at : Registry → ℕ → Entry → Bool
+ties_at r place t = has_a_tie r (take place r.templates) t
+
+-- there stands the first template that has one, or nowhere where none does
+abbrev pub IsFirstTie : Registry → Option ℕ → Type 0
+IsFirstTie r = IsFirstOne r (ties_at r)

@@ -1,0 +1,100 @@
+// Components that are defined, and those that are handed a body.
+ghost use Rattle.std.specs.Prelude.{option_and_then};
+ghost use Rattle.tera_syntax.specs.Reader as spec;
+ghost use Rattle.tera_syntax.specs.View.{Becomes, head_of, progress_of};
+ghost use Rattle.tera_tokens.specs.Answers.{Answers};
+ghost use Rattle.tera_tokens.specs.Input.{begin};
+ghost use Rattle.tera_tokens.specs.Takes.{input};
+ghost use Rattle.tera_tokens.specs.Token.{tokens_of};
+ghost use Rattle.tera_tree.specs.View.{signature_of};
+
+use crate::heads::Head;
+use crate::progress::{Progress, refused};
+use std::alloc::Global;
+use tera_expressions::components::attributes;
+use tera_expressions::parameters::signature;
+use tera_tokens::input::{Tokens, is_word, same};
+use tera_tokens::refusal::{Reason, Refusal};
+use tera_tokens::token::{Kind, Token};
+use tera_tree::Signature;
+
+/// Behind `component`.
+pub(crate) fn define<'s>(
+    progress: &mut Progress<'s>,
+    alloc: Global,
+    tag: &[Token<'_>],
+    ahead: &mut Tokens<'_, 's>,
+) -> Result<(), Refusal>
+    ensures { let s = progress_of progress.old in
+        let meant = spec.defining s.surroundings.is_top (spec.room 200 s) (input ahead.old) in
+        Becomes (option_and_then (spec.taken 200 s (tokens_of tag.now)) meant) result progress.new }
+{
+    if !progress.surroundings.is_top {
+        return Err(refused(tag, Reason::OutOfPlace));
+    }
+    let signature = signed(alloc, ahead, progress.room())?;
+    progress.open(alloc, false, Head::Definition(signature), tag)
+}
+
+/// A signature that is all from here to the end of the tag.
+#[tactic(auto, unfolding(crate::specs::Reader::signed))]
+fn signed<'s>(
+    alloc: Global,
+    ahead: &mut Tokens<'_, 's>,
+    limit: usize,
+) -> Result<Box<Signature<'s>>, Refusal>
+    ensures { Answers (λ b. signature_of b.value) (spec.signed limit (input ahead.old)) result }
+{
+    let signature = signature(alloc, ahead, limit)?;
+    if !same(Kind::End, ahead.kind()) {
+        return Err(ahead.refuse(Reason::TagGoesOn));
+    }
+    Ok(Box::new(alloc, signature)?)
+}
+
+/// A tag that begins with `<`.
+pub(crate) fn call<'s>(
+    progress: &mut Progress<'s>,
+    alloc: Global,
+    tag: &[Token<'s>],
+) -> Result<(), Refusal>
+    ensures { let s = progress_of progress.old in
+        let tokens = tokens_of tag.now in
+        let meant = spec.calling (spec.room 200 s) (begin s.surroundings.in_loop tokens) in
+        Becomes (option_and_then (spec.taken 200 s tokens) meant) result progress.new }
+{
+    let mut ahead = Tokens::begin(tag, progress.surroundings.in_loop);
+    let start = ahead.start();
+    ahead.take();
+    if same(Kind::Slash, ahead.kind()) {
+        return progress.shut(alloc, tag);
+    }
+    let head = called(alloc, &mut ahead, progress.room(), start)?;
+    progress.open(alloc, false, head, tag)
+}
+
+/// The name of a component and its attributes, up to what closes the tag, which starts at a place.
+#[tactic(auto, unfolding(crate::specs::Reader::called))]
+fn called<'s>(
+    alloc: Global,
+    ahead: &mut Tokens<'_, 's>,
+    limit: usize,
+    start: usize,
+) -> Result<Head<'s>, Refusal>
+    ensures { Answers head_of (spec.called limit start (input ahead.old)) result }
+{
+    if !is_word(ahead.kind()) {
+        return Err(ahead.refuse(Reason::Expected(Kind::Name)));
+    }
+    let name = ahead.text();
+    ahead.take();
+    let (attributes, _depth) = attributes(alloc, ahead, limit)?;
+    if !same(Kind::Greater, ahead.kind()) {
+        return Err(ahead.refuse(Reason::Expected(Kind::Greater)));
+    }
+    ahead.take();
+    if !same(Kind::End, ahead.kind()) {
+        return Err(ahead.refuse(Reason::TagGoesOn));
+    }
+    Ok(Head::Call(name, attributes, ahead.span(start)))
+}

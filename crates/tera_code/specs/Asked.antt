@@ -42,16 +42,6 @@ abbrev pub bound_name : Instruction → Option (site.Name × Bool)
 bound_name (instruction.Store name is_global) = Some (name, is_global)
 bound_name other = None
 
--- the name of the block that it puts out
-abbrev pub taken_block : Instruction → Option (site.Name × Span)
-taken_block (instruction.TakeBlock name span) = Some (name, span)
-taken_block other = None
-
--- the name by which it includes a template
-abbrev pub taken_include : Instruction → Option (site.Name × Span)
-taken_include (instruction.TakeInclude name span) = Some (name, span)
-taken_include other = None
-
 -- how many instructions it passes, in any case
 abbrev pub jump_length : Instruction → Option ℕ
 jump_length (instruction.Jump skip) = Some skip

@@ -3,8 +3,8 @@ ghost use Rattle.std.specs.Prelude.{◌≡◌, IfSome, IsTrue, option_map};
 ghost use Rattle.tera_values.specs.Val as val;
 ghost use Rattle.tera_code.specs.declared.instruction.Instruction.TheVariants as instruction;
 ghost use Rattle.tera_code.specs.Asked.{written_text, written_name, loaded_name, loaded_integer};
-ghost use Rattle.tera_code.specs.Asked.{loaded_attribute, applied_operator, bound_name, taken_block};
-ghost use Rattle.tera_code.specs.Asked.{taken_include, jump_length, jump_length_if_false};
+ghost use Rattle.tera_code.specs.Asked.{loaded_attribute, applied_operator, bound_name};
+ghost use Rattle.tera_code.specs.Asked.{jump_length, jump_length_if_false};
 ghost use Rattle.tera_code.specs.Asked.{is_write_top, is_next_turn};
 ghost use Rattle.tera_code.specs.Called.{callee_of, called_by};
 
@@ -150,34 +150,6 @@ impl<'a> LentInstruction<'a> {
     {
         match *self.packed {
             Packed::Store { name, is_global } => Some((self.tables.whole_name(name), is_global)),
-            _ => None,
-        }
-    }
-
-    /// The name of the block that it puts out.
-    #[inline(always)]
-    pub fn as_block(&self) -> Option<(&'a Name, Span)>
-        ensures means { IfSome result (λ p. self.now ≡ instruction.TakeBlock p.0.now p.1) }
-        ensures exact { option_map (λ p. (p.0.now, p.1)) result ≡ taken_block self.now }
-    {
-        match *self.packed {
-            Packed::TakeBlock { name, span } => {
-                Some((self.tables.whole_name(name), self.tables.span(span)))
-            }
-            _ => None,
-        }
-    }
-
-    /// The name by which it includes a template.
-    #[inline(always)]
-    pub fn as_include(&self) -> Option<(&'a Name, Span)>
-        ensures means { IfSome result (λ p. self.now ≡ instruction.TakeInclude p.0.now p.1) }
-        ensures exact { option_map (λ p. (p.0.now, p.1)) result ≡ taken_include self.now }
-    {
-        match *self.packed {
-            Packed::TakeInclude { name, span } => {
-                Some((self.tables.whole_name(name), self.tables.span(span)))
-            }
             _ => None,
         }
     }

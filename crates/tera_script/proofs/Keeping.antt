@@ -13,9 +13,9 @@ use Rattle.tera_values.proofs.Named.{flip_less, after}
 use Rattle.tera_values.proofs.Contents.{among, ascends, found_among}
 use Rattle.tera_script.specs.Entries.{put_found}
 
-pub list_any-texts : (p : Name → Bool) (texts : List (Bor (List ℕ))) → list_any (λ t. p t.now) texts ≡ list_any p (texts_of texts)
-list_any-texts p [] = refl
-list_any-texts p (t ∷ texts) = ap (λ b. p t.now || b) (list_any-texts p texts)
+pub list_any_texts : (p : Name → Bool) (texts : List (Bor (List ℕ))) → list_any (λ t. p t.now) texts ≡ list_any p (texts_of texts)
+list_any_texts p [] = refl
+list_any_texts p (t ∷ texts) = ap (λ b. p t.now || b) (list_any_texts p texts)
 
 module _ (p : Name → Bool) where
   abbrev keep : Named Val → Named Val

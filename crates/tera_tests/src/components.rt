@@ -20,7 +20,7 @@ ok
 ok
 fault RenderingError __tera_one_off 3 16
 12
-fault RenderingError __tera_one_off 3 14
+fault RenderingError __tera_one_off 3 13
 
 @@ template t
 {% component U(n = 1) %}{{ n is defined }}{% endcomponent %}
@@ -255,7 +255,7 @@ fault RenderingError w 23 27
 =>
 ok
 ok
-fault RenderingError __tera_one_off 22 27
+fault RenderingError __tera_one_off 21 26
 fault RenderingError __tera_one_off 9 11
 1.
 

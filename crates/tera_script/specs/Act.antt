@@ -25,6 +25,8 @@ pub data Act : Type 0 where
   render_block_named : (name : Name) (block : Name) → Act
   -- render the component of this name, where entries of the context with these names are implicits, and all others arguments
   render_component_named : (name : Name) (autoescape : Bool) (implicits : List Name) → Act
+  -- render each component by itself
+  preview_components : (autoescape : Bool) → Act
 
 abbrev pub act_of : Command → Act
 act_of (command.Text name body) = put_value name.now (text body.now false)
@@ -39,6 +41,7 @@ act_of (command.Render name) = render_named name.now
 act_of (command.Block name block) = render_block_named name.now block.now
 act_of (command.Component name autoescape implicits) =
     render_component_named name.now autoescape (texts_of implicits.items)
+act_of (command.Preview autoescape) = preview_components autoescape
 
 abbrev pub acts_of : List Command → List Act
 acts_of commands = map act_of commands

@@ -9,6 +9,7 @@ pub mod Session
 pub mod Run
 pub mod Body
 pub mod Entries
+pub mod Preview
 pub mod Found
 pub mod Seen
 pub mod Standard

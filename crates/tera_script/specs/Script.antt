@@ -8,7 +8,7 @@ use Rattle.std.specs.Str.Parse.{starts_with_minus, signed_digits_value}
 use Rattle.tera_errors.specs.Site.{Name, Text}
 use Rattle.tera_values.specs.Number.{in_range}
 use Rattle.tera_values.specs.Val.{int, text}
-use Rattle.tera_script.specs.Act.{Act, put_value, render_text, join_batch, add_batch, set_suffixes, set_prefixes, render_named, render_block_named, render_component_named}
+use Rattle.tera_script.specs.Act.{Act, put_value, render_text, join_batch, add_batch, set_suffixes, set_prefixes, render_named, render_block_named, render_component_named, preview_components}
 use Rattle.tera_script.specs.Lines.{lines_of, joined}
 use Rattle.tera_script.specs.Words.{words_of}
 
@@ -122,6 +122,10 @@ component_act head = option_map (λ implicits. render_component_named head.0 hea
 abbrev pub component_of : List Text → Option Act
 component_of fields = option_and_then component_act (component_head fields)
 
+-- `on` or `off`
+abbrev pub preview_of : List Text → Option Act
+preview_of fields = option_map preview_components (option_and_then switch (only_field fields))
+
 -- the word and the field of a command with a body
 abbrev pub opening_of : Text → Option Text → Option Opening
 opening_of word None = None
@@ -145,6 +149,7 @@ act_named word fields =
     else if bytes_eq word (codes "render") then render_of fields
     else if bytes_eq word (codes "block") then block_of fields
     else if bytes_eq word (codes "component") then component_of fields
+    else if bytes_eq word (codes "preview") then preview_of fields
     else None
 
 -- a command has a body, or has none

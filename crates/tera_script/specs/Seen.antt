@@ -3,7 +3,8 @@ use Rattle.std.specs.Prelude.{Bool, Option, List}
 use Rattle.std.specs.Borrow.{Bor}
 use Rattle.std.specs.Global.{Vec}
 use Rattle.std.specs.Option.{option_map}
-use Rattle.tera_errors.specs.Site.{Text}
+use Rattle.tera_errors.specs.Report.{Report}
+use Rattle.tera_errors.specs.Site.{Site, Text}
 use Rattle.tera_script.specs.Act.{Act, act_of, acts_of}
 use Rattle.tera_script.specs.declared.command.Command.{Command}
 use Rattle.tera_script.specs.declared.script.Opening.{Opening}
@@ -31,6 +32,9 @@ fields_seen fields = option_map (λ texts. texts_of texts.items) fields
 
 abbrev pub component_head_seen : Option (Bor Text × Bool × Option (Bor Text)) → Option (Text × Bool × List Text)
 component_head_seen head = option_map (λ h. (h.0.now, h.1, words_after h.2)) head
+
+abbrev pub site_seen : Option (Bor Report) → Option Site
+site_seen report = option_map (λ r. r.now.site) report
 
 abbrev pub act_seen : Option Command → Option Act
 act_seen found = option_map act_of found

@@ -10,8 +10,9 @@ use Rattle.tera_meaning.specs.Registry.{Registry}
 use Rattle.tera_registry.specs.Batch.{Adds}
 use Rattle.tera.specs.Configuring.{with_prefixes, with_suffixes}
 use Rattle.tera.specs.Rendering.{ByName, BlockByName, ComponentByName, OneOff}
-use Rattle.tera_script.specs.Act.{Act, put_value, render_text, join_batch, add_batch, set_suffixes, set_prefixes, render_named, render_block_named, render_component_named}
+use Rattle.tera_script.specs.Act.{Act, put_value, render_text, join_batch, add_batch, set_suffixes, set_prefixes, render_named, render_block_named, render_component_named, preview_components}
 use Rattle.tera_script.specs.Entries.{with_names, without_names}
+use Rattle.tera_script.specs.Preview.{Previews}
 use Rattle.tera_script.specs.Reply.{Replied, done, says, refuses, line_of}
 use Rattle.tera_script.specs.Script.{script_of}
 
@@ -66,6 +67,8 @@ Answers now (render_block_named name block) reply next =
 Answers now (render_component_named name autoescape implicits) reply next =
     Rendered reply (ComponentByName now.registry name (without_names implicits now.context) (with_names implicits now.context) None autoescape)
     × (next ≡ now)
+Answers now (preview_components autoescape) reply next =
+    Rendered reply (Previews now.registry now.context autoescape) × (next ≡ now)
 Answers now (render_text autoescape body) reply next =
     Rendered reply (OneOff now.registry body now.context autoescape) × (next ≡ now)
 

@@ -53,4 +53,8 @@ pub enum Command<'a> {
         autoescape: bool,
         implicits: Vec<&'a str>,
     },
+    /// Renders each component by itself. Entries of the context that its parameters name are arguments, and all are implicits.
+    Preview {
+        autoescape: bool,
+    },
 }

@@ -15,6 +15,7 @@ ghost use Rattle.tera_values.specs.Val.{text};
 
 use crate::command::Command;
 use crate::entries::entries;
+use crate::preview::preview;
 use crate::reply::Reply;
 use std::alloc::Global;
 use tera::{Context, Tera, TeraResult, Value};
@@ -97,6 +98,9 @@ fn reply_to<'a>(
         } => {
             let implicits = implicits.as_slice();
             text_reply(component(engine, context, name, *autoescape, implicits))
+        }
+        Command::Preview { autoescape } => {
+            text_reply(preview(alloc, engine, context, *autoescape))
         }
     }
 }

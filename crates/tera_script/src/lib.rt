@@ -9,6 +9,7 @@ mod input;
 mod lines;
 pub mod outcome;
 mod output;
+mod preview;
 pub mod program;
 pub mod reply;
 mod script;

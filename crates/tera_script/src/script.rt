@@ -3,7 +3,7 @@ ghost use Rattle.std.specs.Prelude.{◌≡◌, ◌==◌, MatchOption, IfOk, slic
 ghost use Rattle.tera_script.specs.Act.{act_of};
 ghost use Rattle.tera_script.specs.Found.{IsCommand, IsNone};
 ghost use Rattle.tera_script.specs.Lines.{lines_of};
-ghost use Rattle.tera_script.specs.Script.{is_plain, head_of, head_named, only_field, two_fields, checked_fields, switch, integer, int_of, add_of, listed, render_of, block_of, component_head, component_of, opening_named, act_named, with_body, script_of_lines, script_of};
+ghost use Rattle.tera_script.specs.Script.{is_plain, head_of, head_named, only_field, two_fields, checked_fields, switch, integer, int_of, add_of, listed, render_of, block_of, component_head, component_of, preview_of, opening_named, act_named, with_body, script_of_lines, script_of};
 ghost use Rattle.tera_script.specs.Seen.{act_seen, component_head_seen, fields_seen, head_seen, opening_seen, plain_opening, script_seen, text_seen, texts_seen};
 ghost use Rattle.tera_script.specs.Words.{words_after};
 
@@ -203,6 +203,15 @@ fn component_of<'a>(
     }
 }
 
+// `preview`, with `on` or `off`.
+fn preview_of(fields: Option<&str>) -> Option<Command<'static>>
+    ensures { act_seen result ≡ preview_of (words_after fields.entry) }
+{
+    Some(Command::Preview {
+        autoescape: switch(only_field(fields)?)?,
+    })
+}
+
 // The word of a command with a body, and its field.
 fn opening_named<'a>(word: &str, fields: Option<&'a str>) -> Option<Opening<'a>>
     ensures { opening_seen result ≡ opening_named word.now (words_after fields.entry) }
@@ -234,6 +243,7 @@ fn command_named<'a>(
         "render" => Ok(render_of(fields)),
         "block" => Ok(block_of(fields)),
         "component" => component_of(alloc, fields),
+        "preview" => Ok(preview_of(fields)),
         _ => Ok(None),
     }
 }

@@ -24,7 +24,7 @@ use Rattle.tera_registry.specs.Choices.{chosen, chosen_of, AreChosen}
 use Rattle.tera_registry.specs.Beside.{is_there, code_misses}
 use Rattle.tera_registry.proofs.Chosen.{IsChosen, chosen-is}
 use Rattle.tera_registry.proofs.Definitions.{component-none, component-place}
-use Rattle.tera_registry.proofs.Choosing.{kept-names-are}
+use Rattle.tera_registry.proofs.Choosing.{any-same, kept-names-are}
 use Rattle.tera_registry.proofs.Lacking.{codes_lack_as_tree}
 use Rattle.tera_registry.proofs.Calling.{codes_call_as_tree, lacks-parts}
 
@@ -32,13 +32,13 @@ taken-there : (r : Registry) (n : Name) (c : Option Choice) → chosen_of r n �
 taken-there r n None e = sym (ap is_some (component-none r n None (sym e) refl))
 taken-there r n (Some c) e = sym (ap is_some (component-place r n c e).is)
 
+by-name : (file n : Name) (d : Signature × Nodes) (ds : List (Signature × Nodes)) (b : Bool) → list_any (λ m. bytes_eq n m) (map (λ d. d.0.name) ds) ≡ is_some (component_named file n ds) → (b || list_any (λ m. bytes_eq n m) (map (λ d. d.0.name) ds)) ≡ is_some (if b then Some (record { file = file; signature = d.0; body = d.1 }) else component_named file n ds)
+by-name file n d ds true rest = refl
+by-name file n d ds false rest = rest
+
 named-there : (file n : Name) (ds : List (Signature × Nodes)) → list_any (λ m. bytes_eq n m) (map (λ d. d.0.name) ds) ≡ is_some (component_named file n ds)
 named-there file n [] = refl
-named-there file n (d ∷ ds) = by_name (bytes_eq n d.0.name)
-  where
-    by_name : (b : Bool) → (b || list_any (λ m. bytes_eq n m) (map (λ d. d.0.name) ds)) ≡ is_some (if b then Some (record { file = file; signature = d.0; body = d.1 }) else component_named file n ds)
-    by_name true = refl
-    by_name false = named-there file n ds
+named-there file n (d ∷ ds) = by-name file n d ds (bytes_eq n d.0.name) (named-there file n ds)
 
 own-there : (n : Name) (own : List Kept) → list_any (λ c. bytes_eq n c.definition.name) own ≡ list_any (λ m. bytes_eq n m) (kept_names own)
 own-there n [] = refl
@@ -58,14 +58,10 @@ any-flat : (p : Name → Bool) (f : Kept → List Name) (own : List Kept) → li
 any-flat p f [] = refl
 any-flat p f (c ∷ own) = ap (λ b. list_any p (f c) || b) (any-flat p f own) ∙ sym (list_any-append p (f c) (flat_map f own))
 
-any-same : (p q : Name → Bool) (ns : List Name) → ((n : Name) → p n ≡ q n) → list_any p ns ≡ list_any q ns
-any-same p q [] same = refl
-any-same p q (n ∷ ns) same = ap₂ (λ x y. x || y) (same n) (any-same p q ns same)
-
 pub beside-lacks : (r : Registry) (tree : Tree) (file : Name) (choices : BTreeMap (String Global) Choice Global) (own : List Kept) (body : Listing) → AreChosen r choices → body.code ≡ nodes_code tree.nodes 0 → map kept_of own ≡ kept_all file tree.nodes → in_tree.blocks tree.nodes ≡ []
     → (bodies_lack body [] own || (code_misses choices own body.code || list_any (λ c. code_misses choices own c.code.code) own)) ≡ lacks_a_callee (is_component_beside r tree) tree.nodes
 beside-lacks r tree file choices own body known code kept none =
-    let p = λ n. not (is_there choices own n) in
+    let p : Name → Bool = λ n. not (is_there choices own n) in
     let no_blocks : [] ≡ block_listings file (in_tree.blocks tree.nodes) = ap (block_listings file) (sym none) in
     let others = codes_lack_as_tree file body [] own tree.nodes code no_blocks kept in
     let calls = any-flat p (λ c. code_calls c.code.code) own in

@@ -95,7 +95,7 @@ any-over : (f : Name → Bool) (cs : List Component) → list_any (λ c. f c.def
 any-over f [] = refl
 any-over f (c ∷ cs) = ap (λ b. f c.definition.name || b) (any-over f cs)
 
-any-same : (f g : Name → Bool) (ns : List Name) → ((n : Name) → f n ≡ g n) → list_any f ns ≡ list_any g ns
+pub any-same : (f g : Name → Bool) (ns : List Name) → ((n : Name) → f n ≡ g n) → list_any f ns ≡ list_any g ns
 any-same f g [] same = refl
 any-same f g (n ∷ ns) same = ap (λ b. b || list_any f ns) (same n) ∙ ap (λ b. g n || b) (any-same f g ns same)
 

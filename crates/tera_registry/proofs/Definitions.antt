@@ -1,11 +1,12 @@
 -- The component of a name, found by place.
-use Rattle.std.proofs.Common.{◌≡◌, ℕ, ◌<◌, Bool, true, false, not, ◌||◌, is_some, List, [], ◌∷◌, ◌++◌, length, map, get_or, Option, Some, None, option_map, option_and_then, Box, Vec, Global, String, refl, sym, ap, ap₂, ◌∙◌, arith, slice_get}
+use Rattle.std.proofs.Common.{◌≡◌, ℕ, ◌<◌, Bool, true, false, not, ◌||◌, is_some, List, [], ◌∷◌, ◌++◌, length, map, get_or, Option, Some, None, Result, Ok, option_map, option_and_then, Box, Vec, Global, String, refl, sym, ap, ap₂, ◌∙◌, arith, slice_get}
 use Rattle.std.specs.declared.rc.Rc.{Rc}
 use Rattle.std.specs.declared.collections.BTreeMap.{BTreeMap}
 use Rattle.std.specs.List.{list_any}
 use Rattle.std.proofs.lemmas.List.{length-map, map-append}
 use Rattle.std.proofs.lemmas.Option.{slice_get_read, slice_get-map, slice_get_within}
 use Rattle.tera_errors.specs.Site.{Name}
+use Rattle.tera_errors.specs.Fault.{Fault}
 use Rattle.tera_tree.specs.Tree.{Signature, Nodes}
 use Rattle.tera_tree.specs.Definitions.{definitions, node_definitions}
 use Rattle.tera_tree.specs.View.{node_of, nodes_of, signature_of}
@@ -71,12 +72,14 @@ kept-at file nodes cs k d c e at is =
     cc
 
 -- one component more
-pub kept-one : (file : Name) (old mid : List Kept) (c : Kept) (node : Read) (signature : Box Written Global) (body : Vec Read Global) (xs : List Read) → node ≡ variant.Definition signature body → xs ≡ body.items → mid ≡ old ++ c ∷ [] → c.definition ≡ definition_of (signature_of signature.value) → c.code ≡ listing_of file (nodes_of xs) → map kept_of mid ≡ map kept_of old ++ map (kept_as file) (node_definitions (node_of node))
-kept-one file old mid c node signature body xs is a e h g =
+pub kept-one : (file : Name) (old mid : List Kept) (c : Kept) (node : Read) (signature : Box Written Global) (body : Vec Read Global) (lent : Written) (xs : List Read) → node ≡ variant.Definition signature body → lent ≡ signature.value → xs ≡ body.items → mid ≡ old ++ c ∷ []
+    → ◌≡◌ {A = Result Definition Fault} (Ok (definition_of (signature_of lent))) (Ok c.definition) → c.code ≡ listing_of file (nodes_of xs) → map kept_of mid ≡ map kept_of old ++ map (kept_as file) (node_definitions (node_of node))
+kept-one file old mid c node signature body lent xs is s a e h g =
+    let given : definition_of (signature_of lent) ≡ c.definition = cc in
     ap (map kept_of) e
     ∙ map-append kept_of old (c ∷ [])
-    ∙ ap₂ (λ d l. map kept_of old ++ (d, l) ∷ []) h g
-    ∙ ap (λ x. map kept_of old ++ (definition_of (signature_of signature.value), listing_of file (nodes_of x)) ∷ []) a
+    ∙ ap₂ (λ d l. map kept_of old ++ (d, l) ∷ []) (sym given) g
+    ∙ ap₂ (λ w x. map kept_of old ++ (definition_of (signature_of w), listing_of file (nodes_of x)) ∷ []) s a
     ∙ ap (λ n. map kept_of old ++ map (kept_as file) (node_definitions n)) (sym (view_definition signature body))
     ∙ ap (λ n. map kept_of old ++ map (kept_as file) (node_definitions (node_of n))) (sym is)
 

@@ -28,3 +28,4 @@ pub mod Chosen
 pub mod Choosing
 pub mod Definitions
 pub mod Besides
+pub mod Listed

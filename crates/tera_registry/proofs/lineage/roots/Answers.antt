@@ -59,7 +59,7 @@ returns-then-is_at-2-clause-answer c =
     let top = c.in-Ok.ensures r e.0 ups i.tops e.1 in
     let above = top-parents r e.0 c.in-Ok.top top in
     let leads = is-not-here r (λ place t. leads_into_a_circle r t) c.args.circle c.loop-place.place e.0 c.requires.circle i.not_past (c.is_at.ensures.not_there c.if-is_at.false) e.1 in
-    let ties = is-here r (ties_at r) c.args.tie c.loop-place.place e.0 c.requires.tie (c.is_at-2.ensures.there c.if-is_at-2.true) e.1 in
+    let ties = is-here r (ties_at r) c.args.tie c.loop-place.place e.0 c.requires.tie (c.is_at-in-Ok.ensures.there c.if-is_at-2.true) e.1 in
     told c.message.result (climbed r) c.message.ensures (checked-tie r c.loop-place.place e.0 above.0 i.checked e.1 above.1 leads ties)
 
 pub loop-place-preserved : goal.loop-place-preserved
@@ -73,7 +73,7 @@ loop-place-preserved c =
     let top = c.in-Ok.ensures r e.0 ups i.tops e.1 in
     let above = top-parents r e.0 c.in-Ok.top top in
     let not = c.is_at.ensures.not_there c.if-is_at.false in
-    let no_tie = c.is_at-2.ensures.not_there c.if-is_at-2.false in
+    let no_tie = c.is_at-in-Ok.ensures.not_there c.if-is_at-2.false in
     let leads = is-not-here r (λ place t. leads_into_a_circle r t) c.args.circle c.loop-place.place e.0 c.requires.circle i.not_past not e.1 in
     let ties = is-not-here r (ties_at r) c.args.tie c.loop-place.place e.0 c.requires.tie i.no_tie no_tie e.1 in
     record {

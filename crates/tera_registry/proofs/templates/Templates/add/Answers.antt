@@ -20,7 +20,7 @@ invariant_of-self c = record {
   rises = c.in-Ok.ensures.rises;
   accepted = kept-accepted c.put_all.new.templates.items _ c.args.self.now.prefixes.items _ c.as_slice.ensures.value c.as_slice-2.ensures.value c.in-Ok-link.ensures.answer;
   linked = kept-linked c.put_all.new.templates.items _ c.args.self.now.prefixes.items _ c.as_slice.ensures.value c.as_slice-2.ensures.value _ c.in-Ok-link.ensures.roots;
-  chosen = kept-chosen c.put_all.new.templates.items _ c.args.self.now.prefixes.items _ c.as_slice.ensures.value c.as_slice-2.ensures.value _ c.in-Ok-link.ensures.choices;
+  chosen = kept-chosen c.put_all.new.templates.items _ c.args.self.now.prefixes.items _ c.as_slice.ensures.value c.as_slice-2.ensures.value c.in-Ok-link.links.choices c.in-Ok-link.ensures.choices;
 }
 
 pub returns : goal.returns

@@ -6,5 +6,5 @@ invariant_of-result c = record {
   rises = none-rises _ c.new.ensures.items;
   accepted = none-accepted _ _ c.new.ensures.items;
   linked = none-linked _ _ _ c.new.ensures.items c.new-2.ensures.items;
-  chosen = none-chosen _ _ _ c.new.ensures.items c.new-3.ensures.empty;
+  chosen = none-chosen _ _ c.new-3.result c.new.ensures.items c.new-3.ensures.empty;
 }

@@ -1,0 +1,105 @@
+-- The components of a whole registry by name, found in the table that templates and prefixes alone make.
+use Rattle.std.proofs.Common.{◌≡◌, ◌<◌, ℕ, suc, Bool, true, false, ◌||◌, cond, is_some, List, [], ◌∷◌, length, map, get_or, Option, Some, None, Less, Global, String, string_bytes, refl, sym, ap, ◌∙◌, arith, slice_get}
+use Rattle.std.specs.declared.rc.Rc.{Rc}
+use Rattle.std.specs.declared.collections.BTreeMap.{BTreeMap}
+use Rattle.std.specs.BTreeMap.{keys, IsOrdered}
+use Rattle.std.specs.Map.{keys_of, lookup}
+use Rattle.std.specs.Ordering.{is_eq, nat_cmp}
+use Rattle.std.specs.Cmp.Lexicographic.{slice_cmp}
+use Rattle.std.specs.List.{AllByRecursion}
+use Rattle.std.specs.List.Sorted.{IsStrictlySortedBy}
+use Rattle.std.specs.Str.{bytes_eq}
+use Rattle.std.specs.String.{string_cmp}
+use Rattle.std.proofs.lemmas.Map.Text.{is_eq-slice_cmp}
+use Rattle.std.proofs.lemmas.Option.{slice_get_within}
+use Rattle.tera_errors.specs.Site.{Name}
+use Rattle.tera_tree.specs.Tree.{Signature, Nodes}
+use Rattle.tera_tree.specs.Blocks.{is_among}
+use Rattle.tera_tree.specs.Definitions.{definitions, component_names}
+use Rattle.tera_tree.specs.View.{nodes_of}
+use Rattle.tera_values.specs.Named.{name_cmp}
+use Rattle.tera_code.specs.Listing.{Listing}
+use Rattle.tera_components.specs.Definition.{Definition}
+use Rattle.tera_meaning.specs.Registry.{Entry, Registry}
+use Rattle.tera_meaning.specs.Components.{component, priority, AreComponentNames}
+use Rattle.tera_registry.specs.declared.choices.Choice.{Choice}
+use Rattle.tera_registry.specs.declared.components.Component.{Component as Kept}
+use Rattle.tera_registry.specs.declared.template.Template.{Template as Stored}
+use Rattle.tera_registry.specs.declared.templates.Defined.{Defined}
+use Rattle.tera_registry.specs.Kept.{entry_of, entries_of}
+use Rattle.tera_registry.specs.Choices.{chosen_in, chosen_from, chosen_of, AreChosen}
+use Rattle.tera_registry.specs.Templates.{IsDefined}
+use Rattle.tera_registry.proofs.Adds.{bare}
+use Rattle.tera_registry.proofs.Kept.{entry-at-place, length-entries}
+use Rattle.tera_registry.proofs.Definitions.{component-there, component-place, kept-within, kept-at}
+
+-- Templates and prefixes alone decide on what is taken.
+
+chosen-same : (r : Registry) (n : Name) (place : ℕ) (ts : List Entry) (old : Option Choice) → chosen_from (bare r.templates r.prefixes) n place ts old ≡ chosen_from r n place ts old
+chosen-same r n place [] old = refl
+chosen-same r n place (t ∷ ts) old =
+    chosen-same r n (suc place) ts (chosen_in n place (priority r t.0) 0 (component_names t.1.tree.nodes) old)
+
+pub chosen-in-all : (r : Registry) (choices : BTreeMap (String Global) Choice Global) → AreChosen (bare r.templates r.prefixes) choices → AreChosen r choices
+chosen-in-all r choices known = λ n. known n ∙ chosen-same r n 0 r.templates None
+
+-- What is taken of a name stands at its place.
+
+pub taken-within : (r : Registry) (ts : List (Rc Stored Global)) (n : Name) (c : Choice) → r.templates ≡ entries_of ts → chosen_of r n ≡ Some c → c.template < length ts
+taken-within r ts n c same e =
+    let p = component-place r n c e in
+    omega (arith, slice_get_within r.templates c.template p.template p.template_at, ap length same, length-entries ts)
+
+-- a definition of this name in the template that is kept
+pub record Taken (r : Registry) (n : Name) (c : Choice) (u : Stored) : Type 0 where
+  pub definition : Signature × Nodes
+  pub at : slice_get (definitions (nodes_of u.meant.nodes)) c.component ≡ Some definition
+  pub is : component r n ≡ Some (record { file = string_bytes u.name; signature = definition.0; body = definition.1 })
+
+pub taken-in : (r : Registry) (ts : List (Rc Stored Global)) (n : Name) (c : Choice) (u : Rc Stored Global) → r.templates ≡ entries_of ts → chosen_of r n ≡ Some c → u ≡ get_or ts c.template u → Taken r n c u.value
+taken-in r ts n c u same e is =
+    let p = component-place r n c e in
+    let at = entry-at-place ts c.template u (taken-within r ts n c same e) is in
+    let kept : p.template ≡ entry_of u.value = (let q : Some p.template ≡ Some (entry_of u.value) = sym p.template_at ∙ ap (λ es. slice_get es c.template) same ∙ at in cc) in
+    record {
+      definition = p.definition;
+      at = ap (λ (t : Entry). slice_get (definitions t.1.tree.nodes) c.component) (sym kept) ∙ p.at;
+      is = p.is ∙ ap (λ (t : Entry). Some (record { file = t.0; signature = p.definition.0; body = p.definition.1 })) kept;
+    }
+
+pub taken-component-within : (r : Registry) (n : Name) (c : Choice) (u : Stored) → Taken r n c u → c.component < length u.components.items
+taken-component-within r n c u t =
+    kept-within (string_bytes u.name) (nodes_of u.meant.nodes) u.components.items c.component t.definition u.defined t.at
+
+pub taken-defined : (r : Registry) (n : Name) (c : Choice) (u : Stored) (k : Kept) (found : Defined) → Taken r n c u → k ≡ get_or u.components.items c.component k → found.definition.now ≡ k.definition → found.chunk.now ≡ k.code → IsDefined (component r n) (Some found)
+taken-defined r n c u k found t is given code =
+    let kept = kept-at (string_bytes u.name) (nodes_of u.meant.nodes) u.components.items c.component t.definition k u.defined t.at is in
+    rw t.is (record { given = given ∙ ap (λ (p : Definition × Listing). p.0) kept; code = code ∙ ap (λ (p : Definition × Listing). p.1) kept })
+
+-- The names, in the order of the table.
+
+keys-ascend : (ks : List (String Global)) → IsStrictlySortedBy string_cmp ks → IsStrictlySortedBy name_cmp (map string_bytes ks)
+unfolding IsStrictlySortedBy
+keys-ascend [] h = tt
+keys-ascend (k ∷ ks) h = (below ks h.0, keys-ascend ks h.1)
+  where
+    below : (js : List (String Global)) → AllByRecursion (λ j. string_cmp k j ≡ Less) js → AllByRecursion (λ n. name_cmp (string_bytes k) n ≡ Less) (map string_bytes js)
+    below [] h = tt
+    below (j ∷ js) h = (h.0, below js h.1)
+
+among-keys : (n : Name) (es : List (String Global × Choice)) → is_among n (map string_bytes (keys_of es)) ≡ is_some (lookup (λ k. is_eq (slice_cmp nat_cmp n (string_bytes k))) es)
+among-keys n [] = refl
+among-keys n (e ∷ es) =
+    by_name (is_eq (slice_cmp nat_cmp n (string_bytes e.0))) (bytes_eq n (string_bytes e.0)) (is_eq-slice_cmp n (string_bytes e.0)) (among-keys n es)
+  where
+    by_name : (b d : Bool) → b ≡ d → is_among n (map string_bytes (keys_of es)) ≡ is_some (lookup (λ k. is_eq (slice_cmp nat_cmp n (string_bytes k))) es) → (d || is_among n (map string_bytes (keys_of es))) ≡ is_some (cond b (Some e.1) (lookup (λ k. is_eq (slice_cmp nat_cmp n (string_bytes k))) es))
+    by_name true true e rest = refl
+    by_name true false e rest = (let q : true ≡ false = e in cc)
+    by_name false true e rest = (let q : false ≡ true = e in cc)
+    by_name false false e rest = rest
+
+pub names-of-all : (r : Registry) (choices : BTreeMap (String Global) Choice Global) → AreChosen r choices → IsOrdered string_cmp choices → AreComponentNames r (map string_bytes (keys choices))
+names-of-all r choices known ordered = record {
+  ascending = keys-ascend (keys choices) ordered;
+  those = λ n. among-keys n choices.entries ∙ ap is_some (known n) ∙ component-there r n;
+}

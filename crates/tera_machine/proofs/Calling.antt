@@ -118,7 +118,7 @@ module _ (w : World) (p : Place) (name : Name) (given : List (Name × Val)) (bod
   nobody_called told e h = told_refused told (fault_in p span) (way_is None e) h
 
   module _ (found : Defined) (is : IsDefined (component_at w name) (Some found)) where
-    c : Component
+    abbrev c : Component
     c = (there (component_at w name) found is).0
 
     kept : IsKept c found

@@ -5,4 +5,4 @@ use Rattle.tera_machine.proofs.components.first_of.Given as goal
 
 abbrev pub invariant-loop-component : goal.invariant-loop-component
 invariant-loop-component l =
-    first_kept l.name (map kept_of l.components) ≡ first_kept l.name (map kept_of (drop l.component-index l.component-items))
+    first_kept l.name (map kept_of l.components) ≡ first_kept l.name (map kept_of (drop l.component-index l.components))

@@ -64,7 +64,7 @@ fault RenderingError __tera_one_off 3 7
 ok
 ok
 xtrue[]{}1;
-fault RenderingError __tera_one_off 3 43
+fault RenderingError __tera_one_off 3 42
 
 @@ template t
 {% component A(...rest) %}{{ rest | keys | join(sep=",") }};{% endcomponent %}{% component B(a, ...rest) %}{{ a }}{{ rest }};{% endcomponent %}
@@ -434,6 +434,107 @@ fault Message
 x
 x"#;
 
+/// Components that are rendered by themselves, and in a text beside the registry.
+const ALONE: &str = r#"@@ template c.html
+{% component Button(label, variant="primary") %}<button class="{{ variant }}">{{ label }}</button>{% endcomponent Button %}
+@@ end
+@@ template c.txt
+{% component Raw(label) %}{{ label }}{% endcomponent Raw %}
+@@ end
+@@ add
+@@ component Button on
+@@ text label
+<
+@@ end
+@@ component Button on
+@@ component Raw on
+@@ component Raw off
+=>
+ok
+ok
+ok
+fault Message
+ok
+<button class="primary">&lt;</button>
+&lt;
+<
+
+@@ template c.html
+{% component Button(label, variant="primary") %}<button class="{{ variant }}">{{ label }}</button>{% endcomponent Button %}
+@@ end
+@@ add
+@@ text label
+X
+@@ end
+@@ text variant
+secondary
+@@ end
+@@ component Button on
+@@ text bad
+y
+@@ end
+@@ component Button on
+@@ component Button off label bad variant
+@@ component Button off no bad bad
+=>
+ok
+ok
+ok
+ok
+<button class="secondary">X</button>
+ok
+fault Message
+fault Message
+<button class="secondary">X</button>
+
+@@ template p.html
+I am partial
+@@ end
+@@ add
+@@ template c.html
+{% component Greet(name) %}Hello {{ name }}!{% endcomponent Greet %}
+@@ end
+@@ add
+@@ text name
+world
+@@ end
+@@ str off
+Hello {{ name }}!. {% include "p.html" %} - {{<Greet name="World"/>}}
+@@ end
+=>
+ok
+ok
+ok
+ok
+ok
+Hello world!. I am partial - Hello World!
+
+@@ template c
+{% component R() %}{{ <R/> }}{% endcomponent %}{% component Q(n) %}{% if n > 1 %}{{ <Q n={n - 1}/> }}{% else %}{% <W> %}{{ <W/> }}{% </W> %}{% endif %}{% endcomponent %}{% component W() %}w{% if body is defined %}{{ body }}{% endif %}{% endcomponent %}
+@@ end
+@@ add
+@@ str off
+{{ <R/> }}
+@@ end
+@@ component R off
+@@ int n 20
+@@ component Q off
+@@ str off
+{{ <Q n={19}/> }}
+@@ end
+@@ str off
+{{ <Q n={20}/> }}
+@@ end
+=>
+ok
+ok
+fault Message
+fault Message
+ok
+ww
+ww
+fault Message"#;
+
 /// Texts that spell no tree.
 const REFUSED: &str = r#"{% component W() %}{% block b %}{% endblock %}{% endcomponent %} !! syntax
 {% if true %}{% component W() %}{% endcomponent %}{% endif %} !! syntax
@@ -479,6 +580,12 @@ fn bodies_of_components(rt: HostRuntime) {
 #[test]
 fn definers_of_components(rt: HostRuntime) {
     let row = batches::wrong(rt.alloc(), DEFINERS);
+    assert!(rt; row.is_none(), "at script {row:?}");
+}
+
+#[test]
+fn components_alone(rt: HostRuntime) {
+    let row = batches::wrong(rt.alloc(), ALONE);
     assert!(rt; row.is_none(), "at script {row:?}");
 }
 

@@ -14,6 +14,8 @@ mod cases;
 #[cfg(test)]
 mod commands;
 #[cfg(test)]
+mod component_calls;
+#[cfg(test)]
 mod components;
 #[cfg(test)]
 mod comprehensions;

@@ -30,6 +30,7 @@ fn kind(error: &Error) -> &'static str {
         ErrorKind::CircularExtend => "CircularExtend",
         ErrorKind::MissingParent => "MissingParent",
         ErrorKind::TemplateNotFound => "TemplateNotFound",
+        ErrorKind::ComponentNotFound => "ComponentNotFound",
         _ => "another",
     }
 }

@@ -1,11 +1,11 @@
 -- The best definer so far, template by template, and ties with it.
-use Rattle.std.proofs.Common.{◌≡◌, ℕ, ◌<◌, ◌≤◌, Bool, true, false, not, ◌&&◌, ◌||◌, if◌then◌else◌, List, [], ◌∷◌, filter, nat_eq, nat_lt, Option, Some, None, refl, sym, ap, ◌∙◌, inl, inr, arith}
+use Rattle.std.proofs.Common.{◌≡◌, ℕ, ◌<◌, ◌≤◌, Bool, false, not, ◌&&◌, ◌||◌, if◌then◌else◌, List, [], ◌∷◌, filter, nat_eq, nat_lt, Option, Some, None, refl, sym, ap, ◌∙◌, inl, inr, arith}
 use Rattle.std.specs.List.{list_any}
 use Rattle.std.proofs.lemmas.Bool.{cases_Bool, cases_lt, lt-ltb, ltb-true}
 use Rattle.std.proofs.lemmas.Bool.Decides.{nat_tests}
 use Rattle.tera_errors.specs.Site.{Name}
 use Rattle.tera_meaning.specs.Registry.{Registry, Entry}
-use Rattle.tera_meaning.specs.Components.{priority, defines, better, best_from, is_better, is_as_good, is_tie}
+use Rattle.tera_meaning.specs.Components.{priority, defines, best_from, is_better, is_as_good, is_tie}
 
 -- whether a template is as good as the best of those before it
 abbrev pub ties_with : Registry → Option Entry → Entry → Bool

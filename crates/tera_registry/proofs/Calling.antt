@@ -1,5 +1,5 @@
 -- The components that a template calls, found in its code.
-use Rattle.std.proofs.Common.{◌≡◌, ℕ, ◌+◌, ◌<◌, ◌≤◌, Bool, true, false, not, ◌||◌, is_some, List, [], ◌∷◌, ◌++◌, length, drop, map, option_and_then, Option, Some, None, refl, sym, ap, ap₂, ◌∙◌, append_assoc, slice_get}
+use Rattle.std.proofs.Common.{◌≡◌, ℕ, ◌+◌, ◌<◌, ◌≤◌, Bool, true, false, not, ◌||◌, List, [], ◌∷◌, ◌++◌, length, drop, map, option_and_then, Option, Some, None, refl, sym, ap, ap₂, ◌∙◌, append_assoc, slice_get}
 use Rattle.std.specs.List.{list_any, filter_map, flat_map, cons_option}
 use Rattle.std.proofs.lemmas.List.{drop_all, append-nil}
 use Rattle.std.proofs.lemmas.List.Folds.{list_any-append, flat_map-map}
@@ -10,7 +10,6 @@ use Rattle.tera_tree.specs.Definitions.{definitions}
 use Rattle.tera_tree.specs.Calls.{Callee, AFilter, ATest, AFunction, AComponent, calls}
 use Rattle.tera_components.specs.Definition.{Definition}
 use Rattle.tera_code.specs.declared.blocks.Block.{Block}
-use Rattle.tera_code.specs.declared.instruction.Instruction.{Instruction}
 use Rattle.tera_code.specs.Blocks.{block_of, block_listings}
 use Rattle.tera_code.specs.Listing.{Listing}
 use Rattle.tera_code.specs.Code.{Code, nodes_code, listing_of}

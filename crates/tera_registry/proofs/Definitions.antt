@@ -1,6 +1,5 @@
 -- The component of a name, found by place.
-use Rattle.std.proofs.Common.{◌≡◌, ℕ, ◌<◌, Bool, true, false, not, ◌||◌, is_some, List, [], ◌∷◌, ◌++◌, length, map, get_or, Option, Some, None, Result, Ok, option_map, option_and_then, Box, Vec, Global, String, refl, sym, ap, ap₂, ◌∙◌, arith, slice_get}
-use Rattle.std.specs.declared.rc.Rc.{Rc}
+use Rattle.std.proofs.Common.{◌≡◌, ℕ, ◌<◌, Bool, true, not, ◌||◌, is_some, List, [], ◌∷◌, ◌++◌, length, map, get_or, Option, Some, None, Result, Ok, option_map, option_and_then, Box, Vec, Global, String, refl, sym, ap, ap₂, ◌∙◌, arith, slice_get}
 use Rattle.std.specs.declared.collections.BTreeMap.{BTreeMap}
 use Rattle.std.specs.List.{list_any}
 use Rattle.std.proofs.lemmas.List.{length-map, map-append}
@@ -15,19 +14,15 @@ use Rattle.tera_tree.specs.declared.node.Node.TheVariants as variant
 use Rattle.tera_tree.specs.declared.component.Signature.{Signature as Written}
 use Rattle.tera_tree.proofs.Views.{view_definition}
 use Rattle.tera_code.specs.Code.{listing_of}
-use Rattle.tera_code.specs.Listing.{Listing}
 use Rattle.tera_components.specs.Definition.{Definition, definition_of}
 use Rattle.tera_meaning.specs.Registry.{Entry, Registry}
 use Rattle.tera_meaning.specs.Known.{lacks_a_callee}
 use Rattle.tera_meaning.specs.Accepted.{is_component}
-use Rattle.tera_meaning.specs.Components.{Component, component_in, component, definer_of}
-use Rattle.tera_registry.specs.declared.template.Template.{Template as Stored}
+use Rattle.tera_meaning.specs.Components.{component_in, component, definer_of}
 use Rattle.tera_registry.specs.declared.components.Component.{Component as Kept}
 use Rattle.tera_registry.specs.declared.choices.Choice.{Choice}
-use Rattle.tera_registry.specs.Kept.{entry_of, entries_of}
 use Rattle.tera_registry.specs.Components.{kept_of, kept_as, kept_all, component_calls}
 use Rattle.tera_registry.specs.Choices.{chosen, chosen_of, AreChosen}
-use Rattle.tera_registry.proofs.Kept.{entry-at-place, length-entries}
 use Rattle.tera_registry.proofs.Calling.{lacks-parts}
 use Rattle.tera_registry.proofs.Chosen.{IsChosen, chosen-is}
 

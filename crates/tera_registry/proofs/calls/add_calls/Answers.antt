@@ -1,5 +1,4 @@
-use Rattle.std.proofs.Common.{◌≡◌, ◌++◌, ◌≤◌, length, drop, sym, ap, ◌∙◌, arith}
-use Rattle.tera_registry.specs.Components.{code_calls}
+use Rattle.std.proofs.Common.{◌≤◌, length, arith}
 use Rattle.tera_registry.proofs.Calling.{calls-on, calls-end}
 use Rattle.tera_registry.proofs.calls.add_calls.Goals as goal
 

@@ -1,4 +1,4 @@
-use Rattle.std.proofs.Common.{◌≡◌, [], ◌++◌, map, append-nil, string_bytes, sym, ap, ◌∙◌, rules}
+use Rattle.std.proofs.Common.{◌≡◌, ◌++◌, map, append-nil, string_bytes, sym, ap, ◌∙◌, rules}
 use Rattle.std.specs.BTreeMap.{keys}
 use Rattle.tera_registry.specs.Templates.{with_templates}
 use Rattle.tera_registry.proofs.Listed.{chosen-in-all, names-of-all}

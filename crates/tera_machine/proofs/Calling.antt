@@ -7,7 +7,7 @@ use Rattle.std.proofs.lemmas.List.{drop_more}
 use Rattle.tera_errors.specs.Site.{Name}
 use Rattle.tera_errors.specs.declared.span.Span.{Span}
 use Rattle.tera_errors.specs.Fault.{Fault, message}
-use Rattle.tera_errors.specs.Answer.{Refusal, Lacks, Says, Tells}
+use Rattle.tera_errors.specs.Answer.{Refusal, Says, Tells}
 use Rattle.tera_tree.specs.Tree.{Signature, Nodes}
 use Rattle.tera_values.specs.Alphabet.{plain}
 use Rattle.tera_values.specs.Val.{Val}

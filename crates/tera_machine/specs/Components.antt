@@ -1,5 +1,5 @@
 -- Which component a request takes, and the context in which it runs.
-use Rattle.std.specs.Prelude.{◌≡◌, suc, List, [], ◌∷◌, Option, None, Some, option_map, Result, Ok, Err, bytes_eq, if◌then◌else◌}
+use Rattle.std.specs.Prelude.{◌≡◌, suc, List, [], ◌∷◌, Option, None, Some, Result, Ok, Err, bytes_eq, if◌then◌else◌}
 use Rattle.tera_errors.specs.Site.{Name}
 use Rattle.tera_errors.specs.Answer.{Refusal}
 use Rattle.tera_tree.specs.Tree.{Nodes}

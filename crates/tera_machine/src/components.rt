@@ -152,7 +152,10 @@ impl<'t> VirtualMachine<'t> {
             ));
         };
         let scopes = &configuration.scopes;
-        let context = match component.definition.build_context(self.alloc, &given, scopes, body) {
+        let context = match component
+            .definition
+            .build_context(self.alloc, &given, scopes, body)
+        {
             Ok(context) => context,
             Err(refusal) => return Err(fault_at(self.alloc, chunk.file(), &refusal, span)),
         };

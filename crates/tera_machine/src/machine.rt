@@ -126,11 +126,11 @@ impl<'t> VirtualMachine<'t> {
 
     /// The same, for a text that defines these components.
     pub fn with_components(self, components: &'t [Component]) -> VirtualMachine<'t>
-        ensures escapes { result.autoescape ≡ self.autoescape }
-        ensures templates { result.templates.now ≡ self.templates.now }
-        ensures template { result.template ≡ self.template }
+        ensures escapes { result.autoescape ≡ self.entry.autoescape }
+        ensures templates { result.templates.now ≡ self.entry.templates.now }
+        ensures template { result.template ≡ self.entry.template }
         ensures beside { kept_beside result.beside ≡ map kept_of components.now }
-        ensures depth { result.depth ≡ self.depth }
+        ensures depth { result.depth ≡ self.entry.depth }
     {
         VirtualMachine {
             beside: Some(Beside { components }),

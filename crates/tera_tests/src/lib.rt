@@ -2,6 +2,8 @@
 #![tactic(auto)]
 
 #[cfg(test)]
+mod absent_calls;
+#[cfg(test)]
 mod batches;
 #[cfg(test)]
 mod blocks;

@@ -35,12 +35,12 @@ module _ (p : Name → Bool) where
       let more = put_last-kept pre e post s.1 in
       let above = flip_less q.0 e.0 (among (λ j. name_cmp q.0 j ≡ Less) pre e post s.0) in
       elim (cases_Bool (p q.0)) [
-        | inl yes ↦
-            ap (put e.0 e.1) (filter-yes q pre yes)
+        | inl taken ↦
+            ap (put e.0 e.1) (filter-yes q pre taken)
             ∙ after e.0 e.1 q (keep pre) above
             ∙ ap (λ (l : Named Val). q ∷ l) more
-            ∙ sym (ap (λ (l : Named Val). l ++ e ∷ []) (filter-yes q pre yes))
-        | inr no ↦ ap (put e.0 e.1) (filter-no q pre no) ∙ more ∙ sym (ap (λ (l : Named Val). l ++ e ∷ []) (filter-no q pre no))
+            ∙ sym (ap (λ (l : Named Val). l ++ e ∷ []) (filter-yes q pre taken))
+        | inr omitted ↦ ap (put e.0 e.1) (filter-no q pre omitted) ∙ more ∙ sym (ap (λ (l : Named Val). l ++ e ∷ []) (filter-no q pre omitted))
       ]
 
   keep-yes : (done : Named Val) (e : Name × Val) → p e.0 ≡ true → keep (done ++ e ∷ []) ≡ keep done ++ e ∷ []
@@ -63,16 +63,16 @@ module _ (p : Name → Bool) where
 
   -- the next name is left out
   pub kept_without : (m all : Named Val) (n : Name) (names before : List Name) → before ≡ n ∷ names → IsKept m all before → p n ≡ false → IsKept m all names
-  kept_without m all n names before e (done, [], split, is, left) no = cc
-  kept_without m all n names before e (done, d ∷ rest, split, is, left) no =
+  kept_without m all n names before e (done, [], split, is, left) omitted = cc
+  kept_without m all n names before e (done, d ∷ rest, split, is, left) omitted =
       let name : n ≡ d.0 = cc in
       let others : names ≡ map (λ c. c.0) rest = cc in
-      (done ++ d ∷ [], rest, append_assoc done (d ∷ []) rest ∙ split, is ∙ sym (keep-no done d (ap p (sym name) ∙ no)), others)
+      (done ++ d ∷ [], rest, append_assoc done (d ∷ []) rest ∙ split, is ∙ sym (keep-no done d (ap p (sym name) ∙ omitted)), others)
 
   -- or what stands at it is kept
   pub kept_next : (m all new : Named Val) (n : Name) (names before : List Name) → before ≡ n ∷ names → IsAscending m → IsKept m all before → p n ≡ true → new ≡ put_found n (at_name n m) all → IsKept m new names
-  kept_next m all new n names before e h (done, [], split, is, left) yes made = cc
-  kept_next m all new n names before e h (done, d ∷ rest, split, is, left) yes made =
+  kept_next m all new n names before e h (done, [], split, is, left) taken made = cc
+  kept_next m all new n names before e h (done, d ∷ rest, split, is, left) taken made =
       let name : n ≡ d.0 = cc in
       let others : names ≡ map (λ c. c.0) rest = cc in
       let up : IsAscending (done ++ d ∷ rest) = subst IsAscending (sym split) h in
@@ -84,7 +84,7 @@ module _ (p : Name → Bool) where
       ∙ ap (λ (j : Name). put j d.1 all) name
       ∙ ap (put d.0 d.1) is
       ∙ put_last-kept done d rest up
-      ∙ sym (keep-yes done d (ap p (sym name) ∙ yes)) in
+      ∙ sym (keep-yes done d (ap p (sym name) ∙ taken)) in
       (done ++ d ∷ [], rest, append_assoc done (d ∷ []) rest ∙ split, last, others)
 
   pub kept_all : (m all : Named Val) (names : List Name) → names ≡ [] → IsKept m all names → all ≡ keep m

@@ -15,7 +15,6 @@ fn is_one_of(names: &[&str], name: &str) -> bool
 }
 
 // Whether an entry of this name is kept: where the flag is up one with one of the names, and else any other.
-#[tactic(auto, using(crate::proofs::Keeping::list_any_texts))]
 fn keeps(are_named: bool, names: &[&str], name: &str) -> bool
     ensures { result ≡ keeps are_named (texts_of names.now) name.now }
 {

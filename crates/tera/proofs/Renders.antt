@@ -7,7 +7,7 @@ use Rattle.tera_values.specs.Alphabet.{marking}
 use Rattle.tera_values.specs.Escape.{escape_html}
 use Rattle.tera_values.specs.Val.{Val}
 use Rattle.tera_values.specs.Named.{Named}
-use Rattle.tera_tree.specs.Tree.{Tree}
+use Rattle.tera_tree.specs.Tree.{Tree, Nodes}
 use Rattle.tera_tree.specs.View.{quoted_option}
 use Rattle.tera_tree.specs.declared.quoted.Quoted.{Quoted}
 use Rattle.tera_syntax.specs.Reads.{Reads}
@@ -22,7 +22,8 @@ use Rattle.tera_machine.specs.Subject.{Subject, template_of, meant, meant_from, 
 use Rattle.tera_machine.specs.declared.machine.VirtualMachine.{VirtualMachine}
 use Rattle.tera_meaning.specs.Whole.{Place}
 use Rattle.tera_machine.specs.declared.configuration.Configuration.{Configuration}
-use Rattle.tera.specs.Registry.{place_at, place_in, text_meant, is_there, one_off_meant}
+use Rattle.tera.specs.declared.engine.Tera.{Tera}
+use Rattle.tera.specs.Registry.{registry_of, place_at, place_in, subject_beside, text_meant, is_there, one_off_meant}
 use Rattle.tera.specs.Rendering.{OneOff, allowed}
 use Rattle.tera_meaning.specs.Rendering.{has_a_block, text_of, one_off_text, render_str, render_str_in}
 use Rattle.tera_marks.specs.Origin.{Traces}
@@ -101,6 +102,10 @@ missing-says s e missing t =
 -- any others are rendered
 pub nothing-missing : (s : Subject) → lacks_a_callee (is_there s.world) s.tree ≡ false → misses_an_include s.world.registry s.tree ≡ false → text_meant s ≡ one_off_meant s
 nothing-missing s known there = sym (ap₂ (λ b c. unless (b || c) (text_meant s)) known there)
+
+-- what its nodes mean beside the registry is what its tree means
+pub beside-means : (t : Tera) (tree : Tree) (nodes : Nodes) (context : Named Val) (autoescape : Bool) → nodes ≡ tree.nodes → one_off_meant (subject_beside t nodes context autoescape) ≡ one_off_text (registry_of t) tree context autoescape
+beside-means t tree nodes context autoescape is = ap (λ (ns : Nodes). one_off_meant (subject_beside t ns context autoescape)) is
 
 module _ (r : Registry) (by_html : r.engine.escape ≡ escape_html) (text : Text) (context : Named Val) where
   -- the law, where the answer is what the reading means

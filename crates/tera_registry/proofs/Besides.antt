@@ -1,5 +1,5 @@
 -- A text beside the templates, whose own components are there as well.
-use Rattle.std.proofs.Common.{◌≡◌, Bool, true, false, not, ◌||◌, is_some, bytes_eq, if◌then◌else◌, List, [], ◌∷◌, ◌++◌, map, Option, Some, None, Global, String, refl, sym, ap, ap₂, ◌∙◌}
+use Rattle.std.proofs.Common.{◌≡◌, Bool, true, false, not, ◌||◌, is_some, bytes_eq, if◌then◌else◌, List, [], ◌∷◌, map, Option, Some, None, Global, String, refl, sym, ap, ap₂, ◌∙◌}
 use Rattle.std.specs.declared.collections.BTreeMap.{BTreeMap}
 use Rattle.std.specs.List.{list_any, flat_map}
 use Rattle.std.specs.Option.{option_or}
@@ -7,14 +7,13 @@ use Rattle.std.proofs.lemmas.List.Folds.{list_any-append}
 use Rattle.tera_errors.specs.Site.{Name}
 use Rattle.tera_tree.specs.Tree.{Tree, Signature, Nodes}
 use Rattle.tera_tree.specs.Blocks as in_tree
-use Rattle.tera_tree.specs.Definitions.{definitions, component_names}
+use Rattle.tera_tree.specs.Definitions.{definitions}
 use Rattle.tera_code.specs.Listing.{Listing}
 use Rattle.tera_code.specs.Code.{nodes_code}
 use Rattle.tera_code.specs.Blocks.{block_listings}
 use Rattle.tera_meaning.specs.Registry.{Registry}
-use Rattle.tera_meaning.specs.Accepted.{is_component}
 use Rattle.tera_meaning.specs.Known.{lacks_a_callee}
-use Rattle.tera_meaning.specs.Components.{Component, component_named, component, definer_of, one_off_name}
+use Rattle.tera_meaning.specs.Components.{Component, component_named, component, one_off_name}
 use Rattle.tera_meaning.specs.Rendering.{is_component_beside}
 use Rattle.tera_registry.specs.declared.components.Component.{Component as Kept}
 use Rattle.tera_registry.specs.declared.choices.Choice.{Choice}
@@ -22,7 +21,6 @@ use Rattle.tera_registry.specs.Known.{bodies_lack}
 use Rattle.tera_registry.specs.Components.{kept_of, kept_all, kept_names, component_calls, code_calls}
 use Rattle.tera_registry.specs.Choices.{chosen, chosen_of, AreChosen}
 use Rattle.tera_registry.specs.Beside.{is_there, code_misses}
-use Rattle.tera_registry.proofs.Chosen.{IsChosen, chosen-is}
 use Rattle.tera_registry.proofs.Definitions.{component-none, component-place}
 use Rattle.tera_registry.proofs.Choosing.{any-same, kept-names-are}
 use Rattle.tera_registry.proofs.Lacking.{codes_lack_as_tree}

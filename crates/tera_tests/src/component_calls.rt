@@ -9,16 +9,15 @@ const LOOKING: &str =
     r#"{% component attrs(...rest) %}{% for k, v in rest %}{{k}}={{v}} {% endfor %} || {{ <show /> }}{% endcomponent attrs %}
 {% component show(@name, @lang = "fr") %}{{ name }}-{{ lang }}{% endcomponent show %}"#;
 
-const NAMES: &str =
-    "{% component P() %}{{ name }}{% endcomponent %}{% component S(@name) %}{{ name }}{% endcomponent %}";
+const NAMES: &str = "{% component P() %}{{ name }}{% endcomponent %}\
+    {% component S(@name) %}{{ name }}{% endcomponent %}";
 
 const CARD: &str =
     "{% component Card(title) %}<div><h1>{{ title }}</h1>{{ body }}</div>{% endcomponent %}\
     {% component Quote(text) %}{% <Card title={text}> %}{{ body }}{% </Card> %}{% endcomponent %}";
 
-const BUTTON: &str =
-    "{% component Button(label: String, variant=\"primary\", ...rest) %}<button>{{ label }}</button>\
-    {% endcomponent Button %}";
+const BUTTON: &str = "{% component Button(label: String, variant=\"primary\", ...rest) %}\
+    <button>{{ label }}</button>{% endcomponent Button %}";
 
 /// A context with one text.
 fn with_text(alloc: Global, name: &str, text: &str) -> TeraResult<Context> {

@@ -1,7 +1,6 @@
-use Rattle.std.proofs.Common.{◌≡◌, Bool, true, false, Ok, length, map, string_bytes, sym, ap, subst, ◌∙◌, rules, arith}
+use Rattle.std.proofs.Common.{◌≡◌, Ok, length, map, string_bytes, sym, ap, subst, ◌∙◌, rules, arith}
 use Rattle.std.specs.Vec.Iter.{into_iter_items, into_iter_len}
 use Rattle.tera.specs.Lent.{texts_of}
-use Rattle.tera_errors.specs.Site.{Name}
 use Rattle.tera_values.specs.Named.{at_name}
 use Rattle.tera_values.proofs.Contents.{none_left}
 use Rattle.tera_script.specs.Entries.{keeps, put_found}
@@ -32,14 +31,14 @@ loop-name-preserved c =
     let test : p n ≡ c.keeps.result = ap p (sym c.as_str.ensures.value) ∙ sym c.keeps.ensures in
     elim c.if-keeps.branch [
       | then-keeps+in_ok-copy w ↦ record {
-          kept = kept_next p m c.loop-name.all c.if-keeps.all n _ _ steps c.names.ensures.ascending c.loop-name.invariant.kept
-              (test ∙ w.if-keeps.true)
-              (w.all-is ∙ w.in_ok-copy.ensures.ok ∙ ap (λ k. put_found k (at_name k m) c.loop-name.all) w.as_str-then-keeps.ensures.value);
-          size = omega (arith, c.in-Some.ensures.steps.1, ap length c.in-Some.ensures.steps.0, c.loop-name.invariant.size);
-        }
+        kept = kept_next p m c.loop-name.all c.if-keeps.all n _ _ steps c.names.ensures.ascending c.loop-name.invariant.kept
+            (test ∙ w.if-keeps.true)
+            (w.all-is ∙ w.in_ok-copy.ensures.ok ∙ ap (λ k. put_found k (at_name k m) c.loop-name.all) w.as_str-then-keeps.ensures.value);
+        size = omega (arith, c.in-Some.ensures.steps.1, ap length c.in-Some.ensures.steps.0, c.loop-name.invariant.size);
+      }
       | else-keeps w ↦ record {
-          kept = subst (λ all. IsKept p m all (map string_bytes (into_iter_items c.next.new.self))) (sym w.all-is)
-              (kept_without p m c.loop-name.all n _ _ steps c.loop-name.invariant.kept (test ∙ w.if-keeps.false));
-          size = omega (arith, c.in-Some.ensures.steps.1, ap length c.in-Some.ensures.steps.0, c.loop-name.invariant.size);
-        }
+        kept = subst (λ all. IsKept p m all (map string_bytes (into_iter_items c.next.new.self))) (sym w.all-is)
+            (kept_without p m c.loop-name.all n _ _ steps c.loop-name.invariant.kept (test ∙ w.if-keeps.false));
+        size = omega (arith, c.in-Some.ensures.steps.1, ap length c.in-Some.ensures.steps.0, c.loop-name.invariant.size);
+      }
     ]

@@ -3,10 +3,10 @@ use Rattle.tera.specs.Registry.{registry_of}
 use Rattle.tera.proofs.ByComponent.{info-found, info-missing}
 use Rattle.tera.proofs.engine.Tera.get_component_definition.Goals as goal
 
-pub returns-in_ok-info : goal.returns-in_ok-info
-returns-in_ok-info c =
+pub returns-in_ok-info-in-Some : goal.returns-in_ok-info-in-Some
+returns-in_ok-info-in-Some c =
     let r = registry_of c.args.self.now in
-    ap Ok (info-found r c.args.name.now c.in-Some.found (c.in-Some.ensures r)) ∙ ap (λ i. Ok (Some i)) (let h = c.in_ok-info.ensures in cc)
+    ap Ok (info-found r c.args.name.now c.in-Some.found (c.in-Some.ensures r)) ∙ ap (λ i. Ok (Some i)) (let h = c.in_ok-info-in-Some.ensures in cc)
 
 pub returns-in-None : goal.returns-in-None
 returns-in-None c =

@@ -4,10 +4,9 @@ use Rattle.tera_errors.specs.Fault.{Fault}
 use Rattle.tera_errors.specs.Answer.{Gives}
 use Rattle.tera_state.specs.Scopes.{around_of, variables_of}
 use Rattle.tera_code.proofs.Written.{same_ok}
-use Rattle.tera_meaning.specs.Components.{component}
 use Rattle.tera.specs.Lent.{lent_text}
 use Rattle.tera.specs.Registry.{registry_of}
-use Rattle.tera.proofs.ByComponent.{code-of, component-unfit, component-runs}
+use Rattle.tera.proofs.ByComponent.{component-unfit, component-runs}
 use Rattle.tera.proofs.engine.Tera.render_found_component.Goals as goal
 
 pub returns-in-Err : goal.returns-in-Err
@@ -15,8 +14,8 @@ returns-in-Err c =
     let caller = c.new-scopes in
     component-unfit c.args.self.now c.args.args.now c.args.implicits.now (lent_text c.args.body) c.args.autoescape c.args.found (around_of caller.result) (variables_of caller.result) caller.ensures.around caller.ensures.variables c.in_ok-body.body (same_ok _ _ c.in_ok-body.ensures) c.in-Err.error c.requires c.in-Err.ensures
 
-pub returns-in-Ok : goal.returns-in-Ok
-returns-in-Ok c =
+pub returns : goal.returns
+returns c =
     let caller = c.new-scopes in
     let r = registry_of c.args.self.now in
     let is = component-runs c.args.self.now c.args.args.now c.args.implicits.now (lent_text c.args.body) c.args.autoescape c.args.found (around_of caller.result) (variables_of caller.result) caller.ensures.around caller.ensures.variables c.in_ok-body.body (same_ok _ _ c.in_ok-body.ensures) c.in-Ok.context (around_of c.enter_component.new.self) c.requires c.in-Ok.ensures c.in_ok-enter_component.ensures.around in

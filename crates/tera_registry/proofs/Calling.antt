@@ -134,4 +134,3 @@ codes_call_as_tree file body components nodes e none g =
     let of_components = sym (flat_map-map (λ (k : Definition × Listing). code_calls k.1.code) kept_of components) ∙ ap (flat_map (λ k. code_calls k.1.code)) g ∙ kept-call file nodes in
     let ds = map (λ d. d.1) (definitions nodes) in
     ap₂ (λ x y. x ++ y) own of_components ∙ ap (λ bs. nodes_call nodes ++ flat_map nodes_call (map (λ b. b.1) bs ++ ds)) (sym none)
-

@@ -25,9 +25,9 @@ bytes_eq-flip a b =
     elim (cases_Bool (bytes_eq a b)) [
       | inl same ↦ same ∙ sym ((bytes_decides b a).1 (sym ((bytes_decides a b).0 same)))
       | inr other ↦ (elim (cases_Bool (bytes_eq b a)) [
-          | inl same ↦ (let t : bytes_eq a b ≡ true = (bytes_decides a b).1 (sym ((bytes_decides b a).0 same)) in cc)
-          | inr none ↦ other ∙ sym none
-        ])
+        | inl same ↦ (let t : bytes_eq a b ≡ true = (bytes_decides a b).1 (sym ((bytes_decides b a).0 same)) in cc)
+        | inr none ↦ other ∙ sym none
+      ])
     ]
 
 -- a better one is put at its name

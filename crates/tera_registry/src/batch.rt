@@ -68,8 +68,7 @@ fn made(alloc: Global, name: &str, text: &str, output: &ParserOutput) -> TeraRes
     let tops = top_blocks(alloc, output.nodes.as_slice())?;
     let includes = includes(alloc, output.nodes.as_slice())?;
     let components = components(alloc, name, output.nodes.as_slice())?;
-    let component_calls =
-        component_calls(alloc, &body, blocks.as_slice(), components.as_slice())?;
+    let component_calls = component_calls(alloc, &body, blocks.as_slice(), components.as_slice())?;
     let lacks = any_lacks(&body, blocks.as_slice(), components.as_slice());
     Ok(Template {
         name: String::from_str(alloc, name)?,

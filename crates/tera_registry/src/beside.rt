@@ -13,7 +13,8 @@ use tera_code::{Callee, Chunk};
 fn is_own(own: &[Component], name: &str) -> bool
     ensures { result ≡ list_any (λ c. bytes_eq name.now c.definition.name) own.now }
 {
-    own.iter().any(|component| name == component.definition.name())
+    own.iter()
+        .any(|component| name == component.definition.name())
 }
 
 /// Whether a template defines a component of this name, or it is one of these.
@@ -40,11 +41,7 @@ fn misses_at(
 }
 
 /// Whether the code calls a component that is not there. Takes no memory.
-pub fn code_misses(
-    choices: &BTreeMap<String, Choice>,
-    own: &[Component],
-    chunk: &Chunk,
-) -> bool
+pub fn code_misses(choices: &BTreeMap<String, Choice>, own: &[Component], chunk: &Chunk) -> bool
     ensures { result ≡ code_misses choices.now own.now chunk.now.code }
 {
     for place in 0..chunk.len() {

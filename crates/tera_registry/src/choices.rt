@@ -70,9 +70,7 @@ fn ties(taken: &BTreeMap<String, Choice>, of: &Template, priority: usize) -> boo
     ensures { result ≡ list_any (λ c. is_tied (chosen taken.now c.definition.name) priority)
         of.now.components.items }
 {
-    of.components
-        .iter()
-        .any(|component| is_tied(taken, component.definition.name(), priority))
+    of.components.iter().any(|component| is_tied(taken, component.definition.name(), priority))
 }
 
 /// Takes the definitions of the template at a place that are better than those that were taken.
@@ -92,7 +90,12 @@ fn choose_all(
             component: number,
             priority,
         };
-        choose(alloc, taken, of.components[number].definition.name(), choice)?;
+        choose(
+            alloc,
+            taken,
+            of.components[number].definition.name(),
+            choice,
+        )?;
     }
     Ok(())
 }

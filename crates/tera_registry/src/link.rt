@@ -26,11 +26,7 @@ pub struct Links {
 }
 
 /// Links templates. Refuses those that do not go together, with the first fault by name.
-pub fn link(
-    alloc: Global,
-    templates: &[Rc<Template>],
-    prefixes: &[String],
-) -> TeraResult<Links>
+pub fn link(alloc: Global, templates: &[Rc<Template>], prefixes: &[String]) -> TeraResult<Links>
     requires { Rises (entries_of templates.now) }
     ensures answer { let r = seen templates.now prefixes.now in
         Gives (λ _. r) result (accepted r) }

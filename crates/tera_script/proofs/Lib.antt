@@ -8,3 +8,4 @@ pub mod Devices
 pub mod Sessions
 pub mod Programs
 pub mod Numbers
+pub mod Joining

@@ -16,8 +16,9 @@ fn parameters(alloc: Global, info: &ComponentInfo) -> TeraResult<Vec<&str>>
     ensures { Gives (λ names. texts_of names.items) result
         (Ok (map (λ formal. formal.name) info.now.formals)) }
 {
+    let arguments = info.args();
     let mut names = Vec::new(alloc);
-    for argument in info.args() {
+    for argument in arguments {
         names.push(argument.name())?;
     }
     Ok(names)

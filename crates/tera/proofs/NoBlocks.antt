@@ -1,10 +1,7 @@
 -- Nodes that have no block outside of all others have none.
 use Rattle.std.proofs.Common.{◌≡◌, Bool, true, false, ◌||◌, List, [], ◌∷◌, ◌++◌, Some, is_some, Result, Ok, Err, if◌then◌else◌, refl, ap₂}
-use Rattle.tera_errors.specs.Fault.{Fault, message}
-use Rattle.tera_tree.specs.Tree.{Tree, Node, Content, Print, If, Set, Capture, FilterSection, For, Block, Include, ComponentCall, Definition, Break, Continue, Nodes, NoNodes, MoreNodes}
+use Rattle.tera_tree.specs.Tree.{Node, Content, Print, If, Set, Capture, FilterSection, For, Block, Include, ComponentCall, Definition, Break, Continue, Nodes, NoNodes, MoreNodes}
 use Rattle.tera_tree.specs.Blocks.{node_blocks, blocks, node_top_blocks, top_blocks}
-use Rattle.tera_meaning.specs.Rendering.{has_some, has_a_block}
-use Rattle.tera.specs.Rendering.{allowed}
 
 both-empty : {A : Type 0} (xs ys : List A) → xs ++ ys ≡ [] → (xs ≡ []) × (ys ≡ [])
 both-empty [] ys h = (refl, h)
@@ -30,22 +27,9 @@ mutual
   node-none Break h = refl
   node-none Continue h = refl
 
-  none : (ns : Nodes) → top_blocks ns ≡ [] → blocks ns ≡ []
+  -- nodes that have none outside of all others have none
+  pub none : (ns : Nodes) → top_blocks ns ≡ [] → blocks ns ≡ []
   none NoNodes h = refl
   none (MoreNodes n rest) h =
       let s = both-empty (node_top_blocks n) (top_blocks rest) h in
       ap₂ (λ xs ys. xs ++ ys) (node-none n s.0) (none rest s.1)
-
-none-there : {A : Type 0} (xs : List A) → has_some xs ≡ false → xs ≡ []
-none-there [] h = refl
-none-there (x ∷ xs) h = (let q : true ≡ false = h in cc)
-
-unbarred : (parent block : Bool) → (let done : Result (Unit {0}) Fault = if parent || block then Err message else Ok tt in done ≡ Ok tt) → block ≡ false
-unbarred true block h = (let q : Err message ≡ Ok tt = h in cc)
-unbarred false true h = (let q : Err message ≡ Ok tt = h in cc)
-unbarred false false h = refl
-
--- a text that may be rendered beside the registry has none
-pub blocks-none : (tree : Tree) → allowed tree ≡ Ok tt → blocks tree.nodes ≡ []
-blocks-none tree h =
-    none tree.nodes (none-there (top_blocks tree.nodes) (unbarred (is_some tree.parent) (has_a_block tree.nodes) h))

@@ -1,5 +1,5 @@
 // From a text, or the code of a body, to what it renders to.
-ghost use Rattle.std.specs.Prelude.{◌≡◌, [], string_bytes};
+ghost use Rattle.std.specs.Prelude.{◌≡◌, [], OnOk, string_bytes};
 ghost use Rattle.tera_errors.specs.Answer.{Gives, GivesOneOf};
 ghost use Rattle.tera_tree.specs.Blocks.{blocks};
 ghost use Rattle.tera_tree.specs.View.{nodes_of, tree_of};
@@ -191,8 +191,10 @@ impl Tera {
 }
 
 // Refuses a text that extends a template, and one that has a block.
+#[tactic(auto, using(crate::proofs::NoBlocks::none))]
 fn allow(alloc: Global, output: &ParserOutput) -> TeraResult<()>
-    ensures { Gives (λ done. done) result (allowed (tree_of output.now)) }
+    ensures done { Gives (λ done. done) result (allowed (tree_of output.now)) }
+    ensures plain { OnOk result (blocks (nodes_of output.now.nodes.items) ≡ []) }
 {
     if output.parent.is_some() {
         return Err(Error::message(alloc, "no template may be extended here"));

@@ -1,17 +1,11 @@
-use Rattle.std.proofs.Common.{Global, Result, string_bytes, refl, ap, ◌∙◌, subst}
+use Rattle.std.proofs.Common.{Global, Result, string_bytes, refl, ap, subst}
 use Rattle.tera_errors.specs.Site.{Text}
 use Rattle.tera_errors.specs.Fault.{Fault}
 use Rattle.tera_errors.specs.Answer.{Gives}
-use Rattle.tera_tree.specs.Blocks.{blocks}
 use Rattle.tera_tree.specs.View.{nodes_of, tree_of}
 use Rattle.tera.specs.Registry.{registry_of}
-use Rattle.tera.proofs.NoBlocks.{blocks-none}
 use Rattle.tera.proofs.Renders.{refused, refused-tree, rendered, beside-means}
 use Rattle.tera.proofs.engine.Tera.read_and_render.Goals as goal
-
-pub render_nodes-requires-clause-plain : goal.render_nodes-requires-clause-plain
-render_nodes-requires-clause-plain c =
-    ap (λ ns. blocks (nodes_of ns)) c.as_slice.ensures.value ∙ blocks-none (tree_of c.in-Ok.output) c.in-Ok-allow.ensures
 
 pub returns : goal.returns
 returns c =
@@ -21,7 +15,7 @@ returns c =
 pub returns-in-Ok : goal.returns-in-Ok
 returns-in-Ok c =
     let r = registry_of c.args.self.now in
-    refused-tree r refl c.args.input.now c.args.context.now (string_bytes {Z = Global}) c.args.autoescape (tree_of c.in-Ok.output) c.in-Err-allow.error c.in-Ok.ensures.reads c.in-Err-allow.ensures
+    refused-tree r refl c.args.input.now c.args.context.now (string_bytes {Z = Global}) c.args.autoescape (tree_of c.in-Ok.output) c.in-Err-allow.error c.in-Ok.ensures.reads c.in-Err-allow.ensures.done
 
 pub returns-in-Ok-allow : goal.returns-in-Ok-allow
 returns-in-Ok-allow c =
@@ -29,4 +23,4 @@ returns-in-Ok-allow c =
     let tree = tree_of c.in-Ok.output in
     let is = beside-means c.args.self.now tree (nodes_of c.as_slice.result.now) c.args.context.now c.args.autoescape (ap nodes_of c.as_slice.ensures.value) in
     let P : Result Text Fault → Type 0 = Gives (string_bytes {Z = Global}) c.render_nodes.result in
-    rendered r refl c.args.input.now c.args.context.now (string_bytes {Z = Global}) c.args.autoescape tree c.render_nodes.result c.in-Ok.ensures.reads c.in-Ok-allow.ensures (subst P is c.render_nodes.ensures)
+    rendered r refl c.args.input.now c.args.context.now (string_bytes {Z = Global}) c.args.autoescape tree c.render_nodes.result c.in-Ok.ensures.reads c.in-Ok-allow.ensures.done (subst P is c.render_nodes.ensures)

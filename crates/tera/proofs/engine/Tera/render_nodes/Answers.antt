@@ -20,7 +20,7 @@ returns-then-lacks_a_callee g c =
     let own = ap (map kept_of) c.as_slice.ensures.value ∙ c.in_ok-own.ensures.ok in
     let lacks = c.lacks_a_callee.ensures (registry_of c.args.self.now) (let tree : Tree = record { parent = None; nodes = nodes_of c.args.nodes.now } in tree) one_off_name code own c.requires.1.1.1 in
     let same = ap (λ (s : Subject). lacks_a_callee (is_there s.world) s.tree) c.requires.1.1.0 in
-    lacking-says g.about c.message-then-lacks_a_callee.result (same ∙ sym lacks ∙ c.if-lacks_a_callee.true) c.message-then-lacks_a_callee.ensures
+    lacking-says g.about c.message.result (same ∙ sym lacks ∙ c.if-lacks_a_callee.true) c.message.ensures
 
 pub returns-then-misses_an_include : goal.returns-then-misses_an_include
 returns-then-misses_an_include g c =

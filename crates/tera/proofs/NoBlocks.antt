@@ -1,11 +1,16 @@
 -- Nodes that have no block outside of all others have none.
-use Rattle.std.proofs.Common.{◌≡◌, Bool, true, false, ◌||◌, List, [], ◌∷◌, ◌++◌, Some, is_some, Result, Ok, Err, if◌then◌else◌, refl, ap₂}
+use Rattle.std.proofs.Common.{◌≡◌, suc, List, [], ◌∷◌, ◌++◌, length, refl, ap₂}
 use Rattle.tera_tree.specs.Tree.{Node, Content, Print, If, Set, Capture, FilterSection, For, Block, Include, ComponentCall, Definition, Break, Continue, Nodes, NoNodes, MoreNodes}
 use Rattle.tera_tree.specs.Blocks.{node_blocks, blocks, node_top_blocks, top_blocks}
 
 both-empty : {A : Type 0} (xs ys : List A) → xs ++ ys ≡ [] → (xs ≡ []) × (ys ≡ [])
 both-empty [] ys h = (refl, h)
 both-empty (x ∷ xs) ys h = (let q : x ∷ (xs ++ ys) ≡ [] = h in cc)
+
+-- a list whose length is none
+pub nothing-there : {A : Type 0} (xs : List A) → length xs ≡ 0 → xs ≡ []
+nothing-there [] h = refl
+nothing-there (x ∷ xs) h = (let q : suc (length xs) ≡ 0 = h in cc)
 
 mutual
   node-none : (n : Node) → node_top_blocks n ≡ [] → node_blocks n ≡ []

@@ -191,7 +191,6 @@ impl Tera {
 }
 
 // Refuses a text that extends a template, and one that has a block.
-#[tactic(auto, using(crate::proofs::NoBlocks::none))]
 fn allow(alloc: Global, output: &ParserOutput) -> TeraResult<()>
     ensures done { Gives (λ done. done) result (allowed (tree_of output.now)) }
     ensures plain { OnOk result (blocks (nodes_of output.now.nodes.items) ≡ []) }

@@ -231,7 +231,8 @@ ok
 const UNREADABLE: &str =
     "@@ add \n@@ add a\n@@ suffix \n@@ suffix  a\n@@ suffix a \n@@ suffix a  b\n\
     @@ prefix \n@@ prefix a \n@@ prefix a\tb\n@@ render\n@@ render \n@@ render a b\n@@ template\n@@ template a b\n\
-    @@ component\n@@ component a\n@@ component a maybe\n@@ component a on \n@@ component a on  b\n@@ component  on b";
+    @@ component\n@@ component a\n@@ component a maybe\n@@ component a on \n@@ component a on  b\n@@ component  on b\n\
+    @@ preview\n@@ preview \n@@ preview maybe\n@@ preview on off";
 
 /// Whether the replies to the script are these.
 fn is_answered(alloc: Global, case: &str) -> bool {

@@ -52,6 +52,8 @@ mod memory;
 #[cfg(test)]
 mod other_delimiters;
 #[cfg(test)]
+mod previews;
+#[cfg(test)]
 mod refused_renderings;
 #[cfg(test)]
 mod refused_runs;

@@ -13,7 +13,6 @@ use Rattle.tera_values.specs.Named.{Named}
 use Rattle.tera_state.specs.Scope.{Around, Variables, in_component, look_implicit, nothing_set}
 use Rattle.tera_components.specs.Context.{component_context}
 use Rattle.tera_components.specs.Definition.{Definition, definition_of, info_of, or_message}
-use Rattle.tera_code.specs.Code.{listing_of}
 use Rattle.tera_meaning.specs.Registry.{Entry, Registry}
 use Rattle.tera_meaning.specs.Components.{Component, component_named, component_in, definer_of, component}
 use Rattle.tera_meaning.specs.Rendering.{outermost, within_context_in, render_found_component_in, render_component, render_component_in}
@@ -54,11 +53,6 @@ found-named r name found is = named-found r name (component r name) found refl i
 pub finds-itself : (r : Registry) (name : Name) (found : Defined) → IsDefined (component r name) (Some found) → IsDefined (component r found.definition.now.name) (Some found)
 finds-itself r name found is =
     subst (λ (n : Name). IsDefined (component r n) (Some found)) (sym (found-named r name found is)) is
-
--- its code is that of its body
-pub code-of : (t : Tera) (o : Option Component) (found : Defined) (around : Around) (flag : Bool) → IsDefined o (Some found) → found.chunk.now ≡ listing_of (subject_of_component t o around flag).place.file (subject_of_component t o around flag).tree
-code-of t None found around flag is = absurd is
-code-of t (Some c) found around flag is = is.code
 
 module _ (r : Registry) (caller : Around) (flag : Bool) (c : Component) where
   -- arguments that do not fit are refused

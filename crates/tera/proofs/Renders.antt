@@ -1,6 +1,6 @@
 -- A rendering beside the registry, from what the reader answered.
-use Rattle.std.proofs.Common.{◌≡◌, Bool, true, false, ◌||◌, IsTrue, [], Option, Some, None, is_some, Result, Ok, Err, if◌then◌else◌, refl, sym, ap, ap₂, ◌∙◌}
-use Rattle.tera_errors.specs.Site.{Text, Name}
+use Rattle.std.proofs.Common.{◌≡◌, Bool, true, false, ◌||◌, IsTrue, Some, None, is_some, Result, Ok, Err, if◌then◌else◌, refl, sym, ap, ap₂, ◌∙◌}
+use Rattle.tera_errors.specs.Site.{Text}
 use Rattle.tera_errors.specs.Fault.{Fault, message}
 use Rattle.tera_errors.specs.Answer.{Refusal, Says, Tells, Gives, GivesOneOf, SaysOneOf}
 use Rattle.tera_values.specs.Alphabet.{marking}
@@ -8,22 +8,18 @@ use Rattle.tera_values.specs.Escape.{escape_html}
 use Rattle.tera_values.specs.Val.{Val}
 use Rattle.tera_values.specs.Named.{Named}
 use Rattle.tera_tree.specs.Tree.{Tree, Nodes}
-use Rattle.tera_tree.specs.View.{quoted_option}
-use Rattle.tera_tree.specs.declared.quoted.Quoted.{Quoted}
 use Rattle.tera_syntax.specs.Reads.{Reads}
-use Rattle.tera_state.specs.Scope.{Around, Variables, nothing_set}
+use Rattle.tera_state.specs.Scope.{Variables, nothing_set}
 use Rattle.tera_meaning.specs.Run.{Signal, Answer, Failed, Gave, begun}
 use Rattle.tera_meaning.specs.Registry.{Registry}
 use Rattle.tera_meaning.specs.Known.{lacks_a_callee}
 use Rattle.tera_meaning.specs.Components.{one_off_name}
 use Rattle.tera_meaning.specs.Accepted.{misses_an_include}
 use Rattle.tera_machine.specs.Config.{Config, config_of, starting}
-use Rattle.tera_machine.specs.Subject.{Subject, template_of, meant, meant_from, Means}
-use Rattle.tera_machine.specs.declared.machine.VirtualMachine.{VirtualMachine}
-use Rattle.tera_meaning.specs.Whole.{Place}
+use Rattle.tera_machine.specs.Subject.{Subject, meant, meant_from, Means}
 use Rattle.tera_machine.specs.declared.configuration.Configuration.{Configuration}
 use Rattle.tera.specs.declared.engine.Tera.{Tera}
-use Rattle.tera.specs.Registry.{registry_of, place_at, place_in, subject_beside, text_meant, is_there, one_off_meant}
+use Rattle.tera.specs.Registry.{registry_of, subject_beside, text_meant, is_there, one_off_meant}
 use Rattle.tera.specs.Rendering.{OneOff, allowed}
 use Rattle.tera_meaning.specs.Rendering.{has_a_block, text_of, one_off_text, render_str, render_str_in}
 use Rattle.tera_marks.specs.Origin.{Traces}
@@ -32,11 +28,6 @@ use Rattle.tera_marks.proofs.Traced.{markup_is_traced}
 -- what a body means where nothing was written or set yet
 pub begins-means : (about : Subject) (c : Configuration) (v : Variables) → config_of c ≡ starting (begun v) → v ≡ nothing_set → meant_from about c ≡ meant about (begun nothing_set)
 begins-means about c v starts empty = ap (λ x. meant about x.run) starts ∙ ap (λ w. meant about (begun w)) empty
-
--- a machine in which no component is open runs a body where a rendering begins
-pub begins-at : (m : VirtualMachine) (file : Name) (around outer : Around) → around ≡ outer → m.depth ≡ 0 → place_in m file around ≡ place_at (template_of m) file outer m.autoescape
-begins-at m file around outer is outside =
-    ap₂ (λ a d. let p : Place = record { template = template_of m; file = file; around = a; autoescape = m.autoescape; depth = d; included = []; opened = []; above = [] } in p) is outside
 
 -- the fault that a run ends with is the answer
 pub fault-means : (meant : Answer Signal) (e : Refusal) (before after : Config) → Means meant before (Err e) after → Says e (text_of meant)
@@ -60,31 +51,9 @@ told-says : {Y : Type 0} (e : Refusal) (done : Result Y Fault) → Tells e messa
 told-says None done t h = tt
 told-says (Some fault) done t h = h ∙ ap Err (sym t)
 
--- whether a text extends a template
-quoted-is_some : (o : Option Quoted) → is_some (quoted_option o) ≡ is_some o
-quoted-is_some None = refl
-quoted-is_some (Some q) = refl
-
-abbrev barred : Bool → Result (Unit {0}) Fault
-barred b = if b then Err message else Ok tt
-
 or-true : (b c : Bool) → c ≡ true → (b || c) ≡ true
 or-true true c h = refl
 or-true false c h = h
-
--- a text that extends a template is not allowed
-pub child-says : (o : Option Quoted) (tree : Tree) (e : Refusal) → tree.parent ≡ quoted_option o → is_some o ≡ true → Tells e message → Says e (allowed tree)
-child-says o tree e parent some t =
-    told-says e (allowed tree) t (ap (λ b. barred (b || has_a_block tree.nodes)) (ap is_some parent ∙ quoted-is_some o ∙ some))
-
--- nor is one with a block
-pub block-says : (tree : Tree) (e : Refusal) → has_a_block tree.nodes ≡ true → Tells e message → Says e (allowed tree)
-block-says tree e some t =
-    told-says e (allowed tree) t (ap barred (or-true (is_some tree.parent) (has_a_block tree.nodes) some))
-
-pub allows : (o : Option Quoted) (tree : Tree) → tree.parent ≡ quoted_option o → is_some o ≡ false → has_a_block tree.nodes ≡ false → allowed tree ≡ Ok tt
-allows o tree parent none no_block =
-    ap (λ b. barred (b || has_a_block tree.nodes)) (ap is_some parent ∙ quoted-is_some o ∙ none) ∙ ap barred no_block
 
 abbrev unless : Bool → Result Text Fault → Result Text Fault
 unless b meant = if b then Err message else meant

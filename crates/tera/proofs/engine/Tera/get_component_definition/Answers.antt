@@ -1,4 +1,4 @@
-use Rattle.std.proofs.Common.{Some, Ok, sym, ap, ◌∙◌}
+use Rattle.std.proofs.Common.{Some, Ok, ap, ◌∙◌}
 use Rattle.tera.specs.Registry.{registry_of}
 use Rattle.tera.proofs.ByComponent.{info-found, info-missing}
 use Rattle.tera.proofs.engine.Tera.get_component_definition.Goals as goal

@@ -13,7 +13,7 @@ ghost use Rattle.tera_code.specs.contracts.chunk.Chunk as chunk;
 ghost use Rattle.tera_registry.specs.contracts.choices.Choice as choice;
 ghost use Rattle.tera_registry.specs.Choices.{AreChosen};
 ghost use Rattle.tera_registry.specs.Order.{Rises, Rises-prop};
-ghost use Rattle.tera_registry.specs.Links.{IsLinked};
+ghost use Rattle.tera_registry.specs.Links.{ArePlaced, IsLinked};
 ghost use Rattle.tera_registry.specs.Kept.{entries_of, seen};
 ghost use Rattle.tera_registry.specs.Batch.{ConfiguresOneOf, Adds, pairs_of};
 
@@ -24,6 +24,7 @@ use crate::components::Component;
 use crate::definers::{At, first, first_above};
 use crate::includes::misses;
 use crate::known::any_lacks;
+use crate::lineage::Up;
 use crate::link::link;
 use crate::names::resolve;
 use crate::template::Template;
@@ -41,10 +42,13 @@ pub struct Templates {
     alloc: Global,
     all: Vec<Rc<Template>>,
     prefixes: Vec<String>,
+    /// What each extends, which is looked up when they are linked and never again.
+    ups: Vec<Up>,
     roots: Vec<usize>,
     choices: BTreeMap<String, Choice>,
     ghost rises: { Rises (entries_of all.items) } by { Rises-prop _ },
     ghost accepted: { fault (seen all.items prefixes.items) ≡ None },
+    ghost placed: { ArePlaced (seen all.items prefixes.items) ups.items } by { Prim.hlevel codes },
     ghost linked: { IsLinked all.items prefixes.items roots.items } by { Prim.hlevel (codes, chunk.the_row.coded) },
     ghost chosen: { AreChosen (seen all.items prefixes.items) choices } by { Prim.hlevel (codes, choice.the_row.coded) },
 }
@@ -56,11 +60,13 @@ impl Drop for Templates {
             alloc: _,
             all,
             prefixes,
+            ups,
             roots,
             choices,
         } = self;
         drop(all);
         drop(prefixes);
+        drop(ups);
         drop(roots);
         drop(choices);
     }
@@ -176,6 +182,7 @@ impl Templates {
             alloc,
             all: Vec::new(alloc),
             prefixes,
+            ups: Vec::new(alloc),
             roots: Vec::new(alloc),
             choices: BTreeMap::new(alloc),
         }
@@ -199,6 +206,7 @@ impl Templates {
             Err(fault) => return Err(fault),
         };
         self.all = all;
+        self.ups = links.ups;
         self.roots = links.roots;
         self.choices = links.choices;
         Ok(())
@@ -226,7 +234,7 @@ impl Templates {
         ensures { (t : Entry) → slice_get (templates_of self.now) from ≡ Some t
             → started result ≡ definers_in block.now (t ∷ ancestors (registry_in self.now) t) }
     {
-        match first(self.all.as_slice(), self.prefixes.as_slice(), from, block) {
+        match first(self.all.as_slice(), self.ups.as_slice(), from, block) {
             None => None,
             Some(at) => Some(Start {
                 templates: self,
@@ -277,7 +285,7 @@ impl Templates {
         }
         let block = &blocks[at.block];
         let name = block.name.sought();
-        first_above(all, self.prefixes.as_slice(), template, &name)
+        first_above(all, self.ups.as_slice(), at.template, &name)
     }
 
     /// Whether a name resolves to a template. Takes no memory.

@@ -23,6 +23,10 @@ pub entry-among : (r : Registry) (ts : List (Rc Stored Global)) (m : ℕ) (t : R
 entry-among r ts m t u same lt is value =
     ap (λ es. slice_get es m) (sym same) ∙ entry-at-place ts m t lt is ∙ ap (λ v. Some (entry_of v)) (sym value)
 
+pub entry-is : (r : Registry) (ts : List (Rc Stored Global)) (m : ℕ) (t : Rc Stored Global) (u : Stored) (e : Entry) → entries_of ts ≡ r.templates → m < length ts → t ≡ get_or ts m t → u ≡ t.value → slice_get r.templates m ≡ Some e → entry_of u ≡ e
+entry-is r ts m t u e same lt is value at =
+    (let q : Some (entry_of u) ≡ Some e = sym (entry-among r ts m t u same lt is value) ∙ at in cc)
+
 pub length-entries : (ts : List (Rc Stored Global)) → length (entries_of ts) ≡ length ts
 length-entries [] = refl
 length-entries (t ∷ ts) = ap suc (length-entries ts)

@@ -126,7 +126,7 @@ found-placed r ups rises a = record {
         (let q : Some (slice_get (map (λ (e : Entry). e.0) r.templates) i) ≡ Some (option_map (λ (e : Entry). e.0) (resolve r n)) = same in
         let e : slice_get (map (λ (e : Entry). e.0) r.templates) i ≡ option_map (λ (e : Entry). e.0) (resolve r n) = cc in
         let lt = inside i refl in
-        (n, refl, at-its-place r i n (resolve r n) rises lt refl e, lt))
+        (n, refl, (at-its-place r i n (resolve r n) rises lt refl e, lt)))
 
 -- what the slices of a loop hold
 pub lent-ups : (r : Registry) (ups lent : List Up) → lent ≡ ups → AreUps r ups (length r.templates) → AreUps r lent (length r.templates)

@@ -9,8 +9,23 @@ use Rattle.tera_registry.proofs.Turn.{targets-rows}
 use Rattle.tera_registry.proofs.Filled.{length-all_at}
 use Rattle.tera_registry.proofs.definers.any_lacks.Goals as goal
 
-pub lacks-requires-clause-included : goal.lacks-requires-clause-included
-lacks-requires-clause-included g c = ?
+pub lacks-requires : goal.lacks-requires
+lacks-requires g c =
+    let r = g.registry in
+    let place = c.loop-place.place in
+    let there = c.loop-place-test.true in
+    let row = targets-rows c.args.edges.now place c.index-edges-place.result (omega (arith, c.requires.1.1.0, there)) c.index-edges-place.is in
+    let long = length-all_at r.templates (targets (rows c.args.edges.now) place) (c.requires.1.0.inside place) in
+    (
+      c.requires.0,
+      (
+        there,
+        (
+          λ t at. (let those = c.requires.1.0.those place t there at in omega (arith, c.len.ensures, ap length row, long, ap length those)),
+          c.requires.1.1.1,
+        ),
+      ),
+    )
 
 pub returns-then-lacks : goal.returns-then-lacks
 returns-then-lacks g c =

@@ -16,15 +16,11 @@ least_circle-requires c =
     let e = all-edges ts c.args.prefixes.now _ _ c.as_slice.ensures.value c.in_ok-edges.ensures in
     closed (seen ts c.args.prefixes.now) _ e
 
-pub roots-requires-clause-circle : goal.roots-requires-clause-circle
-roots-requires-clause-circle c =
-    let ts = c.args.templates.now in
-    let e = all-edges ts c.args.prefixes.now _ _ c.as_slice.ensures.value c.in_ok-edges.ensures in
-    first_circle (seen ts c.args.prefixes.now) _ c.in_ok-circle.circle e c.in_ok-circle.ensures
+pub roots-requires : goal.roots-requires
+roots-requires c = ?
 
-pub any_lacks-requires-clause-grounded : goal.any_lacks-requires-clause-grounded
-any_lacks-requires-clause-grounded c =
-    grounded (seen c.args.templates.now c.args.prefixes.now) (climbed-faultless (seen c.args.templates.now c.args.prefixes.now) c.in-Ok.ensures.answer)
+pub any_lacks-requires : goal.any_lacks-requires
+any_lacks-requires c = ?
 
 pub returns-then-any_lacks-clause-answer : goal.returns-then-any_lacks-clause-answer
 returns-then-any_lacks-clause-answer c =

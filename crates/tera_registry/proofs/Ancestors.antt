@@ -21,7 +21,10 @@ use Rattle.tera_registry.specs.Places.{IsPlace}
 use Rattle.tera_registry.specs.declared.template.Template.{Template as Stored}
 use Rattle.tera_registry.specs.declared.lineage.Up.{Up}
 use Rattle.tera_registry.specs.declared.lineage.Up.TheVariants as which
-use Rattle.tera_registry.specs.Links.{IsUp}
+use Rattle.tera_registry.specs.Links.{IsUp, ArePlaced}
+use Rattle.tera_registry.specs.Order.{Rises}
+use Rattle.tera_registry.specs.Kept.{entries_of, seen}
+use Rattle.tera_registry.proofs.Linked.{found-placed}
 use Rattle.tera_registry.specs.Definers.{blocks_of, from_block, from_template, from_place, from_found, above_block, above_template, above_place, IsFirst, Grounded, Climbable, ancestors_at}
 use Rattle.tera_registry.proofs.Element.{element}
 use Rattle.tera_registry.proofs.Kept.{length-entries}
@@ -204,3 +207,13 @@ up-at r ts ups i u t c lt is at =
 pub entry-there : (r : Registry) (ts : List (Rc Stored Global)) (ups : List Up) (i : ℕ) → Climbable r ts ups → i < length ts → (t : Entry) × (slice_get r.templates i ≡ Some t)
 entry-there r ts ups i c lt =
     element r.templates i (omega (arith, ap length c.same, length-entries ts))
+
+-- Templates that are accepted, where it is known what each extends.
+pub kept-climbable : (r : Registry) (ts lent_ts : List (Rc Stored Global)) (ps : List (String Global)) (ups lent_ups : List Up) → r ≡ seen ts ps → lent_ts ≡ ts → lent_ups ≡ ups → Rises (entries_of ts) → fault (seen ts ps) ≡ None → ArePlaced (seen ts ps) ups → Climbable r lent_ts lent_ups
+kept-climbable r ts lent_ts ps ups lent_ups is e f rises none placed =
+    let known = found-placed (seen ts ps) ups rises placed in
+    rw (is, e, f) (record {
+      same = refl;
+      above = known;
+      grounded = grounded (seen ts ps) (no-first-fault (seen ts ps) none);
+    })

@@ -54,12 +54,12 @@ at-entry ts k u at =
     slice_get-map (λ (v : Rc Stored Global). entry_of v.value) ts k ∙ ap (option_map (λ (v : Rc Stored Global). entry_of v.value)) at
 
 -- each template's code is that of its nodes, so that at the place of a root is that of the root
-pub linked : (ts : List (Rc Stored Global)) (ps : List (String Global)) (roots : List ℕ) → AreRoots (seen ts ps) roots (length ts) → IsLinked ts ps roots
+pub linked : (ts : List (Rc Stored Global)) (ps : List (String Global)) (roots : List ℕ) → AreRoots (seen ts ps) roots (length (entries_of ts)) → IsLinked ts ps roots
 linked ts ps roots a = record {
-  as_many = a.as_many;
+  as_many = a.as_many ∙ length-entries ts;
   inside = λ i k got.
       (let lt = slice_get_within roots i k got in
-      let t = element (entries_of ts) i (omega (arith, a.as_many, length-entries ts)) in
+      let t = element (entries_of ts) i (omega (arith, a.as_many)) in
       let within = slice_get_within (entries_of ts) k _ (a.those i k t.0 got t.1) in
       omega (arith, length-entries ts));
   those = λ i k t u got t_at u_at.
@@ -127,10 +127,6 @@ found-placed r ups rises a = record {
         let e : slice_get (map (λ (e : Entry). e.0) r.templates) i ≡ option_map (λ (e : Entry). e.0) (resolve r n) = cc in
         let lt = inside i refl in
         (n, refl, (at-its-place r i n (resolve r n) rises lt refl e, lt)))
-
--- what the slices of a loop hold
-pub lent-ups : (r : Registry) (ups lent : List Up) → lent ≡ ups → AreUps r ups (length r.templates) → AreUps r lent (length r.templates)
-lent-ups r ups lent e a = rw e a
 
 pub all-ups : (ts : List (Rc Stored Global)) (ps : List (String Global)) (ups lent : List Up) → lent ≡ ups → AreUps (seen ts ps) ups (length ts) → AreUps (seen ts ps) lent (length (entries_of ts))
 all-ups ts ps ups lent e a = rw (length-entries ts, e) a

@@ -1,7 +1,8 @@
 // Links templates, and refuses those that do not go together.
-ghost use Rattle.std.specs.Prelude.{length, IfOk};
+ghost use Rattle.std.specs.Prelude.{◌≡◌, length, IfOk};
 ghost use Rattle.tera_errors.specs.Answer.{Gives};
 ghost use Rattle.tera_meaning.specs.Adding.{accepted};
+ghost use Rattle.tera_meaning.specs.Registry.{Registry};
 ghost use Rattle.tera_registry.specs.Order.{Rises};
 ghost use Rattle.tera_registry.specs.Choices.{AreChosen};
 ghost use Rattle.tera_registry.specs.Links.{AreUps, AreRoots};
@@ -29,14 +30,13 @@ pub struct Links {
 
 /// Links templates. Refuses those that do not go together, with the first fault by name.
 pub fn link(alloc: Global, templates: &[Rc<Template>], prefixes: &[String]) -> TeraResult<Links>
-    requires { Rises (entries_of templates.now) }
-    ensures answer { let r = seen templates.now prefixes.now in
-        Gives (λ _. r) result (accepted r) }
-    ensures ups { IfOk result
-        (λ l. AreUps (seen templates.now prefixes.now) l.ups.items (length templates.now)) }
-    ensures roots { IfOk result
-        (λ l. AreRoots (seen templates.now prefixes.now) l.roots.items (length templates.now)) }
-    ensures choices { IfOk result (λ l. AreChosen (seen templates.now prefixes.now) l.choices) }
+    ghost registry: { Registry }
+    requires rises { Rises (entries_of templates.now) }
+    requires registry { registry ≡ seen templates.now prefixes.now }
+    ensures answer { Gives (λ _. registry) result (accepted registry) }
+    ensures ups { IfOk result (λ l. AreUps registry l.ups.items (length registry.templates)) }
+    ensures roots { IfOk result (λ l. AreRoots registry l.roots.items (length registry.templates)) }
+    ensures choices { IfOk result (λ l. AreChosen registry l.choices) }
 {
     let ups = all_above(alloc, templates, prefixes)?;
     let edges = edges(alloc, templates, prefixes)?;

@@ -230,9 +230,11 @@ impl Templates {
 
     /// Where the first of those stands who define a block, from a template on.
     fn first(&self, from: usize, block: &Sought<'_>) -> Option<Start<'_>>
-        requires { from < length self.now.all.items }
-        ensures { (t : Entry) → slice_get (templates_of self.now) from ≡ Some t
-            → started result ≡ definers_in block.now (t ∷ ancestors (registry_in self.now) t) }
+        ghost registry: { Registry }
+        requires registry { registry ≡ registry_in self.now }
+        requires there { from < length self.now.all.items }
+        ensures { (t : Entry) → slice_get registry.templates from ≡ Some t
+            → started result ≡ definers_in block.now (t ∷ ancestors registry t) }
     {
         match first(self.all.as_slice(), self.ups.as_slice(), from, block) {
             None => None,
@@ -272,7 +274,9 @@ impl Templates {
 
     /// Where the first of those stands who define a block above the template in which it stands.
     fn above(&self, at: At) -> Option<At>
-        ensures { from_found (registry_in self.now) result ≡ above_place (registry_in self.now) at }
+        ghost registry: { Registry }
+        requires registry { registry ≡ registry_in self.now }
+        ensures { from_found registry result ≡ above_place registry at }
     {
         let all = self.all.as_slice();
         if at.template >= all.len() {

@@ -1,8 +1,7 @@
-use Rattle.tera_registry.specs.Kept.{seen}
 use Rattle.tera_registry.proofs.link.link.Given as goal
 
 abbrev pub ghost-roots : goal.ghost-roots
-ghost-roots a = seen a.templates.now a.prefixes.now
+ghost-roots g a = g.registry
 
 abbrev pub ghost-any_lacks : goal.ghost-any_lacks
-ghost-any_lacks a = seen a.templates.now a.prefixes.now
+ghost-any_lacks g a = g.registry

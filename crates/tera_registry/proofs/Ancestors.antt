@@ -1,5 +1,5 @@
 -- The parents of a template and those of the one that it extends, and who defines a block among them.
-use Rattle.std.proofs.Common.{◌≡◌, ℕ, zero, suc, ◌<◌, List, [], ◌∷◌, ◌++◌, length, get_or, map, Option, Some, None, Result, Ok, Err, refl, sym, ap, ap₂, subst, ◌∙◌, arith, slice_get, option_map, String, Global}
+use Rattle.std.proofs.Common.{◌≡◌, ℕ, zero, suc, ◌<◌, List, [], ◌∷◌, ◌++◌, length, get_or, map, Option, Some, None, Result, Ok, Err, refl, sym, ap, ◌∙◌, arith, slice_get, option_map, String, Global}
 use Rattle.std.specs.declared.rc.Rc.{Rc}
 use Rattle.std.specs.List.{cons_option}
 use Rattle.std.specs.Option.{option_or}

@@ -1,4 +1,4 @@
-use Rattle.std.proofs.Common.{◌≡◌, Some, sym, ap, ◌∙◌, arith, length, slice_get}
+use Rattle.std.proofs.Common.{sym, ap, arith, length}
 use Rattle.std.proofs.lemmas.Map.Keys.{any_passes_from_place}
 use Rattle.tera_meaning.specs.Accepted.{lacks_something}
 use Rattle.tera_registry.specs.Walks.{rows, targets}

@@ -1,4 +1,4 @@
-use Rattle.std.proofs.Common.{◌≡◌, ◌∷◌, Some, sym, ap, ◌∙◌, slice_get}
+use Rattle.std.proofs.Common.{◌≡◌, ◌∷◌, Some, sym, ap, ◌∙◌}
 use Rattle.tera_registry.specs.declared.lineage.Up.TheVariants as up
 use Rattle.tera_meaning.specs.Lineage.{ancestors, definers_in}
 use Rattle.tera_registry.specs.Kept.{entry_of}

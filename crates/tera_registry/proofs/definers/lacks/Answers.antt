@@ -2,7 +2,6 @@ use Rattle.std.proofs.Common.{◌≡◌, Bool, true, false, ◌||◌, length, re
 use Rattle.tera_meaning.specs.Accepted.{is_component, includes_of, loses_a_block, misses_an_include}
 use Rattle.tera_meaning.specs.Known.{lacks_a_callee}
 use Rattle.tera_meaning.specs.Registry.{Entry}
-use Rattle.tera_registry.specs.Kept.{entry_of}
 use Rattle.tera_registry.proofs.Kept.{entry-is}
 use Rattle.tera_registry.proofs.definers.lacks.Goals as goal
 use Rattle.tera_registry.proofs.definers.lacks.Goals.{then-loses, else-loses}

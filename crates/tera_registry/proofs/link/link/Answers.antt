@@ -1,5 +1,4 @@
-use Rattle.std.proofs.Common.{◌≡◌, ℕ, length, Vec, Global, refl, sym, ap, subst, ◌∙◌}
-use Rattle.std.proofs.lemmas.List.{length-map}
+use Rattle.std.proofs.Common.{◌≡◌, length, refl, sym, ap, subst, ◌∙◌}
 use Rattle.tera_meaning.specs.Adding.{accepted}
 use Rattle.tera_meaning.specs.Registry.{Registry}
 use Rattle.tera_registry.specs.Choices.{AreChosen, IsFirstTie}
@@ -8,6 +7,7 @@ use Rattle.tera_registry.specs.Walks.{rows}
 use Rattle.tera_registry.specs.Links.{AreUps}
 use Rattle.tera_registry.specs.Kept.{seen}
 use Rattle.tera_registry.proofs.Ancestors.{grounded}
+use Rattle.tera_registry.proofs.Turn.{length-rows}
 use Rattle.tera_registry.proofs.Linked.{all-ups}
 use Rattle.tera_registry.proofs.Circles.{all-edges, closed, first_circle}
 use Rattle.tera_registry.proofs.Checked.{climbed-says, climbed-faultless, lacks-says, keeps-all, told}
@@ -53,7 +53,7 @@ any_lacks-requires g c =
       (
         subst (λ (r : Registry). AreEdges r (rows c.as_slice-4.result.now) (length ts)) here edges,
         (
-          sym (length-map (λ (v : Vec ℕ Global). v.items) c.as_slice-4.result.now) ∙ edges.as_many,
+          sym (length-rows c.as_slice-4.result.now) ∙ edges.as_many,
           subst (λ (r : Registry). AreChosen r c.in_ok-choices.field-0.choices) here c.in_ok-choices.ensures.taken,
         ),
       ),

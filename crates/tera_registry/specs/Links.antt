@@ -32,17 +32,18 @@ pub record AreUps (r : Registry) (ups : List Up) (many : ℕ) : Type 0 where
   pub as_many : length ups ≡ many
   pub those : (i : ℕ) (u : Up) (t : Entry) → slice_get ups i ≡ Some u → slice_get r.templates i ≡ Some t → IsUp r u t.1.tree.parent
 
--- the name of what stands there, where something is named
+-- the name of the template at the place of what one extends, where it extends something
 abbrev pub name_at : List Entry → Up → Option (Option Name)
 name_at ts up.Nothing = None
 name_at ts up.Missing = Some None
 name_at ts (up.At i) = Some (slice_get (map (λ t. t.0) ts) i)
 
--- the name of what a template extends, where it extends something
+-- the name of the template to which the name resolves that one extends, where it extends something
 abbrev pub name_above : Registry → Option Name → Option (Option Name)
 name_above r = option_map (λ n. option_map (λ t. t.0) (resolve r n))
 
--- these are those of all templates, said by names: at the place of each template's parent stands that parent
+-- These are those of all templates, said by names: where a template extends one, that one stands at the place. Names are
+-- enough, since no two templates share one.
 pub record ArePlaced (r : Registry) (ups : List Up) : Type 0 where
   pub as_many : length ups ≡ length r.templates
   pub inside : (i j : ℕ) → slice_get ups i ≡ Some (up.At j) → j < length r.templates

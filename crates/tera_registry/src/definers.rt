@@ -41,12 +41,7 @@ fn own(template: &Template, block: &Sought<'_>) -> Option<usize>
 }
 
 /// Where the first of those stands who define a block, from a template on: itself, then its parents.
-pub fn first(
-    templates: &[Rc<Template>],
-    ups: &[Up],
-    from: usize,
-    block: &Sought<'_>,
-) -> Option<At>
+pub fn first(templates: &[Rc<Template>], ups: &[Up], from: usize, block: &Sought<'_>) -> Option<At>
     ghost registry: { Registry }
     requires climbable { Climbable registry templates.now ups.now }
     requires there { from < length templates.now }

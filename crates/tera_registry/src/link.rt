@@ -29,6 +29,7 @@ pub struct Links {
 }
 
 /// Links templates. Refuses those that do not go together, with the first fault by name.
+// The registry is named, since what is called here sees no prefixes.
 pub fn link(alloc: Global, templates: &[Rc<Template>], prefixes: &[String]) -> TeraResult<Links>
     ghost registry: { Registry }
     requires rises { Rises (entries_of templates.now) }
@@ -52,5 +53,9 @@ pub fn link(alloc: Global, templates: &[Rc<Template>], prefixes: &[String]) -> T
             "a template has a block that none of its parents has, or names what is not there",
         ));
     }
-    Ok(Links { ups, roots, choices })
+    Ok(Links {
+        ups,
+        roots,
+        choices,
+    })
 }

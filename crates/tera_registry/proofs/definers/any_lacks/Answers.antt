@@ -15,8 +15,7 @@ lacks-requires g c =
     let place = c.loop-place.place in
     let there = c.loop-place-test.true in
     let row = targets-rows c.args.edges.now place c.index-edges-place.result (omega (arith, c.requires.1.1.0, there)) c.index-edges-place.is in
-    let long = length-all_at r.templates (targets (rows c.args.edges.now) place) (c.requires.1.0.inside place) in
-    (
+    let long = length-all_at r.templates (targets (rows c.args.edges.now) place) (c.requires.1.0.inside place) in (
       c.requires.0,
       (
         there,

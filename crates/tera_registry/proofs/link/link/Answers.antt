@@ -28,8 +28,7 @@ roots-requires g c =
     let ps = c.args.prefixes.now in
     let here : seen ts ps ≡ g.registry = sym c.requires.1 in
     let e = all-edges ts ps _ _ c.as_slice.ensures.value c.in_ok-edges.ensures in
-    let ups = all-ups ts ps _ _ c.as_slice-2.ensures.value c.in_ok-ups.ensures in
-    (
+    let ups = all-ups ts ps _ _ c.as_slice-2.ensures.value c.in_ok-ups.ensures in (
       subst (λ (r : Registry). AreUps r c.as_slice-2.result.now (length r.templates)) here ups,
       (
         subst (λ (r : Registry). IsFirstCircle r c.in_ok-circle.circle) here (first_circle (seen ts ps) _ c.in_ok-circle.circle e c.in_ok-circle.ensures),
@@ -43,8 +42,7 @@ any_lacks-requires g c =
     let ps = c.args.prefixes.now in
     let here : seen ts ps ≡ g.registry = sym c.requires.1 in
     let ups = all-ups ts ps _ _ c.as_slice-3.ensures.value c.in_ok-ups.ensures in
-    let edges : AreEdges (seen ts ps) (rows c.as_slice-4.result.now) (length ts) = rw c.as_slice-4.ensures.value c.in_ok-edges.ensures in
-    (
+    let edges : AreEdges (seen ts ps) (rows c.as_slice-4.result.now) (length ts) = rw c.as_slice-4.ensures.value c.in_ok-edges.ensures in (
       record {
         same = ap (λ (r : Registry). r.templates) here;
         above = subst (λ (r : Registry). AreUps r c.as_slice-3.result.now (length r.templates)) here ups;

@@ -8,8 +8,7 @@ use Rattle.tera_registry.proofs.templates.Templates.above.Goals as goal
 
 pub first_above-requires : goal.first_above-requires
 first_above-requires g c =
-    let self = c.args.self.now in
-    (
+    let self = c.args.self.now in (
       kept-climbable g.registry self.all.items c.as_slice-all.result.now self.prefixes.items self.ups.items c.as_slice.result.now c.requires c.as_slice-all.ensures.value c.as_slice.ensures.value self.rises self.accepted self.placed,
       c.if-at-all.false,
     )

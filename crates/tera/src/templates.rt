@@ -3,11 +3,13 @@ ghost use Rattle.std.specs.Prelude.{◌≡◌, Ok, [], ◌∷◌, is_some, map, 
 ghost use Rattle.tera_errors.specs.Answer.{Gives, GivesOneOf};
 ghost use Rattle.tera_meaning.specs.Rendering.{autoescapes};
 ghost use Rattle.tera_meaning.specs.Resolve.{resolve};
+ghost use Rattle.tera_meaning.specs.Variables.{AnswersVariables};
 ghost use Rattle.tera_registry.specs.Batch.{Adds, ConfiguresOneOf, pairs_of};
 ghost use Rattle.tera.specs.Rendering.{ByName, BlockByName, AppendsOneOf};
 
 use crate::engine::Tera;
 use crate::texts::ends_with_one_of;
+use std::collections::BTreeSet;
 use tera_registry::Found;
 use tera_values::{Context, Error, Name, TeraResult};
 
@@ -43,6 +45,16 @@ impl Tera {
         ensures { Gives (λ v. map string_bytes v.items) result (Ok (map (λ t. t.0) (registry_of self.now).templates)) }
     {
         self.templates.names()
+    }
+
+    /// The names that the template to which the name resolves wants to be given, each once: those that its text, its blocks, its
+    /// parents, and all that these include look up, where nothing binds them that stands before in the same text, or around. A
+    /// name that begins with `__tera_` is none, nor is one that components alone look up.
+    pub fn get_template_variables(&self, name: &str) -> TeraResult<BTreeSet<String>>
+        ensures { GivesOneOf (λ s. map string_bytes s.keys) result
+            (AnswersVariables (registry_of self.now) (resolve (registry_of self.now) name.now)) }
+    {
+        self.templates.variables(name)
     }
 
     /// Renders the template to which the name resolves: the text of the last of its parents, or its own where it has none, with the

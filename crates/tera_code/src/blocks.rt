@@ -47,7 +47,8 @@ fn add_all(alloc: Global, file: &str, nodes: &[Node], found: &mut Vec<Block>) ->
 #[cycle(blocks)]
 fn add(alloc: Global, file: &str, node: &Node, found: &mut Vec<Block>) -> TeraResult<()>
     ensures ok { OnOk result (map block_of found.new.items
-        ≡ map block_of found.old.items ++ block_listings file.now (node_blocks (node_of node.now))) }
+        ≡ map block_of found.old.items ++ block_listings file.now
+        (node_blocks (node_of node.now))) }
     ensures lacks { IfErr result Lacks }
 {
     match node {
@@ -78,7 +79,8 @@ fn add(alloc: Global, file: &str, node: &Node, found: &mut Vec<Block>) -> TeraRe
 }
 
 fn made(alloc: Global, file: &str, name: &str, body: &[Node]) -> TeraResult<Block>
-    ensures ok { IfOk result (λ b. block_of b ≡ block_listing file.now (name.now, nodes_of body.now)) }
+    ensures ok { IfOk result (λ b. block_of b
+        ≡ block_listing file.now (name.now, nodes_of body.now)) }
     ensures lacks { IfErr result Lacks }
 {
     Ok(Block {

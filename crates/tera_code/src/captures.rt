@@ -18,7 +18,8 @@ use tera_values::{Name, Span, TeraResult};
 impl Compiler {
     // The value becomes that of the name.
     pub(crate) fn set(&mut self, name: &str, value: &Expression, is_global: bool) -> TeraResult<()>
-        ensures ok { OnOk result (self.new ≡ lengthened self.old (node_code (Set name.now (expr_of value.now) is_global) 0)) }
+        ensures ok { OnOk result (self.new ≡ lengthened self.old
+            (node_code (Set name.now (expr_of value.now) is_global) 0)) }
         ensures lacks { IfErr result Lacks }
     {
         self.expression(value)?;
@@ -29,7 +30,8 @@ impl Compiler {
     #[cycle(nodes)]
     pub(crate) fn capturing(&mut self, node: &Node, drops: usize) -> TeraResult<()>
         requires { captures_body (node_of node.now) ≡ true }
-        ensures ok { OnOk result (self.new ≡ lengthened self.old (node_code (node_of node.now) drops)) }
+        ensures ok { OnOk result (self.new ≡ lengthened self.old
+            (node_code (node_of node.now) drops)) }
         ensures lacks { IfErr result Lacks }
     {
         match node {
@@ -79,7 +81,8 @@ impl Compiler {
     #[cycle(nodes)]
     pub(crate) fn captured(&mut self, body: &[Node], span: Span, drops: usize) -> TeraResult<()>
         ensures ok { OnOk result (self.new
-            ≡ lengthened self.old (captured_code (nodes_code (nodes_of body.now) (suc drops)) span)) }
+            ≡ lengthened self.old (captured_code (nodes_code (nodes_of body.now) (suc drops))
+            span)) }
         ensures lacks { IfErr result Lacks }
     {
         self.emit(Instruction::StartCapture)?;
@@ -89,7 +92,8 @@ impl Compiler {
 
     // The operand on top becomes the value of the name.
     pub(crate) fn store(&mut self, name: &str, is_global: bool) -> TeraResult<()>
-        ensures ok { OnOk result (self.new ≡ lengthened self.old (instruction.Store name.now is_global ∷ [])) }
+        ensures ok { OnOk result (self.new ≡ lengthened self.old
+            (instruction.Store name.now is_global ∷ [])) }
         ensures lacks { IfErr result Lacks }
     {
         let name = Name::new(self.alloc(), name)?;

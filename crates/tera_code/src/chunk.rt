@@ -36,7 +36,11 @@ impl Model for Chunk {
 
     ghost coded = { Prim.hlevel (codes, val_code) };
 
-    ghost view = { λ c. record { file = c.file; code = map (unpacked (shelf_of c.tables)) c.code.items } };
+    ghost view = { λ c. record {
+      file = c.file;
+      code = map (unpacked (shelf_of c.tables))
+          c.code.items;
+    } };
 
     ghost invariant = { λ c. All (Within (shelf_of c.tables)) c.code.items };
 }
@@ -64,9 +68,11 @@ impl Chunk {
     /// The instruction at this place, from 0, which is counted where there is one. No other call hands one out.
     #[inline(always)]
     pub fn get<L: Ledger>(&self, at: usize, steps: &mut Steps<L>) -> Option<LentInstruction<'_>>
-        ensures found { MatchOption result (slice_get self.now.code at ≡ None) (λ i. slice_get self.now.code at ≡ Some i) }
+        ensures found { MatchOption result (slice_get self.now.code at ≡ None)
+            (λ i. slice_get self.now.code at ≡ Some i) }
         ensures small { IfSome result (λ _. length self.now.code < 2 ^ 64) }
-        ensures count { MatchOption result (steps.new ≡ steps.old) (λ _. steps.new ≡ steps.old + 1) }
+        ensures count { MatchOption result (steps.new ≡ steps.old)
+            (λ _. steps.new ≡ steps.old + 1) }
     {
         match self.code.get(at) {
             None => None,

@@ -119,14 +119,16 @@ impl Compiler {
     }
 
     pub(crate) fn constant(&mut self, constant: Constant<'_>, span: Span) -> TeraResult<()>
-        ensures ok { OnOk result (self.new ≡ lengthened self.old (instruction.LoadConst constant.entry span ∷ [])) }
+        ensures ok { OnOk result (self.new ≡ lengthened self.old
+            (instruction.LoadConst constant.entry span ∷ [])) }
         ensures lacks { IfErr result Lacks }
     {
         self.emit(Instruction::LoadConst(constant, span))
     }
 
     pub(crate) fn integer(&mut self, number: i128, span: Span) -> TeraResult<()>
-        ensures ok { OnOk result (self.new ≡ lengthened self.old (instruction.LoadConst (val.int number) span ∷ [])) }
+        ensures ok { OnOk result (self.new ≡ lengthened self.old
+            (instruction.LoadConst (val.int number) span ∷ [])) }
         ensures lacks { IfErr result Lacks }
     {
         match i64::try_from(number) {

@@ -15,7 +15,8 @@ use tera_values::{Span, TeraResult};
 impl Compiler {
     #[cycle(expressions)]
     pub(crate) fn expression(&mut self, expression: &Expression) -> TeraResult<()>
-        ensures ok { OnOk result (self.new ≡ lengthened self.old (expr_code (expr_of expression.now))) }
+        ensures ok { OnOk result (self.new ≡ lengthened self.old
+            (expr_code (expr_of expression.now))) }
         ensures lacks { IfErr result Lacks }
     {
         match expression {
@@ -47,7 +48,8 @@ impl Compiler {
     #[cycle(expressions)]
     fn access(&mut self, expression: &Expression) -> TeraResult<()>
         requires { group (expr_of expression.now) ≡ Access }
-        ensures ok { OnOk result (self.new ≡ lengthened self.old (expr_code (expr_of expression.now))) }
+        ensures ok { OnOk result (self.new ≡ lengthened self.old
+            (expr_code (expr_of expression.now))) }
         ensures lacks { IfErr result Lacks }
     {
         match expression {
@@ -96,7 +98,8 @@ impl Compiler {
     #[cycle(expressions)]
     fn operation(&mut self, expression: &Expression) -> TeraResult<()>
         requires { group (expr_of expression.now) ≡ Operation }
-        ensures ok { OnOk result (self.new ≡ lengthened self.old (expr_code (expr_of expression.now))) }
+        ensures ok { OnOk result (self.new ≡ lengthened self.old
+            (expr_code (expr_of expression.now))) }
         ensures lacks { IfErr result Lacks }
     {
         match expression {
@@ -126,7 +129,8 @@ impl Compiler {
     #[cycle(expressions)]
     fn branch(&mut self, expression: &Expression) -> TeraResult<()>
         requires { group (expr_of expression.now) ≡ Branch }
-        ensures ok { OnOk result (self.new ≡ lengthened self.old (expr_code (expr_of expression.now))) }
+        ensures ok { OnOk result (self.new ≡ lengthened self.old
+            (expr_code (expr_of expression.now))) }
         ensures lacks { IfErr result Lacks }
     {
         match expression {
@@ -163,7 +167,8 @@ impl Compiler {
     #[cycle(expressions)]
     fn collection(&mut self, expression: &Expression) -> TeraResult<()>
         requires { group (expr_of expression.now) ≡ Collection }
-        ensures ok { OnOk result (self.new ≡ lengthened self.old (expr_code (expr_of expression.now))) }
+        ensures ok { OnOk result (self.new ≡ lengthened self.old
+            (expr_code (expr_of expression.now))) }
         ensures lacks { IfErr result Lacks }
     {
         match expression {
@@ -181,7 +186,8 @@ impl Compiler {
 
     #[cycle(expressions)]
     fn bound(&mut self, bound: &Option<Box<Expression>>) -> TeraResult<()>
-        ensures ok { OnOk result (self.new ≡ lengthened self.old (bound_code (optional_of bound.now))) }
+        ensures ok { OnOk result (self.new ≡ lengthened self.old
+            (bound_code (optional_of bound.now))) }
         ensures lacks { IfErr result Lacks }
     {
         match bound {
@@ -192,7 +198,8 @@ impl Compiler {
 
     #[cycle(expressions)]
     fn items(&mut self, items: &[Item]) -> TeraResult<()>
-        ensures ok { OnOk result (self.new ≡ lengthened self.old (items_code (items_of items.now))) }
+        ensures ok { OnOk result (self.new ≡ lengthened self.old
+            (items_code (items_of items.now))) }
         ensures lacks { IfErr result Lacks }
     {
         for item in items {
@@ -203,7 +210,8 @@ impl Compiler {
 
     #[cycle(expressions)]
     pub(crate) fn entries(&mut self, entries: &[Entry]) -> TeraResult<()>
-        ensures ok { OnOk result (self.new ≡ lengthened self.old (entries_code (entries_of entries.now))) }
+        ensures ok { OnOk result (self.new ≡ lengthened self.old
+            (entries_code (entries_of entries.now))) }
         ensures lacks { IfErr result Lacks }
     {
         for entry in entries {

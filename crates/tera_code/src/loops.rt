@@ -19,7 +19,8 @@ impl Compiler {
     #[cycle(expressions)]
     pub(crate) fn comprehension(&mut self, expression: &Expression) -> TeraResult<()>
         requires { group (expr_of expression.now) ≡ Loop }
-        ensures ok { OnOk result (self.new ≡ lengthened self.old (expr_code (expr_of expression.now))) }
+        ensures ok { OnOk result (self.new ≡ lengthened self.old
+            (expr_code (expr_of expression.now))) }
         ensures lacks { IfErr result Lacks }
     {
         match expression {
@@ -53,7 +54,8 @@ impl Compiler {
 
     fn end_comprehension(&mut self, start: usize, heading: &Heading, span: Span) -> TeraResult<()>
         requires { start < length self.old.code }
-        ensures ok { OnOk result (self.new ≡ lengthened (looped start heading.now false self.old) (instruction.EndComprehension span ∷ instruction.MakeArray [] span ∷ [])) }
+        ensures ok { OnOk result (self.new ≡ lengthened (looped start heading.now false self.old)
+            (instruction.EndComprehension span ∷ instruction.MakeArray [] span ∷ [])) }
         ensures lacks { IfErr result Lacks }
     {
         self.end_turns(start, heading, false)?;

@@ -19,7 +19,8 @@ use tera_values::{Name, Span, TeraResult};
 impl Compiler {
     /// The instructions of the nodes, one after another, behind those that are there. After a refusal some may be missing.
     pub fn compile(&mut self, nodes: &[Node]) -> TeraResult<()>
-        ensures ok { OnOk result (self.new ≡ lengthened self.old (nodes_code (nodes_of nodes.now) 0)) }
+        ensures ok { OnOk result (self.new ≡ lengthened self.old
+            (nodes_code (nodes_of nodes.now) 0)) }
         ensures lacks { IfErr result Lacks }
     {
         self.nodes(nodes, 0)
@@ -36,7 +37,8 @@ impl Compiler {
     // Nodes inside so many captures of the innermost loop.
     #[cycle(nodes)]
     pub(crate) fn nodes(&mut self, nodes: &[Node], drops: usize) -> TeraResult<()>
-        ensures ok { OnOk result (self.new ≡ lengthened self.old (nodes_code (nodes_of nodes.now) drops)) }
+        ensures ok { OnOk result (self.new ≡ lengthened self.old
+            (nodes_code (nodes_of nodes.now) drops)) }
         ensures lacks { IfErr result Lacks }
     {
         for node in nodes {
@@ -47,7 +49,8 @@ impl Compiler {
 
     #[cycle(nodes)]
     fn node(&mut self, node: &Node, drops: usize) -> TeraResult<()>
-        ensures ok { OnOk result (self.new ≡ lengthened self.old (node_code (node_of node.now) drops)) }
+        ensures ok { OnOk result (self.new ≡ lengthened self.old
+            (node_code (node_of node.now) drops)) }
         ensures lacks { IfErr result Lacks }
     {
         match node {
@@ -78,7 +81,8 @@ impl Compiler {
     #[cycle(nodes)]
     fn branching(&mut self, node: &Node, drops: usize) -> TeraResult<()>
         requires { has_other_body (node_of node.now) ≡ true }
-        ensures ok { OnOk result (self.new ≡ lengthened self.old (node_code (node_of node.now) drops)) }
+        ensures ok { OnOk result (self.new ≡ lengthened self.old
+            (node_code (node_of node.now) drops)) }
         ensures lacks { IfErr result Lacks }
     {
         match node {
@@ -149,7 +153,8 @@ impl Compiler {
     }
 
     fn print(&mut self, value: &Expression) -> TeraResult<()>
-        ensures ok { OnOk result (self.new ≡ lengthened self.old (node_code (Print (expr_of value.now)) 0)) }
+        ensures ok { OnOk result (self.new ≡ lengthened self.old
+            (node_code (Print (expr_of value.now)) 0)) }
         ensures lacks { IfErr result Lacks }
     {
         match named(value) {
@@ -174,7 +179,8 @@ pub fn compiled(alloc: Global, file: &str, nodes: &[Node]) -> TeraResult<Chunk>
 
 // The name that an expression is, if it is one that is looked up.
 fn named<'s>(expression: &Expression<'s>) -> Option<(&'s str, Span)>
-    ensures { MatchOption result (named (expr_of expression.now) ≡ None) (λ p. named (expr_of expression.now) ≡ Some (p.0.now, p.1)) }
+    ensures { MatchOption result (named (expr_of expression.now) ≡ None)
+        (λ p. named (expr_of expression.now) ≡ Some (p.0.now, p.1)) }
 {
     match expression {
         Expression::Name { name, span } => {

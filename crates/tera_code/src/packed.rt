@@ -225,7 +225,8 @@ impl Tables {
 
     pub(crate) fn text(&mut self, text: &str) -> TeraResult<Packed>
         ensures grows { Grows (shelf_of self.old) (shelf_of self.new) }
-        ensures ok { IfOk result (λ p. Packs (shelf_of self.new) p (instruction.WriteText text.now)) }
+        ensures ok { IfOk result (λ p. Packs (shelf_of self.new) p
+            (instruction.WriteText text.now)) }
         ensures lacks { IfErr result Lacks }
     {
         let start = small(self.pool.len())?;
@@ -236,7 +237,8 @@ impl Tables {
 
     fn constant(&mut self, constant: &Constant<'_>, span: Span) -> TeraResult<Packed>
         ensures grows { Grows (shelf_of self.old) (shelf_of self.new) }
-        ensures ok { IfOk result (λ p. Packs (shelf_of self.new) p (instruction.LoadConst constant.now span)) }
+        ensures ok { IfOk result (λ p. Packs (shelf_of self.new) p
+            (instruction.LoadConst constant.now span)) }
         ensures lacks { IfErr result Lacks }
     {
         let span = number(&mut self.spans, span)?;
@@ -293,7 +295,8 @@ impl Tables {
 
     fn make_array(&mut self, alloc: Global, spreads: &Spreads<'_>, span: Span) -> TeraResult<Packed>
         ensures grows { Grows (shelf_of self.old) (shelf_of self.new) }
-        ensures ok { IfOk result (λ p. Packs (shelf_of self.new) p (instruction.MakeArray spreads.now span)) }
+        ensures ok { IfOk result (λ p. Packs (shelf_of self.new) p
+            (instruction.MakeArray spreads.now span)) }
         ensures lacks { IfErr result Lacks }
     {
         let mut flags = Vec::new(alloc);
@@ -305,7 +308,8 @@ impl Tables {
 
     fn make_map(&mut self, alloc: Global, keys: &Keys<'_>, span: Span) -> TeraResult<Packed>
         ensures grows { Grows (shelf_of self.old) (shelf_of self.new) }
-        ensures ok { IfOk result (λ p. Packs (shelf_of self.new) p (instruction.MakeMap keys.now span)) }
+        ensures ok { IfOk result (λ p. Packs (shelf_of self.new) p
+            (instruction.MakeMap keys.now span)) }
         ensures lacks { IfErr result Lacks }
     {
         let keys = copies(alloc, keys.as_slice())?;
@@ -316,7 +320,8 @@ impl Tables {
 
     fn store(&mut self, name: &LentName<'_>, is_global: bool) -> TeraResult<Packed>
         ensures grows { Grows (shelf_of self.old) (shelf_of self.new) }
-        ensures ok { IfOk result (λ p. Packs (shelf_of self.new) p (instruction.Store name.now is_global)) }
+        ensures ok { IfOk result (λ p. Packs (shelf_of self.new) p
+            (instruction.Store name.now is_global)) }
         ensures lacks { IfErr result Lacks }
     {
         let name = number(&mut self.names, name.share()?)?;
@@ -325,7 +330,8 @@ impl Tables {
 
     fn take_block(&mut self, name: &LentName<'_>, span: Span) -> TeraResult<Packed>
         ensures grows { Grows (shelf_of self.old) (shelf_of self.new) }
-        ensures ok { IfOk result (λ p. Packs (shelf_of self.new) p (instruction.TakeBlock name.now span)) }
+        ensures ok { IfOk result (λ p. Packs (shelf_of self.new) p
+            (instruction.TakeBlock name.now span)) }
         ensures lacks { IfErr result Lacks }
     {
         let name = number(&mut self.names, name.share()?)?;
@@ -377,7 +383,8 @@ impl Tables {
         size: usize,
     ) -> TeraResult<Packed>
         ensures grows { Grows (shelf_of self.old) (shelf_of self.new) }
-        ensures ok { IfOk result (λ p. Packs (shelf_of self.new) p (instruction.StartLoop key.now name.now counts size)) }
+        ensures ok { IfOk result (λ p. Packs (shelf_of self.new) p
+            (instruction.StartLoop key.now name.now counts size)) }
         ensures lacks { IfErr result Lacks }
     {
         let names = LoopNames {

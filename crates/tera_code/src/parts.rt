@@ -18,7 +18,8 @@ use tera_values::{Sought, Span, TeraResult, Value};
 
 impl Compiler {
     pub(crate) fn text(&mut self, text: &str, span: Span) -> TeraResult<()>
-        ensures ok { OnOk result (self.new ≡ lengthened self.old (instruction.LoadConst (val.text text.now false) span ∷ [])) }
+        ensures ok { OnOk result (self.new ≡ lengthened self.old
+            (instruction.LoadConst (val.text text.now false) span ∷ [])) }
         ensures lacks { IfErr result Lacks }
     {
         let value = Value::string(self.alloc(), text)?.shared(self.alloc())?;
@@ -37,7 +38,8 @@ impl Compiler {
     }
 
     pub(crate) fn attribute(&mut self, name: &str, optional: bool, span: Span) -> TeraResult<()>
-        ensures ok { OnOk result (self.new ≡ lengthened self.old (instruction.LoadAttribute name.now optional span ∷ [])) }
+        ensures ok { OnOk result (self.new ≡ lengthened self.old
+            (instruction.LoadAttribute name.now optional span ∷ [])) }
         ensures lacks { IfErr result Lacks }
     {
         self.emit(Instruction::LoadAttribute {
@@ -60,7 +62,8 @@ impl Compiler {
     }
 
     pub(crate) fn make_array(&mut self, items: &[Item], span: Span) -> TeraResult<()>
-        ensures ok { OnOk result (self.new ≡ lengthened self.old (instruction.MakeArray (spreads_of (items_of items.now)) span ∷ [])) }
+        ensures ok { OnOk result (self.new ≡ lengthened self.old
+            (instruction.MakeArray (spreads_of (items_of items.now)) span ∷ [])) }
         ensures lacks { IfErr result Lacks }
     {
         let spreads = spreads(self.alloc(), items)?;
@@ -68,7 +71,8 @@ impl Compiler {
     }
 
     pub(crate) fn make_map(&mut self, entries: &[Entry], span: Span) -> TeraResult<()>
-        ensures ok { OnOk result (self.new ≡ lengthened self.old (instruction.MakeMap (keys_in (entries_of entries.now)) span ∷ [])) }
+        ensures ok { OnOk result (self.new ≡ lengthened self.old
+            (instruction.MakeMap (keys_in (entries_of entries.now)) span ∷ [])) }
         ensures lacks { IfErr result Lacks }
     {
         let keys = keys(self.alloc(), entries)?;

@@ -32,7 +32,12 @@ impl Model for ComponentArg {
 
     ghost coded = { formal_code };
 
-    ghost view = { λ a. record { name = a.name; is_implicit = a.is_implicit; of_type = a.of_type; default = a.default } };
+    ghost view = { λ a. record {
+      name = a.name;
+      is_implicit = a.is_implicit;
+      of_type = a.of_type;
+      default = a.default;
+    } };
 }
 
 fn is_of_type(value: &Value, of_type: ArgumentType) -> bool

@@ -22,7 +22,8 @@ impl<'s, F: Fn(Global, &mut Tokens<'_, 's>, usize, u8) -> Result<Deep<'s>, Refus
         start: usize,
         x: Deep<'s>,
     ) -> Result<Deep<'s>, Refusal>
-        ensures { Takes deep_of (spec.attribute self.now.limit (spec.expr self.now.below) optional start (deep_of x.entry) (input tokens.old)) result tokens.new }
+        ensures { Takes deep_of (spec.attribute self.now.limit (spec.expr self.now.below)
+            optional start (deep_of x.entry) (input tokens.old)) result tokens.new }
     {
         tokens.take();
         if !is_word(tokens.kind()) {
@@ -46,7 +47,8 @@ impl<'s, F: Fn(Global, &mut Tokens<'_, 's>, usize, u8) -> Result<Deep<'s>, Refus
         x: Deep<'s>,
     ) -> Result<Deep<'s>, Refusal>
         requires { Nests self.now.below (F.pre self.now.expr) (F.post self.now.expr) }
-        ensures { Takes deep_of (spec.subscript self.now.limit (spec.expr self.now.below) optional start (deep_of x.entry) (input tokens.old)) result tokens.new }
+        ensures { Takes deep_of (spec.subscript self.now.limit (spec.expr self.now.below)
+            optional start (deep_of x.entry) (input tokens.old)) result tokens.new }
     {
         tokens.take();
         let p = self.part(tokens)?;
@@ -62,7 +64,8 @@ impl<'s, F: Fn(Global, &mut Tokens<'_, 's>, usize, u8) -> Result<Deep<'s>, Refus
     #[tactic(auto, unfolding(crate::specs::Expressions::part))]
     pub(crate) fn part(&self, tokens: &mut Tokens<'_, 's>) -> Result<Part<'s>, Refusal>
         requires { Nests self.now.below (F.pre self.now.expr) (F.post self.now.expr) }
-        ensures { Takes part_of (spec.part self.now.limit (spec.expr self.now.below) (input tokens.old)) result tokens.new }
+        ensures { Takes part_of (spec.part self.now.limit (spec.expr self.now.below)
+            (input tokens.old)) result tokens.new }
     {
         if same(Kind::Colon, tokens.kind()) {
             return Ok(Part {
@@ -87,7 +90,8 @@ impl<'s, F: Fn(Global, &mut Tokens<'_, 's>, usize, u8) -> Result<Deep<'s>, Refus
     #[tactic(auto, unfolding(crate::specs::Expressions::step))]
     pub(crate) fn step(&self, tokens: &mut Tokens<'_, 's>) -> Result<Part<'s>, Refusal>
         requires { Nests self.now.below (F.pre self.now.expr) (F.post self.now.expr) }
-        ensures { Takes part_of (spec.step self.now.limit (spec.expr self.now.below) (input tokens.old)) result tokens.new }
+        ensures { Takes part_of (spec.step self.now.limit (spec.expr self.now.below)
+            (input tokens.old)) result tokens.new }
     {
         if same(Kind::Colon, tokens.kind()) {
             tokens.take();
@@ -110,7 +114,9 @@ impl<'s, F: Fn(Global, &mut Tokens<'_, 's>, usize, u8) -> Result<Deep<'s>, Refus
         y: Option<Box<Expression<'s>>>,
         depth: usize,
     ) -> Result<Deep<'s>, Refusal>
-        ensures { Takes deep_of (spec.index_at self.now.limit (spec.expr self.now.below) optional start (deep_of x.entry) (optional_of y.entry) depth (input tokens.old)) result tokens.new }
+        ensures { Takes deep_of (spec.index_at self.now.limit (spec.expr self.now.below)
+            optional start (deep_of x.entry) (optional_of y.entry) depth (input tokens.old))
+            result tokens.new }
     {
         match y {
             None => Err(tokens.refuse(Reason::NoExpression)),
@@ -136,7 +142,8 @@ impl<'s, F: Fn(Global, &mut Tokens<'_, 's>, usize, u8) -> Result<Deep<'s>, Refus
         p: Part<'s>,
     ) -> Result<Deep<'s>, Refusal>
         requires { Nests self.now.below (F.pre self.now.expr) (F.post self.now.expr) }
-        ensures { Takes deep_of (spec.slice self.now.limit (spec.expr self.now.below) optional start (deep_of x.entry) (part_of p.entry) (input tokens.old)) result tokens.new }
+        ensures { Takes deep_of (spec.slice self.now.limit (spec.expr self.now.below) optional start
+            (deep_of x.entry) (part_of p.entry) (input tokens.old)) result tokens.new }
     {
         tokens.expect(Kind::Colon)?;
         let q = self.part(tokens)?;
@@ -163,7 +170,8 @@ impl<'s, F: Fn(Global, &mut Tokens<'_, 's>, usize, u8) -> Result<Deep<'s>, Refus
         bounds: Box<Bounds<'s>>,
         depth: usize,
     ) -> Result<Deep<'s>, Refusal>
-        ensures { let slice = spec.slice_made self.now.limit (spec.expr self.now.below) optional start
+        ensures { let slice = spec.slice_made self.now.limit (spec.expr self.now.below)
+            optional start
             (deep_of x.entry) (optional_of bounds.entry.value.start) (optional_of bounds.entry.value.end)
             (optional_of bounds.entry.value.step) depth in
             Takes deep_of (slice (input tokens.old)) result tokens.new }

@@ -97,7 +97,8 @@ impl<'s, F: Fn(Global, &mut Tokens<'_, 's>, usize, u8) -> Result<Deep<'s>, Refus
     ) -> Result<(Vec<Argument<'s>>, usize), Refusal>
         requires { Nests self.now.below (F.pre self.now.expr) (F.post self.now.expr) }
         ensures { let meant = spec.given self.now.limit (spec.expr self.now.below) in
-            Takes (λ p. (arguments_of p.0.items, p.1)) (meant (input tokens.old)) result tokens.new }
+            Takes (λ p. (arguments_of p.0.items, p.1)) (meant (input tokens.old))
+            result tokens.new }
     {
         if !same(Kind::LeftParenthesis, tokens.kind()) {
             return Ok((Vec::new(self.alloc), 0));

@@ -21,7 +21,8 @@ impl<'s, F: Fn(Global, &mut Tokens<'_, 's>, usize, u8) -> Result<Deep<'s>, Refus
     #[tactic(auto, unfolding(crate::specs::Expressions::level, crate::specs::Expressions::level_with))]
     pub(crate) fn level(&self, tokens: &mut Tokens<'_, 's>, floor: u8) -> Result<Deep<'s>, Refusal>
         requires { Nests self.now.below (F.pre self.now.expr) (F.post self.now.expr) }
-        ensures { Takes deep_of (spec.level self.now.limit (spec.expr self.now.below) floor (input tokens.old)) result tokens.new }
+        ensures { Takes deep_of (spec.level self.now.limit (spec.expr self.now.below) floor
+            (input tokens.old)) result tokens.new }
     {
         let run = tokens.ahead;
         let turns = tokens.left();
@@ -49,7 +50,9 @@ impl<'s, F: Fn(Global, &mut Tokens<'_, 's>, usize, u8) -> Result<Deep<'s>, Refus
         mut x: Deep<'s>,
     ) -> Result<Deep<'s>, Refusal>
         requires { Nests self.now.below (F.pre self.now.expr) (F.post self.now.expr) }
-        ensures { Takes deep_of (spec.climb self.now.limit (spec.expr self.now.below) turns (starts (tokens_of run.now) opens) floor have start (deep_of x.entry) (input tokens.old)) result tokens.new }
+        ensures { Takes deep_of (spec.climb self.now.limit (spec.expr self.now.below) turns
+            (starts (tokens_of run.now) opens) floor have start (deep_of x.entry)
+            (input tokens.old)) result tokens.new }
     {
         for _turn in 0..turns {
             let kind = tokens.kind();
@@ -81,7 +84,8 @@ impl<'s, F: Fn(Global, &mut Tokens<'_, 's>, usize, u8) -> Result<Deep<'s>, Refus
         x: Deep<'s>,
     ) -> Result<Deep<'s>, Refusal>
         requires { Nests self.now.below (F.pre self.now.expr) (F.post self.now.expr) }
-        ensures { Takes deep_of (spec.operation self.now.limit (spec.expr self.now.below) start (deep_of x.entry) (input tokens.old)) result tokens.new }
+        ensures { Takes deep_of (spec.operation self.now.limit (spec.expr self.now.below) start
+            (deep_of x.entry) (input tokens.old)) result tokens.new }
     {
         match tokens.kind() {
             Kind::If => self.choice(tokens, start, x),
@@ -123,7 +127,8 @@ impl<'s, F: Fn(Global, &mut Tokens<'_, 's>, usize, u8) -> Result<Deep<'s>, Refus
 /// How many parentheses open here. They are taken.
 #[tactic(auto, unfolding(crate::specs::Expressions::opened))]
 pub(crate) fn opened(tokens: &mut Tokens<'_, '_>) -> usize
-    ensures { spec.opened (left (input tokens.old)) [] (input tokens.old) ≡ Some (starts (tokens_of tokens.old.ahead.now) result, input tokens.new) }
+    ensures { spec.opened (left (input tokens.old)) [] (input tokens.old)
+        ≡ Some (starts (tokens_of tokens.old.ahead.now) result, input tokens.new) }
 {
     let mut count = 0usize;
     for _turn in 0..tokens.left() {

@@ -129,7 +129,9 @@ impl<'s, F: Fn(Global, &mut Tokens<'_, 's>, usize, u8) -> Result<Deep<'s>, Refus
         found: &mut Vec<Item<'s>>,
     ) -> Result<usize, Refusal>
         requires { Nests self.now.below (F.pre self.now.expr) (F.post self.now.expr) }
-        ensures { TakesItem (spec.expr self.now.below 0 (spec.behind_dots (input tokens.old))) (same Kind.Spread (kind (input tokens.old))) found.old.items found.new.items result tokens.new }
+        ensures { TakesItem (spec.expr self.now.below 0 (spec.behind_dots (input tokens.old)))
+            (same Kind.Spread (kind (input tokens.old)))
+            found.old.items found.new.items result tokens.new }
     {
         let is_spread = take_dots(tokens);
         let x = self.sub(tokens, 0)?;
@@ -144,7 +146,8 @@ impl<'s, F: Fn(Global, &mut Tokens<'_, 's>, usize, u8) -> Result<Deep<'s>, Refus
     #[tactic(auto, unfolding(crate::specs::Expressions::map))]
     pub(crate) fn map(&self, tokens: &mut Tokens<'_, 's>) -> Result<Deep<'s>, Refusal>
         requires { Nests self.now.below (F.pre self.now.expr) (F.post self.now.expr) }
-        ensures { Takes deep_of (spec.map self.now.limit (spec.expr self.now.below) (input tokens.old)) result tokens.new }
+        ensures { Takes deep_of (spec.map self.now.limit (spec.expr self.now.below)
+            (input tokens.old)) result tokens.new }
     {
         let start = tokens.start();
         tokens.take();
@@ -160,7 +163,9 @@ impl<'s, F: Fn(Global, &mut Tokens<'_, 's>, usize, u8) -> Result<Deep<'s>, Refus
         tokens: &mut Tokens<'_, 's>,
     ) -> Result<(Vec<Entry<'s>>, usize), Refusal>
         requires { Nests self.now.below (F.pre self.now.expr) (F.post self.now.expr) }
-        ensures { Takes (λ p. (entries_of p.0.items, p.1)) (spec.entries_from self.now.limit (spec.expr self.now.below) (left (input tokens.old)) NoEntries 0 (input tokens.old)) result tokens.new }
+        ensures { Takes (λ p. (entries_of p.0.items, p.1))
+            (spec.entries_from self.now.limit (spec.expr self.now.below) (left (input tokens.old))
+            NoEntries 0 (input tokens.old)) result tokens.new }
     {
         let mut found = Vec::new(self.alloc);
         let mut depth = 0usize;
@@ -192,7 +197,8 @@ impl<'s, F: Fn(Global, &mut Tokens<'_, 's>, usize, u8) -> Result<Deep<'s>, Refus
         found: &mut Vec<Entry<'s>>,
     ) -> Result<usize, Refusal>
         requires { Nests self.now.below (F.pre self.now.expr) (F.post self.now.expr) }
-        ensures { TakesEntry (spec.entry_key (input tokens.old)) (spec.expr self.now.below 0) found.old.items found.new.items result tokens.new }
+        ensures { TakesEntry (spec.entry_key (input tokens.old)) (spec.expr self.now.below 0)
+            found.old.items found.new.items result tokens.new }
     {
         let key = match entry_key(self.alloc, tokens) {
             Ok(key) => key,

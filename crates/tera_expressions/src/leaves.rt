@@ -22,7 +22,8 @@ impl<'s, F: Fn(Global, &mut Tokens<'_, 's>, usize, u8) -> Result<Deep<'s>, Refus
     #[tactic(auto, unfolding(crate::specs::Expressions::head))]
     pub(crate) fn head(&self, tokens: &mut Tokens<'_, 's>) -> Result<Deep<'s>, Refusal>
         requires { Nests self.now.below (F.pre self.now.expr) (F.post self.now.expr) }
-        ensures { Takes deep_of (spec.head self.now.limit (spec.expr self.now.below) (input tokens.old)) result tokens.new }
+        ensures { Takes deep_of (spec.head self.now.limit (spec.expr self.now.below)
+            (input tokens.old)) result tokens.new }
     {
         match tokens.kind() {
             Kind::Minus => self.negated(tokens),
@@ -53,7 +54,8 @@ impl<'s, F: Fn(Global, &mut Tokens<'_, 's>, usize, u8) -> Result<Deep<'s>, Refus
     #[tactic(auto, unfolding(crate::specs::Expressions::head))]
     pub(crate) fn leaf(&self, tokens: &mut Tokens<'_, 's>) -> Result<Deep<'s>, Refusal>
         requires { Nests self.now.below (F.pre self.now.expr) (F.post self.now.expr) }
-        ensures { Takes deep_of (spec.head self.now.limit (spec.expr self.now.below) (input tokens.old)) result tokens.new }
+        ensures { Takes deep_of (spec.head self.now.limit (spec.expr self.now.below)
+            (input tokens.old)) result tokens.new }
     {
         match tokens.kind() {
             Kind::Name => self.name(tokens),
@@ -65,7 +67,8 @@ impl<'s, F: Fn(Global, &mut Tokens<'_, 's>, usize, u8) -> Result<Deep<'s>, Refus
     /// An integer.
     #[inline(always)]
     pub(crate) fn int(&self, tokens: &mut Tokens<'_, 's>) -> Result<Deep<'s>, Refusal>
-        ensures { Takes deep_of (spec.head_by self.now.limit (spec.expr self.now.below) Kind.Int (input tokens.old)) result tokens.new }
+        ensures { Takes deep_of (spec.head_by self.now.limit (spec.expr self.now.below) Kind.Int
+            (input tokens.old)) result tokens.new }
     {
         let start = tokens.start();
         match integer(tokens.text()) {
@@ -80,7 +83,8 @@ impl<'s, F: Fn(Global, &mut Tokens<'_, 's>, usize, u8) -> Result<Deep<'s>, Refus
 
     /// A text in quotes.
     pub(crate) fn text(&self, tokens: &mut Tokens<'_, 's>) -> Result<Deep<'s>, Refusal>
-        ensures { Takes deep_of (spec.head_by self.now.limit (spec.expr self.now.below) Kind.Text (input tokens.old)) result tokens.new }
+        ensures { Takes deep_of (spec.head_by self.now.limit (spec.expr self.now.below) Kind.Text
+            (input tokens.old)) result tokens.new }
     {
         let start = tokens.start();
         match literal(self.alloc, tokens.text())? {
@@ -97,7 +101,8 @@ impl<'s, F: Fn(Global, &mut Tokens<'_, 's>, usize, u8) -> Result<Deep<'s>, Refus
     #[inline(always)]
     pub(crate) fn name(&self, tokens: &mut Tokens<'_, 's>) -> Result<Deep<'s>, Refusal>
         requires { Nests self.now.below (F.pre self.now.expr) (F.post self.now.expr) }
-        ensures { Takes deep_of (spec.head_by self.now.limit (spec.expr self.now.below) Kind.Name (input tokens.old)) result tokens.new }
+        ensures { Takes deep_of (spec.head_by self.now.limit (spec.expr self.now.below) Kind.Name
+            (input tokens.old)) result tokens.new }
     {
         let start = tokens.start();
         if let Some(name) = loop_name(tokens) {
@@ -122,7 +127,9 @@ impl<'s, F: Fn(Global, &mut Tokens<'_, 's>, usize, u8) -> Result<Deep<'s>, Refus
         tokens: &mut Tokens<'_, 's>,
         value: bool,
     ) -> Result<Deep<'s>, Refusal>
-        ensures { Takes deep_of (spec.node self.now.limit 0 (Boolean value (span (start (input tokens.old)) (next (input tokens.old)))) (next (input tokens.old))) result tokens.new }
+        ensures { Takes deep_of (spec.node self.now.limit 0
+            (Boolean value (span (start (input tokens.old)) (next (input tokens.old))))
+            (next (input tokens.old))) result tokens.new }
     {
         let start = tokens.start();
         tokens.take();

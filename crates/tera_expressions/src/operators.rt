@@ -31,7 +31,8 @@ impl<'s, F: Fn(Global, &mut Tokens<'_, 's>, usize, u8) -> Result<Deep<'s>, Refus
     #[tactic(auto, unfolding(crate::specs::Expressions::prefixed))]
     pub(crate) fn negated(&self, tokens: &mut Tokens<'_, 's>) -> Result<Deep<'s>, Refusal>
         requires { Nests self.now.below (F.pre self.now.expr) (F.post self.now.expr) }
-        ensures { Takes deep_of (spec.prefixed self.now.limit (spec.expr self.now.below) 8 Negate (input tokens.old)) result tokens.new }
+        ensures { Takes deep_of (spec.prefixed self.now.limit (spec.expr self.now.below) 8 Negate
+            (input tokens.old)) result tokens.new }
     {
         let start = tokens.start();
         tokens.take();
@@ -45,7 +46,8 @@ impl<'s, F: Fn(Global, &mut Tokens<'_, 's>, usize, u8) -> Result<Deep<'s>, Refus
     #[tactic(auto, unfolding(crate::specs::Expressions::prefixed))]
     pub(crate) fn inverted(&self, tokens: &mut Tokens<'_, 's>) -> Result<Deep<'s>, Refusal>
         requires { Nests self.now.below (F.pre self.now.expr) (F.post self.now.expr) }
-        ensures { Takes deep_of (spec.prefixed self.now.limit (spec.expr self.now.below) 3 Not (input tokens.old)) result tokens.new }
+        ensures { Takes deep_of (spec.prefixed self.now.limit (spec.expr self.now.below) 3 Not
+            (input tokens.old)) result tokens.new }
     {
         let start = tokens.start();
         tokens.take();
@@ -66,7 +68,8 @@ impl<'s, F: Fn(Global, &mut Tokens<'_, 's>, usize, u8) -> Result<Deep<'s>, Refus
         x: Deep<'s>,
     ) -> Result<Deep<'s>, Refusal>
         requires { Nests self.now.below (F.pre self.now.expr) (F.post self.now.expr) }
-        ensures { Takes deep_of (spec.infixed self.now.limit (spec.expr self.now.below) level (infix_of op) start (deep_of x.entry) (input tokens.old)) result tokens.new }
+        ensures { Takes deep_of (spec.infixed self.now.limit (spec.expr self.now.below) level
+            (infix_of op) start (deep_of x.entry) (input tokens.old)) result tokens.new }
     {
         tokens.take();
         let y = self.sub(tokens, level)?;
@@ -88,7 +91,8 @@ impl<'s, F: Fn(Global, &mut Tokens<'_, 's>, usize, u8) -> Result<Deep<'s>, Refus
         x: Deep<'s>,
     ) -> Result<Deep<'s>, Refusal>
         requires { Nests self.now.below (F.pre self.now.expr) (F.post self.now.expr) }
-        ensures { Takes deep_of (spec.applied self.now.limit (spec.expr self.now.below) level operator start (deep_of x.entry) (input tokens.old)) result tokens.new }
+        ensures { Takes deep_of (spec.applied self.now.limit (spec.expr self.now.below)
+            level operator start (deep_of x.entry) (input tokens.old)) result tokens.new }
     {
         self.infixed(tokens, level, Infix::Binary(operator), start, x)
     }
@@ -102,7 +106,8 @@ impl<'s, F: Fn(Global, &mut Tokens<'_, 's>, usize, u8) -> Result<Deep<'s>, Refus
         x: Deep<'s>,
     ) -> Result<Deep<'s>, Refusal>
         requires { Nests self.now.below (F.pre self.now.expr) (F.post self.now.expr) }
-        ensures { Takes deep_of (spec.not_in self.now.limit (spec.expr self.now.below) start (deep_of x.entry) (input tokens.old)) result tokens.new }
+        ensures { Takes deep_of (spec.not_in self.now.limit (spec.expr self.now.below) start
+            (deep_of x.entry) (input tokens.old)) result tokens.new }
     {
         tokens.take();
         if !same(Kind::In, tokens.kind()) {
@@ -123,7 +128,8 @@ impl<'s, F: Fn(Global, &mut Tokens<'_, 's>, usize, u8) -> Result<Deep<'s>, Refus
         x: Deep<'s>,
     ) -> Result<Deep<'s>, Refusal>
         requires { Nests self.now.below (F.pre self.now.expr) (F.post self.now.expr) }
-        ensures { Takes deep_of (spec.choice self.now.limit (spec.expr self.now.below) start (deep_of x.entry) (input tokens.old)) result tokens.new }
+        ensures { Takes deep_of (spec.choice self.now.limit (spec.expr self.now.below) start
+            (deep_of x.entry) (input tokens.old)) result tokens.new }
     {
         tokens.take();
         let y = self.sub(tokens, 1)?;
@@ -141,7 +147,8 @@ impl<'s, F: Fn(Global, &mut Tokens<'_, 's>, usize, u8) -> Result<Deep<'s>, Refus
         y: Deep<'s>,
     ) -> Result<Deep<'s>, Refusal>
         requires { Nests self.now.below (F.pre self.now.expr) (F.post self.now.expr) }
-        ensures { Takes deep_of (spec.other self.now.limit (spec.expr self.now.below) start (deep_of x.entry) (deep_of y.entry) (input tokens.old)) result tokens.new }
+        ensures { Takes deep_of (spec.other self.now.limit (spec.expr self.now.below) start
+            (deep_of x.entry) (deep_of y.entry) (input tokens.old)) result tokens.new }
     {
         let z = self.sub(tokens, 0)?;
         let (a, b, c) = (x.depth, y.depth, z.depth);
@@ -159,7 +166,8 @@ pub(crate) fn make_infix<'s>(
     right: Box<Expression<'s>>,
     span: Span,
 ) -> Expression<'s>
-    ensures { expr_of result ≡ infix_of op (expr_of left.entry.value) (expr_of right.entry.value) span }
+    ensures { expr_of result ≡ infix_of op (expr_of left.entry.value) (expr_of right.entry.value)
+        span }
 {
     match op {
         Infix::And => Expression::and(left, right, span),

@@ -34,7 +34,8 @@ impl<'s, F: Fn(Global, &mut Tokens<'_, 's>, usize, u8) -> Result<Deep<'s>, Refus
     /// A part, of this level or above.
     pub(crate) fn sub(&self, tokens: &mut Tokens<'_, 's>, floor: u8) -> Result<Deep<'s>, Refusal>
         requires { Nests self.now.below (F.pre self.now.expr) (F.post self.now.expr) }
-        ensures { Takes deep_of (spec.expr self.now.below floor (input tokens.old)) result tokens.new }
+        ensures { Takes deep_of (spec.expr self.now.below floor (input tokens.old))
+            result tokens.new }
     {
         (self.expr)(self.alloc, tokens, self.below, floor)
     }
@@ -47,7 +48,8 @@ impl<'s, F: Fn(Global, &mut Tokens<'_, 's>, usize, u8) -> Result<Deep<'s>, Refus
         depth: usize,
         expression: Expression<'s>,
     ) -> Result<Deep<'s>, Refusal>
-        ensures { Takes deep_of (spec.node self.now.limit depth (expr_of expression.entry) (input tokens.old)) result tokens.new }
+        ensures { Takes deep_of (spec.node self.now.limit depth (expr_of expression.entry)
+            (input tokens.old)) result tokens.new }
     {
         if depth >= self.limit {
             return Err(tokens.refuse(Reason::TooDeep));

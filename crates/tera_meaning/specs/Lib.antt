@@ -10,3 +10,4 @@ pub mod Accepted
 pub mod Adding
 pub mod Whole
 pub mod Rendering
+pub mod Variables

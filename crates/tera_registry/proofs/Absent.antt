@@ -1,5 +1,5 @@
 -- What none of a list passes, and blocks that are lost.
-use Rattle.std.proofs.Common.{◌≡◌, ℕ, zero, suc, ◌+◌, ◌<◌, ◌≤◌, Bool, true, false, ◌&&◌, is_some, List, [], ◌∷◌, length, Some, None, inl, inr, refl, sym, ap, ◌∙◌, arith, slice_get}
+use Rattle.std.proofs.Common.{◌≡◌, ℕ, zero, suc, ◌+◌, ◌<◌, ◌≤◌, Bool, true, false, ◌&&◌, is_some, List, [], ◌∷◌, length, Option, Some, None, option_map, string_bytes, String, Global, inl, inr, refl, sym, ap, ◌∙◌, arith, slice_get}
 use Rattle.std.specs.List.{list_any}
 use Rattle.std.proofs.lemmas.Bool.{cases_lt}
 use Rattle.std.proofs.lemmas.Option.{slice_get_within}
@@ -13,6 +13,8 @@ use Rattle.tera_meaning.specs.Resolve.{entry_at}
 use Rattle.tera_meaning.specs.Lineage.{ancestors, definers_in}
 use Rattle.tera_meaning.specs.Accepted.{is_none_left, is_lost, loses_a_block}
 use Rattle.tera_registry.specs.declared.definers.At.{At}
+use Rattle.tera_registry.specs.declared.template.Template.{Template as Stored}
+use Rattle.tera_registry.specs.Kept.{entry_of}
 use Rattle.tera_registry.specs.Definers.{IsFirst}
 
 any-none-get : {X : Type 0} (p : X → Bool) (xs : List X) → ((k : ℕ) (x : X) → slice_get xs k ≡ Some x → p x ≡ false) → list_any p xs ≡ false
@@ -55,6 +57,17 @@ entry-nowhere n (x ∷ es) i none over =
     ap (λ (b : Bool). cond b (Some x) (entry_at n es)) (none 0 x (omega arith) refl) ∙ entry-nowhere n es i (λ k y lt y_at. none (suc k) y (omega (arith, slice_get_within es k y y_at)) y_at) (omega arith)
 
 -- Lost blocks.
+
+pub tops-of : (kept : Stored) (t : Entry) → entry_of kept ≡ t → kept.tops.items ≡ top_blocks t.1.tree.nodes
+tops-of kept t same = kept.topped ∙ ap (λ (u : Entry). top_blocks u.1.tree.nodes) same
+
+pub child-of : (kept : Stored) (t : Entry) (b : Bool) → entry_of kept ≡ t → is_some kept.parent ≡ b → is_some t.1.tree.parent ≡ b
+child-of kept t b same e =
+    ap (λ (u : Entry). is_some u.1.tree.parent) (sym same) ∙ named_as kept.parent e
+  where
+    named_as : (o : Option (String Global)) → is_some o ≡ b → is_some (option_map string_bytes o) ≡ b
+    named_as None e = e
+    named_as (Some s) e = e
 
 pub lost-none : (r : Registry) (t : Entry) (block : Name) → IsFirst r None (definers_in block (ancestors r t)) → is_lost r t block ≡ true
 lost-none r t block f = ap is_none_left f

@@ -17,14 +17,15 @@ use Rattle.tera_meaning.specs.Adding.{unless_faulty, accepted}
 use Rattle.tera_registry.specs.declared.template.Template.{Template as Stored}
 use Rattle.std.specs.declared.collections.BTreeMap.{BTreeMap}
 use Rattle.tera_registry.specs.declared.choices.Choice.{Choice}
+use Rattle.tera_registry.specs.declared.lineage.Up.{Up}
 use Rattle.tera_registry.specs.Choices.{AreChosen}
 use Rattle.tera_registry.specs.Batch.{ReadsBatch, Adds}
 use Rattle.tera_registry.specs.Put.{put_among, Puts}
 use Rattle.tera_registry.specs.Order.{Rises}
-use Rattle.tera_registry.specs.Links.{AreRoots, IsLinked}
+use Rattle.tera_registry.specs.Links.{AreUps, ArePlaced, AreRoots, IsLinked}
 use Rattle.tera_registry.specs.Kept.{entry_of, entries_of, seen}
 use Rattle.tera_registry.proofs.Checked.{faultless, faulty}
-use Rattle.tera_registry.proofs.Linked.{linked}
+use Rattle.tera_registry.proofs.Linked.{placed, linked}
 
 -- Templates and prefixes alone decide on faults.
 
@@ -137,9 +138,13 @@ module _ (ts lent : List (Rc Stored Global)) (ps lent_ps : List (String Global))
       let meant : accepted (seen ts ps) ≡ Ok (seen ts ps) = rw (e, f) at ok in
       faultless (seen ts ps) meant
 
-  pub kept-linked : (roots : List ℕ) → AreRoots (seen lent lent_ps) roots (length lent) → IsLinked ts ps roots
+  pub kept-placed : (ups : List Up) → AreUps (seen lent lent_ps) ups (length (entries_of lent)) → ArePlaced (seen ts ps) ups
+  kept-placed ups a =
+      let meant : AreUps (seen ts ps) ups (length (entries_of ts)) = rw (e, f) at a in placed (seen ts ps) ups meant
+
+  pub kept-linked : (roots : List ℕ) → AreRoots (seen lent lent_ps) roots (length (entries_of lent)) → IsLinked ts ps roots
   kept-linked roots a =
-      let meant : AreRoots (seen ts ps) roots (length ts) = rw (e, f) at a in linked ts ps roots meant
+      let meant : AreRoots (seen ts ps) roots (length (entries_of ts)) = rw (e, f) at a in linked ts ps roots meant
 
   pub kept-chosen : (choices : BTreeMap (String Global) Choice Global) → AreChosen (seen lent lent_ps) choices → AreChosen (seen ts ps) choices
   kept-chosen choices a = rw (e, f) at a

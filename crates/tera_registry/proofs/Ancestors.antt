@@ -1,9 +1,9 @@
 -- The parents of a template and those of the one that it extends, and who defines a block among them.
-use Rattle.std.proofs.Common.{◌≡◌, ℕ, zero, suc, ◌<◌, List, [], ◌∷◌, ◌++◌, length, get_or, map, Option, Some, None, Result, Ok, Err, refl, sym, ap, ap₂, subst, ◌∙◌, arith, slice_get, option_map, String, Global}
+use Rattle.std.proofs.Common.{◌≡◌, ℕ, zero, suc, ◌<◌, List, [], ◌∷◌, ◌++◌, length, get_or, map, Option, Some, None, Result, Ok, Err, refl, sym, ap, ◌∙◌, arith, slice_get, option_map, String, Global}
 use Rattle.std.specs.declared.rc.Rc.{Rc}
 use Rattle.std.specs.List.{cons_option}
 use Rattle.std.specs.Option.{option_or}
-use Rattle.std.proofs.lemmas.Option.{slice_get_read, slice_get-map}
+use Rattle.std.proofs.lemmas.Option.{slice_get_read, slice_get-get_or, slice_get-map}
 use Rattle.tera_errors.specs.Fault.{Fault, message, circular_extend, circular_include}
 use Rattle.tera_errors.specs.Site.{Name}
 use Rattle.tera_tree.specs.Tree.{Nodes}
@@ -19,11 +19,15 @@ use Rattle.tera_code.specs.Blocks.{block_of, block_listing, block_listings}
 use Rattle.tera_registry.specs.declared.definers.At.{At}
 use Rattle.tera_registry.specs.Places.{IsPlace}
 use Rattle.tera_registry.specs.declared.template.Template.{Template as Stored}
-use Rattle.tera_registry.specs.Kept.{entries_of, seen}
+use Rattle.tera_registry.specs.declared.lineage.Up.{Up}
 use Rattle.tera_registry.specs.declared.lineage.Up.TheVariants as which
-use Rattle.tera_registry.specs.Links.{IsUp}
-use Rattle.tera_registry.specs.Definers.{blocks_of, from_block, from_template, from_place, from_found, above_block, above_template, above_place, IsFirst, Grounded, ancestors_at}
+use Rattle.tera_registry.specs.Links.{IsUp, ArePlaced}
+use Rattle.tera_registry.specs.Order.{Rises}
+use Rattle.tera_registry.specs.Kept.{entries_of, seen}
+use Rattle.tera_registry.proofs.Linked.{found-placed}
+use Rattle.tera_registry.specs.Definers.{blocks_of, from_block, from_template, from_place, from_found, above_block, above_template, above_place, IsFirst, Grounded, Climbable, ancestors_at}
 use Rattle.tera_registry.proofs.Element.{element}
+use Rattle.tera_registry.proofs.Kept.{length-entries}
 use Rattle.tera_registry.proofs.Placed.{named}
 use Rattle.tera_registry.proofs.Checked.{no-first-fault}
 
@@ -188,24 +192,28 @@ pub lent-block : (bs lent : List Block) (file : Name) (ns : List (Name × Nodes)
 lent-block bs lent file ns k b e same lt is =
     kept-block lent file ns k b (ap (map block_of) e ∙ same) lt is
 
-first-in-same : (q r : Registry) (o : Option At) (block : Name) (t : Entry) → q ≡ r → IsFirst q o (definers_in block (t ∷ ancestors q t)) → IsFirst r o (definers_in block (t ∷ ancestors r t))
-first-in-same q r o block t e h =
-    subst (λ (s : Registry). IsFirst s o (definers_in block (t ∷ ancestors s t))) e h
+-- What each template extends stands at its place.
 
--- The same of templates that are lent.
-module _ (ts lent : List (Rc Stored Global)) (ps lent_ps : List (String Global)) (e : lent ≡ ts) (f : lent_ps ≡ ps) where
-  pub lent-grounded : fault (seen ts ps) ≡ None → Grounded (seen lent lent_ps)
-  lent-grounded none =
-      let meant : Grounded (seen ts ps) = grounded (seen ts ps) (no-first-fault (seen ts ps) none) in rw (e, f) meant
+pub listed : (r : Registry) (ts : List (Rc Stored Global)) (ups : List Up) (i : ℕ) → Climbable r ts ups → i < length ts → i < length ups
+listed r ts ups i c lt = omega (arith, c.above.as_many, ap length c.same, length-entries ts)
 
-  pub lent-parents : (t : Entry) → parents (seen ts ps) t ≡ Ok (ancestors (seen ts ps) t) → parents (seen lent lent_ps) t ≡ Ok (ancestors (seen lent lent_ps) t)
-  lent-parents t ok = rw (e, f) ok
+pub among : (r : Registry) (ts : List (Rc Stored Global)) (ups : List Up) (i : ℕ) → Climbable r ts ups → i < length r.templates → i < length ts
+among r ts ups i c lt = omega (arith, ap length c.same, length-entries ts)
 
-  pub lent-first : (o : Option At) (from : ℕ) (block : Name) (t : Entry) → slice_get (entries_of ts) from ≡ Some t → ((t : Entry) → slice_get (entries_of lent) from ≡ Some t → IsFirst (seen lent lent_ps) o (definers_in block (t ∷ ancestors (seen lent lent_ps) t))) → IsFirst (seen ts ps) o (definers_in block (t ∷ ancestors (seen ts ps) t))
-  lent-first o from block t at h =
-      let lent_at : slice_get (entries_of lent) from ≡ Some t = rw e at in
-      let got : IsFirst (seen lent lent_ps) o (definers_in block (t ∷ ancestors (seen lent lent_ps) t)) = h t lent_at in
-      first-in-same (seen lent lent_ps) (seen ts ps) o block t (ap₂ seen e f) got
+pub up-at : (r : Registry) (ts : List (Rc Stored Global)) (ups : List Up) (i : ℕ) (u : Up) (t : Entry) → Climbable r ts ups → i < length ts → get_or ups i which.Nothing ≡ u → slice_get r.templates i ≡ Some t → IsUp r u t.1.tree.parent
+up-at r ts ups i u t c lt is at =
+    c.above.those i u t (slice_get-get_or ups i which.Nothing (listed r ts ups i c lt) ∙ ap Some is) at
 
-  pub lent-above : (o : Option At) (block : Name) (t : Entry) → IsFirst (seen lent lent_ps) o (definers_in block (ancestors (seen lent lent_ps) t)) → IsFirst (seen ts ps) o (definers_in block (ancestors (seen ts ps) t))
-  lent-above o block t h = rw (e, f) at h
+pub entry-there : (r : Registry) (ts : List (Rc Stored Global)) (ups : List Up) (i : ℕ) → Climbable r ts ups → i < length ts → (t : Entry) × (slice_get r.templates i ≡ Some t)
+entry-there r ts ups i c lt =
+    element r.templates i (omega (arith, ap length c.same, length-entries ts))
+
+-- Templates that are accepted, where it is known what each extends.
+pub kept-climbable : (r : Registry) (ts lent_ts : List (Rc Stored Global)) (ps : List (String Global)) (ups lent_ups : List Up) → r ≡ seen ts ps → lent_ts ≡ ts → lent_ups ≡ ups → Rises (entries_of ts) → fault (seen ts ps) ≡ None → ArePlaced (seen ts ps) ups → Climbable r lent_ts lent_ups
+kept-climbable r ts lent_ts ps ups lent_ups is e f rises none placed =
+    let known = found-placed (seen ts ps) ups rises placed in
+    rw (is, e, f) (record {
+      same = refl;
+      above = known;
+      grounded = grounded (seen ts ps) (no-first-fault (seen ts ps) none);
+    })

@@ -1,18 +1,7 @@
--- Nodes with bodies, as they are seen where the bodies are lent.
-use Rattle.std.proofs.Common.{◌≡◌, Bool, true, false, ◌||◌, Bor, List, ℕ, ◌++◌, Vec, Box, Global, sym, ap, ap₂, ◌∙◌, append_assoc}
+-- What is found in one body and then in another.
+use Rattle.std.proofs.Common.{◌≡◌, Bool, true, false, ◌||◌, List, ◌++◌, sym, ap, ◌∙◌, append_assoc}
 use Rattle.std.specs.List.{list_any}
 use Rattle.std.proofs.lemmas.List.Folds.{list_any-append}
-use Rattle.tera_errors.specs.declared.span.Span.{Span}
-use Rattle.tera_tree.specs.declared.expression.Heading.{Heading}
-use Rattle.tera_tree.specs.declared.expression.Expression.{Expression}
-use Rattle.tera_tree.specs.declared.node.Node as declared
-use Rattle.tera_tree.specs.declared.node.SectionFilter.{SectionFilter}
-use Rattle.tera_tree.specs.declared.node.Node.TheVariants as variant
-use Rattle.tera_tree.specs.declared.expression.Entry.{Entry}
-use Rattle.tera_tree.specs.declared.component.Signature.{Signature}
-use Rattle.tera_tree.specs.Tree.{If, Capture, FilterSection, Block, ComponentCall, Definition}
-use Rattle.tera_tree.specs.View.{node_of, nodes_of, filters_of, entries_of, signature_of, expr_of, for_of}
-use Rattle.tera_tree.proofs.Views.{view_if, view_capture, view_section, view_for, view_block, view_component_call, view_definition}
 
 -- some are found, and others are to come
 pub append-more : {X : Type 0} (old mid some others whole : List X) → whole ≡ some ++ others → mid ≡ old ++ some → mid ++ others ≡ old ++ whole
@@ -26,31 +15,3 @@ any-first p xs ys whole is first =
 pub any-second : {X : Type 0} (p : X → Bool) (xs ys whole : List X) → whole ≡ xs ++ ys → list_any p xs ≡ false → list_any p whole ≡ list_any p ys
 any-second p xs ys whole is none =
     ap (list_any p) is ∙ list_any-append p xs ys ∙ ap (λ b. b || list_any p ys) none
-
-pub node_if : (node : declared.Node) (condition : Box Expression Global) (body other : Vec declared.Node Global) (xs ys : List declared.Node) → node ≡ variant.If condition body other → xs ≡ body.items → ys ≡ other.items → node_of node ≡ If (expr_of condition.value) (nodes_of xs) (nodes_of ys)
-node_if node condition body other xs ys is a b =
-    ap node_of is ∙ view_if condition body other ∙ ap₂ (λ x y. If (expr_of condition.value) (nodes_of x) (nodes_of y)) (sym a) (sym b)
-
-pub node_for : (node : declared.Node) (heading : Box Heading Global) (body other : Vec declared.Node Global) (xs ys : List declared.Node) → node ≡ variant.For heading body other → xs ≡ body.items → ys ≡ other.items → node_of node ≡ for_of heading.value xs ys
-node_for node heading body other xs ys is a b =
-    ap node_of is ∙ view_for heading body other ∙ ap₂ (λ x y. for_of heading.value x y) (sym a) (sym b)
-
-pub node_capture : (node : declared.Node) (name : Bor (List ℕ)) (fs : Vec SectionFilter Global) (body : Vec declared.Node Global) (is_global : Bool) (xs : List declared.Node) → node ≡ variant.Capture name fs body is_global → xs ≡ body.items → node_of node ≡ Capture name.now (filters_of fs.items) (nodes_of xs) is_global
-node_capture node name fs body is_global xs is a =
-    ap node_of is ∙ view_capture name fs body is_global ∙ ap (λ x. Capture name.now (filters_of fs.items) (nodes_of x) is_global) (sym a)
-
-pub node_section : (node : declared.Node) (fs : Vec SectionFilter Global) (body : Vec declared.Node Global) (xs : List declared.Node) → node ≡ variant.FilterSection fs body → xs ≡ body.items → node_of node ≡ FilterSection (filters_of fs.items) (nodes_of xs)
-node_section node fs body xs is a =
-    ap node_of is ∙ view_section fs body ∙ ap (λ x. FilterSection (filters_of fs.items) (nodes_of x)) (sym a)
-
-pub node_block : (node : declared.Node) (name : Bor (List ℕ)) (body : Vec declared.Node Global) (span : Span) (xs : List declared.Node) → node ≡ variant.Block name body span → xs ≡ body.items → node_of node ≡ Block name.now (nodes_of xs) span
-node_block node name body span xs is a =
-    ap node_of is ∙ view_block name body span ∙ ap (λ x. Block name.now (nodes_of x) span) (sym a)
-
-pub node_call : (node : declared.Node) (name : Bor (List ℕ)) (attributes : Vec Entry Global) (body : Vec declared.Node Global) (span : Span) (xs : List declared.Node) → node ≡ variant.ComponentCall name attributes body span → xs ≡ body.items → node_of node ≡ ComponentCall name.now (entries_of attributes.items) (nodes_of xs) span
-node_call node name attributes body span xs is a =
-    ap node_of is ∙ view_component_call name attributes body span ∙ ap (λ x. ComponentCall name.now (entries_of attributes.items) (nodes_of x) span) (sym a)
-
-pub node_definition : (node : declared.Node) (signature : Box Signature Global) (body : Vec declared.Node Global) (xs : List declared.Node) → node ≡ variant.Definition signature body → xs ≡ body.items → node_of node ≡ Definition (signature_of signature.value) (nodes_of xs)
-node_definition node signature body xs is a =
-    ap node_of is ∙ view_definition signature body ∙ ap (λ x. Definition (signature_of signature.value) (nodes_of x)) (sym a)

@@ -8,9 +8,11 @@ use Rattle.std.specs.Map.{lookup}
 use Rattle.std.specs.Ordering.{is_eq}
 use Rattle.std.specs.Cmp.Lexicographic.{slice_cmp}
 use Rattle.tera_registry.specs.declared.choices.Choice.{Choice}
+use Rattle.tera_registry.specs.declared.lineage.Up.{Up}
+use Rattle.tera_registry.specs.declared.lineage.Up.TheVariants as up
 use Rattle.tera_registry.specs.Choices.{chosen, AreChosen}
 use Rattle.tera_registry.specs.Order.{Rises}
-use Rattle.tera_registry.specs.Links.{IsLinked}
+use Rattle.tera_registry.specs.Links.{ArePlaced, IsLinked}
 use Rattle.tera_registry.specs.Kept.{entries_of, seen}
 
 pub none-rises : (ts : List (Rc Stored Global)) → ts ≡ [] → Rises (entries_of ts)
@@ -28,6 +30,13 @@ none-linked ts ps roots e f = rw (e, f) (record {
   as_many = refl;
   inside = λ i k got. (let q : None ≡ Some k = got in cc);
   those = λ i k t u got. (let q : None ≡ Some k = got in cc);
+})
+
+pub none-placed : (ts : List (Rc Stored Global)) (ps : List (String Global)) (ups : List Up) → ts ≡ [] → ups ≡ [] → ArePlaced (seen ts ps) ups
+none-placed ts ps ups e f = rw (e, f) (record {
+  as_many = refl;
+  inside = λ i j got. (let q : None ≡ Some (up.At j) = got in cc);
+  those = λ i u t got. (let q : None ≡ Some u = got in cc);
 })
 
 pub none-chosen : (ts : List (Rc Stored Global)) (ps : List (String Global)) (choices : BTreeMap (String Global) Choice Global) → ts ≡ [] → choices.entries ≡ [] → AreChosen (seen ts ps) choices

@@ -8,7 +8,7 @@ use Rattle.tera_errors.specs.Site.{Name}
 use Rattle.tera_values.specs.Named.{Named, name_cmp, put}
 use Rattle.tera_registry.specs.Order.{Rises}
 use Rattle.tera_registry.specs.Places.{IsFound}
-use Rattle.tera_meaning.specs.Registry.{Template, Entry}
+use Rattle.tera_meaning.specs.Registry.{Template, Entry, Registry}
 use Rattle.tera_meaning.specs.Resolve.{entry_at}
 use Rattle.tera_registry.proofs.Placed.{named, entry-found, put-set, put-insert, map-set, map-insert, itself}
 use Rattle.tera_registry.proofs.Element.{element}
@@ -17,6 +17,15 @@ use Rattle.tera_registry.specs.Kept.{entry_of, entries_of}
 pub entry-at-place : (ts : List (Rc Stored Global)) (m : ℕ) (t : Rc Stored Global) → m < length ts → t ≡ get_or ts m t → slice_get (entries_of ts) m ≡ Some (entry_of t.value)
 entry-at-place ts m t lt is =
     slice_get-map (λ (u : Rc Stored Global). entry_of u.value) ts m ∙ ap (option_map (λ (u : Rc Stored Global). entry_of u.value)) (slice_get_read ts (length ts) m t refl lt is)
+
+-- the same of a registry whose templates they are
+pub entry-among : (r : Registry) (ts : List (Rc Stored Global)) (m : ℕ) (t : Rc Stored Global) (u : Stored) → entries_of ts ≡ r.templates → m < length ts → t ≡ get_or ts m t → u ≡ t.value → slice_get r.templates m ≡ Some (entry_of u)
+entry-among r ts m t u same lt is value =
+    ap (λ es. slice_get es m) (sym same) ∙ entry-at-place ts m t lt is ∙ ap (λ v. Some (entry_of v)) (sym value)
+
+pub entry-is : (r : Registry) (ts : List (Rc Stored Global)) (m : ℕ) (t : Rc Stored Global) (u : Stored) (e : Entry) → entries_of ts ≡ r.templates → m < length ts → t ≡ get_or ts m t → u ≡ t.value → slice_get r.templates m ≡ Some e → entry_of u ≡ e
+entry-is r ts m t u e same lt is value at =
+    (let q : Some (entry_of u) ≡ Some e = sym (entry-among r ts m t u same lt is value) ∙ at in cc)
 
 pub length-entries : (ts : List (Rc Stored Global)) → length (entries_of ts) ≡ length ts
 length-entries [] = refl

@@ -29,3 +29,6 @@ pub mod Choosing
 pub mod Definitions
 pub mod Besides
 pub mod Listed
+pub mod Wanted
+pub mod Above
+pub mod Reaching

@@ -1,17 +1,20 @@
 -- What templates are linked to, one more at a time.
-use Rattle.std.proofs.Common.{◌≡◌, ℕ, ◌+◌, List, [], ◌∷◌, ◌++◌, length, option_map, Some, None, String, Global, refl, sym, ap, ◌∙◌, inl, inr, arith, slice_get}
+use Rattle.std.proofs.Common.{◌≡◌, ℕ, ◌+◌, ◌<◌, List, [], ◌∷◌, ◌++◌, length, map, option_map, Option, Some, None, String, Global, refl, sym, ap, ◌∙◌, inl, inr, arith, slice_get}
 use Rattle.std.specs.declared.rc.Rc.{Rc}
 use Rattle.std.proofs.lemmas.Option.{slice_get-map, slice_get_within}
 use Rattle.tera_code.specs.Code.{listing_of}
 use Rattle.tera_meaning.specs.Registry.{Registry, Entry}
-use Rattle.tera_meaning.specs.Resolve.{root}
+use Rattle.tera_errors.specs.Site.{Name}
+use Rattle.tera_meaning.specs.Resolve.{resolve, root}
 use Rattle.tera_registry.specs.declared.template.Template.{Template as Stored}
 use Rattle.tera_registry.specs.declared.lineage.Up.{Up}
 use Rattle.tera_registry.specs.declared.lineage.Up.TheVariants as up
-use Rattle.tera_registry.specs.Links.{IsUp, AreUps, Inside, AreRoots, IsLinked}
+use Rattle.tera_registry.specs.Links.{IsUp, AreUps, name_at, name_above, ArePlaced, Inside, AreRoots, IsLinked}
 use Rattle.tera_registry.specs.Kept.{entry_of, entries_of, seen}
 use Rattle.tera_registry.proofs.Element.{element}
-use Rattle.tera_registry.proofs.Kept.{length-entries}
+use Rattle.tera_registry.specs.Order.{Rises}
+use Rattle.tera_registry.proofs.Kept.{length-entries, named-place}
+use Rattle.tera_registry.proofs.Resolved.{first-there-own}
 use Rattle.tera_registry.proofs.Rows.{get-push, length-push}
 
 pub no-ups : (r : Registry) → AreUps r [] 0
@@ -51,12 +54,12 @@ at-entry ts k u at =
     slice_get-map (λ (v : Rc Stored Global). entry_of v.value) ts k ∙ ap (option_map (λ (v : Rc Stored Global). entry_of v.value)) at
 
 -- each template's code is that of its nodes, so that at the place of a root is that of the root
-pub linked : (ts : List (Rc Stored Global)) (ps : List (String Global)) (roots : List ℕ) → AreRoots (seen ts ps) roots (length ts) → IsLinked ts ps roots
+pub linked : (ts : List (Rc Stored Global)) (ps : List (String Global)) (roots : List ℕ) → AreRoots (seen ts ps) roots (length (entries_of ts)) → IsLinked ts ps roots
 linked ts ps roots a = record {
-  as_many = a.as_many;
+  as_many = a.as_many ∙ length-entries ts;
   inside = λ i k got.
       (let lt = slice_get_within roots i k got in
-      let t = element (entries_of ts) i (omega (arith, a.as_many, length-entries ts)) in
+      let t = element (entries_of ts) i (omega (arith, a.as_many)) in
       let within = slice_get_within (entries_of ts) k _ (a.those i k t.0 got t.1) in
       omega (arith, length-entries ts));
   those = λ i k t u got t_at u_at.
@@ -73,6 +76,57 @@ ups-inside r ups a = record {
       let above = a.those i (up.At j) t.0 got t.1 in
       omega (arith, a.as_many, above.2.1));
 }
+
+-- Said by names, they are the same: no two templates share one.
+
+pub placed : (r : Registry) (ups : List Up) → AreUps r ups (length r.templates) → ArePlaced r ups
+placed r ups a = record {
+  as_many = a.as_many;
+  inside = λ i j got. (let lt = (ups-inside r ups a).inside i j got in omega (arith, a.as_many));
+  those = λ i u t got at. by_up u t.1.tree.parent (a.those i u t got at);
+}
+  where
+    by_up : (u : Up) (parent : Option Name) → IsUp r u parent → name_at r.templates u ≡ name_above r parent
+    by_up up.Nothing parent is = ap (name_above r) (sym is)
+    by_up up.Missing parent is =
+        sym (ap (name_above r) is.1 ∙ ap (λ o. Some (option_map (λ (e : Entry). e.0) o)) is.2)
+    by_up (up.At i) parent is =
+        sym (ap (name_above r) is.1 ∙ ap (λ o. Some (option_map (λ (e : Entry). e.0) o)) is.2.0 ∙ ap Some (sym (slice_get-map (λ (e : Entry). e.0) r.templates i)))
+
+-- the template that is found, where it has the name of the one at a place
+at-its-place : (r : Registry) (i : ℕ) (n : Name) (o : Option Entry) → Rises r.templates → i < length r.templates → resolve r n ≡ o → slice_get (map (λ e. e.0) r.templates) i ≡ option_map (λ e. e.0) o → resolve r n ≡ slice_get r.templates i
+at-its-place r i n None rises lt found same =
+    (let e = element r.templates i lt in
+    let q : Some (e.0).0 ≡ None = sym (slice_get-map (λ (e : Entry). e.0) r.templates i ∙ ap (option_map (λ (e : Entry). e.0)) e.1) ∙ same in
+    cc)
+at-its-place r i n (Some v) rises lt found same =
+    let e = named-place r.templates i v.0 rises same in
+    let own = first-there-own r.templates (n ∷ map (λ p. p ++ n) r.prefixes) v found in
+    found ∙ sym own ∙ e.2 ∙ sym e.1
+
+pub found-placed : (r : Registry) (ups : List Up) → Rises r.templates → ArePlaced r ups → AreUps r ups (length r.templates)
+found-placed r ups rises a = record {
+  as_many = a.as_many;
+  those = λ i u t got at. by_up u t.1.tree.parent (λ j is. a.inside i j (got ∙ ap Some is)) (a.those i u t got at);
+}
+  where
+    nowhere : (n : Name) (o : Option Entry) → resolve r n ≡ o → Some None ≡ Some (option_map (λ (e : Entry). e.0) o) → resolve r n ≡ None
+    nowhere n None found same = found
+    nowhere n (Some v) found same = (let q : Some None ≡ Some (Some v.0) = same in cc)
+
+    by_up : (u : Up) (parent : Option Name) → ((j : ℕ) → u ≡ up.At j → j < length r.templates) → name_at r.templates u ≡ name_above r parent → IsUp r u parent
+    by_up up.Nothing None inside same = refl
+    by_up up.Nothing (Some n) inside same =
+        (let q : None ≡ Some (option_map (λ (e : Entry). e.0) (resolve r n)) = same in cc)
+    by_up up.Missing None inside same = (let q : Some None ≡ None = same in cc)
+    by_up up.Missing (Some n) inside same = (n, refl, nowhere n (resolve r n) refl same)
+    by_up (up.At i) None inside same =
+        (let q : Some (slice_get (map (λ (e : Entry). e.0) r.templates) i) ≡ None = same in cc)
+    by_up (up.At i) (Some n) inside same =
+        (let q : Some (slice_get (map (λ (e : Entry). e.0) r.templates) i) ≡ Some (option_map (λ (e : Entry). e.0) (resolve r n)) = same in
+        let e : slice_get (map (λ (e : Entry). e.0) r.templates) i ≡ option_map (λ (e : Entry). e.0) (resolve r n) = cc in
+        let lt = inside i refl in
+        (n, refl, (at-its-place r i n (resolve r n) rises lt refl e, lt)))
 
 pub all-ups : (ts : List (Rc Stored Global)) (ps : List (String Global)) (ups lent : List Up) → lent ≡ ups → AreUps (seen ts ps) ups (length ts) → AreUps (seen ts ps) lent (length (entries_of ts))
 all-ups ts ps ups lent e a = rw (length-entries ts, e) a

@@ -78,7 +78,7 @@ taken-defined r n c u k found t is given code =
 
 -- The names, in the order of the table.
 
-keys-ascend : (ks : List (String Global)) → IsStrictlySortedBy string_cmp ks → IsStrictlySortedBy name_cmp (map string_bytes ks)
+pub keys-ascend : (ks : List (String Global)) → IsStrictlySortedBy string_cmp ks → IsStrictlySortedBy name_cmp (map string_bytes ks)
 unfolding IsStrictlySortedBy
 keys-ascend [] h = tt
 keys-ascend (k ∷ ks) h = (below ks h.0, keys-ascend ks h.1)

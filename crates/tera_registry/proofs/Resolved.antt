@@ -1,5 +1,5 @@
 -- The first of several names that is there.
-use Rattle.std.proofs.Common.{◌≡◌, ℕ, zero, suc, ◌+◌, ◌<◌, List, [], ◌∷◌, ◌++◌, length, map, Some, None, option_map, string_bytes, String, Global, get_or, refl, sym, ap, ◌∙◌, inl, inr, arith, slice_get}
+use Rattle.std.proofs.Common.{◌≡◌, ℕ, zero, suc, ◌+◌, ◌<◌, List, [], ◌∷◌, ◌++◌, length, map, Option, Some, None, option_map, string_bytes, String, Global, get_or, refl, sym, ap, ◌∙◌, inl, inr, arith, slice_get}
 use Rattle.std.specs.Option.{option_or}
 use Rattle.std.proofs.lemmas.Bool.{cases_lt}
 use Rattle.std.proofs.lemmas.Option.{slice_get_read, slice_get-map}
@@ -7,6 +7,7 @@ use Rattle.tera_errors.specs.Site.{Name}
 use Rattle.tera_values.specs.Named.{Named}
 use Rattle.tera_meaning.specs.Registry.{Template, Entry}
 use Rattle.tera_meaning.specs.Resolve.{entry_at, first_there}
+use Rattle.tera_registry.proofs.Placed.{named}
 
 abbrev pub NoneBefore : Named Template → Name → List Name → ℕ → Type 0
 NoneBefore es n ps i = (k : ℕ) (p : Name) → k < i → slice_get ps k ≡ Some p → entry_at (p ++ n) es ≡ None
@@ -34,6 +35,18 @@ none-more es n ps i p none is none_here = λ k q lt s.
           (let same : k ≡ i = omega arith in
           let e : q ≡ p = (let t : Some q ≡ Some p = sym s ∙ ap (slice_get ps) same ∙ is in cc) in rw e none_here)
     ]
+
+-- what is found by one of several names is found by its own
+pub first-there-own : (es : Named Template) (ns : List Name) (e : Entry) → first_there es ns ≡ Some e → entry_at e.0 es ≡ Some e
+first-there-own es [] e is = (let q : None ≡ Some e = is in cc)
+first-there-own es (n ∷ ns) e is = by_first (entry_at n es) refl is (first-there-own es ns e)
+  where
+    by_first : (o : Option Entry) → entry_at n es ≡ o → option_or o (first_there es ns) ≡ Some e → (first_there es ns ≡ Some e → entry_at e.0 es ≡ Some e) → entry_at e.0 es ≡ Some e
+    by_first None at q later = later q
+    by_first (Some x) at q later =
+        (let same : x ≡ e = (let y : Some x ≡ Some e = q in cc) in
+        let own : entry_at n es ≡ Some e = at ∙ ap Some same in
+        ap (λ m. entry_at m es) (sym (named es n e own)) ∙ own)
 
 pub prefix-at : (ps : List (String Global)) (i : ℕ) (p : String Global) → i < length ps → p ≡ get_or ps i p → slice_get (map string_bytes ps) i ≡ Some (string_bytes p)
 prefix-at ps i p lt is = slice_get-map string_bytes ps i ∙ ap (option_map string_bytes) (slice_get_read ps (length ps) i p refl lt is)

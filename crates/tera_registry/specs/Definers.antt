@@ -1,5 +1,7 @@
 -- Those who define a block, from the place on where one of them stands.
-use Rattle.std.specs.Prelude.{◌≡◌, ℕ, false, List, [], ◌∷◌, slice_get, Option, Some, None, Ok}
+use Rattle.std.specs.Prelude.{◌≡◌, ℕ, false, List, [], ◌∷◌, length, slice_get, Option, Some, None, Ok}
+use Rattle.std.specs.declared.alloc.Global.{Global}
+use Rattle.std.specs.declared.rc.Rc.{Rc}
 use Rattle.tera_errors.specs.Site.{Name}
 use Rattle.tera_tree.specs.Tree.{Nodes}
 use Rattle.tera_tree.specs.Blocks.{blocks}
@@ -7,7 +9,11 @@ use Rattle.tera_meaning.specs.Registry.{Entry, Registry}
 use Rattle.tera_meaning.specs.Resolve.{parents}
 use Rattle.tera_meaning.specs.Lineage.{Definer, ancestors, definers_in}
 use Rattle.tera_meaning.specs.Accepted.{is_none_left}
+use Rattle.tera_registry.specs.declared.template.Template.{Template as Stored}
 use Rattle.tera_registry.specs.declared.definers.At.{At}
+use Rattle.tera_registry.specs.declared.lineage.Up.{Up}
+use Rattle.tera_registry.specs.Kept.{entries_of}
+use Rattle.tera_registry.specs.Links.{AreUps}
 
 -- the blocks of a template, in the order of its text
 abbrev pub blocks_of : Entry → List (Name × Nodes)
@@ -49,6 +55,12 @@ IsFirst r (Some at) ds = (ds ≡ from_place r at) × (is_none_left ds ≡ false)
 -- each template has all its parents
 pub record Grounded (r : Registry) : Type 0 where
   pub each : (i : ℕ) (t : Entry) → slice_get r.templates i ≡ Some t → parents r t ≡ Ok (ancestors r t)
+
+-- these are the templates of a registry in which each has all its parents, and this is what each extends
+pub record Climbable (r : Registry) (ts : List (Rc Stored Global)) (ups : List Up) : Type 0 where
+  pub same : entries_of ts ≡ r.templates
+  pub above : AreUps r ups (length r.templates)
+  pub grounded : Grounded r
 
 -- how many parents a template has, where one is
 abbrev pub ancestors_at : Registry → Option Entry → List Entry

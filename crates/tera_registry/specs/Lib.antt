@@ -11,6 +11,7 @@ pub mod Put
 pub mod First
 pub mod Walks
 pub mod Edges
+pub mod Reached
 pub mod Links
 pub mod Definers
 pub mod Templates

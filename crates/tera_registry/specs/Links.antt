@@ -1,5 +1,5 @@
 -- What templates are linked to, by place. No public contract speaks of it.
-use Rattle.std.specs.Prelude.{◌≡◌, ◌<◌, ◌≤◌, ◌+◌, ℕ, List, [], ◌∷◌, length, slice_get, Option, Some, None, Result, Ok, Err, String}
+use Rattle.std.specs.Prelude.{◌≡◌, ◌<◌, ◌≤◌, ◌+◌, ℕ, List, [], ◌∷◌, length, map, slice_get, Option, Some, None, option_map, Result, Ok, Err, String}
 use Rattle.std.specs.declared.alloc.Global.{Global}
 use Rattle.std.specs.declared.rc.Rc.{Rc}
 use Rattle.tera_errors.specs.Site.{Name}
@@ -31,6 +31,23 @@ IsUp r (up.At i) parent = (n : Name) × (parent ≡ Some n) × IsPlace r.templat
 pub record AreUps (r : Registry) (ups : List Up) (many : ℕ) : Type 0 where
   pub as_many : length ups ≡ many
   pub those : (i : ℕ) (u : Up) (t : Entry) → slice_get ups i ≡ Some u → slice_get r.templates i ≡ Some t → IsUp r u t.1.tree.parent
+
+-- the name of the template at the place of what one extends, where it extends something
+abbrev pub name_at : List Entry → Up → Option (Option Name)
+name_at ts up.Nothing = None
+name_at ts up.Missing = Some None
+name_at ts (up.At i) = Some (slice_get (map (λ t. t.0) ts) i)
+
+-- the name of the template to which the name resolves that one extends, where it extends something
+abbrev pub name_above : Registry → Option Name → Option (Option Name)
+name_above r = option_map (λ n. option_map (λ t. t.0) (resolve r n))
+
+-- These are those of all templates, said by names: where a template extends one, that one stands at the place. Names are
+-- enough, since no two templates share one.
+pub record ArePlaced (r : Registry) (ups : List Up) : Type 0 where
+  pub as_many : length ups ≡ length r.templates
+  pub inside : (i j : ℕ) → slice_get ups i ≡ Some (up.At j) → j < length r.templates
+  pub those : (i : ℕ) (u : Up) (t : Entry) → slice_get ups i ≡ Some u → slice_get r.templates i ≡ Some t → name_at r.templates u ≡ name_above r t.1.tree.parent
 
 -- what they name is there
 pub record Inside (ups : List Up) : Type 0 where

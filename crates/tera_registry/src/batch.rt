@@ -23,6 +23,7 @@ use tera_code::compiled;
 use tera_errors::TeraResult;
 use tera_syntax::parse;
 use tera_tree::{Delimiters, ParserOutput, Quoted};
+use tera_variables::free;
 
 /// Reads each text and puts it at its name, up to the first that spells no tree.
 pub fn put_all(
@@ -67,6 +68,7 @@ fn made(alloc: Global, name: &str, text: &str, output: &ParserOutput) -> TeraRes
     let blocks = blocks(alloc, name, output.nodes.as_slice())?;
     let tops = top_blocks(alloc, output.nodes.as_slice())?;
     let includes = includes(alloc, output.nodes.as_slice())?;
+    let free = free(alloc, output.nodes.as_slice())?;
     let components = components(alloc, name, output.nodes.as_slice())?;
     let component_calls = component_calls(alloc, &body, blocks.as_slice(), components.as_slice())?;
     let lacks = any_lacks(&body, blocks.as_slice(), components.as_slice());
@@ -78,6 +80,7 @@ fn made(alloc: Global, name: &str, text: &str, output: &ParserOutput) -> TeraRes
         blocks,
         tops,
         includes,
+        free,
         components,
         component_calls,
         lacks,

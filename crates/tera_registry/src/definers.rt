@@ -1,21 +1,20 @@
 // Who defines a block for a template, and which blocks are lost.
-ghost use Rattle.std.specs.Prelude.{◌≡◌, ◌<◌, ◌∷◌, not, is_some, length, slice_get, Some, Ok};
+ghost use Rattle.std.specs.Prelude.{◌≡◌, ◌<◌, ◌∷◌, not, is_some, length, slice_get, Some};
 ghost use Rattle.std.specs.List.{list_any};
 ghost use Rattle.tera_meaning.specs.Accepted.{loses_a_block, lacks_something, is_component, includes_of, misses_an_include};
 ghost use Rattle.tera_meaning.specs.Known.{lacks_a_callee};
 ghost use Rattle.tera_meaning.specs.Lineage.{ancestors, definers_in};
 ghost use Rattle.tera_meaning.specs.Registry.{Entry, Registry};
-ghost use Rattle.tera_meaning.specs.Resolve.{entry_at, parents};
+ghost use Rattle.tera_meaning.specs.Resolve.{entry_at};
 ghost use Rattle.tera_registry.specs.Choices.{chosen, AreChosen};
-ghost use Rattle.tera_registry.specs.Definers.{IsFirst, Grounded, blocks_of};
+ghost use Rattle.tera_registry.specs.Definers.{IsFirst, Climbable, blocks_of};
 ghost use Rattle.tera_registry.specs.Edges.{AreEdges};
-ghost use Rattle.tera_registry.specs.Order.{Rises};
 ghost use Rattle.tera_registry.specs.Places.{IsPlace};
-ghost use Rattle.tera_registry.specs.Kept.{entry_of, entries_of, seen};
+ghost use Rattle.tera_registry.specs.Kept.{entry_of};
 ghost use Rattle.tera_registry.specs.Walks.{rows};
 
 use crate::choices::Choice;
-use crate::lineage::{Up, above};
+use crate::lineage::Up;
 use crate::template::Template;
 use std::collections::BTreeMap;
 use std::rc::Rc;
@@ -42,18 +41,13 @@ fn own(template: &Template, block: &Sought<'_>) -> Option<usize>
 }
 
 /// Where the first of those stands who define a block, from a template on: itself, then its parents.
-pub fn first(
-    templates: &[Rc<Template>],
-    prefixes: &[String],
-    from: usize,
-    block: &Sought<'_>,
-) -> Option<At>
-    requires rises { Rises (entries_of templates.now) }
-    requires grounded { Grounded (seen templates.now prefixes.now) }
+pub fn first(templates: &[Rc<Template>], ups: &[Up], from: usize, block: &Sought<'_>) -> Option<At>
+    ghost registry: { Registry }
+    requires climbable { Climbable registry templates.now ups.now }
     requires there { from < length templates.now }
-    ensures { (t : Entry) → slice_get (entries_of templates.now) from ≡ Some t
-        → IsFirst (seen templates.now prefixes.now) result
-        (definers_in block.now (t ∷ ancestors (seen templates.now prefixes.now) t)) }
+    ensures { (t : Entry) → slice_get registry.templates from ≡ Some t
+        → IsFirst registry result
+        (definers_in block.now (t ∷ ancestors registry t)) }
 {
     let mut last = from;
     'up: loop {
@@ -64,7 +58,7 @@ pub fn first(
                 block: place,
             });
         }
-        match above(templates, prefixes, template) {
+        match ups[last] {
             Up::At(next) => last = next,
             Up::Nothing => return None,
             Up::Missing => return None,
@@ -75,38 +69,38 @@ pub fn first(
 /// Where the first of those stands who define a block above a template.
 pub fn first_above(
     templates: &[Rc<Template>],
-    prefixes: &[String],
-    of: &Template,
+    ups: &[Up],
+    of: usize,
     block: &Sought<'_>,
 ) -> Option<At>
-    requires rises { Rises (entries_of templates.now) }
-    requires grounded { Grounded (seen templates.now prefixes.now) }
-    requires parents { parents (seen templates.now prefixes.now) (entry_of of.now)
-        ≡ Ok (ancestors (seen templates.now prefixes.now) (entry_of of.now)) }
-    ensures { IsFirst (seen templates.now prefixes.now) result
-        (definers_in block.now (ancestors (seen templates.now prefixes.now) (entry_of of.now))) }
+    ghost registry: { Registry }
+    requires climbable { Climbable registry templates.now ups.now }
+    requires there { of < length templates.now }
+    ensures { (t : Entry) → slice_get registry.templates of ≡ Some t
+        → IsFirst registry result (definers_in block.now (ancestors registry t)) }
 {
-    match above(templates, prefixes, of) {
-        Up::At(next) => first(templates, prefixes, next, block),
+    match ups[of] {
+        Up::At(next) => first(templates, ups, next, block),
         Up::Nothing => None,
         Up::Missing => None,
     }
 }
 
 /// Whether a template extends another and has a block, inside no other block, that none of its parents has.
-fn loses(templates: &[Rc<Template>], prefixes: &[String], of: &Template) -> bool
-    requires rises { Rises (entries_of templates.now) }
-    requires grounded { Grounded (seen templates.now prefixes.now) }
-    requires parents { parents (seen templates.now prefixes.now) (entry_of of.now)
-        ≡ Ok (ancestors (seen templates.now prefixes.now) (entry_of of.now)) }
-    ensures { result ≡ loses_a_block (seen templates.now prefixes.now) (entry_of of.now) }
+fn loses(templates: &[Rc<Template>], ups: &[Up], of: usize) -> bool
+    ghost registry: { Registry }
+    requires climbable { Climbable registry templates.now ups.now }
+    requires there { of < length templates.now }
+    ensures { (t : Entry) → slice_get registry.templates of ≡ Some t
+        → result ≡ loses_a_block registry t }
 {
-    if of.parent.is_none() {
+    let template: &Template = &templates[of];
+    if template.parent.is_none() {
         return false;
     }
-    for name in &of.tops {
+    for name in &template.tops {
         let sought = name.sought();
-        match first_above(templates, prefixes, of, &sought) {
+        match first_above(templates, ups, of, &sought) {
             None => return true,
             Some(_) => {}
         }
@@ -144,43 +138,41 @@ fn misses_a_callee(choices: &BTreeMap<String, Choice>, of: &Template) -> bool
 /// those that it includes are there.
 fn lacks(
     templates: &[Rc<Template>],
-    prefixes: &[String],
-    of: &Template,
+    ups: &[Up],
+    of: usize,
     included: usize,
     choices: &BTreeMap<String, Choice>,
 ) -> bool
-    requires rises { Rises (entries_of templates.now) }
-    requires grounded { Grounded (seen templates.now prefixes.now) }
-    requires parents { parents (seen templates.now prefixes.now) (entry_of of.now)
-        ≡ Ok (ancestors (seen templates.now prefixes.now) (entry_of of.now)) }
-    requires included { included
-        ≡ length (includes_of (seen templates.now prefixes.now) (entry_of of.now)) }
-    requires choices { AreChosen (seen templates.now prefixes.now) choices.now }
-    ensures { result ≡ lacks_something (seen templates.now prefixes.now) (entry_of of.now) }
+    ghost registry: { Registry }
+    requires climbable { Climbable registry templates.now ups.now }
+    requires there { of < length templates.now }
+    requires included { (t : Entry) → slice_get registry.templates of ≡ Some t
+        → included ≡ length (includes_of registry t) }
+    requires choices { AreChosen registry choices.now }
+    ensures { (t : Entry) → slice_get registry.templates of ≡ Some t
+        → result ≡ lacks_something registry t }
 {
-    loses(templates, prefixes, of) || misses_a_callee(choices, of) || misses(of, included)
+    let template: &Template = &templates[of];
+    loses(templates, ups, of) || misses_a_callee(choices, template) || misses(template, included)
 }
 
-/// Whether any template names what is not there, where this is what each includes, and these are the definitions of
-/// components that are taken.
+/// Whether any template names what is not there, where this is what each extends and includes, and these are the
+/// definitions of components that are taken.
 pub fn any_lacks(
     templates: &[Rc<Template>],
-    prefixes: &[String],
+    ups: &[Up],
     edges: &[Vec<usize>],
     choices: &BTreeMap<String, Choice>,
 ) -> bool
-    requires rises { Rises (entries_of templates.now) }
-    requires grounded { Grounded (seen templates.now prefixes.now) }
-    requires edges { let r = seen templates.now prefixes.now in
-        AreEdges r (rows edges.now) (length templates.now) }
+    ghost registry: { Registry }
+    requires climbable { Climbable registry templates.now ups.now }
+    requires edges { AreEdges registry (rows edges.now) (length templates.now) }
     requires as_many { length edges.now ≡ length templates.now }
-    requires choices { AreChosen (seen templates.now prefixes.now) choices.now }
-    ensures { result ≡ list_any (lacks_something (seen templates.now prefixes.now))
-        (entries_of templates.now) }
+    requires choices { AreChosen registry choices.now }
+    ensures { result ≡ list_any (lacks_something registry) registry.templates }
 {
     for place in 0..templates.len() {
-        let template: &Template = &templates[place];
-        if lacks(templates, prefixes, template, edges[place].len(), choices) {
+        if lacks(templates, ups, place, edges[place].len(), choices) {
             return true;
         }
     }

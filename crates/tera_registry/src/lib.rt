@@ -19,6 +19,7 @@ mod priority;
 mod template;
 pub mod templates;
 pub mod tops;
+mod variables;
 mod walks;
 
 pub use components::Component;

@@ -22,7 +22,7 @@ pub enum Up {
     At(usize),
 }
 
-/// What a template extends, looked up once.
+/// What a template extends.
 pub fn above(templates: &[Rc<Template>], prefixes: &[String], of: &Template) -> Up
     requires { Rises (entries_of templates.now) }
     ensures { IsUp (seen templates.now prefixes.now) result (entry_of of.now).1.tree.parent }
@@ -36,8 +36,8 @@ pub fn above(templates: &[Rc<Template>], prefixes: &[String], of: &Template) -> 
     }
 }
 
-/// What each template extends.
-fn all_above(
+/// What each template extends. Each name is looked up once.
+pub fn all_above(
     alloc: Global,
     templates: &[Rc<Template>],
     prefixes: &[String],
@@ -146,27 +146,25 @@ fn is_at(found: Option<usize>, place: usize) -> bool
     }
 }
 
-/// The place of the last parent of each template, or the first fault by name, where it is known at which place the first
-/// template stands that leads into a circle, and at which the first that ties with another.
+/// The place of the last parent of each template, or the first fault by name, where this is what each extends, and it is
+/// known at which place the first template stands that leads into a circle, and at which the first that ties with another.
 pub fn roots(
     alloc: Global,
-    templates: &[Rc<Template>],
-    prefixes: &[String],
+    ups: &[Up],
     circle: Option<usize>,
     tie: Option<usize>,
 ) -> TeraResult<Vec<usize>>
-    requires rises { Rises (entries_of templates.now) }
-    requires circle { IsFirstCircle (seen templates.now prefixes.now) circle }
-    requires tie { IsFirstTie (seen templates.now prefixes.now) tie }
-    ensures answer { Gives (λ _. seen templates.now prefixes.now) result (climbed (seen templates.now prefixes.now)) }
-    ensures roots { IfOk result (λ v. AreRoots (seen templates.now prefixes.now) v.items (length templates.now)) }
+    ghost registry: { Registry }
+    requires ups { AreUps registry ups.now (length registry.templates) }
+    requires circle { IsFirstCircle registry circle }
+    requires tie { IsFirstTie registry tie }
+    ensures answer { Gives (λ _. registry) result (climbed registry) }
+    ensures roots { IfOk result (λ v. AreRoots registry v.items (length registry.templates)) }
 {
-    let all = all_above(alloc, templates, prefixes)?;
-    let ups = all.as_slice();
-    let mut known = vec![in alloc; None; templates.len()]?;
+    let mut known = vec![in alloc; None; ups.len()]?;
     let tops = known.as_mut_slice();
     let mut roots = Vec::new(alloc);
-    for place in 0..templates.len() {
+    for place in 0..ups.len() {
         match climb(ups, tops, place) {
             Ok(top) => {
                 if is_at(circle, place) {

@@ -1,16 +1,17 @@
 // Links templates, and refuses those that do not go together.
-ghost use Rattle.std.specs.Prelude.{length, IfOk};
+ghost use Rattle.std.specs.Prelude.{◌≡◌, length, IfOk};
 ghost use Rattle.tera_errors.specs.Answer.{Gives};
 ghost use Rattle.tera_meaning.specs.Adding.{accepted};
+ghost use Rattle.tera_meaning.specs.Registry.{Registry};
 ghost use Rattle.tera_registry.specs.Order.{Rises};
 ghost use Rattle.tera_registry.specs.Choices.{AreChosen};
-ghost use Rattle.tera_registry.specs.Links.{AreRoots};
+ghost use Rattle.tera_registry.specs.Links.{AreUps, AreRoots};
 ghost use Rattle.tera_registry.specs.Kept.{entries_of, seen};
 
 use crate::choices::{Choice, Taken, choices};
 use crate::definers::any_lacks;
 use crate::edges::edges;
-use crate::lineage::roots;
+use crate::lineage::{Up, all_above, roots};
 use crate::template::Template;
 use crate::walks::least_circle;
 use std::alloc::Global;
@@ -18,34 +19,43 @@ use std::collections::BTreeMap;
 use std::rc::Rc;
 use tera_errors::{Error, TeraResult};
 
-/// How templates go together: the place of the last parent of each, and which definition of each component is taken.
+/// How templates go together: what each extends, the place of the last parent of each, and which definition of each
+/// component is taken.
 #[derive(Drop)]
 pub struct Links {
+    pub ups: Vec<Up>,
     pub roots: Vec<usize>,
     pub choices: BTreeMap<String, Choice>,
 }
 
 /// Links templates. Refuses those that do not go together, with the first fault by name.
+// The registry is named, since what is called here sees no prefixes.
 pub fn link(alloc: Global, templates: &[Rc<Template>], prefixes: &[String]) -> TeraResult<Links>
-    requires { Rises (entries_of templates.now) }
-    ensures answer { let r = seen templates.now prefixes.now in
-        Gives (λ _. r) result (accepted r) }
-    ensures roots { IfOk result
-        (λ l. AreRoots (seen templates.now prefixes.now) l.roots.items (length templates.now)) }
-    ensures choices { IfOk result (λ l. AreChosen (seen templates.now prefixes.now) l.choices) }
+    ghost registry: { Registry }
+    requires rises { Rises (entries_of templates.now) }
+    requires registry { registry ≡ seen templates.now prefixes.now }
+    ensures answer { Gives (λ _. registry) result (accepted registry) }
+    ensures ups { IfOk result (λ l. AreUps registry l.ups.items (length registry.templates)) }
+    ensures roots { IfOk result (λ l. AreRoots registry l.roots.items (length registry.templates)) }
+    ensures choices { IfOk result (λ l. AreChosen registry l.choices) }
 {
+    let ups = all_above(alloc, templates, prefixes)?;
     let edges = edges(alloc, templates, prefixes)?;
     let circle = least_circle(alloc, edges.as_slice())?;
     let Taken { choices, tie } = choices(alloc, templates, prefixes)?;
-    let roots = match roots(alloc, templates, prefixes, circle, tie) {
+    let roots = match roots(alloc, ups.as_slice(), circle, tie) {
         Ok(roots) => roots,
         Err(fault) => return Err(fault),
     };
-    if any_lacks(templates, prefixes, edges.as_slice(), &choices) {
+    if any_lacks(templates, ups.as_slice(), edges.as_slice(), &choices) {
         return Err(Error::message(
             alloc,
             "a template has a block that none of its parents has, or names what is not there",
         ));
     }
-    Ok(Links { roots, choices })
+    Ok(Links {
+        ups,
+        roots,
+        choices,
+    })
 }

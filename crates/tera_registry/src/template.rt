@@ -10,9 +10,12 @@ ghost use Rattle.tera_registry.specs.Components as kept;
 ghost use Rattle.tera_code.specs.Blocks.{block_of, block_listings};
 ghost use Rattle.tera_code.specs.Code.{listing_of};
 ghost use Rattle.tera_code.specs.contracts.chunk.Chunk as chunk;
+ghost use Rattle.tera_variables.specs.Free as in_text;
+ghost use Rattle.tera_variables.specs.Sets.{names_in};
 
 use crate::components::Component;
 use crate::meant::Meant;
+use std::collections::BTreeSet;
 use tera_code::{Block, Chunk};
 use tera_values::Name;
 
@@ -31,6 +34,8 @@ pub struct Template {
     pub tops: Vec<Name>,
     /// The names that it includes, in the order of its text.
     pub includes: Vec<Name>,
+    /// The names that are free in its text, each once.
+    pub free: BTreeSet<String>,
     /// The components that it defines, in the order of its text.
     pub components: Vec<Component>,
     /// The names of the components that it calls.
@@ -47,5 +52,6 @@ pub struct Template {
         ≡ kept.component_calls (nodes_of meant.nodes) } by { Prim.hlevel codes },
     ghost lacking: { lacks ≡ lacks_a_callee (λ name. true) (nodes_of meant.nodes) },
     ghost included: { includes.items ≡ in_nodes.includes (nodes_of meant.nodes) } by { Prim.hlevel codes },
+    ghost freed: { names_in free ≡ in_text.free (nodes_of meant.nodes) } by { Prim.hlevel codes },
     ghost topped: { tops.items ≡ in_tree.top_blocks (nodes_of meant.nodes) } by { Prim.hlevel codes },
 }

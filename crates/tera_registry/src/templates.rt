@@ -1,11 +1,12 @@
 // All templates of an engine, linked.
 ghost use Rattle.std.specs.Prelude.{◌≡◌, ◌<◌, IfOk, IfErr, Some, None, Ok, map, length, slice_get, is_some, string_bytes, IsTrue, [], ◌∷◌};
-ghost use Rattle.tera_errors.specs.Answer.{Gives, Lacks};
+ghost use Rattle.tera_errors.specs.Answer.{Gives, GivesOneOf, Lacks};
 ghost use Rattle.tera_tree.specs.Delimiters.{delimiters_of, accepted};
 ghost use Rattle.tera_tree.specs.View.{nodes_of};
 ghost use Rattle.tera_meaning.specs.Accepted.{fault, is_component, misses_an_include};
 ghost use Rattle.tera_meaning.specs.Lineage.{ancestors, definers_in};
 ghost use Rattle.tera_meaning.specs.Components.{AreComponentNames};
+ghost use Rattle.tera_meaning.specs.Variables.{AnswersVariables};
 ghost use Rattle.tera_meaning.specs.Resolve.{resolve};
 ghost use Rattle.tera_meaning.specs.Registry.{Entry, Registry};
 ghost use Rattle.std.specs.Coded.{codes};
@@ -13,7 +14,7 @@ ghost use Rattle.tera_code.specs.contracts.chunk.Chunk as chunk;
 ghost use Rattle.tera_registry.specs.contracts.choices.Choice as choice;
 ghost use Rattle.tera_registry.specs.Choices.{AreChosen};
 ghost use Rattle.tera_registry.specs.Order.{Rises, Rises-prop};
-ghost use Rattle.tera_registry.specs.Links.{IsLinked};
+ghost use Rattle.tera_registry.specs.Links.{ArePlaced, IsLinked};
 ghost use Rattle.tera_registry.specs.Kept.{entries_of, seen};
 ghost use Rattle.tera_registry.specs.Batch.{ConfiguresOneOf, Adds, pairs_of};
 
@@ -24,15 +25,17 @@ use crate::components::Component;
 use crate::definers::{At, first, first_above};
 use crate::includes::misses;
 use crate::known::any_lacks;
+use crate::lineage::Up;
 use crate::link::link;
 use crate::names::resolve;
 use crate::template::Template;
+use crate::variables::variables;
 use std::alloc::Global;
-use std::collections::BTreeMap;
+use std::collections::{BTreeMap, BTreeSet};
 use std::rc::Rc;
 use tera_code::Chunk;
 use tera_components::ComponentDefinition;
-use tera_errors::TeraResult;
+use tera_errors::{Error, TeraResult};
 use tera_tree::{Delimiters, Node};
 use tera_values::Sought;
 
@@ -41,10 +44,13 @@ pub struct Templates {
     alloc: Global,
     all: Vec<Rc<Template>>,
     prefixes: Vec<String>,
+    /// What each extends, which is looked up when they are linked and never again.
+    ups: Vec<Up>,
     roots: Vec<usize>,
     choices: BTreeMap<String, Choice>,
     ghost rises: { Rises (entries_of all.items) } by { Rises-prop _ },
     ghost accepted: { fault (seen all.items prefixes.items) ≡ None },
+    ghost placed: { ArePlaced (seen all.items prefixes.items) ups.items } by { Prim.hlevel codes },
     ghost linked: { IsLinked all.items prefixes.items roots.items } by { Prim.hlevel (codes, chunk.the_row.coded) },
     ghost chosen: { AreChosen (seen all.items prefixes.items) choices } by { Prim.hlevel (codes, choice.the_row.coded) },
 }
@@ -56,11 +62,13 @@ impl Drop for Templates {
             alloc: _,
             all,
             prefixes,
+            ups,
             roots,
             choices,
         } = self;
         drop(all);
         drop(prefixes);
+        drop(ups);
         drop(roots);
         drop(choices);
     }
@@ -176,6 +184,7 @@ impl Templates {
             alloc,
             all: Vec::new(alloc),
             prefixes,
+            ups: Vec::new(alloc),
             roots: Vec::new(alloc),
             choices: BTreeMap::new(alloc),
         }
@@ -199,6 +208,7 @@ impl Templates {
             Err(fault) => return Err(fault),
         };
         self.all = all;
+        self.ups = links.ups;
         self.roots = links.roots;
         self.choices = links.choices;
         Ok(())
@@ -222,11 +232,13 @@ impl Templates {
 
     /// Where the first of those stands who define a block, from a template on.
     fn first(&self, from: usize, block: &Sought<'_>) -> Option<Start<'_>>
-        requires { from < length self.now.all.items }
-        ensures { (t : Entry) → slice_get (templates_of self.now) from ≡ Some t
-            → started result ≡ definers_in block.now (t ∷ ancestors (registry_in self.now) t) }
+        ghost registry: { Registry }
+        requires registry { registry ≡ registry_in self.now }
+        requires there { from < length self.now.all.items }
+        ensures { (t : Entry) → slice_get registry.templates from ≡ Some t
+            → started result ≡ definers_in block.now (t ∷ ancestors registry t) }
     {
-        match first(self.all.as_slice(), self.prefixes.as_slice(), from, block) {
+        match first(self.all.as_slice(), self.ups.as_slice(), from, block) {
             None => None,
             Some(at) => Some(Start {
                 templates: self,
@@ -264,7 +276,9 @@ impl Templates {
 
     /// Where the first of those stands who define a block above the template in which it stands.
     fn above(&self, at: At) -> Option<At>
-        ensures { from_found (registry_in self.now) result ≡ above_place (registry_in self.now) at }
+        ghost registry: { Registry }
+        requires registry { registry ≡ registry_in self.now }
+        ensures { from_found registry result ≡ above_place registry at }
     {
         let all = self.all.as_slice();
         if at.template >= all.len() {
@@ -277,7 +291,7 @@ impl Templates {
         }
         let block = &blocks[at.block];
         let name = block.name.sought();
-        first_above(all, self.prefixes.as_slice(), template, &name)
+        first_above(all, self.ups.as_slice(), at.template, &name)
     }
 
     /// Whether a name resolves to a template. Takes no memory.
@@ -314,9 +328,13 @@ impl Templates {
             → map kept_of own.now ≡ kept_all file tree.nodes → blocks tree.nodes ≡ []
             → result ≡ lacks_a_callee (is_component_beside (with_templates r self.now) tree) tree.nodes }
     {
-        any_lacks(body, &[], own)
-            || code_misses(&self.choices, own, body)
-            || any_misses(&self.choices, own)
+        if any_lacks(body, &[], own) {
+            return true;
+        }
+        if code_misses(&self.choices, own, body) {
+            return true;
+        }
+        any_misses(&self.choices, own)
     }
 
     /// Whether nodes include what is not there. Takes no memory.
@@ -349,6 +367,20 @@ impl Templates {
             names.push(name.clone()?)?;
         }
         Ok(names)
+    }
+
+    /// The names that the template wants to be given to which a name resolves: those that are free in it, in its parents, and in
+    /// all that these include, each once. Refused with `TemplateNotFound` where there is none.
+    pub fn variables(&self, name: &str) -> TeraResult<BTreeSet<String>>
+        ensures { (r : Registry) → GivesOneOf (λ s. map string_bytes s.keys) result
+            (AnswersVariables (with_templates r self.now) (resolve (with_templates r self.now) name.now)) }
+    {
+        let all = self.all.as_slice();
+        let prefixes = self.prefixes.as_slice();
+        match resolve(all, prefixes, name) {
+            Some(place) => variables(self.alloc, all, prefixes, place),
+            None => Err(Error::template_not_found()),
+        }
     }
 
     /// Whether there is no template.

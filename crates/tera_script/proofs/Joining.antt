@@ -1,5 +1,5 @@
 -- Texts with a text between each two.
-use Rattle.std.proofs.Common.{◌≡◌, List, [], ◌∷◌, ◌++◌, map, Result, Ok, refl, sym, ap, ◌∙◌}
+use Rattle.std.proofs.Common.{◌≡◌, List, [], ◌∷◌, ◌++◌, map, refl, sym, ap, ◌∙◌}
 use Rattle.std.proofs.lemmas.List.Folds.{flat_map-map}
 use Rattle.std.specs.List.{join_by}
 
@@ -14,7 +14,3 @@ join_by-same f g between xs ys h =
     sym (join_by-map (λ (t : List _). t) f between xs)
     ∙ ap (join_by (λ (t : List _). t) between) h
     ∙ join_by-map (λ (t : List _). t) g between ys
-
--- two answers that are one are of one value
-pub ok-same : {X E : Type 0} (a b : X) → (let answer : Result X E = Ok a in answer ≡ Ok b) → a ≡ b
-ok-same a b h = cc

@@ -1,5 +1,5 @@
 // Each component by itself.
-ghost use Rattle.std.specs.Prelude.{◌≡◌, ◌++◌, Ok, IfErr, OnOk, string_bytes, codes, map, is_some, true};
+ghost use Rattle.std.specs.Prelude.{◌≡◌, ◌++◌, Ok, IfErr, IfOk, OnOk, string_bytes, codes, map, is_some, true};
 ghost use Rattle.tera.specs.Lent.{texts_of};
 ghost use Rattle.tera.specs.Registry.{registry_of, info_at};
 ghost use Rattle.tera_errors.specs.Answer.{Gives, GivesOneOf, Lacks};
@@ -69,9 +69,9 @@ fn all_shown(
     autoescape: bool,
     names: &[String],
 ) -> TeraResult<Vec<String>>
-    ensures { Gives (λ texts. map string_bytes texts.items) result
-        (Ok (map (λ name. shown (registry_of engine.now) context.now autoescape (string_bytes name))
-        names.now)) }
+    ensures ok { let told = shown (registry_of engine.now) context.now autoescape in
+        IfOk result (λ t. map string_bytes t.items ≡ map (λ n. told (string_bytes n)) names.now) }
+    ensures lacks { IfErr result Lacks }
 {
     let mut texts = Vec::with_capacity(alloc, names.len())?;
     for name in names {

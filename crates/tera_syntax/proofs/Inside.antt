@@ -1,5 +1,5 @@
 -- All spans of a tree lie inside the text that spells it.
-use Rattle.std.proofs.Common.{◌≡◌, ℕ, arith, Bool, false, List, Option, length, IsTrue}
+use Rattle.std.proofs.Common.{◌≡◌, ℕ, arith, Bool, true, false, List, Option, length, IsTrue, refl, sym, ap, ◌∙◌}
 use Rattle.std.specs.Str.{IsUtf8}
 use Rattle.tera_errors.specs.Site.{Name, Text}
 use Rattle.tera_tree.specs.Delimiters.{delimiters_of, accepted}
@@ -9,7 +9,7 @@ use Rattle.tera_tree.specs.Inside.{Within, ExprInside, EntriesInside, FiltersIns
 use Rattle.tera_tokens.specs.declared.token.Kind.{Kind}
 use Rattle.tera_tokens.specs.declared.token.Kind.TheVariants as k
 use Rattle.tera_tokens.specs.Token.{Token}
-use Rattle.tera_tokens.specs.Input.{Input, begin, kind, start, next, span}
+use Rattle.tera_tokens.specs.Input.{Input, begin, kind, start, next, span, is_word}
 use Rattle.tera_tokens.specs.Cut.{Piece}
 use Rattle.tera_tokens.proofs.Order.{InOrder, in_order-le, Orderly, Onward, onward_next, onward_then, start_le}
 use Rattle.tera_tokens.proofs.Stretches.{PiecesInside, pieces_inside}
@@ -69,6 +69,11 @@ HeadInside size (BlockHead n place) = Within size place
 HeadInside size (CallHead n all place) = EntriesInside size all × Within size place
 HeadInside size (DefinitionHead s) = Unit {0}
 
+-- a word is not the end of a tag
+word-goes-on : (i : Input) → is_word (kind i) ≡ true → kind i ≡ k.End → ⊥
+unfolding is_word
+word-goes-on i w e = (let f : is_word k.End ≡ true = ap is_word (sym e) ∙ w in cc)
+
 opens_inside : (size : ℕ) {q : Surroundings} {head : Head} {tokens : List Token} → Opens q head tokens → InOrder size 0 tokens → HeadInside size head
 opens_inside size {q = q} {tokens = tokens} (choice e w) o = whole_inside size w (behind size (begin q.in_loop tokens) o)
 opens_inside size {q = q} {tokens = tokens} (loop e c w) o = let n = calls_lie size c (behind size (begin q.in_loop tokens) o) in whole_inside size w n.orderly
@@ -82,7 +87,9 @@ opens_inside size {q = q} {tokens = tokens} (call {a = a} e w d g f) o =
     let p = attributes_lie size d m.orderly in
     (p.inside, stretch_inside size k.Less i (next a) (first_here k.Less q.in_loop tokens e) (λ q. cc) o (onward_then m (onward_then p.onward (onward_next size a p.onward.orderly))))
 opens_inside size (definition t b d e) o = tt
-opens_inside size {q = q} {tokens = tokens} (block m b n) o = token_inside size k.Name (next (begin q.in_loop tokens)) n.0 (λ q. cc) (behind size (begin q.in_loop tokens) o)
+opens_inside size {q = q} {tokens = tokens} (block m b w n) o =
+    let i = next (begin q.in_loop tokens) in
+    token_inside size (kind i) i refl (word-goes-on i w) (behind size (begin q.in_loop tokens) o)
 
 goes_on_inside : (size : ℕ) {q : Surroundings} {head : Head} {tokens : List Token} → GoesOn q head tokens → InOrder size 0 tokens → HeadInside size head
 goes_on_inside size {q = q} {tokens = tokens} (elif e w) o = whole_inside size w (behind size (begin q.in_loop tokens) o)

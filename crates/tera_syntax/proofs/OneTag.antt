@@ -147,9 +147,9 @@ module _ (limit : ℕ) (q outer : Surroundings) (tokens : List Token) (t : Tag) 
       let i = next (begin q.in_loop tokens) in
       let u = Opening (BlockHead (text i) (span (start i) (next i))) in
       let m = guard q.may_have_blocks (block_at i) t h in
-      let g = guard (same k.Name (kind i)) (if same k.End (kind (next i)) then Some u else None) t m.1 in
+      let g = guard (is_word (kind i)) (if same k.End (kind (next i)) then Some u else None) t m.1 in
       let f = guard (same k.End (kind (next i))) (Some u) t g.1 in
-      said u (block m.0 b (same-is k.Name (kind i) g.0, same-is k.End (kind (next i)) f.0), omega arith) (some-is u t f.1)
+      said u (block m.0 b g.0 (same-is k.End (kind (next i)) f.0), omega arith) (some-is u t f.1)
 
   definition-got : Begins (codes "component") tokens → defining q.is_top limit (next (begin false tokens)) ≡ Some t → Says
   definition-got b h =
@@ -329,16 +329,16 @@ module _ (limit : ℕ) (q outer : Surroundings) (tokens : List Token) where
   unfolding named
   block-named = refl
 
-  block-read : IsTrue q.may_have_blocks → Begins (codes "block") tokens → Names (next (begin q.in_loop tokens)) k.End
+  block-read : IsTrue q.may_have_blocks → Begins (codes "block") tokens → is_word (kind (next (begin q.in_loop tokens))) ≡ true → kind (next (next (begin q.in_loop tokens))) ≡ k.End
       → tag limit q outer tokens ≡ Some (Opening (BlockHead (text (next (begin q.in_loop tokens))) (span (start (next (begin q.in_loop tokens))) (next (next (begin q.in_loop tokens))))))
-  block-read m b n =
+  block-read m b w n =
       let i = next (begin q.in_loop tokens) in
       let u = Some (Opening (BlockHead (text i) (span (start i) (next i)))) in
       by-word (codes "block") b
       ∙ block-named
       ∙ ap (λ (b : Bool). if b then block_at i else None) m
-      ∙ name-stands i n.0 (if same k.End (kind (next i)) then u else None)
-      ∙ ap (λ (b : Bool). if b then u else None) (ap (same k.End) n.1 ∙ same-refl k.End)
+      ∙ ap (λ (b : Bool). if b then (if same k.End (kind (next i)) then u else None) else None) w
+      ∙ ap (λ (b : Bool). if b then u else None) (ap (same k.End) n ∙ same-refl k.End)
 
   component-named : named limit q tokens (codes "component") ≡ defining q.is_top limit (next (begin false tokens))
   unfolding named
@@ -401,7 +401,7 @@ module _ (limit : ℕ) (q outer : Surroundings) (tokens : List Token) where
   opens_read (capture b n) le = capture-read b n
   opens_read (filtered b n w) le = filtered-read b n w le
   opens_read (section b w) le = section-read b w le
-  opens_read (block m b n) le = block-read m b n
+  opens_read (block m b w n) le = block-read m b w n
   opens_read (call e w d g f) le = call-read e w d g f le
   opens_read (definition m b d e) le = definition-read m b d e le
 

@@ -67,7 +67,7 @@ opens_may (loop e c w) = tt
 opens_may (capture b n) = tt
 opens_may (filtered b n w) = tt
 opens_may (section b w) = tt
-opens_may (block m b n) = m
+opens_may (block m b w n) = m
 opens_may (call e w d g f) = tt
 opens_may (definition m b d e) = m
 

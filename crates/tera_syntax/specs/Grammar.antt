@@ -63,7 +63,9 @@ pub data Opens : Surroundings → Head → List Token → Type 0 where
   filtered : {q : Surroundings} {is_global : Bool} {fs : Filters} {tokens : List Token} → Begins (set_word is_global) tokens → Names (next (begin q.in_loop tokens)) k.Bar → DerivesPipe fs (next (next (next (begin q.in_loop tokens))))
       → Opens q (SetHead (text (next (begin q.in_loop tokens))) fs is_global) tokens
   section : {q : Surroundings} {fs : Filters} {tokens : List Token} → Begins (codes "filter") tokens → DerivesPipe fs (next (begin q.in_loop tokens)) → Opens q (SectionHead fs) tokens
-  block : {q : Surroundings} {tokens : List Token} → IsTrue q.may_have_blocks → Begins (codes "block") tokens → Names (next (begin q.in_loop tokens)) k.End
+  -- its name may be a reserved word
+  block : {q : Surroundings} {tokens : List Token} → IsTrue q.may_have_blocks → Begins (codes "block") tokens
+      → is_word (kind (next (begin q.in_loop tokens))) ≡ true → kind (next (next (begin q.in_loop tokens))) ≡ k.End
       → Opens q (BlockHead (text (next (begin q.in_loop tokens))) (span (start (next (begin q.in_loop tokens))) (next (next (begin q.in_loop tokens))))) tokens
   -- its name may be a reserved word; the span is that of `<` to `>`
   call : {q : Surroundings} {xs : Entries} {a : Input} {tokens : List Token} → first tokens ≡ k.Less → is_word (kind (next (begin q.in_loop tokens))) ≡ true

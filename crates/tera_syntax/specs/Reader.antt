@@ -154,7 +154,7 @@ abbrev pub sectioning : ℕ → Input → Option Tag
 sectioning limit i = option_map (λ fs. Opening (SectionHead fs)) (pipe limit i)
 
 abbrev pub block_at : Input → Option Tag
-block_at i = if same k.Name (kind i) then (if same k.End (kind (next i)) then Some (Opening (BlockHead (text i) (span (start i) (next i)))) else None) else None
+block_at i = if is_word (kind i) then (if same k.End (kind (next i)) then Some (Opening (BlockHead (text i) (span (start i) (next i)))) else None) else None
 
 -- behind `block`, where blocks may stand
 abbrev pub blocking : Bool → Input → Option Tag

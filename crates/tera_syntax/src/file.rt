@@ -47,7 +47,8 @@ fn is_space(text: &str) -> bool
 
 /// Whether a piece may stand in front of `extends`.
 fn is_front_piece(piece: Piece<'_>) -> bool
-    ensures { (tokens : List token.Token) → result ≡ spec.is_front_piece (piece_of tokens piece.entry) }
+    ensures { (tokens : List token.Token) → result
+        ≡ spec.is_front_piece (piece_of tokens piece.entry) }
 {
     match piece {
         Piece::Words(text, _) => is_space(text),

@@ -66,7 +66,8 @@ fn made<'s>(
     body: Option<Vec<Node<'s>>>,
     found: Vec<Node<'s>>,
 ) -> Node<'s>
-    ensures { node_of result ≡ spec.made (head_of head.entry) (body_of body.entry) (nodes_of found.entry.items) }
+    ensures { node_of result ≡ spec.made (head_of head.entry) (body_of body.entry)
+        (nodes_of found.entry.items) }
 {
     match body {
         None => head.make(found, Vec::new(alloc)),
@@ -143,7 +144,8 @@ impl<'s> Progress<'s> {
         head: Head<'s>,
         tag: &[Token<'_>],
     ) -> Result<(), Refusal>
-        ensures { let meant = spec.opened 200 is_chained (progress_of self.old) (head_of head.entry) in
+        ensures { let meant = spec.opened 200 is_chained (progress_of self.old) (head_of head.entry)
+            in
             Becomes meant result self.new }
     {
         if !self.has_room() {
@@ -248,7 +250,8 @@ impl<'s> Progress<'s> {
 
     /// The nodes, where the text ends here. It takes no memory.
     pub fn finish(self, at: usize) -> Result<Vec<Node<'s>>, Refusal>
-        ensures value { let meant = spec.finished (progress_of self.entry).frames (progress_of self.entry).found in
+        ensures value { let meant = spec.finished (progress_of self.entry).frames
+            (progress_of self.entry).found in
             Answers (λ nodes. nodes_of nodes.items) meant result }
         ensures told { IfErr result IsSyntax }
     {

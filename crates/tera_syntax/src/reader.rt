@@ -84,9 +84,11 @@ pub fn parse<'s>(
     delimiters: &Delimiters,
 ) -> TeraResult<ParserOutput<'s>>
     requires { IsTrue (accepted (delimiters_of delimiters.now)) }
-    ensures reads { GivesOneOf tree_of result (Reads name.now (delimiters_of delimiters.now) source.now) }
+    ensures reads { GivesOneOf tree_of result
+        (Reads name.now (delimiters_of delimiters.now) source.now) }
     ensures inside { IfOk result (λ output. Inside (length source.now) (tree_of output)) }
-    ensures plain { GivesOneOf tree_of result (ReadsPlainText (delimiters_of delimiters.now) source.now) }
+    ensures plain { GivesOneOf tree_of result
+        (ReadsPlainText (delimiters_of delimiters.now) source.now) }
 {
     match read(alloc, delimiters, source) {
         Ok(output) => Ok(output),

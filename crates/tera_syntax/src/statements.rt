@@ -86,7 +86,8 @@ pub(crate) fn put<'s>(
     node: Node<'s>,
     tag: &[Token<'_>],
 ) -> Result<(), Refusal>
-    ensures { Becomes (spec.put 200 (progress_of progress.old) (node_of node.entry)) result progress.new }
+    ensures { Becomes (spec.put 200 (progress_of progress.old) (node_of node.entry))
+        result progress.new }
 {
     if !progress.has_room() {
         return Err(refused(tag, Reason::TooDeep));

@@ -14,7 +14,7 @@ use crate::progress::{Progress, refused};
 use crate::statements::{behind, pipe, put, whole};
 use std::alloc::Global;
 use tera_tokens::cut::is_alone;
-use tera_tokens::input::{Tokens, same};
+use tera_tokens::input::{Tokens, is_word, same};
 use tera_tokens::literal::literal;
 use tera_tokens::refusal::{Reason, Refusal};
 use tera_tokens::token::{Kind, Token};
@@ -73,7 +73,7 @@ fn section<'s>(
     progress.open(alloc, false, Head::Section(filters), tag)
 }
 
-/// Behind `block`.
+/// Behind `block`, whose name may be a reserved word.
 fn block<'s>(
     progress: &mut Progress<'s>,
     alloc: Global,
@@ -87,7 +87,7 @@ fn block<'s>(
     if !progress.surroundings.may_have_blocks {
         return Err(refused(tag, Reason::OutOfPlace));
     }
-    if !same(Kind::Name, ahead.kind()) {
+    if !is_word(ahead.kind()) {
         return Err(ahead.refuse(Reason::Expected(Kind::Name)));
     }
     let name = ahead.text();

@@ -46,6 +46,10 @@ pub static INCLUDES: [Row; 16] = [
         "(block include of  9-16)",
     ),
     Row(
+        "{% block if %}{% block not %}{% endblock not %}{% endblock if %}",
+        "(block if of (block not of  23-26) 9-11)",
+    ),
+    Row(
         "{% raw %}{% include 'a' %}{% endraw %}",
         "({% include 'a' %} 9-26)",
     ),

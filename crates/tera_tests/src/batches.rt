@@ -156,6 +156,22 @@ ok
 ok
 S
 
+@@ prefix spare/
+@@ template spare/wheel
+the spare one
+@@ end
+@@ template wheel
+the wheel itself
+@@ end
+@@ add
+@@ render wheel
+=>
+ok
+ok
+ok
+ok
+the wheel itself
+
 @@ prefix s/
 @@ prefix t/
 @@ template s/a

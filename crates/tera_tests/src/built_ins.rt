@@ -4,6 +4,7 @@ use crate::cases::wrong;
 const TEXTS: &str = r#"
 {{ "日本語" | truncate(length=2) }}|{{ "ab" | truncate(length=2) }}|{{ "abc" | truncate(length=2, end="") }} => 日本…|ab|ab
 {{ "abc" | truncate(length=0) }} => …
+{{ "👩‍🔬🧪 lab" | truncate(length=3) }}|{{ "👩🔬🧪 lab" | truncate(length=3) }} => 👩‍🔬🧪 …|👩🔬🧪…
 {{ "abc" | truncate }} !! 3 19
 {{ "abc" | truncate(length=-1) }} !! 3 8
 {{ 1 | truncate }} !! 3 4
@@ -24,6 +25,7 @@ const TEXTS: &str = r#"
 {{ "one\ntwo" | indent(width=2, indentation="·") | newlines_to_br }} => one<br>··two
 {{ "a\n\nb" | indent(width=1, blank=true, first=true) | split(pat="\n") }} => [" a", " ", " b"]
 {{ "a" | indent(indentation="ab") }} !! 3 33
+{{ name | indent(indentation="") }} !! 3 32
 {{ "" | indent(first=true) }}| => |
 {{ "ab" | split(pat="") }}{{ "a,b" | split(pat=",") }}{{ "ab" | split(pat="x") }} => ["", "a", "b", ""]["a", "b"]["ab"]
 {{ "a" | split }} !! 3 14
@@ -35,6 +37,9 @@ const TEXTS: &str = r#"
 const NUMBERS: &str = r#"
 {{ "0b1010" | int(base=2) }} {{ " -12 " | int }} {{ "zZ" | int(base=36) }} {{ 7 | int }} => 10 -12 1295 7
 {{ "+5" | int }}{{ "0o0o17" | int(base=8) }} => 515
+{{ "0" | int }} {{ -9 | int }} {{ (-9) | int }} {{ "18446744073709551616" | int }} => 0 -9 -9 18446744073709551616
+{{ "seven" | int }} !! 3 16
+{{ "2.00" | int }} !! 3 15
 {{ "1.5" | int }} !! 3 14
 {{ "" | int }} !! 3 11
 {{ "1" | int(base=1) }} !! 3 20
@@ -46,6 +51,7 @@ const NUMBERS: &str = r#"
 {{ "a" | abs }} !! 3 12
 {{ (-170141183460469231731687303715884105727 - 1) | abs }} !! 3 55
 dog{{ 1 | pluralize }} dog{{ 2 | pluralize }} berr{{ (-1) | pluralize(singular="y", plural="ies") }} => dog dogs berry
+box{{ 1 | pluralize }} box{{ (-1) | pluralize }} box{{ 0 | pluralize(plural="es") }} => box box boxes
 {{ "a" | pluralize }} !! 3 18
 {{ hey | default(value=1) }}{{ none | default(value=1) }}|{{ "" | default(value=2, boolean=true) }} => 1|2
 {{ hey | default }} !! 3 16
@@ -150,6 +156,8 @@ const ESCAPED: &str = r#"
 {{ text | safe }}{{ text }}{{ safe | str }} => <b>&lt;b&gt;&lt;b&gt;
 {{ text | escape }}{{ safe | escape }} => &lt;b&gt;<b>
 {{ safe | truncate(length=1) }} => &lt;…
+{{ safe | default(value="<") }}{{ hey | default(value=safe) }}{{ hey | default(value="<") }} => <b><b>&lt;
+{{ "<p>\n<i>" | safe | indent(width=2) | replace(from="\n", to="/") }} => <p>/  <i>
 {{ safe | split(pat="x") | first }}{{ [safe] | first }} => &lt;b&gt;<b>
 {{ text | newlines_to_br }}{{ text | escape_html }} => &lt;b&gt;&amp;lt;b&amp;gt;
 {% filter trim %} <i>{{ text }}</i> {% endfilter %} => <i>&lt;b&gt;</i>

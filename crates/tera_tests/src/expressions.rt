@@ -5,6 +5,9 @@ const CASES: &str = r#"
 {{ 2 ** 10 ~ "x" }} => 1024x
 {{ -2 ** 2 }} => -4
 {{ (-2) ** 2 }} => 4
+{{ 0 ** 0 }}{{ 5 ** 0 }} => 11
+{% set low = -8 %}{{ -low | abs }} {{ (-low) | abs }} => -8 8
+[{{ none }}] => []
 {{ 1 < 2 == true }} => true
 {{ 1 // 0 if false else 2 }} => 2
 a {{-1}} => a1
@@ -40,6 +43,7 @@ a {{- 1 -}} b => a1b
 {{ a.0 }} !! syntax
 {{ a <b/> }} !! syntax
 {{ (a }} !! syntax
+{{ name is not not in text }} !! syntax
 {{ 170141183460469231731687303715884105728 }} !! syntax
 {{ [1 }} !! syntax
 {{ 1 !! syntax

@@ -73,3 +73,5 @@ mod state;
 mod statements;
 #[cfg(test)]
 mod templates;
+#[cfg(test)]
+mod variables;

@@ -6,24 +6,10 @@ const PREVIEWS: &str = r#"@@ template c
 {% component show(@name, @lang = "fr") %}{{ name }}-{{ lang }}{% endcomponent show %}
 @@ end
 @@ add
+@@ preview off
 @@ text name
 Vincent
 @@ end
-@@ preview off
-=>
-ok
-ok
-ok
-# attrs
- || Vincent-fr
-# show
-Vincent-fr
-
-@@ template c
-{% component attrs(...rest) %}{% for k, v in rest %}{{k}}={{v}} {% endfor %} || {{ <show /> }}{% endcomponent attrs %}
-{% component show(@name, @lang = "fr") %}{{ name }}-{{ lang }}{% endcomponent show %}
-@@ end
-@@ add
 @@ preview off
 =>
 ok
@@ -32,6 +18,11 @@ ok
 fault RenderingError c 83 91
 # show
 fault Message
+ok
+# attrs
+ || Vincent-fr
+# show
+Vincent-fr
 
 @@ template c
 {% component show(@name) %}{{ name }}{% endcomponent show %}

@@ -8,7 +8,7 @@ use tera_script::Outcome::{Done, Unreadable};
 #[derive(Clone, Copy)]
 struct Script(&'static [u8], &'static [u8], Outcome);
 
-const SCRIPTS: [Script; 29] = [
+const SCRIPTS: [Script; 31] = [
     Script(
         b"@@ text name\nworld\n@@ end\n@@ str off\nHello {{ name }}!\n@@ end\n",
         b"ok\nHello world!\n",
@@ -62,6 +62,17 @@ const SCRIPTS: [Script; 29] = [
     Script(b"@@ text x\nbody\n@@ end\n\xff", b"", Unreadable(1)),
     Script(b"@@ add\n@@ template a\nopen\n", b"ok\n", Unreadable(2)),
     Script(b"@@ template a b\n@@ end\n", b"", Unreadable(1)),
+    Script(
+        b"@@ render shelf\n@@ dust shelf\n@@ render shelf\n",
+        b"fault TemplateNotFound\n",
+        Unreadable(2),
+    ),
+    Script(
+        b"@@ template egg\n\n@@ end\n@@ template hen\n{% extends 'egg' %}\n@@ end\n\
+          @@ template coop\n{% extends 'hen' %}\n@@ end\n@@ add\n@@ render coop\n@@ render egg\n",
+        b"ok\nok\nok\nok\n\n\n",
+        Done,
+    ),
 ];
 
 fn is_answered(alloc: Global, script: Script) -> bool {

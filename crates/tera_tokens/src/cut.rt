@@ -204,7 +204,8 @@ pub(crate) fn trimmed<'a>(
 ) -> Piece<'a>
     requires room { at + length text.now < 2 ^ 64 }
     requires whole { IsCharBoundary text.now n }
-    ensures { (tokens : List Token) → piece_of tokens result ≡ spec.words before behind n at text.now }
+    ensures { (tokens : List Token) → piece_of tokens result
+        ≡ spec.words before behind n at text.now }
 {
     if before || behind {
         return trimmed_sides(text, n, at, before, behind);
@@ -223,7 +224,8 @@ pub(crate) fn trimmed<'a>(
 fn trimmed_sides<'a>(text: &'a str, n: usize, at: usize, before: bool, behind: bool) -> Piece<'a>
     requires room { at + length text.now < 2 ^ 64 }
     requires whole { IsCharBoundary text.now n }
-    ensures { (tokens : List Token) → piece_of tokens result ≡ spec.words before behind n at text.now }
+    ensures { (tokens : List Token) → piece_of tokens result
+        ≡ spec.words before behind n at text.now }
 {
     let (front, _) = text.split_at(n);
     let front = if before { front.trim_start() } else { front };
@@ -242,7 +244,8 @@ fn trimmed_sides<'a>(text: &'a str, n: usize, at: usize, before: bool, behind: b
 fn words<'a>(delimiters: &Delimiters, text: &'a str, at: usize, trims: bool) -> Found<'a>
     requires room { at + length text.now < 2 ^ 64 }
     requires usable { IsTrue (accepted (delimiters_of delimiters.now)) }
-    ensures value { (tokens : List Token) → let meant = spec.piece_by (delimiters_of delimiters.now) trims at text.now None in
+    ensures value { (tokens : List Token) → let meant = spec.piece_by (delimiters_of delimiters.now)
+        trims at text.now None in
         meant ≡ Some (found_of tokens result) }
     ensures rest { Follows at text.now result.next result.rest.now }
     ensures known { Knows (delimiters_of delimiters.now) result.rest.now result.opening }
@@ -264,7 +267,8 @@ fn words<'a>(delimiters: &Delimiters, text: &'a str, at: usize, trims: bool) -> 
 fn comment<'a>(end: &str, text: &'a str, at: usize) -> Result<Found<'a>, Refusal>
     requires room { at + length text.now < 2 ^ 64 }
     requires some { 0 < length end.now }
-    ensures value { (tokens : List Token) → Answers (found_of tokens) (spec.comment end.now at text.now) result }
+    ensures value { (tokens : List Token) → Answers (found_of tokens)
+        (spec.comment end.now at text.now) result }
     ensures rest { IfOk result (λ x. Follows at text.now x.next x.rest.now) }
     ensures unknown { IfOk result (λ x. x.opening ≡ None) }
 {

@@ -91,7 +91,8 @@ pub(crate) fn cut_inside<'a>(
 ) -> Result<Inside<'a>, Refusal>
     requires room { at + length text.now < 2 ^ 64 }
     requires some { 0 < length end.now }
-    ensures value { Answers (inside_of tokens.new.items) (spec.inside end.now 0 0 at text.now) result }
+    ensures value { Answers (inside_of tokens.new.items) (spec.inside end.now 0 0 at text.now)
+        result }
     ensures rest { IfOk result (λ x. Follows at text.now x.next x.rest.now) }
 {
     let bytes = text.as_bytes();

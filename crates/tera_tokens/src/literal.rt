@@ -89,7 +89,8 @@ fn plain_len(text: &[u8]) -> usize
 /// What a backslash before this place stands for, with the byte there.
 fn escape_at(text: &[u8], i: usize) -> Option<u8>
     ensures value { result ≡ spec.escape_of (drop i text.now) }
-    ensures low { IfSome result (λ c. (c < 128) × (i < length text.now) × (get_or text.now i 0 < 128)) }
+    ensures low { IfSome result (λ c. (c < 128) × (i < length text.now)
+        × (get_or text.now i 0 < 128)) }
 {
     if i < text.len() {
         escaped(text[i])
@@ -127,7 +128,8 @@ fn unescape(alloc: Global, text: &str) -> Result<String, AllocError>
 
 fn is_quoted(text: &[u8]) -> bool
     ensures value { result ≡ spec.is_quoted text.now }
-    ensures cut { IsTrue result → (2 ≤ length text.now) × (get_or text.now 0 0 < 128) × (get_or text.now (length text.now - 1) 0 < 128) }
+    ensures cut { IsTrue result → (2 ≤ length text.now) × (get_or text.now 0 0 < 128)
+        × (get_or text.now (length text.now - 1) 0 < 128) }
 {
     text.len() >= 2 && is_quote(text[0]) && is_quote(text[text.len() - 1])
 }

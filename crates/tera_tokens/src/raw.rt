@@ -22,8 +22,11 @@ use tera_tree::Delimiters;
 /// How many blanks stand before the first token of a tag, or before its end.
 fn blanks_len(end: &[u8], text: &[u8]) -> usize
     ensures within { result ≤ length text.now }
-    ensures same { (at : ℕ) → tag.inside end.now 0 0 at text.now ≡ tag.inside end.now 0 0 (at + result) (drop result text.now) }
-    ensures stops { result < length text.now → (is_some (tag.closing end.now (drop result text.now)) || not (token.is_blank (get_or text.now result 0))) ≡ true }
+    ensures same { (at : ℕ) → tag.inside end.now 0 0 at text.now
+        ≡ tag.inside end.now 0 0 (at + result) (drop result text.now) }
+    ensures stops { result < length text.now →
+        (is_some (tag.closing end.now (drop result text.now))
+        || not (token.is_blank (get_or text.now result 0))) ≡ true }
 {
     for i in 0..text.len() {
         if closing(end, after(text, i)).is_some() || !is_blank(text[i]) {
@@ -35,7 +38,8 @@ fn blanks_len(end: &[u8], text: &[u8]) -> usize
 
 /// Whether the text begins with the name `endraw`.
 fn names_endraw(text: &[u8]) -> bool
-    ensures { result ≡ (bytes.begins (codes "endraw") text.now && not (token.is_name_byte (get_or text.now 6 0))) }
+    ensures { result ≡ (bytes.begins (codes "endraw") text.now
+        && not (token.is_name_byte (get_or text.now 6 0))) }
 {
     begins(b"endraw", text) && !is_name_byte(byte_at(text, 6))
 }
@@ -44,9 +48,11 @@ fn names_endraw(text: &[u8]) -> bool
 /// else a text of many starts would be read again from each.
 fn ending(end: &[u8], text: &[u8]) -> Option<Ending>
     requires some { 0 < length end.now }
-    ensures value { (at : ℕ) → option_map (end_from at) result ≡ option_map end_of (spec.of_word (codes "endraw") (tag.inside end.now 0 0 at text.now)) }
+    ensures value { (at : ℕ) → option_map (end_from at) result
+        ≡ option_map end_of (spec.of_word (codes "endraw") (tag.inside end.now 0 0 at text.now)) }
     ensures within { IfSome result (λ e. e.size ≤ length text.now) }
-    ensures fits { IsUtf8 text.now → IsUtf8 end.now → IfSome result (λ e. IsCharBoundary text.now e.size) }
+    ensures fits { IsUtf8 text.now → IsUtf8 end.now
+        → IfSome result (λ e. IsCharBoundary text.now e.size) }
 {
     let n = blanks_len(end, text);
     let name = after(text, n);
@@ -70,7 +76,8 @@ fn ending(end: &[u8], text: &[u8]) -> Option<Ending>
 /// The tag `endraw` at the front of a text: how long it is, and whether a `-` stands at its end.
 fn endraw(delimiters: &Delimiters, text: &[u8]) -> Option<Ending>
     requires usable { IsTrue (accepted (delimiters_of delimiters.now)) }
-    ensures value { (at : ℕ) → option_map (end_from at) result ≡ option_map end_of (spec.endraw (delimiters_of delimiters.now) at text.now) }
+    ensures value { (at : ℕ) → option_map (end_from at) result
+        ≡ option_map end_of (spec.endraw (delimiters_of delimiters.now) at text.now) }
     ensures within { IfSome result (λ e. e.size ≤ length text.now) }
     ensures fits { IsUtf8 text.now → IfSome result (λ e. IsCharBoundary text.now e.size) }
 {
@@ -115,7 +122,8 @@ pub(crate) fn raw<'a>(
 ) -> Result<Found<'a>, Refusal>
     requires room { at + length text.now < 2 ^ 64 }
     requires usable { IsTrue (accepted (delimiters_of delimiters.now)) }
-    ensures value { (tokens : List Token) → let meant = spec.raw (delimiters_of delimiters.now) trims at text.now in
+    ensures value { (tokens : List Token) → let meant = spec.raw (delimiters_of delimiters.now)
+        trims at text.now in
         Answers (found_of tokens) meant result }
     ensures rest { IfOk result (λ x. Follows at text.now x.next x.rest.now) }
     ensures unknown { IfOk result (λ x. x.opening ≡ None) }

@@ -83,7 +83,8 @@ impl<'s> Expression<'s> {
         right: Box<Expression<'s>>,
         span: Span,
     ) -> Expression<'s>
-        ensures { expr_of result ≡ Binary operator (expr_of left.entry.value) (expr_of right.entry.value)
+        ensures { expr_of result ≡ Binary operator (expr_of left.entry.value)
+            (expr_of right.entry.value)
             span }
     {
         Expression::Binary {
@@ -115,7 +116,8 @@ impl<'s> Expression<'s> {
         other: Box<Expression<'s>>,
         span: Span,
     ) -> Expression<'s>
-        ensures { expr_of result ≡ Ternary (expr_of value.entry.value) (expr_of condition.entry.value)
+        ensures { expr_of result ≡ Ternary (expr_of value.entry.value)
+            (expr_of condition.entry.value)
             (expr_of other.entry.value) span }
     {
         Expression::Ternary {
@@ -147,7 +149,8 @@ impl<'s> Expression<'s> {
         condition: Option<Box<Expression<'s>>>,
         span: Span,
     ) -> Expression<'s>
-        ensures { expr_of result ≡ comprehension_of value.entry.value heading.entry.value condition.entry span }
+        ensures { expr_of result
+            ≡ comprehension_of value.entry.value heading.entry.value condition.entry span }
     {
         Expression::Comprehension {
             value,

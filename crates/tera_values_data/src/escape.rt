@@ -191,7 +191,8 @@ fn next_of_run<F: Forms>(bytes: &[u8], run: usize, from: usize) -> usize
 
 /// Appends the text, run by run between the bytes that have a form of their own.
 fn append_forms<F: Forms>(text: &str, out: &mut String) -> TeraResult<()>
-    ensures ok { OnOk result (string_bytes out.new ≡ string_bytes out.old ++ by_byte F.spelled text.now) }
+    ensures ok { OnOk result (string_bytes out.new ≡ string_bytes out.old
+        ++ by_byte F.spelled text.now) }
     ensures keeps { Keeps (string_bytes out.old) (string_bytes out.new) }
     ensures lacks { IfErr result Lacks }
 {
@@ -223,7 +224,8 @@ pub(crate) fn append_quoted(text: &str, out: &mut String) -> TeraResult<()>
 /// The same as `append_forms`, but where memory is refused, what was there is there alone.
 #[inline(never)]
 fn append_marked<F: Forms>(text: &str, out: &mut String) -> TeraResult<()>
-    ensures ok { OnOk result (string_bytes out.new ≡ string_bytes out.old ++ by_byte F.spelled text.now) }
+    ensures ok { OnOk result (string_bytes out.new ≡ string_bytes out.old
+        ++ by_byte F.spelled text.now) }
     ensures err { OnErr result (string_bytes out.new ≡ string_bytes out.old) }
     ensures lacks { IfErr result Lacks }
 {
@@ -240,7 +242,8 @@ fn append_marked<F: Forms>(text: &str, out: &mut String) -> TeraResult<()>
 /// The same, with no more than a copy for a text in which nothing has a form of its own.
 #[inline]
 fn append_escaped<F: Forms>(text: &str, out: &mut String) -> TeraResult<()>
-    ensures ok { OnOk result (string_bytes out.new ≡ string_bytes out.old ++ by_byte F.spelled text.now) }
+    ensures ok { OnOk result (string_bytes out.new ≡ string_bytes out.old
+        ++ by_byte F.spelled text.now) }
     ensures err { OnErr result (string_bytes out.new ≡ string_bytes out.old) }
     ensures lacks { IfErr result Lacks }
 {

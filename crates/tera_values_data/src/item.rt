@@ -76,7 +76,8 @@ fn byte_in(bytes: &[u8], index: i128) -> Value
 fn char_in(alloc: Global, text: &str, index: i128) -> TeraResult<Value>
     ensures value { Gives (λ v. v) result
         (Ok (char_from (place_of index (length (chars text.now))) (chars text.now))) }
-    ensures ready { IsScalar (char_from (place_of index (length (chars text.now))) (chars text.now)) →
+    ensures ready { IsScalar (char_from (place_of index (length (chars text.now))) (chars text.now))
+        →
         IsOk result }
 {
     match place(index, char_count(text)) {

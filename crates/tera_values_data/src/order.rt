@@ -84,7 +84,8 @@ fn compare_items(a: &[Value], b: &[Value]) -> Ordering
 fn compare_entries(a: &[Entry], a_keys: &[usize], b: &[Entry], b_keys: &[usize]) -> Ordering
     requires first { IsIndex a_keys.now (entry_views a.now) }
     requires second { IsIndex b_keys.now (entry_views b.now) }
-    ensures { result ≡ slice_cmp pair_order (picked a_keys.now (entry_views a.now)) (picked b_keys.now (entry_views b.now)) }
+    ensures { result ≡ slice_cmp pair_order (picked a_keys.now (entry_views a.now))
+        (picked b_keys.now (entry_views b.now)) }
 {
     let mut place = 0;
     while place < a_keys.len() && place < b_keys.len() {

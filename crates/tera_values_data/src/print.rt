@@ -29,7 +29,8 @@ fn append_bool(flag: bool, out: &mut String) -> TeraResult<()>
 }
 
 fn append_integer(number: i128, out: &mut String) -> TeraResult<()>
-    ensures ok { OnOk result (string_bytes out.new ≡ string_bytes out.old ++ signed_decimal number) }
+    ensures ok { OnOk result (string_bytes out.new ≡ string_bytes out.old
+        ++ signed_decimal number) }
     ensures err { OnErr result (string_bytes out.new ≡ string_bytes out.old) }
     ensures keeps { Keeps (string_bytes out.old) (string_bytes out.new) }
     ensures lacks { IfErr result Lacks }
@@ -40,7 +41,8 @@ fn append_integer(number: i128, out: &mut String) -> TeraResult<()>
 
 /// What `String::from_utf8_lossy` makes of the bytes.
 fn append_bytes(content: &[u8], out: &mut String) -> TeraResult<()>
-    ensures ok { OnOk result (string_bytes out.new ≡ string_bytes out.old ++ utf8_lossy content.now) }
+    ensures ok { OnOk result (string_bytes out.new ≡ string_bytes out.old
+        ++ utf8_lossy content.now) }
     ensures keeps { Keeps (string_bytes out.old) (string_bytes out.new) }
     ensures lacks { IfErr result Lacks }
 {
@@ -49,7 +51,8 @@ fn append_bytes(content: &[u8], out: &mut String) -> TeraResult<()>
 }
 
 fn append_quoted_bytes(content: &[u8], out: &mut String) -> TeraResult<()>
-    ensures ok { OnOk result (string_bytes out.new ≡ string_bytes out.old ++ quoted (utf8_lossy content.now)) }
+    ensures ok { OnOk result (string_bytes out.new ≡ string_bytes out.old
+        ++ quoted (utf8_lossy content.now)) }
     ensures keeps { Keeps (string_bytes out.old) (string_bytes out.new) }
     ensures lacks { IfErr result Lacks }
 {
@@ -58,7 +61,8 @@ fn append_quoted_bytes(content: &[u8], out: &mut String) -> TeraResult<()>
 }
 
 fn append_key(key: &Key, out: &mut String) -> TeraResult<()>
-    ensures ok { OnOk result (string_bytes out.new ≡ string_bytes out.old ++ key_text (key_view key.now)) }
+    ensures ok { OnOk result (string_bytes out.new ≡ string_bytes out.old
+        ++ key_text (key_view key.now)) }
     ensures keeps { Keeps (string_bytes out.old) (string_bytes out.new) }
     ensures lacks { IfErr result Lacks }
 {
@@ -146,7 +150,8 @@ impl Value {
 
 #[cycle(printing)]
 fn append_items(items: &[Value], out: &mut String) -> TeraResult<()>
-    ensures ok { OnOk result (string_bytes out.new ≡ string_bytes out.old ++ inside (array (vals items.now))) }
+    ensures ok { OnOk result (string_bytes out.new ≡ string_bytes out.old
+        ++ inside (array (vals items.now))) }
     ensures keeps { Keeps (string_bytes out.old) (string_bytes out.new) }
     ensures lacks { IfErr result Lacks }
 {
@@ -166,7 +171,8 @@ fn append_items(items: &[Value], out: &mut String) -> TeraResult<()>
 
 #[cycle(printing)]
 fn append_entries(all: &[Entry], out: &mut String) -> TeraResult<()>
-    ensures ok { OnOk result (string_bytes out.new ≡ string_bytes out.old ++ inside (map (entries (entry_views all.now)))) }
+    ensures ok { OnOk result (string_bytes out.new ≡ string_bytes out.old
+        ++ inside (map (entries (entry_views all.now)))) }
     ensures keeps { Keeps (string_bytes out.old) (string_bytes out.new) }
     ensures lacks { IfErr result Lacks }
 {

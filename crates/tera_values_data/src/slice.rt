@@ -124,7 +124,8 @@ fn pick_items(alloc: Global, items: &[Value], places: &[usize]) -> TeraResult<Ve
 
 fn pick_chars(alloc: Global, letters: &[char], places: &[usize]) -> TeraResult<String>
     requires { EachIndex places.now (λ k. slice_index places.now k < length letters.now) }
-    ensures { Gives string_bytes result (Ok (encode_utf8_all (picked_chars places.now letters.now))) }
+    ensures { Gives string_bytes result (Ok (encode_utf8_all
+        (picked_chars places.now letters.now))) }
 {
     let mut picked = String::new(alloc);
     for place in places {
@@ -174,7 +175,8 @@ fn slice_items(
     step: i128,
 ) -> TeraResult<Vec<Value>>
     requires { step ≢ pos 0 }
-    ensures { Gives (λ v. v.items) result (Ok (picked_items (places start end step (length items.now)) items.now)) }
+    ensures { Gives (λ v. v.items) result (Ok
+        (picked_items (places start end step (length items.now)) items.now)) }
 {
     let places = places(alloc, start, end, step, items.len())?;
     pick_items(alloc, items, places.as_slice())
@@ -188,7 +190,8 @@ fn slice_text(
     step: i128,
 ) -> TeraResult<String>
     requires { step ≢ pos 0 }
-    ensures { Gives string_bytes result (Ok (encode_utf8_all (picked_chars (places start end step (length (chars content.now))) (chars content.now)))) }
+    ensures { Gives string_bytes result (Ok (encode_utf8_all
+        (picked_chars (places start end step (length (chars content.now))) (chars content.now)))) }
 {
     let letters = letters(alloc, content)?;
     let places = places(alloc, start, end, step, letters.len())?;

@@ -17,7 +17,8 @@ use tera_errors::TeraResult;
 fn search(all: &[Entry], by_key: &[usize], wanted: &Wanted<'_>) -> Result<usize, usize>
     requires { IsIndex by_key.now (entry_views all.now) }
     ensures found { IfOk result (IsAt by_key.now (entry_views all.now) (wanted_view wanted.now)) }
-    ensures absent { IfErr result (IsGapFor by_key.now (entry_views all.now) (wanted_view wanted.now)) }
+    ensures absent { IfErr result (IsGapFor by_key.now (entry_views all.now)
+        (wanted_view wanted.now)) }
 {
     let mut low = 0;
     let mut high = by_key.len();

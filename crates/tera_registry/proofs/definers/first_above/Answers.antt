@@ -1,14 +1,34 @@
 use Rattle.std.proofs.Common.{ap}
 use Rattle.tera_meaning.specs.Lineage.{definers_in}
-use Rattle.tera_registry.specs.Kept.{entry_of, entries_of, seen}
+use Rattle.tera_registry.specs.declared.lineage.Up.TheVariants as up
 use Rattle.tera_registry.proofs.Element.{element}
-use Rattle.tera_registry.proofs.Ancestors.{first-moved, next-ancestors}
+use Rattle.tera_registry.proofs.Ancestors.{first-moved, next-ancestors, none-above, not-missing, listed, among, up-at, entry-there}
 use Rattle.tera_registry.proofs.definers.first_above.Goals as goal
 
+pub bounds-ups-of : goal.bounds-ups-of
+bounds-ups-of g c = listed g.registry c.args.templates.now _ _ c.requires.0 c.requires.1
+
+pub first-requires : goal.first-requires
+first-requires g c =
+    let r = g.registry in
+    let t = entry-there r c.args.templates.now _ c.args.of c.requires.0 c.requires.1 in
+    let above = up-at r _ c.args.ups.now c.args.of (up.At c.in-At.next) t.0 c.requires.0 c.requires.1 c.in-At.is t.1 in
+    (c.requires.0, among r _ c.args.ups.now c.in-At.next c.requires.0 above.2.1)
+
 pub returns-in-At : goal.returns-in-At
-returns-in-At c =
-    let ts = c.args.templates.now in
-    let r = seen ts c.args.prefixes.now in
-    let v = element (entries_of ts) c.in-At.next c.in-At.ensures.2.1 in
-    let behind = next-ancestors r (entry_of c.args.of.now) v.0 c.in-At.next c.requires.parents c.in-At.ensures v.1 in
+returns-in-At g c = λ t at.
+    let r = g.registry in
+    let above = up-at r _ c.args.ups.now c.args.of (up.At c.in-At.next) t c.requires.0 c.requires.1 c.in-At.is at in
+    let v = element r.templates c.in-At.next above.2.1 in
+    let behind = next-ancestors r t v.0 c.in-At.next (c.requires.0.grounded.each c.args.of t at) above v.1 in
     first-moved r c.first.result _ _ (ap (definers_in c.args.block.now) behind) (c.first.ensures v.0 v.1)
+
+pub returns-in-Nothing : goal.returns-in-Nothing
+returns-in-Nothing g c = λ t at.
+    let none = up-at g.registry _ c.args.ups.now c.args.of up.Nothing t c.requires.0 c.requires.1 c.in-Nothing.is at in
+    ap (definers_in c.args.block.now) (none-above g.registry t none)
+
+pub returns-in-Missing : goal.returns-in-Missing
+returns-in-Missing g c = λ t at.
+    let above = up-at g.registry _ c.args.ups.now c.args.of up.Missing t c.requires.0 c.requires.1 c.in-Missing.is at in
+    absurd (not-missing g.registry t above.0 (c.requires.0.grounded.each c.args.of t at) above.1 above.2)

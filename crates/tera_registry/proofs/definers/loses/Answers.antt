@@ -1,31 +1,44 @@
-use Rattle.std.proofs.Common.{◌≡◌, Option, Some, None, true, is_some, option_map, string_bytes, String, Global, refl, sym, ap, ◌∙◌, arith, length, slice_get}
+use Rattle.std.proofs.Common.{◌≡◌, Some, true, false, refl, sym, ap, ◌∙◌, arith, length, slice_get}
 use Rattle.std.proofs.lemmas.Option.{slice_get_read}
-use Rattle.std.specs.List.{list_any}
+use Rattle.std.proofs.lemmas.Map.Keys.{any_passes_from_place}
 use Rattle.tera_meaning.specs.Accepted.{is_lost}
-use Rattle.tera_registry.specs.Kept.{entry_of, seen}
-use Rattle.tera_registry.specs.Definers.{IsFirst}
 use Rattle.tera_meaning.specs.Lineage.{ancestors, definers_in}
-use Rattle.tera_registry.proofs.Absent.{none-yet-more, none-yet-all, lost-some, loses-of}
+use Rattle.tera_registry.specs.Definers.{IsFirst}
+use Rattle.tera_registry.proofs.Kept.{entry-is}
+use Rattle.tera_registry.proofs.Absent.{none-yet-more, none-yet-all, tops-of, child-of, lost-none, lost-some, loses-of, loses-nothing}
 use Rattle.tera_registry.proofs.definers.loses.Goals as goal
 
-named-some : (o : Option (String Global)) → is_some o ≡ true → is_some (option_map string_bytes o) ≡ true
-named-some None e = e
-named-some (Some s) e = refl
+pub returns-then-is_none : goal.returns-then-is_none
+returns-then-is_none g c = λ t t_at.
+    let same = entry-is g.registry c.args.templates.now c.args.of _ _ t c.requires.0.same c.requires.1 c.index-templates-of.is c.deref-template.ensures t_at in
+    sym (loses-nothing g.registry t (child-of c.deref-template.result.now t false same c.if-is_none.ensures))
 
 pub loop-name-preserved : goal.loop-name-preserved
-loop-name-preserved c =
-    let r = seen c.args.templates.now c.args.prefixes.now in
-    let t = entry_of c.args.of.now in
-    let tops = c.args.of.now.tops.items in
+loop-name-preserved g c = λ t t_at.
+    let r = g.registry in
     let name = c.name-item.result in
-    let at : slice_get tops c.loop-name.name-index ≡ Some name = slice_get_read tops (length tops) c.loop-name.name-index name refl (rw c.deref-name-items.ensures.value at c.loop-name-test.true) (rw c.deref-name-items.ensures.value at c.name-item.is) in
-    let first : IsFirst r (Some c.in-Some.field-0) (definers_in name (ancestors r t)) = rw c.sought-sought.ensures at c.in-Some.ensures in
-    none-yet-more (is_lost r t) tops c.loop-name.name-index name c.loop-name.invariant at (lost-some r t name c.in-Some.field-0 first)
+    let i = c.loop-name.name-index in
+    let same = entry-is r c.args.templates.now c.args.of _ _ t c.requires.0.same c.requires.1 c.index-templates-of.is c.deref-template.ensures t_at in
+    let tops = c.deref-name-items.ensures.value ∙ tops-of c.deref-template.result.now t same in
+    let at = slice_get_read c.deref-name-items.result.now (length c.deref-name-items.result.now) i name refl c.loop-name-test.true c.name-item.is in
+    let first : IsFirst r (Some c.in-Some.field-0) (definers_in name (ancestors r t)) = rw c.sought-sought.ensures at (c.in-Some.ensures t t_at) in
+    none-yet-more (is_lost r t) _ i name (c.loop-name.invariant t t_at) (ap (λ l. slice_get l i) (sym tops) ∙ at) (lost-some r t name c.in-Some.field-0 first)
+
+pub returns-in-None : goal.returns-in-None
+returns-in-None g c = λ t t_at.
+    let r = g.registry in
+    let name = c.name-item.result in
+    let i = c.loop-name.name-index in
+    let same = entry-is r c.args.templates.now c.args.of _ _ t c.requires.0.same c.requires.1 c.index-templates-of.is c.deref-template.ensures t_at in
+    let tops = c.deref-name-items.ensures.value ∙ tops-of c.deref-template.result.now t same in
+    let at = slice_get_read c.deref-name-items.result.now (length c.deref-name-items.result.now) i name refl c.loop-name-test.true c.name-item.is in
+    let none : is_lost r t name ≡ true = lost-none r t name (rw c.sought-sought.ensures at (c.in-None.ensures t t_at)) in
+    sym (loses-of r t true (child-of c.deref-template.result.now t true same c.if-is_none.ensures) (any_passes_from_place (is_lost r t) _ i name (ap (λ l. slice_get l i) (sym tops) ∙ at) none))
 
 pub returns : goal.returns
-returns c =
-    let r = seen c.args.templates.now c.args.prefixes.now in
-    let t = entry_of c.args.of.now in
-    let child : is_some (option_map string_bytes c.args.of.now.parent) ≡ true = named-some c.args.of.now.parent c.if-is_none.ensures in
-    let none = none-yet-all (is_lost r t) c.args.of.now.tops.items c.loop-name.name-index c.loop-name.invariant (omega (arith, ap length c.deref-name-items.ensures.value, c.loop-name-test.false)) in
-    sym (loses-of r t _ child (ap (list_any (is_lost r t)) (sym c.args.of.now.topped) ∙ none))
+returns g c = λ t t_at.
+    let r = g.registry in
+    let same = entry-is r c.args.templates.now c.args.of _ _ t c.requires.0.same c.requires.1 c.index-templates-of.is c.deref-template.ensures t_at in
+    let tops = c.deref-name-items.ensures.value ∙ tops-of c.deref-template.result.now t same in
+    let none = none-yet-all (is_lost r t) _ c.loop-name.name-index (c.loop-name.invariant t t_at) (omega (arith, ap length tops, c.loop-name-test.false)) in
+    sym (loses-of r t false (child-of c.deref-template.result.now t true same c.if-is_none.ensures) none)

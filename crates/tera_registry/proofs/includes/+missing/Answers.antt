@@ -6,7 +6,8 @@ use Rattle.tera_tree.specs.View.{node_of, nodes_of}
 use Rattle.tera_meaning.specs.Registry.{Registry}
 use Rattle.tera_meaning.specs.Resolve.{resolve}
 use Rattle.tera_registry.specs.Kept.{entries_of, seen}
-use Rattle.tera_registry.proofs.Bodies.{any-first, any-second, node_if, node_for, node_capture, node_section, node_block, node_call, node_definition}
+use Rattle.tera_registry.proofs.Bodies.{any-first, any-second}
+use Rattle.tera_variables.proofs.Bodies.{node_if, node_for, node_capture, node_section, node_block, node_call, node_definition}
 use Rattle.tera_registry.proofs.Filled.{is_none-place}
 use Rattle.tera_registry.proofs.includes.+missing.Goals as goal
 

@@ -1,16 +1,15 @@
 use Rattle.std.proofs.Common.{◌≡◌, length}
 use Rattle.tera_registry.specs.Links.{AreTops, AreRoots}
-use Rattle.tera_registry.specs.Kept.{seen}
 use Rattle.tera_registry.proofs.Checked.{Checked}
 use Rattle.tera_registry.proofs.First.{NotPast}
 use Rattle.tera_registry.proofs.lineage.roots.Given as goal
 
 abbrev pub invariant-loop-place : goal.invariant-loop-place
-invariant-loop-place l = record {
-  checked : Checked (seen l.templates l.prefixes) l.place;
+invariant-loop-place g l = record {
+  checked : Checked g.registry l.place;
   not_past : NotPast l.circle l.place;
   no_tie : NotPast l.tie l.place;
   all_tops : length l.tops ≡ length l.ups;
-  tops : AreTops (seen l.templates l.prefixes) l.tops;
-  roots : AreRoots (seen l.templates l.prefixes) l.roots.items l.place;
+  tops : AreTops g.registry l.tops;
+  roots : AreRoots g.registry l.roots.items l.place;
 }

@@ -1,37 +1,74 @@
-use Rattle.std.proofs.Common.{sym}
+use Rattle.std.proofs.Common.{◌≡◌, length, refl, sym, ap, subst, ◌∙◌}
 use Rattle.tera_meaning.specs.Adding.{accepted}
+use Rattle.tera_meaning.specs.Registry.{Registry}
+use Rattle.tera_registry.specs.Choices.{AreChosen, IsFirstTie}
+use Rattle.tera_registry.specs.Edges.{AreEdges, IsFirstCircle}
+use Rattle.tera_registry.specs.Walks.{rows}
+use Rattle.tera_registry.specs.Links.{AreUps}
 use Rattle.tera_registry.specs.Kept.{seen}
 use Rattle.tera_registry.proofs.Ancestors.{grounded}
+use Rattle.tera_registry.proofs.Turn.{length-rows}
+use Rattle.tera_registry.proofs.Linked.{all-ups}
 use Rattle.tera_registry.proofs.Circles.{all-edges, closed, first_circle}
 use Rattle.tera_registry.proofs.Checked.{climbed-says, climbed-faultless, lacks-says, keeps-all, told}
 use Rattle.tera_registry.proofs.link.link.Goals as goal
 
 pub returns-in-Err-clause-answer : goal.returns-in-Err-clause-answer
-returns-in-Err-clause-answer c =
-    climbed-says c.in-Err.fault (seen c.args.templates.now c.args.prefixes.now) c.in-Err.ensures.answer
+returns-in-Err-clause-answer g c = climbed-says c.in-Err.fault g.registry c.in-Err.ensures.answer
 
 pub least_circle-requires : goal.least_circle-requires
-least_circle-requires c =
+least_circle-requires g c =
     let ts = c.args.templates.now in
     let e = all-edges ts c.args.prefixes.now _ _ c.as_slice.ensures.value c.in_ok-edges.ensures in
     closed (seen ts c.args.prefixes.now) _ e
 
-pub roots-requires-clause-circle : goal.roots-requires-clause-circle
-roots-requires-clause-circle c =
+pub roots-requires : goal.roots-requires
+roots-requires g c =
     let ts = c.args.templates.now in
-    let e = all-edges ts c.args.prefixes.now _ _ c.as_slice.ensures.value c.in_ok-edges.ensures in
-    first_circle (seen ts c.args.prefixes.now) _ c.in_ok-circle.circle e c.in_ok-circle.ensures
+    let ps = c.args.prefixes.now in
+    let here : seen ts ps ≡ g.registry = sym c.requires.1 in
+    let e = all-edges ts ps _ _ c.as_slice.ensures.value c.in_ok-edges.ensures in
+    let ups = all-ups ts ps _ _ c.as_slice-2.ensures.value c.in_ok-ups.ensures in (
+      subst (λ (r : Registry). AreUps r c.as_slice-2.result.now (length r.templates)) here ups,
+      (
+        subst (λ (r : Registry). IsFirstCircle r c.in_ok-circle.circle) here (first_circle (seen ts ps) _ c.in_ok-circle.circle e c.in_ok-circle.ensures),
+        subst (λ (r : Registry). IsFirstTie r c.in_ok-choices.field-0.tie) here c.in_ok-choices.ensures.tie,
+      ),
+    )
 
-pub any_lacks-requires-clause-grounded : goal.any_lacks-requires-clause-grounded
-any_lacks-requires-clause-grounded c =
-    grounded (seen c.args.templates.now c.args.prefixes.now) (climbed-faultless (seen c.args.templates.now c.args.prefixes.now) c.in-Ok.ensures.answer)
+pub any_lacks-requires : goal.any_lacks-requires
+any_lacks-requires g c =
+    let ts = c.args.templates.now in
+    let ps = c.args.prefixes.now in
+    let here : seen ts ps ≡ g.registry = sym c.requires.1 in
+    let ups = all-ups ts ps _ _ c.as_slice-3.ensures.value c.in_ok-ups.ensures in
+    let edges : AreEdges (seen ts ps) (rows c.as_slice-4.result.now) (length ts) = rw c.as_slice-4.ensures.value c.in_ok-edges.ensures in (
+      record {
+        same = ap (λ (r : Registry). r.templates) here;
+        above = subst (λ (r : Registry). AreUps r c.as_slice-3.result.now (length r.templates)) here ups;
+        grounded = grounded g.registry (climbed-faultless g.registry c.in-Ok.ensures.answer);
+      },
+      (
+        subst (λ (r : Registry). AreEdges r (rows c.as_slice-4.result.now) (length ts)) here edges,
+        (
+          sym (length-rows c.as_slice-4.result.now) ∙ edges.as_many,
+          subst (λ (r : Registry). AreChosen r c.in_ok-choices.field-0.choices) here c.in_ok-choices.ensures.taken,
+        ),
+      ),
+    )
 
 pub returns-then-any_lacks-clause-answer : goal.returns-then-any_lacks-clause-answer
-returns-then-any_lacks-clause-answer c =
-    let r = seen c.args.templates.now c.args.prefixes.now in
-    told c.message.result (accepted r) c.message.ensures (lacks-says r c.in-Ok.ensures.answer (sym c.if-any_lacks.ensures))
+returns-then-any_lacks-clause-answer g c =
+    told c.message.result (accepted g.registry) c.message.ensures (lacks-says g.registry c.in-Ok.ensures.answer (sym c.if-any_lacks.ensures))
 
 pub returns-clause-answer : goal.returns-clause-answer
-returns-clause-answer c =
-    let r = seen c.args.templates.now c.args.prefixes.now in
-    keeps-all r c.in-Ok.ensures.answer (sym c.if-any_lacks.ensures)
+returns-clause-answer g c = keeps-all g.registry c.in-Ok.ensures.answer (sym c.if-any_lacks.ensures)
+
+pub returns-clause-ups : goal.returns-clause-ups
+returns-clause-ups g c =
+    let ts = c.args.templates.now in
+    subst (λ (r : Registry). AreUps r c.in_ok-ups.ups.items (length r.templates)) (sym c.requires.1) (all-ups ts c.args.prefixes.now _ _ refl c.in_ok-ups.ensures)
+
+pub returns-clause-choices : goal.returns-clause-choices
+returns-clause-choices g c =
+    subst (λ (r : Registry). AreChosen r c.in_ok-choices.field-0.choices) (sym c.requires.1) c.in_ok-choices.ensures.taken

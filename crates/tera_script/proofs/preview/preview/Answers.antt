@@ -2,7 +2,7 @@ use Rattle.std.proofs.Common.{◌≡◌, Ok, List, ℕ, map, string_bytes, codes
 use Rattle.tera.specs.Registry.{registry_of}
 use Rattle.tera_errors.specs.Site.{Name, Text}
 use Rattle.tera_script.specs.Preview.{shown, Previews}
-use Rattle.tera_script.proofs.Joining.{join_by-map, join_by-same, ok-same}
+use Rattle.tera_script.proofs.Joining.{join_by-map, join_by-same}
 use Rattle.tera_script.proofs.preview.preview.Goals as goal
 
 pub returns : goal.returns
@@ -10,7 +10,7 @@ returns c =
     let told : Name → Text = shown (registry_of c.args.engine.now) c.args.context.now c.args.autoescape in
     let by_name : String Global → Text = λ n. told (string_bytes n) in
     let names = c.in_ok-names.names.items in
-    let each : map string_bytes c.in_ok-texts.texts.items ≡ map by_name c.as_slice.result.now = sym (ok-same _ _ c.in_ok-texts.ensures) in
+    let each : map string_bytes c.in_ok-texts.texts.items ≡ map by_name c.as_slice.result.now = c.in_ok-texts.ensures.ok in
     let all : map string_bytes c.deref.result.now ≡ map by_name names =
     ap (map string_bytes) c.deref.ensures.value ∙ each ∙ ap (map by_name) c.as_slice.ensures.value in
     record {

@@ -1,4 +1,4 @@
-use Rattle.std.proofs.Common.{Some, sym, ap, ◌∙◌, arith}
+use Rattle.std.proofs.Common.{Some, refl, sym, ap, ◌∙◌, arith}
 use Rattle.std.proofs.lemmas.Option.{slice_get_within}
 use Rattle.tera_meaning.specs.Lineage.{definers_from}
 use Rattle.tera_registry.specs.Kept.{entries_of}
@@ -10,7 +10,7 @@ pub first-requires : goal.first-requires
 first-requires c =
     let ts = c.args.self.now.templates.now in
     let e = named-place (entries_of ts.all.items) c.args.self.now.place c.args.self.now.name.now ts.rises c.args.self.now.stands in
-    omega (arith, slice_get_within (entries_of ts.all.items) c.args.self.now.place e.0 e.1, length-entries ts.all.items)
+    (refl, omega (arith, slice_get_within (entries_of ts.all.items) c.args.self.now.place e.0 e.1, length-entries ts.all.items))
 
 pub returns : goal.returns
 returns c = λ r.

@@ -1,7 +1,7 @@
 use Rattle.std.proofs.Common.{refl}
 use Rattle.tera_tree.specs.Delimiters.{delimiters_of}
 use Rattle.tera_registry.specs.Batch.{pairs_of}
-use Rattle.tera_registry.proofs.Adds.{copies-rise, add-unread, add-unlinked, add-linked, kept-accepted, kept-linked, kept-chosen}
+use Rattle.tera_registry.proofs.Adds.{copies-rise, add-unread, add-unlinked, add-linked, kept-accepted, kept-placed, kept-linked, kept-chosen}
 use Rattle.tera_registry.proofs.templates.Templates.add.Goals as goal
 
 pub put_all-requires-clause-rises : goal.put_all-requires-clause-rises
@@ -19,6 +19,7 @@ pub invariant_of-self : goal.invariant_of-self
 invariant_of-self c = record {
   rises = c.in-Ok.ensures.rises;
   accepted = kept-accepted c.put_all.new.templates.items _ c.args.self.now.prefixes.items _ c.as_slice.ensures.value c.as_slice-2.ensures.value c.in-Ok-link.ensures.answer;
+  placed = kept-placed c.put_all.new.templates.items _ c.args.self.now.prefixes.items _ c.as_slice.ensures.value c.as_slice-2.ensures.value _ c.in-Ok-link.ensures.ups;
   linked = kept-linked c.put_all.new.templates.items _ c.args.self.now.prefixes.items _ c.as_slice.ensures.value c.as_slice-2.ensures.value _ c.in-Ok-link.ensures.roots;
   chosen = kept-chosen c.put_all.new.templates.items _ c.args.self.now.prefixes.items _ c.as_slice.ensures.value c.as_slice-2.ensures.value c.in-Ok-link.links.choices c.in-Ok-link.ensures.choices;
 }

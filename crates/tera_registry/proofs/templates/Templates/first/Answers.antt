@@ -1,14 +1,18 @@
-use Rattle.std.proofs.Common.{Some, None, sym}
-use Rattle.tera_registry.proofs.Ancestors.{lent-grounded, lent-first}
+use Rattle.std.proofs.Common.{length, sym, ap, ◌∙◌, subst, ◌<◌}
+use Rattle.tera_registry.specs.Definers.{from_place}
+use Rattle.tera_registry.proofs.Ancestors.{kept-climbable}
 use Rattle.tera_registry.proofs.templates.Templates.first.Goals as goal
 
-pub first-requires-clause-grounded : goal.first-requires-clause-grounded
-first-requires-clause-grounded c = lent-grounded c.args.self.now.all.items c.as_slice.result.now c.args.self.now.prefixes.items c.as_slice-2.result.now c.as_slice.ensures.value c.as_slice-2.ensures.value c.args.self.now.accepted
+pub first-requires : goal.first-requires
+first-requires g c =
+    let self = c.args.self.now in (
+      kept-climbable g.registry self.all.items c.as_slice.result.now self.prefixes.items self.ups.items c.as_slice-2.result.now c.requires.0 c.as_slice.ensures.value c.as_slice-2.ensures.value self.rises self.accepted self.placed,
+      subst (λ ts. c.args.from < length ts) (sym c.as_slice.ensures.value) c.requires.1,
+    )
 
 pub returns-in-None : goal.returns-in-None
-returns-in-None c = λ t at.
-    sym (lent-first c.args.self.now.all.items c.as_slice.result.now c.args.self.now.prefixes.items c.as_slice-2.result.now c.as_slice.ensures.value c.as_slice-2.ensures.value None c.args.from c.args.block.now t at c.in-None.ensures)
+returns-in-None g c = λ t at. sym (c.in-None.ensures t at)
 
 pub returns-in-Some : goal.returns-in-Some
-returns-in-Some c = λ t at.
-    sym (lent-first c.args.self.now.all.items c.as_slice.result.now c.args.self.now.prefixes.items c.as_slice-2.result.now c.as_slice.ensures.value c.as_slice-2.ensures.value (Some c.in-Some.at) c.args.from c.args.block.now t at c.in-Some.ensures).0
+returns-in-Some g c = λ t at.
+    ap (λ r. from_place r c.in-Some.at) (sym c.requires.0) ∙ sym (c.in-Some.ensures t at).0

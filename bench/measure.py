@@ -1,0 +1,49 @@
+"""How long work takes, and how many instructions a program runs."""
+import subprocess
+import time
+
+import jinja2
+
+
+def best(rounds, work):
+    """The seconds of the fastest of so many rounds."""
+    times = []
+    for _ in range(rounds):
+        start = time.perf_counter()
+        work()
+        times.append(time.perf_counter() - start)
+    return min(times)
+
+
+def told(program, script):
+    """What the program prints for a script."""
+    return subprocess.run([program], input=script.encode(), capture_output=True, check=True).stdout.decode()
+
+
+def timed(program, text, rounds):
+    """The microseconds of the fastest of so many rounds that the program of bench/loops times, and the text that it renders."""
+    rest = told(program, f"{rounds}\n{text}")
+    times = []
+    for _ in range(rounds):
+        line, _, rest = rest.partition("\n")
+        times.append(int(line))
+    return min(times), rest
+
+
+def instructions(program, script):
+    """How many instructions callgrind counts."""
+    command = ["valgrind", "--tool=callgrind", "--callgrind-out-file=/dev/null", program]
+    words = subprocess.run(command, input=script.encode(), capture_output=True, check=True).stderr.decode().split()
+    return int(words[words.index("Collected") + 2])
+
+
+def a_round(program, text):
+    """The instructions of one round of the program of bench/loops."""
+    once, twice = (instructions(program, f"{rounds}\n{text}") for rounds in (1, 2))
+    return twice - once
+
+
+def rendered(text, context):
+    """The seconds of Jinja2's fastest rendering of nine, and its text."""
+    template = jinja2.Environment(autoescape=True).from_string(text)
+    return best(9, lambda: template.render(**context)), template.render(**context)

@@ -1,0 +1,7 @@
+use Rattle.tera_registry.proofs.link.link.Given as goal
+
+abbrev pub ghost-roots : goal.ghost-roots
+ghost-roots g a = g.registry
+
+abbrev pub ghost-any_lacks : goal.ghost-any_lacks
+ghost-any_lacks g a = g.registry

@@ -1,0 +1,13 @@
+use Rattle.std.proofs.Common.{◌∙◌, ap, sym}
+use Rattle.tera_variables.specs.Free.{◌∪◌}
+use Rattle.tera_variables.specs.Sets.{names_in}
+use Rattle.tera_code.proofs.Written.{on_ok_by}
+use Rattle.tera_registry.proofs.Wanted.{is-given, is-own}
+use Rattle.tera_registry.proofs.variables.add_given.Goals as goal
+
+pub returns-then-is_given-clause-ok : goal.returns-then-is_given-clause-ok
+returns-then-is_given-clause-ok c =
+    on_ok_by _ _ _ _ (ap (λ p. p ∪ names_in c.args.found.now) (is-given c.args.name.now (sym c.is_given.ensures ∙ c.if-is_given.true))) c.add.ensures.ok
+
+pub returns-clause-ok : goal.returns-clause-ok
+returns-clause-ok c = is-own c.args.name.now (names_in c.args.found.now) (sym c.is_given.ensures ∙ c.if-is_given.false)

@@ -1,0 +1,10 @@
+use Rattle.std.proofs.Common.{◌≡◌, drop, length, slice_get}
+use Rattle.tera_registry.specs.Reached.{AreReached}
+use Rattle.tera_registry.proofs.Reaching.{Reaching}
+use Rattle.tera_registry.proofs.variables.reach_all.Given as goal
+
+abbrev pub invariant-loop-place : goal.invariant-loop-place
+invariant-loop-place l = record {
+  as_many : length l.marks ≡ length l.initial.marks;
+  reaching : (es : _) → AreReached es l.initial.reached.items l.initial.marks → Reaching es (slice_get es) l.places (drop l.place-index l.places) l.initial.reached.items l.reached.items l.marks;
+}

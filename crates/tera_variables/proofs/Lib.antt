@@ -1,0 +1,4 @@
+pub mod Unions
+pub mod Forms
+pub mod Bodies
+pub mod Rows

@@ -1,0 +1,92 @@
+use Rattle.std.proofs.Common.{◌∙◌, ap, refl, sym, arith}
+use Rattle.tera_tree.specs.View.{items_of, entries_of, arguments_of}
+use Rattle.std.proofs.lemmas.List.{drop_all}
+use Rattle.tera_variables.specs.Free.{items_free, entries_free, arguments_free, ◌∪◌}
+use Rattle.tera_variables.specs.Sets.{names_in}
+use Rattle.tera_variables.proofs.Unions.{empty, union-more, union-pass, two, comprehended}
+use Rattle.tera_variables.proofs.Forms.{drop-here, whole, array, map, super, call, component, filter, test, comprehension, slice, index, binary, both, either, ternary}
+use Rattle.tera_variables.proofs.expressions.+expressions.Goals as goal
+
+pub add_expression-returns-in_ok-add_expression-in-Index-clause-ok : goal.add_expression-returns-in_ok-add_expression-in-Index-clause-ok
+add_expression-returns-in_ok-add_expression-in-Index-clause-ok t c =
+    whole _ _ _ _ _ (index _ c.in-Index.target c.in-Index.index c.in-Index.optional c.in-Index.span _ _ c.in-Index.is c.deref-in-Index-2.ensures c.deref-in-Index.ensures) (two _ _ _ _ _ _ c.in_ok-add_expression-in-Index.ensures.ok c.add_expression-in-Index-2.ensures.ok)
+
+pub add_expression-returns-in_ok-add_expression-in-Binary-clause-ok : goal.add_expression-returns-in_ok-add_expression-in-Binary-clause-ok
+add_expression-returns-in_ok-add_expression-in-Binary-clause-ok t c =
+    whole _ _ _ _ _ (binary _ c.in-Binary.operator c.in-Binary.left c.in-Binary.right c.in-Binary.span _ _ c.in-Binary.is c.deref-in-Binary-2.ensures c.deref-in-Binary.ensures) (two _ _ _ _ _ _ c.in_ok-add_expression-in-Binary.ensures.ok c.add_expression-in-Binary-2.ensures.ok)
+
+pub add_expression-returns-in_ok-add_expression-in-And-clause-ok : goal.add_expression-returns-in_ok-add_expression-in-And-clause-ok
+add_expression-returns-in_ok-add_expression-in-And-clause-ok t c =
+    whole _ _ _ _ _ (both _ c.in-And.left c.in-And.right c.in-And.span _ _ c.in-And.is c.deref-in-And-2.ensures c.deref-in-And.ensures) (two _ _ _ _ _ _ c.in_ok-add_expression-in-And.ensures.ok c.add_expression-in-And-2.ensures.ok)
+
+pub add_expression-returns-in_ok-add_expression-in-Or-clause-ok : goal.add_expression-returns-in_ok-add_expression-in-Or-clause-ok
+add_expression-returns-in_ok-add_expression-in-Or-clause-ok t c =
+    whole _ _ _ _ _ (either _ c.in-Or.left c.in-Or.right c.in-Or.span _ _ c.in-Or.is c.deref-in-Or-2.ensures c.deref-in-Or.ensures) (two _ _ _ _ _ _ c.in_ok-add_expression-in-Or.ensures.ok c.add_expression-in-Or-2.ensures.ok)
+
+pub add_expression-returns-in_ok-add_bounds-in-Slice-clause-ok : goal.add_expression-returns-in_ok-add_bounds-in-Slice-clause-ok
+add_expression-returns-in_ok-add_bounds-in-Slice-clause-ok t c =
+    whole _ _ _ _ _ (slice _ c.in-Slice.target c.in-Slice.bounds c.in-Slice.optional c.in-Slice.span _ _ c.in-Slice.is c.deref-in-Slice-2.ensures c.deref-in-Slice.ensures) (two _ _ _ _ _ _ c.in_ok-add_bounds-in-Slice.ensures.ok c.add_expression-in-Slice.ensures.ok)
+
+pub add_expression-returns-in_ok-add_expression-in-Ternary-2-clause-ok : goal.add_expression-returns-in_ok-add_expression-in-Ternary-2-clause-ok
+add_expression-returns-in_ok-add_expression-in-Ternary-2-clause-ok t c =
+    whole _ _ _ _ _ (ternary _ c.in-Ternary.value c.in-Ternary.condition c.in-Ternary.other c.in-Ternary.span _ _ _ c.in-Ternary.is c.deref-in-Ternary-3.ensures c.deref-in-Ternary-2.ensures c.deref-in-Ternary.ensures) (two _ _ _ _ _ _ (c.in_ok-add_expression-in-Ternary-2.ensures.ok ∙ union-more _ _ _ _ _ refl c.in_ok-add_expression-in-Ternary.ensures.ok) c.add_expression-in-Ternary-3.ensures.ok)
+
+pub add_expression-returns-in-Array-clause-ok : goal.add_expression-returns-in-Array-clause-ok
+add_expression-returns-in-Array-clause-ok t c =
+    whole _ _ _ _ _ (array _ c.in-Array.items c.in-Array.span _ c.in-Array.is c.as_slice.ensures.value) c.add_items.ensures.ok
+
+pub add_expression-returns-in-Map-clause-ok : goal.add_expression-returns-in-Map-clause-ok
+add_expression-returns-in-Map-clause-ok t c =
+    whole _ _ _ _ _ (map _ c.in-Map.entries c.in-Map.span _ c.in-Map.is c.as_slice-in-Map.ensures.value) c.add_entries.ensures.ok
+
+pub add_expression-returns-in_ok-add_expression-in-Comprehension-2-clause-ok : goal.add_expression-returns-in_ok-add_expression-in-Comprehension-2-clause-ok
+add_expression-returns-in_ok-add_expression-in-Comprehension-2-clause-ok t c =
+    whole _ _ _ _ _ (comprehension _ c.in-Comprehension.value c.in-Comprehension.heading c.in-Comprehension.condition c.in-Comprehension.span _ _ _ c.in-Comprehension.is c.deref-in-Comprehension-2.ensures c.deref-in-Comprehension.ensures c.deref-in-Comprehension-3.ensures) (comprehended _ _ _ _ _ _ _ _ _ _ _ _ c.in_ok-add_expression-in-Comprehension.ensures.ok (empty _ c.new-inside.ensures.empty) c.in_ok-add_optional-in-Comprehension.ensures.ok c.in_ok-add_expression-in-Comprehension-2.ensures.ok c.remove_loop_names.ensures c.join.ensures.ok)
+
+pub add_expression-returns-in-Super-clause-ok : goal.add_expression-returns-in-Super-clause-ok
+add_expression-returns-in-Super-clause-ok t c =
+    whole _ _ _ _ _ (super _ c.in-Super.arguments c.in-Super.span _ c.in-Super.is c.as_slice-in-Super.ensures.value) c.add_arguments.ensures.ok
+
+pub add_expression-returns-in_ok-add_arguments-in-Filter-clause-ok : goal.add_expression-returns-in_ok-add_arguments-in-Filter-clause-ok
+add_expression-returns-in_ok-add_arguments-in-Filter-clause-ok t c =
+    whole _ _ _ _ _ (filter _ c.in-Filter.value c.in-Filter.name c.in-Filter.arguments c.in-Filter.span _ _ c.in-Filter.is c.deref-in-Filter.ensures c.as_slice-in-Filter.ensures.value) (two _ _ _ _ _ _ c.in_ok-add_arguments-in-Filter.ensures.ok c.add_expression-in-Filter.ensures.ok)
+
+pub add_expression-returns-in_ok-add_arguments-in-Test-clause-ok : goal.add_expression-returns-in_ok-add_arguments-in-Test-clause-ok
+add_expression-returns-in_ok-add_arguments-in-Test-clause-ok t c =
+    whole _ _ _ _ _ (test _ c.in-Test.value c.in-Test.name c.in-Test.arguments c.in-Test.span _ _ c.in-Test.is c.deref-in-Test.ensures c.as_slice-in-Test.ensures.value) (two _ _ _ _ _ _ c.in_ok-add_arguments-in-Test.ensures.ok c.add_expression-in-Test.ensures.ok)
+
+pub add_expression-returns-in-Call-clause-ok : goal.add_expression-returns-in-Call-clause-ok
+add_expression-returns-in-Call-clause-ok t c =
+    whole _ _ _ _ _ (call _ c.in-Call.name c.in-Call.arguments c.in-Call.span _ c.in-Call.is c.as_slice-in-Call.ensures.value) c.add_arguments-in-Call.ensures.ok
+
+pub add_expression-returns-in-Component-clause-ok : goal.add_expression-returns-in-Component-clause-ok
+add_expression-returns-in-Component-clause-ok t c =
+    whole _ _ _ _ _ (component _ c.in-Component.name c.in-Component.attributes c.in-Component.span _ c.in-Component.is c.as_slice-in-Component.ensures.value) c.add_entries-in-Component.ensures.ok
+
+pub add_items-loop-item-preserved : goal.add_items-loop-item-preserved
+add_items-loop-item-preserved t c =
+    union-pass _ _ _ _ _ (ap (λ xs. items_free (items_of xs)) (drop-here c.args.items.now c.loop-item.item-index c.item-item.result c.loop-item-test.true c.item-item.is)) c.in_ok-add_expression.ensures.ok ∙ c.loop-item.invariant
+
+pub add_items-returns-clause-ok : goal.add_items-returns-clause-ok
+add_items-returns-clause-ok t c =
+    sym (ap (λ xs. items_free (items_of xs) ∪ names_in c.loop-item.found) (drop_all c.loop-item.item-index c.args.items.now (omega (arith, c.loop-item-test.false)))) ∙ c.loop-item.invariant
+
+pub add_entries-loop-entry-preserved : goal.add_entries-loop-entry-preserved
+add_entries-loop-entry-preserved t c =
+    union-pass _ _ _ _ _ (ap (λ xs. entries_free (entries_of xs)) (drop-here c.args.entries.now c.loop-entry.entry-index c.entry-item.result c.loop-entry-test.true c.entry-item.is)) c.in_ok-add_expression.ensures.ok ∙ c.loop-entry.invariant
+
+pub add_entries-returns-clause-ok : goal.add_entries-returns-clause-ok
+add_entries-returns-clause-ok t c =
+    sym (ap (λ xs. entries_free (entries_of xs) ∪ names_in c.loop-entry.found) (drop_all c.loop-entry.entry-index c.args.entries.now (omega (arith, c.loop-entry-test.false)))) ∙ c.loop-entry.invariant
+
+pub add_arguments-loop-argument-preserved : goal.add_arguments-loop-argument-preserved
+add_arguments-loop-argument-preserved t c =
+    union-pass _ _ _ _ _ (ap (λ xs. arguments_free (arguments_of xs)) (drop-here c.args.arguments.now c.loop-argument.argument-index c.argument-item.result c.loop-argument-test.true c.argument-item.is)) c.in_ok-add_expression.ensures.ok ∙ c.loop-argument.invariant
+
+pub add_arguments-returns-clause-ok : goal.add_arguments-returns-clause-ok
+add_arguments-returns-clause-ok t c =
+    sym (ap (λ xs. arguments_free (arguments_of xs) ∪ names_in c.loop-argument.found) (drop_all c.loop-argument.argument-index c.args.arguments.now (omega (arith, c.loop-argument-test.false)))) ∙ c.loop-argument.invariant
+
+pub add_bounds-returns-clause-ok : goal.add_bounds-returns-clause-ok
+add_bounds-returns-clause-ok t c =
+    two _ _ _ _ _ _ (c.in_ok-add_optional-2.ensures.ok ∙ union-more _ _ _ _ _ refl c.in_ok-add_optional.ensures.ok) c.add_optional-3.ensures.ok

@@ -1,0 +1,9 @@
+use Rattle.std.proofs.Common.{◌≡◌, drop}
+use Rattle.tera_tree.specs.View.{filters_of}
+use Rattle.tera_variables.specs.Free.{filters_free, ◌∪◌}
+use Rattle.tera_variables.specs.Sets.{names_in}
+use Rattle.tera_variables.proofs.expressions.add_filters.Given as goal
+
+abbrev pub invariant-loop-filter : goal.invariant-loop-filter
+invariant-loop-filter l =
+    filters_free (filters_of (drop l.filter-index l.filters)) ∪ names_in l.found ≡ filters_free (filters_of l.filters) ∪ names_in l.initial.found

@@ -1,0 +1,123 @@
+-- The names that a tree looks up and does not bind.
+use Rattle.std.specs.Prelude.{Bool, true, false, not, ◌&&◌, ◌||◌, bytes_eq, Option, Some, None, if◌then◌else◌}
+use Rattle.tera_errors.specs.Site as site
+use Rattle.tera_tree.specs.Tree.{Expr, Nothing, Boolean, Integer, Text, Name, Attribute, Index, Slice, Not, Negate, Binary, And, Or, Ternary, Array, Map, Comprehension, Super, Filter, Test, Call, Component, Optional, Absent, Present, Items, NoItems, MoreItems, Entries, NoEntries, MoreEntries, Arguments, NoArguments, MoreArguments, Filters, NoFilters, MoreFilters, Node, Content, Print, If, Set, Capture, FilterSection, For, Block, Include, ComponentCall, Definition, Break, Continue, Nodes, NoNodes, MoreNodes}
+
+-- a set of names
+abbrev pub Names : Type 0
+Names = site.Name → Bool
+
+abbrev pub nobody : Names
+nobody n = false
+
+abbrev pub only : site.Name → Names
+only m n = bytes_eq m n
+
+-- what is in one of the two
+infixr 5 ◌∪◌
+abbrev pub ◌∪◌ : Names → Names → Names
+p ∪ q = λ n. p n || q n
+
+-- what is in the first alone
+infixl 6 ◌∖◌
+abbrev pub ◌∖◌ : Names → Names → Names
+p ∖ q = λ n. not (q n) && p n
+
+-- what a loop calls its items
+abbrev pub loop_names : Option site.Name → site.Name → Names
+loop_names None name = only name
+loop_names (Some key) name = only name ∪ only key
+
+-- a comprehension binds the names of its items in its value and its condition
+abbrev mutual
+  pub expr_free : Expr → Names
+  expr_free (Nothing span) = nobody
+  expr_free (Boolean b span) = nobody
+  expr_free (Integer z span) = nobody
+  expr_free (Text t span) = nobody
+  expr_free (Name n span) = only n
+  expr_free (Attribute e n optional span) = expr_free e
+  expr_free (Index a b optional span) = expr_free a ∪ expr_free b
+  expr_free (Slice e a b c optional span) = expr_free e ∪ (optional_free a ∪ (optional_free b ∪ optional_free c))
+  expr_free (Not e span) = expr_free e
+  expr_free (Negate e span) = expr_free e
+  expr_free (Binary op a b span) = expr_free a ∪ expr_free b
+  expr_free (And a b span) = expr_free a ∪ expr_free b
+  expr_free (Or a b span) = expr_free a ∪ expr_free b
+  expr_free (Ternary v c o span) = expr_free v ∪ (expr_free c ∪ expr_free o)
+  expr_free (Array all span) = items_free all
+  expr_free (Map all span) = entries_free all
+  expr_free (Comprehension v key n e c span) = ((expr_free v ∪ optional_free c) ∖ loop_names key n) ∪ expr_free e
+  expr_free (Super all span) = arguments_free all
+  expr_free (Filter e n all span) = expr_free e ∪ arguments_free all
+  expr_free (Test e n all span) = expr_free e ∪ arguments_free all
+  expr_free (Call n all span) = arguments_free all
+  expr_free (Component n all span) = entries_free all
+
+  pub optional_free : Optional → Names
+  optional_free Absent = nobody
+  optional_free (Present e) = expr_free e
+
+  pub items_free : Items → Names
+  items_free NoItems = nobody
+  items_free (MoreItems s e rest) = expr_free e ∪ items_free rest
+
+  pub entries_free : Entries → Names
+  entries_free NoEntries = nobody
+  entries_free (MoreEntries k e rest) = expr_free e ∪ entries_free rest
+
+  pub arguments_free : Arguments → Names
+  arguments_free NoArguments = nobody
+  arguments_free (MoreArguments n e rest) = expr_free e ∪ arguments_free rest
+
+abbrev pub filters_free : Filters → Names
+filters_free NoFilters = nobody
+filters_free (MoreFilters n all span rest) = arguments_free all ∪ filters_free rest
+
+-- What setting a name binds behind it, or, where it stands in a loop's body, behind that loop: there what `set` binds has ended, and
+-- what `set_global` binds has not.
+abbrev pub set_binds : Bool → Bool → site.Name → Names
+set_binds in_loop is_global n = if is_global || not in_loop then only n else nobody
+
+-- The names that are bound behind nodes, or behind the loop in whose body they stand. A component keeps to itself what it sets.
+abbrev mutual
+  pub node_binds : Bool → Node → Names
+  node_binds in_loop (Content t span) = nobody
+  node_binds in_loop (Print e) = nobody
+  node_binds in_loop (If c body other) = binds in_loop body ∪ binds in_loop other
+  node_binds in_loop (Set n e is_global) = set_binds in_loop is_global n
+  node_binds in_loop (Capture n fs body is_global) = set_binds in_loop is_global n ∪ binds in_loop body
+  node_binds in_loop (FilterSection fs body) = binds in_loop body
+  node_binds in_loop (For key n e body other) = binds true body ∪ binds in_loop other
+  node_binds in_loop (Block n body span) = binds in_loop body
+  node_binds in_loop (Include n span) = nobody
+  node_binds in_loop (ComponentCall n all body span) = binds in_loop body
+  node_binds in_loop (Definition s body) = nobody
+  node_binds in_loop Break = nobody
+  node_binds in_loop Continue = nobody
+
+  pub binds : Bool → Nodes → Names
+  binds in_loop NoNodes = nobody
+  binds in_loop (MoreNodes n rest) = node_binds in_loop n ∪ binds in_loop rest
+
+-- The names that nodes look up and that nothing binds which stands before in the text, or around. Components are no part of the
+-- text around them.
+abbrev mutual
+  pub node_free : Node → Names
+  node_free (Content t span) = nobody
+  node_free (Print e) = expr_free e
+  node_free (If c body other) = expr_free c ∪ (free body ∪ (free other ∖ binds false body))
+  node_free (Set n e is_global) = expr_free e
+  node_free (Capture n fs body is_global) = filters_free fs ∪ free body
+  node_free (FilterSection fs body) = filters_free fs ∪ free body
+  node_free (For key n e body other) = expr_free e ∪ ((free body ∖ loop_names key n) ∪ (free other ∖ binds true body))
+  node_free (Block n body span) = free body
+  node_free (Include n span) = nobody
+  node_free (ComponentCall n all body span) = entries_free all ∪ free body
+  node_free (Definition s body) = nobody
+  node_free Break = nobody
+  node_free Continue = nobody
+
+  pub free : Nodes → Names
+  free NoNodes = nobody
+  free (MoreNodes n rest) = node_free n ∪ (free rest ∖ node_binds false n)

@@ -1,0 +1,185 @@
+// The names that expressions look up. They are found from the right to the left.
+ghost use Rattle.std.specs.Prelude.{◌≡◌, OnOk, IfErr};
+ghost use Rattle.tera_errors.specs.Answer.{Lacks};
+ghost use Rattle.tera_tree.specs.View.{expr_of, optional_of, items_of, entries_of, arguments_of, filters_of};
+ghost use Rattle.tera_variables.specs.Free.{expr_free, optional_free, items_free, entries_free, arguments_free, filters_free, ◌∪◌};
+ghost use Rattle.tera_variables.specs.Sets.{names_in, bounds_free};
+
+use crate::sets::{add, join, remove_loop_names};
+use std::alloc::Global;
+use std::collections::BTreeSet;
+use tera_errors::TeraResult;
+use tera_tree::{Argument, Bounds, Entry, Expression, Item, SectionFilter};
+
+/// Puts those of an expression among those that were found.
+#[cycle(expressions)]
+pub fn add_expression(
+    alloc: Global,
+    expression: &Expression,
+    found: &mut BTreeSet<String>,
+) -> TeraResult<()>
+    ensures ok { OnOk result
+        (names_in found.new ≡ expr_free (expr_of expression.now) ∪ names_in found.old) }
+    ensures lacks { IfErr result Lacks }
+{
+    match expression {
+        Expression::None { .. }
+        | Expression::Bool { .. }
+        | Expression::Int { .. }
+        | Expression::Text { .. } => Ok(()),
+        Expression::Name { name, .. } => add(alloc, name, found),
+        Expression::Attribute { target, .. } => add_expression(alloc, target, found),
+        Expression::Index { target, index, .. } => {
+            add_expression(alloc, index, found)?;
+            add_expression(alloc, target, found)
+        }
+        Expression::Slice { target, bounds, .. } => {
+            add_bounds(alloc, bounds, found)?;
+            add_expression(alloc, target, found)
+        }
+        Expression::Not { operand, .. } => add_expression(alloc, operand, found),
+        Expression::Negate { operand, .. } => add_expression(alloc, operand, found),
+        Expression::Binary { left, right, .. } => {
+            add_expression(alloc, right, found)?;
+            add_expression(alloc, left, found)
+        }
+        Expression::And { left, right, .. } => {
+            add_expression(alloc, right, found)?;
+            add_expression(alloc, left, found)
+        }
+        Expression::Or { left, right, .. } => {
+            add_expression(alloc, right, found)?;
+            add_expression(alloc, left, found)
+        }
+        Expression::Ternary {
+            value,
+            condition,
+            other,
+            ..
+        } => {
+            add_expression(alloc, other, found)?;
+            add_expression(alloc, condition, found)?;
+            add_expression(alloc, value, found)
+        }
+        Expression::Array { items, .. } => add_items(alloc, items.as_slice(), found),
+        Expression::Map { entries, .. } => add_entries(alloc, entries.as_slice(), found),
+        Expression::Comprehension {
+            value,
+            heading,
+            condition,
+            ..
+        } => {
+            add_expression(alloc, &heading.target, found)?;
+            let mut inside = BTreeSet::new(alloc);
+            add_optional(alloc, condition, &mut inside)?;
+            add_expression(alloc, value, &mut inside)?;
+            remove_loop_names(heading, &mut inside);
+            join(inside, found)
+        }
+        Expression::Super { arguments, .. } => add_arguments(alloc, arguments.as_slice(), found),
+        Expression::Filter {
+            value,
+            arguments,
+            ..
+        } => {
+            add_arguments(alloc, arguments.as_slice(), found)?;
+            add_expression(alloc, value, found)
+        }
+        Expression::Test {
+            value,
+            arguments,
+            ..
+        } => {
+            add_arguments(alloc, arguments.as_slice(), found)?;
+            add_expression(alloc, value, found)
+        }
+        Expression::Call { arguments, .. } => add_arguments(alloc, arguments.as_slice(), found),
+        Expression::Component { attributes, .. } => {
+            add_entries(alloc, attributes.as_slice(), found)
+        }
+    }
+}
+
+// Puts those of the bounds of a slice among those that were found.
+#[cycle(expressions)]
+fn add_bounds(alloc: Global, bounds: &Bounds, found: &mut BTreeSet<String>) -> TeraResult<()>
+    ensures ok { OnOk result (names_in found.new ≡ bounds_free bounds.now ∪ names_in found.old) }
+    ensures lacks { IfErr result Lacks }
+{
+    add_optional(alloc, &bounds.step, found)?;
+    add_optional(alloc, &bounds.end, found)?;
+    add_optional(alloc, &bounds.start, found)
+}
+
+#[cycle(expressions)]
+fn add_optional(
+    alloc: Global,
+    expression: &Option<Box<Expression>>,
+    found: &mut BTreeSet<String>,
+) -> TeraResult<()>
+    ensures ok { OnOk result
+        (names_in found.new ≡ optional_free (optional_of expression.now) ∪ names_in found.old) }
+    ensures lacks { IfErr result Lacks }
+{
+    match expression {
+        None => Ok(()),
+        Some(expression) => add_expression(alloc, expression, found),
+    }
+}
+
+#[cycle(expressions)]
+fn add_items(alloc: Global, items: &[Item], found: &mut BTreeSet<String>) -> TeraResult<()>
+    ensures ok { OnOk result
+        (names_in found.new ≡ items_free (items_of items.now) ∪ names_in found.old) }
+    ensures lacks { IfErr result Lacks }
+{
+    for item in items {
+        add_expression(alloc, &item.value, found)?;
+    }
+    Ok(())
+}
+
+/// Puts those of entries among those that were found.
+#[cycle(expressions)]
+pub fn add_entries(alloc: Global, entries: &[Entry], found: &mut BTreeSet<String>) -> TeraResult<()>
+    ensures ok { OnOk result
+        (names_in found.new ≡ entries_free (entries_of entries.now) ∪ names_in found.old) }
+    ensures lacks { IfErr result Lacks }
+{
+    for entry in entries {
+        add_expression(alloc, &entry.value, found)?;
+    }
+    Ok(())
+}
+
+#[cycle(expressions)]
+fn add_arguments(
+    alloc: Global,
+    arguments: &[Argument],
+    found: &mut BTreeSet<String>,
+) -> TeraResult<()>
+    ensures ok { OnOk result
+        (names_in found.new ≡ arguments_free (arguments_of arguments.now) ∪ names_in found.old) }
+    ensures lacks { IfErr result Lacks }
+{
+    for argument in arguments {
+        add_expression(alloc, &argument.value, found)?;
+    }
+    Ok(())
+}
+
+/// Puts those of filters among those that were found.
+pub fn add_filters(
+    alloc: Global,
+    filters: &[SectionFilter],
+    found: &mut BTreeSet<String>,
+) -> TeraResult<()>
+    ensures ok { OnOk result
+        (names_in found.new ≡ filters_free (filters_of filters.now) ∪ names_in found.old) }
+    ensures lacks { IfErr result Lacks }
+{
+    for filter in filters {
+        add_arguments(alloc, filter.arguments.as_slice(), found)?;
+    }
+    Ok(())
+}

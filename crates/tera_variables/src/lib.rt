@@ -1,0 +1,9 @@
+//! Which names a template looks up and does not bind.
+#![tactic(auto)]
+
+mod expressions;
+mod nodes;
+mod sets;
+
+pub use nodes::free;
+pub use sets::add;

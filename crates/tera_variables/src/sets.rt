@@ -1,0 +1,51 @@
+// Sets of names. Each text is copied once.
+ghost use Rattle.std.specs.Prelude.{◌≡◌, OnOk, IfErr, option_copied};
+ghost use Rattle.tera_errors.specs.Answer.{Lacks};
+ghost use Rattle.tera_variables.specs.Free.{only, loop_names, ◌∪◌, ◌∖◌};
+ghost use Rattle.tera_variables.specs.Sets.{names_in};
+
+use std::alloc::Global;
+use std::collections::BTreeSet;
+use tera_errors::TeraResult;
+use tera_tree::Heading;
+
+/// Puts a name among those that were found.
+pub fn add(alloc: Global, name: &str, found: &mut BTreeSet<String>) -> TeraResult<()>
+    ensures ok { OnOk result (names_in found.new ≡ only name.now ∪ names_in found.old) }
+    ensures lacks { IfErr result Lacks }
+{
+    if found.contains(name) {
+        return Ok(());
+    }
+    found.insert(String::from_str(alloc, name)?)?;
+    Ok(())
+}
+
+/// Takes a name away, if it is there.
+pub fn remove(name: &str, found: &mut BTreeSet<String>)
+    ensures { names_in found.new ≡ names_in found.old ∖ only name.now }
+{
+    found.remove(name);
+}
+
+/// Takes away what a loop calls its items.
+pub fn remove_loop_names(heading: &Heading, found: &mut BTreeSet<String>)
+    ensures { names_in found.new
+        ≡ names_in found.old ∖ loop_names (option_copied heading.now.key) heading.now.name.now }
+{
+    remove(heading.name, found);
+    if let Some(key) = heading.key {
+        remove(key, found);
+    }
+}
+
+/// Puts these names among those that were found.
+pub fn join(names: BTreeSet<String>, found: &mut BTreeSet<String>) -> TeraResult<()>
+    ensures ok { OnOk result (names_in found.new ≡ names_in names ∪ names_in found.old) }
+    ensures lacks { IfErr result Lacks }
+{
+    for name in names {
+        found.insert(name)?;
+    }
+    Ok(())
+}

@@ -2,7 +2,7 @@
 use crate::rows::{Nest, Row, Text};
 
 /// Between the standard delimiters.
-pub static INCLUDES: [Row; 16] = [
+pub static INCLUDES: [Row; 17] = [
     Row("{% include \"a\" %}", "(include a 11-14)"),
     Row(
         "a{%-include'b.html'-%} c",

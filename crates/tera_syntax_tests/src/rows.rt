@@ -250,7 +250,7 @@ pub static TREES: [Row; 75] = [
     ),
 ];
 
-pub static REFUSED: [Text; 163] = [
+pub static REFUSED: [Text; 162] = [
     Text("{{ }}"),
     Text("{{ a"),
     Text("b {# open"),
@@ -392,7 +392,6 @@ pub static REFUSED: [Text; 163] = [
     Text("{% block a b %}{% endblock %}"),
     Text("{% block 'a' %}{% endblock %}"),
     Text("{% block 1 %}{% endblock %}"),
-    Text("{% block if %}{% endblock %}"),
     Text("{% block a = 1 %}"),
     Text("{% block a.b %}{% endblock %}"),
     Text("{% block a %}{% endblock b %}"),

@@ -56,20 +56,23 @@ pub enum Failing {
     Flushes,
 }
 
+/// How many bytes a sink takes at most.
+const TAKEN: usize = 512;
+
 /// Takes so many bytes, a few a write, and then fails.
 #[derive(Clone, Copy)]
 pub struct Sink {
-    bytes: [u8; 128],
+    bytes: [u8; TAKEN],
     used: usize,
     room: usize,
     failing: Failing,
 }
 
 impl Sink {
-    /// A writer that takes so many bytes, up to 128, and fails in this way.
+    /// A writer that takes so many bytes, up to `TAKEN`, and fails in this way.
     pub fn failing(room: usize, failing: Failing) -> Sink {
         Sink {
-            bytes: [0; 128],
+            bytes: [0; TAKEN],
             used: 0,
             room,
             failing,
@@ -78,12 +81,12 @@ impl Sink {
 
     /// A writer that takes all that the tests write.
     pub fn new() -> Sink {
-        Sink::failing(128, Failing::Writes)
+        Sink::failing(TAKEN, Failing::Writes)
     }
 
     /// What it took.
     pub fn written(&self) -> &[u8] {
-        &self.bytes[..self.used.min(128)]
+        &self.bytes[..self.used.min(TAKEN)]
     }
 }
 

@@ -54,6 +54,8 @@ mod other_delimiters;
 #[cfg(test)]
 mod previews;
 #[cfg(test)]
+mod refused_commands;
+#[cfg(test)]
 mod refused_renderings;
 #[cfg(test)]
 mod refused_runs;

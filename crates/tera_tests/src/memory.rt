@@ -2,7 +2,7 @@
 use std::alloc::Global;
 
 /// How many bytes are free at most while a call is tried.
-const ROOM: usize = 8192;
+const ROOM: usize = 65_536;
 
 /// The least that the C library hands out: with steps of it each request is once the first that is refused.
 const STEP: usize = 32;

@@ -1,6 +1,6 @@
 //! The calls that render a block.
 use crate::cases::put;
-use crate::templates::{adds, fails_with, is_refused};
+use crate::templates::{adds, fails_with, is_refused, shows};
 use std::alloc::Global;
 use tera::{Context, Tera, TeraResult, Value};
 
@@ -45,6 +45,7 @@ fn shows_blocks(alloc: Global, engine: &mut Tera, context: &Context) -> bool {
     adds(engine, "list", LISTED)
         && adds(engine, "never", NEVER)
         && adds(engine, "child", CHILD)
+        && shows(engine, context, "list", "12")
         && shows_block(engine, context, "list", "b", "2")
         && shows_block(engine, context, "never", "b", "")
         && shows_block(engine, context, "child", "b", "<2>")

@@ -276,10 +276,12 @@ x
 @@ end
 @@ add
 @@ render base
+@@ render child
 =>
 ok
 ok
 fault Message
+fault TemplateNotFound
 fault TemplateNotFound
 
 @@ template base

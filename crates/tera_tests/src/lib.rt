@@ -62,6 +62,8 @@ mod refused_runs;
 #[cfg(test)]
 mod renderings;
 #[cfg(test)]
+mod replaced_templates;
+#[cfg(test)]
 mod scopes;
 #[cfg(test)]
 mod scripts;

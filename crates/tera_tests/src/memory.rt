@@ -50,7 +50,7 @@ fn with_taken<T, F: FnOnce() -> T>(
 ) -> Option<T>
     requires { F.IsAlwaysCallable call }
 {
-    if !take_all_but_room(alloc, taken) {
+    if !take_all_but(alloc, taken, ROOM) {
         return None;
     }
     // Between this plug and the end of the room lies all that is left.
@@ -64,9 +64,34 @@ fn with_taken<T, F: FnOnce() -> T>(
     }
 }
 
-/// Takes all the memory that there is, but for the room; false where there is not even that.
-fn take_all_but_room(alloc: Global, taken: &mut Vec<Vec<u8>>) -> bool {
-    match Vec::<u8>::with_capacity(alloc, ROOM) {
+/// What the call answers where one piece of so many bytes is left; none where there is not even that.
+pub fn with_room<T, F: FnOnce() -> T>(alloc: Global, room: usize, call: F) -> Option<T>
+    requires { F.IsAlwaysCallable call }
+{
+    let mut taken = Vec::with_capacity(alloc, 200_000).ok()?;
+    if !take_all_but(alloc, &mut taken, room) {
+        return None;
+    }
+    let answer = call();
+    drop(taken);
+    Some(answer)
+}
+
+/// How many bytes are left, each piece with the 16 that the C library keeps beside it. The pieces lie in this list for
+/// that time, and it needs a place for each.
+pub fn left(alloc: Global, pieces: &mut Vec<Vec<u8>>) -> usize {
+    take_all(alloc, pieces);
+    let mut sum: usize = 0;
+    for piece in pieces.iter() {
+        sum = sum.saturating_add(piece.capacity()).saturating_add(16);
+    }
+    pieces.clear();
+    sum
+}
+
+/// Takes all the memory that there is, but for a piece of so many bytes; false where there is not even that.
+fn take_all_but(alloc: Global, taken: &mut Vec<Vec<u8>>, room: usize) -> bool {
+    match Vec::<u8>::with_capacity(alloc, room) {
         Ok(room) => {
             take_all(alloc, taken);
             drop(room);

@@ -56,23 +56,20 @@ pub enum Failing {
     Flushes,
 }
 
-/// How many bytes a sink takes at most.
-const TAKEN: usize = 512;
-
 /// Takes so many bytes, a few a write, and then fails.
 #[derive(Clone, Copy)]
 pub struct Sink {
-    bytes: [u8; TAKEN],
+    bytes: [u8; 128],
     used: usize,
     room: usize,
     failing: Failing,
 }
 
 impl Sink {
-    /// A writer that takes so many bytes, up to `TAKEN`, and fails in this way.
+    /// A writer that takes so many bytes, up to 128, and fails in this way.
     pub fn failing(room: usize, failing: Failing) -> Sink {
         Sink {
-            bytes: [0; TAKEN],
+            bytes: [0; 128],
             used: 0,
             room,
             failing,
@@ -81,12 +78,12 @@ impl Sink {
 
     /// A writer that takes all that the tests write.
     pub fn new() -> Sink {
-        Sink::failing(TAKEN, Failing::Writes)
+        Sink::failing(128, Failing::Writes)
     }
 
     /// What it took.
     pub fn written(&self) -> &[u8] {
-        &self.bytes[..self.used.min(TAKEN)]
+        &self.bytes[..self.used.min(128)]
     }
 }
 

@@ -54,8 +54,6 @@ mod other_delimiters;
 #[cfg(test)]
 mod previews;
 #[cfg(test)]
-mod refused_commands;
-#[cfg(test)]
 mod refused_renderings;
 #[cfg(test)]
 mod refused_runs;

@@ -11,7 +11,7 @@ const ROOM: usize = 100_000;
 /// Lines of a number, some text, the number again and some other text.
 fn lines(alloc: Global, number: usize, between: &str, behind: &str) -> Option<String> {
     let mut text = String::new(alloc);
-    for _ in 0..40 {
+    for _ in 0..60 {
         if !put_number(&mut text, number)
             || text.push_str(between).is_err()
             || !put_number(&mut text, number)

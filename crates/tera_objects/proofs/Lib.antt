@@ -1,0 +1,4 @@
+pub mod Listed
+pub mod Each
+pub mod Taken
+pub mod Called

@@ -1,5 +1,6 @@
 // What an object of the caller is lent of a rendering.
-ghost use Rattle.std.specs.Prelude.{◌≡◌, [], true, None, Ok, option_map, string_bytes, unwrap_or, IsTrue, IsOk};
+ghost use Rattle.std.specs.Prelude.{◌≡◌, [], true, Some, None, Ok, option_map, string_bytes, bytes_eq, unwrap_or, IsTrue, IsOk};
+ghost use Rattle.std.specs.List.{list_any};
 ghost use Rattle.tera_errors.specs.Answer.{Gives};
 ghost use Rattle.tera_values.specs.Val.{undefined};
 ghost use Rattle.tera_values.specs.Access.{is_undefined};
@@ -8,6 +9,7 @@ ghost use Rattle.tera_values.specs.Escape.{escape_html};
 ghost use Rattle.tera_built_ins.specs.Escaping.{escape_or_html, escaping_of};
 ghost use Rattle.tera_built_ins.specs.Filters.{filter_in};
 ghost use Rattle.tera_state.specs.Found.{found_value};
+ghost use Rattle.tera_state.specs.View.{filters_left};
 
 use crate::found::Found;
 use crate::rendered::write_value;
@@ -39,6 +41,22 @@ impl<'a, 'c> Source<'a, 'c> {
     }
 }
 
+// The built-in filter of this name, unless the name is taken.
+fn filter_left(taken: &[Name], name: &str) -> Option<BuiltInFilter>
+    ensures { result ≡ filters_left (Some taken.now) name.now }
+{
+    if is_among(taken, name) {
+        return None;
+    }
+    BuiltInFilter::named(name)
+}
+
+fn is_among(names: &[Name], name: &str) -> bool
+    ensures { result ≡ list_any (bytes_eq name.now) names.now }
+{
+    names.iter().any(|other| name == other.as_str())
+}
+
 /// What an object of the caller sees: the variables, whether text is escaped, the escape, and the built-in filters. It is lent
 /// the scopes, and they are lent their contexts. Where it has no escape, that is `escape_html`; where it has no names that are
 /// taken, there are no filters.
@@ -56,7 +74,7 @@ pub type State<'a> = StateOver<'a, 'a, &'a dyn EscapeFn>;
 
 impl<'a, 'c, E: EscapeFn> StateOver<'a, 'c, E> {
     ghost use Rattle.tera_state.specs.Scope.{outside, nothing_set};
-    ghost use Rattle.tera_state.specs.View.{view_of, view_at, filters_left, read_defined, escaped_if_needed, escaping_in};
+    ghost use Rattle.tera_state.specs.View.{view_of, view_at, read_defined, escaped_if_needed, escaping_in};
 
     /// A state over a context alone: text is escaped, by `escape_html`, and there are no filters. Takes no memory.
     pub fn new(context: &'a Context) -> StateOver<'a, 'c, E>
@@ -152,15 +170,15 @@ impl<'a, 'c, E: EscapeFn> StateOver<'a, 'c, E> {
         ensures { result ≡ (view_of E.escaped self.now).filters name.now }
     {
         match self.taken {
-            Some(taken) if !taken.iter().any(|other| other.as_str() == name) => BuiltInFilter::named(name),
-            _ => None,
+            Some(taken) => filter_left(taken, name),
+            None => None,
         }
     }
 }
 
 impl<'c> Scopes<'c> {
     ghost use Rattle.tera_state.specs.Scopes.{around_of, variables_of};
-    ghost use Rattle.tera_state.specs.View.{view_of, view_at, filters_left, lent_names};
+    ghost use Rattle.tera_state.specs.View.{view_of, view_at, lent_names};
 
     /// The state of the rendering, as it is lent to an object: with this escape, or `escape_html`, and with the built-in filters
     /// but those whose names are taken, or none. Takes no memory.

@@ -2,3 +2,4 @@ pub mod Listed
 pub mod Each
 pub mod Taken
 pub mod Called
+pub mod Registered

@@ -1,6 +1,7 @@
 //! What an engine has of its caller: filters, tests, functions and the escape.
 #![tactic(auto)]
 
+mod apply;
 mod boxes;
 mod calls;
 pub mod filters;
@@ -10,6 +11,7 @@ pub mod over;
 mod standard;
 pub mod table;
 
+pub use apply::{filter, function, test};
 pub use filters::OwnFilters;
 pub use objects::Objects;
 pub use over::{CallerObjects, ObjectsOver};

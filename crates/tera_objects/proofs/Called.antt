@@ -1,7 +1,8 @@
 -- Calls with values of bytes.
-use Rattle.std.proofs.Common.{◌≡◌, ◌||◌, is_some, [], ◌∷◌, Option, Some, None, refl, ap}
+use Rattle.std.proofs.Common.{◌≡◌, ◌||◌, is_some, [], ◌∷◌, Option, Some, None, refl, ap, ◌∙◌}
 use Rattle.tera_values.specs.Alphabet.{plain}
-use Rattle.tera_values.specs.Named.{Named}
+use Rattle.tera_errors.specs.Site.{Name}
+use Rattle.tera_values.specs.Named.{Named, at_name}
 use Rattle.tera_values.specs.Val.{Val}
 use Rattle.tera_built_ins.specs.declared.filter.BuiltInFilter.{BuiltInFilter}
 use Rattle.tera_built_ins.specs.declared.test.BuiltInTest.{BuiltInTest}
@@ -11,6 +12,8 @@ use Rattle.tera_built_ins.specs.TestTable.{test_in}
 use Rattle.tera_built_ins.specs.FunctionTable.{function_in}
 use Rattle.tera_state.specs.View.{View, escaping_in}
 use Rattle.tera_objects.specs.Engine.{own_or_built_in}
+use Rattle.tera_objects.specs.Kept.{each}
+use Rattle.tera_objects.proofs.Each.{at-each, is_some-map}
 use Rattle.tera_objects.specs.Calling.{all_bare, filter_called, test_called, function_called}
 
 -- values of bytes have no marks
@@ -37,3 +40,8 @@ pub either-there : {O B : Type 0} (o : Option O) (b : Option B) → is_some (own
 either-there (Some o) b = refl
 either-there None (Some b) = refl
 either-there None None = refl
+
+pub known-by : {A O B : Type 0} (meaning : A → O) (n : Name) (here : Named A) (b : Option B) → is_some (own_or_built_in (at_name n (each meaning here)) b) ≡ (is_some (at_name n here) || is_some b)
+known-by meaning n here b =
+    either-there (at_name n (each meaning here)) b
+    ∙ ap (λ t. t || is_some b) (ap is_some (at-each meaning n here) ∙ is_some-map meaning (at_name n here))

@@ -1,6 +1,6 @@
 -- The names that filters of the caller took.
 use mathlib.Core.Path.{fun_ext}
-use Rattle.std.proofs.Common.{◌≡◌, Bool, true, false, ◌||◌, is_some, List, [], ◌∷◌, ◌++◌, Option, Some, None, option_map, refl, sym, ap, ◌∙◌, cond, if◌then◌else◌}
+use Rattle.std.proofs.Common.{◌≡◌, Bool, true, false, ◌||◌, is_some, List, [], ◌∷◌, ◌++◌, Option, Some, None, option_map, refl, sym, ap, ◌∙◌, cond, if◌then◌else◌, ℕ, take, Result, Ok, Err, OnOk, OnErr}
 use Rattle.std.specs.List.{list_any}
 use Rattle.std.specs.Str.{bytes_eq}
 use Rattle.std.specs.Cmp.Lexicographic.{bytes_decides}
@@ -63,6 +63,18 @@ module _ {F : Type 0} where
   taken-moved taken here [] are = are
   taken-moved taken here (e ∷ es) are =
       taken-moved taken (more (λ n. is_some (filter_named n)) here e) es (by-one taken here e (is_some (filter_named e.0)) (is_some (at_name e.0 here)) refl are)
+
+  -- what calls leave
+  pub taken-new : (taken new : List Name) (here there : Named F) (n m : Name) (f : F) → new ≡ taken ++ n ∷ [] → n ≡ m → there ≡ put m f here → AreTaken taken here → AreTaken new there
+  taken-new taken new here there n m f a b c are = rw (a, b, c) (taken-more taken here m f are)
+
+  pub taken-kept : {T E : Type 0} (taken : List Name) (here there : Named F) (m : Name) (f : F) → is_some (at_name m here) ≡ true → (r : Result T E) → OnOk r (there ≡ put m f here) → OnErr r (there ≡ here) → AreTaken taken here → AreTaken taken there
+  taken-kept taken here there m f known (Ok x) done same are = rw done (taken-again taken here m f known are)
+  taken-kept taken here there m f known (Err e) done same are = rw same are
+
+  pub taken-from : {T E : Type 0} (taken : List Name) (here others there : Named F) (r : Result T E) → OnOk r (there ≡ moved (λ n. is_some (filter_named n)) here others) → OnErr r ((k : ℕ) × (there ≡ moved (λ n. is_some (filter_named n)) here (take k others))) → AreTaken taken here → AreTaken taken there
+  taken-from taken here others there (Ok x) done part are = rw done (taken-moved taken here others are)
+  taken-from taken here others there (Err e) done part are = rw part.1 (taken-moved taken here (take part.0 others) are)
 
   module _ {G : Type 0} (meaning : F → G) where
     left-by : (f : Option BuiltInFilter) (t : Bool) (o : Option F) → (is_some f ≡ true → t ≡ is_some o) → (if t then None else f) ≡ built_in_unless (option_map meaning o) f

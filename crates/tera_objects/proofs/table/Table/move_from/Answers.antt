@@ -7,7 +7,7 @@ use Rattle.tera_objects.proofs.table.Table.move_from.Goals as goal
 
 pub loop-name-init : goal.loop-name-init
 loop-name-init g c =
-    let same : c.into_iter-name-iterator.result ≡ c.args.other.entries.entries = c.into_iter-name-iterator.ensures.into_iter_gives in
+    let same : c.into_iter-name-iterator.result ≡ c.args.other.entries.entries = c.into_iter-name-iterator.ensures.into_iter_gives.0 in
     (tt, tt, (0, ap by_bytes same, refl))
 
 pub loop-name-preserved : goal.loop-name-preserved

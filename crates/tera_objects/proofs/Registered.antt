@@ -20,6 +20,10 @@ pub on_err : {T E P Q : Type 0} (r : Result T E) → (P → Q) → OnErr r P →
 on_err (Ok x) go h = tt
 on_err (Err e) go h = go h
 
+pub where_err : {T E P : Type 0} (r : Result T E) → P → OnErr r P
+where_err (Ok x) p = tt
+where_err (Err e) p = p
+
 -- an engine of these, and one of others in place of one kind
 abbrev pub engine : (Text → Text) → Named OwnFilter → Named OwnTest → Named OwnFunction → Engine
 engine escape filters tests functions =

@@ -75,9 +75,9 @@ pub(crate) fn built_in_answer(
     arguments: &Kwargs,
 ) -> TeraResult<Value>
     ensures { Gives (λ v. v) result (filtered_in plain (record {
-        autoescape = autoescape;
-        escape = escape_or_html (λ b. (⟦<dyn EscapeFn as EscapeFn>⟧ b.vtable).escaped b.value) escape.now;
-        }) name.now value.now arguments.now) }
+      autoescape = autoescape;
+      escape = escape_or_html (λ b. (⟦<dyn EscapeFn as EscapeFn>⟧ b.vtable).escaped b.value) escape.now;
+    }) name.now value.now arguments.now) }
 {
     let lent = lent_escape(escape);
     let escaping = Escaping {

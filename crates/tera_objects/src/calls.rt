@@ -11,13 +11,19 @@ impl Objects for ObjectsOver<Box<dyn EscapeFn>, Box<dyn Filter>, Box<dyn Test>, 
     ghost use Rattle.tera_objects.specs.Kept.{engine_of};
 
     ghost engine = { engine_of (record {
-        escape = λ b. (EscapeFn-box b).escaped b.value;
-        filter = λ b. record { meaning = (Filter-box b).meaning b.value; safe = (Filter-box b).safe b.value };
-        test = λ b. record { meaning = (Test-box b).meaning b.value };
-        function = λ b. record { meaning = (Function-box b).meaning b.value; safe = (Function-box b).safe b.value };
+      escape = λ b. (EscapeFn-box b).escaped b.value;
+      filter = λ b. record { meaning = (Filter-box b).meaning b.value; safe = (Filter-box b).safe b.value };
+      test = λ b. record { meaning = (Test-box b).meaning b.value };
+      function = λ b. record { meaning = (Function-box b).meaning b.value; safe = (Function-box b).safe b.value };
     }) };
 
-    fn write(&self, alloc: Global, autoescape: bool, value: &Value, out: &mut String) -> TeraResult<()> {
+    fn write(
+        &self,
+        alloc: Global,
+        autoescape: bool,
+        value: &Value,
+        out: &mut String,
+    ) -> TeraResult<()> {
         write_by(&self.escape, alloc, autoescape, value, out)
     }
 
@@ -45,7 +51,12 @@ impl Objects for ObjectsOver<Box<dyn EscapeFn>, Box<dyn Filter>, Box<dyn Test>, 
         let Some(filter) = self.filters.table.get(name) else {
             return built_in_answer(&self.escape, alloc, autoescape, name, value, &arguments);
         };
-        let state = lent(&self.escape, self.filters.taken.as_slice(), scopes, autoescape);
+        let state = lent(
+            &self.escape,
+            self.filters.taken.as_slice(),
+            scopes,
+            autoescape,
+        );
         filter_answer(filter, value, arguments, &state)
     }
 
@@ -64,7 +75,12 @@ impl Objects for ObjectsOver<Box<dyn EscapeFn>, Box<dyn Filter>, Box<dyn Test>, 
                 None => Err(Error::message(alloc, "there is no such test")),
             };
         };
-        let state = lent(&self.escape, self.filters.taken.as_slice(), scopes, autoescape);
+        let state = lent(
+            &self.escape,
+            self.filters.taken.as_slice(),
+            scopes,
+            autoescape,
+        );
         test_answer(test, value, arguments, &state)
     }
 
@@ -82,7 +98,12 @@ impl Objects for ObjectsOver<Box<dyn EscapeFn>, Box<dyn Filter>, Box<dyn Test>, 
                 None => Err(Error::message(alloc, "there is no such function")),
             };
         };
-        let state = lent(&self.escape, self.filters.taken.as_slice(), scopes, autoescape);
+        let state = lent(
+            &self.escape,
+            self.filters.taken.as_slice(),
+            scopes,
+            autoescape,
+        );
         function_answer(function, arguments, &state)
     }
 }

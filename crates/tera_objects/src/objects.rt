@@ -19,7 +19,13 @@ pub trait Objects: Drop {
 
     /// Puts a value behind a text: its printed text, escaped where texts are escaped and the value is not safe. Want of
     /// memory leaves the text as it was.
-    fn write(&self, alloc: Global, autoescape: bool, value: &Value, out: &mut String) -> TeraResult<()>
+    fn write(
+        &self,
+        alloc: Global,
+        autoescape: bool,
+        value: &Value,
+        out: &mut String,
+    ) -> TeraResult<()>
         ensures ok { OnOk result (string_bytes out.new
             ≡ string_bytes out.old ++ rendered autoescape (engine self.now).escape value.now) }
         ensures err { OnErr result (string_bytes out.new ≡ string_bytes out.old) }

@@ -20,8 +20,12 @@ pub struct ObjectsOver<E, F, T, G> {
 }
 
 /// The objects that a caller boxes.
-pub type CallerObjects =
-    ObjectsOver<Box<dyn EscapeFn>, Box<dyn Filter>, Box<dyn Test>, Box<dyn Function>>;
+pub type CallerObjects = ObjectsOver<
+    Box<dyn EscapeFn>,
+    Box<dyn Filter>,
+    Box<dyn Test>,
+    Box<dyn Function>,
+>;
 
 impl<E: Drop, F: Drop, T: Drop, G: Drop> ObjectsOver<E, F, T, G> {
     ghost use Rattle.tera_objects.specs.Engine.{standard_engine, has_filter, has_test, has_function, with_escape, with_filter, with_test, with_function};

@@ -12,7 +12,8 @@ pub trait EscapeFn: Drop {
 
     /// Puts the escape of the text behind another. Nothing but want of memory is answered, which leaves that as it was.
     fn escape(&self, input: &str, out: &mut String) -> TeraResult<()>
-        ensures ok { OnOk result (string_bytes out.new ≡ string_bytes out.old ++ escaped self.now input.now) }
+        ensures ok { OnOk result
+            (string_bytes out.new ≡ string_bytes out.old ++ escaped self.now input.now) }
         ensures err { OnErr result (string_bytes out.new ≡ string_bytes out.old) }
         ensures lacks { IfErr result Lacks };
 }

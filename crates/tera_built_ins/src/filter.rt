@@ -145,8 +145,8 @@ impl BuiltInFilter {
         arguments: &Kwargs,
         escaping: Escaping<'_, E>,
     ) -> TeraResult<Value>
-        ensures { Gives (λ v. v) result
-            (filtered_in plain (escaping_of E.escaped escaping.entry) name.now value.now arguments.now) }
+        ensures { Gives (λ v. v) result (filtered_in plain (escaping_of E.escaped escaping.entry)
+            name.now value.now arguments.now) }
     {
         match BuiltInFilter::named(name) {
             Some(filter) => filter.call(alloc, value, arguments, escaping),

@@ -60,8 +60,8 @@ fn separator_part<'a, E: EscapeFn>(
     is_safe: bool,
     separator: Option<Given<'a>>,
 ) -> TeraResult<CowStr<'a>>
-    ensures { Gives cow_str_bytes result (Ok (separator_part plain (escaping_of E.escaped escaping.entry)
-        is_safe (option_map given_of separator.entry))) }
+    ensures { Gives cow_str_bytes result (Ok (separator_part plain
+        (escaping_of E.escaped escaping.entry) is_safe (option_map given_of separator.entry))) }
 {
     match separator {
         Some(given) => part(alloc, escaping, is_safe, given),
@@ -90,7 +90,12 @@ fn row<E: EscapeFn>(
     Ok(out)
 }
 
-fn append_item<E: EscapeFn>(escaping: Escaping<'_, E>, is_safe: bool, item: &Value, out: &mut String) -> TeraResult<()>
+fn append_item<E: EscapeFn>(
+    escaping: Escaping<'_, E>,
+    is_safe: bool,
+    item: &Value,
+    out: &mut String,
+) -> TeraResult<()>
     ensures ok { OnOk result (string_bytes out.new ≡ string_bytes out.old
         ++ item_part plain (escaping_of E.escaped escaping.entry) is_safe item.now) }
     ensures lacks { IfErr result Lacks }

@@ -21,8 +21,8 @@ pub(crate) fn part<'a, E: EscapeFn>(
     is_safe: bool,
     given: Given<'a>,
 ) -> TeraResult<CowStr<'a>>
-    ensures { Gives cow_str_bytes result
-        (Ok (spec.part plain (escaping_of E.escaped escaping.entry) is_safe (given_of given.entry))) }
+    ensures { Gives cow_str_bytes result (Ok (spec.part plain
+        (escaping_of E.escaped escaping.entry) is_safe (given_of given.entry))) }
 {
     if !is_safe || given.is_safe {
         return Ok(CowStr::Borrowed(given.text));

@@ -21,8 +21,13 @@ pub fn safe(alloc: Global, value: &Value) -> TeraResult<Value>
 }
 
 /// The escape of a text, marked safe. A text that is safe already is not copied.
-pub fn escape<E: EscapeFn>(alloc: Global, value: &Value, escaping: Escaping<'_, E>) -> TeraResult<Value>
-    ensures { Gives (λ v. v) result (escape_of plain (escaping_of E.escaped escaping.entry) value.now) }
+pub fn escape<E: EscapeFn>(
+    alloc: Global,
+    value: &Value,
+    escaping: Escaping<'_, E>,
+) -> TeraResult<Value>
+    ensures { Gives (λ v. v) result
+        (escape_of plain (escaping_of E.escaped escaping.entry) value.now) }
 {
     let given = as_text(value)?;
     if given.is_safe {

@@ -101,7 +101,8 @@ impl<'a, 'c, E: EscapeFn> StateOver<'a, 'c, E> {
     pub fn get<T: ArgFromValue>(&self, name: &str) -> TeraResult<Option<T>>
         ensures read { Gives (λ o. option_map T.stands_for o) result
             (read_defined T.reading ((view_of E.escaped self.now).look name.now)) }
-        ensures undefined { IsTrue (is_undefined ((view_of E.escaped self.now).look name.now)) → IsOk result }
+        ensures undefined { IsTrue (is_undefined ((view_of E.escaped self.now).look name.now))
+            → IsOk result }
     {
         let found = self.source.look(name);
         if found.is_undefined() {
@@ -132,7 +133,8 @@ impl<'a, 'c, E: EscapeFn> StateOver<'a, 'c, E> {
     /// What is written for a value: its printed text, escaped where text is escaped and the value is not safe. An undefined
     /// value is refused.
     pub fn escape_if_needed(&self, value: &Value) -> TeraResult<String>
-        ensures { Gives string_bytes result (escaped_if_needed (view_of E.escaped self.now) value.now) }
+        ensures { Gives string_bytes result
+            (escaped_if_needed (view_of E.escaped self.now) value.now) }
     {
         if value.is_undefined() {
             return Err(Error::message(self.alloc, "an undefined value can't be written"));
@@ -157,7 +159,8 @@ impl<'a, 'c, E: EscapeFn> StateOver<'a, 'c, E> {
 
     // What a built-in sees of it.
     fn escaping(&self) -> Escaping<'_, Option<E>>
-        ensures { escaping_of (escape_or_html E.escaped) result ≡ escaping_in (view_of E.escaped self.now) }
+        ensures { escaping_of (escape_or_html E.escaped) result
+            ≡ escaping_in (view_of E.escaped self.now) }
     {
         Escaping {
             autoescape: self.autoescape,

@@ -105,22 +105,28 @@ impl Kept {
         command != ADD || self.put(EMPTYING, EMPTIED)
     }
 
-    /// Keeps what is left behind the lines of the others, unless one of its lines was refused.
-    fn take_preview(&mut self, lines: &str) -> bool {
-        lines.lines().any(|line| line == REFUSED)
-            || self.script.push_str(PREVIEW).is_ok() && self.replies.push_str(lines).is_ok()
+    /// Keeps the last command and its lines, unless one of these was refused.
+    fn take_preview(&mut self, written: &str, behind: usize) -> bool {
+        if written.lines().skip(behind).any(|line| line == REFUSED) {
+            return true;
+        }
+        for line in written.lines().skip(behind) {
+            if self.replies.push_str(line).is_err() || self.replies.push('\n').is_err() {
+                return false;
+            }
+        }
+        self.script.push_str(PREVIEW).is_ok()
     }
 
     /// Keeps what of the script was not refused memory; false where a command has no reply.
     fn take_all(&mut self, written: &str) -> bool {
-        let mut left = written;
-        for command in COMMANDS.split("\n\n") {
-            match left.split_once('\n') {
-                Some((reply, behind)) if self.take(command, reply) => left = behind,
-                _ => return false,
+        for (command, reply) in COMMANDS.split("\n\n").zip(written.lines()) {
+            if !self.take(command, reply) {
+                return false;
             }
         }
-        self.take_preview(left)
+        let count = COMMANDS.split("\n\n").count();
+        count <= written.lines().count() && self.take_preview(written, count)
     }
 }
 
@@ -159,7 +165,10 @@ fn try_running(alloc: Global, script: &str, budget: usize) -> Tried {
 fn are_refused_in_turn(alloc: Global) -> bool {
     let mut all = Kept::new(alloc);
     all.take_all(REPLIES)
-        && refusals(|budget| try_running(alloc, all.script.as_str(), budget)) > Some(0)
+        && refusals(
+            alloc,
+            |budget| try_running(alloc, all.script.as_str(), budget),
+        ) > Some(0)
 }
 
 #[test]

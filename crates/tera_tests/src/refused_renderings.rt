@@ -59,8 +59,14 @@ fn try_appending(alloc: Global, engine: &Tera, context: &Context, budget: usize)
 }
 
 fn are_refused_in_turn(alloc: Global, engine: &Tera, context: &Context) -> bool {
-    refusals(|budget| try_rendering(alloc, engine, context, budget)) > Some(0)
-        && refusals(|budget| try_appending(alloc, engine, context, budget)) > Some(0)
+    refusals(
+        alloc,
+        |budget| try_rendering(alloc, engine, context, budget),
+    ) > Some(0)
+        && refusals(
+            alloc,
+            |budget| try_appending(alloc, engine, context, budget),
+        ) > Some(0)
 }
 
 fn greets(alloc: Global, engine: &Tera) -> bool {

@@ -77,7 +77,13 @@ fn try_running(alloc: Global, case: Case, budget: usize) -> Tried {
 #[test]
 fn runs_are_refused_in_turn(rt: HostRuntime) {
     assert!(rt;
-        refusals(|budget| try_running(rt.alloc(), Case::Texts, budget)) > Some(0)
-            && refusals(|budget| try_running(rt.alloc(), Case::Templates, budget)) > Some(0)
+        refusals(
+            rt.alloc(),
+            |budget| try_running(rt.alloc(), Case::Texts, budget)
+        ) > Some(0)
+            && refusals(
+                rt.alloc(),
+                |budget| try_running(rt.alloc(), Case::Templates, budget)
+            ) > Some(0)
     );
 }

@@ -1,5 +1,5 @@
 //! Copies for which no memory is left: that of a value in shared form is a count.
-use crate::memory::with_budget;
+use crate::memory::{with_budget, with_little};
 use std::alloc::Global;
 use tera::{TeraResult, Value};
 
@@ -34,12 +34,13 @@ fn is_same(copy: TeraResult<Value>, value: &Value) -> bool {
     }
 }
 
+fn copied(alloc: Global, value: &Value) -> Option<TeraResult<Value>> {
+    with_little(alloc, || with_budget(alloc, 0, || value.try_clone()))?
+}
+
 /// Whether the value is copied where no memory is left; none where the test itself finds no room.
 fn is_copied(alloc: Global, value: &Value) -> Option<bool> {
-    match with_budget(alloc, 0, || value.try_clone()) {
-        Some(copy) => Some(is_same(copy, value)),
-        None => None,
-    }
+    Some(is_same(copied(alloc, value)?, value))
 }
 
 fn is_some_copied(alloc: Global, value: Option<Value>) -> Option<bool> {

@@ -10,8 +10,6 @@ mod blocks;
 #[cfg(test)]
 mod built_ins;
 #[cfg(test)]
-mod call_lists;
-#[cfg(test)]
 mod cases;
 #[cfg(test)]
 mod commands;

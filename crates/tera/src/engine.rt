@@ -73,7 +73,9 @@ impl Tera {
     /// Tags are told from text by these delimiters from now on. Refused with a message once a template is there, and
     /// where one is empty or two start delimiters are equal; then those of before stay.
     pub fn set_delimiters(&mut self, delimiters: Delimiters) -> TeraResult<()>
-        ensures { Configures result (with_delimiters (delimiters_of delimiters) (registry_of self.old)) (registry_of self.old) (registry_of self.new) }
+        ensures { Configures result
+            (with_delimiters (delimiters_of delimiters) (registry_of self.old))
+            (registry_of self.old) (registry_of self.new) }
     {
         self.refuse_once_filled()?;
         delimiters.validate(self.alloc)?;
@@ -84,7 +86,9 @@ impl Tera {
     /// A name that no template has is looked up behind each of these prefixes, in their order, from now on. Refused with a
     /// message once a template is there; then those of before stay.
     pub fn set_fallback_prefixes(&mut self, prefixes: &[&str]) -> TeraResult<()>
-        ensures { Configures result (with_prefixes (texts_of prefixes.now) (registry_of self.old)) (registry_of self.old) (registry_of self.new) }
+        ensures { Configures result
+            (with_prefixes (texts_of prefixes.now) (registry_of self.old))
+            (registry_of self.old) (registry_of self.new) }
     {
         self.refuse_once_filled()?;
         self.templates = Templates::new(self.alloc, copied(self.alloc, prefixes)?);
@@ -94,7 +98,8 @@ impl Tera {
     // What templates were read and linked by cannot change.
     fn refuse_once_filled(&self) -> TeraResult<()>
         ensures ok { OnOk result ((registry_of self.now).templates ≡ []) }
-        ensures err { IfErr result (λ e. Tells e message × (is_empty (registry_of self.now).templates ≡ false)) }
+        ensures err { IfErr result
+            (λ e. Tells e message × (is_empty (registry_of self.now).templates ≡ false)) }
     {
         if self.templates.is_empty() {
             return Ok(());
@@ -107,7 +112,9 @@ impl Tera {
 
     /// Templates whose names end with one of these suffixes escape from now on, also those that are there.
     pub fn autoescape_on(&mut self, suffixes: &[&str]) -> TeraResult<()>
-        ensures { Configures result (Ok (with_suffixes (texts_of suffixes.now) (registry_of self.old))) (registry_of self.old) (registry_of self.new) }
+        ensures { Configures result
+            (Ok (with_suffixes (texts_of suffixes.now) (registry_of self.old)))
+            (registry_of self.old) (registry_of self.new) }
     {
         self.suffixes = copied(self.alloc, suffixes)?;
         Ok(())
@@ -115,7 +122,8 @@ impl Tera {
 
     /// Renders a text that is no template of the engine. Faults name the file `__tera_one_off`.
     pub fn render_str(&self, input: &str, context: &Context, autoescape: bool) -> TeraResult<String>
-        ensures { GivesOneOf string_bytes result (OneOff (registry_of self.now) input.now context.now autoescape) }
+        ensures { GivesOneOf string_bytes result
+            (OneOff (registry_of self.now) input.now context.now autoescape) }
     {
         self.read_and_render(input, context, autoescape)
     }
@@ -128,7 +136,8 @@ impl Tera {
         autoescape: bool,
         out: &mut Vec<u8>,
     ) -> TeraResult<()>
-        ensures { AppendsOneOf result out.old.items out.new.items (OneOff (registry_of self.now) input.now context.now autoescape) }
+        ensures { AppendsOneOf result out.old.items out.new.items
+            (OneOff (registry_of self.now) input.now context.now autoescape) }
     {
         let text = self.render_str(input, context, autoescape)?;
         out.extend_from_slice(text.as_bytes())?;
@@ -142,7 +151,8 @@ impl Tera {
         context: &Context,
         autoescape: bool,
     ) -> TeraResult<String>
-        ensures { GivesOneOf string_bytes result (OneOff new_registry input.now context.now autoescape) }
+        ensures { GivesOneOf string_bytes result
+            (OneOff new_registry input.now context.now autoescape) }
     {
         let engine = Tera::new(alloc)?;
         engine.render_str(input, context, autoescape)

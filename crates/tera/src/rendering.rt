@@ -36,7 +36,8 @@ impl Tera {
         context: &Context,
         autoescape: bool,
     ) -> TeraResult<String>
-        ensures { GivesOneOf string_bytes result (OneOff (registry_of self.now) input.now context.now autoescape) }
+        ensures { GivesOneOf string_bytes result
+            (OneOff (registry_of self.now) input.now context.now autoescape) }
     {
         match parse(self.alloc, ONE_OFF, input, &self.delimiters) {
             Ok(output) => match allow(self.alloc, &output) {
@@ -89,9 +90,13 @@ impl Tera {
         context: &Context,
         autoescape: bool,
     ) -> TeraResult<String>
-        requires linked { with_templates (registry_of self.now) found.templates.now ≡ registry_of self.now }
-        requires code { found.chunk.now.code ≡ nodes_code (nodes_of_file (registry_of self.now) found.chunk.now.file) 0 }
-        ensures { Gives string_bytes result (text_meant (subject_of_file self.now found.entry.name.now found.entry.chunk.now.file context.now autoescape)) }
+        requires linked { with_templates (registry_of self.now) found.templates.now
+            ≡ registry_of self.now }
+        requires code { found.chunk.now.code
+            ≡ nodes_code (nodes_of_file (registry_of self.now) found.chunk.now.file) 0 }
+        ensures { Gives string_bytes result
+            (text_meant (subject_of_file self.now found.entry.name.now
+            found.entry.chunk.now.file context.now autoescape)) }
     {
         let machine = VirtualMachine::for_template(self.alloc, autoescape, found);
         self.run_body::<Brand>(&machine, found.chunk, context, Blank::new(1))

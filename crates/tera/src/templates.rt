@@ -18,7 +18,9 @@ impl Tera {
 
     /// Adds a template, as `add_raw_templates` does.
     pub fn add_raw_template(&mut self, name: &str, content: &str) -> TeraResult<()>
-        ensures { ConfiguresOneOf result (Adds (registry_of self.old) ((name.now, content.now) ∷ [])) (registry_of self.old) (registry_of self.new) }
+        ensures { ConfiguresOneOf result
+            (Adds (registry_of self.old) ((name.now, content.now) ∷ []))
+            (registry_of self.old) (registry_of self.new) }
     {
         self.add_raw_templates(&[(name, content)])
     }
@@ -28,7 +30,8 @@ impl Tera {
     /// is not there, some extend or include one another in a circle, a template calls or includes what is not there, or a
     /// child has a block, inside no other one, that no parent has (`Message`). Then all is as before.
     pub fn add_raw_templates(&mut self, templates: &[(&str, &str)]) -> TeraResult<()>
-        ensures { ConfiguresOneOf result (Adds (registry_of self.old) (pairs_of templates.now)) (registry_of self.old) (registry_of self.new) }
+        ensures { ConfiguresOneOf result (Adds (registry_of self.old) (pairs_of templates.now))
+            (registry_of self.old) (registry_of self.new) }
     {
         self.templates.add(&self.delimiters, templates)
     }
@@ -42,7 +45,8 @@ impl Tera {
 
     /// The names of the templates, each once, in byte order.
     pub fn get_template_names(&self) -> TeraResult<Vec<String>>
-        ensures { Gives (λ v. map string_bytes v.items) result (Ok (map (λ t. t.0) (registry_of self.now).templates)) }
+        ensures { Gives (λ v. map string_bytes v.items) result
+            (Ok (map (λ t. t.0) (registry_of self.now).templates)) }
     {
         self.templates.names()
     }
@@ -60,7 +64,8 @@ impl Tera {
     /// Renders the template to which the name resolves: the text of the last of its parents, or its own where it has none, with the
     /// blocks as the template and its parents define them.
     pub fn render(&self, name: &str, context: &Context) -> TeraResult<String>
-        ensures { GivesOneOf string_bytes result (ByName (registry_of self.now) name.now context.now) }
+        ensures { GivesOneOf string_bytes result
+            (ByName (registry_of self.now) name.now context.now) }
     {
         match self.templates.find(name) {
             Some(found) => { self.render_found(found, context, self.escapes(found)) }
@@ -77,7 +82,8 @@ impl Tera {
 
     /// Appends what `render` answers. After a refusal the vector is as before.
     pub fn render_to(&self, name: &str, context: &Context, out: &mut Vec<u8>) -> TeraResult<()>
-        ensures { AppendsOneOf result out.old.items out.new.items (ByName (registry_of self.now) name.now context.now) }
+        ensures { AppendsOneOf result out.old.items out.new.items
+            (ByName (registry_of self.now) name.now context.now) }
     {
         let text = self.render(name, context)?;
         out.extend_from_slice(text.as_bytes())?;

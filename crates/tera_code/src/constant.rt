@@ -1,6 +1,7 @@
 // Values that are written out.
-ghost use Rattle.std.specs.Prelude.{◌≡◌, Ok};
+ghost use Rattle.std.specs.Prelude.{◌≡◌, Ok, IsOk};
 ghost use Rattle.tera_errors.specs.Answer.{Gives};
+ghost use Rattle.tera_values.specs.Access.{IsScalar};
 ghost use Rattle.tera_values.specs.Val as val;
 ghost use Rattle.tera_code.specs.Constant.{small_integer};
 
@@ -85,7 +86,8 @@ impl<'a> Constant<'a> {
 
     /// The value once more: a count where it is shared, and no copy.
     pub fn load(&self) -> TeraResult<Value>
-        ensures { Gives (λ v. v) result (Ok self.now) }
+        ensures value { Gives (λ v. v) result (Ok self.now) }
+        ensures ready { IsScalar self.now → IsOk result }
     {
         match self.kept {
             Kept::None => Ok(Value::none()),

@@ -1,5 +1,5 @@
 // What instructions lend from their chunk.
-ghost use Rattle.std.specs.Prelude.{◌≡◌, Ok, length};
+ghost use Rattle.std.specs.Prelude.{◌≡◌, None, Ok, IsOk, length};
 ghost use Rattle.tera_errors.specs.Answer.{Gives};
 
 use std::marker::Model;
@@ -84,7 +84,8 @@ impl<'a> LentName<'a> {
 
     /// The name once more, where there is one.
     pub fn share_option(name: &Option<LentName<'_>>) -> TeraResult<Option<Name>>
-        ensures { Gives (λ n. n) result (Ok name.now) }
+        ensures value { Gives (λ n. n) result (Ok name.now) }
+        ensures ready { name.now ≡ None → IsOk result }
     {
         match name {
             Some(name) => Ok(Some(name.share()?)),

@@ -28,9 +28,12 @@ impl<'c> Configuration<'c> {
         next: usize,
         instruction: &Instruction<'f>,
     ) -> TeraResult<Flow<'f>>
-        requires ready { IsReady (act (here_of machine.now file.now self.old) next instruction.now) self.old }
-        requires small { IsSmall (act (here_of machine.now file.now self.old) next instruction.now (config_of self.old)) }
-        ensures { Does (act (here_of machine.now file.now self.old) next instruction.now) self.old result self.new }
+        requires ready { IsReady (act (here_of machine.now file.now self.old) next instruction.now)
+            self.old }
+        requires small { IsSmall (act (here_of machine.now file.now self.old) next instruction.now
+            (config_of self.old)) }
+        ensures { Does (act (here_of machine.now file.now self.old) next instruction.now)
+            self.old result self.new }
     {
         let alloc = machine.alloc;
         match instruction {
@@ -117,7 +120,8 @@ impl<'c> Configuration<'c> {
         file: &str,
     ) -> TeraResult<Flow<'f>>
         requires { IsReady (top_written (here_of machine.now file.now self.old)) self.old }
-        ensures { Does (top_written (here_of machine.now file.now self.old)) self.old result self.new }
+        ensures { Does (top_written (here_of machine.now file.now self.old))
+            self.old result self.new }
     {
         let Some(operand) = self.operands.pop() else {
             unreachable!()
@@ -139,7 +143,8 @@ impl<'c> Configuration<'c> {
         name: &Sought<'_>,
         span: Span,
     ) -> TeraResult<Flow<'f>>
-        ensures { Does (name_written (here_of machine.now file.now self.old) name.now span) self.old result self.new }
+        ensures { Does (name_written (here_of machine.now file.now self.old) name.now span)
+            self.old result self.new }
     {
         let found = self.scopes.look(name);
         if found.is_undefined() {
@@ -179,7 +184,8 @@ impl<'c> Configuration<'c> {
         name: &Sought<'_>,
         span: Span,
     ) -> TeraResult<Flow<'f>>
-        ensures { Does (name_loaded (around_of self.old.scopes) name.now span) self.old result self.new }
+        ensures { Does (name_loaded (around_of self.old.scopes) name.now span)
+            self.old result self.new }
     {
         let value = self.scopes.look(name).to_value(alloc)?;
         self.push(value, span)
@@ -405,8 +411,12 @@ impl<'c> Configuration<'c> {
         has_body: bool,
         span: Span,
     ) -> TeraResult<Flow<'f>>
-        requires { IsReady (component_taken (here_of machine.now file.now self.old) name.now keys.now has_body span) self.old }
-        ensures { Does (component_taken (here_of machine.now file.now self.old) name.now keys.now has_body span) self.old result self.new }
+        requires { IsReady
+            (component_taken (here_of machine.now file.now self.old) name.now keys.now has_body span)
+            self.old }
+        ensures { Does
+            (component_taken (here_of machine.now file.now self.old) name.now keys.now has_body span)
+            self.old result self.new }
     {
         let keys = keys.as_slice();
         if self.operands.len() < keys.len() {

@@ -23,9 +23,12 @@ impl<'c> Configuration<'c> {
         next: usize,
         instruction: &LentInstruction<'f>,
     ) -> TeraResult<Flow<'f>>
-        requires ready { IsReady (act (here_of machine.now file.now self.old) next instruction.now) self.old }
-        requires small { IsSmall (act (here_of machine.now file.now self.old) next instruction.now (config_of self.old)) }
-        ensures { Does (act (here_of machine.now file.now self.old) next instruction.now) self.old result self.new }
+        requires ready { IsReady (act (here_of machine.now file.now self.old) next instruction.now)
+            self.old }
+        requires small { IsSmall (act (here_of machine.now file.now self.old) next instruction.now
+            (config_of self.old)) }
+        ensures { Does (act (here_of machine.now file.now self.old) next instruction.now)
+            self.old result self.new }
     {
         if let Some(text) = instruction.as_text() {
             return self.write_text(text);
@@ -71,9 +74,12 @@ impl<'c> Configuration<'c> {
         next: usize,
         instruction: &LentInstruction<'f>,
     ) -> TeraResult<Flow<'f>>
-        requires ready { IsReady (act (here_of machine.now file.now self.old) next instruction.now) self.old }
-        requires small { IsSmall (act (here_of machine.now file.now self.old) next instruction.now (config_of self.old)) }
-        ensures { Does (act (here_of machine.now file.now self.old) next instruction.now) self.old result self.new }
+        requires ready { IsReady (act (here_of machine.now file.now self.old) next instruction.now)
+            self.old }
+        requires small { IsSmall (act (here_of machine.now file.now self.old) next instruction.now
+            (config_of self.old)) }
+        ensures { Does (act (here_of machine.now file.now self.old) next instruction.now)
+            self.old result self.new }
     {
         self.act(machine, file, next, &instruction.unpack())
     }
@@ -93,14 +99,16 @@ impl<'c> Configuration<'c> {
         name: &Name,
         span: Span,
     ) -> TeraResult<Flow<'f>>
-        ensures { Does (name_written (here_of machine.now file.now self.old) name.now span) self.old result self.new }
+        ensures { Does (name_written (here_of machine.now file.now self.old) name.now span)
+            self.old result self.new }
     {
         self.write_name(machine, file, &name.sought(), span)
     }
 
     #[inline(never)]
     fn load_named<'f>(&mut self, alloc: Global, name: &Name, span: Span) -> TeraResult<Flow<'f>>
-        ensures { Does (name_loaded (around_of self.old.scopes) name.now span) self.old result self.new }
+        ensures { Does (name_loaded (around_of self.old.scopes) name.now span)
+            self.old result self.new }
     {
         self.load_name(alloc, &name.sought(), span)
     }

@@ -64,7 +64,8 @@ impl Texts {
 
     /// What the value is rendered as, at the end.
     pub fn append_value(&mut self, alloc: Global, autoescape: bool, value: &Value) -> TeraResult<()>
-        ensures ok { OnOk result (self.new ≡ record self.old { now = self.old.now ++ rendered autoescape escape_html value.now }) }
+        ensures ok { OnOk result (self.new
+            ≡ record self.old { now = self.old.now ++ rendered autoescape escape_html value.now }) }
         ensures lacks { IfErr result Lacks }
     {
         write_value(alloc, autoescape, value, &mut self.now)
@@ -72,7 +73,8 @@ impl Texts {
 
     /// A text of its own begins.
     pub fn begin(&mut self) -> TeraResult<()>
-        ensures ok { OnOk result (self.new ≡ record { now = []; below = self.old.now ∷ self.old.below }) }
+        ensures ok { OnOk result (self.new
+            ≡ record { now = []; below = self.old.now ∷ self.old.below }) }
         ensures lacks { IfErr result Lacks }
     {
         let outer = replace(&mut self.now, String::new(self.alloc));
@@ -94,7 +96,10 @@ impl Texts {
 
     /// The texts of so many layers are dropped.
     pub fn drop_marks(&mut self, count: usize)
-        ensures { self.new ≡ record { now = around_layers count self.old.now self.old.below; below = drop count self.old.below } }
+        ensures { self.new ≡ record {
+          now = around_layers count self.old.now self.old.below;
+          below = drop count self.old.below;
+        } }
     {
         if count == 0 {
             return;

@@ -34,7 +34,9 @@ pub fn put_all(
 ) -> TeraResult<()>
     requires delimiters { IsTrue (accepted (delimiters_of delimiters.now)) }
     requires rises { Rises (entries_of templates.old.items) }
-    ensures answer { GivesOneOf (λ _. entries_of templates.new.items) result (Puts (delimiters_of delimiters.now) (entries_of templates.old.items) (pairs_of batch.now)) }
+    ensures answer { GivesOneOf (λ _. entries_of templates.new.items) result
+        (Puts (delimiters_of delimiters.now) (entries_of templates.old.items)
+        (pairs_of batch.now)) }
     ensures rises { Rises (entries_of templates.new.items) }
 {
     for (name, text) in batch {
@@ -61,7 +63,8 @@ fn read(alloc: Global, delimiters: &Delimiters, name: &str, text: &str) -> TeraR
 /// The template of a name and a text that was read to this.
 #[tactic(auto, using(crate::proofs::Lacking::bodies_lack_as_tree, crate::proofs::Calling::bodies_call_as_tree))]
 fn made(alloc: Global, name: &str, text: &str, output: &ParserOutput) -> TeraResult<Template>
-    ensures ok { IfOk result (λ t. entry_of t ≡ (name.now, record { text = text.now; tree = tree_of output.now })) }
+    ensures ok { IfOk result
+        (λ t. entry_of t ≡ (name.now, record { text = text.now; tree = tree_of output.now })) }
     ensures lacks { IfErr result Lacks }
 {
     let body = compiled(alloc, name, output.nodes.as_slice())?;

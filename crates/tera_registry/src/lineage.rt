@@ -43,7 +43,8 @@ pub fn all_above(
     prefixes: &[String],
 ) -> Result<Vec<Up>, AllocError>
     requires { Rises (entries_of templates.now) }
-    ensures { IfOk result (λ v. AreUps (seen templates.now prefixes.now) v.items (length templates.now)) }
+    ensures { IfOk result
+        (λ v. AreUps (seen templates.now prefixes.now) v.items (length templates.now)) }
 {
     let mut all = Vec::new(alloc);
     for template in templates {
@@ -64,7 +65,8 @@ fn climb(ups: &[Up], tops: &[Option<Top>], of: usize) -> TeraResult<Top>
     requires there { of < length ups.now }
     requires inside { Inside ups.now }
     requires as_many { length tops.now ≡ length ups.now }
-    ensures { (r : Registry) (t : Entry) → AreUps r ups.now (length r.templates) → AreTops r tops.now → slice_get r.templates of ≡ Some t → IsTop r t result }
+    ensures { (r : Registry) (t : Entry) → AreUps r ups.now (length r.templates)
+        → AreTops r tops.now → slice_get r.templates of ≡ Some t → IsTop r t result }
 {
     let mut last = of;
     for step in 0..ups.len() {
@@ -112,7 +114,9 @@ fn note(ups: &[Up], tops: &mut [Option<Top>], of: usize, top: Top)
     requires inside { Inside ups.now }
     requires as_many { length tops.old ≡ length ups.now }
     ensures as_many { length tops.new ≡ length ups.now }
-    ensures known { (r : Registry) (t : Entry) → AreUps r ups.now (length r.templates) → AreTops r tops.old → slice_get r.templates of ≡ Some t → Stands r t top → AreTops r tops.new }
+    ensures known { (r : Registry) (t : Entry) → AreUps r ups.now (length r.templates)
+        → AreTops r tops.old → slice_get r.templates of ≡ Some t → Stands r t top
+        → AreTops r tops.new }
 {
     let mut last = of;
     for passed in 0..top.parents {

@@ -50,7 +50,9 @@ pub fn find(templates: &[Rc<Template>], front: &str, back: &str) -> Result<usize
 /// Puts a template at its name, in place of one that stood there.
 pub fn put(templates: &mut Vec<Rc<Template>>, template: Rc<Template>) -> TeraResult<()>
     requires { Rises (entries_of templates.old.items) }
-    ensures ok { OnOk result (entries_of templates.new.items ≡ put (entry_of template.value).0 (entry_of template.value).1 (entries_of templates.old.items)) }
+    ensures ok { OnOk result (entries_of templates.new.items
+        ≡ put (entry_of template.value).0 (entry_of template.value).1
+        (entries_of templates.old.items)) }
     ensures err { OnErr result (templates.new.items ≡ templates.old.items) }
     ensures rises { Rises (entries_of templates.new.items) }
     ensures lacks { IfErr result Lacks }
@@ -71,7 +73,8 @@ pub fn put(templates: &mut Vec<Rc<Template>>, template: Rc<Template>) -> TeraRes
 /// no memory.
 pub fn resolve(templates: &[Rc<Template>], prefixes: &[String], name: &str) -> Option<usize>
     requires { Rises (entries_of templates.now) }
-    ensures { IsPlace (entries_of templates.now) result (resolve (seen templates.now prefixes.now) name.now) }
+    ensures { IsPlace (entries_of templates.now) result
+        (resolve (seen templates.now prefixes.now) name.now) }
 {
     if let Ok(place) = find(templates, "", name) {
         return Some(place);

@@ -196,7 +196,9 @@ impl Templates {
     /// Templates that stay are shared, so that nothing of them is copied but a count and a reference.
     pub fn add(&mut self, delimiters: &Delimiters, batch: &[(&str, &str)]) -> TeraResult<()>
         requires { IsTrue (accepted (delimiters_of delimiters.now)) }
-        ensures { (r : Registry) → r.delimiters ≡ delimiters_of delimiters.now → ConfiguresOneOf result (Adds (with_templates r self.old) (pairs_of batch.now)) (with_templates r self.old) (with_templates r self.new) }
+        ensures { (r : Registry) → r.delimiters ≡ delimiters_of delimiters.now
+            → ConfiguresOneOf result (Adds (with_templates r self.old) (pairs_of batch.now))
+            (with_templates r self.old) (with_templates r self.new) }
     {
         let mut all = self.all.clone()?;
         match put_all(self.alloc, delimiters, &mut all, batch) {
@@ -303,7 +305,8 @@ impl Templates {
 
     /// The component of a name: the definition that is taken of it. Takes no memory.
     pub fn component(&self, name: &str) -> Option<Defined<'_>>
-        ensures { (r : Registry) → IsDefined (component (with_templates r self.now) name.now) result }
+        ensures { (r : Registry) → IsDefined (component (with_templates r self.now) name.now)
+            result }
     {
         let choice = self.choices.get(name)?;
         let template: &Template = &self.all[choice.template];
@@ -347,7 +350,8 @@ impl Templates {
 
     /// The names of the templates, in byte order.
     pub fn names(&self) -> TeraResult<Vec<String>>
-        ensures { Gives (λ v. map string_bytes v.items) result (Ok (map (λ t. t.0) (templates_of self.now))) }
+        ensures { Gives (λ v. map string_bytes v.items) result
+            (Ok (map (λ t. t.0) (templates_of self.now))) }
     {
         let mut names = Vec::new(self.alloc);
         for template in &self.all {

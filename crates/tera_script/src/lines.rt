@@ -5,7 +5,8 @@ ghost use Rattle.tera_script.specs.Words.{words_of, words_after};
 
 /// The first line, and what follows its line feed.
 pub fn first_line(text: &str) -> Option<(&str, &str)>
-    ensures lines { MatchOption result (lines_of text.now ≡ []) (λ found. lines_of text.now ≡ found.0.now ∷ lines_of found.1.now) }
+    ensures lines { MatchOption result (lines_of text.now ≡ [])
+        (λ found. lines_of text.now ≡ found.0.now ∷ lines_of found.1.now) }
     ensures shorter { IfSome result (λ found. length found.1.now < length text.now) }
 {
     if text.is_empty() {

@@ -26,7 +26,8 @@ impl Trace {
 
     /// A piece more, and so many failures more.
     pub fn with(before: &Trace, piece: &[u8], failures: usize) -> Trace
-        ensures { (result.bytes ≡ before.now.bytes ++ piece.now) × (result.failures ≡ before.now.failures + failures) }
+        ensures { (result.bytes ≡ before.now.bytes ++ piece.now)
+            × (result.failures ≡ before.now.failures + failures) }
     {
         Trace {}
     }

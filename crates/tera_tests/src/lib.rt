@@ -10,6 +10,8 @@ mod blocks;
 #[cfg(test)]
 mod built_ins;
 #[cfg(test)]
+mod call_lists;
+#[cfg(test)]
 mod cases;
 #[cfg(test)]
 mod commands;

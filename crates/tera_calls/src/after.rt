@@ -1,0 +1,39 @@
+// The law: what a rendering answers after a list of calls.
+ghost use Rattle.std.specs.Prelude.{IfOk, IfErr, string_bytes};
+ghost use Rattle.tera_calls.specs.After.{RendersAfter};
+ghost use Rattle.tera_errors.specs.Answer.{GivesOneOf, Lacks};
+
+use crate::call::{Call, make_calls};
+use crate::rendering::{Rendering, rendered};
+use std::alloc::Global;
+use tera::{Tera, TeraResult};
+
+/// What a list of calls and the rendering behind it answered.
+#[derive(Drop)]
+pub struct Outcome {
+    /// What each call answered, in their order.
+    pub answers: Vec<TeraResult<()>>,
+    /// What the rendering answered.
+    pub text: TeraResult<String>,
+}
+
+/// Makes a new engine, makes the calls in turn, whether or not one is refused, and then the rendering.
+///
+/// This is the law of the engine: the rendering's answer is exactly the text, or the fault with its kind and, for a
+/// `RenderingError`, its file and span, that the recursive meaning of the accepted templates' syntax trees (and a one-off input's)
+/// gives, for every context; and where texts are escaped, each of `<>"'` in it comes from template text or a value marked safe. An
+/// error of this function itself says that there was no room for the engine or for the answers.
+pub fn render_after(
+    alloc: Global,
+    calls: &[Call<'_>],
+    rendering: &Rendering<'_>,
+) -> TeraResult<Outcome>
+    ensures law { IfOk result (λ outcome. GivesOneOf string_bytes outcome.text
+        (RendersAfter calls.now outcome.answers.items rendering.now)) }
+    ensures memory { IfErr result Lacks }
+{
+    let mut engine = Tera::new(alloc)?;
+    let answers = make_calls(alloc, &mut engine, calls)?;
+    let text = rendered(&engine, rendering);
+    Ok(Outcome { answers, text })
+}

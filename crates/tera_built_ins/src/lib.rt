@@ -27,7 +27,7 @@ pub mod trims;
 pub mod truncate;
 pub mod words;
 
-pub use escaping::Escaping;
+pub use escaping::{EscapeFn, EscapeHtml, Escaping};
 pub use filter::BuiltInFilter;
 pub use function::BuiltInFunction;
 pub use test::BuiltInTest;

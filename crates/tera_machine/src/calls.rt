@@ -5,7 +5,7 @@ ghost use Rattle.tera_machine.specs.Subject.{here_of};
 use crate::configuration::Configuration;
 use crate::machine::{Flow, VirtualMachine};
 use std::alloc::Global;
-use tera_built_ins::Escaping;
+use tera_built_ins::{EscapeHtml, Escaping};
 use tera_code::{LentName, Names};
 use tera_values::{Span, TeraResult};
 
@@ -27,6 +27,7 @@ impl<'c> Configuration<'c> {
         let alloc = machine.alloc;
         let escaping = Escaping {
             autoescape: machine.autoescape,
+            escape: &EscapeHtml,
         };
         let name = name.as_name().as_str();
         let names = names.as_slice();

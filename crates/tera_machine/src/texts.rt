@@ -8,6 +8,7 @@ ghost use Rattle.tera_machine.specs.Layers.{around_layers};
 use std::alloc::Global;
 use std::marker::Model;
 use std::mem::replace;
+use tera_built_ins::{EscapeHtml, Escaping};
 use tera_state::{Stack, write_value};
 use tera_values::{TeraResult, Value};
 
@@ -68,7 +69,11 @@ impl Texts {
             ≡ record self.old { now = self.old.now ++ rendered autoescape escape_html value.now }) }
         ensures lacks { IfErr result Lacks }
     {
-        write_value(alloc, autoescape, value, &mut self.now)
+        let escaping = Escaping {
+            autoescape,
+            escape: &EscapeHtml,
+        };
+        write_value(alloc, escaping, value, &mut self.now)
     }
 
     /// A text of its own begins.

@@ -25,18 +25,30 @@ abbrev pub placed_call : {A : Type 0} → Name → Result A Fault → Span → S
 placed_call file (Ok a) value call = Ok a
 placed_call file (Err fault) value call = fault_at file (cond (is_wrong_type fault) value call)
 
+-- a filter, a test and a function that answer this of values and arguments
+module _ {C : Type 0} (file : Name) where
+  abbrev pub filter_applied_by : (ValOf C → Named (ValOf C) → Result (ValOf C) Fault) → EvaluatedOf C → List (Name × EvaluatedOf C) → Span → OutcomeOf C
+  filter_applied_by answer a given span =
+      then (placed_call file (answer a.value (by_name given)) a.span span) (λ v. at_span v span)
+
+  abbrev pub test_applied_by : (ValOf C → Named (ValOf C) → Result Bool Fault) → EvaluatedOf C → List (Name × EvaluatedOf C) → Span → OutcomeOf C
+  test_applied_by answer a given span =
+      then (placed_call file (answer a.value (by_name given)) a.span span) (λ b. at_span (bool b) span)
+
+  abbrev pub function_called_by : (Named (ValOf C) → Result (ValOf C) Fault) → List (Name × EvaluatedOf C) → Span → OutcomeOf C
+  function_called_by answer given span =
+      then (placed file (answer (by_name given)) span) (λ v. at_span v span)
+
+-- those that are built in
 module _ {C : Type 0} (alphabet : Alphabet C) (file : Name) where
   abbrev pub filter_applied_in : Escaping → Name → EvaluatedOf C → List (Name × EvaluatedOf C) → Span → OutcomeOf C
-  filter_applied_in escaping name a given span =
-      then (placed_call file (filtered_in alphabet escaping name a.value (by_name given)) a.span span) (λ v. at_span v span)
+  filter_applied_in escaping name = filter_applied_by file (filtered_in alphabet escaping name)
 
   abbrev pub test_applied_in : Name → EvaluatedOf C → List (Name × EvaluatedOf C) → Span → OutcomeOf C
-  test_applied_in name a given span =
-      then (placed_call file (tested_in alphabet name a.value (by_name given)) a.span span) (λ b. at_span (bool b) span)
+  test_applied_in name = test_applied_by file (tested_in alphabet name)
 
   abbrev pub function_called_in : Name → List (Name × EvaluatedOf C) → Span → OutcomeOf C
-  function_called_in name given span =
-      then (placed file (called_in alphabet name (by_name given)) span) (λ v. at_span v span)
+  function_called_in name = function_called_by file (called_in alphabet name)
 
 -- of texts of bytes
 abbrev pub filter_applied : Name → Escaping → Name → Evaluated → List (Name × Evaluated) → Span → Outcome

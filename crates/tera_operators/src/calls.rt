@@ -14,11 +14,11 @@ ghost use Rattle.tera_operators.specs.Calls.{by_name, placed_call, filter_applie
 use crate::operand::Operand;
 use crate::place::{fault_at, operand_or_fault};
 use std::alloc::Global;
-use tera_built_ins::{BuiltInFilter, BuiltInFunction, BuiltInTest, Escaping};
+use tera_built_ins::{BuiltInFilter, BuiltInFunction, BuiltInTest, EscapeFn, Escaping};
 use tera_values::{Error, ErrorKind, Kwargs, Name, Span, TeraResult, Value};
 
-/// The values of arguments, by name.
-fn arguments(alloc: Global, names: &[Name], operands: Vec<Operand>) -> TeraResult<Kwargs>
+/// The values of arguments, by name: there is an operand for each name.
+pub fn arguments(alloc: Global, names: &[Name], operands: Vec<Operand>) -> TeraResult<Kwargs>
     requires { length names.now ≡ length operands.items }
     ensures { Gives (λ k. k) result (Ok (by_name (zip names.now operands.items))) }
 {
@@ -31,7 +31,7 @@ fn arguments(alloc: Global, names: &[Name], operands: Vec<Operand>) -> TeraResul
 
 /// The answer as an operand at the call, or its refusal as a fault: at the value where something is of a wrong type, and else
 /// at the call.
-fn operand_or_call_fault(
+pub fn operand_or_call_fault(
     alloc: Global,
     file: &str,
     answer: TeraResult<Value>,
@@ -78,10 +78,10 @@ fn called(alloc: Global, name: &str, given: &Kwargs) -> TeraResult<Value>
 
 /// `target | name(..)`: there is an operand for each name of an argument. A fault is at the target where something is of a wrong
 /// type, and else at the call.
-pub fn filter(
+pub fn filter<E: EscapeFn>(
     alloc: Global,
     file: &str,
-    escaping: Escaping,
+    escaping: Escaping<'_, E>,
     name: &str,
     target: &Operand,
     names: &[Name],
@@ -89,8 +89,8 @@ pub fn filter(
     span: Span,
 ) -> TeraResult<Operand>
     requires { length names.now ≡ length operands.items }
-    ensures { Gives (λ o. o) result (filter_applied file.now (escaping_of escaping) name.now
-        target.now (zip names.now operands.items) span) }
+    ensures { Gives (λ o. o) result (filter_applied file.now (escaping_of E.escaped escaping.entry)
+        name.now target.now (zip names.now operands.items) span) }
 {
     let given = match arguments(alloc, names, operands) {
         Ok(given) => given,

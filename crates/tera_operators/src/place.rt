@@ -34,7 +34,7 @@ pub fn fault_at(alloc: Global, file: &str, refusal: &Error, span: Span) -> Error
 
 /// The value as an operand at a span, or the refusal as a fault at another.
 #[inline(always)]
-pub(crate) fn operand_or_fault(
+pub fn operand_or_fault(
     alloc: Global,
     file: &str,
     answer: TeraResult<Value>,

@@ -1,6 +1,8 @@
 //! What objects of the caller are lent of a rendering.
 use std::alloc::Global;
 use tera::{ArgFromValue, Context, ErrorKind, Kwargs, State, StringInput, Value};
+use tera_state::Scopes;
+use tera_values::Name;
 
 /// A name, and the text that it stands for, if any.
 #[derive(Clone, Copy)]
@@ -131,8 +133,8 @@ fn replaces(alloc: Global, state: &State<'_>) -> bool {
     }
 }
 
-fn refuses_unknown(alloc: Global, state: &State<'_>) -> bool {
-    match state.call_filter("upper", &Value::none(), Kwargs::new(alloc)) {
+fn refuses(alloc: Global, state: &State<'_>, name: &str) -> bool {
+    match state.call_filter(name, &Value::none(), Kwargs::new(alloc)) {
         Ok(_) => false,
         Err(error) => matches!(error.kind(), ErrorKind::Message(_)),
     }
@@ -142,8 +144,29 @@ fn refuses_unknown(alloc: Global, state: &State<'_>) -> bool {
 fn filters_are_called(rt: HostRuntime) {
     let alloc = rt.alloc();
     let context = Context::new(alloc);
-    let state = State::new(&context);
-    assert!(rt; replaces(alloc, &state) && refuses_unknown(alloc, &state));
+    let scopes = Scopes::new(alloc, &context, None);
+    let state: State<'_> = scopes.state(true, None, Some(&[]));
+    assert!(rt; replaces(alloc, &state) && refuses(alloc, &state, "upper"));
+}
+
+fn refuses_taken(alloc: Global, scopes: &Scopes<'_>) -> bool {
+    match Name::new(alloc, "default") {
+        Ok(name) => {
+            let taken = [name];
+            let state: State<'_> = scopes.state(true, None, Some(&taken));
+            refuses(alloc, &state, "default") && replaces(alloc, &state)
+        }
+        Err(_) => false,
+    }
+}
+
+#[test]
+fn taken_filters_are_refused(rt: HostRuntime) {
+    let alloc = rt.alloc();
+    let context = Context::new(alloc);
+    let alone = State::new(&context);
+    let scopes = Scopes::new(alloc, &context, None);
+    assert!(rt; refuses_taken(alloc, &scopes) && refuses(alloc, &alone, "default"));
 }
 
 fn input_of(alloc: Global, row: Row) -> Option<StringInput> {

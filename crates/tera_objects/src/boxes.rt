@@ -3,6 +3,8 @@ ghost use Rattle.std.specs.Prelude.{◌≡◌, ◌++◌, Some, string_bytes, OnO
 ghost use Rattle.tera_errors.specs.Answer.{Gives, Lacks};
 ghost use Rattle.tera_values.specs.Alphabet.{plain};
 ghost use Rattle.tera_built_ins.specs.Filters.{filtered_in};
+ghost use Rattle.tera_built_ins.specs.TestTable.{tested_in};
+ghost use Rattle.tera_built_ins.specs.FunctionTable.{called_in};
 ghost use Rattle.tera_state.specs.Rendered.{rendered};
 ghost use Rattle.tera_built_ins.specs.Escaping.{escape_or_html};
 ghost use Rattle.tera_state.specs.View.{view_of, view_at, filters_left};
@@ -11,9 +13,9 @@ ghost use Rattle.tera_objects.specs.Calling.{answer_of};
 
 use crate::marked::marked_if;
 use std::alloc::Global;
-use tera_built_ins::{BuiltInFilter, EscapeFn, Escaping};
+use tera_built_ins::{BuiltInFilter, BuiltInFunction, BuiltInTest, EscapeFn, Escaping};
 use tera_state::{Filter, Function, Scopes, State, StateOver, Test, write_value};
-use tera_values::{Kwargs, Name, TeraResult, Value};
+use tera_values::{Error, Kwargs, Name, TeraResult, Value};
 
 /// The state that an object sees: the scopes, the escape, and the built-in filters but those whose names are taken.
 pub(crate) fn lent<'a, 'c>(
@@ -85,6 +87,35 @@ pub(crate) fn built_in_answer(
         escape: &lent,
     };
     BuiltInFilter::call_named(alloc, name, value, arguments, escaping)
+}
+
+/// Whether the built-in test of this name holds of the value.
+pub(crate) fn built_in_test_answer(
+    alloc: Global,
+    name: &str,
+    value: &Value,
+    arguments: &Kwargs,
+) -> TeraResult<bool>
+    ensures { Gives (λ b. b) result (tested_in plain name.now value.now arguments.now) }
+{
+    match BuiltInTest::named(name) {
+        Some(test) => test.call(alloc, value, arguments),
+        None => Err(Error::message(alloc, "there is no such test")),
+    }
+}
+
+/// What the built-in function of this name makes of the arguments.
+pub(crate) fn built_in_function_answer(
+    alloc: Global,
+    name: &str,
+    arguments: &Kwargs,
+) -> TeraResult<Value>
+    ensures { Gives (λ v. v) result (called_in plain name.now arguments.now) }
+{
+    match BuiltInFunction::named(name) {
+        Some(function) => function.call(alloc, arguments),
+        None => Err(Error::message(alloc, "there is no such function")),
+    }
 }
 
 /// What a filter of the caller answers, marked safe where it says so.

@@ -1,11 +1,14 @@
 // What renders asks the caller's boxes.
-use crate::boxes::{built_in_answer, filter_answer, function_answer, lent, test_answer, write_by};
+use crate::boxes::{
+    built_in_answer, built_in_function_answer, built_in_test_answer, filter_answer,
+    function_answer, lent, test_answer, write_by,
+};
 use crate::objects::Objects;
 use crate::over::ObjectsOver;
 use std::alloc::Global;
-use tera_built_ins::{BuiltInFunction, BuiltInTest, EscapeFn};
+use tera_built_ins::EscapeFn;
 use tera_state::{Filter, Function, Scopes, Test};
-use tera_values::{Error, Kwargs, TeraResult, Value};
+use tera_values::{Kwargs, TeraResult, Value};
 
 impl Objects for ObjectsOver<Box<dyn EscapeFn>, Box<dyn Filter>, Box<dyn Test>, Box<dyn Function>> {
     ghost use Rattle.tera_objects.specs.Kept.{engine_of};
@@ -70,10 +73,7 @@ impl Objects for ObjectsOver<Box<dyn EscapeFn>, Box<dyn Filter>, Box<dyn Test>, 
         arguments: Kwargs,
     ) -> TeraResult<bool> {
         let Some(test) = self.tests.get(name) else {
-            return match BuiltInTest::named(name) {
-                Some(test) => test.call(alloc, value, &arguments),
-                None => Err(Error::message(alloc, "there is no such test")),
-            };
+            return built_in_test_answer(alloc, name, value, &arguments);
         };
         let state = lent(
             &self.escape,
@@ -93,10 +93,7 @@ impl Objects for ObjectsOver<Box<dyn EscapeFn>, Box<dyn Filter>, Box<dyn Test>, 
         arguments: Kwargs,
     ) -> TeraResult<Value> {
         let Some(function) = self.functions.get(name) else {
-            return match BuiltInFunction::named(name) {
-                Some(function) => function.call(alloc, &arguments),
-                None => Err(Error::message(alloc, "there is no such function")),
-            };
+            return built_in_function_answer(alloc, name, &arguments);
         };
         let state = lent(
             &self.escape,

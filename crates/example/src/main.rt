@@ -1,6 +1,9 @@
-// A page of two users, and a template with a fault. docs/USING.md explains it.
+// A page of two users, with objects of this program, and a template with a fault. docs/USING.md explains it.
 #![tactic(auto)]
 
+mod objects;
+
+use crate::objects::{Adult, Masked, Place, Strong};
 use std::alloc::Global;
 use std::io;
 use std::io::Write;
@@ -29,12 +32,26 @@ fn context(alloc: Global) -> TeraResult<Context> {
     Ok(context)
 }
 
-/// An engine with two templates.
+const PAGE: &str = r#"{% for user in users -%}
+<li>{{ user.name | strong }}: {{ user.age }}{% if user.age is adult %}, of age{% endif %}</li>
+{% endfor %}<p>{{ place() }}</p>
+"#;
+
+/// An engine with a filter, a test and a function of this program, and two templates.
 fn engine(alloc: Global) -> TeraResult<Tera> {
     let mut engine = Tera::new(alloc)?;
-    let page = "{% for user in users %}<li>{{ user.name }}: {{ user.age }}</li>\n{% endfor %}";
-    engine.add_raw_templates(&[("page.html", page), ("wrong.html", "{{ users + 1 }}")])?;
+    let name = String::from_str(alloc, "Bergen & Oslo")?;
+    engine.register_filter("strong", Box::new(alloc, Strong { alloc })?)?;
+    engine.register_test("adult", Box::new(alloc, Adult)?)?;
+    engine.register_function("place", Box::new(alloc, Place { alloc, name })?)?;
+    engine.add_raw_templates(&[("page.html", PAGE), ("wrong.html", "{{ users + 1 }}")])?;
     Ok(engine)
+}
+
+/// Texts are masked from now on.
+fn mask(alloc: Global, engine: &mut Tera) -> TeraResult<()> {
+    engine.set_escape_fn(Box::new(alloc, Masked)?);
+    Ok(())
 }
 
 /// The text, or what is wrong and where.
@@ -59,10 +76,14 @@ fn explain(rt: &HostRuntime, error: &Error) -> io::Result<()> {
 }
 
 fn main(rt: HostRuntime) -> io::Result<()> {
-    let (Ok(engine), Ok(context)) = (engine(rt.alloc()), context(rt.alloc())) else {
+    let (Ok(mut engine), Ok(context)) = (engine(rt.alloc()), context(rt.alloc())) else {
         return println!(rt; "the templates or the values were refused");
     };
     print(&rt, engine.render("page.html", &context))?;
     print(&rt, engine.render("wrong.html", &context))?;
-    print(&rt, engine.render("none.html", &context))
+    print(&rt, engine.render("none.html", &context))?;
+    let Ok(()) = mask(rt.alloc(), &mut engine) else {
+        return println!(rt; "out of memory");
+    };
+    print(&rt, engine.render("page.html", &context))
 }

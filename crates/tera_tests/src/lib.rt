@@ -52,7 +52,14 @@ mod many_templates;
 #[cfg(test)]
 mod memory;
 #[cfg(test)]
+mod objects;
+#[cfg(test)]
+mod objects_around;
+#[cfg(test)]
+mod objects_moved;
+#[cfg(test)]
 mod other_delimiters;
+pub mod own;
 #[cfg(test)]
 mod previews;
 #[cfg(test)]

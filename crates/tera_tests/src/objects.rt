@@ -66,7 +66,7 @@ const CASES: &str = r#"
 {{ name is missing }} !! 3 18
 {{ name is unknown }} !! message
 {{ hello() }} {{ name }} => <hello> world
-{{ name | bold(a=1 // 0) }} !! 21 22
+{{ name | bold(a=1 // 0) }} !! 22 23
 {{ super() }} !! 3 10
 {{ " a " | trimmed }}! => a!
 {% filter bold | trimmed %}{{ name }}{% endfilter %} => <b>x</b>

@@ -43,7 +43,8 @@ pub fn filter<O: Objects>(
 ) -> TeraResult<Operand>
     requires { length names.now ≡ length operands.items }
     ensures { let engine = O.engine objects.now in
-        let view = seen_in plain engine (around_of scopes.now) (variables_of scopes.now) autoescape in
+        let view = seen_in plain engine
+        (around_of scopes.now) (variables_of scopes.now) autoescape in
         Gives (λ o. o) result (filter_applied_by file.now (filtered_by plain engine view name.now)
         target.now (zip names.now operands.items) span) }
 {
@@ -70,7 +71,8 @@ pub fn test<O: Objects>(
 ) -> TeraResult<Operand>
     requires { length names.now ≡ length operands.items }
     ensures { let engine = O.engine objects.now in
-        let view = seen_in plain engine (around_of scopes.now) (variables_of scopes.now) autoescape in
+        let view = seen_in plain engine
+        (around_of scopes.now) (variables_of scopes.now) autoescape in
         Gives (λ o. o) result (test_applied_by file.now (tested_by plain engine view name.now)
         target.now (zip names.now operands.items) span) }
 {
@@ -96,7 +98,8 @@ pub fn function<O: Objects>(
 ) -> TeraResult<Operand>
     requires { length names.now ≡ length operands.items }
     ensures { let engine = O.engine objects.now in
-        let view = seen_in plain engine (around_of scopes.now) (variables_of scopes.now) autoescape in
+        let view = seen_in plain engine
+        (around_of scopes.now) (variables_of scopes.now) autoescape in
         Gives (λ o. o) result (function_called_by file.now (called_by plain engine view name.now)
         (zip names.now operands.items) span) }
 {

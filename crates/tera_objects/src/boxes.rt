@@ -55,7 +55,8 @@ pub(crate) fn write_by(
     out: &mut String,
 ) -> TeraResult<()>
     ensures ok { OnOk result (string_bytes out.new ≡ string_bytes out.old ++ rendered autoescape
-        (escape_or_html (λ b. (⟦<dyn EscapeFn as EscapeFn>⟧ b.vtable).escaped b.value) escape.now) value.now) }
+        (escape_or_html (λ b. (⟦<dyn EscapeFn as EscapeFn>⟧ b.vtable).escaped b.value) escape.now)
+        value.now) }
     ensures err { OnErr result (string_bytes out.new ≡ string_bytes out.old) }
     ensures lacks { IfErr result Lacks }
 {
@@ -78,7 +79,8 @@ pub(crate) fn built_in_answer(
 ) -> TeraResult<Value>
     ensures { Gives (λ v. v) result (filtered_in plain (record {
       autoescape = autoescape;
-      escape = escape_or_html (λ b. (⟦<dyn EscapeFn as EscapeFn>⟧ b.vtable).escaped b.value) escape.now;
+      escape = escape_or_html
+          (λ b. (⟦<dyn EscapeFn as EscapeFn>⟧ b.vtable).escaped b.value) escape.now;
     }) name.now value.now arguments.now) }
 {
     let lent = lent_escape(escape);
@@ -125,7 +127,8 @@ pub(crate) fn filter_answer(
     arguments: Kwargs,
     state: &State<'_>,
 ) -> TeraResult<Value>
-    ensures { Gives (λ v. v) result (answer_of ((⟦<dyn Filter as Filter>⟧ filter.now.vtable).safe filter.now.value)
+    ensures { Gives (λ v. v) result (answer_of
+        ((⟦<dyn Filter as Filter>⟧ filter.now.vtable).safe filter.now.value)
         ((⟦<dyn Filter as Filter>⟧ filter.now.vtable).meaning filter.now.value value.now arguments
         (view_of (λ e. escaped e.now) state.now))) }
 {
@@ -152,7 +155,8 @@ pub(crate) fn function_answer(
     arguments: Kwargs,
     state: &State<'_>,
 ) -> TeraResult<Value>
-    ensures { Gives (λ v. v) result (answer_of ((⟦<dyn Function as Function>⟧ function.now.vtable).safe function.now.value)
+    ensures { Gives (λ v. v) result (answer_of
+        ((⟦<dyn Function as Function>⟧ function.now.vtable).safe function.now.value)
         ((⟦<dyn Function as Function>⟧ function.now.vtable).meaning function.now.value arguments
         (view_of (λ e. escaped e.now) state.now))) }
 {

@@ -15,9 +15,15 @@ impl Objects for ObjectsOver<Box<dyn EscapeFn>, Box<dyn Filter>, Box<dyn Test>, 
 
     ghost engine = { engine_of (record {
       escape = λ b. (EscapeFn-box b).escaped b.value;
-      filter = λ b. record { meaning = (Filter-box b).meaning b.value; safe = (Filter-box b).safe b.value };
+      filter = λ b. record {
+        meaning = (Filter-box b).meaning b.value;
+        safe = (Filter-box b).safe b.value;
+      };
       test = λ b. record { meaning = (Test-box b).meaning b.value };
-      function = λ b. record { meaning = (Function-box b).meaning b.value; safe = (Function-box b).safe b.value };
+      function = λ b. record {
+        meaning = (Function-box b).meaning b.value;
+        safe = (Function-box b).safe b.value;
+      };
     }) };
 
     fn write(

@@ -35,7 +35,8 @@ impl<F: Drop> OwnFilters<F> {
 
     /// Puts the filter at the name. The one that stood there is dropped. Want of memory leaves all as it was.
     pub fn put(&mut self, name: &str, filter: F) -> TeraResult<()>
-        ensures ok { OnOk result (listed self.new.table ≡ put name.now filter (listed self.old.table)) }
+        ensures ok { OnOk result
+            (listed self.new.table ≡ put name.now filter (listed self.old.table)) }
         ensures err { OnErr result (listed self.new.table ≡ listed self.old.table) }
         ensures lacks { IfErr result Lacks }
     {
@@ -48,7 +49,8 @@ impl<F: Drop> OwnFilters<F> {
 
     // Puts a filter at a name at which none stands.
     fn put_new(&mut self, name: &str, filter: F) -> TeraResult<()>
-        ensures ok { OnOk result (listed self.new.table ≡ put name.now filter (listed self.old.table)) }
+        ensures ok { OnOk result
+            (listed self.new.table ≡ put name.now filter (listed self.old.table)) }
         ensures err { OnErr result (listed self.new.table ≡ listed self.old.table) }
         ensures lacks { IfErr result Lacks }
     {
@@ -68,7 +70,8 @@ impl<F: Drop> OwnFilters<F> {
     pub fn move_from(&mut self, other: OwnFilters<F>) -> TeraResult<()>
         ensures ok { OnOk result (listed self.new.table ≡ moved (λ n. is_some (filter_named n))
             (listed self.old.table) (listed other.table)) }
-        ensures part { OnErr result ((k : ℕ) × (listed self.new.table ≡ moved (λ n. is_some (filter_named n))
+        ensures part { OnErr result ((k : ℕ) × (listed self.new.table
+            ≡ moved (λ n. is_some (filter_named n))
             (listed self.old.table) (take k (listed other.table)))) }
         ensures lacks { IfErr result Lacks }
     {

@@ -55,7 +55,8 @@ pub trait Objects: Drop {
         arguments: Kwargs,
     ) -> TeraResult<Value>
         ensures { Gives (λ v. v) result (filtered_by plain (engine self.now)
-            (seen_in plain (engine self.now) (around_of scopes.now) (variables_of scopes.now) autoescape)
+            (seen_in plain (engine self.now)
+            (around_of scopes.now) (variables_of scopes.now) autoescape)
             name.now value.now arguments) };
 
     /// Whether the test of this name holds of the value.
@@ -69,7 +70,8 @@ pub trait Objects: Drop {
         arguments: Kwargs,
     ) -> TeraResult<bool>
         ensures { Gives (λ b. b) result (tested_by plain (engine self.now)
-            (seen_in plain (engine self.now) (around_of scopes.now) (variables_of scopes.now) autoescape)
+            (seen_in plain (engine self.now)
+            (around_of scopes.now) (variables_of scopes.now) autoescape)
             name.now value.now arguments) };
 
     /// What the function of this name makes of the arguments.
@@ -82,6 +84,7 @@ pub trait Objects: Drop {
         arguments: Kwargs,
     ) -> TeraResult<Value>
         ensures { Gives (λ v. v) result (called_by plain (engine self.now)
-            (seen_in plain (engine self.now) (around_of scopes.now) (variables_of scopes.now) autoescape)
+            (seen_in plain (engine self.now)
+            (around_of scopes.now) (variables_of scopes.now) autoescape)
             name.now arguments) };
 }

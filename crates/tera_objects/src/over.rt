@@ -65,7 +65,8 @@ impl<E: Drop, F: Drop, T: Drop, G: Drop> ObjectsOver<E, F, T, G> {
     pub fn register_filter(&mut self, name: &str, filter: F) -> TeraResult<()>
         ensures ok { (m : Meanings E F T G) → OnOk result
             (engine_of m self.new ≡ with_filter name.now (m.filter filter) (engine_of m self.old)) }
-        ensures err { (m : Meanings E F T G) → OnErr result (engine_of m self.new ≡ engine_of m self.old) }
+        ensures err { (m : Meanings E F T G) → OnErr result
+            (engine_of m self.new ≡ engine_of m self.old) }
         ensures lacks { IfErr result Lacks }
     {
         self.filters.put(name, filter)
@@ -75,7 +76,8 @@ impl<E: Drop, F: Drop, T: Drop, G: Drop> ObjectsOver<E, F, T, G> {
     pub fn register_test(&mut self, name: &str, test: T) -> TeraResult<()>
         ensures ok { (m : Meanings E F T G) → OnOk result
             (engine_of m self.new ≡ with_test name.now (m.test test) (engine_of m self.old)) }
-        ensures err { (m : Meanings E F T G) → OnErr result (engine_of m self.new ≡ engine_of m self.old) }
+        ensures err { (m : Meanings E F T G) → OnErr result
+            (engine_of m self.new ≡ engine_of m self.old) }
         ensures lacks { IfErr result Lacks }
     {
         self.tests.put(name, test)
@@ -84,8 +86,10 @@ impl<E: Drop, F: Drop, T: Drop, G: Drop> ObjectsOver<E, F, T, G> {
     /// The name stands for this function from now on, as for a filter.
     pub fn register_function(&mut self, name: &str, function: G) -> TeraResult<()>
         ensures ok { (m : Meanings E F T G) → OnOk result
-            (engine_of m self.new ≡ with_function name.now (m.function function) (engine_of m self.old)) }
-        ensures err { (m : Meanings E F T G) → OnErr result (engine_of m self.new ≡ engine_of m self.old) }
+            (engine_of m self.new
+            ≡ with_function name.now (m.function function) (engine_of m self.old)) }
+        ensures err { (m : Meanings E F T G) → OnErr result
+            (engine_of m self.new ≡ engine_of m self.old) }
         ensures lacks { IfErr result Lacks }
     {
         self.functions.put(name, function)

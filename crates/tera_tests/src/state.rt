@@ -140,13 +140,17 @@ fn refuses(alloc: Global, state: &State<'_>, name: &str) -> bool {
     }
 }
 
+fn calls_filters(alloc: Global, scopes: &Scopes<'_>) -> bool {
+    let state: State<'_> = scopes.state(true, None, Some(&[]));
+    replaces(alloc, &state) && refuses(alloc, &state, "upper")
+}
+
 #[test]
 fn filters_are_called(rt: HostRuntime) {
     let alloc = rt.alloc();
     let context = Context::new(alloc);
     let scopes = Scopes::new(alloc, &context, None);
-    let state: State<'_> = scopes.state(true, None, Some(&[]));
-    assert!(rt; replaces(alloc, &state) && refuses(alloc, &state, "upper"));
+    assert!(rt; calls_filters(alloc, &scopes));
 }
 
 fn refuses_taken(alloc: Global, scopes: &Scopes<'_>) -> bool {

@@ -21,7 +21,7 @@ pub struct Outcome {
 ///
 /// This is the law of the engine: the rendering's answer is exactly the text, or the fault with its kind and, for a
 /// `RenderingError`, its file and span, that the recursive meaning of the accepted templates' syntax trees (and a one-off input's)
-/// gives, for every context; and where texts are escaped, each of `<>"'` in it comes from template text or a value marked safe. An
+/// gives, for every context; and where texts are escaped, by `escape_html`, each of `<>"'` in it comes from template text or a value marked safe. An
 /// error of this function itself says that there was no room for the engine or for the answers.
 pub fn render_after(
     alloc: Global,

@@ -8,7 +8,7 @@ ghost use Rattle.tera_registry.specs.Batch.{ConfiguresOneOf};
 ghost use Rattle.tera_tree.specs.Delimiters.{delimiters_of};
 
 use std::alloc::Global;
-use tera::{Delimiters, Tera, TeraResult, Value};
+use tera::{Delimiters, Objects, TeraOver, TeraResult, Value};
 
 /// A call that configures an engine or adds to it, with its arguments, which are borrowed.
 #[derive(Clone, Copy)]
@@ -28,9 +28,13 @@ pub enum Call<'a> {
 }
 
 /// Makes the call. Refused, it leaves the engine's registry as it was.
-pub fn make_call(alloc: Global, engine: &mut Tera, call: &Call<'_>) -> TeraResult<()>
-    ensures { ConfiguresOneOf result (Makes (registry_of engine.old) call.now)
-        (registry_of engine.old) (registry_of engine.new) }
+pub fn make_call<O: Objects>(
+    alloc: Global,
+    engine: &mut TeraOver<O>,
+    call: &Call<'_>,
+) -> TeraResult<()>
+    ensures { ConfiguresOneOf result (Makes (registry_of O.engine engine.old) call.now)
+        (registry_of O.engine engine.old) (registry_of O.engine engine.new) }
 {
     match call {
         Call::SetDelimiters { delimiters } => set_delimiters(alloc, engine, delimiters),
@@ -44,15 +48,16 @@ pub fn make_call(alloc: Global, engine: &mut Tera, call: &Call<'_>) -> TeraResul
 
 /// Makes the calls in turn, and goes on after one that was refused. There is one answer a call. An error says that the answers
 /// found no room: then no call was made.
-pub fn make_calls(
+pub fn make_calls<O: Objects>(
     alloc: Global,
-    engine: &mut Tera,
+    engine: &mut TeraOver<O>,
     calls: &[Call<'_>],
 ) -> TeraResult<Vec<TeraResult<()>>>
-    ensures answers { IfOk result (λ answers. Leads (registry_of engine.old)
-        calls.now answers.items (registry_of engine.new)) }
+    ensures answers { IfOk result (λ answers. Leads (registry_of O.engine engine.old)
+        calls.now answers.items (registry_of O.engine engine.new)) }
     ensures memory { IfErr result Lacks }
-    ensures unchanged { OnErr result (registry_of engine.new ≡ registry_of engine.old) }
+    ensures unchanged { OnErr result
+        (registry_of O.engine engine.new ≡ registry_of O.engine engine.old) }
 {
     let mut answers = Vec::with_capacity(alloc, calls.len())?;
     for call in calls {
@@ -75,10 +80,14 @@ fn append(answers: &mut Vec<TeraResult<()>>, answer: TeraResult<()>)
     }
 }
 
-fn set_delimiters(alloc: Global, engine: &mut Tera, delimiters: &Delimiters) -> TeraResult<()>
+fn set_delimiters<O: Objects>(
+    alloc: Global,
+    engine: &mut TeraOver<O>,
+    delimiters: &Delimiters,
+) -> TeraResult<()>
     ensures { Configures result
-        (with_delimiters (delimiters_of delimiters.now) (registry_of engine.old))
-        (registry_of engine.old) (registry_of engine.new) }
+        (with_delimiters (delimiters_of delimiters.now) (registry_of O.engine engine.old))
+        (registry_of O.engine engine.old) (registry_of O.engine engine.new) }
 {
     let copy = copied(alloc, delimiters)?;
     engine.set_delimiters(copy)
@@ -97,9 +106,10 @@ fn copied(alloc: Global, delimiters: &Delimiters) -> TeraResult<Delimiters>
     })
 }
 
-fn insert_global(engine: &mut Tera, name: &str, value: &Value) -> TeraResult<()>
-    ensures { Configures result (Ok (with_global name.now value.now (registry_of engine.old)))
-        (registry_of engine.old) (registry_of engine.new) }
+fn insert_global<O: Objects>(engine: &mut TeraOver<O>, name: &str, value: &Value) -> TeraResult<()>
+    ensures { Configures result
+        (Ok (with_global name.now value.now (registry_of O.engine engine.old)))
+        (registry_of O.engine engine.old) (registry_of O.engine engine.new) }
 {
     let copy = value.try_clone()?;
     engine.global_context().insert(name, copy)

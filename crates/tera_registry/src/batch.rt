@@ -8,12 +8,11 @@ ghost use Rattle.tera_registry.specs.Batch.{pairs_of};
 ghost use Rattle.tera_registry.specs.Put.{Makes, Puts};
 ghost use Rattle.tera_registry.specs.Kept.{entry_of, entries_of};
 
-use crate::calls::component_calls;
 use crate::components::components;
 use crate::includes::includes;
-use crate::known::any_lacks;
 use crate::meant::Meant;
 use crate::names::put;
+use crate::needs::needs;
 use crate::template::Template;
 use crate::tops::top_blocks;
 use std::alloc::{AllocError, Global};
@@ -61,7 +60,7 @@ fn read(alloc: Global, delimiters: &Delimiters, name: &str, text: &str) -> TeraR
 }
 
 /// The template of a name and a text that was read to this.
-#[tactic(auto, using(crate::proofs::Lacking::bodies_lack_as_tree, crate::proofs::Calling::bodies_call_as_tree))]
+#[tactic(auto, using(crate::proofs::Needing::bodies_need_as_tree))]
 fn made(alloc: Global, name: &str, text: &str, output: &ParserOutput) -> TeraResult<Template>
     ensures ok { IfOk result
         (λ t. entry_of t ≡ (name.now, record { text = text.now; tree = tree_of output.now })) }
@@ -73,8 +72,7 @@ fn made(alloc: Global, name: &str, text: &str, output: &ParserOutput) -> TeraRes
     let includes = includes(alloc, output.nodes.as_slice())?;
     let free = free(alloc, output.nodes.as_slice())?;
     let components = components(alloc, name, output.nodes.as_slice())?;
-    let component_calls = component_calls(alloc, &body, blocks.as_slice(), components.as_slice())?;
-    let lacks = any_lacks(&body, blocks.as_slice(), components.as_slice());
+    let needs = needs(alloc, &body, blocks.as_slice(), components.as_slice())?;
     Ok(Template {
         name: String::from_str(alloc, name)?,
         text: String::from_str(alloc, text)?,
@@ -85,8 +83,7 @@ fn made(alloc: Global, name: &str, text: &str, output: &ParserOutput) -> TeraRes
         includes,
         free,
         components,
-        component_calls,
-        lacks,
+        needs,
         meant: Meant::of(output.nodes.as_slice()),
     })
 }

@@ -21,7 +21,7 @@ lacks-requires g c =
         there,
         (
           λ t at. (let those = c.requires.1.0.those place t there at in omega (arith, c.len.ensures, ap length row, long, ap length those)),
-          c.requires.1.1.1,
+          (c.requires.1.1.1.0, c.requires.1.1.1.1),
         ),
       ),
     )

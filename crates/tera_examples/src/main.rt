@@ -1,12 +1,9 @@
-//! Runs the examples, and tells of each whether it is answered as its file says.
+//! Runs the examples that standard input names, one a line, and tells of each whether it is answered as its file says.
 #![tactic(auto)]
 
 use std::{fs, io};
 use tera::Tera;
 use tera_script::{Outcome, ReaderInput, WriterOutput, run};
-
-/// An example is a script, with its replies in the file of its name with `.stdout` behind.
-const EXAMPLES: [&str; 3] = ["mail", "report", "site"];
 
 /// What the program `tera_run` writes for the script.
 fn replies(rt: &HostRuntime, engine: &mut Tera, script: &str) -> io::Result<Vec<u8>> {
@@ -19,7 +16,7 @@ fn replies(rt: &HostRuntime, engine: &mut Tera, script: &str) -> io::Result<Vec<
     }
 }
 
-/// Whether the example is answered as its file says.
+/// Whether a fresh engine answers the script of this name as the file of its name with `.stdout` behind says.
 fn is_answered(rt: &HostRuntime, engine: &mut Tera, name: &str) -> io::Result<bool> {
     let path = format!(in rt.alloc(); "{name}.stdout")?;
     let wanted = fs::read(rt, path.as_str())?;
@@ -39,8 +36,8 @@ fn tell(rt: &HostRuntime, name: &str) -> io::Result<()> {
 }
 
 fn main(rt: HostRuntime) -> io::Result<()> {
-    for name in EXAMPLES {
-        tell(&rt, name)?;
+    for name in rt.lines(rt.alloc()) {
+        tell(&rt, name?.as_str())?;
     }
     Ok(())
 }

@@ -60,7 +60,6 @@ fn read(alloc: Global, delimiters: &Delimiters, name: &str, text: &str) -> TeraR
 }
 
 /// The template of a name and a text that was read to this.
-#[tactic(auto, using(crate::proofs::Needing::bodies_need_as_tree))]
 fn made(alloc: Global, name: &str, text: &str, output: &ParserOutput) -> TeraResult<Template>
     ensures ok { IfOk result
         (λ t. entry_of t ≡ (name.now, record { text = text.now; tree = tree_of output.now })) }
@@ -72,7 +71,14 @@ fn made(alloc: Global, name: &str, text: &str, output: &ParserOutput) -> TeraRes
     let includes = includes(alloc, output.nodes.as_slice())?;
     let free = free(alloc, output.nodes.as_slice())?;
     let components = components(alloc, name, output.nodes.as_slice())?;
-    let needs = needs(alloc, &body, blocks.as_slice(), components.as_slice())?;
+    let needs = needs(
+        alloc,
+        name,
+        output.nodes.as_slice(),
+        &body,
+        blocks.as_slice(),
+        components.as_slice(),
+    )?;
     Ok(Template {
         name: String::from_str(alloc, name)?,
         text: String::from_str(alloc, text)?,

@@ -1,15 +1,21 @@
 // What a template needs of others: what it calls that is not built in.
-ghost use Rattle.std.specs.Prelude.{◌≡◌, ◌++◌, [], slice_get, option_and_then, OnOk, IfOk, IfErr};
+ghost use Rattle.std.specs.Prelude.{◌≡◌, ◌++◌, [], map, slice_get, option_and_then, OnOk, IfOk, IfErr};
 ghost use Rattle.std.specs.List.{flat_map, cons_option};
 ghost use Rattle.tera_errors.specs.Answer.{Lacks};
+ghost use Rattle.tera_tree.specs.Blocks as in_tree;
+ghost use Rattle.tera_tree.specs.View.{nodes_of};
+ghost use Rattle.tera_code.specs.Blocks.{block_of, block_listings};
 ghost use Rattle.tera_code.specs.Called.{callee_of};
-ghost use Rattle.tera_registry.specs.Needs.{is_built_in, as_need, callee_needed, needed_by, code_needs, bodies_need};
+ghost use Rattle.tera_code.specs.Code.{listing_of};
+ghost use Rattle.tera_registry.specs.Components.{kept_of, kept_all};
+ghost use Rattle.tera_registry.specs.Needs.{is_built_in, as_need, callee_needed, needed_by, needs_of, code_needs, bodies_need};
 
 use crate::components::Component;
 use std::alloc::Global;
 use tera_built_ins::{BuiltInFilter, BuiltInFunction, BuiltInTest};
 use tera_code::{Block, Callee, Chunk};
 use tera_errors::TeraResult;
+use tera_tree::Node;
 use tera_values::Name;
 
 /// The name of a component that is called, or that of a filter, a test or a function that is not built in.
@@ -116,7 +122,7 @@ fn add_of_components(
 }
 
 /// What the code of a body needs, then that of blocks, then that of components.
-pub fn needs(
+fn code_needs(
     alloc: Global,
     body: &Chunk,
     blocks: &[Block],
@@ -130,4 +136,25 @@ pub fn needs(
     add_of_blocks(alloc, blocks, &mut needs)?;
     add_of_components(alloc, components, &mut needs)?;
     Ok(needs)
+}
+
+/// What the template of this name needs that has these nodes, where this is the code of its body, of its blocks and of its
+/// components.
+#[tactic(auto, using(crate::proofs::Needing::bodies_need_as_tree))]
+pub fn needs(
+    alloc: Global,
+    name: &str,
+    nodes: &[Node<'_>],
+    body: &Chunk,
+    blocks: &[Block],
+    components: &[Component],
+) -> TeraResult<Vec<Need>>
+    requires body { body.now ≡ listing_of name.now (nodes_of nodes.now) }
+    requires blocks { map block_of blocks.now
+        ≡ block_listings name.now (in_tree.blocks (nodes_of nodes.now)) }
+    requires components { map kept_of components.now ≡ kept_all name.now (nodes_of nodes.now) }
+    ensures ok { IfOk result (λ v. v.items ≡ needs_of (nodes_of nodes.now)) }
+    ensures lacks { IfErr result Lacks }
+{
+    code_needs(alloc, body, blocks, components)
 }

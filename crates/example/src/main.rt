@@ -1,6 +1,9 @@
-// A page of two users, and a template with a fault. docs/USING.md explains it.
+// A page of two users, with objects of this program, and a template with a fault. docs/USING.md explains it.
 #![tactic(auto)]
 
+mod objects;
+
+use crate::objects::{Adult, Masked, Place, Strong};
 use std::alloc::Global;
 use std::io;
 use std::io::Write;
@@ -29,13 +32,10 @@ fn context(alloc: Global) -> TeraResult<Context> {
     Ok(context)
 }
 
-/// An engine with two templates.
-fn engine(alloc: Global) -> TeraResult<Tera> {
-    let mut engine = Tera::new(alloc)?;
-    let page = "{% for user in users %}<li>{{ user.name }}: {{ user.age }}</li>\n{% endfor %}";
-    engine.add_raw_templates(&[("page.html", page), ("wrong.html", "{{ users + 1 }}")])?;
-    Ok(engine)
-}
+const PAGE: &str = r#"{% for user in users -%}
+<li>{{ user.name | strong }}: {{ user.age }}{% if user.age is adult %}, of age{% endif %}</li>
+{% endfor %}<p>{{ place() }}</p>
+"#;
 
 /// The text, or what is wrong and where.
 fn print(rt: &HostRuntime, answer: TeraResult<String>) -> io::Result<()> {
@@ -58,11 +58,31 @@ fn explain(rt: &HostRuntime, error: &Error) -> io::Result<()> {
     }
 }
 
+/// Renders a page, one that goes wrong, and one that is not there.
+fn print_all(rt: &HostRuntime, engine: &Tera, context: &Context) -> io::Result<()> {
+    print(rt, engine.render("page.html", context))?;
+    print(rt, engine.render("wrong.html", context))?;
+    print(rt, engine.render("none.html", context))
+}
+
+/// Registers a filter, a test and a function of this program, renders two templates and one that is not there, and renders the
+/// first again by an escape of its own. What boxes an object for an engine has that engine to itself.
+fn run(rt: &HostRuntime, alloc: Global) -> TeraResult<io::Result<()>> {
+    let context = context(alloc)?;
+    let name = String::from_str(alloc, "Bergen & Oslo")?;
+    let mut engine = Tera::new(alloc)?;
+    engine.register_filter("strong", Box::new(alloc, Strong { alloc })?)?;
+    engine.register_test("adult", Box::new(alloc, Adult)?)?;
+    engine.register_function("place", Box::new(alloc, Place { alloc, name })?)?;
+    engine.add_raw_templates(&[("page.html", PAGE), ("wrong.html", "{{ users + 1 }}")])?;
+    let printed = print_all(rt, &engine, &context);
+    engine.set_escape_fn(Box::new(alloc, Masked)?);
+    Ok(printed.and(print(rt, engine.render("page.html", &context))))
+}
+
 fn main(rt: HostRuntime) -> io::Result<()> {
-    let (Ok(engine), Ok(context)) = (engine(rt.alloc()), context(rt.alloc())) else {
-        return println!(rt; "the templates or the values were refused");
-    };
-    print(&rt, engine.render("page.html", &context))?;
-    print(&rt, engine.render("wrong.html", &context))?;
-    print(&rt, engine.render("none.html", &context))
+    match run(&rt, rt.alloc()) {
+        Ok(printed) => printed,
+        Err(_) => println!(rt; "the templates or the values were refused"),
+    }
 }

@@ -20,8 +20,7 @@ use Rattle.tera_marks.specs.Origin.{Traces}
 use Rattle.tera_marks.proofs.Traced.{components_are_traced}
 use Rattle.tera_registry.specs.declared.templates.Defined.{Defined}
 use Rattle.tera_registry.specs.Templates.{IsKept, IsDefined}
-use Rattle.tera.specs.declared.engine.Tera.{Tera}
-use Rattle.tera.specs.Registry.{registry_of, subject_of_component, text_meant, info_at}
+use Rattle.tera.specs.Registry.{subject_of_component, text_meant, info_at}
 use Rattle.tera.specs.Rendering.{ComponentByName}
 
 named-by : (b : Bool) (file name : Name) (d : Signature × Nodes) (ds : List (Signature × Nodes)) (c : Component) → bytes_eq name d.0.name ≡ b → (if b then Some (let k : Component = record { file = file; signature = d.0; body = d.1 } in k) else component_named file name ds) ≡ Some c → (component_named file name ds ≡ Some c → c.signature.name ≡ name) → c.signature.name ≡ name
@@ -79,10 +78,7 @@ abbrev Builds : Definition → Named Val → Option Val → Around → Variables
 Builds d args body around v result =
     (s : Signature) → d ≡ definition_of s → Gives (λ x. x) result (or_message (context_in s args body around v))
 
-module _ (t : Tera) (args implicits : Named Val) (body : Option Text) (flag : Bool) (found : Defined) (around : Around) (v : Variables) (outer : around ≡ outermost (registry_of t) implicits) (fresh : v ≡ nothing_set) (value : Option Val) (handed : option_map (λ b. text b true) body ≡ value) where
-  abbrev r : Registry
-  r = registry_of t
-
+module _ (r : Registry) (args implicits : Named Val) (body : Option Text) (flag : Bool) (found : Defined) (around : Around) (v : Variables) (outer : around ≡ outermost r implicits) (fresh : v ≡ nothing_set) (value : Option Val) (handed : option_map (λ b. text b true) body ≡ value) where
   abbrev caller : Around
   caller = outermost r implicits
 
@@ -103,23 +99,23 @@ module _ (t : Tera) (args implicits : Named Val) (body : Option Text) (flag : Bo
   pub component-unfit : (e : Refusal) → IsDefined (component r found.definition.now.name) (Some found) → Builds found.definition.now args value around v (Err e) → Says e (render_component r found.definition.now.name args implicits body flag)
   component-unfit e is made = meant-unfit (component r found.definition.now.name) e is made
 
-  meant-runs : (o : Option Component) (context : Named Val) (inner : Around) → IsDefined o (Some found) → Builds found.definition.now args value around v (Ok context) → inner ≡ in_component context around v → text_meant (subject_of_component t o inner flag) ≡ render_found_component_in plain r o args implicits body flag
+  meant-runs : (o : Option Component) (context : Named Val) (inner : Around) → IsDefined o (Some found) → Builds found.definition.now args value around v (Ok context) → inner ≡ in_component context around v → text_meant (subject_of_component r o inner flag) ≡ render_found_component_in plain r o args implicits body flag
   meant-runs None context inner is made at = absurd is
   meant-runs (Some c) context inner is made at =
       let fits = fit-is r caller flag c _ context (builds c (Ok context) is made) in
       let place = at ∙ ap₂ (λ a w. in_component context a w) outer fresh in
-      ap (λ (a : Around). text_meant (subject_of_component t (Some c) a flag)) place
+      ap (λ (a : Around). text_meant (subject_of_component r (Some c) a flag)) place
       ∙ ap (within_context_in plain r caller flag c) (sym fits)
 
   -- the text of any other is that of its body
   pub component-runs : (context : Named Val) (inner : Around) → IsDefined (component r found.definition.now.name) (Some found) → Builds found.definition.now args value around v (Ok context) → inner ≡ in_component context around v
-      → text_meant (subject_of_component t (component r found.definition.now.name) inner flag) ≡ render_component r found.definition.now.name args implicits body flag
+      → text_meant (subject_of_component r (component r found.definition.now.name) inner flag) ≡ render_component r found.definition.now.name args implicits body flag
   component-runs context inner is made at =
       meant-runs (component r found.definition.now.name) context inner is made at
 
-module _ (r : Registry) (by_html : r.engine.escape ≡ escape_html) (name : Name) (args implicits : Named Val) (body : Option Text) (flag : Bool) where
-  origin-of : (answer : Result Text Fault) → answer ≡ render_component r name args implicits body flag → IsTrue flag → Traces (render_component_in marking r name args implicits body flag) answer
-  origin-of answer is on = rw is (rw on (components_are_traced r name args implicits body by_html))
+module _ (r : Registry) (name : Name) (args implicits : Named Val) (body : Option Text) (flag : Bool) where
+  origin-of : (answer : Result Text Fault) → answer ≡ render_component r name args implicits body flag → IsTrue flag → r.engine.escape ≡ escape_html → Traces (render_component_in marking r name args implicits body flag) answer
+  origin-of answer is on by_html = rw is (rw on (components_are_traced r name args implicits body by_html))
 
   by_name : (answer : Result Text Fault) → answer ≡ render_component r name args implicits body flag → ComponentByName r name args implicits body flag answer
   by_name answer is = record { is = is; origin = origin-of answer is }

@@ -4,7 +4,6 @@ use Rattle.tera_errors.specs.Site.{Text, Name}
 use Rattle.tera_errors.specs.Fault.{Fault, message, template_not_found}
 use Rattle.tera_errors.specs.Answer.{Refusal, Tells, Gives, GivesOneOf, SaysOneOf}
 use Rattle.tera_values.specs.Alphabet.{marking}
-use Rattle.tera_values.specs.Escape.{escape_html}
 use Rattle.tera_values.specs.Val.{Val}
 use Rattle.tera_values.specs.Named.{Named}
 use Rattle.tera_meaning.specs.Registry.{Registry}
@@ -21,8 +20,7 @@ use Rattle.tera_machine.specs.Subject.{Subject, meant}
 use Rattle.tera_registry.specs.Templates.{Leads, with_templates, definers_of}
 use Rattle.tera_registry.specs.declared.templates.Found.{Found}
 use Rattle.tera_registry.specs.declared.templates.Definers.{Definers}
-use Rattle.tera.specs.declared.engine.Tera.{Tera}
-use Rattle.tera.specs.Registry.{registry_of, nodes_in, nodes_of_file, subject_of, subject_of_file, text_meant, block_meant}
+use Rattle.tera.specs.Registry.{nodes_in, nodes_of_file, subject_of, subject_of_file, text_meant, block_meant}
 use Rattle.tera.specs.Rendering.{ByName, BlockByName}
 use Rattle.tera.proofs.Owned.{owns-root}
 
@@ -37,10 +35,9 @@ module _ (r : Registry) (name : Name) (found : Found) (leads : Leads r name foun
   code-found = ap (λ (l : Listing). l.code) leads.code ∙ ap (λ ns. nodes_code ns 0) (sym nodes-found)
 
 -- what the body that was found means is what the template means
-answer-found : (t : Tera) (name : Name) (context : Named Val) (found : Found) (flag : Bool) (leads : Leads (registry_of t) name found) → flag ≡ autoescapes (registry_of t) found.name.now
-    → meant (subject_of_file t found.name.now found.chunk.now.file context flag) (begun nothing_set) ≡ template_meaning (registry_of t) leads.entry context
-answer-found t name context found flag leads is =
-    let r = registry_of t in
+answer-found : (r : Registry) (name : Name) (context : Named Val) (found : Found) (flag : Bool) (leads : Leads r name found) → flag ≡ autoescapes r found.name.now
+    → meant (subject_of_file r found.name.now found.chunk.now.file context flag) (begun nothing_set) ≡ template_meaning r leads.entry context
+answer-found r name context found flag leads is =
     let top = root r leads.entry in
     let m : Subject → Answer Signal = λ s. meant s (begun nothing_set) in
     ap (λ file. m (subject_of (alone r) (Some found.name.now) file (nodes_of_file r found.chunk.now.file) context flag)) (file-found r name found leads)
@@ -49,39 +46,39 @@ answer-found t name context found flag leads is =
     ∙ ap (λ n. m (subject_of (alone r) (Some n) top.0 top.1.tree.nodes context (autoescapes r leads.entry.0))) leads.named
 
 -- so its text is what the name renders to
-pub text-found : (t : Tera) (name : Name) (context : Named Val) (found : Found) (flag : Bool) → Leads (registry_of t) name found → flag ≡ autoescapes (registry_of t) found.name.now
-    → text_meant (subject_of_file t found.name.now found.chunk.now.file context flag) ≡ render (registry_of t) name context
-text-found t name context found flag leads is =
-    ap text_of (answer-found t name context found flag leads is)
-    ∙ sym (ap (λ o. render_template (registry_of t) o context) leads.resolves)
+pub text-found : (r : Registry) (name : Name) (context : Named Val) (found : Found) (flag : Bool) → Leads r name found → flag ≡ autoescapes r found.name.now
+    → text_meant (subject_of_file r found.name.now found.chunk.now.file context flag) ≡ render r name context
+text-found r name context found flag leads is =
+    ap text_of (answer-found r name context found flag leads is)
+    ∙ sym (ap (λ o. render_template r o context) leads.resolves)
 
-module _ (t : Tera) (name block : Name) (context : Named Val) (found : Found) (leads : Leads (registry_of t) name found) (ds : Definers) (of_block : (r : Registry) → definers_of ds ≡ definers (with_templates r found.templates.now) (Some found.name.now) block) where
-  defined : definers_of ds ≡ definers (registry_of t) (Some leads.entry.0) block
+module _ (r : Registry) (name block : Name) (context : Named Val) (found : Found) (leads : Leads r name found) (ds : Definers) (of_block : (s : Registry) → definers_of ds ≡ definers (with_templates s found.templates.now) (Some found.name.now) block) where
+  defined : definers_of ds ≡ definers r (Some leads.entry.0) block
   defined =
-      of_block (registry_of t)
-      ∙ ap (λ r. definers r (Some found.name.now) block) leads.among
-      ∙ ap (λ n. definers (registry_of t) (Some n) block) leads.named
+      of_block r
+      ∙ ap (λ s. definers s (Some found.name.now) block) leads.among
+      ∙ ap (λ n. definers r (Some n) block) leads.named
 
-  meant-by : (answer : Answer Signal) (bs : List Definer) → template_meaning (registry_of t) leads.entry context ≡ answer → definers_of ds ≡ bs → render_block (registry_of t) name block context ≡ block_among bs block answer
+  meant-by : (answer : Answer Signal) (bs : List Definer) → template_meaning r leads.entry context ≡ answer → definers_of ds ≡ bs → render_block r name block context ≡ block_among bs block answer
   meant-by answer bs is e =
-      ap (λ o. render_template_block (registry_of t) o block context) leads.resolves
+      ap (λ o. render_template_block r o block context) leads.resolves
       ∙ ap₂ (λ xs a. block_among xs block a) (sym defined ∙ e) is
 
   -- a block that nobody defines
-  pub block-missing : definers_of ds ≡ [] → render_block (registry_of t) name block context ≡ Err message
-  block-missing e = meant-by (template_meaning (registry_of t) leads.entry context) [] refl e
+  pub block-missing : definers_of ds ≡ [] → render_block r name block context ≡ Err message
+  block-missing e = meant-by (template_meaning r leads.entry context) [] refl e
 
   -- any other has the text of the last one that ended
-  pub block-found : (flag : Bool) (d : Definer) (more : List Definer) → flag ≡ autoescapes (registry_of t) found.name.now → definers_of ds ≡ d ∷ more
-      → block_meant block (subject_of_file t found.name.now found.chunk.now.file context flag) ≡ render_block (registry_of t) name block context
+  pub block-found : (flag : Bool) (d : Definer) (more : List Definer) → flag ≡ autoescapes r found.name.now → definers_of ds ≡ d ∷ more
+      → block_meant block (subject_of_file r found.name.now found.chunk.now.file context flag) ≡ render_block r name block context
   block-found flag d more is e =
-      sym (meant-by (meant (subject_of_file t found.name.now found.chunk.now.file context flag) (begun nothing_set)) (d ∷ more) (sym (answer-found t name context found flag leads is)) e)
+      sym (meant-by (meant (subject_of_file r found.name.now found.chunk.now.file context flag) (begun nothing_set)) (d ∷ more) (sym (answer-found r name context found flag leads is)) e)
 
-module _ (r : Registry) (by_html : r.engine.escape ≡ escape_html) (name : Name) (context : Named Val) where
+module _ (r : Registry) (name : Name) (context : Named Val) where
   by_name : (answer : Result Text Fault) → answer ≡ render r name context → ByName r name context answer
   by_name answer e = record {
     is = e;
-    origin = λ t found on. let P : Result Text Fault → Type 0 = Traces (render_in marking r name context) in
+    origin = λ t found on by_html. let P : Result Text Fault → Type 0 = Traces (render_in marking r name context) in
         subst P (sym e) (templates_are_traced r name context t by_html found on);
   }
 
@@ -95,11 +92,11 @@ module _ (r : Registry) (by_html : r.engine.escape ≡ escape_html) (name : Name
       let P : Refusal → Type 0 = λ x. SaysOneOf x (ByName r name context) in
       subst P (sym is) (by_name (Err template_not_found) (sym (ap (λ o. render_template r o context) none)))
 
-module _ (r : Registry) (by_html : r.engine.escape ≡ escape_html) (name block : Name) (context : Named Val) where
+module _ (r : Registry) (name block : Name) (context : Named Val) where
   block_by_name : (answer : Result Text Fault) → answer ≡ render_block r name block context → BlockByName r name block context answer
   block_by_name answer e = record {
     is = e;
-    origin = λ t found on. let P : Result Text Fault → Type 0 = Traces (render_block_in marking r name block context) in
+    origin = λ t found on by_html. let P : Result Text Fault → Type 0 = Traces (render_block_in marking r name block context) in
         subst P (sym e) (blocks_are_traced r name block context t by_html found on);
   }
 

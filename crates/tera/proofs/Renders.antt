@@ -18,8 +18,7 @@ use Rattle.tera_meaning.specs.Accepted.{misses_an_include}
 use Rattle.tera_machine.specs.Config.{Config, config_of, starting}
 use Rattle.tera_machine.specs.Subject.{Subject, meant, meant_from, Means}
 use Rattle.tera_machine.specs.declared.configuration.Configuration.{Configuration}
-use Rattle.tera.specs.declared.engine.Tera.{Tera}
-use Rattle.tera.specs.Registry.{registry_of, subject_beside, text_meant, is_there, one_off_meant}
+use Rattle.tera.specs.Registry.{subject_beside, text_meant, is_there, one_off_meant}
 use Rattle.tera.specs.Rendering.{OneOff, allowed}
 use Rattle.tera_meaning.specs.Rendering.{has_a_block, text_of, one_off_text, render_str, render_str_in}
 use Rattle.tera_marks.specs.Origin.{Traces}
@@ -59,27 +58,27 @@ abbrev unless : Bool → Result Text Fault → Result Text Fault
 unless b meant = if b then Err message else meant
 
 -- nodes that call what is not there are refused
-pub lacking-says : (s : Subject) (e : Refusal) → lacks_a_callee (is_there s.world) s.tree ≡ true → Tells e message → Says e (one_off_meant s)
+pub lacking-says : (s : Subject) (e : Refusal) → lacks_a_callee s.world.registry.engine (is_there s.world) s.tree ≡ true → Tells e message → Says e (one_off_meant s)
 lacking-says s e lacks t =
     told-says e (one_off_meant s) t (ap (λ b. unless (b || misses_an_include s.world.registry s.tree) (text_meant s)) lacks)
 
 -- and so are those that include it
 pub missing-says : (s : Subject) (e : Refusal) → misses_an_include s.world.registry s.tree ≡ true → Tells e message → Says e (one_off_meant s)
 missing-says s e missing t =
-    told-says e (one_off_meant s) t (ap (λ b. unless b (text_meant s)) (or-true (lacks_a_callee (is_there s.world) s.tree) (misses_an_include s.world.registry s.tree) missing))
+    told-says e (one_off_meant s) t (ap (λ b. unless b (text_meant s)) (or-true (lacks_a_callee s.world.registry.engine (is_there s.world) s.tree) (misses_an_include s.world.registry s.tree) missing))
 
 -- any others are rendered
-pub nothing-missing : (s : Subject) → lacks_a_callee (is_there s.world) s.tree ≡ false → misses_an_include s.world.registry s.tree ≡ false → text_meant s ≡ one_off_meant s
+pub nothing-missing : (s : Subject) → lacks_a_callee s.world.registry.engine (is_there s.world) s.tree ≡ false → misses_an_include s.world.registry s.tree ≡ false → text_meant s ≡ one_off_meant s
 nothing-missing s known there = sym (ap₂ (λ b c. unless (b || c) (text_meant s)) known there)
 
 -- what its nodes mean beside the registry is what its tree means
-pub beside-means : (t : Tera) (tree : Tree) (nodes : Nodes) (context : Named Val) (autoescape : Bool) → nodes ≡ tree.nodes → one_off_meant (subject_beside t nodes context autoescape) ≡ one_off_text (registry_of t) tree context autoescape
-beside-means t tree nodes context autoescape is = ap (λ (ns : Nodes). one_off_meant (subject_beside t ns context autoescape)) is
+pub beside-means : (r : Registry) (tree : Tree) (nodes : Nodes) (context : Named Val) (autoescape : Bool) → nodes ≡ tree.nodes → one_off_meant (subject_beside r nodes context autoescape) ≡ one_off_text r tree context autoescape
+beside-means r tree nodes context autoescape is = ap (λ (ns : Nodes). one_off_meant (subject_beside r ns context autoescape)) is
 
-module _ (r : Registry) (by_html : r.engine.escape ≡ escape_html) (text : Text) (context : Named Val) where
+module _ (r : Registry) (text : Text) (context : Named Val) where
   -- the law, where the answer is what the reading means
-  origin-of : (reading : Result Tree Fault) (answer : Result Text Fault) (autoescape : Bool) → answer ≡ render_str r reading context autoescape → IsTrue autoescape → Traces (render_str_in marking r reading context autoescape) answer
-  origin-of reading answer autoescape e on = rw e (rw on (markup_is_traced r reading context by_html))
+  origin-of : (reading : Result Tree Fault) (answer : Result Text Fault) (autoescape : Bool) → answer ≡ render_str r reading context autoescape → IsTrue autoescape → r.engine.escape ≡ escape_html → Traces (render_str_in marking r reading context autoescape) answer
+  origin-of reading answer autoescape e on by_html = rw e (rw on (markup_is_traced r reading context by_html))
 
   means : (reading : Result Tree Fault) (answer : Result Text Fault) (autoescape : Bool) → Reads one_off_name r.delimiters text reading → answer ≡ render_str r reading context autoescape → OneOff r text context autoescape answer
   means reading answer autoescape h e =

@@ -3,3 +3,4 @@ pub mod Registry
 pub mod Rendering
 pub mod Configuring
 pub mod Lending
+pub mod Registering

@@ -4,11 +4,11 @@ use Rattle.tera_errors.specs.Site.{Text, Name}
 use Rattle.tera_errors.specs.Fault.{Fault, message}
 use Rattle.tera_values.specs.Val.{Val}
 use Rattle.tera_values.specs.Named.{Named}
-use Rattle.tera_values.specs.Escape.{escape_html}
 use Rattle.tera_tree.specs.Delimiters.{delimiters_of}
 use Rattle.tera_tree.specs.Tree.{Nodes, NoNodes}
 use Rattle.tera_tree.specs.Definitions.{definitions}
 use Rattle.tera_state.specs.Scope.{Around, nothing_set}
+use Rattle.tera_objects.specs.Engine.{Engine}
 use Rattle.tera_components.specs.Definition.{Info, definition_of, info_of}
 use Rattle.tera_meaning.specs.Run.{begun}
 use Rattle.tera_meaning.specs.Registry.{Entry, Registry}
@@ -21,16 +21,17 @@ use Rattle.tera_meaning.specs.Whole.{World, Place, component_at}
 use Rattle.tera_registry.specs.Templates.{templates_of, prefixes_of}
 use Rattle.tera_machine.specs.Subject.{Subject, template_of, meant}
 use Rattle.tera_machine.specs.declared.machine.VirtualMachine.{VirtualMachine}
-use Rattle.tera.specs.declared.engine.Tera.{Tera}
+use Rattle.tera.specs.declared.engine.TeraOver.{TeraOver}
 
-abbrev pub registry_of : Tera → Registry
-registry_of t = record {
+-- where the objects mean this engine
+abbrev pub registry_of : {O : Type 0} → (O → Engine) → TeraOver O → Registry
+registry_of engine t = record {
   templates = templates_of t.templates;
   prefixes = prefixes_of t.templates;
   suffixes = map string_bytes t.suffixes.items;
   delimiters = delimiters_of t.delimiters;
   global = t.global_context;
-  engine = record { escape = escape_html };
+  engine = engine t.objects;
 }
 
 -- where a body stands that a rendering begins with, with this around its variables
@@ -46,9 +47,9 @@ place_at template file around autoescape = record {
   above = [];
 }
 
--- nodes beside the templates of an engine, with the components that they define
-abbrev pub beside_of : Tera → Nodes → World
-beside_of t nodes = record { registry = registry_of t; beside = definitions nodes }
+-- nodes beside a registry, with the components that they define
+abbrev pub beside_of : Registry → Nodes → World
+beside_of r nodes = record { registry = r; beside = definitions nodes }
 
 -- what a run of the machine is about where nodes are rendered in a context
 abbrev pub subject_of : World → Option Name → Name → Nodes → Named Val → Bool → Subject
@@ -59,9 +60,9 @@ subject_of w template file nodes context autoescape = record {
 }
 
 -- where these nodes are a text beside the registry
-abbrev pub subject_beside : Tera → Nodes → Named Val → Bool → Subject
-subject_beside t nodes context autoescape =
-    subject_of (beside_of t nodes) None one_off_name nodes context autoescape
+abbrev pub subject_beside : Registry → Nodes → Named Val → Bool → Subject
+subject_beside r nodes context autoescape =
+    subject_of (beside_of r nodes) None one_off_name nodes context autoescape
 
 abbrev pub nodes_in : Option Entry → Nodes
 nodes_in None = NoNodes
@@ -72,19 +73,19 @@ abbrev pub nodes_of_file : Registry → Name → Nodes
 nodes_of_file r file = nodes_in (entry_at file r.templates)
 
 -- the nodes of a template's text with which the rendering of a template begins
-abbrev pub subject_of_file : Tera → Name → Name → Named Val → Bool → Subject
-subject_of_file t template file context autoescape =
-    subject_of (alone (registry_of t)) (Some template) file (nodes_of_file (registry_of t) file) context autoescape
+abbrev pub subject_of_file : Registry → Name → Name → Named Val → Bool → Subject
+subject_of_file r template file context autoescape =
+    subject_of (alone r) (Some template) file (nodes_of_file r file) context autoescape
 
 -- the body of a component, with this around its variables
-abbrev pub subject_of_component : Tera → Option Component → Around → Bool → Subject
-subject_of_component t None around autoescape =
-    record { world = alone (registry_of t); place = place_at None [] around autoescape; tree = NoNodes }
-subject_of_component t (Some c) around autoescape =
-    record { world = alone (registry_of t); place = place_at None c.file around autoescape; tree = c.body }
+abbrev pub subject_of_component : Registry → Option Component → Around → Bool → Subject
+subject_of_component r None around autoescape =
+    record { world = alone r; place = place_at None [] around autoescape; tree = NoNodes }
+subject_of_component r (Some c) around autoescape =
+    record { world = alone r; place = place_at None c.file around autoescape; tree = c.body }
 
 -- where a machine runs a body that has nothing else open, with this around its variables
-abbrev pub place_in : VirtualMachine → Name → Around → Place
+abbrev pub place_in : {O : Type 0} → VirtualMachine O → Name → Around → Place
 place_in m file around = record {
   template = template_of m;
   file = file;
@@ -107,7 +108,7 @@ is_there w name = is_some (component_at w name)
 -- the text of a body that calls and includes nothing that is not there
 abbrev pub one_off_meant : Subject → Result Text Fault
 one_off_meant s =
-    if lacks_a_callee (is_there s.world) s.tree || misses_an_include s.world.registry s.tree then Err message
+    if lacks_a_callee s.world.registry.engine (is_there s.world) s.tree || misses_an_include s.world.registry s.tree then Err message
     else text_meant s
 
 -- and the text that a block has when it ends last in it

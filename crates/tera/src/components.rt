@@ -13,22 +13,23 @@ ghost use Rattle.tera_machine.specs.Subject.{Subject};
 ghost use Rattle.tera.specs.Lent.{lent_text};
 ghost use Rattle.tera.specs.Rendering.{ComponentByName, AppendsOneOf};
 
-use crate::engine::Tera;
+use crate::engine::TeraOver;
 use std::alloc::Global;
 use std::marker::Brand;
 use std::sync::ledger::{Blank, Ledger};
 use tera_components::ComponentInfo;
 use tera_machine::VirtualMachine;
+use tera_objects::Objects;
 use tera_registry::Defined;
 use tera_state::Scopes;
 use tera_values::{Context, Error, TeraResult, Value};
 
-impl Tera {
+impl<O: Objects> TeraOver<O> {
     ghost use Rattle.tera.specs.Registry.{registry_of, subject_of_component, text_meant, info_at};
 
     /// Whether a template defines a component of this name. Takes no memory.
     pub fn contains_component(&self, name: &str) -> bool
-        ensures { result ≡ is_component (registry_of self.now) name.now }
+        ensures { result ≡ is_component (registry_of O.engine self.now) name.now }
     {
         self.templates.contains_component(name)
     }
@@ -36,7 +37,7 @@ impl Tera {
     /// The names of the components, each once, in byte order.
     pub fn get_component_names(&self) -> TeraResult<Vec<String>>
         ensures names { IfOk result
-            (λ v. AreComponentNames (registry_of self.now) (map string_bytes v.items)) }
+            (λ v. AreComponentNames (registry_of O.engine self.now) (map string_bytes v.items)) }
         ensures lacks { IfErr result Lacks }
     {
         self.templates.component_names()
@@ -44,7 +45,7 @@ impl Tera {
 
     /// What is told of the component of this name, if there is one.
     pub fn get_component_definition(&self, name: &str) -> TeraResult<Option<ComponentInfo>>
-        ensures { Gives (λ i. i) result (Ok (info_at (registry_of self.now) name.now)) }
+        ensures { Gives (λ i. i) result (Ok (info_at (registry_of O.engine self.now) name.now)) }
     {
         match self.templates.component(name) {
             Some(found) => {
@@ -66,7 +67,8 @@ impl Tera {
         body: Option<&str>,
         autoescape: bool,
     ) -> TeraResult<String>
-        ensures { GivesOneOf string_bytes result (ComponentByName (registry_of self.now) name.now
+        ensures { GivesOneOf string_bytes result
+            (ComponentByName (registry_of O.engine self.now) name.now
             args.now implicits.now (lent_text body.entry) autoescape) }
     {
         match self.templates.component(name) {
@@ -86,8 +88,8 @@ impl Tera {
         out: &mut Vec<u8>,
     ) -> TeraResult<()>
         ensures { AppendsOneOf result out.old.items out.new.items
-            (ComponentByName (registry_of self.now) name.now args.now implicits.now
-            (lent_text body.entry) autoescape) }
+            (ComponentByName (registry_of O.engine self.now) name.now
+            args.now implicits.now (lent_text body.entry) autoescape) }
     {
         let text = self.render_component(name, args, implicits, body, autoescape)?;
         out.extend_from_slice(text.as_bytes())?;
@@ -104,9 +106,9 @@ impl Tera {
         body: Option<&str>,
         autoescape: bool,
     ) -> TeraResult<String>
-        requires { IsDefined (component (registry_of self.now) found.definition.now.name)
+        requires { IsDefined (component (registry_of O.engine self.now) found.definition.now.name)
             (Some found) }
-        ensures { Gives string_bytes result (render_component (registry_of self.now)
+        ensures { Gives string_bytes result (render_component (registry_of O.engine self.now)
             found.entry.definition.now.name args.now implicits.now (lent_text body.entry)
             autoescape) }
     {
@@ -131,14 +133,19 @@ impl Tera {
     ) -> TeraResult<String>
         ghost about: { Subject }
         requires ledger { (blank.name ≡ L.name) × (blank.parts ≡ L.parts) × (L.parts ≡ 1) }
-        requires subject { about ≡ subject_of_component self.now
-            (component (registry_of self.now) found.definition.now.name)
+        requires subject { about ≡ subject_of_component (registry_of O.engine self.now)
+            (component (registry_of O.engine self.now) found.definition.now.name)
             (around_of scopes) autoescape }
         requires code { found.chunk.now ≡ listing_of about.place.file about.tree }
         requires fresh { variables_of scopes ≡ nothing_set }
         ensures { Gives string_bytes result (text_meant about) }
     {
-        let machine = VirtualMachine::new_with_autoescape(self.alloc, autoescape, &self.templates);
+        let machine = VirtualMachine::new_with_autoescape(
+            self.alloc,
+            autoescape,
+            &self.templates,
+            &self.objects,
+        );
         self.run_within::<L>(&machine, found.chunk, scopes, blank)
     }
 }

@@ -12,136 +12,62 @@ ghost use Rattle.tera.specs.Lent.{texts_of};
 
 use crate::texts::{copied, standard_suffixes};
 use std::alloc::Global;
+use tera_objects::{CallerObjects, Objects};
 use tera_registry::Templates;
 use tera_tree::Delimiters;
 use tera_values::{Context, Error, TeraResult};
 
-/// An engine: what templates are read by, and what every rendering reads. Definitions see it as a registry.
-pub struct Tera {
+/// An engine, over any objects of its caller: what templates are read by, and what every rendering reads. Definitions see it as a
+/// registry.
+pub struct TeraOver<O> {
     pub(crate) alloc: Global,
     pub(crate) templates: Templates,
     pub(crate) suffixes: Vec<String>,
     pub(crate) delimiters: Delimiters,
     pub(crate) global_context: Context,
+    pub(crate) objects: O,
     ghost accepted: { IsTrue (accepted (delimiters_of delimiters)) },
 }
 
+/// An engine with the filters, tests, functions and the escape that a caller boxes.
+pub type Tera = TeraOver<CallerObjects>;
+
 // By hand, so that an engine that goes out of scope is one call.
-impl Drop for Tera {
+impl<O: Drop> Drop for TeraOver<O> {
     fn drop(self) {
-        let Tera {
+        let TeraOver {
             alloc: _,
             templates,
             suffixes,
             delimiters,
             global_context,
+            objects,
         } = self;
         drop(templates);
         drop(suffixes);
         drop(delimiters);
         drop(global_context);
+        drop(objects);
     }
 }
 
-impl Tera {
+impl TeraOver<CallerObjects> {
     ghost use Rattle.tera.specs.Registry.{registry_of};
-    ghost use Rattle.tera.specs.Lending.{LendsGlobal};
 
-    /// An engine without templates and prefixes, with Tera's own delimiters and an empty global context. Templates whose names end with
-    /// `.html`, `.htm` or `.xml` escape.
+    /// An engine without templates and prefixes, with Tera's own delimiters and an empty global context, and without objects of
+    /// the caller: it escapes by `escape_html`. Templates whose names end with `.html`, `.htm` or `.xml` escape.
     pub fn new(alloc: Global) -> TeraResult<Tera>
-        ensures { Gives registry_of result (Ok new_registry) }
+        ensures { Gives (registry_of ⟦<CallerObjects as Objects>⟧.engine) result
+            (Ok new_registry) }
     {
-        Ok(Tera {
+        Ok(TeraOver {
             alloc,
             templates: Templates::new(alloc, Vec::new(alloc)),
             suffixes: standard_suffixes(alloc)?,
             delimiters: Delimiters::standard(alloc)?,
             global_context: Context::new(alloc),
+            objects: CallerObjects::new(alloc),
         })
-    }
-
-    /// What every rendering of this engine reads where neither the template nor the caller's context binds a name. What is written to
-    /// it is the engine's global context from then on. Takes no memory.
-    pub fn global_context(&mut self) -> &mut Context
-        ensures* writes_back { sem 𝓛 (LendsGlobal self.entry result) }
-        ensures value { result.now ≡ (registry_of self.old).global }
-    {
-        &mut self.global_context
-    }
-
-    /// Tags are told from text by these delimiters from now on. Refused with a message once a template is there, and
-    /// where one is empty or two start delimiters are equal; then those of before stay.
-    pub fn set_delimiters(&mut self, delimiters: Delimiters) -> TeraResult<()>
-        ensures { Configures result
-            (with_delimiters (delimiters_of delimiters) (registry_of self.old))
-            (registry_of self.old) (registry_of self.new) }
-    {
-        self.refuse_once_filled()?;
-        delimiters.validate(self.alloc)?;
-        self.delimiters = delimiters;
-        Ok(())
-    }
-
-    /// A name that no template has is looked up behind each of these prefixes, in their order, from now on. Refused with a
-    /// message once a template is there; then those of before stay.
-    pub fn set_fallback_prefixes(&mut self, prefixes: &[&str]) -> TeraResult<()>
-        ensures { Configures result
-            (with_prefixes (texts_of prefixes.now) (registry_of self.old))
-            (registry_of self.old) (registry_of self.new) }
-    {
-        self.refuse_once_filled()?;
-        self.templates = Templates::new(self.alloc, copied(self.alloc, prefixes)?);
-        Ok(())
-    }
-
-    // What templates were read and linked by cannot change.
-    fn refuse_once_filled(&self) -> TeraResult<()>
-        ensures ok { OnOk result ((registry_of self.now).templates ≡ []) }
-        ensures err { IfErr result
-            (λ e. Tells e message × (is_empty (registry_of self.now).templates ≡ false)) }
-    {
-        if self.templates.is_empty() {
-            return Ok(());
-        }
-        Err(Error::message(
-            self.alloc,
-            "this cannot be changed once a template is there",
-        ))
-    }
-
-    /// Templates whose names end with one of these suffixes escape from now on, also those that are there.
-    pub fn autoescape_on(&mut self, suffixes: &[&str]) -> TeraResult<()>
-        ensures { Configures result
-            (Ok (with_suffixes (texts_of suffixes.now) (registry_of self.old)))
-            (registry_of self.old) (registry_of self.new) }
-    {
-        self.suffixes = copied(self.alloc, suffixes)?;
-        Ok(())
-    }
-
-    /// Renders a text that is no template of the engine. Faults name the file `__tera_one_off`.
-    pub fn render_str(&self, input: &str, context: &Context, autoescape: bool) -> TeraResult<String>
-        ensures { GivesOneOf string_bytes result
-            (OneOff (registry_of self.now) input.now context.now autoescape) }
-    {
-        self.read_and_render(input, context, autoescape)
-    }
-
-    /// Appends what `render_str` answers. After a refusal the vector is as before.
-    pub fn render_str_to(
-        &self,
-        input: &str,
-        context: &Context,
-        autoescape: bool,
-        out: &mut Vec<u8>,
-    ) -> TeraResult<()>
-        ensures { AppendsOneOf result out.old.items out.new.items
-            (OneOff (registry_of self.now) input.now context.now autoescape) }
-    {
-        let text = self.render_str(input, context, autoescape)?;
-        out.extend_from_slice(text.as_bytes())?;
-        Ok(())
     }
 
     /// Renders a text by an engine to which nothing else was said.
@@ -156,5 +82,94 @@ impl Tera {
     {
         let engine = Tera::new(alloc)?;
         engine.render_str(input, context, autoescape)
+    }
+}
+
+impl<O: Objects> TeraOver<O> {
+    ghost use Rattle.tera.specs.Registry.{registry_of};
+    ghost use Rattle.tera.specs.Lending.{LendsGlobal};
+
+    /// What every rendering of this engine reads where neither the template nor the caller's context binds a name. What is written to
+    /// it is the engine's global context from then on. Takes no memory.
+    pub fn global_context(&mut self) -> &mut Context
+        ensures* writes_back { sem 𝓛 (LendsGlobal O.row self.entry result) }
+        ensures value { result.now ≡ (registry_of O.engine self.old).global }
+    {
+        &mut self.global_context
+    }
+
+    /// Tags are told from text by these delimiters from now on. Refused with a message once a template is there, and
+    /// where one is empty or two start delimiters are equal; then those of before stay.
+    pub fn set_delimiters(&mut self, delimiters: Delimiters) -> TeraResult<()>
+        ensures { Configures result
+            (with_delimiters (delimiters_of delimiters) (registry_of O.engine self.old))
+            (registry_of O.engine self.old) (registry_of O.engine self.new) }
+    {
+        self.refuse_once_filled()?;
+        delimiters.validate(self.alloc)?;
+        self.delimiters = delimiters;
+        Ok(())
+    }
+
+    /// A name that no template has is looked up behind each of these prefixes, in their order, from now on. Refused with a
+    /// message once a template is there; then those of before stay.
+    pub fn set_fallback_prefixes(&mut self, prefixes: &[&str]) -> TeraResult<()>
+        ensures { Configures result
+            (with_prefixes (texts_of prefixes.now) (registry_of O.engine self.old))
+            (registry_of O.engine self.old) (registry_of O.engine self.new) }
+    {
+        self.refuse_once_filled()?;
+        self.templates = Templates::new(self.alloc, copied(self.alloc, prefixes)?);
+        Ok(())
+    }
+
+    // What templates were read and linked by cannot change.
+    fn refuse_once_filled(&self) -> TeraResult<()>
+        ensures ok { OnOk result ((registry_of O.engine self.now).templates ≡ []) }
+        ensures err { IfErr result
+            (λ e. Tells e message
+            × (is_empty (registry_of O.engine self.now).templates ≡ false)) }
+    {
+        if self.templates.is_empty() {
+            return Ok(());
+        }
+        Err(Error::message(
+            self.alloc,
+            "this cannot be changed once a template is there",
+        ))
+    }
+
+    /// Templates whose names end with one of these suffixes escape from now on, also those that are there.
+    pub fn autoescape_on(&mut self, suffixes: &[&str]) -> TeraResult<()>
+        ensures { Configures result
+            (Ok (with_suffixes (texts_of suffixes.now) (registry_of O.engine self.old)))
+            (registry_of O.engine self.old) (registry_of O.engine self.new) }
+    {
+        self.suffixes = copied(self.alloc, suffixes)?;
+        Ok(())
+    }
+
+    /// Renders a text that is no template of the engine. Faults name the file `__tera_one_off`.
+    pub fn render_str(&self, input: &str, context: &Context, autoescape: bool) -> TeraResult<String>
+        ensures { GivesOneOf string_bytes result
+            (OneOff (registry_of O.engine self.now) input.now context.now autoescape) }
+    {
+        self.read_and_render(input, context, autoescape)
+    }
+
+    /// Appends what `render_str` answers. After a refusal the vector is as before.
+    pub fn render_str_to(
+        &self,
+        input: &str,
+        context: &Context,
+        autoescape: bool,
+        out: &mut Vec<u8>,
+    ) -> TeraResult<()>
+        ensures { AppendsOneOf result out.old.items out.new.items
+            (OneOff (registry_of O.engine self.now) input.now context.now autoescape) }
+    {
+        let text = self.render_str(input, context, autoescape)?;
+        out.extend_from_slice(text.as_bytes())?;
+        Ok(())
     }
 }

@@ -3,15 +3,20 @@
 
 pub mod components;
 pub mod engine;
+pub mod registering;
 mod rendering;
 pub mod templates;
 mod texts;
 
-pub use engine::Tera;
+pub use engine::{Tera, TeraOver};
+pub use tera_built_ins::EscapeFn;
 pub use tera_code::{Chunk, Compiler, Instruction, Steps};
 pub use tera_components::{ComponentArg, ComponentDefinition, ComponentInfo};
 pub use tera_machine::VirtualMachine;
-pub use tera_state::{ForLoop, ForLoopIterator, State, StringInput};
+pub use tera_objects::{CallerObjects, Objects};
+pub use tera_state::{
+    Filter, ForLoop, ForLoopIterator, Function, State, StateOver, StringInput, Test,
+};
 pub use tera_syntax::parse;
 pub use tera_tree::{
     BinaryOperator, Bounds, Delimiters, Entry, Expression, Heading, Item, LiteralKey, Node,

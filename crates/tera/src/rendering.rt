@@ -8,14 +8,15 @@ ghost use Rattle.tera_state.specs.Scopes.{around_of, variables_of};
 ghost use Rattle.tera_code.specs.Code.{nodes_code};
 ghost use Rattle.tera_registry.specs.Templates.{with_templates};
 ghost use Rattle.tera.specs.Rendering.{OneOff, allowed};
-ghost use Rattle.tera_machine.specs.Subject.{Subject, IsLinked, template_of};
+ghost use Rattle.tera_machine.specs.Subject.{Subject, IsLinked, engine_of, template_of};
 
-use crate::engine::Tera;
+use crate::engine::TeraOver;
 use std::alloc::Global;
 use std::marker::Brand;
 use std::sync::ledger::{Blank, Ledger};
 use tera_code::{Chunk, Steps, compiled};
 use tera_machine::{Configuration, VirtualMachine};
+use tera_objects::Objects;
 use tera_registry::Found;
 use tera_registry::components::components;
 use tera_registry::tops::top_blocks;
@@ -27,7 +28,7 @@ use tera_values::{Context, Error, Name, TeraResult};
 /// The name that faults give to a text that is no template of the engine.
 const ONE_OFF: &str = "__tera_one_off";
 
-impl Tera {
+impl<O: Objects> TeraOver<O> {
     ghost use Rattle.tera.specs.Registry.{registry_of, nodes_of_file, place_in, subject_of, subject_beside, subject_of_file, text_meant, one_off_meant, block_meant};
 
     pub(crate) fn read_and_render(
@@ -37,7 +38,7 @@ impl Tera {
         autoescape: bool,
     ) -> TeraResult<String>
         ensures { GivesOneOf string_bytes result
-            (OneOff (registry_of self.now) input.now context.now autoescape) }
+            (OneOff (registry_of O.engine self.now) input.now context.now autoescape) }
     {
         match parse(self.alloc, ONE_OFF, input, &self.delimiters) {
             Ok(output) => match allow(self.alloc, &output) {
@@ -65,20 +66,29 @@ impl Tera {
         ghost about: { Subject }
         requires ledger { (blank.name ≡ L.name) × (blank.parts ≡ L.parts) × (L.parts ≡ 1) }
         requires subject { about
-            ≡ subject_beside self.now (nodes_of nodes.now) context.now autoescape }
+            ≡ subject_beside (registry_of O.engine self.now) (nodes_of nodes.now)
+            context.now autoescape }
         requires plain { blocks (nodes_of nodes.now) ≡ [] }
         ensures { Gives string_bytes result (one_off_meant about) }
     {
         let alloc = self.alloc;
         let chunk = compiled(alloc, ONE_OFF, nodes)?;
         let own = components(alloc, ONE_OFF, nodes)?;
-        if self.templates.lacks_a_callee(&chunk, own.as_slice()) {
+        if self
+            .templates
+            .lacks_a_callee(&self.objects, &chunk, own.as_slice())
+        {
             return Err(Error::message(alloc, "what is called is not there"));
         }
         if self.templates.misses_an_include(nodes) {
             return Err(Error::message(alloc, "what is included is not there"));
         }
-        let alone = VirtualMachine::new_with_autoescape(alloc, autoescape, &self.templates);
+        let alone = VirtualMachine::new_with_autoescape(
+            alloc,
+            autoescape,
+            &self.templates,
+            &self.objects,
+        );
         let machine = alone.with_components(own.as_slice());
         self.run_body::<L>(&machine, &chunk, context, blank)
     }
@@ -90,15 +100,15 @@ impl Tera {
         context: &Context,
         autoescape: bool,
     ) -> TeraResult<String>
-        requires linked { with_templates (registry_of self.now) found.templates.now
-            ≡ registry_of self.now }
+        requires linked { with_templates (registry_of O.engine self.now) found.templates.now
+            ≡ registry_of O.engine self.now }
         requires code { found.chunk.now.code
-            ≡ nodes_code (nodes_of_file (registry_of self.now) found.chunk.now.file) 0 }
+            ≡ nodes_code (nodes_of_file (registry_of O.engine self.now) found.chunk.now.file) 0 }
         ensures { Gives string_bytes result
-            (text_meant (subject_of_file self.now found.entry.name.now
-            found.entry.chunk.now.file context.now autoescape)) }
+            (text_meant (subject_of_file (registry_of O.engine self.now)
+            found.entry.name.now found.entry.chunk.now.file context.now autoescape)) }
     {
-        let machine = VirtualMachine::for_template(self.alloc, autoescape, found);
+        let machine = VirtualMachine::for_template(self.alloc, autoescape, found, &self.objects);
         self.run_body::<Brand>(&machine, found.chunk, context, Blank::new(1))
     }
 
@@ -110,22 +120,22 @@ impl Tera {
         context: &Context,
         autoescape: bool,
     ) -> TeraResult<String>
-        requires linked { with_templates (registry_of self.now) found.templates.now
-            ≡ registry_of self.now }
+        requires linked { with_templates (registry_of O.engine self.now) found.templates.now
+            ≡ registry_of O.engine self.now }
         requires code { found.chunk.now.code
-            ≡ nodes_code (nodes_of_file (registry_of self.now) found.chunk.now.file) 0 }
+            ≡ nodes_code (nodes_of_file (registry_of O.engine self.now) found.chunk.now.file) 0 }
         ensures { Gives string_bytes result
-            (block_meant block.now (subject_of_file self.now found.entry.name.now
-            found.entry.chunk.now.file context.now autoescape)) }
+            (block_meant block.now (subject_of_file (registry_of O.engine self.now)
+            found.entry.name.now found.entry.chunk.now.file context.now autoescape)) }
     {
-        let machine = VirtualMachine::for_template(self.alloc, autoescape, found);
+        let machine = VirtualMachine::for_template(self.alloc, autoescape, found, &self.objects);
         self.run_for_block::<Brand>(&machine, found.chunk, block, context, Blank::new(1))
     }
 
     // The text that a block had when it ended last, while a body was run. The subject is the body's.
     fn run_for_block<L: Ledger>(
         &self,
-        machine: &VirtualMachine<'_>,
+        machine: &VirtualMachine<'_, O>,
         chunk: &Chunk,
         block: &Name,
         context: &Context,
@@ -133,7 +143,8 @@ impl Tera {
     ) -> TeraResult<String>
         ghost about: { Subject }
         requires ledger { (blank.name ≡ L.name) × (blank.parts ≡ L.parts) × (L.parts ≡ 1) }
-        requires registry { about.world.registry ≡ registry_of self.now }
+        requires registry { about.world.registry ≡ registry_of O.engine self.now }
+        requires engine { engine_of O.engine machine.now ≡ about.world.registry.engine }
         requires linked { IsLinked machine.now about.world }
         requires outside { machine.now.depth ≡ 0 }
         requires subject { about ≡ subject_of about.world (template_of machine.now)
@@ -150,14 +161,15 @@ impl Tera {
     // The text of a body that reads this context. The subject is the body's: it tells the machine what it means.
     fn run_body<L: Ledger>(
         &self,
-        machine: &VirtualMachine<'_>,
+        machine: &VirtualMachine<'_, O>,
         chunk: &Chunk,
         context: &Context,
         blank: Blank,
     ) -> TeraResult<String>
         ghost about: { Subject }
         requires ledger { (blank.name ≡ L.name) × (blank.parts ≡ L.parts) × (L.parts ≡ 1) }
-        requires registry { about.world.registry ≡ registry_of self.now }
+        requires registry { about.world.registry ≡ registry_of O.engine self.now }
+        requires engine { engine_of O.engine machine.now ≡ about.world.registry.engine }
         requires linked { IsLinked machine.now about.world }
         requires outside { machine.now.depth ≡ 0 }
         requires subject { about ≡ subject_of about.world (template_of machine.now)
@@ -172,14 +184,15 @@ impl Tera {
     // The same where it reads these scopes.
     pub(crate) fn run_within<L: Ledger>(
         &self,
-        machine: &VirtualMachine<'_>,
+        machine: &VirtualMachine<'_, O>,
         chunk: &Chunk,
         scopes: Scopes<'_>,
         blank: Blank,
     ) -> TeraResult<String>
         ghost about: { Subject }
         requires ledger { (blank.name ≡ L.name) × (blank.parts ≡ L.parts) × (L.parts ≡ 1) }
-        requires registry { about.world.registry ≡ registry_of self.now }
+        requires registry { about.world.registry ≡ registry_of O.engine self.now }
+        requires engine { engine_of O.engine machine.now ≡ about.world.registry.engine }
         requires linked { IsLinked machine.now about.world }
         requires place { place_in machine.now chunk.now.file (around_of scopes) ≡ about.place }
         requires fresh { variables_of scopes ≡ nothing_set }

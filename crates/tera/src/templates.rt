@@ -7,20 +7,21 @@ ghost use Rattle.tera_meaning.specs.Variables.{AnswersVariables};
 ghost use Rattle.tera_registry.specs.Batch.{Adds, ConfiguresOneOf, pairs_of};
 ghost use Rattle.tera.specs.Rendering.{ByName, BlockByName, AppendsOneOf};
 
-use crate::engine::Tera;
+use crate::engine::TeraOver;
 use crate::texts::ends_with_one_of;
 use std::collections::BTreeSet;
+use tera_objects::Objects;
 use tera_registry::Found;
 use tera_values::{Context, Error, Name, TeraResult};
 
-impl Tera {
+impl<O: Objects> TeraOver<O> {
     ghost use Rattle.tera.specs.Registry.{registry_of};
 
     /// Adds a template, as `add_raw_templates` does.
     pub fn add_raw_template(&mut self, name: &str, content: &str) -> TeraResult<()>
         ensures { ConfiguresOneOf result
-            (Adds (registry_of self.old) ((name.now, content.now) ∷ []))
-            (registry_of self.old) (registry_of self.new) }
+            (Adds (registry_of O.engine self.old) ((name.now, content.now) ∷ []))
+            (registry_of O.engine self.old) (registry_of O.engine self.new) }
     {
         self.add_raw_templates(&[(name, content)])
     }
@@ -30,15 +31,17 @@ impl Tera {
     /// is not there, some extend or include one another in a circle, a template calls or includes what is not there, or a
     /// child has a block, inside no other one, that no parent has (`Message`). Then all is as before.
     pub fn add_raw_templates(&mut self, templates: &[(&str, &str)]) -> TeraResult<()>
-        ensures { ConfiguresOneOf result (Adds (registry_of self.old) (pairs_of templates.now))
-            (registry_of self.old) (registry_of self.new) }
+        ensures { ConfiguresOneOf result
+            (Adds (registry_of O.engine self.old) (pairs_of templates.now))
+            (registry_of O.engine self.old) (registry_of O.engine self.new) }
     {
-        self.templates.add(&self.delimiters, templates)
+        self.templates
+            .add(&self.delimiters, templates, &self.objects)
     }
 
     /// Whether the name resolves to a template. Takes no memory.
     pub fn contains_template(&self, name: &str) -> bool
-        ensures { result ≡ is_some (resolve (registry_of self.now) name.now) }
+        ensures { result ≡ is_some (resolve (registry_of O.engine self.now) name.now) }
     {
         self.templates.contains(name)
     }
@@ -46,7 +49,7 @@ impl Tera {
     /// The names of the templates, each once, in byte order.
     pub fn get_template_names(&self) -> TeraResult<Vec<String>>
         ensures { Gives (λ v. map string_bytes v.items) result
-            (Ok (map (λ t. t.0) (registry_of self.now).templates)) }
+            (Ok (map (λ t. t.0) (registry_of O.engine self.now).templates)) }
     {
         self.templates.names()
     }
@@ -55,8 +58,9 @@ impl Tera {
     /// parents, and all that these include look up, where nothing binds them that stands before in the same text, or around. A
     /// name that begins with `__tera_` is none, nor is one that components alone look up.
     pub fn get_template_variables(&self, name: &str) -> TeraResult<BTreeSet<String>>
-        ensures { GivesOneOf (λ s. map string_bytes s.keys) result
-            (AnswersVariables (registry_of self.now) (resolve (registry_of self.now) name.now)) }
+        ensures { let r = registry_of O.engine self.now in
+            GivesOneOf (λ s. map string_bytes s.keys) result
+            (AnswersVariables r (resolve r name.now)) }
     {
         self.templates.variables(name)
     }
@@ -65,7 +69,7 @@ impl Tera {
     /// blocks as the template and its parents define them.
     pub fn render(&self, name: &str, context: &Context) -> TeraResult<String>
         ensures { GivesOneOf string_bytes result
-            (ByName (registry_of self.now) name.now context.now) }
+            (ByName (registry_of O.engine self.now) name.now context.now) }
     {
         match self.templates.find(name) {
             Some(found) => { self.render_found(found, context, self.escapes(found)) }
@@ -75,7 +79,7 @@ impl Tera {
 
     // Whether texts are escaped where the template that was found is rendered.
     fn escapes(&self, found: Found<'_>) -> bool
-        ensures { result ≡ autoescapes (registry_of self.now) found.entry.name.now }
+        ensures { result ≡ autoescapes (registry_of O.engine self.now) found.entry.name.now }
     {
         ends_with_one_of(found.name, self.suffixes.as_slice())
     }
@@ -83,7 +87,7 @@ impl Tera {
     /// Appends what `render` answers. After a refusal the vector is as before.
     pub fn render_to(&self, name: &str, context: &Context, out: &mut Vec<u8>) -> TeraResult<()>
         ensures { AppendsOneOf result out.old.items out.new.items
-            (ByName (registry_of self.now) name.now context.now) }
+            (ByName (registry_of O.engine self.now) name.now context.now) }
     {
         let text = self.render(name, context)?;
         out.extend_from_slice(text.as_bytes())?;
@@ -95,7 +99,7 @@ impl Tera {
     /// refused with `Message`.
     pub fn render_block(&self, name: &str, block: &str, context: &Context) -> TeraResult<String>
         ensures { GivesOneOf string_bytes result
-            (BlockByName (registry_of self.now) name.now block.now context.now) }
+            (BlockByName (registry_of O.engine self.now) name.now block.now context.now) }
     {
         match self.templates.find(name) {
             Some(found) => match found.definers(block).next() {
@@ -118,7 +122,7 @@ impl Tera {
         out: &mut Vec<u8>,
     ) -> TeraResult<()>
         ensures { AppendsOneOf result out.old.items out.new.items
-            (BlockByName (registry_of self.now) name.now block.now context.now) }
+            (BlockByName (registry_of O.engine self.now) name.now block.now context.now) }
     {
         let text = self.render_block(name, block, context)?;
         out.extend_from_slice(text.as_bytes())?;

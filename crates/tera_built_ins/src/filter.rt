@@ -5,7 +5,7 @@ ghost use Rattle.tera_values.specs.Alphabet.{plain};
 ghost use Rattle.tera_built_ins.specs.Escaping.{escaping_of};
 ghost use Rattle.tera_built_ins.specs.Filters.{filter_named, filter_of, filtered_in};
 
-use crate::escaping::Escaping;
+use crate::escaping::{EscapeFn, Escaping};
 use crate::markup::Markup;
 use crate::{
     defaults, groups, indent, items, join, maps, markup, numbers, parse, replace, safety, sizes,
@@ -92,15 +92,15 @@ impl BuiltInFilter {
     }
 
     /// What it makes of the value.
-    pub fn call(
+    pub fn call<E: EscapeFn>(
         self,
         alloc: Global,
         value: &Value,
         arguments: &Kwargs,
-        escaping: Escaping,
+        escaping: Escaping<'_, E>,
     ) -> TeraResult<Value>
         ensures { Gives (λ v. v) result
-            (filter_of plain (escaping_of escaping) self value.now arguments.now) }
+            (filter_of plain (escaping_of E.escaped escaping.entry) self value.now arguments.now) }
     {
         match self {
             BuiltInFilter::Safe => safety::safe(alloc, value),
@@ -138,15 +138,15 @@ impl BuiltInFilter {
     }
 
     /// What the filter of this name makes of the value, with its own faults; a `Message` where there is none.
-    pub fn call_named(
+    pub fn call_named<E: EscapeFn>(
         alloc: Global,
         name: &str,
         value: &Value,
         arguments: &Kwargs,
-        escaping: Escaping,
+        escaping: Escaping<'_, E>,
     ) -> TeraResult<Value>
-        ensures { Gives (λ v. v) result
-            (filtered_in plain (escaping_of escaping) name.now value.now arguments.now) }
+        ensures { Gives (λ v. v) result (filtered_in plain (escaping_of E.escaped escaping.entry)
+            name.now value.now arguments.now) }
     {
         match BuiltInFilter::named(name) {
             Some(filter) => filter.call(alloc, value, arguments, escaping),

@@ -9,7 +9,7 @@ ghost use Rattle.tera_built_ins.specs.Reading.{given_of};
 ghost use Rattle.tera_built_ins.specs.Indent as spec;
 
 use crate::arguments::{Given, as_text, flag, optional_text, size_or};
-use crate::escaping::Escaping;
+use crate::escaping::{EscapeFn, Escaping};
 use crate::parts::{given_safe, made, part};
 use std::alloc::Global;
 use tera_values::{Error, Kwargs, TeraResult, Value};
@@ -81,15 +81,15 @@ fn is_character(indentation: Option<Given<'_>>) -> bool
 }
 
 /// What goes before a line.
-fn padding(
+fn padding<E: EscapeFn>(
     alloc: Global,
-    escaping: Escaping,
+    escaping: Escaping<'_, E>,
     is_safe: bool,
     indentation: Option<Given<'_>>,
     width: usize,
 ) -> TeraResult<String>
     ensures { Gives string_bytes result
-        (Ok (repeat width (spec.unit plain (escaping_of escaping) is_safe
+        (Ok (repeat width (spec.unit plain (escaping_of E.escaped escaping.entry) is_safe
         (option_map given_of indentation.entry)))) }
 {
     match indentation {
@@ -103,14 +103,14 @@ fn padding(
 
 /// The text with a character, so and so often, before its lines: before the first one where `first` asks for it, before a
 /// later one that is empty where `blank` does. Lines end with a line feed, whatever they ended with before.
-pub fn indent(
+pub fn indent<E: EscapeFn>(
     alloc: Global,
     value: &Value,
     arguments: &Kwargs,
-    escaping: Escaping,
+    escaping: Escaping<'_, E>,
 ) -> TeraResult<Value>
     ensures { Gives (λ v. v) result
-        (spec.indent_of plain (escaping_of escaping) value.now arguments.now) }
+        (spec.indent_of plain (escaping_of E.escaped escaping.entry) value.now arguments.now) }
 {
     let given = as_text(value)?;
     let width = size_or(arguments, "width", 4)?;

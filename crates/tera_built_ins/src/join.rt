@@ -9,7 +9,7 @@ ghost use Rattle.tera_built_ins.specs.Reading.{given_of};
 ghost use Rattle.tera_built_ins.specs.Join.{is_safe_text, item_part, separator_part, join_of};
 
 use crate::arguments::{Given, as_array, optional_text};
-use crate::escaping::Escaping;
+use crate::escaping::{EscapeFn, Escaping};
 use crate::parts::{given_safe, made, part};
 use std::alloc::Global;
 use std::borrow::CowStr;
@@ -17,14 +17,14 @@ use tera_values::{Kwargs, Shape, TeraResult, Value};
 
 /// The items of an array as they are printed, with `sep` between them. Where autoescape is on and one of these texts
 /// is safe, the others are escaped, and the answer is safe.
-pub fn join(
+pub fn join<E: EscapeFn>(
     alloc: Global,
     value: &Value,
     arguments: &Kwargs,
-    escaping: Escaping,
+    escaping: Escaping<'_, E>,
 ) -> TeraResult<Value>
     ensures { Gives (λ v. v) result
-        (join_of plain (escaping_of escaping) value.now arguments.now) }
+        (join_of plain (escaping_of E.escaped escaping.entry) value.now arguments.now) }
 {
     let items = as_array(value)?;
     let separator = optional_text(arguments, "sep")?;
@@ -54,14 +54,14 @@ fn is_safe_text(item: &Value) -> bool
     }
 }
 
-fn separator_part<'a>(
+fn separator_part<'a, E: EscapeFn>(
     alloc: Global,
-    escaping: Escaping,
+    escaping: Escaping<'_, E>,
     is_safe: bool,
     separator: Option<Given<'a>>,
 ) -> TeraResult<CowStr<'a>>
-    ensures { Gives cow_str_bytes result (Ok (separator_part plain (escaping_of escaping)
-        is_safe (option_map given_of separator.entry))) }
+    ensures { Gives cow_str_bytes result (Ok (separator_part plain
+        (escaping_of E.escaped escaping.entry) is_safe (option_map given_of separator.entry))) }
 {
     match separator {
         Some(given) => part(alloc, escaping, is_safe, given),
@@ -69,15 +69,15 @@ fn separator_part<'a>(
     }
 }
 
-fn row(
+fn row<E: EscapeFn>(
     alloc: Global,
-    escaping: Escaping,
+    escaping: Escaping<'_, E>,
     is_safe: bool,
     items: &[Value],
     between: &str,
 ) -> TeraResult<String>
     ensures { Gives string_bytes result (Ok (join_by
-        (item_part plain (escaping_of escaping) is_safe) between.now items.now)) }
+        (item_part plain (escaping_of E.escaped escaping.entry) is_safe) between.now items.now)) }
 {
     let mut out = String::new(alloc);
     if let [first, rest @ ..] = items {
@@ -90,9 +90,14 @@ fn row(
     Ok(out)
 }
 
-fn append_item(escaping: Escaping, is_safe: bool, item: &Value, out: &mut String) -> TeraResult<()>
+fn append_item<E: EscapeFn>(
+    escaping: Escaping<'_, E>,
+    is_safe: bool,
+    item: &Value,
+    out: &mut String,
+) -> TeraResult<()>
     ensures ok { OnOk result (string_bytes out.new ≡ string_bytes out.old
-        ++ item_part plain (escaping_of escaping) is_safe item.now) }
+        ++ item_part plain (escaping_of E.escaped escaping.entry) is_safe item.now) }
     ensures lacks { IfErr result Lacks }
 {
     if is_safe && !item.is_undefined() && !item.is_safe() {

@@ -27,7 +27,7 @@ pub mod trims;
 pub mod truncate;
 pub mod words;
 
-pub use escaping::Escaping;
+pub use escaping::{EscapeFn, Escaping};
 pub use filter::BuiltInFilter;
 pub use function::BuiltInFunction;
 pub use test::BuiltInTest;

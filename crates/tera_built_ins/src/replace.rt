@@ -6,7 +6,7 @@ ghost use Rattle.tera_built_ins.specs.Escaping.{escaping_of};
 ghost use Rattle.tera_built_ins.specs.Replace.{replaced, replace_of};
 
 use crate::arguments::{as_text, needed_text};
-use crate::escaping::Escaping;
+use crate::escaping::{EscapeFn, Escaping};
 use crate::parts::{made, part};
 use std::alloc::Global;
 use tera_values::{Kwargs, TeraResult, Value};
@@ -20,14 +20,14 @@ pub(crate) fn put(alloc: Global, text: &str, from: &str, to: &str) -> TeraResult
 
 /// The text with another one at all places of a pattern, from the left. The empty pattern stands before each character and
 /// at the end. In a safe answer all but the pattern is escaped, unless it is safe itself.
-pub fn replace(
+pub fn replace<E: EscapeFn>(
     alloc: Global,
     value: &Value,
     arguments: &Kwargs,
-    escaping: Escaping,
+    escaping: Escaping<'_, E>,
 ) -> TeraResult<Value>
     ensures { Gives (λ v. v) result
-        (replace_of plain (escaping_of escaping) value.now arguments.now) }
+        (replace_of plain (escaping_of E.escaped escaping.entry) value.now arguments.now) }
 {
     let given = as_text(value)?;
     let from = needed_text(arguments, "from")?;

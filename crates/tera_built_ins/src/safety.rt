@@ -5,7 +5,7 @@ ghost use Rattle.tera_built_ins.specs.Escaping.{escaping_of};
 ghost use Rattle.tera_built_ins.specs.Safety.{safe_of, escape_of, str_of};
 
 use crate::arguments::as_text;
-use crate::escaping::Escaping;
+use crate::escaping::{EscapeFn, Escaping};
 use std::alloc::Global;
 use tera_values::{Error, Shape, TeraResult, Value};
 
@@ -21,8 +21,13 @@ pub fn safe(alloc: Global, value: &Value) -> TeraResult<Value>
 }
 
 /// The escape of a text, marked safe. A text that is safe already is not copied.
-pub fn escape(alloc: Global, value: &Value, escaping: Escaping) -> TeraResult<Value>
-    ensures { Gives (λ v. v) result (escape_of plain (escaping_of escaping) value.now) }
+pub fn escape<E: EscapeFn>(
+    alloc: Global,
+    value: &Value,
+    escaping: Escaping<'_, E>,
+) -> TeraResult<Value>
+    ensures { Gives (λ v. v) result
+        (escape_of plain (escaping_of E.escaped escaping.entry) value.now) }
 {
     let given = as_text(value)?;
     if given.is_safe {

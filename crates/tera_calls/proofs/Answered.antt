@@ -7,6 +7,7 @@ use Rattle.tera_meaning.specs.Registry.{Entry, Registry}
 use Rattle.tera_meaning.specs.Resolve.{resolve}
 use Rattle.tera_meaning.specs.Rendering.{autoescapes, render_in, render_block_in}
 use Rattle.tera_values.specs.Alphabet.{marking}
+use Rattle.tera_values.specs.Escape.{escape_html}
 use Rattle.tera_marks.specs.Origin.{Traces}
 use Rattle.tera_calls.specs.declared.rendering.Rendering.{Rendering}
 use Rattle.tera_calls.specs.declared.rendering.Rendering.TheVariants as rendering
@@ -19,12 +20,12 @@ found_escapes-some P r (Some t) origin h = origin t refl h
 
 pub Renders-answers : (r : Registry) (call : Rendering) (answer : Result Text Fault) → Answers r call answer → Renders r call answer
 Renders-answers r (rendering.Template name context) answer h =
-    let P : Type 0 = Traces (render_in marking r name.now context.now) answer in
+    let P : Type 0 = r.engine.escape ≡ escape_html → Traces (render_in marking r name.now context.now) answer in
     record { reading = Err message; read = tt; exact = h.is; origin = found_escapes-some P r (resolve r name.now) h.origin }
 Renders-answers r (rendering.Text input context autoescape) answer h =
     record { reading = h.reading; read = h.read; exact = h.is; origin = h.origin }
 Renders-answers r (rendering.Block name block context) answer h =
-    let P : Type 0 = Traces (render_block_in marking r name.now block.now context.now) answer in
+    let P : Type 0 = r.engine.escape ≡ escape_html → Traces (render_block_in marking r name.now block.now context.now) answer in
     record { reading = Err message; read = tt; exact = h.is; origin = found_escapes-some P r (resolve r name.now) h.origin }
 Renders-answers r (rendering.Component name args implicits body autoescape) answer h =
     record { reading = Err message; read = tt; exact = h.is; origin = h.origin }

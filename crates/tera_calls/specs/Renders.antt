@@ -3,6 +3,7 @@ use Rattle.std.specs.Prelude.{◌≡◌, Bool, false, IsTrue, List, Option, Some
 use Rattle.tera_errors.specs.Site.{Text}
 use Rattle.tera_errors.specs.Fault.{Fault}
 use Rattle.tera_values.specs.Alphabet.{Alphabet, plain, marking}
+use Rattle.tera_values.specs.Escape.{escape_html}
 use Rattle.tera_tree.specs.Tree.{Tree}
 use Rattle.tera_syntax.specs.Reads.{Reads}
 use Rattle.tera_meaning.specs.Registry.{Entry, Registry}
@@ -47,13 +48,13 @@ escapes r (rendering.Text input context autoescape) = autoescape
 escapes r (rendering.Block name block context) = found_escapes r (resolve r name.now)
 escapes r (rendering.Component name args implicits body autoescape) = autoescape
 
--- What a rendering may answer: exactly what it means; and where texts are escaped, the meaning at marked characters is that
--- answer with its marks, in which each of < > " ' comes from template text or a value marked safe.
+-- What a rendering may answer: exactly what it means; and where texts are escaped, by `escape_html`, the meaning at marked
+-- characters is that answer with its marks, in which each of < > " ' comes from template text or a value marked safe.
 pub record Renders (r : Registry) (call : Rendering) (answer : Result Text Fault) : Type 0 where
   pub reading : Result Tree Fault
   pub read : IsReading r call reading
   pub exact : answer ≡ meaning r reading call
-  pub origin : IsTrue (escapes r call) → Traces (meaning_in marking r reading call) answer
+  pub origin : IsTrue (escapes r call) → r.engine.escape ≡ escape_html → Traces (meaning_in marking r reading call) answer
 
 -- the same, as the engine's own calls say it
 abbrev pub Answers : Registry → Rendering → Result Text Fault → Type 0

@@ -1,12 +1,13 @@
 // The law: what a rendering answers after a list of calls.
 ghost use Rattle.std.specs.Prelude.{IfOk, IfErr, string_bytes};
+ghost use Rattle.tera.specs.Registry.{registry_of};
 ghost use Rattle.tera_calls.specs.After.{RendersAfter};
 ghost use Rattle.tera_errors.specs.Answer.{GivesOneOf, Lacks};
 
 use crate::call::{Call, make_calls};
 use crate::rendering::{Rendering, rendered};
 use std::alloc::Global;
-use tera::{Tera, TeraResult};
+use tera::{CallerObjects, EscapeFn, Filter, Function, Objects, Tera, TeraResult, Test};
 
 /// What a list of calls and the rendering behind it answered.
 #[derive(Drop)]
@@ -17,23 +18,37 @@ pub struct Outcome {
     pub text: TeraResult<String>,
 }
 
-/// Makes a new engine, makes the calls in turn, whether or not one is refused, and then the rendering.
+/// Makes the calls in turn, whether or not one is refused, and then the rendering. `Tera::new` makes the engine that has no template
+/// and no objects yet.
 ///
 /// This is the law of the engine: the rendering's answer is exactly the text, or the fault with its kind and, for a
 /// `RenderingError`, its file and span, that the recursive meaning of the accepted templates' syntax trees (and a one-off input's)
-/// gives, for every context; and where texts are escaped, each of `<>"'` in it comes from template text or a value marked safe. An
-/// error of this function itself says that there was no room for the engine or for the answers.
+/// gives, for every context; and where texts are escaped, by `escape_html`, each of `<>"'` in it comes from template text or a value marked safe. An
+/// error of this function itself says that there was no room for the answers: then no call was made.
 pub fn render_after(
     alloc: Global,
-    calls: &[Call<'_>],
+    engine: &mut Tera,
+    calls: Vec<Call<'_>>,
     rendering: &Rendering<'_>,
 ) -> TeraResult<Outcome>
-    ensures law { IfOk result (λ outcome. GivesOneOf string_bytes outcome.text
-        (RendersAfter calls.now outcome.answers.items rendering.now)) }
+    ensures law { let seen = registry_of ⟦<CallerObjects as Objects>⟧.engine in
+        IfOk result (λ outcome. GivesOneOf string_bytes outcome.text
+        (RendersAfter (record {
+          escape = λ b. (⟦<dyn EscapeFn as EscapeFn>⟧ b.vtable).escaped b.value;
+          filter = λ b. record {
+            meaning = (⟦<dyn Filter as Filter>⟧ b.vtable).meaning b.value;
+            safe = (⟦<dyn Filter as Filter>⟧ b.vtable).safe b.value;
+          };
+          test = λ b. record { meaning = (⟦<dyn Test as Test>⟧ b.vtable).meaning b.value };
+          function = λ b. record {
+            meaning = (⟦<dyn Function as Function>⟧ b.vtable).meaning b.value;
+            safe = (⟦<dyn Function as Function>⟧ b.vtable).safe b.value;
+          };
+        })
+        (seen engine.old) calls.entry.items outcome.answers.items rendering.now)) }
     ensures memory { IfErr result Lacks }
 {
-    let mut engine = Tera::new(alloc)?;
-    let answers = make_calls(alloc, &mut engine, calls)?;
-    let text = rendered(&engine, rendering);
+    let answers = make_calls(alloc, engine, calls)?;
+    let text = rendered(engine, rendering);
     Ok(Outcome { answers, text })
 }

@@ -1,44 +1,116 @@
 // Calls that configure an engine and add to it, one after another.
 ghost use Rattle.std.specs.Prelude.{◌≡◌, ◌<◌, ◌≤◌, ◌+◌, ◌++◌, ◌∷◌, [], Ok, IfOk, IfErr, OnErr, vec_len, vec_capacity};
-ghost use Rattle.tera.specs.Configuring.{Configures, with_delimiters};
+ghost use Rattle.tera.specs.Configuring.{Configures};
 ghost use Rattle.tera.specs.Registry.{registry_of};
-ghost use Rattle.tera_calls.specs.Calls.{Leads, Makes, with_global};
-ghost use Rattle.tera_errors.specs.Answer.{Gives, Lacks};
-ghost use Rattle.tera_registry.specs.Batch.{ConfiguresOneOf};
-ghost use Rattle.tera_tree.specs.Delimiters.{delimiters_of};
+ghost use Rattle.tera_calls.specs.Calls.{Ends, Leads, with_global};
+ghost use Rattle.tera_errors.specs.Answer.{Lacks};
 
+use crate::boxed::{
+    register_filter, register_from, register_function, register_test, reset_escape_fn,
+    set_escape_fn,
+};
 use std::alloc::Global;
-use tera::{Delimiters, Tera, TeraResult, Value};
+use tera::{
+    CallerObjects, Delimiters, EscapeFn, Filter, Function, Objects, Tera, TeraOver, TeraResult,
+    Test, Value,
+};
+use tera_objects::ObjectsOver;
 
-/// A call that configures an engine or adds to it, with its arguments, which are borrowed.
-#[derive(Clone, Copy)]
-pub enum Call<'a> {
-    /// `set_delimiters`, with a copy of these.
-    SetDelimiters { delimiters: &'a Delimiters },
+/// A call that configures an engine or adds to it, with its arguments, over any types of the caller's objects.
+#[derive(Drop)]
+pub enum CallOver<'a, E, F, T, G> {
+    /// `set_delimiters`.
+    SetDelimiters {
+        delimiters: Delimiters,
+    },
     /// `set_fallback_prefixes`.
-    SetFallbackPrefixes { prefixes: &'a [&'a str] },
+    SetFallbackPrefixes {
+        prefixes: &'a [&'a str],
+    },
     /// `autoescape_on`.
-    AutoescapeOn { suffixes: &'a [&'a str] },
-    /// Puts a copy of the value into the global context, under this name.
-    InsertGlobal { name: &'a str, value: &'a Value },
+    AutoescapeOn {
+        suffixes: &'a [&'a str],
+    },
+    /// Puts the value into the global context, under this name.
+    InsertGlobal {
+        name: &'a str,
+        value: Value,
+    },
     /// `add_raw_template`.
-    AddRawTemplate { name: &'a str, content: &'a str },
+    AddRawTemplate {
+        name: &'a str,
+        content: &'a str,
+    },
     /// `add_raw_templates`.
-    AddRawTemplates { templates: &'a [(&'a str, &'a str)] },
+    AddRawTemplates {
+        templates: &'a [(&'a str, &'a str)],
+    },
+    /// `set_escape_fn`.
+    SetEscapeFn {
+        escape: E,
+    },
+    /// `reset_escape_fn`.
+    ResetEscapeFn,
+    /// `register_filter`.
+    RegisterFilter {
+        name: &'a str,
+        filter: F,
+    },
+    /// `register_test`.
+    RegisterTest {
+        name: &'a str,
+        test: T,
+    },
+    /// `register_function`.
+    RegisterFunction {
+        name: &'a str,
+        function: G,
+    },
+    /// `register_from`.
+    RegisterFrom {
+        other: TeraOver<ObjectsOver<E, F, T, G>>,
+    },
 }
 
-/// Makes the call. Refused, it leaves the engine's registry as it was.
-pub fn make_call(alloc: Global, engine: &mut Tera, call: &Call<'_>) -> TeraResult<()>
-    ensures { ConfiguresOneOf result (Makes (registry_of engine.old) call.now)
-        (registry_of engine.old) (registry_of engine.new) }
+/// A call with the objects that a caller boxes.
+pub type Call<'a> = CallOver<
+    'a,
+    Box<dyn EscapeFn>,
+    Box<dyn Filter>,
+    Box<dyn Test>,
+    Box<dyn Function>,
+>;
+
+/// Makes the call. Refused, it leaves the engine's registry as it was, but for objects that `register_from` moved before memory ran
+/// out.
+pub fn make_call(engine: &mut Tera, call: Call<'_>) -> TeraResult<()>
+    ensures { let seen = registry_of ⟦<CallerObjects as Objects>⟧.engine in
+        Ends (record {
+          escape = λ b. (⟦<dyn EscapeFn as EscapeFn>⟧ b.vtable).escaped b.value;
+          filter = λ b. record {
+            meaning = (⟦<dyn Filter as Filter>⟧ b.vtable).meaning b.value;
+            safe = (⟦<dyn Filter as Filter>⟧ b.vtable).safe b.value;
+          };
+          test = λ b. record { meaning = (⟦<dyn Test as Test>⟧ b.vtable).meaning b.value };
+          function = λ b. record {
+            meaning = (⟦<dyn Function as Function>⟧ b.vtable).meaning b.value;
+            safe = (⟦<dyn Function as Function>⟧ b.vtable).safe b.value;
+          };
+        }) call.entry result (seen engine.old) (seen engine.new) }
 {
     match call {
-        Call::SetDelimiters { delimiters } => set_delimiters(alloc, engine, delimiters),
-        Call::SetFallbackPrefixes { prefixes } => engine.set_fallback_prefixes(prefixes),
-        Call::AutoescapeOn { suffixes } => engine.autoescape_on(suffixes),
-        Call::InsertGlobal { name, value } => insert_global(engine, name, value),
-        Call::AddRawTemplate { name, content } => engine.add_raw_template(name, content),
-        Call::AddRawTemplates { templates } => engine.add_raw_templates(templates),
+        CallOver::SetDelimiters { delimiters } => engine.set_delimiters(delimiters),
+        CallOver::SetFallbackPrefixes { prefixes } => engine.set_fallback_prefixes(prefixes),
+        CallOver::AutoescapeOn { suffixes } => engine.autoescape_on(suffixes),
+        CallOver::InsertGlobal { name, value } => insert_global(engine, name, value),
+        CallOver::AddRawTemplate { name, content } => engine.add_raw_template(name, content),
+        CallOver::AddRawTemplates { templates } => engine.add_raw_templates(templates),
+        CallOver::SetEscapeFn { escape } => set_escape_fn(engine, escape),
+        CallOver::ResetEscapeFn => reset_escape_fn(engine),
+        CallOver::RegisterFilter { name, filter } => register_filter(engine, name, filter),
+        CallOver::RegisterTest { name, test } => register_test(engine, name, test),
+        CallOver::RegisterFunction { name, function } => register_function(engine, name, function),
+        CallOver::RegisterFrom { other } => register_from(engine, other),
     }
 }
 
@@ -47,16 +119,29 @@ pub fn make_call(alloc: Global, engine: &mut Tera, call: &Call<'_>) -> TeraResul
 pub fn make_calls(
     alloc: Global,
     engine: &mut Tera,
-    calls: &[Call<'_>],
+    calls: Vec<Call<'_>>,
 ) -> TeraResult<Vec<TeraResult<()>>>
-    ensures answers { IfOk result (λ answers. Leads (registry_of engine.old)
-        calls.now answers.items (registry_of engine.new)) }
+    ensures answers { let seen = registry_of ⟦<CallerObjects as Objects>⟧.engine in
+        IfOk result (λ answers. Leads (record {
+          escape = λ b. (⟦<dyn EscapeFn as EscapeFn>⟧ b.vtable).escaped b.value;
+          filter = λ b. record {
+            meaning = (⟦<dyn Filter as Filter>⟧ b.vtable).meaning b.value;
+            safe = (⟦<dyn Filter as Filter>⟧ b.vtable).safe b.value;
+          };
+          test = λ b. record { meaning = (⟦<dyn Test as Test>⟧ b.vtable).meaning b.value };
+          function = λ b. record {
+            meaning = (⟦<dyn Function as Function>⟧ b.vtable).meaning b.value;
+            safe = (⟦<dyn Function as Function>⟧ b.vtable).safe b.value;
+          };
+        })
+        (seen engine.old) calls.entry.items answers.items (seen engine.new)) }
     ensures memory { IfErr result Lacks }
-    ensures unchanged { OnErr result (registry_of engine.new ≡ registry_of engine.old) }
+    ensures unchanged { let seen = registry_of ⟦<CallerObjects as Objects>⟧.engine in
+        OnErr result (seen engine.new ≡ seen engine.old) }
 {
     let mut answers = Vec::with_capacity(alloc, calls.len())?;
     for call in calls {
-        let answer = make_call(alloc, engine, call);
+        let answer = make_call(engine, call);
         append(&mut answers, answer);
     }
     Ok(answers)
@@ -75,32 +160,10 @@ fn append(answers: &mut Vec<TeraResult<()>>, answer: TeraResult<()>)
     }
 }
 
-fn set_delimiters(alloc: Global, engine: &mut Tera, delimiters: &Delimiters) -> TeraResult<()>
+fn insert_global<O: Objects>(engine: &mut TeraOver<O>, name: &str, value: Value) -> TeraResult<()>
     ensures { Configures result
-        (with_delimiters (delimiters_of delimiters.now) (registry_of engine.old))
-        (registry_of engine.old) (registry_of engine.new) }
+        (Ok (with_global name.now value (registry_of O.engine engine.old)))
+        (registry_of O.engine engine.old) (registry_of O.engine engine.new) }
 {
-    let copy = copied(alloc, delimiters)?;
-    engine.set_delimiters(copy)
-}
-
-fn copied(alloc: Global, delimiters: &Delimiters) -> TeraResult<Delimiters>
-    ensures { Gives delimiters_of result (Ok (delimiters_of delimiters.now)) }
-{
-    Ok(Delimiters {
-        block_start: String::from_str(alloc, delimiters.block_start.as_str())?,
-        block_end: String::from_str(alloc, delimiters.block_end.as_str())?,
-        variable_start: String::from_str(alloc, delimiters.variable_start.as_str())?,
-        variable_end: String::from_str(alloc, delimiters.variable_end.as_str())?,
-        comment_start: String::from_str(alloc, delimiters.comment_start.as_str())?,
-        comment_end: String::from_str(alloc, delimiters.comment_end.as_str())?,
-    })
-}
-
-fn insert_global(engine: &mut Tera, name: &str, value: &Value) -> TeraResult<()>
-    ensures { Configures result (Ok (with_global name.now value.now (registry_of engine.old)))
-        (registry_of engine.old) (registry_of engine.new) }
-{
-    let copy = value.try_clone()?;
-    engine.global_context().insert(name, copy)
+    engine.global_context().insert(name, value)
 }

@@ -2,9 +2,10 @@
 #![tactic(auto)]
 
 pub mod after;
+mod boxed;
 pub mod call;
 pub mod rendering;
 
 pub use after::{Outcome, render_after};
-pub use call::{Call, make_call, make_calls};
+pub use call::{Call, CallOver, make_call, make_calls};
 pub use rendering::{Rendering, rendered};

@@ -4,7 +4,7 @@ ghost use Rattle.tera.specs.Registry.{registry_of};
 ghost use Rattle.tera_calls.specs.Renders.{Answers, Renders};
 ghost use Rattle.tera_errors.specs.Answer.{GivesOneOf};
 
-use tera::{Context, Tera, TeraResult};
+use tera::{Context, Objects, TeraOver, TeraResult};
 
 /// A call that renders, with its arguments, which are borrowed.
 #[derive(Clone, Copy)]
@@ -38,15 +38,17 @@ pub enum Rendering<'a> {
 
 /// What the call answers: exactly what is meant, and where texts are escaped, no markup but from template text or a value marked
 /// safe.
-pub fn rendered(engine: &Tera, rendering: &Rendering<'_>) -> TeraResult<String>
-    ensures { GivesOneOf string_bytes result (Renders (registry_of engine.now) rendering.now) }
+pub fn rendered<O: Objects>(engine: &TeraOver<O>, rendering: &Rendering<'_>) -> TeraResult<String>
+    ensures { GivesOneOf string_bytes result
+        (Renders (registry_of O.engine engine.now) rendering.now) }
 {
     answered(engine, rendering)
 }
 
 // The same, said as the engine's calls say it.
-fn answered(engine: &Tera, rendering: &Rendering<'_>) -> TeraResult<String>
-    ensures { GivesOneOf string_bytes result (Answers (registry_of engine.now) rendering.now) }
+fn answered<O: Objects>(engine: &TeraOver<O>, rendering: &Rendering<'_>) -> TeraResult<String>
+    ensures { GivesOneOf string_bytes result
+        (Answers (registry_of O.engine engine.now) rendering.now) }
 {
     match rendering {
         Rendering::Template { name, context } => engine.render(name, context),

@@ -26,26 +26,26 @@ pub fn blocks(alloc: Global, file: &str, nodes: &[Node]) -> TeraResult<Vec<Block
     ensures lacks { IfErr result Lacks }
 {
     let mut found = Vec::new(alloc);
-    add_all(alloc, file, nodes, &mut found)?;
+    add_all(alloc, nodes, file, &mut found)?;
     Ok(found)
 }
 
 // Puts the blocks of the nodes behind those that were found.
 #[cycle(blocks)]
-fn add_all(alloc: Global, file: &str, nodes: &[Node], found: &mut Vec<Block>) -> TeraResult<()>
+fn add_all(alloc: Global, nodes: &[Node], file: &str, found: &mut Vec<Block>) -> TeraResult<()>
     ensures ok { OnOk result (map block_of found.new.items
         ≡ map block_of found.old.items ++ block_listings file.now (blocks (nodes_of nodes.now))) }
     ensures lacks { IfErr result Lacks }
 {
     for node in nodes {
-        add(alloc, file, node, found)?;
+        add(alloc, node, file, found)?;
     }
     Ok(())
 }
 
 // Puts the blocks of the node behind those that were found.
 #[cycle(blocks)]
-fn add(alloc: Global, file: &str, node: &Node, found: &mut Vec<Block>) -> TeraResult<()>
+fn add(alloc: Global, node: &Node, file: &str, found: &mut Vec<Block>) -> TeraResult<()>
     ensures ok { OnOk result (map block_of found.new.items
         ≡ map block_of found.old.items ++ block_listings file.now
         (node_blocks (node_of node.now))) }
@@ -53,21 +53,21 @@ fn add(alloc: Global, file: &str, node: &Node, found: &mut Vec<Block>) -> TeraRe
 {
     match node {
         Node::If { body, other, .. } => {
-            add_all(alloc, file, body.as_slice(), found)?;
-            add_all(alloc, file, other.as_slice(), found)
+            add_all(alloc, body.as_slice(), file, found)?;
+            add_all(alloc, other.as_slice(), file, found)
         }
         Node::For { body, other, .. } => {
-            add_all(alloc, file, body.as_slice(), found)?;
-            add_all(alloc, file, other.as_slice(), found)
+            add_all(alloc, body.as_slice(), file, found)?;
+            add_all(alloc, other.as_slice(), file, found)
         }
-        Node::Capture { body, .. } => add_all(alloc, file, body.as_slice(), found),
-        Node::FilterSection { body, .. } => add_all(alloc, file, body.as_slice(), found),
-        Node::ComponentCall { body, .. } => add_all(alloc, file, body.as_slice(), found),
-        Node::Definition { body, .. } => add_all(alloc, file, body.as_slice(), found),
-        Node::Block { name, body, .. } => {
+        Node::Capture { body, .. } => add_all(alloc, body.as_slice(), file, found),
+        Node::FilterSection { body, .. } => add_all(alloc, body.as_slice(), file, found),
+        Node::ComponentCall { body, .. } => add_all(alloc, body.as_slice(), file, found),
+        Node::Definition { body, .. } => add_all(alloc, body.as_slice(), file, found),
+        Node::Block { body, name, .. } => {
             let body = body.as_slice();
-            found.push(made(alloc, file, name, body)?)?;
-            add_all(alloc, file, body, found)
+            found.push(made(alloc, body, file, name)?)?;
+            add_all(alloc, body, file, found)
         }
         Node::Content { .. }
         | Node::Print { .. }
@@ -78,7 +78,7 @@ fn add(alloc: Global, file: &str, node: &Node, found: &mut Vec<Block>) -> TeraRe
     }
 }
 
-fn made(alloc: Global, file: &str, name: &str, body: &[Node]) -> TeraResult<Block>
+fn made(alloc: Global, body: &[Node], file: &str, name: &str) -> TeraResult<Block>
     ensures ok { IfOk result (λ b. block_of b
         ≡ block_listing file.now (name.now, nodes_of body.now)) }
     ensures lacks { IfErr result Lacks }

@@ -99,7 +99,8 @@ impl Compiler {
 
     fn filter(&mut self, filter: &SectionFilter) -> TeraResult<()>
         ensures ok { OnOk result (self.new ≡ lengthened self.old (filters_code (MoreFilters
-            filter.now.name.now (arguments_of filter.now.arguments.items) filter.now.span NoFilters))) }
+            filter.now.name.now (arguments_of filter.now.arguments.items)
+            filter.now.span NoFilters))) }
         ensures lacks { IfErr result Lacks }
     {
         let arguments = filter.arguments.as_slice();

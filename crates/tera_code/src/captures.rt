@@ -41,11 +41,11 @@ impl Compiler {
                 body,
                 is_global,
             } => {
-                self.section(filters.as_slice(), body.as_slice(), drops)?;
+                self.section(filters, body, drops)?;
                 self.store(name, *is_global)
             }
             Node::FilterSection { filters, body } => {
-                self.section(filters.as_slice(), body.as_slice(), drops)?;
+                self.section(filters, body, drops)?;
                 self.emit(Instruction::WriteTop)
             }
             Node::ComponentCall {
@@ -54,7 +54,7 @@ impl Compiler {
                 body,
                 span,
             } => {
-                self.captured(body.as_slice(), *span, drops)?;
+                self.captured(body, *span, drops)?;
                 self.hand(name, attributes.as_slice(), *span)
             }
             _ => unreachable!(),
@@ -65,28 +65,30 @@ impl Compiler {
     #[cycle(nodes)]
     pub(crate) fn section(
         &mut self,
-        filters: &[SectionFilter],
-        body: &[Node],
+        filters: &Vec<SectionFilter>,
+        body: &Vec<Node>,
         drops: usize,
     ) -> TeraResult<()>
         ensures ok { OnOk result (self.new ≡ lengthened self.old
-            (section_code (filters_of filters.now) (nodes_code (nodes_of body.now) (suc drops)))) }
+            (section_code (filters_of filters.now.items)
+            (nodes_code (nodes_of body.now.items) (suc drops)))) }
         ensures lacks { IfErr result Lacks }
     {
+        let filters = filters.as_slice();
         self.captured(body, first_span(filters), drops)?;
         self.filters(filters)
     }
 
     // The text that the body puts out, on top of the operands.
     #[cycle(nodes)]
-    pub(crate) fn captured(&mut self, body: &[Node], span: Span, drops: usize) -> TeraResult<()>
+    pub(crate) fn captured(&mut self, body: &Vec<Node>, span: Span, drops: usize) -> TeraResult<()>
         ensures ok { OnOk result (self.new
-            ≡ lengthened self.old (captured_code (nodes_code (nodes_of body.now) (suc drops))
-            span)) }
+            ≡ lengthened self.old (captured_code
+            (nodes_code (nodes_of body.now.items) (suc drops)) span)) }
         ensures lacks { IfErr result Lacks }
     {
         self.emit(Instruction::StartCapture)?;
-        self.nodes(body, one_more(drops)?)?;
+        self.body(body, one_more(drops)?)?;
         self.emit(Instruction::EndCapture(span))
     }
 

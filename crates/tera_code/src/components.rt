@@ -31,7 +31,7 @@ pub fn components<'t>(
 {
     let mut found = Vec::new(alloc);
     for node in nodes {
-        add(alloc, file, node, &mut found)?;
+        add(alloc, node, file, &mut found)?;
     }
     Ok(found)
 }
@@ -39,8 +39,8 @@ pub fn components<'t>(
 // Puts the component that the node defines behind those that were found.
 fn add<'t>(
     alloc: Global,
-    file: &str,
     node: &'t Node<'t>,
+    file: &str,
     found: &mut Vec<Component<'t>>,
 ) -> TeraResult<()>
     ensures ok { OnOk result (map component_of found.new.items ≡ map component_of found.old.items
@@ -48,7 +48,7 @@ fn add<'t>(
     ensures lacks { IfErr result Lacks }
 {
     match node {
-        Node::Definition { signature, body } => {
+        Node::Definition { body, signature } => {
             let code = compiled(alloc, file, body.as_slice())?;
             found.push(Component { signature, code })?;
             Ok(())

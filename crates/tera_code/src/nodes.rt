@@ -47,6 +47,17 @@ impl Compiler {
         Ok(())
     }
 
+    // The nodes of a body inside so many captures of the innermost loop. It is lent whole, since a slice of it is checked in no time
+    // only where no other part of its node is at hand.
+    #[cycle(nodes)]
+    pub(crate) fn body(&mut self, body: &Vec<Node>, drops: usize) -> TeraResult<()>
+        ensures ok { OnOk result (self.new ≡ lengthened self.old
+            (nodes_code (nodes_of body.now.items) drops)) }
+        ensures lacks { IfErr result Lacks }
+    {
+        self.nodes(body.as_slice(), drops)
+    }
+
     #[cycle(nodes)]
     fn node(&mut self, node: &Node, drops: usize) -> TeraResult<()>
         ensures ok { OnOk result (self.new ≡ lengthened self.old
@@ -93,9 +104,9 @@ impl Compiler {
             } => {
                 self.expression(condition)?;
                 let place = self.keep_place()?;
-                self.nodes(body.as_slice(), drops)?;
+                self.body(body, drops)?;
                 let place = self.divide(place)?;
-                self.nodes(other.as_slice(), drops)?;
+                self.body(other, drops)?;
                 self.fill(place, Instruction::Jump(self.behind(place)))
             }
             Node::For {
@@ -105,10 +116,10 @@ impl Compiler {
             } => {
                 self.expression(&heading.target)?;
                 let place = self.keep_place()?;
-                self.nodes(body.as_slice(), 0)?;
+                self.body(body, 0)?;
                 self.end_turns(place, heading, true)?;
                 let place = self.keep_place()?;
-                self.nodes(other.as_slice(), drops)?;
+                self.body(other, drops)?;
                 self.fill(place, Instruction::EndLoop(self.behind(place)))
             }
             _ => unreachable!(),

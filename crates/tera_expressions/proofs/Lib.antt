@@ -24,3 +24,4 @@ pub mod Inside
 pub mod Sections
 pub mod AttributeLaws
 pub mod Alone
+pub mod Beside

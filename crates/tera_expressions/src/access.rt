@@ -171,8 +171,8 @@ impl<'s, F: Fn(Global, &mut Tokens<'_, 's>, usize, u8) -> Result<Deep<'s>, Refus
         depth: usize,
     ) -> Result<Deep<'s>, Refusal>
         ensures { let slice = spec.slice_made self.now.limit (spec.expr self.now.below)
-            optional start
-            (deep_of x.entry) (optional_of bounds.entry.value.start) (optional_of bounds.entry.value.end)
+            optional start (deep_of x.entry)
+            (optional_of bounds.entry.value.start) (optional_of bounds.entry.value.end)
             (optional_of bounds.entry.value.step) depth in
             Takes deep_of (slice (input tokens.old)) result tokens.new }
     {

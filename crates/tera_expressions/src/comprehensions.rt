@@ -67,7 +67,8 @@ impl<'s, F: Fn(Global, &mut Tokens<'_, 's>, usize, u8) -> Result<Deep<'s>, Refus
         only: Part<'s>,
     ) -> Result<Deep<'s>, Refusal>
         ensures { let meant = spec.comprehension_made self.now.limit (spec.expr self.now.below)
-            start (deep_of x.entry) (names_of names.entry) (deep_of target.entry) (part_of only.entry) in
+            start (deep_of x.entry) (names_of names.entry)
+            (deep_of target.entry) (part_of only.entry) in
             Takes deep_of (meant (input tokens.old)) result tokens.new }
     {
         tokens.expect(Kind::RightBracket)?;

@@ -1,16 +1,17 @@
 // Signatures of components.
-ghost use Rattle.std.specs.Prelude.{◌≡◌, [], map, option_copied};
-ghost use Rattle.tera_tree.specs.Blocks.{are_distinct, is_among};
+ghost use Rattle.std.specs.Prelude.{◌≡◌, [], map, option_copied, IfOk, IfErr};
 ghost use Rattle.tera_tree.specs.Definitions.{has_fit_parameters};
 ghost use Rattle.tera_tree.specs.View.{parameter_of, signature_of, written_option};
 ghost use Rattle.tera_tokens.specs.Input.{left};
 ghost use Rattle.tera_tokens.specs.Takes.{Takes, input};
+ghost use Rattle.tera_tokens.specs.declared.refusal.Refusal.TheVariants.{OutOfMemory};
 ghost use Rattle.tera_expressions.specs.Parameters as spec;
-ghost use Rattle.tera_expressions.specs.Parts.{parameters_of, signature_names};
+ghost use Rattle.tera_expressions.specs.Parts.{parameters_of};
 
 use crate::headings::name;
 use crate::literals::written;
 use std::alloc::Global;
+use std::collections::HashSet;
 use tera_tokens::input::{Tokens, is_word, same};
 use tera_tokens::refusal::{Reason, Refusal};
 use tera_tokens::token::Kind;
@@ -38,7 +39,7 @@ pub fn signature<'s>(
         parameters,
         rest,
     };
-    if !is_fit(&signature) {
+    if !is_fit(alloc, &signature)? {
         return Err(tokens.refuse(Reason::ParameterTwice));
     }
     Ok(signature)
@@ -203,41 +204,20 @@ fn default_value<'s>(
     Ok(Some(value))
 }
 
-/// Whether a name is one of these.
-fn is_one_of(name: &str, parameters: &[Parameter<'_>], rest: Option<&str>) -> bool
-    ensures { let names = signature_names parameters.now (option_copied rest.entry) in
-        result ≡ is_among name.now names }
-{
-    for parameter in parameters {
-        if name == parameter.name {
-            return true;
-        }
-    }
-    match rest {
-        Some(rest) => name == rest,
-        None => false,
-    }
-}
-
-/// Whether no two of these names are one.
-fn differ(parameters: &[Parameter<'_>], rest: Option<&str>) -> bool
-    ensures { result ≡ are_distinct (signature_names parameters.now (option_copied rest.entry)) }
-{
-    let mut at = 0;
-    while at < parameters.len() {
-        if is_one_of(parameters[at].name, &parameters[at + 1..], rest) {
-            return false;
-        }
-        at += 1;
-    }
-    true
-}
-
 /// Whether no two parameters have one name, and none is called `body`.
-#[tactic(auto, using(crate::proofs::Fit::fit_names))]
-fn is_fit(signature: &Signature<'_>) -> bool
-    ensures { result ≡ has_fit_parameters (signature_of signature.now) }
+fn is_fit(alloc: Global, signature: &Signature<'_>) -> Result<bool, Refusal>
+    ensures ok { IfOk result (λ fit. fit ≡ has_fit_parameters (signature_of signature.now)) }
+    ensures lacks { IfErr result (λ refusal. refusal ≡ OutOfMemory) }
 {
-    let parameters = signature.parameters.as_slice();
-    !is_one_of("body", parameters, signature.rest) && differ(parameters, signature.rest)
+    let mut seen: HashSet<&str> = HashSet::new(alloc);
+    seen.insert("body")?;
+    for parameter in signature.parameters.iter() {
+        if !seen.insert(parameter.name)? {
+            return Ok(false);
+        }
+    }
+    match signature.rest {
+        Some(rest) => Ok(seen.insert(rest)?),
+        None => Ok(true),
+    }
 }

@@ -78,11 +78,11 @@ defined_by (Some c) None e = absurd (no_none e)
 defined_by (Some c) (Some d) e =
     record { given = ap (given_or d.definition.now) e; code = ap (code_or d.chunk.now) e }
 
-pub defined_beside : (m : VirtualMachine) (w : World) (name : Name) (r : Option Defined) → IsLinked m w → option_map found_of r ≡ first_kept name (kept_beside m.beside) → IsDefined (component_named one_off_name name w.beside) r
+pub defined_beside : {O : Type 0} (m : VirtualMachine O) (w : World) (name : Name) (r : Option Defined) → IsLinked m w → option_map found_of r ≡ first_kept name (kept_beside m.beside) → IsDefined (component_named one_off_name name w.beside) r
 defined_beside m w name r linked e =
     defined_by (component_named one_off_name name w.beside) r (e ∙ ap (first_kept name) linked.1.1 ∙ first_meant one_off_name name w.beside)
 
-pub defined_in : (m : VirtualMachine) (w : World) (name text : Name) (r : Option Defined) → IsLinked m w → text ≡ name → ((s : Registry) → IsDefined (component (with_templates s m.templates.now) text) r) → IsDefined (component w.registry name) r
+pub defined_in : {O : Type 0} (m : VirtualMachine O) (w : World) (name text : Name) (r : Option Defined) → IsLinked m w → text ≡ name → ((s : Registry) → IsDefined (component (with_templates s m.templates.now) text) r) → IsDefined (component w.registry name) r
 defined_in m w name text r linked e h =
     subst (λ n. IsDefined (component w.registry n) r) e (subst (λ s. IsDefined (component s text) r) linked.1.0 (h w.registry))
 
@@ -173,13 +173,13 @@ module _ (w : World) (p : Place) (name : Name) (given : List (Name × Val)) (bod
 
 -- A component's body that is taken.
 
-module _ (w : World) (m : VirtualMachine) (file : Name) (q : Request) (u : Use) (b0 : OpenBlocks) (c0 : Configuration) where
+module _ (w : World) {O : Type 0} (m : VirtualMachine O) (file : Name) (q : Request) (u : Use) (b0 : OpenBlocks) (c0 : Configuration) where
   -- a request that is refused
   pub call_failed : (r : Refusal) (c1 : Config) (k : ℕ) → k ≡ 0 → Calls w (place_at m file b0 c0) q (config_of c0).run.vars (Err r) → BodyRan w (place_at m file b0 c0) q u (config_of c0) (Err r) c1 k
   call_failed None c1 k z h = tt
   call_failed (Some f) c1 k z h = refused f k z h
 
-  module _ {called : Called} (is : IsCalled w (place_at m file b0 c0) q (config_of c0).run.vars called) (m1 : VirtualMachine) (b1 : OpenBlocks) {outer : Outer} {c1 : Configuration} (template : m1.template ≡ None) (escapes : m1.autoescape ≡ m.autoescape) (depth : m1.depth ≡ called.depth) (names : b1.names ≡ []) (above : definers_of b1.above ≡ []) (included : names_in b1.included ≡ []) (begins : Begins (in_component called.context (around_of c0.scopes) (variables_of c0.scopes)) c0 outer c1) where
+  module _ {called : Called} (is : IsCalled w (place_at m file b0 c0) q (config_of c0).run.vars called) (m1 : VirtualMachine O) (b1 : OpenBlocks) {outer : Outer} {c1 : Configuration} (template : m1.template ≡ None) (escapes : m1.autoescape ≡ m.autoescape) (depth : m1.depth ≡ called.depth) (names : b1.names ≡ []) (above : definers_of b1.above ≡ []) (included : names_in b1.included ≡ []) (begins : Begins (in_component called.context (around_of c0.scopes) (variables_of c0.scopes)) c0 outer c1) where
     same_place : place_of_component (in_component called.context (around_of c0.scopes) (variables_of c0.scopes)) m.autoescape (suc m.depth) is.file ≡ place_at m1 called.code.now.file b1 c1
     same_place =
         let x = in_component called.context (around_of c0.scopes) (variables_of c0.scopes) in

@@ -9,14 +9,14 @@ use Rattle.tera_tree.specs.Tree.{Key, Expr, Nothing, Boolean, Integer, Text, Nam
 use Rattle.tera_values.specs.Alphabet.{plain}
 use Rattle.tera_values.specs.Val as val
 use Rattle.tera_values.specs.Access.{truthy}
-use Rattle.tera_state.specs.Scope.{Turn, Heading, look, dump}
+use Rattle.tera_state.specs.Scope.{Turn, Variables, Heading, look, dump}
 use Rattle.tera_operators.specs.Operand.{Evaluated, Outcome}
 use Rattle.tera_operators.specs.Accesses.{attribute_of, item_of, slice_of}
 use Rattle.tera_operators.specs.Operators.{not_of, negative_of, binary_of}
 use Rattle.tera_operators.specs.Literals.{array_of, map_entries, map_of}
 use Rattle.tera_components.specs.Definition.{named_arguments}
-use Rattle.tera_operators.specs.Calls.{filter_applied, test_applied, function_called}
-use Rattle.tera_meaning.specs.Here.{Here, escaping_at}
+use Rattle.tera_operators.specs.Calls.{filter_applied_by, test_applied_by, function_called_by}
+use Rattle.tera_meaning.specs.Here.{Here, filtered_at, tested_at, called_at}
 use Rattle.tera_meaning.specs.Whole.{World, Place, here_at, whole}
 use Rattle.tera_meaning.specs.Run.{Run, Gave, Above, AComponent, Request, Oracle, Meaning, ◌▹◌, visit, reads, answered, asks, onward, gives, value_at}
 use Rattle.tera_meaning.specs.Meaning.{turns_of, if_kept, comprehension, component_meaning_in, expr_meaning, condition_meaning, bound_meaning, items_meaning, entries_meaning, arguments_meaning}
@@ -112,11 +112,11 @@ module _ (w : World) (place : Place) (code : Code) (below : Below w place) where
       let u : Use = Pushed place.autoescape span in
       answered_runs w place code s (map_entries place.file all) r (λ given r1. onward (asks call (q given) r1) top) tk l i (λ f g. takes ∙ ap (λ o. component_asked place.autoescape name span o (Some (body, base.operands)) c) g) (λ given g. asked_runs w place code (config_at base r) s (q given) u r top tk (call (q given) r.vars) l i (takes ∙ ap (λ o. component_asked place.autoescape name span o (Some (body, base.operands)) c) g ∙ ap (λ d. Goes d (Ask (q given) u)) (sym same)) (below (q given) u (config_at base r)) (λ after. done w place code l))
 
-  calls_function : (next : ℕ) (name : site.Name) (names : List site.Name) (all : List (site.Name × Evaluated)) (base : Base) (r : Run) (span : Span) → firsts all ≡ names → act here next (instruction.CallFunction name names span) (config_at (all_over (seconds all) base) r) ≡ outcome (function_called place.file name all span) base.operands (config_at (all_over (seconds all) base) r)
+  calls_function : (next : ℕ) (name : site.Name) (names : List site.Name) (all : List (site.Name × Evaluated)) (base : Base) (r : Run) (span : Span) → firsts all ≡ names → act here next (instruction.CallFunction name names span) (config_at (all_over (seconds all) base) r) ≡ outcome (function_called_by place.file (called_at plain here r.vars name) all span) base.operands (config_at (all_over (seconds all) base) r)
   calls_function next name names all base r span e =
       let c : Config = config_at (all_over (seconds all) base) r in
-      ap (λ o. made_of (λ vs. function_called place.file name (zip names vs) span) o c) (topmost-push_all (length names) (seconds all) base.operands (length-seconds names all e))
-      ∙ ap (λ ps. outcome (function_called place.file name ps span) base.operands c) (zip-firsts names all e)
+      ap (λ o. made_of (λ vs. function_called_by place.file (called_at plain here r.vars name) (zip names vs) span) o c) (topmost-push_all (length names) (seconds all) base.operands (length-seconds names all e))
+      ∙ ap (λ ps. outcome (function_called_by place.file (called_at plain here r.vars name) ps span) base.operands c) (zip-firsts names all e)
 
   -- a name's value on top, or the map of all that is bound
   name_runs : (b : Bool) (name : site.Name) (span : Span) (ip : ℕ) (base : Base) (r : Run) → StandsAt code ip (cond b (instruction.LoadContext span ∷ []) (instruction.LoadName name span ∷ [])) → Runs w place code (spot ip base r) 0 1 (Top (ip + length (cond b (instruction.LoadContext span ∷ []) (instruction.LoadName name span ∷ []))) base) (visit (reads (λ v. cond b (dump place.around v) (look name place.around v)) ▹ λ v. value_at v span) r)
@@ -280,8 +280,8 @@ module _ (w : World) (place : Place) (code : Code) (below : Below w place) where
         let len : q + 1 ≡ ip + length (cv ++ (ca ++ i ∷ [])) = omega (arith, length-append cv (ca ++ i ∷ []), length-append ca (i ∷ [])) in
         let h = stands_back code ip cv (ca ++ i ∷ []) has in
         let at = (stands_back code p ca (i ∷ []) h).0 in
-        let f : Evaluated → List (site.Name × Evaluated) → Outcome = λ a given. filter_applied here.file (escaping_at here) name a given span in
-        top_at w place code _ len (spend w place code (onward_runs w place code (omega arith) (expr_runs value ip base r (stands_front code ip cv _ has)) (λ a r1. onward_where w place code (λ all. firsts all ≡ names) (omega arith) (holds_arguments arguments r1) (arguments_runs arguments p (over a base) r1 (stands_front code p ca _ h)) (λ all r2 e. outcome_runs q (push_all (seconds all) (a ∷ base.operands)) base r2 8 (f a all) i (omega arith) at (calls_on f names all a base r2 e)))))
+        let f : Variables → Evaluated → List (site.Name × Evaluated) → Outcome = λ v a given. filter_applied_by here.file (filtered_at plain here v name) a given span in
+        top_at w place code _ len (spend w place code (onward_runs w place code (omega arith) (expr_runs value ip base r (stands_front code ip cv _ has)) (λ a r1. onward_where w place code (λ all. firsts all ≡ names) (omega arith) (holds_arguments arguments r1) (arguments_runs arguments p (over a base) r1 (stands_front code p ca _ h)) (λ all r2 e. outcome_runs q (push_all (seconds all) (a ∷ base.operands)) base r2 8 (f r2.vars a all) i (omega arith) at (calls_on (f r2.vars) names all a base r2 e)))))
     expr_runs (Test value name arguments span) ip base r has =
         let names = argument_names arguments in
         let i = instruction.ApplyTest name names span in
@@ -292,8 +292,8 @@ module _ (w : World) (place : Place) (code : Code) (below : Below w place) where
         let len : q + 1 ≡ ip + length (cv ++ (ca ++ i ∷ [])) = omega (arith, length-append cv (ca ++ i ∷ []), length-append ca (i ∷ [])) in
         let h = stands_back code ip cv (ca ++ i ∷ []) has in
         let at = (stands_back code p ca (i ∷ []) h).0 in
-        let f : Evaluated → List (site.Name × Evaluated) → Outcome = λ a given. test_applied here.file name a given span in
-        top_at w place code _ len (spend w place code (onward_runs w place code (omega arith) (expr_runs value ip base r (stands_front code ip cv _ has)) (λ a r1. onward_where w place code (λ all. firsts all ≡ names) (omega arith) (holds_arguments arguments r1) (arguments_runs arguments p (over a base) r1 (stands_front code p ca _ h)) (λ all r2 e. outcome_runs q (push_all (seconds all) (a ∷ base.operands)) base r2 8 (f a all) i (omega arith) at (calls_on f names all a base r2 e)))))
+        let f : Variables → Evaluated → List (site.Name × Evaluated) → Outcome = λ v a given. test_applied_by here.file (tested_at plain here v name) a given span in
+        top_at w place code _ len (spend w place code (onward_runs w place code (omega arith) (expr_runs value ip base r (stands_front code ip cv _ has)) (λ a r1. onward_where w place code (λ all. firsts all ≡ names) (omega arith) (holds_arguments arguments r1) (arguments_runs arguments p (over a base) r1 (stands_front code p ca _ h)) (λ all r2 e. outcome_runs q (push_all (seconds all) (a ∷ base.operands)) base r2 8 (f r2.vars a all) i (omega arith) at (calls_on (f r2.vars) names all a base r2 e)))))
     expr_runs (Call name arguments span) ip base r has =
         let names = argument_names arguments in
         let i = instruction.CallFunction name names span in
@@ -301,7 +301,7 @@ module _ (w : World) (place : Place) (code : Code) (below : Below w place) where
         let p = ip + length ca in
         let len : p + 1 ≡ ip + length (ca ++ i ∷ []) = omega (arith, length-append ca (i ∷ [])) in
         let at = (stands_back code ip ca (i ∷ []) has).0 in
-        top_at w place code _ len (spend w place code (onward_where w place code (λ all. firsts all ≡ names) (omega arith) (holds_arguments arguments r) (arguments_runs arguments ip base r (stands_front code ip ca _ has)) (λ all r1 e. outcome_runs p (push_all (seconds all) base.operands) base r1 7 (function_called here.file name all span) i (omega arith) at (calls_function (p + 1) name names all base r1 span e))))
+        top_at w place code _ len (spend w place code (onward_where w place code (λ all. firsts all ≡ names) (omega arith) (holds_arguments arguments r) (arguments_runs arguments ip base r (stands_front code ip ca _ has)) (λ all r1 e. outcome_runs p (push_all (seconds all) base.operands) base r1 7 (function_called_by here.file (called_at plain here r1.vars name) all span) i (omega arith) at (calls_function (p + 1) name names all base r1 span e))))
     expr_runs (Component name attributes span) ip base r has =
         let i = instruction.TakeComponent name (keys_in attributes) false span in
         let ci = entries_code attributes in

@@ -5,6 +5,7 @@ use Rattle.std.specs.Prelude.{slice_get, Bool, true, false, cond, nat_le, length
 use Rattle.tera_errors.specs.Site.{Name}
 use Rattle.tera_errors.specs.Answer.{Refusal}
 use Rattle.tera_state.specs.Scopes.{around_of}
+use Rattle.tera_objects.specs.Engine.{Engine}
 use Rattle.tera_meaning.specs.Here.{Here}
 use Rattle.tera_meaning.specs.Run.{Request}
 use Rattle.tera_meaning.specs.Whole.{World, Place, here_at}
@@ -31,9 +32,9 @@ within_cond m true x h = (refl, h)
 within_cond m false x h = absurd h
 
 -- where the machine stands with an engine is where the body stands in the world
-pub here_is : (w : World) (m : VirtualMachine) (file file0 : Name) (blocks0 : OpenBlocks) (c c0 : Configuration) → engine_of m ≡ w.registry.engine → file ≡ file0 → around_of c.scopes ≡ around_of c0.scopes → here_of m file c ≡ here_at w (place_at m file0 blocks0 c0)
-here_is w m file file0 blocks0 c c0 e f a =
-    ap (λ engine. record { file = file; around = around_of c.scopes; autoescape = m.autoescape; engine = engine }) e
+pub here_is : {O : Type 0} (engine : O → Engine) (w : World) (m : VirtualMachine O) (file file0 : Name) (blocks0 : OpenBlocks) (c c0 : Configuration) → engine_of engine m ≡ w.registry.engine → file ≡ file0 → around_of c.scopes ≡ around_of c0.scopes → here_of engine m file c ≡ here_at w (place_at m file0 blocks0 c0)
+here_is engine w m file file0 blocks0 c c0 e f a =
+    ap (λ (e : Engine). record { file = file; around = around_of c.scopes; autoescape = m.autoescape; engine = e }) e
     ∙ ap₂ (λ name around. record { file = name; around = around; autoescape = m.autoescape; engine = w.registry.engine }) f a
 
 module _ {most : ℕ} {w : World} {place : Place} {code : Code} {c0 : Config} where

@@ -6,9 +6,10 @@ use Rattle.tera_errors.specs.declared.span.Span.{Span}
 use Rattle.tera_tree.specs.Tree.{Entries, Filters, NoFilters, MoreFilters, first_span}
 use Rattle.tera_values.specs.Alphabet.{plain}
 use Rattle.tera_values.specs.Val.{text}
+use Rattle.tera_state.specs.Scope.{Variables}
 use Rattle.tera_operators.specs.Operand.{Evaluated, Outcome}
-use Rattle.tera_operators.specs.Calls.{filter_applied}
-use Rattle.tera_meaning.specs.Here.{Here, escaping_at}
+use Rattle.tera_operators.specs.Calls.{filter_applied_by}
+use Rattle.tera_meaning.specs.Here.{Here, filtered_at}
 use Rattle.tera_meaning.specs.Whole.{World, Place, here_at, whole}
 use Rattle.tera_meaning.specs.Run.{Run, Signal, On, Broke, Continued, Oracle, Meaning, ◌▹◌, visit, captured, go_on}
 use Rattle.tera_meaning.specs.Meaning.{put_out, written, component_meaning_in, entries_meaning, filters_meaning}
@@ -41,8 +42,8 @@ module _ (w : World) (place : Place) (code : Code) (below : Below w place) where
       let p = ip + length ca in
       let len : p + 1 + length cr ≡ ip + length (ca ++ (i ∷ cr)) = omega (arith, length-append ca (i ∷ cr)) in
       let h = stands_back code ip ca (i ∷ cr) has in
-      let f : Evaluated → List (site.Name × Evaluated) → Outcome = λ b given. filter_applied here.file (escaping_at here) name b given span in
-      top_at w place code _ len (onward_runs w place code {t = 0} (omega arith) (spend w place code (onward_where w place code (λ all. firsts all ≡ names) (omega arith) (holds_arguments w place code below arguments r) (arguments_runs w place code below arguments ip (over a base) r (stands_front code ip ca _ has)) (λ all r1 e. outcome_runs w place code below p (push_all (seconds all) (a ∷ base.operands)) base r1 7 (f a all) i (omega arith) h.0 (calls_on w place code below f names all a base r1 e)))) (λ b r2. filters_runs rest b (p + 1) base r2 h.1))
+      let f : Variables → Evaluated → List (site.Name × Evaluated) → Outcome = λ v b given. filter_applied_by here.file (filtered_at plain here v name) b given span in
+      top_at w place code _ len (onward_runs w place code {t = 0} (omega arith) (spend w place code (onward_where w place code (λ all. firsts all ≡ names) (omega arith) (holds_arguments w place code below arguments r) (arguments_runs w place code below arguments ip (over a base) r (stands_front code ip ca _ has)) (λ all r1 e. outcome_runs w place code below p (push_all (seconds all) (a ∷ base.operands)) base r1 7 (f r1.vars a all) i (omega arith) h.0 (calls_on w place code below (f r1.vars) names all a base r1 e)))) (λ b r2. filters_runs rest b (p + 1) base r2 h.1))
 
   -- what is made of the text, by one instruction
   abbrev Used : ℕ → Base → ℕ → (Evaluated → Meaning Signal) → Type 0

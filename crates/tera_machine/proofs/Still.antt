@@ -5,14 +5,15 @@ use Rattle.std.specs.List.{zip}
 use Rattle.tera_errors.specs.declared.span.Span.{Span}
 use Rattle.tera_errors.specs.Fault.{Fault}
 use Rattle.tera_errors.specs.Site.{Name, Text}
+use Rattle.tera_values.specs.Alphabet.{plain}
 use Rattle.tera_state.specs.Scope.{Turn}
-use Rattle.tera_meaning.specs.Here.{Here, escaping_at}
+use Rattle.tera_meaning.specs.Here.{Here, filtered_at, tested_at, called_at}
 use Rattle.tera_operators.specs.Operand.{Evaluated, Outcome}
 use Rattle.tera_operators.specs.Operators.{not_of}
 use Rattle.tera_values.specs.Val.{Val, KeyVal}
 use Rattle.tera_tree.specs.Tree.{Key}
 use Rattle.tera_operators.specs.Literals.{array_of, map_entries, map_of}
-use Rattle.tera_operators.specs.Calls.{filter_applied, test_applied, function_called}
+use Rattle.tera_operators.specs.Calls.{filter_applied_by, test_applied_by, function_called_by}
 use Rattle.tera_code.specs.declared.instruction.Instruction.{Instruction}
 use Rattle.tera_code.specs.declared.instruction.Instruction.TheVariants.{WriteText, WriteTop, WriteName, LoadConst, LoadName, LoadAttribute, LoadItem, Slice, Not, Negate, Binary, MakeArray, MakeMap, Jump, PopJumpIfFalse, JumpIfFalseOrPop, JumpIfTrueOrPop, Store, LoadContext, StartLoop, NextTurn, EndLoop, Keep, EndComprehension, StartCapture, EndCapture, LeaveLoop, LeaveTurn, TakeBlock, TakeAbove, TakeInclude, TakeComponent, ApplyFilter, ApplyTest, CallFunction}
 use Rattle.tera_machine.specs.Config.{Config, Loop}
@@ -174,11 +175,11 @@ module _ (here : Here) (next : ℕ) where
   act_still (TakeComponent name keys has_body span) c =
       given_still here name keys has_body span (topmost (length keys) c.operands) c
   act_still (ApplyFilter name names span) c =
-      called_still (λ a given. filter_applied here.file (escaping_at here) name a given span) names (topmost (length names) c.operands) c
+      called_still (λ a given. filter_applied_by here.file (filtered_at plain here c.run.vars name) a given span) names (topmost (length names) c.operands) c
   act_still (ApplyTest name names span) c =
-      called_still (λ a given. test_applied here.file name a given span) names (topmost (length names) c.operands) c
+      called_still (λ a given. test_applied_by here.file (tested_at plain here c.run.vars name) a given span) names (topmost (length names) c.operands) c
   act_still (CallFunction name names span) c =
-      made_still (λ all. function_called here.file name (zip names all) span) (topmost (length names) c.operands) c
+      made_still (λ all. function_called_by here.file (called_at plain here c.run.vars name) (zip names all) span) (topmost (length names) c.operands) c
 
   pub still : (i : Instruction) (c c2 : Config) (flow : Flow) → act here next i c ≡ Goes c2 flow → c2.run.blocks ≡ c.run.blocks
   still i c c2 flow e = subst (IsStill c) e (act_still i c)

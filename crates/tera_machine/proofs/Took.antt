@@ -30,14 +30,14 @@ use Rattle.tera_machine.specs.Wanted.{ended_by}
 use Rattle.tera_machine.proofs.Noting.{noted_then, noted_from}
 use Rattle.tera_machine.proofs.Taking.{AtAsk, body_failed, refused, inner_within, can_leave, body_done, body_broke}
 
-pub place_same : (m : VirtualMachine) (file file0 : Name) {b0 b : OpenBlocks} {c0 c : Configuration} → file ≡ file0 → Stays b0 c0 b c → place_at m file b c ≡ place_at m file0 b0 c0
+pub place_same : {O : Type 0} (m : VirtualMachine O) (file file0 : Name) {b0 b : OpenBlocks} {c0 c : Configuration} → file ≡ file0 → Stays b0 c0 b c → place_at m file b c ≡ place_at m file0 b0 c0
 place_same m file file0 {b0} {b} {c0} {c} e s =
     ap₂ (λ f a. record { template = template_of m; file = f; around = a; autoescape = m.autoescape; depth = m.depth; included = names_in b.included; opened = b.names; above = definers_of b.above }) e s.around
     ∙ ap₂ (λ ns ds. record { template = template_of m; file = file0; around = around_of c0.scopes; autoescape = m.autoescape; depth = m.depth; included = names_in b.included; opened = ns; above = definers_of ds }) s.names s.above
     ∙ ap (λ i. record { template = template_of m; file = file0; around = around_of c0.scopes; autoescape = m.autoescape; depth = m.depth; included = names_in i; opened = b0.names; above = definers_of b0.above }) s.included
 
 -- where nothing is open
-pub place_none : (m : VirtualMachine) (file : Name) (b : OpenBlocks) (c : Configuration) → b.names ≡ [] → definers_of b.above ≡ [] → names_in b.included ≡ [] → place_at m file b c ≡ place_of m file c
+pub place_none : {O : Type 0} (m : VirtualMachine O) (file : Name) (b : OpenBlocks) (c : Configuration) → b.names ≡ [] → definers_of b.above ≡ [] → names_in b.included ≡ [] → place_at m file b c ≡ place_of m file c
 place_none m file b c e f g =
     ap₂ (λ ns ds. record { template = template_of m; file = file; around = around_of c.scopes; autoescape = m.autoescape; depth = m.depth; included = names_in b.included; opened = ns; above = ds }) e f
     ∙ ap (λ ns. record { template = template_of m; file = file; around = around_of c.scopes; autoescape = m.autoescape; depth = m.depth; included = ns; opened = []; above = [] }) g
@@ -79,7 +79,7 @@ take_failed e at None c3 n3 le h = tt
 take_failed e at (Some f) c3 n3 le h = body_failed at f n3 le (ends_at e h)
 
 -- what was found is entered
-pub enters : {w : World} (m : VirtualMachine) (file : Name) (a : Asked) (b0 : OpenBlocks) (c0 : Configuration) (d : Nearest) (b : OpenBlocks) (c : Configuration) → IsBody w (place_at m file b0 c0) a (config_of c0).run.vars d → b.names ≡ opened_by a b0.names → b.above ≡ d.above → b.included ≡ b0.included → c.scopes ≡ c0.scopes → config_of c ≡ entered (config_of c0).run.vars (config_of c0) → Entered w (place_at m file b0 c0) (request_of a) (config_of c0) (place_at m d.chunk.now.file b c) d.chunk.now.code (config_of c)
+pub enters : {w : World} {O : Type 0} (m : VirtualMachine O) (file : Name) (a : Asked) (b0 : OpenBlocks) (c0 : Configuration) (d : Nearest) (b : OpenBlocks) (c : Configuration) → IsBody w (place_at m file b0 c0) a (config_of c0).run.vars d → b.names ≡ opened_by a b0.names → b.above ≡ d.above → b.included ≡ b0.included → c.scopes ≡ c0.scopes → config_of c ≡ entered (config_of c0).run.vars (config_of c0) → Entered w (place_at m file b0 c0) (request_of a) (config_of c0) (place_at m d.chunk.now.file b c) d.chunk.now.code (config_of c)
 enters m file a b0 c0 d b c h names above included scopes config =
     let same = ap₂ (λ f x. record { template = template_of m; file = f; around = around_of x; autoescape = m.autoescape; depth = m.depth; included = names_in b0.included; opened = opened_by a b0.names; above = definers_of d.above }) (sym (ap (λ (l : Listing). l.file) h.code)) (sym scopes)
     ∙ ap₂ (λ ns ds. record { template = template_of m; file = d.chunk.now.file; around = around_of c.scopes; autoescape = m.autoescape; depth = m.depth; included = names_in b0.included; opened = ns; above = definers_of ds }) (sym names) (sym above)
@@ -143,7 +143,7 @@ no_captures [] cs q u c0 c3 e = ap (λ ts. left_in [] ts q u c0 c3) e
 pub lacked : (w : World) (p : Place) (q : Request) (u : Use) (c c' : Config) (k : ℕ) (r : Refusal) → r ≡ None → BodyRan w p q u c (Err r) c' k
 lacked w p q u c c' k r e = subst (λ x. BodyRan w p q u c (Err x) c' k) (sym e) tt
 
-module _ (w : World) (m : VirtualMachine) (file : Name) (a : Asked) (b0 : OpenBlocks) (c0 : Configuration) {most : ℕ} (may : BodyWithin w (place_at m file b0 c0) (request_of a) (use_of a) (config_of c0) most) where
+module _ (w : World) {O : Type 0} (m : VirtualMachine O) (file : Name) (a : Asked) (b0 : OpenBlocks) (c0 : Configuration) {most : ℕ} (may : BodyWithin w (place_at m file b0 c0) (request_of a) (use_of a) (config_of c0) most) where
   module _ {inside : Inside} {b1 : OpenBlocks} {c1 : Configuration} (entry : Enters w m file a b0 c0 (Ok inside) b1 c1) where
     pub may_run : EndsWithin w (place_at m inside.chunk.now.file b1 c1) inside.chunk.now.code 0 (config_of c1) most
     may_run = inner_within entry.0 may
@@ -217,9 +217,9 @@ module _ (w : World) (m : VirtualMachine) (file : Name) (a : Asked) (b0 : OpenBl
   enter_failed (Some f) b1 c1 k z h = refused f k z h
 
 -- what is not found is not entered
-pub not_found : (w : World) (m : VirtualMachine) (file : Name) (a : Asked) (b0 : OpenBlocks) (c0 : Configuration) (r : Refusal) (b : OpenBlocks) (c : Configuration) → FindsBody w (place_at m file b0 c0) a (config_of c0).run.vars (Err r) → Enters w m file a b0 c0 (Err r) b c
+pub not_found : (w : World) {O : Type 0} (m : VirtualMachine O) (file : Name) (a : Asked) (b0 : OpenBlocks) (c0 : Configuration) (r : Refusal) (b : OpenBlocks) (c : Configuration) → FindsBody w (place_at m file b0 c0) a (config_of c0).run.vars (Err r) → Enters w m file a b0 c0 (Err r) b c
 not_found w m file a b0 c0 None b c h = tt
 not_found w m file a b0 c0 (Some f) b c h = h
 
-pub enter_lacks : (w : World) (m : VirtualMachine) (file : Name) (a : Asked) (b0 : OpenBlocks) (c0 : Configuration) (r : Refusal) (b : OpenBlocks) (c : Configuration) → r ≡ None → Enters w m file a b0 c0 (Err r) b c
+pub enter_lacks : (w : World) {O : Type 0} (m : VirtualMachine O) (file : Name) (a : Asked) (b0 : OpenBlocks) (c0 : Configuration) (r : Refusal) (b : OpenBlocks) (c : Configuration) → r ≡ None → Enters w m file a b0 c0 (Err r) b c
 enter_lacks w m file a b0 c0 r b c e = subst (λ x. Enters w m file a b0 c0 (Err x) b c) (sym e) tt

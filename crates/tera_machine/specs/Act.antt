@@ -8,17 +8,18 @@ use Rattle.tera_errors.specs.Fault.{Fault}
 use Rattle.tera_errors.specs.Answer.{Refusal}
 use Rattle.tera_tree.specs.Tree.{Key}
 use Rattle.tera_tree.specs.declared.expression.BinaryOperator.{BinaryOperator}
+use Rattle.tera_values.specs.Alphabet.{plain}
 use Rattle.tera_values.specs.Access.{truthy}
 use Rattle.tera_values.specs.Val.{Val, KeyVal}
 use Rattle.tera_operators.specs.Operand.{Evaluated, Outcome}
 use Rattle.tera_operators.specs.Accesses.{attribute_of, item_of, slice_of}
 use Rattle.tera_operators.specs.Operators.{not_of, negative_of, binary_of}
 use Rattle.tera_operators.specs.Literals.{array_of, map_entries, map_of}
-use Rattle.tera_operators.specs.Calls.{filter_applied, test_applied, function_called}
+use Rattle.tera_operators.specs.Calls.{filter_applied_by, test_applied_by, function_called_by}
 use Rattle.tera_state.specs.Scope.{Around, Turn, look, dump, assign}
 use Rattle.tera_state.specs.Scopes.{around_of, coming_of, coming_around}
 use Rattle.tera_components.specs.Definition.{named_arguments}
-use Rattle.tera_meaning.specs.Here.{Here, escaping_at}
+use Rattle.tera_meaning.specs.Here.{Here, filtered_at, tested_at, called_at}
 use Rattle.tera_meaning.specs.Run.{ABlock, Above, AnInclude, AComponent}
 use Rattle.tera_meaning.specs.Meaning.{output}
 use Rattle.tera_code.specs.declared.instruction.Instruction.{Instruction}
@@ -139,17 +140,18 @@ called_on f names None c = Sticks
 called_on f names (Some (all, [])) c = Sticks
 called_on f names (Some (all, a ∷ rest)) c = outcome (f a (zip names all)) rest c
 
+-- what an object sees is the variables where the instruction stands
 abbrev pub filter_called : Here → site.Name → List site.Name → Span → Config → Did
 filter_called here name names span c =
-    called_on (λ a given. filter_applied here.file (escaping_at here) name a given span) names (topmost (length names) c.operands) c
+    called_on (λ a given. filter_applied_by here.file (filtered_at plain here c.run.vars name) a given span) names (topmost (length names) c.operands) c
 
-abbrev pub test_called : site.Name → site.Name → List site.Name → Span → Config → Did
-test_called file name names span c =
-    called_on (λ a given. test_applied file name a given span) names (topmost (length names) c.operands) c
+abbrev pub test_called : Here → site.Name → List site.Name → Span → Config → Did
+test_called here name names span c =
+    called_on (λ a given. test_applied_by here.file (tested_at plain here c.run.vars name) a given span) names (topmost (length names) c.operands) c
 
-abbrev pub function_answered : site.Name → site.Name → List site.Name → Span → Config → Did
-function_answered file name names span c =
-    on_many (λ all. function_called file name (zip names all) span) (length names) c.operands c
+abbrev pub function_answered : Here → site.Name → List site.Name → Span → Config → Did
+function_answered here name names span c =
+    on_many (λ all. function_called_by here.file (called_at plain here c.run.vars name) (zip names all) span) (length names) c.operands c
 
 abbrev pub popped_branch : ℕ → Config → Did
 popped_branch skip c = popped_branch_in skip c.operands c
@@ -233,8 +235,8 @@ act here next (TakeAbove arguments span) = above_taken arguments span
 act here next (TakeInclude name span) = include_taken name span
 act here next (TakeComponent name keys has_body span) = component_taken here name keys has_body span
 act here next (ApplyFilter name names span) = filter_called here name names span
-act here next (ApplyTest name names span) = test_called here.file name names span
-act here next (CallFunction name names span) = function_answered here.file name names span
+act here next (ApplyTest name names span) = test_called here name names span
+act here next (CallFunction name names span) = function_answered here name names span
 
 -- the code did so, unless memory was refused
 abbrev pub Acted : Did → Result declared.Flow Refusal → Config → Type 0

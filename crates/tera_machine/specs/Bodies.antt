@@ -64,7 +64,7 @@ pub record Keeps (a : Asked) (inside : Inside) (blocks0 : OpenBlocks) (c0 : Conf
   pub none : c.places ≡ []
   pub scopes : c.scopes ≡ c0.scopes
 
-abbrev pub Enters : World → VirtualMachine → Name → Asked → OpenBlocks → Configuration → Result Inside Refusal → OpenBlocks → Configuration → Type 0
+abbrev pub Enters : {O : Type 0} → World → VirtualMachine O → Name → Asked → OpenBlocks → Configuration → Result Inside Refusal → OpenBlocks → Configuration → Type 0
 Enters w m file a blocks0 c0 (Ok inside) blocks c =
     Entered w (place_at m file blocks0 c0) (request_of a) (config_of c0) (place_at m inside.chunk.now.file blocks c) inside.chunk.now.code (config_of c)
     × Keeps a inside blocks0 c0 blocks c

@@ -2,13 +2,13 @@
 use Rattle.std.specs.Prelude.{◌≡◌, [], List, map, Option, Some, None, Result, Ok, Err, option_map}
 use Rattle.tera_errors.specs.Site.{Name}
 use Rattle.tera_errors.specs.Answer.{Refusal}
-use Rattle.tera_values.specs.Escape.{escape_html}
 use Rattle.tera_tree.specs.Tree.{Nodes}
 use Rattle.tera_state.specs.Scopes.{around_of}
+use Rattle.tera_objects.specs.Engine.{Engine}
 use Rattle.tera_components.specs.Definition.{Definition}
 use Rattle.tera_code.specs.Listing.{Listing}
 use Rattle.tera_meaning.specs.Components.{one_off_name}
-use Rattle.tera_meaning.specs.Here.{Engine, Here}
+use Rattle.tera_meaning.specs.Here.{Here}
 use Rattle.tera_meaning.specs.Registry.{Registry}
 use Rattle.tera_meaning.specs.Run.{Signal, Answer, Failed, Gave, Meaning, visit}
 use Rattle.tera_meaning.specs.Meaning.{nodes_meaning}
@@ -37,12 +37,12 @@ meant s = visit (nodes_meaning (here_at s.world s.place) (whole s.world s.place)
 abbrev pub meant_from : Subject → Configuration → Answer Signal
 meant_from s c = meant s (config_of c).run
 
--- the engine whose objects the machine has
-abbrev pub engine_of : VirtualMachine → Engine
-engine_of m = record { escape = escape_html }
+-- what the objects of the machine mean, where objects mean this
+abbrev pub engine_of : {O : Type 0} → (O → Engine) → VirtualMachine O → Engine
+engine_of engine m = engine m.objects.now
 
 -- the template that is rendered; a text beside the registry is none
-abbrev pub template_of : VirtualMachine → Option Name
+abbrev pub template_of : {O : Type 0} → VirtualMachine O → Option Name
 template_of m = option_map (λ f. f.name.now) m.template
 
 abbrev pub is_from : Option Found → Registry → Type 0
@@ -54,16 +54,16 @@ abbrev pub kept_beside : Option Beside → List (Definition × Listing)
 kept_beside None = []
 kept_beside (Some b) = map kept_of b.components.now
 
-abbrev pub AreBeside : VirtualMachine → World → Type 0
+abbrev pub AreBeside : {O : Type 0} → VirtualMachine O → World → Type 0
 AreBeside m w = kept_beside m.beside ≡ map (kept_as one_off_name) w.beside
 
 -- the templates are those of the registry, and so is the one that is rendered
-abbrev pub IsLinked : VirtualMachine → World → Type 0
+abbrev pub IsLinked : {O : Type 0} → VirtualMachine O → World → Type 0
 IsLinked m w =
     is_from m.template w.registry × ((with_templates w.registry m.templates.now ≡ w.registry) × AreBeside m w)
 
 -- where a body of this file stands while the machine runs it, with these templates and blocks open
-abbrev pub place_at : VirtualMachine → Name → OpenBlocks → Configuration → Place
+abbrev pub place_at : {O : Type 0} → VirtualMachine O → Name → OpenBlocks → Configuration → Place
 place_at m file blocks c = record {
   template = template_of m;
   file = file;
@@ -76,7 +76,7 @@ place_at m file blocks c = record {
 }
 
 -- where it stands while nothing is open
-abbrev pub place_of : VirtualMachine → Name → Configuration → Place
+abbrev pub place_of : {O : Type 0} → VirtualMachine O → Name → Configuration → Place
 place_of m file c = record {
   template = template_of m;
   file = file;
@@ -89,9 +89,13 @@ place_of m file c = record {
 }
 
 -- what is fixed for the nodes of that body
-abbrev pub here_of : VirtualMachine → Name → Configuration → Here
-here_of m file c =
-    record { file = file; around = around_of c.scopes; autoescape = m.autoescape; engine = engine_of m }
+abbrev pub here_of : {O : Type 0} → (O → Engine) → VirtualMachine O → Name → Configuration → Here
+here_of engine m file c = record {
+  file = file;
+  around = around_of c.scopes;
+  autoescape = m.autoescape;
+  engine = engine_of engine m;
+}
 
 -- the run gave what is meant, and all that waited waits as before, unless memory was refused
 abbrev pub Means : Answer Signal → Config → Result (Unit {0}) Refusal → Config → Type 0

@@ -14,6 +14,7 @@ use crate::configuration::Configuration;
 use crate::machine::{Flow, VirtualMachine};
 use std::alloc::Global;
 use tera_code::{Instruction, Keys, Spreads};
+use tera_objects::Objects;
 use tera_operators::Operand;
 use tera_state::Found;
 use tera_tree::BinaryOperator;
@@ -21,18 +22,18 @@ use tera_values::{Error, Name, Sought, Span, TeraResult, Value};
 
 impl<'c> Configuration<'c> {
     /// Does what the instruction says, which stands in this file's text in front of the next place, and tells where to go on.
-    pub(crate) fn act<'f>(
+    pub(crate) fn act<'f, O: Objects>(
         &mut self,
-        machine: &VirtualMachine<'_>,
+        machine: &VirtualMachine<'_, O>,
         file: &str,
         next: usize,
         instruction: &Instruction<'f>,
     ) -> TeraResult<Flow<'f>>
-        requires ready { IsReady (act (here_of machine.now file.now self.old) next instruction.now)
-            self.old }
-        requires small { IsSmall (act (here_of machine.now file.now self.old) next instruction.now
-            (config_of self.old)) }
-        ensures { Does (act (here_of machine.now file.now self.old) next instruction.now)
+        requires ready { IsReady (act (here_of O.engine machine.now file.now self.old)
+            next instruction.now) self.old }
+        requires small { IsSmall (act (here_of O.engine machine.now file.now self.old)
+            next instruction.now (config_of self.old)) }
+        ensures { Does (act (here_of O.engine machine.now file.now self.old) next instruction.now)
             self.old result self.new }
     {
         let alloc = machine.alloc;
@@ -96,12 +97,12 @@ impl<'c> Configuration<'c> {
                 name,
                 arguments,
                 span,
-            } => self.apply_test(alloc, file, name, arguments, *span),
+            } => self.apply_test(machine, file, name, arguments, *span),
             Instruction::CallFunction {
                 name,
                 arguments,
                 span,
-            } => self.call_function(alloc, file, name, arguments, *span),
+            } => self.call_function(machine, file, name, arguments, *span),
         }
     }
 
@@ -114,13 +115,13 @@ impl<'c> Configuration<'c> {
     }
 
     #[inline(never)]
-    pub(crate) fn write_top<'f>(
+    pub(crate) fn write_top<'f, O: Objects>(
         &mut self,
-        machine: &VirtualMachine<'_>,
+        machine: &VirtualMachine<'_, O>,
         file: &str,
     ) -> TeraResult<Flow<'f>>
-        requires { IsReady (top_written (here_of machine.now file.now self.old)) self.old }
-        ensures { Does (top_written (here_of machine.now file.now self.old))
+        requires { IsReady (top_written (here_of O.engine machine.now file.now self.old)) self.old }
+        ensures { Does (top_written (here_of O.engine machine.now file.now self.old))
             self.old result self.new }
     {
         let Some(operand) = self.operands.pop() else {
@@ -129,21 +130,25 @@ impl<'c> Configuration<'c> {
         if operand.value().is_undefined() {
             return Err(undefined_written(machine.alloc, file, operand.span()));
         }
-        self.texts
-            .append_value(machine.alloc, machine.autoescape, operand.value())?;
+        self.texts.append_value(
+            machine.alloc,
+            machine.objects,
+            machine.autoescape,
+            operand.value(),
+        )?;
         Ok(Flow::On)
     }
 
     // The value is read where it lies.
     #[inline(always)]
-    pub(crate) fn write_name<'f>(
+    pub(crate) fn write_name<'f, O: Objects>(
         &mut self,
-        machine: &VirtualMachine<'_>,
+        machine: &VirtualMachine<'_, O>,
         file: &str,
         name: &Sought<'_>,
         span: Span,
     ) -> TeraResult<Flow<'f>>
-        ensures { Does (name_written (here_of machine.now file.now self.old) name.now span)
+        ensures { Does (name_written (here_of O.engine machine.now file.now self.old) name.now span)
             self.old result self.new }
     {
         let found = self.scopes.look(name);
@@ -153,10 +158,11 @@ impl<'c> Configuration<'c> {
         match &found {
             Found::Kept(value) => {
                 self.texts
-                    .append_value(machine.alloc, machine.autoescape, value)?
+                    .append_value(machine.alloc, machine.objects, machine.autoescape, value)?
             }
             _ => self.texts.append_value(
                 machine.alloc,
+                machine.objects,
                 machine.autoescape,
                 &found.to_value(machine.alloc)?,
             )?,
@@ -402,9 +408,9 @@ impl<'c> Configuration<'c> {
         }
     }
 
-    fn take_component<'f>(
+    fn take_component<'f, O: Objects>(
         &mut self,
-        machine: &VirtualMachine<'_>,
+        machine: &VirtualMachine<'_, O>,
         file: &str,
         name: &'f Name,
         keys: &Keys<'_>,
@@ -412,11 +418,11 @@ impl<'c> Configuration<'c> {
         span: Span,
     ) -> TeraResult<Flow<'f>>
         requires { IsReady
-            (component_taken (here_of machine.now file.now self.old) name.now keys.now has_body span)
-            self.old }
+            (component_taken (here_of O.engine machine.now file.now self.old)
+            name.now keys.now has_body span) self.old }
         ensures { Does
-            (component_taken (here_of machine.now file.now self.old) name.now keys.now has_body span)
-            self.old result self.new }
+            (component_taken (here_of O.engine machine.now file.now self.old)
+            name.now keys.now has_body span) self.old result self.new }
     {
         let keys = keys.as_slice();
         if self.operands.len() < keys.len() {

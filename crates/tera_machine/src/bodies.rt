@@ -22,6 +22,7 @@ use crate::wanted::Wanted;
 use std::mem::replace;
 use tera_code::Chunk;
 use tera_errors::Error;
+use tera_objects::Objects;
 use tera_operators::Operand;
 use tera_registry::{Definer, Definers};
 use tera_state::Stack;
@@ -97,7 +98,7 @@ impl<'c> Configuration<'c> {
     }
 }
 
-impl<'t> VirtualMachine<'t> {
+impl<'t, O: Objects> VirtualMachine<'t, O> {
     // Those who define a block for the template that is rendered.
     fn definers<M: Limit>(&self, name: &Name) -> Definers<'t>
         requires { IsLinked self.now M.world }

@@ -4,30 +4,25 @@ ghost use Rattle.tera_machine.specs.Subject.{here_of};
 
 use crate::configuration::Configuration;
 use crate::machine::{Flow, VirtualMachine};
-use std::alloc::Global;
-use tera_built_ins::Escaping;
 use tera_code::{LentName, Names};
+use tera_objects::{Objects, filter, function, test};
 use tera_values::{Span, TeraResult};
 
 impl<'c> Configuration<'c> {
     #[inline(never)]
-    pub(crate) fn apply_filter<'f>(
+    pub(crate) fn apply_filter<'f, O: Objects>(
         &mut self,
-        machine: &VirtualMachine<'_>,
+        machine: &VirtualMachine<'_, O>,
         file: &str,
         name: &LentName<'_>,
         names: &Names<'_>,
         span: Span,
     ) -> TeraResult<Flow<'f>>
-        requires { IsReady (filter_called (here_of machine.now file.now self.old)
+        requires { IsReady (filter_called (here_of O.engine machine.now file.now self.old)
             name.now names.now span) self.old }
-        ensures { Does (filter_called (here_of machine.now file.now self.old)
+        ensures { Does (filter_called (here_of O.engine machine.now file.now self.old)
             name.now names.now span) self.old result self.new }
     {
-        let alloc = machine.alloc;
-        let escaping = Escaping {
-            autoescape: machine.autoescape,
-        };
         let name = name.as_name().as_str();
         let names = names.as_slice();
         if self.operands.len() < names.len() {
@@ -37,23 +32,34 @@ impl<'c> Configuration<'c> {
         let Some(target) = self.operands.pop() else {
             unreachable!()
         };
-        let operand = tera_operators::filter(
-            alloc, file, escaping, name, &target, names, operands, span,
+        let operand = filter(
+            machine.alloc,
+            file,
+            machine.objects,
+            &self.scopes,
+            machine.autoescape,
+            name,
+            &target,
+            names,
+            operands,
+            span,
         )?;
         self.put(operand)
     }
 
     #[inline(never)]
-    pub(crate) fn apply_test<'f>(
+    pub(crate) fn apply_test<'f, O: Objects>(
         &mut self,
-        alloc: Global,
+        machine: &VirtualMachine<'_, O>,
         file: &str,
         name: &LentName<'_>,
         names: &Names<'_>,
         span: Span,
     ) -> TeraResult<Flow<'f>>
-        requires { IsReady (test_called file.now name.now names.now span) self.old }
-        ensures { Does (test_called file.now name.now names.now span) self.old result self.new }
+        requires { IsReady (test_called (here_of O.engine machine.now file.now self.old)
+            name.now names.now span) self.old }
+        ensures { Does (test_called (here_of O.engine machine.now file.now self.old)
+            name.now names.now span) self.old result self.new }
     {
         let name = name.as_name().as_str();
         let names = names.as_slice();
@@ -64,22 +70,34 @@ impl<'c> Configuration<'c> {
         let Some(target) = self.operands.pop() else {
             unreachable!()
         };
-        let operand = tera_operators::test(alloc, file, name, &target, names, operands, span)?;
+        let operand = test(
+            machine.alloc,
+            file,
+            machine.objects,
+            &self.scopes,
+            machine.autoescape,
+            name,
+            &target,
+            names,
+            operands,
+            span,
+        )?;
         self.put(operand)
     }
 
     #[inline(never)]
-    pub(crate) fn call_function<'f>(
+    pub(crate) fn call_function<'f, O: Objects>(
         &mut self,
-        alloc: Global,
+        machine: &VirtualMachine<'_, O>,
         file: &str,
         name: &LentName<'_>,
         names: &Names<'_>,
         span: Span,
     ) -> TeraResult<Flow<'f>>
-        requires { IsReady (function_answered file.now name.now names.now span) self.old }
-        ensures { Does (function_answered file.now name.now names.now span) self.old result
-            self.new }
+        requires { IsReady (function_answered (here_of O.engine machine.now file.now self.old)
+            name.now names.now span) self.old }
+        ensures { Does (function_answered (here_of O.engine machine.now file.now self.old)
+            name.now names.now span) self.old result self.new }
     {
         let name = name.as_name().as_str();
         let names = names.as_slice();
@@ -87,7 +105,17 @@ impl<'c> Configuration<'c> {
             unreachable!()
         }
         let operands = self.operands.pop_many(names.len())?;
-        let operand = tera_operators::function(alloc, file, name, names, operands, span)?;
+        let operand = function(
+            machine.alloc,
+            file,
+            machine.objects,
+            &self.scopes,
+            machine.autoescape,
+            name,
+            names,
+            operands,
+            span,
+        )?;
         self.put(operand)
     }
 }

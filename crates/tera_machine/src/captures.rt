@@ -8,6 +8,7 @@ ghost use Rattle.tera_machine.specs.Captures.{capture_started, capture_ended, dr
 
 use crate::configuration::Configuration;
 use crate::machine::{Flow, VirtualMachine};
+use tera_objects::Objects;
 use tera_values::{Span, TeraResult, Value};
 
 impl<'c> Configuration<'c> {
@@ -19,9 +20,9 @@ impl<'c> Configuration<'c> {
     }
 
     // The text is safe where texts are escaped: what is put out in a capture is escaped already.
-    pub(crate) fn end_capture<'f>(
+    pub(crate) fn end_capture<'f, O: Objects>(
         &mut self,
-        machine: &VirtualMachine<'_>,
+        machine: &VirtualMachine<'_, O>,
         span: Span,
     ) -> TeraResult<Flow<'f>>
         requires { IsReady (capture_ended machine.now.autoescape span) self.old }

@@ -20,6 +20,7 @@ use crate::configuration::Configuration;
 use crate::machine::{Limit, VirtualMachine};
 use tera_code::Chunk;
 use tera_errors::Error;
+use tera_objects::Objects;
 use tera_operators::{Operand, fault_at};
 use tera_registry::{Component, Defined, Templates};
 use tera_values::{Context, Name, Span, TeraResult, Value};
@@ -91,7 +92,7 @@ fn first_of<'t>(components: &'t [Component], name: &Name) -> Option<Defined<'t>>
     None
 }
 
-impl<'t> VirtualMachine<'t> {
+impl<'t, O: Objects> VirtualMachine<'t, O> {
     // The component of this name among those of the templates.
     fn registered<M: Limit>(&self, name: &Name) -> Option<Defined<'t>>
         requires { IsLinked self.now M.world }

@@ -19,6 +19,7 @@ use crate::configuration::Configuration;
 use crate::machine::{Limit, VirtualMachine};
 use tera_code::Chunk;
 use tera_errors::Error;
+use tera_objects::Objects;
 use tera_registry::{Found, Templates};
 use tera_values::{Name, Span, TeraResult};
 
@@ -69,7 +70,7 @@ impl<'c> Configuration<'c> {
     }
 }
 
-impl<'t> VirtualMachine<'t> {
+impl<'t, O: Objects> VirtualMachine<'t, O> {
     // The template to which the name resolves.
     fn found<M: Limit>(&self, name: &Name) -> Option<Found<'t>>
         requires { IsLinked self.now M.world }

@@ -15,6 +15,7 @@ use crate::machine::{Flow, VirtualMachine};
 use crate::place::LoopPlace;
 use std::alloc::Global;
 use tera_code::LentName;
+use tera_objects::Objects;
 use tera_operators::{Operand, fault_at};
 use tera_state::{ForLoop, Stack};
 use tera_values::{Span, TeraResult, Value};
@@ -60,9 +61,9 @@ fn opened(
 
 impl<'c> Configuration<'c> {
     // The body starts at the next place.
-    pub(crate) fn start_loop<'f>(
+    pub(crate) fn start_loop<'f, O: Objects>(
         &mut self,
-        machine: &VirtualMachine<'_>,
+        machine: &VirtualMachine<'_, O>,
         file: &str,
         next: usize,
         key: &Option<LentName<'_>>,
@@ -70,11 +71,11 @@ impl<'c> Configuration<'c> {
         counts: bool,
         size: usize,
     ) -> TeraResult<Flow<'f>>
-        requires ready { IsReady (loop_started (here_of machine.now file.now self.old)
+        requires ready { IsReady (loop_started (here_of O.engine machine.now file.now self.old)
             next key.now name.now counts size) self.old }
-        requires small { IsSmall (loop_started (here_of machine.now file.now self.old)
+        requires small { IsSmall (loop_started (here_of O.engine machine.now file.now self.old)
             next key.now name.now counts size (config_of self.old)) }
-        ensures { Does (loop_started (here_of machine.now file.now self.old)
+        ensures { Does (loop_started (here_of O.engine machine.now file.now self.old)
             next key.now name.now counts size) self.old result self.new }
     {
         let alloc = machine.alloc;

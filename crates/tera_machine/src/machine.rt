@@ -24,6 +24,7 @@ use std::alloc::Global;
 use std::marker::Brand;
 use std::sync::ledger::Ledger;
 use tera_code::{Chunk, Steps};
+use tera_objects::Objects;
 use tera_registry::{Component, Found, Templates};
 use tera_values::{Name, Span, TeraResult};
 
@@ -60,28 +61,30 @@ impl Limit for Brand {
 }
 
 /// Runs compiled bodies. It holds what no run changes: among the templates it finds what is included and what components are
-/// called, of the template that is rendered, where one is, it takes blocks, and it knows the components of a text beside the
-/// templates, and how many components are open around what it runs.
-#[derive(Clone, Copy)]
-pub struct VirtualMachine<'t> {
+/// called, of the template that is rendered, where one is, it takes blocks, it asks the objects for filters, tests, functions and
+/// the escape, and it knows the components of a text beside the templates, and how many components are open around what it runs.
+#[derive_where(Clone, Copy)]
+pub struct VirtualMachine<'t, O> {
     pub(crate) alloc: Global,
     pub(crate) autoescape: bool,
     pub(crate) templates: &'t Templates,
+    pub(crate) objects: &'t O,
     pub(crate) template: Option<Found<'t>>,
     pub(crate) beside: Option<Beside<'t>>,
     pub(crate) depth: usize,
 }
 
-impl<'t> VirtualMachine<'t> {
+impl<'t, O: Objects> VirtualMachine<'t, O> {
     /// A machine for a text beside these templates, that escapes what it writes.
-    pub fn new(alloc: Global, templates: &'t Templates) -> VirtualMachine<'t>
+    pub fn new(alloc: Global, templates: &'t Templates, objects: &'t O) -> VirtualMachine<'t, O>
         ensures escapes { IsTrue result.autoescape }
         ensures templates { result.templates.now ≡ templates.now }
+        ensures objects { result.objects.now ≡ objects.now }
         ensures alone { result.template ≡ None }
         ensures beside { kept_beside result.beside ≡ [] }
         ensures depth { result.depth ≡ 0 }
     {
-        VirtualMachine::new_with_autoescape(alloc, true, templates)
+        VirtualMachine::new_with_autoescape(alloc, true, templates, objects)
     }
 
     /// The same, that escapes what it writes where the flag says so.
@@ -89,9 +92,11 @@ impl<'t> VirtualMachine<'t> {
         alloc: Global,
         autoescape: bool,
         templates: &'t Templates,
-    ) -> VirtualMachine<'t>
+        objects: &'t O,
+    ) -> VirtualMachine<'t, O>
         ensures escapes { result.autoescape ≡ autoescape }
         ensures templates { result.templates.now ≡ templates.now }
+        ensures objects { result.objects.now ≡ objects.now }
         ensures alone { result.template ≡ None }
         ensures beside { kept_beside result.beside ≡ [] }
         ensures depth { result.depth ≡ 0 }
@@ -100,6 +105,7 @@ impl<'t> VirtualMachine<'t> {
             alloc,
             autoescape,
             templates,
+            objects,
             template: None,
             beside: None,
             depth: 0,
@@ -107,9 +113,15 @@ impl<'t> VirtualMachine<'t> {
     }
 
     /// A machine for a template of an engine: blocks are those of that template.
-    pub fn for_template(alloc: Global, autoescape: bool, template: Found<'t>) -> VirtualMachine<'t>
+    pub fn for_template(
+        alloc: Global,
+        autoescape: bool,
+        template: Found<'t>,
+        objects: &'t O,
+    ) -> VirtualMachine<'t, O>
         ensures escapes { result.autoescape ≡ autoescape }
         ensures templates { result.templates.now ≡ template.entry.templates.now }
+        ensures objects { result.objects.now ≡ objects.now }
         ensures template { result.template ≡ Some template.entry }
         ensures beside { kept_beside result.beside ≡ [] }
         ensures depth { result.depth ≡ 0 }
@@ -118,6 +130,7 @@ impl<'t> VirtualMachine<'t> {
             alloc,
             autoescape,
             templates: template.templates,
+            objects,
             template: Some(template),
             beside: None,
             depth: 0,
@@ -125,9 +138,10 @@ impl<'t> VirtualMachine<'t> {
     }
 
     /// The same, for a text that defines these components.
-    pub fn with_components(self, components: &'t [Component]) -> VirtualMachine<'t>
+    pub fn with_components(self, components: &'t [Component]) -> VirtualMachine<'t, O>
         ensures escapes { result.autoescape ≡ self.entry.autoescape }
         ensures templates { result.templates.now ≡ self.entry.templates.now }
+        ensures objects { result.objects.now ≡ self.entry.objects.now }
         ensures template { result.template ≡ self.entry.template }
         ensures beside { kept_beside result.beside ≡ map kept_of components.now }
         ensures depth { result.depth ≡ self.entry.depth }
@@ -139,9 +153,10 @@ impl<'t> VirtualMachine<'t> {
     }
 
     // The same for a template that is included.
-    fn in_template(&self, template: Found<'t>) -> VirtualMachine<'t>
+    fn in_template(&self, template: Found<'t>) -> VirtualMachine<'t, O>
         ensures escapes { result.autoescape ≡ self.now.autoescape }
         ensures templates { result.templates.now ≡ template.entry.templates.now }
+        ensures objects { result.objects.now ≡ self.now.objects.now }
         ensures template { result.template ≡ Some template.entry }
         ensures beside { result.beside ≡ self.now.beside }
         ensures depth { result.depth ≡ self.now.depth }
@@ -150,6 +165,7 @@ impl<'t> VirtualMachine<'t> {
             alloc: self.alloc,
             autoescape: self.autoescape,
             templates: template.templates,
+            objects: self.objects,
             template: Some(template),
             beside: self.beside,
             depth: self.depth,
@@ -157,9 +173,10 @@ impl<'t> VirtualMachine<'t> {
     }
 
     // The same for a component, where so many are open with it. It takes no blocks.
-    fn in_component(&self, depth: usize) -> VirtualMachine<'t>
+    fn in_component(&self, depth: usize) -> VirtualMachine<'t, O>
         ensures escapes { result.autoescape ≡ self.now.autoescape }
         ensures templates { result.templates.now ≡ self.now.templates.now }
+        ensures objects { result.objects.now ≡ self.now.objects.now }
         ensures alone { result.template ≡ None }
         ensures beside { result.beside ≡ self.now.beside }
         ensures depth { result.depth ≡ depth }
@@ -168,6 +185,7 @@ impl<'t> VirtualMachine<'t> {
             alloc: self.alloc,
             autoescape: self.autoescape,
             templates: self.templates,
+            objects: self.objects,
             template: None,
             beside: self.beside,
             depth,
@@ -182,7 +200,7 @@ impl<'t> VirtualMachine<'t> {
         steps: &mut Steps<L>,
     ) -> TeraResult<()>
         ghost about: { Subject }
-        requires engine { engine_of self.now ≡ about.world.registry.engine }
+        requires engine { engine_of O.engine self.now ≡ about.world.registry.engine }
         requires linked { IsLinked self.now about.world }
         requires place { place_of self.now chunk.now.file configuration.old ≡ about.place }
         requires code { chunk.now.code ≡ nodes_code about.tree 0 }
@@ -206,7 +224,7 @@ impl<'t> VirtualMachine<'t> {
         steps: &mut Steps<L>,
     ) -> TeraResult<String>
         ghost about: { Subject }
-        requires engine { engine_of self.now ≡ about.world.registry.engine }
+        requires engine { engine_of O.engine self.now ≡ about.world.registry.engine }
         requires linked { IsLinked self.now about.world }
         requires place { place_of self.now chunk.now.file configuration.old ≡ about.place }
         requires code { chunk.now.code ≡ nodes_code about.tree 0 }
@@ -241,7 +259,7 @@ impl<'t> VirtualMachine<'t> {
         configuration: &mut Configuration<'_>,
         steps: &mut Steps<L>,
     ) -> TeraResult<()>
-        requires engine { engine_of self.now ≡ M.world.registry.engine }
+        requires engine { engine_of O.engine self.now ≡ M.world.registry.engine }
         requires linked { IsLinked self.now M.world }
         requires within { EndsWithin M.world
             (place_at self.now chunk.now.file blocks.old configuration.old) chunk.now.code 0
@@ -301,7 +319,7 @@ impl<'t> VirtualMachine<'t> {
         configuration: &mut Configuration<'_>,
         steps: &mut Steps<L>,
     ) -> TeraResult<()>
-        requires engine { engine_of self.now ≡ M.world.registry.engine }
+        requires engine { engine_of O.engine self.now ≡ M.world.registry.engine }
         requires linked { IsLinked self.now M.world }
         requires within { BodyWithin M.world
             (place_at self.now chunk.now.file blocks.old configuration.old) (request_of asked)
@@ -338,7 +356,7 @@ impl<'t> VirtualMachine<'t> {
         configuration: &mut Configuration<'_>,
         steps: &mut Steps<L>,
     ) -> TeraResult<()>
-        requires engine { engine_of self.now ≡ M.world.registry.engine }
+        requires engine { engine_of O.engine self.now ≡ M.world.registry.engine }
         requires linked { IsLinked self.now M.world }
         requires within { BodyWithin M.world
             (place_at self.now chunk.now.file blocks.now configuration.old)
@@ -376,7 +394,7 @@ impl<'t> VirtualMachine<'t> {
         configuration: &mut Configuration<'_>,
         steps: &mut Steps<L>,
     ) -> TeraResult<()>
-        requires engine { engine_of self.now ≡ M.world.registry.engine }
+        requires engine { engine_of O.engine self.now ≡ M.world.registry.engine }
         requires linked { IsLinked self.now M.world }
         requires within { BodyWithin M.world
             (place_at self.now chunk.now.file blocks.now configuration.old)

@@ -10,24 +10,25 @@ use crate::configuration::Configuration;
 use crate::machine::{Flow, VirtualMachine};
 use std::alloc::Global;
 use tera_code::LentInstruction;
+use tera_objects::Objects;
 use tera_values::{Name, Span, TeraResult, Value};
 
 impl<'c> Configuration<'c> {
     /// The same as `act`. What is run most is told apart first and needs no more of the instruction than its parts: all else
     /// stays out of the loop, whose frame is small.
     #[inline(always)]
-    pub(crate) fn step<'f>(
+    pub(crate) fn step<'f, O: Objects>(
         &mut self,
-        machine: &VirtualMachine<'_>,
+        machine: &VirtualMachine<'_, O>,
         file: &str,
         next: usize,
         instruction: &LentInstruction<'f>,
     ) -> TeraResult<Flow<'f>>
-        requires ready { IsReady (act (here_of machine.now file.now self.old) next instruction.now)
-            self.old }
-        requires small { IsSmall (act (here_of machine.now file.now self.old) next instruction.now
-            (config_of self.old)) }
-        ensures { Does (act (here_of machine.now file.now self.old) next instruction.now)
+        requires ready { IsReady (act (here_of O.engine machine.now file.now self.old)
+            next instruction.now) self.old }
+        requires small { IsSmall (act (here_of O.engine machine.now file.now self.old)
+            next instruction.now (config_of self.old)) }
+        ensures { Does (act (here_of O.engine machine.now file.now self.old) next instruction.now)
             self.old result self.new }
     {
         if let Some(text) = instruction.as_text() {
@@ -67,18 +68,18 @@ impl<'c> Configuration<'c> {
     }
 
     #[inline(never)]
-    fn act_unpacked<'f>(
+    fn act_unpacked<'f, O: Objects>(
         &mut self,
-        machine: &VirtualMachine<'_>,
+        machine: &VirtualMachine<'_, O>,
         file: &str,
         next: usize,
         instruction: &LentInstruction<'f>,
     ) -> TeraResult<Flow<'f>>
-        requires ready { IsReady (act (here_of machine.now file.now self.old) next instruction.now)
-            self.old }
-        requires small { IsSmall (act (here_of machine.now file.now self.old) next instruction.now
-            (config_of self.old)) }
-        ensures { Does (act (here_of machine.now file.now self.old) next instruction.now)
+        requires ready { IsReady (act (here_of O.engine machine.now file.now self.old)
+            next instruction.now) self.old }
+        requires small { IsSmall (act (here_of O.engine machine.now file.now self.old)
+            next instruction.now (config_of self.old)) }
+        ensures { Does (act (here_of O.engine machine.now file.now self.old) next instruction.now)
             self.old result self.new }
     {
         self.act(machine, file, next, &instruction.unpack())
@@ -92,14 +93,14 @@ impl<'c> Configuration<'c> {
     }
 
     #[inline(never)]
-    fn write_named<'f>(
+    fn write_named<'f, O: Objects>(
         &mut self,
-        machine: &VirtualMachine<'_>,
+        machine: &VirtualMachine<'_, O>,
         file: &str,
         name: &Name,
         span: Span,
     ) -> TeraResult<Flow<'f>>
-        ensures { Does (name_written (here_of machine.now file.now self.old) name.now span)
+        ensures { Does (name_written (here_of O.engine machine.now file.now self.old) name.now span)
             self.old result self.new }
     {
         self.write_name(machine, file, &name.sought(), span)

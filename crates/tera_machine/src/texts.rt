@@ -1,14 +1,14 @@
 // What a rendering puts out, and what is captured of it.
 ghost use Rattle.std.specs.Prelude.{◌≡◌, ◌≢◌, ◌++◌, ◌∷◌, [], OnOk, IfOk, IfErr, string_bytes, drop};
 ghost use Rattle.tera_errors.specs.Answer.{Lacks};
-ghost use Rattle.tera_values.specs.Escape.{escape_html};
 ghost use Rattle.tera_state.specs.Rendered.{rendered};
 ghost use Rattle.tera_machine.specs.Layers.{around_layers};
 
 use std::alloc::Global;
 use std::marker::Model;
 use std::mem::replace;
-use tera_state::{Stack, write_value};
+use tera_objects::Objects;
+use tera_state::Stack;
 use tera_values::{TeraResult, Value};
 
 /// The text that grows at its end, and those around it. After a refusal a part of the new text may be there.
@@ -62,13 +62,20 @@ impl Texts {
         Ok(())
     }
 
-    /// What the value is rendered as, at the end.
-    pub fn append_value(&mut self, alloc: Global, autoescape: bool, value: &Value) -> TeraResult<()>
-        ensures ok { OnOk result (self.new
-            ≡ record self.old { now = self.old.now ++ rendered autoescape escape_html value.now }) }
+    /// What the value is rendered as, at the end, by the escape of these objects.
+    pub fn append_value<O: Objects>(
+        &mut self,
+        alloc: Global,
+        objects: &O,
+        autoescape: bool,
+        value: &Value,
+    ) -> TeraResult<()>
+        ensures ok { OnOk result (self.new ≡ record self.old {
+          now = self.old.now ++ rendered autoescape (O.engine objects.now).escape value.now;
+        }) }
         ensures lacks { IfErr result Lacks }
     {
-        write_value(alloc, autoescape, value, &mut self.now)
+        objects.write(alloc, autoescape, value, &mut self.now)
     }
 
     /// A text of its own begins.

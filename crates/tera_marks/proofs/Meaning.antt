@@ -12,6 +12,7 @@ use Rattle.tera_marks.proofs.Moving.{undefined-same, safe-same, truthy-same, all
 use Rattle.tera_marks.proofs.Around.{Binds, TurnStands, VariablesStand, AroundStands, look-stands, assign-stands, open_turn-stands, close_turn-stands, dump-stands}
 use Rattle.tera_marks.proofs.Turning.{turns-stand}
 use Rattle.tera_marks.proofs.Operating.{Operand, Listed, placed-stands, attribute-stands, item-stands, sliced-stands, not-stands, negative-stands, binary-stands, array-stands, map-stands, entries-are}
+use Rattle.tera_marks.proofs.Objects.{seen-same}
 use Rattle.tera_marks.proofs.Calling.{filter-stands, test-stands, function-stands}
 use Rattle.tera_values.specs.Alphabet.{Marked, template, escaped, made, plain, marking, bytes_of}
 use Rattle.tera_values.specs.Val.{KeyVal, kbool, kint, ktext, ValOf}
@@ -21,10 +22,11 @@ use Rattle.tera_values.specs.Escape.{escape_html}
 use Rattle.tera_operators.specs.Operand.{EvaluatedOf, fault_at}
 use Rattle.tera_state.specs.Rendered.{rendered_in}
 use Rattle.tera_state.specs.Scope.{AroundOf, VariablesOf, TurnOf, Heading, look, dump}
-use Rattle.tera_meaning.specs.Run.{Signal, On, Broke, Continued, RunOf, AnswerOf, Failed, Gave, MeaningOf, OracleOf, ◌▹◌, onward, more as counted, visit, gives, answered, value_at, if_else, reads, changes, writes, go_on, put_back, captured, RequestOf, ABlock, Above, AnInclude, AComponent, joined_answer, asks}
+use Rattle.tera_meaning.specs.Run.{Signal, On, Broke, Continued, RunOf, AnswerOf, Failed, Gave, MeaningOf, OracleOf, ◌▹◌, onward, more as counted, visit, gives, answered, answered_at, value_at, if_else, reads, changes, writes, go_on, put_back, captured, RequestOf, ABlock, Above, AnInclude, AComponent, joined_answer, asks}
 use Rattle.tera_components.specs.Definition.{named_by}
 use Rattle.tera_meaning.specs.Meaning.{output_in, written_in, turns_of_in, named_value, if_kept, comprehension, after_turn, loop, loop_or_else, expr_meaning_in, bound_meaning_in, condition_meaning_in, items_meaning_in, entries_meaning_in, arguments_meaning_in, filters_meaning_in, put_out, component_meaning_in, node_meaning_in, nodes_meaning_in}
-use Rattle.tera_meaning.specs.Here.{Engine, HereOf, escaping_at}
+use Rattle.tera_meaning.specs.Here.{HereOf}
+use Rattle.tera_objects.specs.Engine.{Engine}
 
 pub record Ended (b : site.Name × List Marked) (c : site.Name × List ℕ) : Type 0 where
   pub name : b.0 ≡ c.0
@@ -62,6 +64,9 @@ gives-means a b k = λ r s rs. gave 0 k rs
 answered-means : {A B : Type 0} {S : A → B → Type 0} {x : Result A Fault} {y : Result B Fault} → ResultStands S x y → Means S (answered x) (answered y)
 answered-means (answers k) = λ r s rs. gave 0 k rs
 answered-means (refuses fault) = λ r s rs. fails fault 0
+
+answered_at-means : {A B : Type 0} {S : A → B → Type 0} {f : VariablesOf Marked → Result A Fault} {g : VariablesOf ℕ → Result B Fault} → ((v : VariablesOf Marked) (w : VariablesOf ℕ) → VariablesStand v w → ResultStands S (f v) (g w)) → Means S (answered_at f) (answered_at g)
+answered_at-means h = λ r s rs. answered-means (h r.vars s.vars rs.vars) r s rs
 
 choice-means : {A B : Type 0} {S : A → B → Type 0} (c : Bool) {m m' : MeaningOf Marked A} {n n' : MeaningOf ℕ B} → Means S m n → Means S m' n' → Means S (if_else c m m') (if_else c n n')
 choice-means true h k = h
@@ -233,11 +238,11 @@ module _ (file : site.Name) (engine : Engine) (by_html : engine.escape ≡ escap
     expr-means (Super xs span) =
         visit-means (bind Operand (arguments-mean xs) (λ vs ws ks. bind Operand (asks-means answered_for (aboves span)) (λ t u ts. value-means span (texts true ts))))
     expr-means (Filter x name xs span) =
-        visit-means (bind Operand (expr-means x) (λ a b k. bind Operand (arguments-mean xs) (λ vs ws ks. answered-means (filter-stands file name span ks (escaping_at there) by_html k))))
+        visit-means (bind Operand (expr-means x) (λ a b k. bind Operand (arguments-mean xs) (λ vs ws ks. answered_at-means (λ v u us. filter-stands file engine name span ks (seen-same engine true around us) by_html k))))
     expr-means (Test x name xs span) =
-        visit-means (bind Operand (expr-means x) (λ a b k. bind Operand (arguments-mean xs) (λ vs ws ks. answered-means (test-stands file name span ks k))))
+        visit-means (bind Operand (expr-means x) (λ a b k. bind Operand (arguments-mean xs) (λ vs ws ks. answered_at-means (λ v u us. test-stands file engine name span ks (seen-same engine true around us) k))))
     expr-means (Call name xs span) =
-        visit-means (bind Operand (arguments-mean xs) (λ vs ws ks. answered-means (function-stands file name span ks)))
+        visit-means (bind Operand (arguments-mean xs) (λ vs ws ks. answered_at-means (λ v u us. function-stands file engine name span ks (seen-same engine true around us))))
     expr-means (Component name xs span) =
         visit-means (bind Operand (entries-mean xs) (λ vs ws ks. component-means name span ks no_value))
 
@@ -267,7 +272,7 @@ module _ (file : site.Name) (engine : Engine) (by_html : engine.escape ≡ escap
   filters-mean : (fs : Filters) {a : EvaluatedOf Marked} {b : EvaluatedOf ℕ} → Operand a b → Means Operand (filters_meaning_in marking here c fs a) (filters_meaning_in plain there d fs b)
   filters-mean NoFilters k = gives-means _ _ k
   filters-mean (MoreFilters name xs span rest) k =
-      bind Operand (visit-means (bind Operand (arguments-mean xs) (λ vs ws ks. answered-means (filter-stands file name span ks (escaping_at there) by_html k)))) (λ a b l. filters-mean rest l)
+      bind Operand (visit-means (bind Operand (arguments-mean xs) (λ vs ws ks. answered_at-means (λ v u us. filter-stands file engine name span ks (seen-same engine true around us) by_html k)))) (λ a b l. filters-mean rest l)
 
   put_out-stands : (fs : Filters) {t : List Marked} {u : List ℕ} → Each (Bears true) t u → Operand (put_out here fs t) (put_out there fs u)
   put_out-stands fs ts = record { value = texts true ts; span = refl }

@@ -1,7 +1,5 @@
 -- The filters, tests and functions that every engine has, with marked values.
-use Rattle.std.proofs.Common.{◌≡◌, ℕ, Option, Some, None}
-use Rattle.tera_errors.specs.Site.{Name}
-use Rattle.tera_errors.specs.Fault.{message}
+use Rattle.std.proofs.Common.{◌≡◌, ℕ}
 use Rattle.tera_values.specs.Alphabet.{Marked, plain, marking}
 use Rattle.tera_values.specs.Escape.{escape_html}
 use Rattle.tera_values.specs.Named.{Named}
@@ -13,10 +11,10 @@ use Rattle.tera_built_ins.specs.declared.test.BuiltInTest.TheVariants as test
 use Rattle.tera_built_ins.specs.declared.function.BuiltInFunction.{BuiltInFunction}
 use Rattle.tera_built_ins.specs.declared.function.BuiltInFunction.TheVariants as function
 use Rattle.tera_built_ins.specs.Escaping.{Escaping}
-use Rattle.tera_built_ins.specs.Filters.{filter_named, filter_of, filter_in, filtered_in}
-use Rattle.tera_built_ins.specs.TestTable.{test_named, test_of, test_in, tested_in}
-use Rattle.tera_built_ins.specs.FunctionTable.{function_named, function_of, function_in, called_in}
-use Rattle.tera_marks.proofs.Standing.{Stands, ResultStands, refuses}
+use Rattle.tera_built_ins.specs.Filters.{filter_of}
+use Rattle.tera_built_ins.specs.TestTable.{test_of}
+use Rattle.tera_built_ins.specs.FunctionTable.{function_of}
+use Rattle.tera_marks.proofs.Standing.{Stands, ResultStands}
 use Rattle.tera_marks.proofs.Given.{NamedStand, Equals}
 use Rattle.tera_marks.proofs.Safety.{safe-stands, escape-stands, str-stands}
 use Rattle.tera_marks.proofs.Markup.{escape_html-stands, escape_xml-stands, newlines_to_br-stands}
@@ -38,8 +36,9 @@ use Rattle.tera_marks.proofs.Tests as tests
 use Rattle.tera_marks.proofs.Functions.{range-stands, throw-stands}
 
 module _ {given : Named (ValOf Marked)} {others : Named (ValOf ℕ)} (ns : NamedStand given others) where
+  -- where texts are escaped for HTML
   module _ (view : Escaping) (by_html : view.escape ≡ escape_html) {v : ValOf Marked} {w : ValOf ℕ} (s : Stands v w) where
-    filter-stands : (f : BuiltInFilter) → ResultStands Stands (filter_of marking view f v given) (filter_of plain view f w others)
+    pub filter-stands : (f : BuiltInFilter) → ResultStands Stands (filter_of marking view f v given) (filter_of plain view f w others)
     filter-stands filter.Safe = safe-stands s
     filter-stands filter.Escape = escape-stands view by_html s
     filter-stands filter.EscapeHtml = escape_html-stands s
@@ -72,16 +71,8 @@ module _ {given : Named (ValOf Marked)} {others : Named (ValOf ℕ)} (ns : Named
     filter-stands filter.Get = get-stands s ns
     filter-stands filter.GroupBy = group_by-stands s ns
 
-    filter_in-stands : (f : Option BuiltInFilter) → ResultStands Stands (filter_in marking view f v given) (filter_in plain view f w others)
-    filter_in-stands None = refuses message
-    filter_in-stands (Some f) = filter-stands f
-
-    -- where texts are escaped for HTML
-    pub filtered-stands : (n : Name) → ResultStands Stands (filtered_in marking view n v given) (filtered_in plain view n w others)
-    filtered-stands n = filter_in-stands (filter_named n)
-
   module _ {v : ValOf Marked} {w : ValOf ℕ} (s : Stands v w) where
-    test-stands : (t : BuiltInTest) → ResultStands Equals (test_of marking t v given) (test_of plain t w others)
+    pub test-stands : (t : BuiltInTest) → ResultStands Equals (test_of marking t v given) (test_of plain t w others)
     test-stands test.String = tests.string-stands s ns
     test-stands test.Number = tests.number-stands s ns
     test-stands test.Map = tests.map-stands s ns
@@ -99,20 +90,6 @@ module _ {given : Named (ValOf Marked)} {others : Named (ValOf ℕ)} (ns : Named
     test-stands test.EndingWith = tests.ending_with-stands s ns
     test-stands test.Containing = tests.containing-stands s ns
 
-    test_in-stands : (t : Option BuiltInTest) → ResultStands Equals (test_in marking t v given) (test_in plain t w others)
-    test_in-stands None = refuses message
-    test_in-stands (Some t) = test-stands t
-
-    pub tested-stands : (n : Name) → ResultStands Equals (tested_in marking n v given) (tested_in plain n w others)
-    tested-stands n = test_in-stands (test_named n)
-
-  function-stands : (f : BuiltInFunction) → ResultStands Stands (function_of marking f given) (function_of plain f others)
+  pub function-stands : (f : BuiltInFunction) → ResultStands Stands (function_of marking f given) (function_of plain f others)
   function-stands function.Range = range-stands ns
   function-stands function.Throw = throw-stands ns
-
-  function_in-stands : (f : Option BuiltInFunction) → ResultStands Stands (function_in marking f given) (function_in plain f others)
-  function_in-stands None = refuses message
-  function_in-stands (Some f) = function-stands f
-
-  pub called-stands : (n : Name) → ResultStands Stands (called_in marking n given) (called_in plain n others)
-  called-stands n = function_in-stands (function_named n)

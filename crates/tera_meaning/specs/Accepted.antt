@@ -66,7 +66,7 @@ is_component r name = is_some (definer_of r name)
 -- whether a template names what is not there
 abbrev pub lacks_something : Registry → Entry → Bool
 lacks_something r t =
-    loses_a_block r t || (lacks_a_callee (is_component r) t.1.tree.nodes || misses_an_include r t.1.tree.nodes)
+    loses_a_block r t || (lacks_a_callee r.engine (is_component r) t.1.tree.nodes || misses_an_include r t.1.tree.nodes)
 
 -- what is not there of what templates name
 unfoldable pub missing : Registry → Option Fault

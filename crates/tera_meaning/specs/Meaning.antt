@@ -12,12 +12,12 @@ use Rattle.tera_operators.specs.Operand.{Evaluated, EvaluatedOf, fault_at, place
 use Rattle.tera_operators.specs.Accesses.{attribute_of, item_in, sliced_in}
 use Rattle.tera_operators.specs.Operators.{not_of, negative_in, binary_in}
 use Rattle.tera_operators.specs.Literals.{array_of, map_entries, map_of}
-use Rattle.tera_operators.specs.Calls.{filter_applied_in, test_applied_in, function_called_in}
+use Rattle.tera_operators.specs.Calls.{filter_applied_by, test_applied_by, function_called_by}
 use Rattle.tera_state.specs.Rendered.{rendered_in}
 use Rattle.tera_state.specs.Scope.{AroundOf, VariablesOf, TurnOf, Turn, Heading, look, dump, assign, open_turn, close_turn, loop_turns_in}
 use Rattle.tera_components.specs.Definition.{named_arguments}
-use Rattle.tera_meaning.specs.Here.{Here, HereOf, escaping_at}
-use Rattle.tera_meaning.specs.Run.{Signal, On, Broke, Continued, Meaning, MeaningOf, Oracle, OracleOf, ABlock, Above, AnInclude, AComponent, ◌▹◌, visit, gives, answered, value_at, if_else, reads, changes, writes, go_on, captured, asks}
+use Rattle.tera_meaning.specs.Here.{Here, HereOf, filtered_at, tested_at, called_at}
+use Rattle.tera_meaning.specs.Run.{Signal, On, Broke, Continued, Meaning, MeaningOf, Oracle, OracleOf, ABlock, Above, AnInclude, AComponent, ◌▹◌, visit, gives, answered, answered_at, value_at, if_else, reads, changes, writes, go_on, captured, asks}
 
 module _ {C : Type 0} (alphabet : Alphabet C) where
   -- the text that a value is put out as, at the operand's span; undefined has none
@@ -138,16 +138,18 @@ module _ {C : Type 0} (alphabet : Alphabet C) (here : HereOf C) (call : OracleOf
         visit (arguments_meaning_in arguments
         ▹ λ given. asks call (Above span)
         ▹ λ t. value_at (text t true) span)
+    -- What an object sees is taken when the arguments are evaluated.
     expr_meaning_in (Filter value name arguments span) =
         visit (expr_meaning_in value
         ▹ λ a. arguments_meaning_in arguments
-        ▹ λ given. answered (filter_applied_in alphabet here.file (escaping_at here) name a given span))
+        ▹ λ given. answered_at (λ v. filter_applied_by here.file (filtered_at alphabet here v name) a given span))
     expr_meaning_in (Test value name arguments span) =
         visit (expr_meaning_in value
         ▹ λ a. arguments_meaning_in arguments
-        ▹ λ given. answered (test_applied_in alphabet here.file name a given span))
+        ▹ λ given. answered_at (λ v. test_applied_by here.file (tested_at alphabet here v name) a given span))
     expr_meaning_in (Call name arguments span) =
-        visit (arguments_meaning_in arguments ▹ λ given. answered (function_called_in alphabet here.file name given span))
+        visit (arguments_meaning_in arguments
+        ▹ λ given. answered_at (λ v. function_called_by here.file (called_at alphabet here v name) given span))
     -- Arguments go together as the entries of a map do. The text of a component is safe where autoescape is on.
     expr_meaning_in (Component name attributes span) =
         visit (entries_meaning_in attributes ▹ λ all. component_meaning_in name all None span)
@@ -181,7 +183,7 @@ module _ {C : Type 0} (alphabet : Alphabet C) (here : HereOf C) (call : OracleOf
   filters_meaning_in NoFilters a = gives a
   filters_meaning_in (MoreFilters name arguments span rest) a =
       visit (arguments_meaning_in arguments
-      ▹ λ given. answered (filter_applied_in alphabet here.file (escaping_at here) name a given span))
+      ▹ λ given. answered_at (λ v. filter_applied_by here.file (filtered_at alphabet here v name) a given span))
       ▹ filters_meaning_in rest
 
   abbrev mutual

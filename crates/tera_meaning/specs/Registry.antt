@@ -2,11 +2,10 @@
 use Rattle.std.specs.Prelude.{[], ◌∷◌, List, codes}
 use Rattle.tera_values.specs.Val.{Val}
 use Rattle.tera_values.specs.Named.{Named}
-use Rattle.tera_values.specs.Escape.{escape_html}
 use Rattle.tera_errors.specs.Site.{Name, Text}
 use Rattle.tera_tree.specs.Tree.{Tree}
 use Rattle.tera_tree.specs.Delimiters.{Delims, standard}
-use Rattle.tera_meaning.specs.Here.{Engine}
+use Rattle.tera_objects.specs.Engine.{Engine, standard_engine}
 
 -- a template: its text, and the tree that the text spells
 pub record Template : Type 0 where
@@ -39,5 +38,5 @@ new_registry = record {
   suffixes = standard_suffixes;
   delimiters = standard;
   global = [];
-  engine = record { escape = escape_html };
+  engine = standard_engine;
 }

@@ -73,7 +73,7 @@ module _ {C : Type 0} (alphabet : Alphabet C) where
   -- the text of a tree that calls and includes nothing that is not there
   abbrev pub one_off_text_in : Registry → Tree → Named Val → Bool → Result (List C) Fault
   one_off_text_in r tree context autoescape =
-      if lacks_a_callee (is_component_beside r tree) tree.nodes || misses_an_include r tree.nodes then Err message else text_of (one_off_meaning_in r tree context autoescape)
+      if lacks_a_callee r.engine (is_component_beside r tree) tree.nodes || misses_an_include r tree.nodes then Err message else text_of (one_off_meaning_in r tree context autoescape)
 
   -- the reader's fault; a text beside the registry may extend no template, have no block, and call and include nothing that
   -- is not there; else the text of what was read

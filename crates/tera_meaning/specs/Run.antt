@@ -68,6 +68,10 @@ abbrev pub answered : {C A : Type 0} → Result A Fault → MeaningOf C A
 answered (Ok a) = gives a
 answered (Err fault) = fails fault
 
+-- what is answered where these are the variables, or its fault
+abbrev pub answered_at : {C A : Type 0} → (VariablesOf C → Result A Fault) → MeaningOf C A
+answered_at f r = answered (f r.vars) r
+
 abbrev pub value_at : {C : Type 0} → ValOf C → Span → MeaningOf C (EvaluatedOf C)
 value_at v span = gives (record { value = v; span = span })
 

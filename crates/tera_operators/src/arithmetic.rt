@@ -76,8 +76,8 @@ pub fn negative(alloc: Global, file: &str, operand: &Operand) -> TeraResult<Oper
 pub(crate) fn add(alloc: Global, file: &str, left: &Operand, right: &Operand) -> TeraResult<Operand>
     ensures value { Gives (λ o. o) result
         (combined file.now left.now right.now (add left.now.value right.now.value)) }
-    ensures ready { IsOk (combined file.now left.now right.now (add left.now.value right.now.value)) →
-        IsOk result }
+    ensures ready { IsOk (combined file.now left.now right.now (add left.now.value right.now.value))
+        → IsOk result }
 {
     let answer = number::add(alloc, left.value(), right.value());
     combined(alloc, file, answer, left, right)

@@ -33,14 +33,20 @@ fn truth(flag: bool, left: &Operand, right: &Operand) -> Operand
 
 /// `left == right`: whether kind and content are the same, marks aside.
 pub(crate) fn equal(left: &Operand, right: &Operand) -> Operand
-    ensures { result ≡ record { value = bool (same left.now.value right.now.value); span = spanning left.now right.now } }
+    ensures { result ≡ record {
+      value = bool (same left.now.value right.now.value);
+      span = spanning left.now right.now;
+    } }
 {
     truth(left.value() == right.value(), left, right)
 }
 
 /// `left != right`
 pub(crate) fn not_equal(left: &Operand, right: &Operand) -> Operand
-    ensures { result ≡ record { value = bool (not (same left.now.value right.now.value)); span = spanning left.now right.now } }
+    ensures { result ≡ record {
+      value = bool (not (same left.now.value right.now.value));
+      span = spanning left.now right.now;
+    } }
 {
     truth(left.value() != right.value(), left, right)
 }

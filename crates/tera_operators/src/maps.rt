@@ -76,7 +76,8 @@ fn keep_all(all: &mut Map, more: &Map) -> TeraResult<()>
 /// The entries from left to right; a key that is there takes the later value.
 fn from_left(alloc: Global, keys: &[Option<OwnedKey>], operands: Vec<Operand>) -> TeraResult<Map>
     requires { length keys.now ≡ length operands.items }
-    ensures { Gives (λ m. m) result (Ok (from_left [] (zip (map_list key_option keys.now) operands.items))) }
+    ensures { Gives (λ m. m) result
+        (Ok (from_left [] (zip (map_list key_option keys.now) operands.items))) }
 {
     let mut all = Map::new(alloc);
     for (key, operand) in keys.iter().zip(operands) {
@@ -106,7 +107,8 @@ fn put_after(
     operand: Operand,
     all: &mut Map,
 ) -> TeraResult<()>
-    ensures { Gives (λ _. all.new) result (entry_after file.now (key_option key.now) operand all.old) }
+    ensures { Gives (λ _. all.new) result
+        (entry_after file.now (key_option key.now) operand all.old) }
 {
     match key {
         Some(key) => keep(all, key_from(alloc, key)?, operand.into_value()),
@@ -126,7 +128,8 @@ fn from_right(
     operands: Vec<Operand>,
 ) -> TeraResult<Map>
     requires { length keys.now ≡ length operands.items }
-    ensures { Gives (λ m. m) result (from_right file.now (zip (map_list key_option keys.now) operands.items)) }
+    ensures { Gives (λ m. m) result
+        (from_right file.now (zip (map_list key_option keys.now) operands.items)) }
 {
     let mut all = Map::new(alloc);
     let mut operands = operands;
@@ -152,7 +155,8 @@ pub fn entries(
     operands: Vec<Operand>,
 ) -> TeraResult<Map>
     requires { length keys.now ≡ length operands.items }
-    ensures { Gives (λ m. m) result (map_entries file.now (zip (map_list key_option keys.now) operands.items)) }
+    ensures { Gives (λ m. m) result
+        (map_entries file.now (zip (map_list key_option keys.now) operands.items)) }
 {
     if has_spread(keys) {
         from_right(alloc, file, keys, operands)
@@ -172,7 +176,8 @@ pub fn map(
     span: Span,
 ) -> TeraResult<Operand>
     requires { length keys.now ≡ length operands.items }
-    ensures { Gives (λ o. o) result (map_of file.now (zip (map_list key_option keys.now) operands.items) span) }
+    ensures { Gives (λ o. o) result
+        (map_of file.now (zip (map_list key_option keys.now) operands.items) span) }
 {
     let all = entries(alloc, file, keys, operands)?;
     Ok(Operand::new(Value::map(all).shared(alloc)?, span))

@@ -23,7 +23,8 @@ pub(crate) fn spanning(left: &Operand, right: &Operand) -> Span
 /// The refusal as a fault at this span of the file, in the same words. Want of memory stays what it is.
 #[inline(never)]
 pub fn fault_at(alloc: Global, file: &str, refusal: &Error, span: Span) -> Error
-    ensures { Retells refusal.now result (rendering_error (record { file = file.now; span = span })) }
+    ensures { Retells refusal.now result
+        (rendering_error (record { file = file.now; span = span })) }
 {
     match refusal.kind() {
         ErrorKind::OutOfMemory => Error::out_of_memory(),
@@ -34,7 +35,7 @@ pub fn fault_at(alloc: Global, file: &str, refusal: &Error, span: Span) -> Error
 
 /// The value as an operand at a span, or the refusal as a fault at another.
 #[inline(always)]
-pub(crate) fn operand_or_fault(
+pub fn operand_or_fault(
     alloc: Global,
     file: &str,
     answer: TeraResult<Value>,

@@ -12,7 +12,9 @@ use tera_values::{TeraResult, Value};
 
 /// `left ~ right`: the printed texts joined, without the safe mark.
 pub(crate) fn concatenate(alloc: Global, left: &Operand, right: &Operand) -> TeraResult<Operand>
-    ensures { Gives (λ o. o) result (at_span (text (printed left.now.value ++ printed right.now.value) false) (spanning left.now right.now)) }
+    ensures { Gives (λ o. o) result (at_span
+        (text (printed left.now.value ++ printed right.now.value) false)
+        (spanning left.now right.now)) }
 {
     let mut joined = String::new(alloc);
     left.value().print_to(&mut joined)?;

@@ -1,5 +1,5 @@
 -- What an adding call makes of a whole registry.
-use Rattle.std.proofs.Common.{◌≡◌, ℕ, zero, suc, List, [], ◌∷◌, ◌++◌, length, map, Some, None, Result, Ok, Err, String, string_bytes, Global, refl, sym, ap, ap₂, ◌∙◌}
+use Rattle.std.proofs.Common.{◌≡◌, ℕ, zero, suc, List, [], ◌∷◌, ◌++◌, length, map, Option, Some, None, Result, Ok, Err, String, string_bytes, Global, refl, sym, ap, ap₂, ◌∙◌}
 use Rattle.std.specs.declared.rc.Rc.{Rc}
 use Rattle.std.specs.List.{AllZip, list_any}
 use mathlib.Core.Path.{fun_ext}
@@ -9,22 +9,24 @@ use Rattle.tera_errors.specs.Fault.{Fault, message, circular_include}
 use Rattle.tera_errors.specs.Answer.{Refusal, Says, SaysOneOf}
 use Rattle.tera_tree.specs.Delimiters.{Delims}
 use Rattle.tera_values.specs.Named.{Named, put_all}
+use Rattle.tera_objects.specs.Engine.{Engine}
 use Rattle.tera_meaning.specs.Registry.{Template, Entry, Registry, new_registry}
 use Rattle.tera_meaning.specs.Accepted.{fault_of_parents, includes_of, can_walk, fault_if, template_fault, first_fault, missing, fault}
-use Rattle.tera_meaning.specs.Components.{has_a_tie}
+use Rattle.tera_tree.specs.Definitions.{component_names}
+use Rattle.tera_meaning.specs.Components.{priority, has_a_tie}
 use Rattle.tera_meaning.specs.Resolve.{parents}
 use Rattle.tera_meaning.specs.Adding.{unless_faulty, accepted}
 use Rattle.tera_registry.specs.declared.template.Template.{Template as Stored}
 use Rattle.std.specs.declared.collections.BTreeMap.{BTreeMap}
 use Rattle.tera_registry.specs.declared.choices.Choice.{Choice}
 use Rattle.tera_registry.specs.declared.lineage.Up.{Up}
-use Rattle.tera_registry.specs.Choices.{AreChosen}
+use Rattle.tera_registry.specs.Choices.{chosen_in, chosen_from, AreChosen}
 use Rattle.tera_registry.specs.Batch.{ReadsBatch, Adds}
 use Rattle.tera_registry.specs.Put.{put_among, Puts}
 use Rattle.tera_registry.specs.Order.{Rises}
 use Rattle.tera_registry.specs.Links.{AreUps, ArePlaced, AreRoots, IsLinked}
-use Rattle.tera_registry.specs.Kept.{entry_of, entries_of, seen}
-use Rattle.tera_registry.proofs.Checked.{faultless, faulty}
+use Rattle.tera_registry.specs.Kept.{entry_of, entries_of, seen, seen_by}
+use Rattle.tera_registry.proofs.Checked.{faultless, faulty, no-first-fault}
 use Rattle.tera_registry.proofs.Linked.{placed, linked}
 
 -- Templates and prefixes alone decide on faults.
@@ -32,7 +34,7 @@ use Rattle.tera_registry.proofs.Linked.{placed, linked}
 abbrev pub bare : Named Template → List Text → Registry
 bare ts ps = record new_registry { templates = ts; prefixes = ps }
 
-walks-same : (r : Registry) (n : ℕ) (t : Entry) → can_walk r n t ≡ can_walk (bare r.templates r.prefixes) n t
+pub walks-same : (r : Registry) (n : ℕ) (t : Entry) → can_walk r n t ≡ can_walk (bare r.templates r.prefixes) n t
 unfolding can_walk
 walks-same r zero t = refl
 walks-same r (suc n) t = ap (λ p. list_any p (includes_of r t)) (fun_ext (walks-same r n))
@@ -48,15 +50,26 @@ first-same r before [] = refl
 first-same r before (t ∷ es) =
     ap₂ option_or (fault-of-one-same r before t) (first-same r (before ++ t ∷ []) es)
 
-pub fault-same : (r : Registry) → fault r ≡ fault (bare r.templates r.prefixes)
+pub chosen-same : (r : Registry) (n : Name) (place : ℕ) (ts : List Entry) (old : Option Choice) → chosen_from (bare r.templates r.prefixes) n place ts old ≡ chosen_from r n place ts old
+chosen-same r n place [] old = refl
+chosen-same r n place (t ∷ ts) old =
+    chosen-same r n (suc place) ts (chosen_in n place (priority r t.0) 0 (component_names t.1.tree.nodes) old)
+
+-- With the engine they decide on the rest as well.
+
+abbrev served : Engine → Named Template → List Text → Registry
+served engine ts ps = record (bare ts ps) { engine = engine }
+
+fault-same : (r : Registry) → fault r ≡ fault (served r.engine r.templates r.prefixes)
 unfolding fault missing
-fault-same r = ap (λ o. option_or o (missing r)) (first-same r [] r.templates)
+fault-same r =
+    ap (λ o. option_or o (missing r)) (first-same r [] r.templates ∙ sym (first-same (served r.engine r.templates r.prefixes) [] r.templates))
 
-accepted-ok : (r : Registry) → accepted (bare r.templates r.prefixes) ≡ Ok (bare r.templates r.prefixes) → accepted r ≡ Ok r
-accepted-ok r e = ap (unless_faulty r) (fault-same r ∙ faultless (bare r.templates r.prefixes) e)
+accepted-ok : (r : Registry) (q : Registry) → q ≡ served r.engine r.templates r.prefixes → accepted q ≡ Ok q → accepted r ≡ Ok r
+accepted-ok r q is e = ap (unless_faulty r) (fault-same r ∙ sym (ap fault is) ∙ faultless q e)
 
-accepted-err : (r : Registry) (f : Fault) → accepted (bare r.templates r.prefixes) ≡ Err f → accepted r ≡ Err f
-accepted-err r f e = ap (unless_faulty r) (fault-same r ∙ faulty (bare r.templates r.prefixes) f e)
+accepted-err : (r : Registry) (q : Registry) (f : Fault) → q ≡ served r.engine r.templates r.prefixes → accepted q ≡ Err f → accepted r ≡ Err f
+accepted-err r q f is e = ap (unless_faulty r) (fault-same r ∙ sym (ap fault is) ∙ faulty q f e)
 
 -- A refusal of a text is that of the call.
 pub refused-adds : (e : Refusal) (r : Registry) (d : Delims) (batch : List (Name × Text)) → r.delimiters ≡ d → SaysOneOf e (Puts d r.templates batch) → SaysOneOf e (Adds r batch)
@@ -81,14 +94,14 @@ put-adds r d batch new answer same p ends = by_reading p.reading (rw same p.read
         record { reading = Ok es; read = read; is = sym ends ∙ ap (λ ts. accepted (record r { templates = ts })) e })
     by_reading (Err g) read is = (let q : Ok new ≡ Err g = is in cc)
 
-pub linked-adds : (r : Registry) (d : Delims) (batch : List (Name × Text)) (new : Named Template) → r.delimiters ≡ d → Puts d r.templates batch (Ok new) → accepted (bare new r.prefixes) ≡ Ok (bare new r.prefixes) → Adds r batch (Ok (record r { templates = new }))
-linked-adds r d batch new same p ok =
-    put-adds r d batch new _ same p (accepted-ok (record r { templates = new }) ok)
+linked-adds : (r : Registry) (d : Delims) (batch : List (Name × Text)) (new : Named Template) (q : Registry) → r.delimiters ≡ d → Puts d r.templates batch (Ok new) → q ≡ served r.engine new r.prefixes → accepted q ≡ Ok q → Adds r batch (Ok (record r { templates = new }))
+linked-adds r d batch new q same p is ok =
+    put-adds r d batch new _ same p (accepted-ok (record r { templates = new }) q is ok)
 
-pub unlinked-adds : (e : Refusal) (r : Registry) (d : Delims) (batch : List (Name × Text)) (new : Named Template) → r.delimiters ≡ d → Puts d r.templates batch (Ok new) → Says e (accepted (bare new r.prefixes)) → SaysOneOf e (Adds r batch)
-unlinked-adds None r d batch new same p says = tt
-unlinked-adds (Some f) r d batch new same p says =
-    put-adds r d batch new _ same p (accepted-err (record r { templates = new }) f says)
+unlinked-adds : (e : Refusal) (r : Registry) (d : Delims) (batch : List (Name × Text)) (new : Named Template) (q : Registry) → r.delimiters ≡ d → Puts d r.templates batch (Ok new) → q ≡ served r.engine new r.prefixes → Says e (accepted q) → SaysOneOf e (Adds r batch)
+unlinked-adds None r d batch new q same p is says = tt
+unlinked-adds (Some f) r d batch new q same p is says =
+    put-adds r d batch new _ same p (accepted-err (record r { templates = new }) q f is says)
 
 -- Templates as they are kept: a batch is put among copies of the old ones, which are the same.
 
@@ -117,34 +130,40 @@ module _ (r : Registry) (d : Delims) (batch : List (Name × Text)) (old all : Li
       let from_old : SaysOneOf e (Puts d (entries_of old) batch) = rw (sym (same-entries old all z)) p in
       refused-adds e (with old) d batch same from_old
 
-  module _ (new lent : List (Rc Stored Global)) (lent_ps : List (String Global)) (e : lent ≡ new) (f : lent_ps ≡ ps) (p : PutsTo (Ok (entries_of new))) where
+  module _ (engine : Engine) (new lent : List (Rc Stored Global)) (lent_ps : List (String Global)) (of : r.engine ≡ engine) (e : lent ≡ new) (f : lent_ps ≡ ps) (p : PutsTo (Ok (entries_of new))) where
+    same-seen : seen_by engine lent lent_ps ≡ served r.engine (entries_of new) (map string_bytes ps)
+    same-seen = rw (of, e, f) refl
+
     from_old : Puts d (entries_of old) batch (Ok (entries_of new))
     from_old = rw (sym (same-entries old all z)) p
 
-    pub add-unlinked : (refusal : Refusal) → Says refusal (accepted (seen lent lent_ps)) → SaysOneOf refusal (Adds (with old) batch)
+    pub add-unlinked : (refusal : Refusal) → Says refusal (accepted (seen_by engine lent lent_ps)) → SaysOneOf refusal (Adds (with old) batch)
     add-unlinked refusal says =
-        let meant : Says refusal (accepted (seen new ps)) = rw (e, f) at says in
-        unlinked-adds refusal (with old) d batch (entries_of new) same from_old meant
+        unlinked-adds refusal (with old) d batch (entries_of new) (seen_by engine lent lent_ps) same from_old same-seen says
 
-    pub add-linked : accepted (seen lent lent_ps) ≡ Ok (seen lent lent_ps) → Adds (with old) batch (Ok (with new))
+    pub add-linked : accepted (seen_by engine lent lent_ps) ≡ Ok (seen_by engine lent lent_ps) → Adds (with old) batch (Ok (with new))
     add-linked ok =
-        let meant : accepted (seen new ps) ≡ Ok (seen new ps) = rw (e, f) at ok in
-        linked-adds (with old) d batch (entries_of new) same from_old meant
+        linked-adds (with old) d batch (entries_of new) (seen_by engine lent lent_ps) same from_old same-seen ok
 
--- What is known of templates that are linked.
-module _ (ts lent : List (Rc Stored Global)) (ps lent_ps : List (String Global)) (e : lent ≡ ts) (f : lent_ps ≡ ps) where
-  pub kept-accepted : accepted (seen lent lent_ps) ≡ Ok (seen lent lent_ps) → fault (seen ts ps) ≡ None
-  kept-accepted ok =
-      let meant : accepted (seen ts ps) ≡ Ok (seen ts ps) = rw (e, f) at ok in
-      faultless (seen ts ps) meant
+-- What is known of templates that are linked, whatever the engine.
+module _ (engine : Engine) (ts lent : List (Rc Stored Global)) (ps lent_ps : List (String Global)) (e : lent ≡ ts) (f : lent_ps ≡ ps) where
+  pub kept-faultless : accepted (seen_by engine lent lent_ps) ≡ Ok (seen_by engine lent lent_ps) → first_fault (seen ts ps) [] (entries_of ts) ≡ None
+  kept-faultless ok =
+      let q = seen_by engine ts ps in
+      let meant : accepted q ≡ Ok q = rw (e, f) at ok in
+      sym (first-same q [] (entries_of ts)) ∙ no-first-fault q (faultless q meant)
 
-  pub kept-placed : (ups : List Up) → AreUps (seen lent lent_ps) ups (length (entries_of lent)) → ArePlaced (seen ts ps) ups
+  pub kept-placed : (ups : List Up) → AreUps (seen_by engine lent lent_ps) ups (length (entries_of lent)) → ArePlaced (seen ts ps) ups
   kept-placed ups a =
-      let meant : AreUps (seen ts ps) ups (length (entries_of ts)) = rw (e, f) at a in placed (seen ts ps) ups meant
+      let meant : AreUps (seen_by engine ts ps) ups (length (entries_of ts)) = rw (e, f) at a in
+      placed (seen ts ps) ups (record { as_many = meant.as_many; those = meant.those })
 
-  pub kept-linked : (roots : List ℕ) → AreRoots (seen lent lent_ps) roots (length (entries_of lent)) → IsLinked ts ps roots
+  pub kept-linked : (roots : List ℕ) → AreRoots (seen_by engine lent lent_ps) roots (length (entries_of lent)) → IsLinked ts ps roots
   kept-linked roots a =
-      let meant : AreRoots (seen ts ps) roots (length (entries_of ts)) = rw (e, f) at a in linked ts ps roots meant
+      let meant : AreRoots (seen_by engine ts ps) roots (length (entries_of ts)) = rw (e, f) at a in
+      linked ts ps roots (record { as_many = meant.as_many; those = meant.those })
 
-  pub kept-chosen : (choices : BTreeMap (String Global) Choice Global) → AreChosen (seen lent lent_ps) choices → AreChosen (seen ts ps) choices
-  kept-chosen choices a = rw (e, f) at a
+  pub kept-chosen : (choices : BTreeMap (String Global) Choice Global) → AreChosen (seen_by engine lent lent_ps) choices → AreChosen (seen ts ps) choices
+  kept-chosen choices a =
+      let meant : AreChosen (seen_by engine ts ps) choices = rw (e, f) at a in
+      λ n. meant n ∙ sym (chosen-same (seen_by engine ts ps) n 0 (entries_of ts) None)

@@ -10,7 +10,7 @@ use Rattle.tera_tree.specs.Tree.{Nodes}
 use Rattle.tera_meaning.specs.Registry.{Registry, Entry}
 use Rattle.tera_meaning.specs.Resolve.{entry_at, onto, or_missing, or_none, up, resolve, parents}
 use Rattle.tera_meaning.specs.Lineage.{Definer, definers_in, ancestors}
-use Rattle.tera_meaning.specs.Accepted.{fault_of_parents, fault_if, leads_into_a_circle, template_fault, first_fault, fault, is_none_left}
+use Rattle.tera_meaning.specs.Accepted.{fault_of_parents, fault_if, leads_into_a_circle, template_fault, first_fault, is_none_left}
 use Rattle.tera_meaning.specs.Components.{has_a_tie}
 use Rattle.tera_code.specs.declared.blocks.Block.{Block}
 use Rattle.tera_code.specs.Code.{listing_of}
@@ -29,7 +29,6 @@ use Rattle.tera_registry.specs.Definers.{blocks_of, from_block, from_template, f
 use Rattle.tera_registry.proofs.Element.{element}
 use Rattle.tera_registry.proofs.Kept.{length-entries}
 use Rattle.tera_registry.proofs.Placed.{named}
-use Rattle.tera_registry.proofs.Checked.{no-first-fault}
 
 -- A way up that ends within some steps ends so within more.
 
@@ -209,11 +208,11 @@ entry-there r ts ups i c lt =
     element r.templates i (omega (arith, ap length c.same, length-entries ts))
 
 -- Templates that are accepted, where it is known what each extends.
-pub kept-climbable : (r : Registry) (ts lent_ts : List (Rc Stored Global)) (ps : List (String Global)) (ups lent_ups : List Up) → r ≡ seen ts ps → lent_ts ≡ ts → lent_ups ≡ ups → Rises (entries_of ts) → fault (seen ts ps) ≡ None → ArePlaced (seen ts ps) ups → Climbable r lent_ts lent_ups
+pub kept-climbable : (r : Registry) (ts lent_ts : List (Rc Stored Global)) (ps : List (String Global)) (ups lent_ups : List Up) → r ≡ seen ts ps → lent_ts ≡ ts → lent_ups ≡ ups → Rises (entries_of ts) → first_fault (seen ts ps) [] (entries_of ts) ≡ None → ArePlaced (seen ts ps) ups → Climbable r lent_ts lent_ups
 kept-climbable r ts lent_ts ps ups lent_ups is e f rises none placed =
     let known = found-placed (seen ts ps) ups rises placed in
     rw (is, e, f) (record {
       same = refl;
       above = known;
-      grounded = grounded (seen ts ps) (no-first-fault (seen ts ps) none);
+      grounded = grounded (seen ts ps) none;
     })

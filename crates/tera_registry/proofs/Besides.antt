@@ -1,30 +1,28 @@
 -- A text beside the templates, whose own components are there as well.
-use Rattle.std.proofs.Common.{◌≡◌, Bool, true, false, not, ◌||◌, is_some, bytes_eq, if◌then◌else◌, List, [], ◌∷◌, map, Option, Some, None, Global, String, refl, sym, ap, ap₂, ◌∙◌}
+use Rattle.std.proofs.Common.{◌≡◌, Bool, true, false, ◌||◌, is_some, bytes_eq, if◌then◌else◌, List, [], ◌∷◌, map, Option, Some, None, Global, String, refl, sym, ap, ap₂, ◌∙◌}
 use Rattle.std.specs.declared.collections.BTreeMap.{BTreeMap}
-use Rattle.std.specs.List.{list_any, flat_map}
+use Rattle.std.specs.List.{list_any}
+use mathlib.Core.Path.{fun_ext}
 use Rattle.std.specs.Option.{option_or}
-use Rattle.std.proofs.lemmas.List.Folds.{list_any-append}
 use Rattle.tera_errors.specs.Site.{Name}
 use Rattle.tera_tree.specs.Tree.{Tree, Signature, Nodes}
 use Rattle.tera_tree.specs.Blocks as in_tree
 use Rattle.tera_tree.specs.Definitions.{definitions}
 use Rattle.tera_code.specs.Listing.{Listing}
 use Rattle.tera_code.specs.Code.{nodes_code}
-use Rattle.tera_code.specs.Blocks.{block_listings}
+use Rattle.tera_objects.specs.Engine.{Engine}
 use Rattle.tera_meaning.specs.Registry.{Registry}
 use Rattle.tera_meaning.specs.Known.{lacks_a_callee}
 use Rattle.tera_meaning.specs.Components.{Component, component_named, component, one_off_name}
 use Rattle.tera_meaning.specs.Rendering.{is_component_beside}
 use Rattle.tera_registry.specs.declared.components.Component.{Component as Kept}
 use Rattle.tera_registry.specs.declared.choices.Choice.{Choice}
-use Rattle.tera_registry.specs.Known.{bodies_lack}
-use Rattle.tera_registry.specs.Components.{kept_of, kept_all, kept_names, component_calls, code_calls}
+use Rattle.tera_registry.specs.Known.{is_there, code_lacks}
+use Rattle.tera_registry.specs.Components.{kept_of, kept_all, kept_names}
 use Rattle.tera_registry.specs.Choices.{chosen, chosen_of, AreChosen}
-use Rattle.tera_registry.specs.Beside.{is_there, code_misses}
 use Rattle.tera_registry.proofs.Definitions.{component-none, component-place}
-use Rattle.tera_registry.proofs.Choosing.{any-same, kept-names-are}
+use Rattle.tera_registry.proofs.Choosing.{kept-names-are}
 use Rattle.tera_registry.proofs.Lacking.{codes_lack_as_tree}
-use Rattle.tera_registry.proofs.Calling.{codes_call_as_tree, lacks-parts}
 
 taken-there : (r : Registry) (n : Name) (c : Option Choice) → chosen_of r n ≡ c → is_some c ≡ is_some (component r n)
 taken-there r n None e = sym (ap is_some (component-none r n None (sym e) refl))
@@ -52,18 +50,8 @@ there-beside r tree file choices own known kept n =
     let of_own = own-there n own ∙ ap (list_any (λ m. bytes_eq n m)) (kept-names-are file tree.nodes own kept) ∙ named-there one_off_name n (definitions tree.nodes) in
     ap₂ (λ x y. x || y) of_all of_own ∙ sym (either-there (component r n) (component_named one_off_name n (definitions tree.nodes)))
 
-any-flat : (p : Name → Bool) (f : Kept → List Name) (own : List Kept) → list_any (λ c. list_any p (f c)) own ≡ list_any p (flat_map f own)
-any-flat p f [] = refl
-any-flat p f (c ∷ own) = ap (λ b. list_any p (f c) || b) (any-flat p f own) ∙ sym (list_any-append p (f c) (flat_map f own))
-
-pub beside-lacks : (r : Registry) (tree : Tree) (file : Name) (choices : BTreeMap (String Global) Choice Global) (own : List Kept) (body : Listing) → AreChosen r choices → body.code ≡ nodes_code tree.nodes 0 → map kept_of own ≡ kept_all file tree.nodes → in_tree.blocks tree.nodes ≡ []
-    → (bodies_lack body [] own || (code_misses choices own body.code || list_any (λ c. code_misses choices own c.code.code) own)) ≡ lacks_a_callee (is_component_beside r tree) tree.nodes
-beside-lacks r tree file choices own body known code kept none =
-    let p : Name → Bool = λ n. not (is_there choices own n) in
-    let no_blocks : [] ≡ block_listings file (in_tree.blocks tree.nodes) = ap (block_listings file) (sym none) in
-    let others = codes_lack_as_tree file body [] own tree.nodes code no_blocks kept in
-    let calls = any-flat p (λ c. code_calls c.code.code) own in
-    let joined = ap (λ b. list_any p (code_calls body.code) || b) calls ∙ sym (list_any-append p (code_calls body.code) (flat_map (λ c. code_calls c.code.code) own)) in
-    let all = ap (list_any p) (codes_call_as_tree file body own tree.nodes code none kept) in
-    let same = any-same p (λ n. not (is_component_beside r tree n)) (component_calls tree.nodes) (λ n. ap not (there-beside r tree file choices own known kept n)) in
-    ap₂ (λ x y. x || y) others (joined ∙ all ∙ same) ∙ sym (lacks-parts (is_component_beside r tree) tree.nodes)
+pub beside-lacks : (r : Registry) (engine : Engine) (tree : Tree) (file : Name) (choices : BTreeMap (String Global) Choice Global) (own : List Kept) (body : Listing) → AreChosen r choices → r.engine ≡ engine → body.code ≡ nodes_code tree.nodes 0 → map kept_of own ≡ kept_all file tree.nodes → in_tree.blocks tree.nodes ≡ []
+    → (code_lacks engine (is_there choices own) body.code || list_any (λ c. code_lacks engine (is_there choices own) c.code.code) own) ≡ lacks_a_callee r.engine (is_component_beside r tree) tree.nodes
+beside-lacks r engine tree file choices own body known of code kept none =
+    let there : is_there choices own ≡ is_component_beside r tree = fun_ext (there-beside r tree file choices own known kept) in
+    codes_lack_as_tree engine (is_there choices own) file body own tree.nodes code kept none ∙ ap₂ (λ e f. lacks_a_callee e f tree.nodes) (sym of) there

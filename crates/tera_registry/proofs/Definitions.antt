@@ -1,7 +1,8 @@
 -- The component of a name, found by place.
-use Rattle.std.proofs.Common.{◌≡◌, ℕ, ◌<◌, Bool, true, not, ◌||◌, is_some, List, [], ◌∷◌, ◌++◌, length, map, get_or, Option, Some, None, Result, Ok, option_map, option_and_then, Box, Vec, Global, String, refl, sym, ap, ap₂, ◌∙◌, arith, slice_get}
+use Rattle.std.proofs.Common.{◌≡◌, ℕ, ◌<◌, is_some, List, [], ◌∷◌, ◌++◌, length, map, get_or, Option, Some, None, Result, Ok, option_map, option_and_then, Box, Vec, Global, String, refl, sym, ap, ap₂, ◌∙◌, arith, slice_get}
 use Rattle.std.specs.declared.collections.BTreeMap.{BTreeMap}
 use Rattle.std.specs.List.{list_any}
+use mathlib.Core.Path.{fun_ext}
 use Rattle.std.proofs.lemmas.List.{length-map, map-append}
 use Rattle.std.proofs.lemmas.Option.{slice_get_read, slice_get-map, slice_get_within}
 use Rattle.tera_errors.specs.Site.{Name}
@@ -15,15 +16,19 @@ use Rattle.tera_tree.specs.declared.component.Signature.{Signature as Written}
 use Rattle.tera_tree.proofs.Views.{view_definition}
 use Rattle.tera_code.specs.Code.{listing_of}
 use Rattle.tera_components.specs.Definition.{Definition, definition_of}
+use Rattle.tera_objects.specs.Engine.{Engine}
 use Rattle.tera_meaning.specs.Registry.{Entry, Registry}
 use Rattle.tera_meaning.specs.Known.{lacks_a_callee}
 use Rattle.tera_meaning.specs.Accepted.{is_component}
 use Rattle.tera_meaning.specs.Components.{component_in, component, definer_of}
 use Rattle.tera_registry.specs.declared.components.Component.{Component as Kept}
 use Rattle.tera_registry.specs.declared.choices.Choice.{Choice}
-use Rattle.tera_registry.specs.Components.{kept_of, kept_as, kept_all, component_calls}
+use Rattle.tera_registry.specs.declared.needs.Need.{Need}
+use Rattle.tera_registry.specs.Components.{kept_of, kept_as, kept_all}
+use Rattle.tera_registry.specs.Known.{is_there}
+use Rattle.tera_registry.specs.Needs.{needs_of, is_unmet}
 use Rattle.tera_registry.specs.Choices.{chosen, chosen_of, AreChosen}
-use Rattle.tera_registry.proofs.Calling.{lacks-parts}
+use Rattle.tera_registry.proofs.Needing.{or-false, lacks-needs}
 use Rattle.tera_registry.proofs.Chosen.{IsChosen, chosen-is}
 
 pub component-there : (r : Registry) (n : Name) → is_some (chosen_of r n) ≡ is_component r n
@@ -79,10 +84,7 @@ kept-one file old mid c node signature body lent xs is s a e h g =
     ∙ ap (λ n. map kept_of old ++ map (kept_as file) (node_definitions (node_of n))) (sym is)
 
 -- what a template calls is there or not
-pub misses-callee : (r : Registry) (nodes : Nodes) (choices : BTreeMap (String Global) Choice Global) (names : List Name) (lacks : Bool) → AreChosen r choices → lacks ≡ lacks_a_callee (λ name. true) nodes → names ≡ component_calls nodes → (lacks || list_any (λ n. not (is_some (chosen choices n))) names) ≡ lacks_a_callee (is_component r) nodes
-misses-callee r nodes choices names lacks known others calls =
-    ap₂ (λ x y. x || y) others (ap (list_any (λ n. not (is_some (chosen choices n)))) calls ∙ all-same (component_calls nodes)) ∙ sym (lacks-parts (is_component r) nodes)
-  where
-    all-same : (ns : List Name) → list_any (λ n. not (is_some (chosen choices n))) ns ≡ list_any (λ n. not (is_component r n)) ns
-    all-same [] = refl
-    all-same (n ∷ ns) = ap₂ (λ x y. not x || y) (ap is_some (known n) ∙ component-there r n) (all-same ns)
+pub misses-callee : (r : Registry) (engine : Engine) (nodes : Nodes) (choices : BTreeMap (String Global) Choice Global) (needs : List Need) → AreChosen r choices → r.engine ≡ engine → needs ≡ needs_of nodes → list_any (is_unmet engine (is_there choices [])) needs ≡ lacks_a_callee r.engine (is_component r) nodes
+misses-callee r engine nodes choices needs known of those =
+    let there : is_there choices [] ≡ is_component r = fun_ext (λ n. sym (or-false (is_some (chosen choices n))) ∙ ap is_some (known n) ∙ component-there r n) in
+    ap (list_any (is_unmet engine (is_there choices []))) those ∙ sym (lacks-needs engine (is_there choices []) nodes) ∙ ap₂ (λ e f. lacks_a_callee e f nodes) (sym of) there

@@ -1,7 +1,7 @@
 -- No templates.
 use Rattle.std.proofs.Common.{◌≡◌, ℕ, List, [], Some, None, Global, String, string_bytes, nat_cmp, refl, ap}
 use Rattle.std.specs.declared.rc.Rc.{Rc}
-use Rattle.tera_meaning.specs.Accepted.{fault, first_fault, missing}
+use Rattle.tera_meaning.specs.Accepted.{first_fault}
 use Rattle.tera_registry.specs.declared.template.Template.{Template as Stored}
 use Rattle.std.specs.declared.collections.BTreeMap.{BTreeMap}
 use Rattle.std.specs.Map.{lookup}
@@ -18,12 +18,12 @@ use Rattle.tera_registry.specs.Kept.{entries_of, seen}
 pub none-rises : (ts : List (Rc Stored Global)) → ts ≡ [] → Rises (entries_of ts)
 none-rises ts e = rw e tt
 
-bare-accepted : (ps : List (String Global)) → fault (seen [] ps) ≡ None
-unfolding fault first_fault missing
-bare-accepted ps = refl
+bare-faultless : (ps : List (String Global)) → first_fault (seen [] ps) [] [] ≡ None
+unfolding first_fault
+bare-faultless ps = refl
 
-pub none-accepted : (ts : List (Rc Stored Global)) (ps : List (String Global)) → ts ≡ [] → fault (seen ts ps) ≡ None
-none-accepted ts ps e = rw e (bare-accepted ps)
+pub none-faultless : (ts : List (Rc Stored Global)) (ps : List (String Global)) → ts ≡ [] → first_fault (seen ts ps) [] (entries_of ts) ≡ None
+none-faultless ts ps e = rw e (bare-faultless ps)
 
 pub none-linked : (ts : List (Rc Stored Global)) (ps : List (String Global)) (roots : List ℕ) → ts ≡ [] → roots ≡ [] → IsLinked ts ps roots
 none-linked ts ps roots e f = rw (e, f) (record {

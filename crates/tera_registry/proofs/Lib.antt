@@ -4,7 +4,7 @@ pub mod Rows
 pub mod Placed
 pub mod Kept
 pub mod Lacking
-pub mod Calling
+pub mod Needing
 pub mod Resolved
 pub mod Climb
 pub mod Linked
@@ -29,6 +29,7 @@ pub mod Choosing
 pub mod Definitions
 pub mod Besides
 pub mod Listed
+pub mod Served
 pub mod Wanted
 pub mod Above
 pub mod Reaching

@@ -1,5 +1,5 @@
 -- The components of a whole registry by name, found in the table that templates and prefixes alone make.
-use Rattle.std.proofs.Common.{◌≡◌, ◌<◌, ℕ, suc, Bool, true, false, ◌||◌, cond, is_some, List, [], ◌∷◌, length, map, get_or, Option, Some, None, Less, Global, String, string_bytes, refl, sym, ap, ◌∙◌, arith, slice_get}
+use Rattle.std.proofs.Common.{◌≡◌, ◌<◌, Bool, true, false, ◌||◌, cond, is_some, List, [], ◌∷◌, length, map, get_or, Some, None, Less, Global, String, string_bytes, refl, sym, ap, ◌∙◌, arith, slice_get}
 use Rattle.std.specs.declared.rc.Rc.{Rc}
 use Rattle.std.specs.declared.collections.BTreeMap.{BTreeMap}
 use Rattle.std.specs.BTreeMap.{keys, IsOrdered}
@@ -15,30 +15,25 @@ use Rattle.std.proofs.lemmas.Option.{slice_get_within}
 use Rattle.tera_errors.specs.Site.{Name}
 use Rattle.tera_tree.specs.Tree.{Signature, Nodes}
 use Rattle.tera_tree.specs.Blocks.{is_among}
-use Rattle.tera_tree.specs.Definitions.{definitions, component_names}
+use Rattle.tera_tree.specs.Definitions.{definitions}
 use Rattle.tera_tree.specs.View.{nodes_of}
 use Rattle.tera_values.specs.Named.{name_cmp}
 use Rattle.tera_code.specs.Listing.{Listing}
 use Rattle.tera_components.specs.Definition.{Definition}
 use Rattle.tera_meaning.specs.Registry.{Entry, Registry}
-use Rattle.tera_meaning.specs.Components.{component, priority, AreComponentNames}
+use Rattle.tera_meaning.specs.Components.{component, AreComponentNames}
 use Rattle.tera_registry.specs.declared.choices.Choice.{Choice}
 use Rattle.tera_registry.specs.declared.components.Component.{Component as Kept}
 use Rattle.tera_registry.specs.declared.template.Template.{Template as Stored}
 use Rattle.tera_registry.specs.declared.templates.Defined.{Defined}
 use Rattle.tera_registry.specs.Kept.{entry_of, entries_of}
-use Rattle.tera_registry.specs.Choices.{chosen_in, chosen_from, chosen_of, AreChosen}
+use Rattle.tera_registry.specs.Choices.{chosen_of, AreChosen}
 use Rattle.tera_registry.specs.Templates.{IsDefined}
-use Rattle.tera_registry.proofs.Adds.{bare}
+use Rattle.tera_registry.proofs.Adds.{bare, chosen-same}
 use Rattle.tera_registry.proofs.Kept.{entry-at-place, length-entries}
 use Rattle.tera_registry.proofs.Definitions.{component-there, component-place, kept-within, kept-at}
 
 -- Templates and prefixes alone decide on what is taken.
-
-chosen-same : (r : Registry) (n : Name) (place : ℕ) (ts : List Entry) (old : Option Choice) → chosen_from (bare r.templates r.prefixes) n place ts old ≡ chosen_from r n place ts old
-chosen-same r n place [] old = refl
-chosen-same r n place (t ∷ ts) old =
-    chosen-same r n (suc place) ts (chosen_in n place (priority r t.0) 0 (component_names t.1.tree.nodes) old)
 
 pub chosen-in-all : (r : Registry) (choices : BTreeMap (String Global) Choice Global) → AreChosen (bare r.templates r.prefixes) choices → AreChosen r choices
 chosen-in-all r choices known = λ n. known n ∙ chosen-same r n 0 r.templates None

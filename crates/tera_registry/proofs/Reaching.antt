@@ -1,8 +1,8 @@
 -- Places that are reached, one more at a time.
-use Rattle.std.proofs.Common.{◌≡◌, ℕ, zero, suc, ◌+◌, ◌<◌, ◌≤◌, Bool, true, false, not, ◌||◌, List, [], ◌∷◌, ◌++◌, length, take, drop, get_or, set, get_or-set_same, get_or-set_other, count_by, cond, replicate, Option, Some, None, inl, inr, refl, sym, ap, ◌∙◌, append_assoc, append-nil, arith, slice_get}
+use Rattle.std.proofs.Common.{◌≡◌, ℕ, zero, suc, ◌+◌, ◌<◌, ◌≤◌, Bool, true, false, not, ◌||◌, List, [], ◌∷◌, ◌++◌, length, take, set, get_or-set_other, count_by, cond, replicate, Option, Some, None, inl, inr, refl, sym, ap, ◌∙◌, append_assoc, append-nil, arith, slice_get}
 use Rattle.std.specs.List.{list_any, filter_map, cons_option}
-use Rattle.std.proofs.lemmas.Bool.{cases_Bool, cases_eq}
-use Rattle.std.proofs.lemmas.List.{drop_all, length-replicate, length-set, length-append, take-append-le, take_all}
+use Rattle.std.proofs.lemmas.Bool.{cases_eq}
+use Rattle.std.proofs.lemmas.List.{length-replicate, length-set, length-append, take-append-le, take_all}
 use Rattle.std.proofs.lemmas.List.Folds.{list_any-append}
 use Rattle.std.proofs.lemmas.List.Sums.{sum_by-cons}
 use Rattle.std.proofs.lemmas.Option.{slice_get_within, get_or_from_slice_get}
@@ -10,9 +10,8 @@ use Rattle.tera_meaning.specs.Registry.{Registry, Entry}
 use Rattle.tera_meaning.specs.Accepted.{includes_of}
 use Rattle.tera_registry.specs.Edges.{all_at, AreThere}
 use Rattle.tera_registry.specs.Reached.{is_marked, AreReached, Reaches, IsClosure}
-use Rattle.tera_registry.proofs.Element.{element}
 use Rattle.tera_registry.proofs.Filled.{all_at-push, AreThere-push}
-use Rattle.tera_registry.proofs.Rows.{drop-at, length-push, take-more}
+use Rattle.tera_registry.proofs.Rows.{length-push, take-more}
 use Rattle.tera_registry.proofs.Ways.{count-mark-not}
 
 or-false : (b : Bool) → (b || false) ≡ b

@@ -21,7 +21,7 @@ use Rattle.tera_errors.specs.Answer.{Refusal, Lacks, GivesOneOf, SaysOneOf}
 use Rattle.tera_errors.specs.Fault.{Fault, message, circular_include, template_not_found}
 use Rattle.tera_meaning.specs.Registry.{Registry, Entry}
 use Rattle.tera_meaning.specs.Resolve.{parents, resolve}
-use Rattle.tera_meaning.specs.Accepted.{includes_of, can_walk, leads_into_a_circle, fault_of_parents, fault_if, template_fault, first_fault, fault}
+use Rattle.tera_meaning.specs.Accepted.{includes_of, can_walk, leads_into_a_circle, fault_of_parents, fault_if, template_fault, first_fault}
 use Rattle.tera_meaning.specs.Components.{has_a_tie}
 use Rattle.tera_meaning.specs.Lineage.{ancestors}
 use Rattle.tera_meaning.specs.Variables.{free_within, in_one_of, given, if_given, given_in, variables, AreVariables, AnswersVariables}
@@ -32,7 +32,6 @@ use Rattle.tera_registry.specs.Kept.{entries_of, seen}
 use Rattle.tera_registry.specs.Reached.{IsClosure, Uncircled}
 use Rattle.tera_registry.specs.declared.template.Template.{Template as Stored}
 use Rattle.tera_registry.proofs.Ancestors.{grounded}
-use Rattle.tera_registry.proofs.Checked.{no-first-fault}
 
 either-true : (a b : Bool) → (a || b) ≡ true → (a ≡ true) ⊎ (b ≡ true)
 either-true true b e = inl refl
@@ -186,13 +185,13 @@ is-own m p is = fun_ext (λ n. ap (λ b. b || p n) (same-own m n (bytes_eq m n) 
 
 -- The same of templates that are lent.
 
-pub lent-grounded : (ts lent : List (Rc Stored Global)) (ps lent_ps : List (String Global)) → lent ≡ ts → lent_ps ≡ ps → fault (seen ts ps) ≡ None → Grounded (seen lent lent_ps)
+pub lent-grounded : (ts lent : List (Rc Stored Global)) (ps lent_ps : List (String Global)) → lent ≡ ts → lent_ps ≡ ps → first_fault (seen ts ps) [] (entries_of ts) ≡ None → Grounded (seen lent lent_ps)
 lent-grounded ts lent ps lent_ps e f none =
-    let meant : Grounded (seen ts ps) = grounded (seen ts ps) (no-first-fault (seen ts ps) none) in rw (e, f) meant
+    let meant : Grounded (seen ts ps) = grounded (seen ts ps) none in rw (e, f) meant
 
-pub lent-uncircled : (ts lent : List (Rc Stored Global)) (ps lent_ps : List (String Global)) → lent ≡ ts → lent_ps ≡ ps → fault (seen ts ps) ≡ None → Uncircled (seen lent lent_ps)
+pub lent-uncircled : (ts lent : List (Rc Stored Global)) (ps lent_ps : List (String Global)) → lent ≡ ts → lent_ps ≡ ps → first_fault (seen ts ps) [] (entries_of ts) ≡ None → Uncircled (seen lent lent_ps)
 lent-uncircled ts lent ps lent_ps e f none =
-    let meant : Uncircled (seen ts ps) = uncircled (seen ts ps) (no-first-fault (seen ts ps) none) in rw (e, f) meant
+    let meant : Uncircled (seen ts ps) = uncircled (seen ts ps) none in rw (e, f) meant
 
 -- The names of a whole registry are those that its templates and prefixes alone give.
 

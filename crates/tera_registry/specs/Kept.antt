@@ -4,6 +4,7 @@ use Rattle.std.specs.declared.alloc.Global.{Global}
 use Rattle.std.specs.declared.rc.Rc.{Rc}
 use Rattle.tera_tree.specs.View.{nodes_of}
 use Rattle.tera_values.specs.Named.{Named}
+use Rattle.tera_objects.specs.Engine.{Engine}
 use Rattle.tera_meaning.specs.Registry.{Template, Entry, Registry, new_registry}
 use Rattle.tera_registry.specs.declared.template.Template.{Template as Stored}
 
@@ -22,3 +23,7 @@ entries_of ts = map (λ t. entry_of t.value) ts
 -- a registry that has these templates and prefixes
 abbrev pub seen : List (Rc Stored Global) → List (String Global) → Registry
 seen ts ps = record new_registry { templates = entries_of ts; prefixes = map string_bytes ps }
+
+-- one that has this engine as well
+abbrev pub seen_by : Engine → List (Rc Stored Global) → List (String Global) → Registry
+seen_by engine ts ps = record (seen ts ps) { engine = engine }

@@ -1,26 +1,29 @@
--- Code that calls what is not there; its components are looked for elsewhere.
-use Rattle.std.specs.Prelude.{Bool, true, false, not, ◌||◌, List, Option, Some, None}
+-- Code that calls what is not there.
+use Rattle.std.specs.Prelude.{Bool, false, not, ◌||◌, is_some, bytes_eq, List, Option, Some, None, String}
 use Rattle.std.specs.List.{list_any}
+use Rattle.std.specs.declared.alloc.Global.{Global}
+use Rattle.std.specs.declared.collections.BTreeMap.{BTreeMap}
+use Rattle.tera_errors.specs.Site.{Name}
 use Rattle.tera_tree.specs.Calls.{Callee}
 use Rattle.tera_code.specs.declared.instruction.Instruction.{Instruction}
-use Rattle.tera_code.specs.declared.blocks.Block.{Block}
-use Rattle.tera_registry.specs.declared.components.Component.{Component}
-use Rattle.tera_code.specs.Listing.{Listing}
 use Rattle.tera_code.specs.Code.{Code}
 use Rattle.tera_code.specs.Called.{called_by}
+use Rattle.tera_objects.specs.Engine.{Engine}
 use Rattle.tera_meaning.specs.Known.{is_known}
+use Rattle.tera_registry.specs.declared.choices.Choice.{Choice}
+use Rattle.tera_registry.specs.declared.components.Component.{Component}
+use Rattle.tera_registry.specs.Choices.{chosen}
 
-abbrev pub is_missing : Option Callee → Bool
-is_missing None = false
-is_missing (Some callee) = not (is_known (λ name. true) callee)
+-- whether a component is taken of a name, or is one of these
+abbrev pub is_there : BTreeMap (String Global) Choice Global → List Component → Name → Bool
+is_there choices own name = is_some (chosen choices name) || list_any (λ c. bytes_eq name c.definition.name) own
 
-abbrev pub calls_missing : Instruction → Bool
-calls_missing i = is_missing (called_by i)
+abbrev pub is_missing : Engine → (Name → Bool) → Option Callee → Bool
+is_missing engine there None = false
+is_missing engine there (Some callee) = not (is_known engine there callee)
 
-abbrev pub code_lacks : Code → Bool
-code_lacks = list_any calls_missing
+abbrev pub calls_missing : Engine → (Name → Bool) → Instruction → Bool
+calls_missing engine there i = is_missing engine there (called_by i)
 
--- the code of a body, that of one of these blocks, or that of one of these components
-abbrev pub bodies_lack : Listing → List Block → List Component → Bool
-bodies_lack body blocks components =
-    code_lacks body.code || (list_any (λ b. code_lacks b.code.code) blocks || list_any (λ c. code_lacks c.code.code) components)
+abbrev pub code_lacks : Engine → (Name → Bool) → Code → Bool
+code_lacks engine there = list_any (calls_missing engine there)

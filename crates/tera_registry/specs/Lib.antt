@@ -4,8 +4,8 @@ pub mod Code
 pub mod Kept
 pub mod Components
 pub mod Choices
-pub mod Beside
 pub mod Known
+pub mod Needs
 pub mod Batch
 pub mod Put
 pub mod First

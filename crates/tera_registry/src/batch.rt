@@ -1,28 +1,32 @@
 // A batch of texts that is read, and put among templates.
-ghost use Rattle.std.specs.Prelude.{◌≡◌, IfOk, IfErr, IsTrue, option_map, string_bytes};
+ghost use Rattle.std.specs.Prelude.{◌≡◌, IfOk, IfErr, IsTrue, map, option_map, string_bytes};
 ghost use Rattle.tera_errors.specs.Answer.{GivesOneOf, Lacks};
+ghost use Rattle.tera_tree.specs.Blocks as in_tree;
 ghost use Rattle.tera_tree.specs.Delimiters.{delimiters_of, accepted};
-ghost use Rattle.tera_tree.specs.View.{quoted_option, tree_of};
+ghost use Rattle.tera_tree.specs.View.{nodes_of, quoted_option, tree_of};
+ghost use Rattle.tera_code.specs.Blocks.{block_of, block_listings};
+ghost use Rattle.tera_code.specs.Code.{listing_of};
 ghost use Rattle.tera_registry.specs.Order.{Rises};
 ghost use Rattle.tera_registry.specs.Batch.{pairs_of};
 ghost use Rattle.tera_registry.specs.Put.{Makes, Puts};
+ghost use Rattle.tera_registry.specs.Components.{kept_of, kept_all};
 ghost use Rattle.tera_registry.specs.Kept.{entry_of, entries_of};
+ghost use Rattle.tera_registry.specs.Needs.{needs_of};
 
-use crate::calls::component_calls;
-use crate::components::components;
+use crate::components::{Component, components};
 use crate::includes::includes;
-use crate::known::any_lacks;
 use crate::meant::Meant;
 use crate::names::put;
+use crate::needs::{Need, needs};
 use crate::template::Template;
 use crate::tops::top_blocks;
 use std::alloc::{AllocError, Global};
 use std::rc::Rc;
 use tera_code::blocks::blocks;
-use tera_code::compiled;
+use tera_code::{Block, Chunk, compiled};
 use tera_errors::TeraResult;
 use tera_syntax::parse;
-use tera_tree::{Delimiters, ParserOutput, Quoted};
+use tera_tree::{Delimiters, Node, ParserOutput, Quoted};
 use tera_variables::free;
 
 /// Reads each text and puts it at its name, up to the first that spells no tree.
@@ -55,26 +59,87 @@ fn read(alloc: Global, delimiters: &Delimiters, name: &str, text: &str) -> TeraR
     ensures { GivesOneOf entry_of result (Makes (delimiters_of delimiters.now) name.now text.now) }
 {
     match parse(alloc, name, text, delimiters) {
-        Ok(output) => made(alloc, name, text, &output),
+        Ok(output) => made(alloc, &output, name, text),
         Err(refusal) => Err(refusal),
     }
 }
 
 /// The template of a name and a text that was read to this.
-#[tactic(auto, using(crate::proofs::Lacking::bodies_lack_as_tree, crate::proofs::Calling::bodies_call_as_tree))]
-fn made(alloc: Global, name: &str, text: &str, output: &ParserOutput) -> TeraResult<Template>
+fn made(alloc: Global, output: &ParserOutput, name: &str, text: &str) -> TeraResult<Template>
     ensures ok { IfOk result
         (λ t. entry_of t ≡ (name.now, record { text = text.now; tree = tree_of output.now })) }
     ensures lacks { IfErr result Lacks }
 {
-    let body = compiled(alloc, name, output.nodes.as_slice())?;
-    let blocks = blocks(alloc, name, output.nodes.as_slice())?;
-    let tops = top_blocks(alloc, output.nodes.as_slice())?;
-    let includes = includes(alloc, output.nodes.as_slice())?;
-    let free = free(alloc, output.nodes.as_slice())?;
-    let components = components(alloc, name, output.nodes.as_slice())?;
-    let component_calls = component_calls(alloc, &body, blocks.as_slice(), components.as_slice())?;
-    let lacks = any_lacks(&body, blocks.as_slice(), components.as_slice());
+    let code = code_of(alloc, name, output.nodes.as_slice())?;
+    assembled(alloc, output, name, text, code)
+}
+
+/// The code of a template, and what that needs.
+#[derive(Drop)]
+struct TemplateCode {
+    body: Chunk,
+    blocks: Vec<Block>,
+    components: Vec<Component>,
+    needs: Vec<Need>,
+}
+
+/// What the nodes of the template of this name are compiled to.
+fn code_of(alloc: Global, name: &str, nodes: &[Node]) -> TeraResult<TemplateCode>
+    ensures body { IfOk result (λ c. c.body ≡ listing_of name.now (nodes_of nodes.now)) }
+    ensures blocks { IfOk result (λ c. map block_of c.blocks.items
+        ≡ block_listings name.now (in_tree.blocks (nodes_of nodes.now))) }
+    ensures components { IfOk result (λ c. map kept_of c.components.items
+        ≡ kept_all name.now (nodes_of nodes.now)) }
+    ensures needs { IfOk result (λ c. c.needs.items ≡ needs_of (nodes_of nodes.now)) }
+    ensures lacks { IfErr result Lacks }
+{
+    let body = compiled(alloc, name, nodes)?;
+    let blocks = blocks(alloc, name, nodes)?;
+    let components = components(alloc, name, nodes)?;
+    let needs = needs(
+        alloc,
+        nodes,
+        name,
+        &body,
+        blocks.as_slice(),
+        components.as_slice(),
+    )?;
+    Ok(TemplateCode {
+        body,
+        blocks,
+        components,
+        needs,
+    })
+}
+
+/// The template of a name and a text that was read to this, with its code.
+fn assembled(
+    alloc: Global,
+    output: &ParserOutput,
+    name: &str,
+    text: &str,
+    code: TemplateCode,
+) -> TeraResult<Template>
+    requires body { code.body ≡ listing_of name.now (nodes_of output.now.nodes.items) }
+    requires blocks { map block_of code.blocks.items
+        ≡ block_listings name.now (in_tree.blocks (nodes_of output.now.nodes.items)) }
+    requires components { map kept_of code.components.items
+        ≡ kept_all name.now (nodes_of output.now.nodes.items) }
+    requires needs { code.needs.items ≡ needs_of (nodes_of output.now.nodes.items) }
+    ensures ok { IfOk result
+        (λ t. entry_of t ≡ (name.now, record { text = text.now; tree = tree_of output.now })) }
+    ensures lacks { IfErr result Lacks }
+{
+    let nodes = output.nodes.as_slice();
+    let TemplateCode {
+        body,
+        blocks,
+        components,
+        needs,
+    } = code;
+    let tops = top_blocks(alloc, nodes)?;
+    let includes = includes(alloc, nodes)?;
+    let free = free(alloc, nodes)?;
     Ok(Template {
         name: String::from_str(alloc, name)?,
         text: String::from_str(alloc, text)?,
@@ -85,9 +150,8 @@ fn made(alloc: Global, name: &str, text: &str, output: &ParserOutput) -> TeraRes
         includes,
         free,
         components,
-        component_calls,
-        lacks,
-        meant: Meant::of(output.nodes.as_slice()),
+        needs,
+        meant: Meant::of(nodes),
     })
 }
 

@@ -47,7 +47,9 @@ fn choose(
     new: Choice,
 ) -> Result<(), AllocError>
     ensures { OnOk result ((q : Name) → chosen taken.new q
-        ≡ if bytes_eq q name.now then better_choice (chosen taken.old q) new else chosen taken.old q) }
+        ≡ if bytes_eq q name.now
+        then better_choice (chosen taken.old q) new
+        else chosen taken.old q) }
 {
     if improves(taken, name, new.priority) {
         taken.insert(String::from_str(alloc, name)?, new)?;

@@ -26,19 +26,20 @@ pub fn components(alloc: Global, file: &str, nodes: &[Node]) -> TeraResult<Vec<C
 {
     let mut found = Vec::new(alloc);
     for node in nodes {
-        add(alloc, file, node, &mut found)?;
+        add(alloc, node, file, &mut found)?;
     }
     Ok(found)
 }
 
 // Puts the component that the node defines behind those that were found.
-fn add(alloc: Global, file: &str, node: &Node, found: &mut Vec<Component>) -> TeraResult<()>
+fn add(alloc: Global, node: &Node, file: &str, found: &mut Vec<Component>) -> TeraResult<()>
     ensures ok { OnOk result (map kept_of found.new.items
-        ≡ map kept_of found.old.items ++ map (kept_as file.now) (node_definitions (node_of node.now))) }
+        ≡ map kept_of found.old.items
+        ++ map (kept_as file.now) (node_definitions (node_of node.now))) }
     ensures lacks { IfErr result Lacks }
 {
     match node {
-        Node::Definition { signature, body } => {
+        Node::Definition { body, signature } => {
             let definition = ComponentDefinition::new(alloc, signature)?;
             let code = compiled(alloc, file, body.as_slice())?;
             found.push(Component { definition, code })?;

@@ -1,23 +1,28 @@
 // Who defines a block for a template, and which blocks are lost.
-ghost use Rattle.std.specs.Prelude.{◌≡◌, ◌<◌, ◌∷◌, not, is_some, length, slice_get, Some};
+ghost use Rattle.std.specs.Prelude.{◌≡◌, ◌<◌, [], ◌∷◌, length, slice_get, Some};
 ghost use Rattle.std.specs.List.{list_any};
 ghost use Rattle.tera_meaning.specs.Accepted.{loses_a_block, lacks_something, is_component, includes_of, misses_an_include};
 ghost use Rattle.tera_meaning.specs.Known.{lacks_a_callee};
 ghost use Rattle.tera_meaning.specs.Lineage.{ancestors, definers_in};
 ghost use Rattle.tera_meaning.specs.Registry.{Entry, Registry};
 ghost use Rattle.tera_meaning.specs.Resolve.{entry_at};
-ghost use Rattle.tera_registry.specs.Choices.{chosen, AreChosen};
+ghost use Rattle.tera_registry.specs.Choices.{AreChosen};
 ghost use Rattle.tera_registry.specs.Definers.{IsFirst, Climbable, blocks_of};
 ghost use Rattle.tera_registry.specs.Edges.{AreEdges};
 ghost use Rattle.tera_registry.specs.Places.{IsPlace};
 ghost use Rattle.tera_registry.specs.Kept.{entry_of};
+ghost use Rattle.tera_registry.specs.Known.{is_there};
+ghost use Rattle.tera_registry.specs.Needs.{is_unmet};
 ghost use Rattle.tera_registry.specs.Walks.{rows};
 
 use crate::choices::Choice;
+use crate::known::is_known;
 use crate::lineage::Up;
+use crate::needs::Need;
 use crate::template::Template;
 use std::collections::BTreeMap;
 use std::rc::Rc;
+use tera_objects::Objects;
 use tera_values::Sought;
 
 /// Where a block stands: the place of its template, and which of its blocks it is.
@@ -116,32 +121,42 @@ fn misses(of: &Template, included: usize) -> bool
     included < of.includes.len()
 }
 
-/// Whether a template calls a component that nobody defines.
-fn misses_a_component(choices: &BTreeMap<String, Choice>, of: &Template) -> bool
-    ensures { result ≡ list_any (λ n. not (is_some (chosen choices.now n)))
-        of.now.component_calls.items }
+/// Whether what is needed is not there: no object, and no component.
+fn is_unmet<O: Objects>(objects: &O, choices: &BTreeMap<String, Choice>, need: &Need) -> bool
+    ensures { result ≡ is_unmet (O.engine objects.now) (is_there choices.now []) need.now }
 {
-    of.component_calls
-        .iter()
-        .any(|name| !choices.contains_key(name.as_str()))
+    !is_known(objects, choices, &[], need.callee())
 }
 
-/// Whether a template calls what is not there.
-fn misses_a_callee(choices: &BTreeMap<String, Choice>, of: &Template) -> bool
-    ensures { (r : Registry) → AreChosen r choices.now
-        → result ≡ lacks_a_callee (is_component r) (entry_of of.now).1.tree.nodes }
+/// Whether something of what is needed is not there.
+fn any_unmet<O: Objects>(objects: &O, choices: &BTreeMap<String, Choice>, needs: &[Need]) -> bool
+    ensures { result
+        ≡ list_any (is_unmet (O.engine objects.now) (is_there choices.now [])) needs.now }
 {
-    of.lacks || misses_a_component(choices, of)
+    needs.iter().any(|need| is_unmet(objects, choices, need))
+}
+
+/// Whether a template calls what is not there. What is built in is none of its needs.
+fn misses_a_callee<O: Objects>(
+    objects: &O,
+    choices: &BTreeMap<String, Choice>,
+    of: &Template,
+) -> bool
+    ensures { (r : Registry) → AreChosen r choices.now → r.engine ≡ O.engine objects.now
+        → result ≡ lacks_a_callee r.engine (is_component r) (entry_of of.now).1.tree.nodes }
+{
+    any_unmet(objects, choices, of.needs.as_slice())
 }
 
 /// Whether a template names what is not there: a block that is never put out, or what it calls or includes. So many of
 /// those that it includes are there.
-fn lacks(
+fn lacks<O: Objects>(
     templates: &[Rc<Template>],
     ups: &[Up],
     of: usize,
     included: usize,
     choices: &BTreeMap<String, Choice>,
+    objects: &O,
 ) -> bool
     ghost registry: { Registry }
     requires climbable { Climbable registry templates.now ups.now }
@@ -149,30 +164,35 @@ fn lacks(
     requires included { (t : Entry) → slice_get registry.templates of ≡ Some t
         → included ≡ length (includes_of registry t) }
     requires choices { AreChosen registry choices.now }
+    requires engine { registry.engine ≡ O.engine objects.now }
     ensures { (t : Entry) → slice_get registry.templates of ≡ Some t
         → result ≡ lacks_something registry t }
 {
     let template: &Template = &templates[of];
-    loses(templates, ups, of) || misses_a_callee(choices, template) || misses(template, included)
+    loses(templates, ups, of)
+        || misses_a_callee(objects, choices, template)
+        || misses(template, included)
 }
 
 /// Whether any template names what is not there, where this is what each extends and includes, and these are the
-/// definitions of components that are taken.
-pub fn any_lacks(
+/// definitions of components that are taken, and the objects.
+pub fn any_lacks<O: Objects>(
     templates: &[Rc<Template>],
     ups: &[Up],
     edges: &[Vec<usize>],
     choices: &BTreeMap<String, Choice>,
+    objects: &O,
 ) -> bool
     ghost registry: { Registry }
     requires climbable { Climbable registry templates.now ups.now }
     requires edges { AreEdges registry (rows edges.now) (length templates.now) }
     requires as_many { length edges.now ≡ length templates.now }
     requires choices { AreChosen registry choices.now }
+    requires engine { registry.engine ≡ O.engine objects.now }
     ensures { result ≡ list_any (lacks_something registry) registry.templates }
 {
     for place in 0..templates.len() {
-        if lacks(templates, ups, place, edges[place].len(), choices) {
+        if lacks(templates, ups, place, edges[place].len(), choices, objects) {
             return true;
         }
     }

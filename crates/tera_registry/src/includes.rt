@@ -75,13 +75,13 @@ fn add(alloc: Global, node: &Node, found: &mut Vec<Name>) -> TeraResult<()>
 
 /// Whether nodes include what is not there. Takes no memory.
 #[cycle(missing)]
-pub fn misses(templates: &[Rc<Template>], prefixes: &[String], nodes: &[Node]) -> bool
+pub fn misses(nodes: &[Node], templates: &[Rc<Template>], prefixes: &[String]) -> bool
     requires { Rises (entries_of templates.now) }
     ensures { result
         ≡ misses_an_include (seen templates.now prefixes.now) (nodes_of nodes.now) }
 {
     for node in nodes {
-        if node_misses(templates, prefixes, node) {
+        if node_misses(node, templates, prefixes) {
             return true;
         }
     }
@@ -90,25 +90,25 @@ pub fn misses(templates: &[Rc<Template>], prefixes: &[String], nodes: &[Node]) -
 
 // Whether a node includes what is not there.
 #[cycle(missing)]
-fn node_misses(templates: &[Rc<Template>], prefixes: &[String], node: &Node) -> bool
+fn node_misses(node: &Node, templates: &[Rc<Template>], prefixes: &[String]) -> bool
     requires { Rises (entries_of templates.now) }
     ensures { let r = seen templates.now prefixes.now in
         result ≡ list_any (λ name. is_none (resolve r name)) (node_includes (node_of node.now)) }
 {
     match node {
         Node::If { body, other, .. } => {
-            misses(templates, prefixes, body.as_slice())
-                || misses(templates, prefixes, other.as_slice())
+            misses(body.as_slice(), templates, prefixes)
+                || misses(other.as_slice(), templates, prefixes)
         }
         Node::For { body, other, .. } => {
-            misses(templates, prefixes, body.as_slice())
-                || misses(templates, prefixes, other.as_slice())
+            misses(body.as_slice(), templates, prefixes)
+                || misses(other.as_slice(), templates, prefixes)
         }
-        Node::Capture { body, .. } => misses(templates, prefixes, body.as_slice()),
-        Node::FilterSection { body, .. } => misses(templates, prefixes, body.as_slice()),
-        Node::Block { body, .. } => misses(templates, prefixes, body.as_slice()),
-        Node::ComponentCall { body, .. } => misses(templates, prefixes, body.as_slice()),
-        Node::Definition { body, .. } => misses(templates, prefixes, body.as_slice()),
+        Node::Capture { body, .. } => misses(body.as_slice(), templates, prefixes),
+        Node::FilterSection { body, .. } => misses(body.as_slice(), templates, prefixes),
+        Node::Block { body, .. } => misses(body.as_slice(), templates, prefixes),
+        Node::ComponentCall { body, .. } => misses(body.as_slice(), templates, prefixes),
+        Node::Definition { body, .. } => misses(body.as_slice(), templates, prefixes),
         Node::Include { name, .. } => resolve(templates, prefixes, name.as_str()).is_none(),
         Node::Content { .. }
         | Node::Print { .. }

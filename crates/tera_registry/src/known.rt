@@ -1,73 +1,92 @@
-// What code calls that is not there.
-ghost use Rattle.std.specs.Prelude.{◌≡◌, true, option_and_then, slice_get};
+// What is called and is not there.
+ghost use Rattle.std.specs.Prelude.{◌≡◌, bytes_eq, option_and_then, slice_get};
 ghost use Rattle.std.specs.List.{list_any};
 ghost use Rattle.tera_code.specs.Called.{callee_of, called_by};
 ghost use Rattle.tera_meaning.specs.Known.{is_known};
-ghost use Rattle.tera_registry.specs.Known.{is_missing, code_lacks, bodies_lack};
+ghost use Rattle.tera_registry.specs.Known.{is_there, is_missing, code_lacks};
 
+use crate::choices::Choice;
 use crate::components::Component;
-use tera_built_ins::{BuiltInFilter, BuiltInFunction, BuiltInTest};
-use tera_code::{Block, Callee, Chunk};
+use std::collections::BTreeMap;
+use tera_code::{Callee, Chunk};
+use tera_objects::Objects;
 
-/// Whether there is such a filter, test or function; components are taken to be there.
-fn is_known(callee: Callee<'_>) -> bool
-    ensures { result ≡ is_known (λ name. true) (callee_of callee.entry) }
+/// Whether one of these components has this name.
+fn is_own(own: &[Component], name: &str) -> bool
+    ensures { result ≡ list_any (λ c. bytes_eq name.now c.definition.name) own.now }
+{
+    own.iter()
+        .any(|component| name == component.definition.name())
+}
+
+/// Whether a template defines a component of this name, or it is one of these.
+fn is_there(choices: &BTreeMap<String, Choice>, own: &[Component], name: &str) -> bool
+    ensures { result ≡ is_there choices.now own.now name.now }
+{
+    choices.contains_key(name) || is_own(own, name)
+}
+
+/// Whether there is what is called: an object, or a component that a template defines or that is one of these.
+pub fn is_known<O: Objects>(
+    objects: &O,
+    choices: &BTreeMap<String, Choice>,
+    own: &[Component],
+    callee: Callee<'_>,
+) -> bool
+    ensures { result
+        ≡ is_known (O.engine objects.now) (is_there choices.now own.now) (callee_of callee.entry) }
 {
     match callee {
-        Callee::Filter(name) => BuiltInFilter::named(name).is_some(),
-        Callee::Test(name) => BuiltInTest::named(name).is_some(),
-        Callee::Function(name) => BuiltInFunction::named(name).is_some(),
-        Callee::Component(_) => true,
+        Callee::Filter(name) => objects.has_filter(name),
+        Callee::Test(name) => objects.has_test(name),
+        Callee::Function(name) => objects.has_function(name),
+        Callee::Component(name) => is_there(choices, own, name),
     }
 }
 
 /// Whether the instruction at this place calls what is not there.
-fn is_missing_at(chunk: &Chunk, place: usize) -> bool
-    ensures { result ≡ is_missing (option_and_then called_by (slice_get chunk.now.code place)) }
+fn is_missing_at<O: Objects>(
+    objects: &O,
+    choices: &BTreeMap<String, Choice>,
+    own: &[Component],
+    chunk: &Chunk,
+    place: usize,
+) -> bool
+    ensures { let called = option_and_then called_by (slice_get chunk.now.code place) in
+        result ≡ is_missing (O.engine objects.now) (is_there choices.now own.now) called }
 {
     match chunk.callee_at(place) {
-        Some(callee) => !is_known(callee),
+        Some(callee) => !is_known(objects, choices, own, callee),
         None => false,
     }
 }
 
-/// Whether the code calls what is not there.
-fn code_lacks(chunk: &Chunk) -> bool
-    ensures { result ≡ code_lacks chunk.now.code }
+/// Whether the code calls what is not there. Takes no memory.
+pub fn code_lacks<O: Objects>(
+    objects: &O,
+    choices: &BTreeMap<String, Choice>,
+    own: &[Component],
+    chunk: &Chunk,
+) -> bool
+    ensures { result
+        ≡ code_lacks (O.engine objects.now) (is_there choices.now own.now) chunk.now.code }
 {
     for place in 0..chunk.len() {
-        if is_missing_at(chunk, place) {
+        if is_missing_at(objects, choices, own, chunk, place) {
             return true;
         }
     }
     false
 }
 
-/// Whether the code of a block calls what is not there.
-fn any_block_lacks(blocks: &[Block]) -> bool
-    ensures { result ≡ list_any (λ b. code_lacks b.code.code) blocks.now }
+/// Whether the code of one of a text's components calls what is not there. Takes no memory.
+pub fn any_lacks<O: Objects>(
+    objects: &O,
+    choices: &BTreeMap<String, Choice>,
+    own: &[Component],
+) -> bool
+    ensures { let there = is_there choices.now own.now in
+        result ≡ list_any (λ c. code_lacks (O.engine objects.now) there c.code.code) own.now }
 {
-    blocks.iter().any(|block| code_lacks(&block.code))
-}
-
-/// Whether the code of a component calls what is not there.
-fn any_component_lacks(components: &[Component]) -> bool
-    ensures { result ≡ list_any (λ c. code_lacks c.code.code) components.now }
-{
-    components
-        .iter()
-        .any(|component| code_lacks(&component.code))
-}
-
-/// Whether the code of a body, that of a block, or that of a component calls what is not there.
-pub fn any_lacks(body: &Chunk, blocks: &[Block], components: &[Component]) -> bool
-    ensures { result ≡ bodies_lack body.now blocks.now components.now }
-{
-    if code_lacks(body) {
-        return true;
-    }
-    if any_block_lacks(blocks) {
-        return true;
-    }
-    any_component_lacks(components)
+    own.iter().any(|component| code_lacks(objects, choices, own, &component.code))
 }

@@ -3,8 +3,6 @@
 #![tactic(auto)]
 
 mod batch;
-mod beside;
-mod calls;
 mod choices;
 pub mod components;
 mod definers;
@@ -15,6 +13,7 @@ mod lineage;
 mod link;
 mod meant;
 mod names;
+mod needs;
 mod priority;
 mod template;
 pub mod templates;

@@ -6,7 +6,7 @@ ghost use Rattle.tera_meaning.specs.Registry.{Registry};
 ghost use Rattle.tera_registry.specs.Order.{Rises};
 ghost use Rattle.tera_registry.specs.Choices.{AreChosen};
 ghost use Rattle.tera_registry.specs.Links.{AreUps, AreRoots};
-ghost use Rattle.tera_registry.specs.Kept.{entries_of, seen};
+ghost use Rattle.tera_registry.specs.Kept.{entries_of, seen_by};
 
 use crate::choices::{Choice, Taken, choices};
 use crate::definers::any_lacks;
@@ -18,6 +18,7 @@ use std::alloc::Global;
 use std::collections::BTreeMap;
 use std::rc::Rc;
 use tera_errors::{Error, TeraResult};
+use tera_objects::Objects;
 
 /// How templates go together: what each extends, the place of the last parent of each, and which definition of each
 /// component is taken.
@@ -29,11 +30,16 @@ pub struct Links {
 }
 
 /// Links templates. Refuses those that do not go together, with the first fault by name.
-// The registry is named, since what is called here sees no prefixes.
-pub fn link(alloc: Global, templates: &[Rc<Template>], prefixes: &[String]) -> TeraResult<Links>
+// The registry is named, since what is called here sees no prefixes and no engine.
+pub fn link<O: Objects>(
+    alloc: Global,
+    templates: &[Rc<Template>],
+    prefixes: &[String],
+    objects: &O,
+) -> TeraResult<Links>
     ghost registry: { Registry }
     requires rises { Rises (entries_of templates.now) }
-    requires registry { registry ≡ seen templates.now prefixes.now }
+    requires registry { registry ≡ seen_by (O.engine objects.now) templates.now prefixes.now }
     ensures answer { Gives (λ _. registry) result (accepted registry) }
     ensures ups { IfOk result (λ l. AreUps registry l.ups.items (length registry.templates)) }
     ensures roots { IfOk result (λ l. AreRoots registry l.roots.items (length registry.templates)) }
@@ -47,7 +53,13 @@ pub fn link(alloc: Global, templates: &[Rc<Template>], prefixes: &[String]) -> T
         Ok(roots) => roots,
         Err(fault) => return Err(fault),
     };
-    if any_lacks(templates, ups.as_slice(), edges.as_slice(), &choices) {
+    if any_lacks(
+        templates,
+        ups.as_slice(),
+        edges.as_slice(),
+        &choices,
+        objects,
+    ) {
         return Err(Error::message(
             alloc,
             "a template has a block that none of its parents has, or names what is not there",

@@ -1,12 +1,13 @@
 // Templates as they are kept.
-ghost use Rattle.std.specs.Prelude.{◌≡◌, map, string_bytes, true};
+ghost use Rattle.std.specs.Prelude.{◌≡◌, map, string_bytes};
 ghost use Rattle.std.specs.Coded.{Coded-set, codes};
 ghost use Rattle.tera_tree.specs.Blocks as in_tree;
 ghost use Rattle.tera_tree.specs.Includes as in_nodes;
 ghost use Rattle.tera_tree.specs.View.{nodes_of};
-ghost use Rattle.tera_meaning.specs.Known.{lacks_a_callee};
 ghost use Rattle.tera_components.specs.Definition.{definition_code};
 ghost use Rattle.tera_registry.specs.Components as kept;
+ghost use Rattle.tera_registry.specs.Needs.{needs_of};
+ghost use Rattle.tera_registry.specs.contracts.needs.Need as need;
 ghost use Rattle.tera_code.specs.Blocks.{block_of, block_listings};
 ghost use Rattle.tera_code.specs.Code.{listing_of};
 ghost use Rattle.tera_code.specs.contracts.chunk.Chunk as chunk;
@@ -15,6 +16,7 @@ ghost use Rattle.tera_variables.specs.Sets.{names_in};
 
 use crate::components::Component;
 use crate::meant::Meant;
+use crate::needs::Need;
 use std::collections::BTreeSet;
 use tera_code::{Block, Chunk};
 use tera_values::Name;
@@ -38,19 +40,15 @@ pub struct Template {
     pub free: BTreeSet<String>,
     /// The components that it defines, in the order of its text.
     pub components: Vec<Component>,
-    /// The names of the components that it calls.
-    pub component_calls: Vec<Name>,
-    /// Whether it calls a filter, a test or a function that is not there.
-    pub lacks: bool,
+    /// What it calls that is not built in. Whether that is there is looked up when templates are linked.
+    pub needs: Vec<Need>,
     pub meant: Meant,
     ghost compiled: { body ≡ listing_of (string_bytes name) (nodes_of meant.nodes) } by { Coded-set body-code _ _ },
     ghost divided: { map block_of blocks.items
         ≡ block_listings (string_bytes name) (in_tree.blocks (nodes_of meant.nodes)) } by { Prim.hlevel (codes, chunk.the_row.coded) },
     ghost defined: { map kept.kept_of components.items
         ≡ kept.kept_all (string_bytes name) (nodes_of meant.nodes) } by { Prim.hlevel (codes, definition_code, chunk.the_row.coded) },
-    ghost calling: { component_calls.items
-        ≡ kept.component_calls (nodes_of meant.nodes) } by { Prim.hlevel codes },
-    ghost lacking: { lacks ≡ lacks_a_callee (λ name. true) (nodes_of meant.nodes) },
+    ghost needing: { needs.items ≡ needs_of (nodes_of meant.nodes) } by { Prim.hlevel (codes, need.the_row.coded) },
     ghost included: { includes.items ≡ in_nodes.includes (nodes_of meant.nodes) } by { Prim.hlevel codes },
     ghost freed: { names_in free ≡ in_text.free (nodes_of meant.nodes) } by { Prim.hlevel codes },
     ghost topped: { tops.items ≡ in_tree.top_blocks (nodes_of meant.nodes) } by { Prim.hlevel codes },

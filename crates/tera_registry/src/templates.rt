@@ -3,7 +3,7 @@ ghost use Rattle.std.specs.Prelude.{◌≡◌, ◌<◌, IfOk, IfErr, Some, None,
 ghost use Rattle.tera_errors.specs.Answer.{Gives, GivesOneOf, Lacks};
 ghost use Rattle.tera_tree.specs.Delimiters.{delimiters_of, accepted};
 ghost use Rattle.tera_tree.specs.View.{nodes_of};
-ghost use Rattle.tera_meaning.specs.Accepted.{fault, is_component, misses_an_include};
+ghost use Rattle.tera_meaning.specs.Accepted.{first_fault, is_component, misses_an_include};
 ghost use Rattle.tera_meaning.specs.Lineage.{ancestors, definers_in};
 ghost use Rattle.tera_meaning.specs.Components.{AreComponentNames};
 ghost use Rattle.tera_meaning.specs.Variables.{AnswersVariables};
@@ -19,12 +19,11 @@ ghost use Rattle.tera_registry.specs.Kept.{entries_of, seen};
 ghost use Rattle.tera_registry.specs.Batch.{ConfiguresOneOf, Adds, pairs_of};
 
 use crate::batch::put_all;
-use crate::beside::{any_misses, code_misses};
 use crate::choices::Choice;
 use crate::components::Component;
 use crate::definers::{At, first, first_above};
 use crate::includes::misses;
-use crate::known::any_lacks;
+use crate::known::{any_lacks, code_lacks};
 use crate::lineage::Up;
 use crate::link::link;
 use crate::names::resolve;
@@ -36,6 +35,7 @@ use std::rc::Rc;
 use tera_code::Chunk;
 use tera_components::ComponentDefinition;
 use tera_errors::{Error, TeraResult};
+use tera_objects::Objects;
 use tera_tree::{Delimiters, Node};
 use tera_values::Sought;
 
@@ -49,7 +49,7 @@ pub struct Templates {
     roots: Vec<usize>,
     choices: BTreeMap<String, Choice>,
     ghost rises: { Rises (entries_of all.items) } by { Rises-prop _ },
-    ghost accepted: { fault (seen all.items prefixes.items) ≡ None },
+    ghost faultless: { first_fault (seen all.items prefixes.items) [] (entries_of all.items) ≡ None },
     ghost placed: { ArePlaced (seen all.items prefixes.items) ups.items } by { Prim.hlevel codes },
     ghost linked: { IsLinked all.items prefixes.items roots.items } by { Prim.hlevel (codes, chunk.the_row.coded) },
     ghost chosen: { AreChosen (seen all.items prefixes.items) choices } by { Prim.hlevel (codes, choice.the_row.coded) },
@@ -103,7 +103,8 @@ impl<'t> Found<'t> {
     /// Those who define a block for the template, nearest first. Takes no memory.
     pub fn definers(&self, block: &str) -> Definers<'t>
         ensures { (r : Registry) → definers_of result
-            ≡ definers (with_templates r self.now.templates.now) (Some self.now.name.now) block.now }
+            ≡ definers (with_templates r self.now.templates.now)
+            (Some self.now.name.now) block.now }
     {
         let sought = Sought::new(block);
         Definers {
@@ -191,12 +192,19 @@ impl Templates {
     }
 
     /// Adds templates, all or none: each text is read and put at its name, in place of one that stood there. Refused
-    /// where a text spells no tree, and where the templates do not go together; then all is as before.
+    /// where a text spells no tree, and where the templates do not go together or call what is not there, neither built in nor
+    /// among the objects; then all is as before.
     ///
     /// Templates that stay are shared, so that nothing of them is copied but a count and a reference.
-    pub fn add(&mut self, delimiters: &Delimiters, batch: &[(&str, &str)]) -> TeraResult<()>
+    pub fn add<O: Objects>(
+        &mut self,
+        delimiters: &Delimiters,
+        batch: &[(&str, &str)],
+        objects: &O,
+    ) -> TeraResult<()>
         requires { IsTrue (accepted (delimiters_of delimiters.now)) }
         ensures { (r : Registry) → r.delimiters ≡ delimiters_of delimiters.now
+            → r.engine ≡ O.engine objects.now
             → ConfiguresOneOf result (Adds (with_templates r self.old) (pairs_of batch.now))
             (with_templates r self.old) (with_templates r self.new) }
     {
@@ -205,7 +213,12 @@ impl Templates {
             Ok(()) => {}
             Err(refusal) => return Err(refusal),
         }
-        let links = match link(self.alloc, all.as_slice(), self.prefixes.as_slice()) {
+        let links = match link(
+            self.alloc,
+            all.as_slice(),
+            self.prefixes.as_slice(),
+            objects,
+        ) {
             Ok(links) => links,
             Err(fault) => return Err(fault),
         };
@@ -326,18 +339,14 @@ impl Templates {
 
     /// Whether a text beside the templates calls what is not there: this is the code of its own body, these are its
     /// components, and it has no block. Takes no memory.
-    pub fn lacks_a_callee(&self, body: &Chunk, own: &[Component]) -> bool
-        ensures { (r : Registry) (tree : Tree) (file : Name) → body.now.code ≡ nodes_code tree.nodes 0
+    pub fn lacks_a_callee<O: Objects>(&self, objects: &O, body: &Chunk, own: &[Component]) -> bool
+        ensures { (r : Registry) (tree : Tree) (file : Name) → r.engine ≡ O.engine objects.now
+            → body.now.code ≡ nodes_code tree.nodes 0
             → map kept_of own.now ≡ kept_all file tree.nodes → blocks tree.nodes ≡ []
-            → result ≡ lacks_a_callee (is_component_beside (with_templates r self.now) tree) tree.nodes }
+            → result ≡ lacks_a_callee r.engine
+            (is_component_beside (with_templates r self.now) tree) tree.nodes }
     {
-        if any_lacks(body, &[], own) {
-            return true;
-        }
-        if code_misses(&self.choices, own, body) {
-            return true;
-        }
-        any_misses(&self.choices, own)
+        code_lacks(objects, &self.choices, own, body) || any_lacks(objects, &self.choices, own)
     }
 
     /// Whether nodes include what is not there. Takes no memory.
@@ -345,7 +354,7 @@ impl Templates {
         ensures { (r : Registry) → result
             ≡ misses_an_include (with_templates r self.now) (nodes_of nodes.now) }
     {
-        misses(self.all.as_slice(), self.prefixes.as_slice(), nodes)
+        misses(nodes, self.all.as_slice(), self.prefixes.as_slice())
     }
 
     /// The names of the templates, in byte order.
@@ -377,7 +386,8 @@ impl Templates {
     /// all that these include, each once. Refused with `TemplateNotFound` where there is none.
     pub fn variables(&self, name: &str) -> TeraResult<BTreeSet<String>>
         ensures { (r : Registry) → GivesOneOf (λ s. map string_bytes s.keys) result
-            (AnswersVariables (with_templates r self.now) (resolve (with_templates r self.now) name.now)) }
+            (AnswersVariables (with_templates r self.now)
+            (resolve (with_templates r self.now) name.now)) }
     {
         let all = self.all.as_slice();
         let prefixes = self.prefixes.as_slice();

@@ -18,8 +18,7 @@ use Rattle.tera_script.specs.Session.{Session, session}
 use Rattle.tera_script.specs.declared.execute.Session.{Session as Kept}
 use Rattle.tera.specs.Lent.{texts_of}
 use Rattle.tera_registry.specs.Batch.{pairs_of}
-use Rattle.tera.specs.Registry.{registry_of}
-use Rattle.tera.specs.declared.engine.Tera.{Tera}
+use Rattle.tera_meaning.specs.Registry.{Registry}
 
 abbrev pub text_seen : Option (Bor Text) → Option Text
 text_seen text = option_map (λ t. t.now) text
@@ -58,5 +57,5 @@ head_seen found = option_map plain_head found
 abbrev pub script_seen : Script → script.Script
 script_seen read = record { acts = acts_of read.commands.items; unreadable = read.unreadable }
 
-abbrev pub session_of : Tera → Kept → Session
-session_of engine kept = session (registry_of engine) kept.context (pairs_of kept.batch.items)
+abbrev pub session_of : Registry → Kept → Session
+session_of r kept = session r kept.context (pairs_of kept.batch.items)

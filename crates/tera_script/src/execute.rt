@@ -18,7 +18,7 @@ use crate::entries::entries;
 use crate::preview::preview;
 use crate::reply::Reply;
 use std::alloc::Global;
-use tera::{Context, Tera, TeraResult, Value};
+use tera::{Context, Objects, TeraOver, TeraResult, Value};
 
 /// What a run keeps beside the engine: the context, and the templates that wait for the next adding.
 #[derive(Drop)]
@@ -29,15 +29,16 @@ struct Session<'a> {
 
 /// Runs the commands in order, each in what those before it left; at first the context is empty and no template waits. There
 /// is one reply a command, whatever it is. An error says that the replies found no room: then no command was run.
-pub fn run_commands(
+pub fn run_commands<O: Objects>(
     alloc: Global,
-    engine: &mut Tera,
+    engine: &mut TeraOver<O>,
     commands: &[Command<'_>],
 ) -> TeraResult<Vec<Reply>>
-    ensures replies { IfOk result (λ replies. Leads (registry_of engine.old)
-        (acts_of commands.now) (replies_seen replies.items) (registry_of engine.new)) }
+    ensures replies { IfOk result (λ replies. Leads (registry_of O.engine engine.old)
+        (acts_of commands.now) (replies_seen replies.items) (registry_of O.engine engine.new)) }
     ensures memory { IfErr result (λ e. Lacks e) }
-    ensures unchanged { OnErr result (registry_of engine.new ≡ registry_of engine.old) }
+    ensures unchanged { OnErr result
+        (registry_of O.engine engine.new ≡ registry_of O.engine engine.old) }
 {
     let mut replies = Vec::with_capacity(alloc, commands.len())?;
     let mut session = Session {
@@ -64,14 +65,15 @@ fn append(replies: &mut Vec<Reply>, reply: Reply)
     }
 }
 
-fn reply_to<'a>(
+fn reply_to<'a, O: Objects>(
     alloc: Global,
-    engine: &mut Tera,
+    engine: &mut TeraOver<O>,
     session: &mut Session<'a>,
     command: &Command<'a>,
 ) -> Reply
-    ensures { Answers (session_of engine.old session.old)
-        (act_of command.now) (reply_seen result) (session_of engine.new session.new) }
+    ensures { Answers (session_of (registry_of O.engine engine.old) session.old)
+        (act_of command.now) (reply_seen result)
+        (session_of (registry_of O.engine engine.new) session.new) }
 {
     let context = &mut session.context;
     match command {
@@ -126,14 +128,15 @@ fn text_reply(answer: TeraResult<String>) -> Reply
 }
 
 // The text of a component: entries of the context with one of these names are implicits, and all others arguments.
-fn component(
-    engine: &Tera,
+fn component<O: Objects>(
+    engine: &TeraOver<O>,
     context: &Context,
     name: &str,
     autoescape: bool,
     implicits: &[&str],
 ) -> TeraResult<String>
-    ensures { GivesOneOf string_bytes result (ComponentByName (registry_of engine.now) name.now
+    ensures { GivesOneOf string_bytes result
+        (ComponentByName (registry_of O.engine engine.now) name.now
         (without_names (texts_of implicits.now) context.now)
         (with_names (texts_of implicits.now) context.now) None autoescape) }
 {
@@ -173,10 +176,10 @@ fn join<'a>(batch: &mut Vec<(&'a str, &'a str)>, name: &'a str, body: &'a str) -
 }
 
 // Adds the templates that wait. Then none waits, whatever the answer is.
-fn add(engine: &mut Tera, batch: &mut Vec<(&str, &str)>) -> TeraResult<()>
+fn add<O: Objects>(engine: &mut TeraOver<O>, batch: &mut Vec<(&str, &str)>) -> TeraResult<()>
     ensures engine { ConfiguresOneOf result
-        (Adds (registry_of engine.old) (pairs_of batch.old.items))
-        (registry_of engine.old) (registry_of engine.new) }
+        (Adds (registry_of O.engine engine.old) (pairs_of batch.old.items))
+        (registry_of O.engine engine.old) (registry_of O.engine engine.new) }
     ensures batch { batch.new.items ≡ [] }
 {
     let answer = engine.add_raw_templates(batch.as_slice());

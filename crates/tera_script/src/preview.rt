@@ -9,7 +9,7 @@ ghost use Rattle.tera_script.specs.Reply.{fault_line};
 use crate::entries::entries;
 use crate::reply::push_fault;
 use std::alloc::Global;
-use tera::{ComponentInfo, Context, Tera, TeraResult};
+use tera::{ComponentInfo, Context, Objects, TeraOver, TeraResult};
 
 // The names of a component's parameters.
 fn parameters(alloc: Global, info: &ComponentInfo) -> TeraResult<Vec<&str>>
@@ -25,9 +25,14 @@ fn parameters(alloc: Global, info: &ComponentInfo) -> TeraResult<Vec<&str>>
 }
 
 // The entries that the parameters of this component name.
-fn arguments(alloc: Global, engine: &Tera, context: &Context, name: &str) -> TeraResult<Context>
+fn arguments<O: Objects>(
+    alloc: Global,
+    engine: &TeraOver<O>,
+    context: &Context,
+    name: &str,
+) -> TeraResult<Context>
     ensures { Gives (λ c. c) result
-        (Ok (arguments_for (info_at (registry_of engine.now) name.now) context.now)) }
+        (Ok (arguments_for (info_at (registry_of O.engine engine.now) name.now) context.now)) }
 {
     match engine.get_component_definition(name)? {
         Some(info) => {
@@ -39,15 +44,15 @@ fn arguments(alloc: Global, engine: &Tera, context: &Context, name: &str) -> Ter
 }
 
 // The name of a component, and then its text or its fault.
-fn shown(
+fn shown<O: Objects>(
     alloc: Global,
-    engine: &Tera,
+    engine: &TeraOver<O>,
     context: &Context,
     autoescape: bool,
     name: &str,
 ) -> TeraResult<String>
     ensures { Gives string_bytes result
-        (Ok (shown (registry_of engine.now) context.now autoescape name.now)) }
+        (Ok (shown (registry_of O.engine engine.now) context.now autoescape name.now)) }
 {
     let args = arguments(alloc, engine, context, name)?;
     let mut text = String::new(alloc);
@@ -62,14 +67,14 @@ fn shown(
 }
 
 // What is shown of each of these components.
-fn all_shown(
+fn all_shown<O: Objects>(
     alloc: Global,
-    engine: &Tera,
+    engine: &TeraOver<O>,
     context: &Context,
     autoescape: bool,
     names: &[String],
 ) -> TeraResult<Vec<String>>
-    ensures ok { let told = shown (registry_of engine.now) context.now autoescape in
+    ensures ok { let told = shown (registry_of O.engine engine.now) context.now autoescape in
         IfOk result (λ t. map string_bytes t.items ≡ map (λ n. told (string_bytes n)) names.now) }
     ensures lacks { IfErr result Lacks }
 {
@@ -81,14 +86,14 @@ fn all_shown(
 }
 
 /// All components, in byte order of their names, each behind a line with its name.
-pub fn preview(
+pub fn preview<O: Objects>(
     alloc: Global,
-    engine: &Tera,
+    engine: &TeraOver<O>,
     context: &Context,
     autoescape: bool,
 ) -> TeraResult<String>
     ensures { GivesOneOf string_bytes result
-        (Previews (registry_of engine.now) context.now autoescape) }
+        (Previews (registry_of O.engine engine.now) context.now autoescape) }
 {
     let names = engine.get_component_names()?;
     let texts = all_shown(alloc, engine, context, autoescape, names.as_slice())?;

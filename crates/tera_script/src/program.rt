@@ -13,17 +13,17 @@ use crate::reply::{Reply, write_reply};
 use crate::script::script_of;
 use crate::stream::{Failure, Input, Output};
 use std::alloc::Global;
-use tera::Tera;
+use tera::{Objects, TeraOver};
 
 /// Reads a script to its end, runs its commands on the engine, and then writes their replies. Commands are read up to
 /// the first unreadable line. Room for all replies is taken before the first command, and writing takes none.
-pub fn run<R: Input, W: Output>(
+pub fn run<R: Input, W: Output, O: Objects>(
     alloc: Global,
     reader: &mut R,
     writer: &mut W,
-    engine: &mut Tera,
+    engine: &mut TeraOver<O>,
 ) -> Outcome
-    ensures ran { Ran (registry_of engine.old) (registry_of engine.new)
+    ensures ran { Ran (registry_of O.engine engine.old) (registry_of O.engine engine.new)
         (R.passed reader.old) (R.passed reader.new) (HasEnded R.ended R.remaining reader.new)
         (W.passed writer.old) (W.passed writer.new) (W.settled writer.new) result }
     ensures input { FromDevice R.passed R.remaining reader.old reader.new }

@@ -1,12 +1,16 @@
 -- What an object of the caller sees of a rendering, and what that makes of a value.
-use Rattle.std.specs.Prelude.{Bool, if◌then◌else◌, Option, Some, None, unwrap_or, Result, Ok, Err}
+use Rattle.std.specs.Prelude.{Bool, if◌then◌else◌, List, Option, Some, None, option_map, unwrap_or, Result, Ok, Err}
+use Rattle.std.specs.Borrow.{Bor}
+use Rattle.std.specs.List.{list_any}
+use Rattle.std.specs.Str.{bytes_eq}
 use Rattle.tera_errors.specs.Site.{Name, Text}
 use Rattle.tera_errors.specs.Fault.{Fault, message}
 use Rattle.tera_values.specs.Val.{Val, undefined}
 use Rattle.tera_values.specs.Named.{at_name}
 use Rattle.tera_values.specs.Access.{is_undefined}
-use Rattle.tera_values.specs.Escape.{escape_html}
-use Rattle.tera_built_ins.specs.Escaping.{Escaping}
+use Rattle.tera_built_ins.specs.declared.filter.BuiltInFilter.{BuiltInFilter}
+use Rattle.tera_built_ins.specs.Escaping.{Escaping, escape_or_html}
+use Rattle.tera_built_ins.specs.Filters.{filter_named}
 use Rattle.tera_state.specs.Rendered.{rendered}
 use Rattle.tera_state.specs.Scope.{Around, Variables, look}
 use Rattle.tera_state.specs.Scopes.{around_of, variables_of}
@@ -14,24 +18,39 @@ use Rattle.tera_state.specs.declared.state.Source.{Source}
 use Rattle.tera_state.specs.declared.state.Source.TheVariants.{Alone, Open}
 use Rattle.tera_state.specs.declared.state.StateOver.{StateOver}
 
--- the look-up, which gives undefined where nothing binds the name; whether text is escaped; and the escape
+-- names with the built-in filters that they stand for
+abbrev pub Standing : Type 0
+Standing = Name → Option BuiltInFilter
+
+-- the look-up, which gives undefined where nothing binds the name; whether text is escaped; the escape; and the built-in filters
 pub record View : Type 0 where
   pub look : Name → Val
   pub autoescape : Bool
   pub escape : Text → Text
+  pub filters : Standing
 
 -- the view where these are the variables, with this around them
-abbrev pub view_at : Around → Variables → Bool → (Text → Text) → View
-view_at around variables autoescape escape =
-    record { look = λ name. look name around variables; autoescape = autoescape; escape = escape }
+abbrev pub view_at : Around → Variables → Bool → (Text → Text) → Standing → View
+view_at around variables autoescape escape filters =
+    record { look = λ name. look name around variables; autoescape = autoescape; escape = escape; filters = filters }
+
+-- the built-in filters without those whose names are taken; none at all where there are no filters
+abbrev pub filters_left : Option (List Name) → Standing
+filters_left None name = None
+filters_left (Some taken) name = if list_any (bytes_eq name) taken then None else filter_named name
 
 -- what a name stands for in a context alone, or in the scopes of a rendering
 abbrev pub look_in_source : Source → Name → Val
 look_in_source (Alone context) name = unwrap_or (at_name name context.now) undefined
 look_in_source (Open scopes) name = look name (around_of scopes.now) (variables_of scopes.now)
 
-abbrev pub view_of : StateOver → View
-view_of s = record { look = look_in_source s.source; autoescape = s.autoescape; escape = escape_html }
+abbrev pub lent_names : Option (Bor (List Name)) → Option (List Name)
+lent_names = option_map (λ names. names.now)
+
+-- the view of a state, where escapes have these meanings
+abbrev pub view_of : {E : Type 0} → (E → Text → Text) → StateOver E → View
+view_of meaning s =
+    record { look = look_in_source s.source; autoescape = s.autoescape; escape = escape_or_html meaning s.escape; filters = filters_left (lent_names s.taken) }
 
 -- what a built-in sees of it
 abbrev pub escaping_in : View → Escaping

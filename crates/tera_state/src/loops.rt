@@ -125,7 +125,8 @@ impl ForLoop {
     /// The value and the key of the turn, by their names. Takes no memory.
     #[inline(always)]
     pub fn named(&self, name: &Sought<'_>) -> Found<'_>
-        ensures { found_value result ≡ at_name name.now (names_of (heading_of self.now) (item_at self.now)) }
+        ensures { found_value result
+            ≡ at_name name.now (names_of (heading_of self.now) (item_at self.now)) }
     {
         if name.is(&self.name) {
             return value_at(&self.items, self.index);

@@ -119,7 +119,8 @@ fn in_turn<'a>(
     turn: &'a ForLoop,
     name: &Sought<'_>,
 ) -> Found<'a>
-    ensures { found_value result ≡ in_turn name.now (turn_of (layer_of bindings.now frame layer) turn.now) }
+    ensures { found_value result
+        ≡ in_turn name.now (turn_of (layer_of bindings.now frame layer) turn.now) }
 {
     match turn.counter(name) {
         Found::Nothing => match bindings.get(frame, layer, name) {
@@ -140,7 +141,8 @@ fn in_outer<'a>(
     name: &Sought<'_>,
 ) -> Found<'a>
     requires { layer ≤ length loops.now }
-    ensures { found_value result ≡ in_turns name.now (turns_of bindings.now frame (lower layer loops.now)) }
+    ensures { found_value result
+        ≡ in_turns name.now (turns_of bindings.now frame (lower layer loops.now)) }
 {
     if layer == 0 {
         return Found::Nothing;

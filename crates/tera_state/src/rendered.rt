@@ -1,29 +1,31 @@
 // The text that a value is rendered as.
 ghost use Rattle.std.specs.Prelude.{◌≡◌, ◌++◌, string_bytes, OnOk, OnErr, IfErr};
 ghost use Rattle.tera_errors.specs.Answer.{Lacks};
-ghost use Rattle.tera_values.specs.Escape.{escape_html};
-ghost use Rattle.tera_state.specs.Rendered.{rendered};
+ghost use Rattle.tera_built_ins.specs.Escaping.{escaping_of};
+ghost use Rattle.tera_state.specs.Rendered.{written_by};
 
 use std::alloc::Global;
-use tera_values::{TeraResult, Value, escape_html};
+use tera_built_ins::{EscapeFn, Escaping};
+use tera_values::{TeraResult, Value};
 
 /// Puts a value behind a text: its printed text, escaped where texts are escaped and the value is not safe. A text is not
-/// copied on the way. Want of memory leaves the text as it was. Nothing else knows by what texts are escaped.
-pub fn write_value(
+/// copied on the way. Want of memory leaves the text as it was.
+pub fn write_value<E: EscapeFn>(
     alloc: Global,
-    autoescape: bool,
+    escaping: Escaping<'_, E>,
     value: &Value,
     out: &mut String,
 ) -> TeraResult<()>
-    ensures ok { OnOk result (string_bytes out.new ≡ string_bytes out.old ++ rendered autoescape escape_html value.now) }
+    ensures ok { OnOk result (string_bytes out.new ≡ string_bytes out.old
+        ++ written_by (escaping_of E.escaped escaping.entry) value.now) }
     ensures err { OnErr result (string_bytes out.new ≡ string_bytes out.old) }
     ensures lacks { IfErr result Lacks }
 {
-    if !autoescape || value.is_safe() {
+    if !escaping.autoescape || value.is_safe() {
         return value.print_to(out);
     }
     match value.as_str() {
-        Some(text) => escape_html(text, out),
-        None => escape_html(value.printed(alloc)?.as_str(), out),
+        Some(text) => escaping.escape.escape(text, out),
+        None => escaping.escape.escape(value.printed(alloc)?.as_str(), out),
     }
 }

@@ -39,7 +39,8 @@ fn in_body<'a>(
     body: &'a Frame<'_>,
     name: &Sought<'_>,
 ) -> Found<'a>
-    ensures { found_value result ≡ in_variables name.now (variables_at bindings.now frame body.now) }
+    ensures { found_value result
+        ≡ in_variables name.now (variables_at bindings.now frame body.now) }
 {
     match body.loops.look(bindings, frame, name) {
         Found::Nothing => kept(bindings.get(frame, 0, name)),
@@ -59,7 +60,8 @@ fn kept<'a>(value: Option<&'a Value>) -> Found<'a>
 impl<'c> Scopes<'c> {
     /// What the name stands for. Takes no memory and copies nothing.
     pub fn look(&self, name: &Sought<'_>) -> Found<'_>
-        ensures { unwrap_or (found_value result) undefined ≡ look name.now (around_of self.now) (variables_of self.now) }
+        ensures { unwrap_or (found_value result) undefined
+            ≡ look name.now (around_of self.now) (variables_of self.now) }
     {
         self.bound_at(self.below.len(), &self.frame, name)
     }
@@ -100,7 +102,8 @@ impl<'c> Scopes<'c> {
     /// What the name stands for here, or else in the bodies above this one: the first value that is not undefined. Takes no
     /// memory.
     pub fn look_implicit(&self, name: &Sought<'_>) -> Found<'_>
-        ensures { unwrap_or (found_value result) undefined ≡ look_implicit name.now (around_of self.now) (variables_of self.now) }
+        ensures { unwrap_or (found_value result) undefined
+            ≡ look_implicit name.now (around_of self.now) (variables_of self.now) }
     {
         self.implicit_at(self.below.len(), &self.frame, name)
     }
@@ -197,7 +200,8 @@ impl<'c> Scopes<'c> {
 
     /// Binds the name in the innermost turn, or outside of all where no loop is open.
     pub fn set(&mut self, name: Name, value: Value) -> TeraResult<()>
-        ensures ok { OnOk result (variables_of self.new ≡ set_variable name value (variables_of self.old)) }
+        ensures ok { OnOk result (variables_of self.new
+            ≡ set_variable name value (variables_of self.old)) }
         ensures err { OnErr result (variables_of self.new ≡ variables_of self.old) }
         ensures lacks { IfErr result Lacks }
         ensures stays { around_of self.new ≡ around_of self.old }
@@ -211,7 +215,8 @@ impl<'c> Scopes<'c> {
 
     /// Binds the name outside of all turns.
     pub fn set_global(&mut self, name: Name, value: Value) -> TeraResult<()>
-        ensures ok { OnOk result (variables_of self.new ≡ set_global name value (variables_of self.old)) }
+        ensures ok { OnOk result (variables_of self.new
+            ≡ set_global name value (variables_of self.old)) }
         ensures err { OnErr result (variables_of self.new ≡ variables_of self.old) }
         ensures lacks { IfErr result Lacks }
         ensures stays { around_of self.new ≡ around_of self.old }
@@ -224,7 +229,8 @@ impl<'c> Scopes<'c> {
 
     /// Opens the loop, at the turn where it stands. Takes memory for the loop around it, if there is one.
     pub fn open_loop(&mut self, opened: ForLoop) -> TeraResult<()>
-        ensures ok { OnOk result (variables_of self.new ≡ open_turn (turn_of [] opened) (variables_of self.old)) }
+        ensures ok { OnOk result (variables_of self.new
+            ≡ open_turn (turn_of [] opened) (variables_of self.old)) }
         ensures coming { OnOk result (coming_of self.new ≡ to_come opened ∷ coming_of self.old) }
         ensures lacks { IfErr result Lacks }
         ensures stays { around_of self.new ≡ around_of self.old }
@@ -276,10 +282,12 @@ impl<'c> Scopes<'c> {
 
     /// Begins an include, which reads the body that runs.
     pub fn enter_include(&mut self) -> TeraResult<()>
-        ensures around { OnOk result (around_of self.new ≡ in_include (around_of self.old) (variables_of self.old)) }
+        ensures around { OnOk result (around_of self.new
+            ≡ in_include (around_of self.old) (variables_of self.old)) }
         ensures variables { OnOk result (variables_of self.new ≡ nothing_set) }
         ensures coming { OnOk result (coming_of self.new ≡ []) }
-        ensures outer { OnOk result (coming_around self.new ≡ coming_of self.old ∷ coming_around self.old) }
+        ensures outer { OnOk result (coming_around self.new
+            ≡ coming_of self.old ∷ coming_around self.old) }
         ensures lacks { IfErr result Lacks }
     {
         self.enter(Standing::Included)
@@ -287,10 +295,12 @@ impl<'c> Scopes<'c> {
 
     /// Begins a component, which reads the context alone.
     pub fn enter_component(&mut self, context: Context) -> TeraResult<()>
-        ensures around { OnOk result (around_of self.new ≡ in_component context (around_of self.old) (variables_of self.old)) }
+        ensures around { OnOk result (around_of self.new
+            ≡ in_component context (around_of self.old) (variables_of self.old)) }
         ensures variables { OnOk result (variables_of self.new ≡ nothing_set) }
         ensures coming { OnOk result (coming_of self.new ≡ []) }
-        ensures outer { OnOk result (coming_around self.new ≡ coming_of self.old ∷ coming_around self.old) }
+        ensures outer { OnOk result (coming_around self.new
+            ≡ coming_of self.old ∷ coming_around self.old) }
         ensures lacks { IfErr result Lacks }
     {
         self.enter(Standing::Called(context))
@@ -299,7 +309,8 @@ impl<'c> Scopes<'c> {
     fn enter(&mut self, inner: Standing<'c>) -> TeraResult<()>
         ensures frame { OnOk result (self.new.frame ≡ begun inner.entry) }
         ensures below { OnOk result (self.new.below ≡ self.old.frame ∷ self.old.below) }
-        ensures bindings { OnOk result (self.new.bindings ≡ without_frame self.old.bindings (suc (length self.old.below))) }
+        ensures bindings { OnOk result (self.new.bindings
+            ≡ without_frame self.old.bindings (suc (length self.old.below))) }
         ensures lacks { IfErr result Lacks }
     {
         let body = Frame {
@@ -315,7 +326,8 @@ impl<'c> Scopes<'c> {
     /// Ends the include or component, and forgets all that it bound.
     pub fn leave(&mut self)
         requires { self.old.below ≢ [] }
-        ensures around { (around_of self.old).above ≡ ((around_of self.new).frame, variables_of self.new) ∷ (around_of self.new).above }
+        ensures around { (around_of self.old).above
+            ≡ ((around_of self.new).frame, variables_of self.new) ∷ (around_of self.new).above }
         ensures coming { coming_around self.old ≡ coming_of self.new ∷ coming_around self.new }
     {
         self.bindings.clear_frame(self.below.len());

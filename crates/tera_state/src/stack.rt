@@ -42,7 +42,9 @@ impl<T: Drop> Stack<T> {
 
     /// Takes the topmost value off.
     pub fn pop(&mut self) -> Option<T>
-        ensures { MatchOption result ((self.old ≡ []) × (self.new ≡ [])) (λ value. self.old ≡ value ∷ self.new) }
+        ensures { MatchOption result
+            ((self.old ≡ []) × (self.new ≡ []))
+            (λ value. self.old ≡ value ∷ self.new) }
     {
         self.items.pop()
     }
@@ -57,7 +59,9 @@ impl<T: Drop> Stack<T> {
 
     /// The value with so many below it.
     pub fn at_height(&self, height: usize) -> Option<&T>
-        ensures { MatchOption result (slice_get (reverse self.now) height ≡ None) (λ v. slice_get (reverse self.now) height ≡ Some v.now) }
+        ensures { MatchOption result
+            (slice_get (reverse self.now) height ≡ None)
+            (λ v. slice_get (reverse self.now) height ≡ Some v.now) }
     {
         self.items.get(height)
     }

@@ -1,19 +1,22 @@
 // What an object of the caller is lent of a rendering.
-ghost use Rattle.std.specs.Prelude.{◌≡◌, [], true, Ok, option_map, string_bytes, unwrap_or, IsTrue, IsOk};
+ghost use Rattle.std.specs.Prelude.{◌≡◌, [], true, Some, None, Ok, option_map, string_bytes, bytes_eq, unwrap_or, IsTrue, IsOk};
+ghost use Rattle.std.specs.List.{list_any};
 ghost use Rattle.tera_errors.specs.Answer.{Gives};
 ghost use Rattle.tera_values.specs.Val.{undefined};
 ghost use Rattle.tera_values.specs.Access.{is_undefined};
 ghost use Rattle.tera_values.specs.Alphabet.{plain};
 ghost use Rattle.tera_values.specs.Escape.{escape_html};
-ghost use Rattle.tera_built_ins.specs.Filters.{filtered_in};
+ghost use Rattle.tera_built_ins.specs.Escaping.{escape_or_html, escaping_of};
+ghost use Rattle.tera_built_ins.specs.Filters.{filter_in};
 ghost use Rattle.tera_state.specs.Found.{found_value};
+ghost use Rattle.tera_state.specs.View.{filters_left};
 
 use crate::found::Found;
 use crate::rendered::write_value;
 use crate::scopes::Scopes;
 use std::alloc::Global;
-use tera_built_ins::{BuiltInFilter, Escaping};
-use tera_values::{ArgFromValue, Context, Error, Kwargs, Sought, TeraResult, Value, escape_html};
+use tera_built_ins::{BuiltInFilter, EscapeFn, Escaping};
+use tera_values::{ArgFromValue, Context, Error, Kwargs, Name, Sought, TeraResult, Value};
 
 /// Where names are looked up: in a context alone, or in the scopes of a rendering.
 #[derive(Drop)]
@@ -38,30 +41,52 @@ impl<'a, 'c> Source<'a, 'c> {
     }
 }
 
-/// What an object of the caller sees: the variables, whether text is escaped, and the escape. It is lent the scopes, and
-/// they are lent their contexts.
+// The built-in filter of this name, unless the name is taken.
+fn filter_left(taken: &[Name], name: &str) -> Option<BuiltInFilter>
+    ensures { result ≡ filters_left (Some taken.now) name.now }
+{
+    if is_among(taken, name) {
+        return None;
+    }
+    BuiltInFilter::named(name)
+}
+
+fn is_among(names: &[Name], name: &str) -> bool
+    ensures { result ≡ list_any (bytes_eq name.now) names.now }
+{
+    names.iter().any(|other| name == other.as_str())
+}
+
+/// What an object of the caller sees: the variables, whether text is escaped, the escape, and the built-in filters. It is lent
+/// the scopes, and they are lent their contexts. Where it has no escape, that is `escape_html`. Where it is lent no list of names
+/// that are taken, not even an empty one, there are no filters.
 #[derive(Drop)]
-pub struct StateOver<'a, 'c> {
+pub struct StateOver<'a, 'c, E> {
     alloc: Global,
     source: Source<'a, 'c>,
     autoescape: bool,
+    escape: Option<E>,
+    taken: Option<&'a [Name]>,
 }
 
-/// The same over what lives as long as it is lent.
-pub type State<'a> = StateOver<'a, 'a>;
+/// What a method of an object is lent: all that lives as long as it is lent.
+pub type State<'a> = StateOver<'a, 'a, &'a dyn EscapeFn>;
 
-impl<'a, 'c> StateOver<'a, 'c> {
+impl<'a, 'c, E: EscapeFn> StateOver<'a, 'c, E> {
     ghost use Rattle.tera_state.specs.Scope.{outside, nothing_set};
     ghost use Rattle.tera_state.specs.View.{view_of, view_at, read_defined, escaped_if_needed, escaping_in};
 
-    /// A state over a context alone: text is escaped, and by `escape_html`. Takes no memory.
-    pub fn new(context: &'a Context) -> StateOver<'a, 'c>
-        ensures { view_of result ≡ view_at (outside context.now []) nothing_set true escape_html }
+    /// A state over a context alone: text is escaped, by `escape_html`, and there are no filters. Takes no memory.
+    pub fn new(context: &'a Context) -> StateOver<'a, 'c, E>
+        ensures { view_of E.escaped result
+            ≡ view_at (outside context.now []) nothing_set true escape_html (filters_left None) }
     {
         StateOver {
             alloc: context.alloc(),
             source: Source::Alone(context),
             autoescape: true,
+            escape: None,
+            taken: None,
         }
     }
 
@@ -74,8 +99,10 @@ impl<'a, 'c> StateOver<'a, 'c> {
 
     /// The value that the name stands for, read as `T`; none where it is undefined, which takes no memory.
     pub fn get<T: ArgFromValue>(&self, name: &str) -> TeraResult<Option<T>>
-        ensures read { Gives (λ o. option_map T.stands_for o) result (read_defined T.reading ((view_of self.now).look name.now)) }
-        ensures undefined { IsTrue (is_undefined ((view_of self.now).look name.now)) → IsOk result }
+        ensures read { Gives (λ o. option_map T.stands_for o) result
+            (read_defined T.reading ((view_of E.escaped self.now).look name.now)) }
+        ensures undefined { IsTrue (is_undefined ((view_of E.escaped self.now).look name.now))
+            → IsOk result }
     {
         let found = self.source.look(name);
         if found.is_undefined() {
@@ -89,58 +116,90 @@ impl<'a, 'c> StateOver<'a, 'c> {
 
     /// Whether text is escaped where it is written.
     pub fn autoescaping_enabled(&self) -> bool
-        ensures { result ≡ (view_of self.now).autoescape }
+        ensures { result ≡ (view_of E.escaped self.now).autoescape }
     {
         self.autoescape
     }
 
     /// The escape of a text, whether or not texts are escaped here.
     pub fn escape(&self, text: &str) -> TeraResult<String>
-        ensures { Gives string_bytes result (Ok ((view_of self.now).escape text.now)) }
+        ensures { Gives string_bytes result (Ok ((view_of E.escaped self.now).escape text.now)) }
     {
         let mut out = String::new(self.alloc);
-        escape_html(text, &mut out)?;
+        self.escape.escape(text, &mut out)?;
         Ok(out)
     }
 
     /// What is written for a value: its printed text, escaped where text is escaped and the value is not safe. An undefined
     /// value is refused.
     pub fn escape_if_needed(&self, value: &Value) -> TeraResult<String>
-        ensures { Gives string_bytes result (escaped_if_needed (view_of self.now) value.now) }
+        ensures { Gives string_bytes result
+            (escaped_if_needed (view_of E.escaped self.now) value.now) }
     {
         if value.is_undefined() {
             return Err(Error::message(self.alloc, "an undefined value can't be written"));
         }
         let mut out = String::new(self.alloc);
-        write_value(self.alloc, self.autoescape, value, &mut out)?;
+        write_value(self.alloc, self.escaping(), value, &mut out)?;
         Ok(out)
     }
 
-    /// What the built-in filter of this name makes of the value, with its own faults; a `Message` where no built-in has the
-    /// name.
-    pub fn call_filter(&self, name: &str, value: &Value, arguments: Kwargs) -> TeraResult<Value>
-        ensures { Gives (λ v. v) result
-            (filtered_in plain (escaping_in (view_of self.now)) name.now value.now arguments) }
+    /// What the built-in filter that the name stands for makes of the value, with its own faults; a `Message` where it stands for
+    /// none.
+    pub fn call_filter(&self, name: &str, value: &Value, kwargs: Kwargs) -> TeraResult<Value>
+        ensures { let view = view_of E.escaped self.now in
+            Gives (λ v. v) result
+            (filter_in plain (escaping_in view) (view.filters name.now) value.now kwargs) }
     {
-        let escaping = Escaping {
+        match self.filter(name) {
+            Some(filter) => filter.call(self.alloc, value, &kwargs, self.escaping()),
+            None => Err(Error::message(self.alloc, "there is no such filter")),
+        }
+    }
+
+    // What a built-in sees of it.
+    fn escaping(&self) -> Escaping<'_, Option<E>>
+        ensures { escaping_of (escape_or_html E.escaped) result
+            ≡ escaping_in (view_of E.escaped self.now) }
+    {
+        Escaping {
             autoescape: self.autoescape,
-        };
-        BuiltInFilter::call_named(self.alloc, name, value, &arguments, escaping)
+            escape: &self.escape,
+        }
+    }
+
+    // The built-in filter that the name stands for.
+    fn filter(&self, name: &str) -> Option<BuiltInFilter>
+        ensures { result ≡ (view_of E.escaped self.now).filters name.now }
+    {
+        match self.taken {
+            Some(taken) => filter_left(taken, name),
+            None => None,
+        }
     }
 }
 
 impl<'c> Scopes<'c> {
     ghost use Rattle.tera_state.specs.Scopes.{around_of, variables_of};
-    ghost use Rattle.tera_state.specs.View.{view_of, view_at};
+    ghost use Rattle.tera_state.specs.View.{view_of, view_at, lent_names};
 
-    /// The state of the rendering, as it is lent to an object. Takes no memory.
-    pub fn state(&self, autoescape: bool) -> StateOver<'_, 'c>
-        ensures { view_of result ≡ view_at (around_of self.now) (variables_of self.now) autoescape escape_html }
+    /// The state of the rendering, as it is lent to an object: with this escape, or `escape_html`, and with the built-in filters
+    /// but those whose names are taken, or none. Takes no memory.
+    pub fn state<'a, E: EscapeFn>(
+        &'a self,
+        autoescape: bool,
+        escape: Option<E>,
+        taken: Option<&'a [Name]>,
+    ) -> StateOver<'a, 'c, E>
+        ensures { view_of E.escaped result ≡ view_at (around_of self.now) (variables_of self.now)
+            autoescape (escape_or_html E.escaped escape) (filters_left (lent_names taken.entry)) }
     {
         StateOver {
             alloc: self.alloc,
             source: Source::Open(self),
             autoescape,
+            escape,
+            taken,
         }
     }
 }

@@ -9,6 +9,7 @@ ghost use Rattle.tera_state.specs.Inputs.{as_marked_text};
 use crate::state::StateOver;
 use std::alloc::Global;
 use std::marker::Model;
+use tera_built_ins::EscapeFn;
 use tera_values::{ArgFromValue, Error, Shape, TeraResult, Value};
 
 /// A text with its mark, as an argument or the value of a name.
@@ -79,8 +80,8 @@ impl StringInput {
     }
 
     /// What is written for the text where the state stands: its escape where text is escaped and this is not safe.
-    pub fn rendered(&self, state: &StateOver<'_, '_>) -> TeraResult<String>
-        ensures { Gives string_bytes result (Ok (written (view_of state.now) self.now)) }
+    pub fn rendered<E: EscapeFn>(&self, state: &StateOver<'_, '_, E>) -> TeraResult<String>
+        ensures { Gives string_bytes result (Ok (written (view_of E.escaped state.now) self.now)) }
     {
         state.escape_if_needed(&self.value)
     }

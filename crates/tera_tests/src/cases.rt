@@ -1,8 +1,9 @@
 //! Tables of texts that stand beside the registry, and of what they render to.
 //!
 //! A line of a table is `INPUT => TEXT`, where the input renders to the text; `INPUT !! START END`, where it faults with a
-//! `RenderingError` at these bytes; `INPUT !! syntax`, where it is refused with a `SyntaxError` inside of it; or
-//! `INPUT !! message`, where it is refused with a `Message`. One text is far cheaper to prove safe than an array of rows.
+//! `RenderingError` at these bytes; `INPUT !! syntax`, where it is refused with a `SyntaxError` inside of it; `INPUT !! message`,
+//! where it is refused with a `Message`; or `INPUT !! memory`, where memory is refused. One text is far cheaper to prove safe than an
+//! array of rows.
 use std::alloc::Global;
 use tera::{Context, Error, ErrorKind, ReportError, Tera, TeraResult, Value};
 
@@ -57,6 +58,7 @@ pub fn is_refused(error: &Error, want: &str, size: usize) -> bool {
         ErrorKind::RenderingError(report) => reports_fault(report, want),
         ErrorKind::SyntaxError(report) => want == "syntax" && reports_syntax(report, size),
         ErrorKind::Message(_) => want == "message",
+        ErrorKind::OutOfMemory => want == "memory",
         _ => false,
     }
 }
@@ -101,14 +103,17 @@ fn agrees(engine: &Tera, context: &Context, autoescape: bool, line: &str) -> boo
     }
 }
 
+/// The first line that the engine answers otherwise.
+pub fn wrong_by(engine: &Tera, context: &Context, autoescape: bool, lines: &str) -> Option<usize> {
+    lines
+        .lines()
+        .position(|line| !agrees(engine, context, autoescape, line))
+}
+
 /// The first line that is answered otherwise. With no engine to render with, that is the first.
 pub fn wrong(alloc: Global, autoescape: bool, lines: &str) -> Option<usize> {
     match (Tera::new(alloc), variables(alloc)) {
-        (Ok(engine), Some(context)) => {
-            lines
-                .lines()
-                .position(|line| !agrees(&engine, &context, autoescape, line))
-        }
+        (Ok(engine), Some(context)) => wrong_by(&engine, &context, autoescape, lines),
         _ => Some(0),
     }
 }

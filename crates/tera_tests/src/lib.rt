@@ -50,11 +50,18 @@ mod many_items;
 #[cfg(test)]
 mod many_templates;
 #[cfg(test)]
-mod memory;
+mod objects;
+#[cfg(test)]
+mod objects_around;
+#[cfg(test)]
+mod objects_moved;
 #[cfg(test)]
 mod other_delimiters;
+pub mod own;
 #[cfg(test)]
 mod previews;
+#[cfg(test)]
+mod refused_objects;
 #[cfg(test)]
 mod refused_renderings;
 #[cfg(test)]
@@ -77,5 +84,7 @@ mod state;
 mod statements;
 #[cfg(test)]
 mod templates;
+#[cfg(test)]
+mod tried;
 #[cfg(test)]
 mod variables;

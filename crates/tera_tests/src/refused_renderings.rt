@@ -1,29 +1,15 @@
 //! Renderings to which memory is refused, at their first request, at their second one, and so on.
 use crate::cases::put;
-use crate::memory::{Tried, refusals, with_budget};
+use crate::tried::{answered, refused};
+use scarce_memory::{Tried, refusals, with_budget};
 use std::alloc::Global;
-use tera::{Context, Error, ErrorKind, Tera, Value};
+use tera::{Context, Tera, Value};
 
 const INPUT: &str = "Hello {{ name }}!{# not this #}";
 
 const WANT: &str = "Hello &lt;world&gt;!";
 
 const BEFORE: &[u8] = b"before ";
-
-fn answered(is_right: bool) -> Tried {
-    if is_right {
-        Tried::Answered
-    } else {
-        Tried::Wrong
-    }
-}
-
-fn refused(error: &Error, is_unchanged: bool) -> Tried {
-    match error.kind() {
-        ErrorKind::OutOfMemory if is_unchanged => Tried::Refused,
-        _ => Tried::Wrong,
-    }
-}
 
 fn try_rendering(alloc: Global, engine: &Tera, context: &Context, budget: usize) -> Tried {
     match with_budget(alloc, budget, || engine.render_str(INPUT, context, true)) {

@@ -1,6 +1,6 @@
 //! Runs of the program to which memory is refused, at their first request, at their second one, and so on.
 use crate::devices::{Sink, Source, run_on};
-use crate::memory::{Tried, refusals, with_budget};
+use scarce_memory::{Tried, refusals, with_budget};
 use std::alloc::Global;
 use tera::Tera;
 use tera_script::Outcome;

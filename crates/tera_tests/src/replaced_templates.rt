@@ -1,7 +1,7 @@
 //! A template that is replaced again and again: what stood there before leaves nothing behind.
 use crate::many_templates::put_number;
-use crate::memory::{left, with_room};
 use crate::templates::{adds, shows};
+use scarce_memory::{left, with_room};
 use std::alloc::Global;
 use tera::{Context, Tera};
 

@@ -1,5 +1,5 @@
 //! Copies for which no memory is left: that of a value in shared form is a count.
-use crate::memory::{with_budget, with_little};
+use scarce_memory::{with_budget, with_little};
 use std::alloc::Global;
 use tera::{TeraResult, Value};
 

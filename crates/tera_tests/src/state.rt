@@ -1,6 +1,8 @@
 //! What objects of the caller are lent of a rendering.
 use std::alloc::Global;
 use tera::{ArgFromValue, Context, ErrorKind, Kwargs, State, StringInput, Value};
+use tera_state::Scopes;
+use tera_values::Name;
 
 /// A name, and the text that it stands for, if any.
 #[derive(Clone, Copy)]
@@ -56,6 +58,14 @@ fn finds_all(state: &State<'_>) -> bool {
     LOOKS.iter().all(|look| finds(state, *look))
 }
 
+// A name that stands for something else than what is asked for.
+fn refuses_another_type(state: &State<'_>) -> bool {
+    match state.get::<i128>("name") {
+        Ok(_) => false,
+        Err(error) => matches!(error.kind(), ErrorKind::InvalidArgument),
+    }
+}
+
 #[test]
 fn names_are_looked_up(rt: HostRuntime) {
     let alloc = rt.alloc();
@@ -65,7 +75,7 @@ fn names_are_looked_up(rt: HostRuntime) {
         None => Context::new(alloc),
     };
     let state = State::new(&context);
-    assert!(rt; finds_all(&state));
+    assert!(rt; finds_all(&state) && refuses_another_type(&state));
 }
 
 fn value_of(alloc: Global, row: Row) -> Option<Value> {
@@ -106,6 +116,7 @@ fn values_are_written(rt: HostRuntime) {
     let context = Context::new(alloc);
     let state = State::new(&context);
     let holds = state.autoescaping_enabled()
+        && Value::string(state.alloc(), "a").is_ok()
         && ROWS.iter().all(|row| writes(alloc, &state, *row))
         && escapes_all(&state)
         && refuses_undefined(&state);
@@ -131,19 +142,44 @@ fn replaces(alloc: Global, state: &State<'_>) -> bool {
     }
 }
 
-fn refuses_unknown(alloc: Global, state: &State<'_>) -> bool {
-    match state.call_filter("upper", &Value::none(), Kwargs::new(alloc)) {
+fn refuses(alloc: Global, state: &State<'_>, name: &str) -> bool {
+    match state.call_filter(name, &Value::none(), Kwargs::new(alloc)) {
         Ok(_) => false,
         Err(error) => matches!(error.kind(), ErrorKind::Message(_)),
     }
+}
+
+fn calls_filters(alloc: Global, scopes: &Scopes<'_>) -> bool {
+    let state: State<'_> = scopes.state(true, None, Some(&[]));
+    replaces(alloc, &state) && refuses(alloc, &state, "upper")
 }
 
 #[test]
 fn filters_are_called(rt: HostRuntime) {
     let alloc = rt.alloc();
     let context = Context::new(alloc);
-    let state = State::new(&context);
-    assert!(rt; replaces(alloc, &state) && refuses_unknown(alloc, &state));
+    let scopes = Scopes::new(alloc, &context, None);
+    assert!(rt; calls_filters(alloc, &scopes));
+}
+
+fn refuses_taken(alloc: Global, scopes: &Scopes<'_>) -> bool {
+    match Name::new(alloc, "default") {
+        Ok(name) => {
+            let taken = [name];
+            let state: State<'_> = scopes.state(true, None, Some(&taken));
+            refuses(alloc, &state, "default") && replaces(alloc, &state)
+        }
+        Err(_) => false,
+    }
+}
+
+#[test]
+fn taken_filters_are_refused(rt: HostRuntime) {
+    let alloc = rt.alloc();
+    let context = Context::new(alloc);
+    let alone = State::new(&context);
+    let scopes = Scopes::new(alloc, &context, None);
+    assert!(rt; refuses_taken(alloc, &scopes) && refuses(alloc, &alone, "default"));
 }
 
 fn input_of(alloc: Global, row: Row) -> Option<StringInput> {

@@ -114,7 +114,8 @@ fn add_section(
     found: &mut BTreeSet<String>,
 ) -> TeraResult<()>
     ensures ok { OnOk result (names_in found.new
-        ≡ before (FilterSection (filters_of filters.now) (nodes_of body.now)) (names_in found.old)) }
+        ≡ before (FilterSection (filters_of filters.now) (nodes_of body.now))
+        (names_in found.old)) }
     ensures lacks { IfErr result Lacks }
 {
     add_all(alloc, body, found)?;

@@ -6,5 +6,5 @@ use Rattle.tera_built_ins.specs.Join.{item_part}
 use Rattle.tera_built_ins.proofs.join.row.Given as goal
 
 abbrev pub invariant-loop-item : goal.invariant-loop-item
-invariant-loop-item l =
-    string_bytes l.out ≡ string_bytes l.initial.out ++ flat_map (λ v. l.between ++ item_part plain (escaping_of l.escaping) l.is_safe v) (take l.item-index l.rest)
+invariant-loop-item g l =
+    string_bytes l.out ≡ string_bytes l.initial.out ++ flat_map (λ v. l.between ++ item_part plain (escaping_of g.E.EscapeFn.escaped l.escaping) l.is_safe v) (take l.item-index l.rest)

@@ -1,19 +1,14 @@
-use Rattle.std.proofs.Common.{arith, subst}
-use Rattle.tera.specs.Registry.{registry_of}
-use Rattle.tera_registry.specs.Batch.{ConfiguresOneOf}
-use Rattle.tera_calls.specs.Calls.{Makes}
+use Rattle.std.proofs.Common.{◌++◌, ◌∷◌, [], length, sym, ap, ◌∙◌, append_assoc, arith}
 use Rattle.tera_calls.proofs.Turns.{Made-more}
 use Rattle.tera_calls.proofs.call.make_calls.Goals as goal
 
 pub loop-call-preserved : goal.loop-call-preserved
-loop-call-preserved c =
-    let left = registry_of c.loop-call.engine in
-    let next = registry_of c.make_call-answer.new.engine in
+loop-call-preserved g c =
+    let done = c.loop-call.yielded in
+    let call = c.in-Some.call in
     record {
-      made =
-          Made-more (registry_of c.args.engine.now) c.args.calls.now c.loop-call.call-index c.call-item.result c.loop-call.answers.items c.append.new.answers.items c.make_call-answer.result left next
-          c.loop-call.invariant.made c.loop-call-test.true c.append.ensures.items
-          (subst (λ call. ConfiguresOneOf c.make_call-answer.result (Makes left call) left next) c.call-item.is c.make_call-answer.ensures);
-      counted = omega (arith, c.append.ensures.len, c.loop-call.invariant.counted);
-      room = omega (arith, c.append.ensures.capacity, c.loop-call.invariant.room);
+      whole = append_assoc done (call ∷ []) _ ∙ ap (λ l. done ++ l) (sym c.in-Some.ensures.steps.0) ∙ c.loop-call.invariant.whole;
+      size = omega (arith, c.in-Some.ensures.steps.1, ap length c.in-Some.ensures.steps.0, c.loop-call.invariant.size);
+      made = Made-more _ _ _ _ _ _ _ _ _ c.loop-call.invariant.made c.append.ensures.items c.make_call-answer.ensures;
+      room = omega (arith, c.append.ensures.len, c.append.ensures.capacity, c.in-Some.ensures.steps.1, c.loop-call.invariant.room);
     }

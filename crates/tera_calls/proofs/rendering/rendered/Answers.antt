@@ -5,7 +5,7 @@ use Rattle.tera_calls.proofs.Answered.{GivesOneOf-weaker, Renders-answers}
 use Rattle.tera_calls.proofs.rendering.rendered.Goals as goal
 
 pub returns : goal.returns
-returns c =
-    let r = registry_of c.args.engine.now in
+returns g c =
+    let r = registry_of g.O.Objects.engine c.args.engine.now in
     let call = c.args.rendering.now in
     GivesOneOf-weaker (string_bytes {Z = Global}) (Answers r call) (Renders r call) (Renders-answers r call) c.answered.result c.answered.ensures

@@ -19,23 +19,23 @@ none-holds v false false c e h = refl
 pub returns-then-misses_a_callee : goal.returns-then-misses_a_callee
 returns-then-misses_a_callee g c = λ t at.
     let r = g.registry in
-    let same = entry-is r c.args.templates.now c.args.of _ _ t c.requires.0.same c.requires.1.0 c.index-templates-of.is c.deref-template.ensures at in
-    let callee = lacks_a_callee (is_component r) t.1.tree.nodes in
+    let same = entry-is r c.args.templates.now c.args.of _ _ t c.requires.1.0.same c.requires.1.1.0 c.index-templates-of.is c.deref-template.ensures at in
+    let callee = lacks_a_callee r.engine (is_component r) t.1.tree.nodes in
     let first : c.if-loses.value ≡ (loses_a_block r t || callee) = elim c.if-loses.branch [
       | then-loses w ↦ w.value-is ∙ w.if-loses.true ∙ sym (ap (λ a. a || callee) (sym (c.loses.ensures t at) ∙ w.if-loses.true))
-      | else-loses w ↦ w.value-is ∙ w.misses_a_callee.ensures r c.requires.1.1.1 ∙ ap (λ (u : Entry). lacks_a_callee (is_component r) u.1.tree.nodes) same ∙ sym (ap (λ a. a || callee) (sym (c.loses.ensures t at) ∙ w.if-loses.false))
+      | else-loses w ↦ w.value-is ∙ w.misses_a_callee.ensures r c.requires.1.1.1.1.0 c.requires.1.1.1.1.1 ∙ ap (λ (u : Entry). lacks_a_callee r.engine (is_component r) u.1.tree.nodes) same ∙ sym (ap (λ a. a || callee) (sym (c.loses.ensures t at) ∙ w.if-loses.false))
     ] in
     one-holds c.if-loses.value _ callee _ first c.if-misses_a_callee.true
 
 pub returns-else-misses_a_callee : goal.returns-else-misses_a_callee
 returns-else-misses_a_callee g c = λ t at.
     let r = g.registry in
-    let same = entry-is r c.args.templates.now c.args.of _ _ t c.requires.0.same c.requires.1.0 c.index-templates-of.is c.deref-template.ensures at in
-    let callee = lacks_a_callee (is_component r) t.1.tree.nodes in
+    let same = entry-is r c.args.templates.now c.args.of _ _ t c.requires.1.0.same c.requires.1.1.0 c.index-templates-of.is c.deref-template.ensures at in
+    let callee = lacks_a_callee r.engine (is_component r) t.1.tree.nodes in
     let first : c.if-loses.value ≡ (loses_a_block r t || callee) = elim c.if-loses.branch [
       | then-loses w ↦ w.value-is ∙ w.if-loses.true ∙ sym (ap (λ a. a || callee) (sym (c.loses.ensures t at) ∙ w.if-loses.true))
-      | else-loses w ↦ w.value-is ∙ w.misses_a_callee.ensures r c.requires.1.1.1 ∙ ap (λ (u : Entry). lacks_a_callee (is_component r) u.1.tree.nodes) same ∙ sym (ap (λ a. a || callee) (sym (c.loses.ensures t at) ∙ w.if-loses.false))
+      | else-loses w ↦ w.value-is ∙ w.misses_a_callee.ensures r c.requires.1.1.1.1.0 c.requires.1.1.1.1.1 ∙ ap (λ (u : Entry). lacks_a_callee r.engine (is_component r) u.1.tree.nodes) same ∙ sym (ap (λ a. a || callee) (sym (c.loses.ensures t at) ∙ w.if-loses.false))
     ] in
-    let many = c.requires.1.1.0 t at ∙ ap (λ u. length (includes_of r u)) (sym same) in
+    let many = c.requires.1.1.1.0 t at ∙ ap (λ u. length (includes_of r u)) (sym same) in
     let missing = c.misses.ensures r many ∙ ap (λ (u : Entry). misses_an_include r u.1.tree.nodes) same in
     missing ∙ none-holds c.if-loses.value _ callee (misses_an_include r t.1.tree.nodes) first c.if-misses_a_callee.false

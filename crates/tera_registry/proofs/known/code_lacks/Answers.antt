@@ -1,15 +1,17 @@
 use Rattle.std.proofs.Common.{◌≤◌, length, sym, arith}
+use Rattle.tera_registry.specs.Known.{is_there}
 use Rattle.tera_registry.proofs.Lacking.{lacks-nothing-more, code_lacks-at, code_lacks-none}
 use Rattle.tera_registry.proofs.known.code_lacks.Goals as goal
 
 pub returns-then-is_missing_at : goal.returns-then-is_missing_at
-returns-then-is_missing_at c = sym (code_lacks-at c.args.chunk.now.code c.loop-place.place (sym c.if-is_missing_at.ensures))
+returns-then-is_missing_at g c =
+    sym (code_lacks-at (g.O.Objects.engine c.args.objects.now) (is_there c.args.choices.now c.args.own.now) c.args.chunk.now.code c.loop-place.place (sym c.if-is_missing_at.ensures))
 
 pub loop-place-preserved : goal.loop-place-preserved
-loop-place-preserved c =
-    lacks-nothing-more c.args.chunk.now.code c.loop-place.place c.loop-place.invariant (sym c.if-is_missing_at.ensures)
+loop-place-preserved g c =
+    lacks-nothing-more (g.O.Objects.engine c.args.objects.now) (is_there c.args.choices.now c.args.own.now) c.args.chunk.now.code c.loop-place.place c.loop-place.invariant (sym c.if-is_missing_at.ensures)
 
 pub returns : goal.returns
-returns c =
+returns g c =
     let over : length c.args.chunk.now.code ≤ c.loop-place.place = omega (arith, c.loop-place-test.false, c.len-place-end.ensures) in
-    sym (code_lacks-none c.args.chunk.now.code c.loop-place.place over c.loop-place.invariant)
+    sym (code_lacks-none (g.O.Objects.engine c.args.objects.now) (is_there c.args.choices.now c.args.own.now) c.args.chunk.now.code c.loop-place.place over c.loop-place.invariant)

@@ -5,10 +5,11 @@ use Rattle.tera_registry.specs.Choices.{AreChosen, IsFirstTie}
 use Rattle.tera_registry.specs.Edges.{AreEdges, IsFirstCircle}
 use Rattle.tera_registry.specs.Walks.{rows}
 use Rattle.tera_registry.specs.Links.{AreUps}
-use Rattle.tera_registry.specs.Kept.{seen}
+use Rattle.tera_registry.specs.Kept.{seen, seen_by}
 use Rattle.tera_registry.proofs.Ancestors.{grounded}
 use Rattle.tera_registry.proofs.Turn.{length-rows}
 use Rattle.tera_registry.proofs.Linked.{all-ups}
+use Rattle.tera_registry.proofs.Served.{ups-served, edges-served, circle-served, tie-served, chosen-served}
 use Rattle.tera_registry.proofs.Circles.{all-edges, closed, first_circle}
 use Rattle.tera_registry.proofs.Checked.{climbed-says, climbed-faultless, lacks-says, keeps-all, told}
 use Rattle.tera_registry.proofs.link.link.Goals as goal
@@ -26,33 +27,41 @@ pub roots-requires : goal.roots-requires
 roots-requires g c =
     let ts = c.args.templates.now in
     let ps = c.args.prefixes.now in
-    let here : seen ts ps ≡ g.registry = sym c.requires.1 in
+    let engine = g.O.Objects.engine c.args.objects.now in
+    let here : seen_by engine ts ps ≡ g.registry = sym c.requires.1.1 in
     let e = all-edges ts ps _ _ c.as_slice.ensures.value c.in_ok-edges.ensures in
     let ups = all-ups ts ps _ _ c.as_slice-2.ensures.value c.in_ok-ups.ensures in (
-      subst (λ (r : Registry). AreUps r c.as_slice-2.result.now (length r.templates)) here ups,
+      subst (λ (r : Registry). AreUps r c.as_slice-2.result.now (length r.templates)) here (ups-served engine ts ps _ _ ups),
       (
-        subst (λ (r : Registry). IsFirstCircle r c.in_ok-circle.circle) here (first_circle (seen ts ps) _ c.in_ok-circle.circle e c.in_ok-circle.ensures),
-        subst (λ (r : Registry). IsFirstTie r c.in_ok-choices.field-0.tie) here c.in_ok-choices.ensures.tie,
+        subst (λ (r : Registry). IsFirstCircle r c.in_ok-circle.circle) here (circle-served engine ts ps c.in_ok-circle.circle (first_circle (seen ts ps) _ c.in_ok-circle.circle e c.in_ok-circle.ensures)),
+        subst (λ (r : Registry). IsFirstTie r c.in_ok-choices.field-0.tie) here (tie-served engine ts ps c.in_ok-choices.field-0.tie c.in_ok-choices.ensures.tie),
       ),
     )
 
 pub any_lacks-requires : goal.any_lacks-requires
-any_lacks-requires g c =
+any_lacks-requires g c = λ κs within.
     let ts = c.args.templates.now in
     let ps = c.args.prefixes.now in
-    let here : seen ts ps ≡ g.registry = sym c.requires.1 in
+    let engine = g.O.Objects.engine c.args.objects.now in
+    let here : seen_by engine ts ps ≡ g.registry = sym c.requires.1.1 in
     let ups = all-ups ts ps _ _ c.as_slice-3.ensures.value c.in_ok-ups.ensures in
     let edges : AreEdges (seen ts ps) (rows c.as_slice-4.result.now) (length ts) = rw c.as_slice-4.ensures.value c.in_ok-edges.ensures in (
-      record {
-        same = ap (λ (r : Registry). r.templates) here;
-        above = subst (λ (r : Registry). AreUps r c.as_slice-3.result.now (length r.templates)) here ups;
-        grounded = grounded g.registry (climbed-faultless g.registry c.in-Ok.ensures.answer);
-      },
+      within,
       (
-        subst (λ (r : Registry). AreEdges r (rows c.as_slice-4.result.now) (length ts)) here edges,
+        record {
+          same = ap (λ (r : Registry). r.templates) here;
+          above = subst (λ (r : Registry). AreUps r c.as_slice-3.result.now (length r.templates)) here (ups-served engine ts ps _ _ ups);
+          grounded = grounded g.registry (climbed-faultless g.registry c.in-Ok.ensures.answer);
+        },
         (
-          sym (length-rows c.as_slice-4.result.now) ∙ edges.as_many,
-          subst (λ (r : Registry). AreChosen r c.in_ok-choices.field-0.choices) here c.in_ok-choices.ensures.taken,
+          subst (λ (r : Registry). AreEdges r (rows c.as_slice-4.result.now) (length ts)) here (edges-served engine ts ps _ _ edges),
+          (
+            sym (length-rows c.as_slice-4.result.now) ∙ edges.as_many,
+            (
+              subst (λ (r : Registry). AreChosen r c.in_ok-choices.field-0.choices) here (chosen-served engine ts ps c.in_ok-choices.field-0.choices c.in_ok-choices.ensures.taken),
+              ap (λ (r : Registry). r.engine) c.requires.1.1,
+            ),
+          ),
         ),
       ),
     )
@@ -67,8 +76,12 @@ returns-clause-answer g c = keeps-all g.registry c.in-Ok.ensures.answer (sym c.i
 pub returns-clause-ups : goal.returns-clause-ups
 returns-clause-ups g c =
     let ts = c.args.templates.now in
-    subst (λ (r : Registry). AreUps r c.in_ok-ups.ups.items (length r.templates)) (sym c.requires.1) (all-ups ts c.args.prefixes.now _ _ refl c.in_ok-ups.ensures)
+    let ps = c.args.prefixes.now in
+    let engine = g.O.Objects.engine c.args.objects.now in
+    subst (λ (r : Registry). AreUps r c.in_ok-ups.ups.items (length r.templates)) (sym c.requires.1.1) (ups-served engine ts ps _ _ (all-ups ts ps _ _ refl c.in_ok-ups.ensures))
 
 pub returns-clause-choices : goal.returns-clause-choices
 returns-clause-choices g c =
-    subst (λ (r : Registry). AreChosen r c.in_ok-choices.field-0.choices) (sym c.requires.1) c.in_ok-choices.ensures.taken
+    let engine = g.O.Objects.engine c.args.objects.now in
+    let choices = c.in_ok-choices.field-0.choices in
+    subst (λ (r : Registry). AreChosen r choices) (sym c.requires.1.1) (chosen-served engine c.args.templates.now c.args.prefixes.now choices c.in_ok-choices.ensures.taken)

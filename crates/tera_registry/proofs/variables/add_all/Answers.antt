@@ -1,4 +1,4 @@
-use Rattle.std.proofs.Common.{◌≡◌, sym, ap, ◌∙◌, string_bytes}
+use Rattle.std.proofs.Common.{sym, ap, ◌∙◌}
 use Rattle.tera_meaning.specs.Variables.{if_given}
 use Rattle.tera_variables.specs.Free.{only, ◌∪◌}
 use Rattle.tera_variables.specs.Sets.{names_in}

@@ -1,6 +1,4 @@
-use Rattle.std.proofs.Common.{◌≡◌, ◌∷◌, ◌++◌, Some, sym, ap, ◌∙◌, slice_get, append_assoc, arith}
-use Rattle.tera_meaning.specs.Lineage.{ancestors}
-use Rattle.tera_registry.specs.Edges.{all_at}
+use Rattle.std.proofs.Common.{◌≡◌, Some, sym, ap, ◌∙◌, slice_get, arith}
 use Rattle.tera_registry.specs.Kept.{entry_of, entries_of, seen}
 use Rattle.tera_registry.proofs.Element.{element}
 use Rattle.tera_registry.proofs.Filled.{AreThere-push}

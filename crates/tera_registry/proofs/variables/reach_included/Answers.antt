@@ -1,10 +1,9 @@
-use Rattle.std.proofs.Common.{◌≡◌, ◌∷◌, drop, length, Some, refl, sym, ap, ◌∙◌, arith, slice_get}
+use Rattle.std.proofs.Common.{◌≡◌, length, Some, refl, sym, ap, ◌∙◌, arith, slice_get}
 use Rattle.std.proofs.lemmas.List.{drop_all}
 use Rattle.std.proofs.lemmas.Option.{slice_get_read}
 use Rattle.tera_meaning.specs.Resolve.{resolve}
 use Rattle.tera_registry.specs.Kept.{entries_of, seen}
 use Rattle.tera_registry.proofs.Element.{element}
-use Rattle.tera_registry.proofs.Kept.{length-entries}
 use Rattle.tera_registry.proofs.Rows.{drop-at}
 use Rattle.tera_registry.proofs.Reaching.{reaching-begins, reaching-none, reaching-some, reaching-ends}
 use Rattle.tera_registry.proofs.variables.reach_included.Goals as goal

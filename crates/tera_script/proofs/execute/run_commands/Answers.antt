@@ -8,12 +8,12 @@ use Rattle.tera_script.proofs.Sessions.{answered_more}
 use Rattle.tera_script.proofs.execute.run_commands.Goals as goal
 
 pub loop-command-preserved : goal.loop-command-preserved
-loop-command-preserved c =
-    let left = session_of c.loop-command.engine c.loop-command.session in
-    let next = session_of c.reply_to-reply.new.engine c.reply_to-reply.new.session in
+loop-command-preserved g c =
+    let left = session_of (registry_of g.O.Objects.engine c.loop-command.engine) c.loop-command.session in
+    let next = session_of (registry_of g.O.Objects.engine c.reply_to-reply.new.engine) c.reply_to-reply.new.session in
     record {
       answered =
-          answered_more (registry_of c.args.engine.now) c.args.commands.now c.loop-command.command-index c.command-item.result c.loop-command.replies.items c.append.new.replies.items c.reply_to-reply.result left next
+          answered_more (registry_of g.O.Objects.engine c.args.engine.now) c.args.commands.now c.loop-command.command-index c.command-item.result c.loop-command.replies.items c.append.new.replies.items c.reply_to-reply.result left next
           c.loop-command.invariant.answered c.loop-command-test.true c.append.ensures.items
           (subst (λ command. Answers left (act_of command) (reply_seen c.reply_to-reply.result) next) c.command-item.is c.reply_to-reply.ensures);
       counted = omega (arith, c.append.ensures.len, c.loop-command.invariant.counted);

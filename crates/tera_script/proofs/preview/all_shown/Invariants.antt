@@ -4,6 +4,6 @@ use Rattle.tera_script.specs.Preview.{shown}
 use Rattle.tera_script.proofs.preview.all_shown.Given as goal
 
 abbrev pub invariant-loop-name : goal.invariant-loop-name
-invariant-loop-name l =
+invariant-loop-name g l =
     map string_bytes l.texts.items
-    ≡ map (λ name. shown (registry_of l.fn.engine) l.fn.context l.autoescape (string_bytes name)) (take l.name-index l.names)
+    ≡ map (λ name. shown (registry_of g.O.Objects.engine l.fn.engine) l.fn.context l.autoescape (string_bytes name)) (take l.name-index l.names)

@@ -6,8 +6,8 @@ use Rattle.tera_script.proofs.Joining.{join_by-map, join_by-same}
 use Rattle.tera_script.proofs.preview.preview.Goals as goal
 
 pub returns : goal.returns
-returns c =
-    let told : Name → Text = shown (registry_of c.args.engine.now) c.args.context.now c.args.autoescape in
+returns g c =
+    let told : Name → Text = shown (registry_of g.O.Objects.engine c.args.engine.now) c.args.context.now c.args.autoescape in
     let by_name : String Global → Text = λ n. told (string_bytes n) in
     let names = c.in_ok-names.names.items in
     let each : map string_bytes c.in_ok-texts.texts.items ≡ map by_name c.as_slice.result.now = c.in_ok-texts.ensures.ok in

@@ -9,19 +9,22 @@ invariant-nodes-loop-node l =
 
 -- the deepest of the nodes, and then who calls whom at one depth
 abbrev pub decreases-capturing : goal.decreases-capturing
-decreases-capturing l = 5 * goal.size-capturing l
+decreases-capturing l = 6 * goal.size-capturing l
 
 abbrev pub decreases-branching : goal.decreases-branching
-decreases-branching l = 5 * goal.size-branching l
+decreases-branching l = 6 * goal.size-branching l
 
 abbrev pub decreases-node : goal.decreases-node
-decreases-node l = 5 * goal.size-node l + 1
+decreases-node l = 6 * goal.size-node l + 1
 
 abbrev pub decreases-nodes : goal.decreases-nodes
-decreases-nodes l = 5 * goal.size-nodes l + 2
+decreases-nodes l = 6 * goal.size-nodes l + 2
+
+abbrev pub decreases-body : goal.decreases-body
+decreases-body l = 6 * goal.size-body l + 3
 
 abbrev pub decreases-captured : goal.decreases-captured
-decreases-captured l = 5 * goal.size-captured l + 3
+decreases-captured l = 6 * goal.size-captured l + 4
 
 abbrev pub decreases-section : goal.decreases-section
-decreases-section l = 5 * goal.size-section l + 4
+decreases-section l = 6 * goal.size-section l + 5

@@ -1,4 +1,4 @@
-use Rattle.std.proofs.Common.{arith, refl, sym, ap, ◌+◌}
+use Rattle.std.proofs.Common.{arith, refl, sym, ap, ◌+◌, ◌∙◌}
 use Rattle.tera_meaning.specs.Run.{AnInclude}
 use Rattle.tera_machine.specs.Flow.{Written, Ask, component_request, component_use}
 use Rattle.tera_machine.specs.Subject.{here_of}
@@ -14,19 +14,19 @@ use Rattle.tera_machine.proofs.machine.VirtualMachine.+run.Goals as goal
 
 pub run_counted-step-requires-clause-ready : goal.run_counted-step-requires-clause-ready
 run_counted-step-requires-clause-ready g t c =
-    not_stuck c.loop-instruction.invariant.progress (here_is g.M.Limit.world c.args.self.now _ _ c.args.blocks.now c.loop-instruction.configuration c.args.configuration.now c.requires.engine c.file.ensures c.loop-instruction.invariant.stays.around) c.in-Some.ensures.found
+    not_stuck c.loop-instruction.invariant.progress (here_is g.O.Objects.engine g.M.Limit.world c.args.self.now _ _ c.args.blocks.now c.loop-instruction.configuration c.args.configuration.now c.requires.engine c.file.ensures c.loop-instruction.invariant.stays.around) c.in-Some.ensures.found
 
 pub run_counted-step-requires-clause-small : goal.run_counted-step-requires-clause-small
 run_counted-step-requires-clause-small g t c =
-    small c.loop-instruction.invariant.progress (here_is g.M.Limit.world c.args.self.now _ _ c.args.blocks.now c.loop-instruction.configuration c.args.configuration.now c.requires.engine c.file.ensures c.loop-instruction.invariant.stays.around) c.in-Some.ensures.found c.in-Some.ensures.small
+    small c.loop-instruction.invariant.progress (here_is g.O.Objects.engine g.M.Limit.world c.args.self.now _ _ c.args.blocks.now c.loop-instruction.configuration c.args.configuration.now c.requires.engine c.file.ensures c.loop-instruction.invariant.stays.around) c.in-Some.ensures.found c.in-Some.ensures.small
 
 pub run_counted-overflow_add-at : goal.run_counted-overflow_add-at
 run_counted-overflow_add-at g t c =
-    omega (arith, skip_within c.loop-instruction.invariant.progress (here_is g.M.Limit.world c.args.self.now _ _ c.args.blocks.now c.loop-instruction.configuration c.args.configuration.now c.requires.engine c.file.ensures c.loop-instruction.invariant.stays.around) c.in-Some.ensures.found c.in-Some.ensures.count c.in-Ok.ensures.0 c.in-Skip.is, c.in-Some.ensures.small)
+    omega (arith, skip_within c.loop-instruction.invariant.progress (here_is g.O.Objects.engine g.M.Limit.world c.args.self.now _ _ c.args.blocks.now c.loop-instruction.configuration c.args.configuration.now c.requires.engine c.file.ensures c.loop-instruction.invariant.stays.around) c.in-Some.ensures.found c.in-Some.ensures.count c.in-Ok.ensures.0 c.in-Skip.is, c.in-Some.ensures.small)
 
 pub run_counted-overflow_add-at-in-To : goal.run_counted-overflow_add-at-in-To
 run_counted-overflow_add-at-in-To g t c =
-    omega (arith, place_within c.loop-instruction.invariant.progress (here_is g.M.Limit.world c.args.self.now _ _ c.args.blocks.now c.loop-instruction.configuration c.args.configuration.now c.requires.engine c.file.ensures c.loop-instruction.invariant.stays.around) c.in-Some.ensures.found c.in-Some.ensures.count c.in-Ok.ensures.0 c.in-To.is, c.in-Some.ensures.small)
+    omega (arith, place_within c.loop-instruction.invariant.progress (here_is g.O.Objects.engine g.M.Limit.world c.args.self.now _ _ c.args.blocks.now c.loop-instruction.configuration c.args.configuration.now c.requires.engine c.file.ensures c.loop-instruction.invariant.stays.around) c.in-Some.ensures.found c.in-Some.ensures.count c.in-Ok.ensures.0 c.in-To.is, c.in-Some.ensures.small)
 
 pub run_counted-returns-in-Err-clause-bounded : goal.run_counted-returns-in-Err-clause-bounded
 run_counted-returns-in-Err-clause-bounded g t c =
@@ -34,7 +34,7 @@ run_counted-returns-in-Err-clause-bounded g t c =
 
 pub run_counted-returns-in-Err-clause-ends : goal.run_counted-returns-in-Err-clause-ends
 run_counted-returns-in-Err-clause-ends g t c =
-    act_failed c.loop-instruction.invariant.progress (here_is g.M.Limit.world c.args.self.now _ _ c.args.blocks.now c.loop-instruction.configuration c.args.configuration.now c.requires.engine c.file.ensures c.loop-instruction.invariant.stays.around) c.in-Some.ensures.found c.in-Some.ensures.count _ _ c.in-Err.ensures.0
+    act_failed c.loop-instruction.invariant.progress (here_is g.O.Objects.engine g.M.Limit.world c.args.self.now _ _ c.args.blocks.now c.loop-instruction.configuration c.args.configuration.now c.requires.engine c.file.ensures c.loop-instruction.invariant.stays.around) c.in-Some.ensures.found c.in-Some.ensures.count _ _ c.in-Err.ensures.0
 
 pub run_counted-returns-in-Out-clause-bounded : goal.run_counted-returns-in-Out-clause-bounded
 run_counted-returns-in-Out-clause-bounded g t c =
@@ -42,7 +42,7 @@ run_counted-returns-in-Out-clause-bounded g t c =
 
 pub run_counted-returns-in-Out-clause-ends : goal.run_counted-returns-in-Out-clause-ends
 run_counted-returns-in-Out-clause-ends g t c =
-    went_out c.loop-instruction.invariant.progress (here_is g.M.Limit.world c.args.self.now _ _ c.args.blocks.now c.loop-instruction.configuration c.args.configuration.now c.requires.engine c.file.ensures c.loop-instruction.invariant.stays.around) c.in-Some.ensures.found c.in-Some.ensures.count c.in-Ok.ensures.0 c.in-Out.is
+    went_out c.loop-instruction.invariant.progress (here_is g.O.Objects.engine g.M.Limit.world c.args.self.now _ _ c.args.blocks.now c.loop-instruction.configuration c.args.configuration.now c.requires.engine c.file.ensures c.loop-instruction.invariant.stays.around) c.in-Some.ensures.found c.in-Some.ensures.count c.in-Ok.ensures.0 c.in-Out.is
 
 pub run_counted-loop-instruction-smaller-in-On : goal.run_counted-loop-instruction-smaller-in-On
 run_counted-loop-instruction-smaller-in-On g t c =
@@ -58,20 +58,20 @@ run_counted-loop-instruction-smaller-in-To g t c =
 
 pub run_counted-loop-instruction-preserved-in-On : goal.run_counted-loop-instruction-preserved-in-On
 run_counted-loop-instruction-preserved-in-On g t c = record {
-  progress = went_on c.loop-instruction.invariant.progress (here_is g.M.Limit.world c.args.self.now _ _ c.args.blocks.now c.loop-instruction.configuration c.args.configuration.now c.requires.engine c.file.ensures c.loop-instruction.invariant.stays.around) c.in-Some.ensures.found c.in-Some.ensures.count c.in-Ok.ensures.0 c.in-On.is;
-  stays = moved c.step.new.self c.loop-instruction.invariant.stays c.in-Ok.ensures.1.0 c.in-Ok.ensures.1.1 (still (here_of c.args.self.now c.file.result.now c.loop-instruction.configuration) (c.loop-instruction.at + 1) c.in-Some.instruction _ _ _ c.in-Ok.ensures.0);
+  progress = went_on c.loop-instruction.invariant.progress (here_is g.O.Objects.engine g.M.Limit.world c.args.self.now _ _ c.args.blocks.now c.loop-instruction.configuration c.args.configuration.now c.requires.engine c.file.ensures c.loop-instruction.invariant.stays.around) c.in-Some.ensures.found c.in-Some.ensures.count c.in-Ok.ensures.0 c.in-On.is;
+  stays = moved c.step.new.self c.loop-instruction.invariant.stays c.in-Ok.ensures.1.0 c.in-Ok.ensures.1.1 (still (here_of g.O.Objects.engine c.args.self.now c.file.result.now c.loop-instruction.configuration) (c.loop-instruction.at + 1) c.in-Some.instruction _ _ _ c.in-Ok.ensures.0);
 }
 
 pub run_counted-loop-instruction-preserved-in-Skip : goal.run_counted-loop-instruction-preserved-in-Skip
 run_counted-loop-instruction-preserved-in-Skip g t c = record {
-  progress = skipped c.loop-instruction.invariant.progress (here_is g.M.Limit.world c.args.self.now _ _ c.args.blocks.now c.loop-instruction.configuration c.args.configuration.now c.requires.engine c.file.ensures c.loop-instruction.invariant.stays.around) c.in-Some.ensures.found c.in-Some.ensures.count c.in-Ok.ensures.0 c.in-Skip.is;
-  stays = moved c.step.new.self c.loop-instruction.invariant.stays c.in-Ok.ensures.1.0 c.in-Ok.ensures.1.1 (still (here_of c.args.self.now c.file.result.now c.loop-instruction.configuration) (c.loop-instruction.at + 1) c.in-Some.instruction _ _ _ c.in-Ok.ensures.0);
+  progress = skipped c.loop-instruction.invariant.progress (here_is g.O.Objects.engine g.M.Limit.world c.args.self.now _ _ c.args.blocks.now c.loop-instruction.configuration c.args.configuration.now c.requires.engine c.file.ensures c.loop-instruction.invariant.stays.around) c.in-Some.ensures.found c.in-Some.ensures.count c.in-Ok.ensures.0 c.in-Skip.is;
+  stays = moved c.step.new.self c.loop-instruction.invariant.stays c.in-Ok.ensures.1.0 c.in-Ok.ensures.1.1 (still (here_of g.O.Objects.engine c.args.self.now c.file.result.now c.loop-instruction.configuration) (c.loop-instruction.at + 1) c.in-Some.instruction _ _ _ c.in-Ok.ensures.0);
 }
 
 pub run_counted-loop-instruction-preserved-in-To : goal.run_counted-loop-instruction-preserved-in-To
 run_counted-loop-instruction-preserved-in-To g t c = record {
-  progress = went_to c.loop-instruction.invariant.progress (here_is g.M.Limit.world c.args.self.now _ _ c.args.blocks.now c.loop-instruction.configuration c.args.configuration.now c.requires.engine c.file.ensures c.loop-instruction.invariant.stays.around) c.in-Some.ensures.found c.in-Some.ensures.count c.in-Ok.ensures.0 c.in-To.is;
-  stays = moved c.step.new.self c.loop-instruction.invariant.stays c.in-Ok.ensures.1.0 c.in-Ok.ensures.1.1 (still (here_of c.args.self.now c.file.result.now c.loop-instruction.configuration) (c.loop-instruction.at + 1) c.in-Some.instruction _ _ _ c.in-Ok.ensures.0);
+  progress = went_to c.loop-instruction.invariant.progress (here_is g.O.Objects.engine g.M.Limit.world c.args.self.now _ _ c.args.blocks.now c.loop-instruction.configuration c.args.configuration.now c.requires.engine c.file.ensures c.loop-instruction.invariant.stays.around) c.in-Some.ensures.found c.in-Some.ensures.count c.in-Ok.ensures.0 c.in-To.is;
+  stays = moved c.step.new.self c.loop-instruction.invariant.stays c.in-Ok.ensures.1.0 c.in-Ok.ensures.1.1 (still (here_of g.O.Objects.engine c.args.self.now c.file.result.now c.loop-instruction.configuration) (c.loop-instruction.at + 1) c.in-Some.instruction _ _ _ c.in-Ok.ensures.0);
 }
 
 pub run_counted-returns-clause-ends : goal.run_counted-returns-clause-ends
@@ -79,11 +79,11 @@ run_counted-returns-clause-ends g t c =
     finished c.loop-instruction.invariant.progress c.in_default.ensures.found c.in_default.ensures.count
 
 pub run_counted-returns-in-Out-clause-stays : goal.run_counted-returns-in-Out-clause-stays
-run_counted-returns-in-Out-clause-stays g t c = moved c.step.new.self c.loop-instruction.invariant.stays c.in-Ok.ensures.1.0 c.in-Ok.ensures.1.1 (still (here_of c.args.self.now c.file.result.now c.loop-instruction.configuration) (c.loop-instruction.at + 1) c.in-Some.instruction _ _ _ c.in-Ok.ensures.0)
+run_counted-returns-in-Out-clause-stays g t c = moved c.step.new.self c.loop-instruction.invariant.stays c.in-Ok.ensures.1.0 c.in-Ok.ensures.1.1 (still (here_of g.O.Objects.engine c.args.self.now c.file.result.now c.loop-instruction.configuration) (c.loop-instruction.at + 1) c.in-Some.instruction _ _ _ c.in-Ok.ensures.0)
 
 pub run_counted-take-requires : goal.run_counted-take-requires
 run_counted-take-requires g t c κs within =
-    (omega (arith, one_left c.loop-instruction.invariant.progress c.in-Some.ensures.found, c.in-Some.ensures.count, c.loop-instruction.invariant.progress.counted, c.decreases), (within.0, (within.1, (c.requires.engine, (c.requires.linked, at_place (place_same c.args.self.now c.args.chunk.now.file c.args.chunk.now.file refl (moved c.step.new.self c.loop-instruction.invariant.stays c.in-Ok.ensures.1.0 c.in-Ok.ensures.1.1 (still (here_of c.args.self.now c.file.result.now c.loop-instruction.configuration) (c.loop-instruction.at + 1) c.in-Some.instruction _ _ _ c.in-Ok.ensures.0))) (body_within (at_ask c.loop-instruction.invariant.progress (here_is g.M.Limit.world c.args.self.now _ _ c.args.blocks.now c.loop-instruction.configuration c.args.configuration.now c.requires.engine c.file.ensures c.loop-instruction.invariant.stays.around) c.in-Some.ensures.found c.in-Some.ensures.count c.in-Ok.ensures.0 c.in-Ask.is)))))))
+    (omega (arith, one_left c.loop-instruction.invariant.progress c.in-Some.ensures.found, c.in-Some.ensures.count, c.loop-instruction.invariant.progress.counted, c.decreases), (within.0, (within.1.0, (within.1.1, (c.requires.engine, (c.requires.linked, at_place (place_same c.args.self.now c.args.chunk.now.file c.args.chunk.now.file refl (moved c.step.new.self c.loop-instruction.invariant.stays c.in-Ok.ensures.1.0 c.in-Ok.ensures.1.1 (still (here_of g.O.Objects.engine c.args.self.now c.file.result.now c.loop-instruction.configuration) (c.loop-instruction.at + 1) c.in-Some.instruction _ _ _ c.in-Ok.ensures.0))) (body_within (at_ask c.loop-instruction.invariant.progress (here_is g.O.Objects.engine g.M.Limit.world c.args.self.now _ _ c.args.blocks.now c.loop-instruction.configuration c.args.configuration.now c.requires.engine c.file.ensures c.loop-instruction.invariant.stays.around) c.in-Some.ensures.found c.in-Some.ensures.count c.in-Ok.ensures.0 c.in-Ask.is))))))))
 
 pub run_counted-loop-instruction-smaller-in-Ok-take : goal.run_counted-loop-instruction-smaller-in-Ok-take
 run_counted-loop-instruction-smaller-in-Ok-take g t c =
@@ -91,8 +91,8 @@ run_counted-loop-instruction-smaller-in-Ok-take g t c =
 
 pub run_counted-loop-instruction-preserved-in-Ok-take : goal.run_counted-loop-instruction-preserved-in-Ok-take
 run_counted-loop-instruction-preserved-in-Ok-take g t c = record {
-  progress = came_back (at_ask c.loop-instruction.invariant.progress (here_is g.M.Limit.world c.args.self.now _ _ c.args.blocks.now c.loop-instruction.configuration c.args.configuration.now c.requires.engine c.file.ensures c.loop-instruction.invariant.stays.around) c.in-Some.ensures.found c.in-Some.ensures.count c.in-Ok.ensures.0 c.in-Ask.is) _ _ c.in-Ok-take.ensures.counted c.in-Ok-take.ensures.bounded (ends_at (place_same c.args.self.now c.args.chunk.now.file c.args.chunk.now.file refl (moved c.step.new.self c.loop-instruction.invariant.stays c.in-Ok.ensures.1.0 c.in-Ok.ensures.1.1 (still (here_of c.args.self.now c.file.result.now c.loop-instruction.configuration) (c.loop-instruction.at + 1) c.in-Some.instruction _ _ _ c.in-Ok.ensures.0))) c.in-Ok-take.ensures.ends);
-  stays = stays_then (moved c.step.new.self c.loop-instruction.invariant.stays c.in-Ok.ensures.1.0 c.in-Ok.ensures.1.1 (still (here_of c.args.self.now c.file.result.now c.loop-instruction.configuration) (c.loop-instruction.at + 1) c.in-Some.instruction _ _ _ c.in-Ok.ensures.0)) c.in-Ok-take.ensures.stays;
+  progress = came_back (at_ask c.loop-instruction.invariant.progress (here_is g.O.Objects.engine g.M.Limit.world c.args.self.now _ _ c.args.blocks.now c.loop-instruction.configuration c.args.configuration.now c.requires.engine c.file.ensures c.loop-instruction.invariant.stays.around) c.in-Some.ensures.found c.in-Some.ensures.count c.in-Ok.ensures.0 c.in-Ask.is) _ _ c.in-Ok-take.ensures.counted c.in-Ok-take.ensures.bounded (ends_at (place_same c.args.self.now c.args.chunk.now.file c.args.chunk.now.file refl (moved c.step.new.self c.loop-instruction.invariant.stays c.in-Ok.ensures.1.0 c.in-Ok.ensures.1.1 (still (here_of g.O.Objects.engine c.args.self.now c.file.result.now c.loop-instruction.configuration) (c.loop-instruction.at + 1) c.in-Some.instruction _ _ _ c.in-Ok.ensures.0))) c.in-Ok-take.ensures.ends);
+  stays = stays_then (moved c.step.new.self c.loop-instruction.invariant.stays c.in-Ok.ensures.1.0 c.in-Ok.ensures.1.1 (still (here_of g.O.Objects.engine c.args.self.now c.file.result.now c.loop-instruction.configuration) (c.loop-instruction.at + 1) c.in-Some.instruction _ _ _ c.in-Ok.ensures.0)) c.in-Ok-take.ensures.stays;
 }
 
 pub run_counted-returns-in-Err-take-clause-bounded : goal.run_counted-returns-in-Err-take-clause-bounded
@@ -101,11 +101,11 @@ run_counted-returns-in-Err-take-clause-bounded g t c =
 
 pub run_counted-returns-in-Err-take-clause-ends : goal.run_counted-returns-in-Err-take-clause-ends
 run_counted-returns-in-Err-take-clause-ends g t c =
-    take_failed (place_same c.args.self.now c.args.chunk.now.file c.args.chunk.now.file refl (moved c.step.new.self c.loop-instruction.invariant.stays c.in-Ok.ensures.1.0 c.in-Ok.ensures.1.1 (still (here_of c.args.self.now c.file.result.now c.loop-instruction.configuration) (c.loop-instruction.at + 1) c.in-Some.instruction _ _ _ c.in-Ok.ensures.0))) (at_ask c.loop-instruction.invariant.progress (here_is g.M.Limit.world c.args.self.now _ _ c.args.blocks.now c.loop-instruction.configuration c.args.configuration.now c.requires.engine c.file.ensures c.loop-instruction.invariant.stays.around) c.in-Some.ensures.found c.in-Some.ensures.count c.in-Ok.ensures.0 c.in-Ask.is) _ _ _ c.in-Err-take.ensures.counted c.in-Err-take.ensures.ends
+    take_failed (place_same c.args.self.now c.args.chunk.now.file c.args.chunk.now.file refl (moved c.step.new.self c.loop-instruction.invariant.stays c.in-Ok.ensures.1.0 c.in-Ok.ensures.1.1 (still (here_of g.O.Objects.engine c.args.self.now c.file.result.now c.loop-instruction.configuration) (c.loop-instruction.at + 1) c.in-Some.instruction _ _ _ c.in-Ok.ensures.0))) (at_ask c.loop-instruction.invariant.progress (here_is g.O.Objects.engine g.M.Limit.world c.args.self.now _ _ c.args.blocks.now c.loop-instruction.configuration c.args.configuration.now c.requires.engine c.file.ensures c.loop-instruction.invariant.stays.around) c.in-Some.ensures.found c.in-Some.ensures.count c.in-Ok.ensures.0 c.in-Ask.is) _ _ _ c.in-Err-take.ensures.counted c.in-Err-take.ensures.ends
 
 pub run_counted-include-requires : goal.run_counted-include-requires
 run_counted-include-requires g t c κs within =
-    (omega (arith, one_left c.loop-instruction.invariant.progress c.in-Some.ensures.found, c.in-Some.ensures.count, c.loop-instruction.invariant.progress.counted, c.decreases), (within.0, (within.1, (c.requires.engine, (c.requires.linked, at_place (place_same c.args.self.now c.args.chunk.now.file c.args.chunk.now.file refl (moved c.step.new.self c.loop-instruction.invariant.stays c.in-Ok.ensures.1.0 c.in-Ok.ensures.1.1 (still (here_of c.args.self.now c.file.result.now c.loop-instruction.configuration) (c.loop-instruction.at + 1) c.in-Some.instruction _ _ _ c.in-Ok.ensures.0))) (body_within (at_request c.loop-instruction.invariant.progress (here_is g.M.Limit.world c.args.self.now _ _ c.args.blocks.now c.loop-instruction.configuration c.args.configuration.now c.requires.engine c.file.ensures c.loop-instruction.invariant.stays.around) c.in-Some.ensures.found c.in-Some.ensures.count (AnInclude c.in-Include.name.now c.in-Include.span) Written c.in-Ok.ensures.0 c.in-Include.is refl)))))))
+    (omega (arith, one_left c.loop-instruction.invariant.progress c.in-Some.ensures.found, c.in-Some.ensures.count, c.loop-instruction.invariant.progress.counted, c.decreases), (within.0, (within.1.0, (within.1.1, (c.requires.engine, (c.requires.linked, at_place (place_same c.args.self.now c.args.chunk.now.file c.args.chunk.now.file refl (moved c.step.new.self c.loop-instruction.invariant.stays c.in-Ok.ensures.1.0 c.in-Ok.ensures.1.1 (still (here_of g.O.Objects.engine c.args.self.now c.file.result.now c.loop-instruction.configuration) (c.loop-instruction.at + 1) c.in-Some.instruction _ _ _ c.in-Ok.ensures.0))) (body_within (at_request c.loop-instruction.invariant.progress (here_is g.O.Objects.engine g.M.Limit.world c.args.self.now _ _ c.args.blocks.now c.loop-instruction.configuration c.args.configuration.now c.requires.engine c.file.ensures c.loop-instruction.invariant.stays.around) c.in-Some.ensures.found c.in-Some.ensures.count (AnInclude c.in-Include.name.now c.in-Include.span) Written c.in-Ok.ensures.0 c.in-Include.is refl))))))))
 
 pub run_counted-loop-instruction-smaller-in-Ok-include : goal.run_counted-loop-instruction-smaller-in-Ok-include
 run_counted-loop-instruction-smaller-in-Ok-include g t c =
@@ -113,8 +113,8 @@ run_counted-loop-instruction-smaller-in-Ok-include g t c =
 
 pub run_counted-loop-instruction-preserved-in-Ok-include : goal.run_counted-loop-instruction-preserved-in-Ok-include
 run_counted-loop-instruction-preserved-in-Ok-include g t c = record {
-  progress = came_back (at_request c.loop-instruction.invariant.progress (here_is g.M.Limit.world c.args.self.now _ _ c.args.blocks.now c.loop-instruction.configuration c.args.configuration.now c.requires.engine c.file.ensures c.loop-instruction.invariant.stays.around) c.in-Some.ensures.found c.in-Some.ensures.count (AnInclude c.in-Include.name.now c.in-Include.span) Written c.in-Ok.ensures.0 c.in-Include.is refl) _ _ c.in-Ok-include.ensures.counted c.in-Ok-include.ensures.bounded (ends_at (place_same c.args.self.now c.args.chunk.now.file c.args.chunk.now.file refl (moved c.step.new.self c.loop-instruction.invariant.stays c.in-Ok.ensures.1.0 c.in-Ok.ensures.1.1 (still (here_of c.args.self.now c.file.result.now c.loop-instruction.configuration) (c.loop-instruction.at + 1) c.in-Some.instruction _ _ _ c.in-Ok.ensures.0))) c.in-Ok-include.ensures.ends);
-  stays = stays_then (moved c.step.new.self c.loop-instruction.invariant.stays c.in-Ok.ensures.1.0 c.in-Ok.ensures.1.1 (still (here_of c.args.self.now c.file.result.now c.loop-instruction.configuration) (c.loop-instruction.at + 1) c.in-Some.instruction _ _ _ c.in-Ok.ensures.0)) c.in-Ok-include.ensures.stays;
+  progress = came_back (at_request c.loop-instruction.invariant.progress (here_is g.O.Objects.engine g.M.Limit.world c.args.self.now _ _ c.args.blocks.now c.loop-instruction.configuration c.args.configuration.now c.requires.engine c.file.ensures c.loop-instruction.invariant.stays.around) c.in-Some.ensures.found c.in-Some.ensures.count (AnInclude c.in-Include.name.now c.in-Include.span) Written c.in-Ok.ensures.0 c.in-Include.is refl) _ _ c.in-Ok-include.ensures.counted c.in-Ok-include.ensures.bounded (ends_at (place_same c.args.self.now c.args.chunk.now.file c.args.chunk.now.file refl (moved c.step.new.self c.loop-instruction.invariant.stays c.in-Ok.ensures.1.0 c.in-Ok.ensures.1.1 (still (here_of g.O.Objects.engine c.args.self.now c.file.result.now c.loop-instruction.configuration) (c.loop-instruction.at + 1) c.in-Some.instruction _ _ _ c.in-Ok.ensures.0))) c.in-Ok-include.ensures.ends);
+  stays = stays_then (moved c.step.new.self c.loop-instruction.invariant.stays c.in-Ok.ensures.1.0 c.in-Ok.ensures.1.1 (still (here_of g.O.Objects.engine c.args.self.now c.file.result.now c.loop-instruction.configuration) (c.loop-instruction.at + 1) c.in-Some.instruction _ _ _ c.in-Ok.ensures.0)) c.in-Ok-include.ensures.stays;
 }
 
 pub run_counted-returns-in-Err-include-clause-bounded : goal.run_counted-returns-in-Err-include-clause-bounded
@@ -123,11 +123,11 @@ run_counted-returns-in-Err-include-clause-bounded g t c =
 
 pub run_counted-returns-in-Err-include-clause-ends : goal.run_counted-returns-in-Err-include-clause-ends
 run_counted-returns-in-Err-include-clause-ends g t c =
-    take_failed (place_same c.args.self.now c.args.chunk.now.file c.args.chunk.now.file refl (moved c.step.new.self c.loop-instruction.invariant.stays c.in-Ok.ensures.1.0 c.in-Ok.ensures.1.1 (still (here_of c.args.self.now c.file.result.now c.loop-instruction.configuration) (c.loop-instruction.at + 1) c.in-Some.instruction _ _ _ c.in-Ok.ensures.0))) (at_request c.loop-instruction.invariant.progress (here_is g.M.Limit.world c.args.self.now _ _ c.args.blocks.now c.loop-instruction.configuration c.args.configuration.now c.requires.engine c.file.ensures c.loop-instruction.invariant.stays.around) c.in-Some.ensures.found c.in-Some.ensures.count (AnInclude c.in-Include.name.now c.in-Include.span) Written c.in-Ok.ensures.0 c.in-Include.is refl) _ _ _ c.in-Err-include.ensures.counted c.in-Err-include.ensures.ends
+    take_failed (place_same c.args.self.now c.args.chunk.now.file c.args.chunk.now.file refl (moved c.step.new.self c.loop-instruction.invariant.stays c.in-Ok.ensures.1.0 c.in-Ok.ensures.1.1 (still (here_of g.O.Objects.engine c.args.self.now c.file.result.now c.loop-instruction.configuration) (c.loop-instruction.at + 1) c.in-Some.instruction _ _ _ c.in-Ok.ensures.0))) (at_request c.loop-instruction.invariant.progress (here_is g.O.Objects.engine g.M.Limit.world c.args.self.now _ _ c.args.blocks.now c.loop-instruction.configuration c.args.configuration.now c.requires.engine c.file.ensures c.loop-instruction.invariant.stays.around) c.in-Some.ensures.found c.in-Some.ensures.count (AnInclude c.in-Include.name.now c.in-Include.span) Written c.in-Ok.ensures.0 c.in-Include.is refl) _ _ _ c.in-Err-include.ensures.counted c.in-Err-include.ensures.ends
 
 pub run_counted-component-requires : goal.run_counted-component-requires
 run_counted-component-requires g t c κs within =
-    (omega (arith, one_left c.loop-instruction.invariant.progress c.in-Some.ensures.found, c.in-Some.ensures.count, c.loop-instruction.invariant.progress.counted, c.decreases), (within.0, (within.1, (c.requires.engine, (c.requires.linked, at_place (place_same c.args.self.now c.args.chunk.now.file c.args.chunk.now.file refl (moved c.step.new.self c.loop-instruction.invariant.stays c.in-Ok.ensures.1.0 c.in-Ok.ensures.1.1 (still (here_of c.args.self.now c.file.result.now c.loop-instruction.configuration) (c.loop-instruction.at + 1) c.in-Some.instruction _ _ _ c.in-Ok.ensures.0))) (body_within (at_request c.loop-instruction.invariant.progress (here_is g.M.Limit.world c.args.self.now _ _ c.args.blocks.now c.loop-instruction.configuration c.args.configuration.now c.requires.engine c.file.ensures c.loop-instruction.invariant.stays.around) c.in-Some.ensures.found c.in-Some.ensures.count (component_request c.into_inner-asked.result) (component_use c.into_inner-asked.result) c.in-Ok.ensures.0 c.in-Component.is (ap (λ a. Ask (component_request a) (component_use a)) (sym c.into_inner-asked.ensures)))))))))
+    (omega (arith, one_left c.loop-instruction.invariant.progress c.in-Some.ensures.found, c.in-Some.ensures.count, c.loop-instruction.invariant.progress.counted, c.decreases), (within.0, (within.1.0, (within.1.1, (c.requires.engine, (c.requires.linked, at_place (place_same c.args.self.now c.args.chunk.now.file c.args.chunk.now.file refl (moved c.step.new.self c.loop-instruction.invariant.stays c.in-Ok.ensures.1.0 c.in-Ok.ensures.1.1 (still (here_of g.O.Objects.engine c.args.self.now c.file.result.now c.loop-instruction.configuration) (c.loop-instruction.at + 1) c.in-Some.instruction _ _ _ c.in-Ok.ensures.0))) (body_within (at_request c.loop-instruction.invariant.progress (here_is g.O.Objects.engine g.M.Limit.world c.args.self.now _ _ c.args.blocks.now c.loop-instruction.configuration c.args.configuration.now c.requires.engine c.file.ensures c.loop-instruction.invariant.stays.around) c.in-Some.ensures.found c.in-Some.ensures.count (component_request c.into_inner-asked.result) (component_use c.into_inner-asked.result) c.in-Ok.ensures.0 c.in-Component.is (ap (λ a. Ask (component_request a) (component_use a)) (sym c.into_inner-asked.ensures))))))))))
 
 pub run_counted-loop-instruction-smaller : goal.run_counted-loop-instruction-smaller
 run_counted-loop-instruction-smaller g t c =
@@ -135,8 +135,8 @@ run_counted-loop-instruction-smaller g t c =
 
 pub run_counted-loop-instruction-preserved : goal.run_counted-loop-instruction-preserved
 run_counted-loop-instruction-preserved g t c = record {
-  progress = came_back (at_request c.loop-instruction.invariant.progress (here_is g.M.Limit.world c.args.self.now _ _ c.args.blocks.now c.loop-instruction.configuration c.args.configuration.now c.requires.engine c.file.ensures c.loop-instruction.invariant.stays.around) c.in-Some.ensures.found c.in-Some.ensures.count (component_request c.into_inner-asked.result) (component_use c.into_inner-asked.result) c.in-Ok.ensures.0 c.in-Component.is (ap (λ a. Ask (component_request a) (component_use a)) (sym c.into_inner-asked.ensures))) _ _ c.in-Ok-component.ensures.counted c.in-Ok-component.ensures.bounded (ends_at (place_same c.args.self.now c.args.chunk.now.file c.args.chunk.now.file refl (moved c.step.new.self c.loop-instruction.invariant.stays c.in-Ok.ensures.1.0 c.in-Ok.ensures.1.1 (still (here_of c.args.self.now c.file.result.now c.loop-instruction.configuration) (c.loop-instruction.at + 1) c.in-Some.instruction _ _ _ c.in-Ok.ensures.0))) c.in-Ok-component.ensures.ends);
-  stays = stays_then (moved c.step.new.self c.loop-instruction.invariant.stays c.in-Ok.ensures.1.0 c.in-Ok.ensures.1.1 (still (here_of c.args.self.now c.file.result.now c.loop-instruction.configuration) (c.loop-instruction.at + 1) c.in-Some.instruction _ _ _ c.in-Ok.ensures.0)) c.in-Ok-component.ensures.stays;
+  progress = came_back (at_request c.loop-instruction.invariant.progress (here_is g.O.Objects.engine g.M.Limit.world c.args.self.now _ _ c.args.blocks.now c.loop-instruction.configuration c.args.configuration.now c.requires.engine c.file.ensures c.loop-instruction.invariant.stays.around) c.in-Some.ensures.found c.in-Some.ensures.count (component_request c.into_inner-asked.result) (component_use c.into_inner-asked.result) c.in-Ok.ensures.0 c.in-Component.is (ap (λ a. Ask (component_request a) (component_use a)) (sym c.into_inner-asked.ensures))) _ _ c.in-Ok-component.ensures.counted c.in-Ok-component.ensures.bounded (ends_at (place_same c.args.self.now c.args.chunk.now.file c.args.chunk.now.file refl (moved c.step.new.self c.loop-instruction.invariant.stays c.in-Ok.ensures.1.0 c.in-Ok.ensures.1.1 (still (here_of g.O.Objects.engine c.args.self.now c.file.result.now c.loop-instruction.configuration) (c.loop-instruction.at + 1) c.in-Some.instruction _ _ _ c.in-Ok.ensures.0))) c.in-Ok-component.ensures.ends);
+  stays = stays_then (moved c.step.new.self c.loop-instruction.invariant.stays c.in-Ok.ensures.1.0 c.in-Ok.ensures.1.1 (still (here_of g.O.Objects.engine c.args.self.now c.file.result.now c.loop-instruction.configuration) (c.loop-instruction.at + 1) c.in-Some.instruction _ _ _ c.in-Ok.ensures.0)) c.in-Ok-component.ensures.stays;
 }
 
 pub run_counted-returns-in-Err-component-clause-bounded : goal.run_counted-returns-in-Err-component-clause-bounded
@@ -145,14 +145,14 @@ run_counted-returns-in-Err-component-clause-bounded g t c =
 
 pub run_counted-returns-in-Err-component-clause-ends : goal.run_counted-returns-in-Err-component-clause-ends
 run_counted-returns-in-Err-component-clause-ends g t c =
-    take_failed (place_same c.args.self.now c.args.chunk.now.file c.args.chunk.now.file refl (moved c.step.new.self c.loop-instruction.invariant.stays c.in-Ok.ensures.1.0 c.in-Ok.ensures.1.1 (still (here_of c.args.self.now c.file.result.now c.loop-instruction.configuration) (c.loop-instruction.at + 1) c.in-Some.instruction _ _ _ c.in-Ok.ensures.0))) (at_request c.loop-instruction.invariant.progress (here_is g.M.Limit.world c.args.self.now _ _ c.args.blocks.now c.loop-instruction.configuration c.args.configuration.now c.requires.engine c.file.ensures c.loop-instruction.invariant.stays.around) c.in-Some.ensures.found c.in-Some.ensures.count (component_request c.into_inner-asked.result) (component_use c.into_inner-asked.result) c.in-Ok.ensures.0 c.in-Component.is (ap (λ a. Ask (component_request a) (component_use a)) (sym c.into_inner-asked.ensures))) _ _ _ c.in-Err-component.ensures.counted c.in-Err-component.ensures.ends
+    take_failed (place_same c.args.self.now c.args.chunk.now.file c.args.chunk.now.file refl (moved c.step.new.self c.loop-instruction.invariant.stays c.in-Ok.ensures.1.0 c.in-Ok.ensures.1.1 (still (here_of g.O.Objects.engine c.args.self.now c.file.result.now c.loop-instruction.configuration) (c.loop-instruction.at + 1) c.in-Some.instruction _ _ _ c.in-Ok.ensures.0))) (at_request c.loop-instruction.invariant.progress (here_is g.O.Objects.engine g.M.Limit.world c.args.self.now _ _ c.args.blocks.now c.loop-instruction.configuration c.args.configuration.now c.requires.engine c.file.ensures c.loop-instruction.invariant.stays.around) c.in-Some.ensures.found c.in-Some.ensures.count (component_request c.into_inner-asked.result) (component_use c.into_inner-asked.result) c.in-Ok.ensures.0 c.in-Component.is (ap (λ a. Ask (component_request a) (component_use a)) (sym c.into_inner-asked.ensures))) _ _ _ c.in-Err-component.ensures.counted c.in-Err-component.ensures.ends
 
 pub run_counted-returns-clause-stays : goal.run_counted-returns-clause-stays
 run_counted-returns-clause-stays g t c = c.loop-instruction.invariant.stays
 
 pub take-run_counted-requires : goal.take-run_counted-requires
 take-run_counted-requires g t c κs within =
-    (omega (arith, c.decreases), (within.0, (within.1, (c.requires.engine, (c.requires.linked, may_run g.M.Limit.world c.args.self.now c.args.chunk.now.file c.args.asked c.args.blocks.now c.args.configuration.now c.requires.within c.in-Ok.ensures)))))
+    (omega (arith, c.decreases), (within.0, (within.1.0, (within.1.1, (c.requires.engine, (c.requires.linked, may_run g.M.Limit.world c.args.self.now c.args.chunk.now.file c.args.asked c.args.blocks.now c.args.configuration.now c.requires.within c.in-Ok.ensures))))))
 
 pub take-returns-in-Err-run_counted-clause-ends : goal.take-returns-in-Err-run_counted-clause-ends
 take-returns-in-Err-run_counted-clause-ends g t c =
@@ -176,7 +176,7 @@ include-returns-in-Err-clause-ends g t c =
 
 pub include-run_counted-requires : goal.include-run_counted-requires
 include-run_counted-requires g t c κs within =
-    (omega (arith, c.decreases), (within.0, (within.1, (c.requires.engine, (linked_in c.args.self.now c.in_template-machine.result g.M.Limit.world c.in-Ok.found c.requires.linked c.in_template-machine.ensures.template c.in_template-machine.ensures.templates c.in_template-machine.ensures.beside (c.in-Ok.ensures c.args.configuration.now).among, may_begin c.args.configuration.now c.begin_include.new.self (λ v r. refl) c.requires.within (include_entered g.M.Limit.world c.args.self.now c.args.chunk.now.file c.args.name.now c.args.span c.args.blocks.now c.args.configuration.now (c.in-Ok.ensures c.args.configuration.now) c.in_template-machine.result c.in_template-inside.result c.in_template-machine.ensures.template c.in_template-machine.ensures.escapes c.in_template-machine.ensures.depth c.in_template-inside.ensures.names c.in_template-inside.ensures.above c.in_template-inside.ensures.included c.in_ok-outer.ensures.begins))))))
+    (omega (arith, c.decreases), (within.0, (within.1.0, (within.1.1, (ap g.O.Objects.engine c.in_template-machine.ensures.objects ∙ c.requires.engine, (linked_in c.args.self.now c.in_template-machine.result g.M.Limit.world c.in-Ok.found c.requires.linked c.in_template-machine.ensures.template c.in_template-machine.ensures.templates c.in_template-machine.ensures.beside (c.in-Ok.ensures c.args.configuration.now).among, may_begin c.args.configuration.now c.begin_include.new.self (λ v r. refl) c.requires.within (include_entered g.M.Limit.world c.args.self.now c.args.chunk.now.file c.args.name.now c.args.span c.args.blocks.now c.args.configuration.now (c.in-Ok.ensures c.args.configuration.now) c.in_template-machine.result c.in_template-inside.result c.in_template-machine.ensures.template c.in_template-machine.ensures.escapes c.in_template-machine.ensures.depth c.in_template-inside.ensures.names c.in_template-inside.ensures.above c.in_template-inside.ensures.included c.in_ok-outer.ensures.begins)))))))
 
 pub include-returns-in-Err-run_counted-clause-ends : goal.include-returns-in-Err-run_counted-clause-ends
 include-returns-in-Err-run_counted-clause-ends g t c =
@@ -204,7 +204,7 @@ component-returns-in-Err-clause-ends g t c =
 
 pub component-run_counted-requires : goal.component-run_counted-requires
 component-run_counted-requires g t c κs within =
-    (omega (arith, c.decreases), (within.0, (within.1, (c.requires.engine, (linked_alone c.args.self.now c.in_component-machine.result g.M.Limit.world c.requires.linked c.in_component-machine.ensures.alone c.in_component-machine.ensures.templates c.in_component-machine.ensures.beside, may_begin c.args.configuration.now c.begin_component.new.self (λ v r. refl) c.requires.within (call_entered g.M.Limit.world c.args.self.now c.args.chunk.now.file (component_request c.args.asked) (component_use c.args.asked) c.args.blocks.now c.args.configuration.now (c.in-Ok.ensures c.args.blocks.now) c.in_component-machine.result c.new-inside.result c.in_component-machine.ensures.alone c.in_component-machine.ensures.escapes c.in_component-machine.ensures.depth c.new-inside.ensures.names c.new-inside.ensures.above c.new-inside.ensures.included c.in_ok-outer.ensures.begins))))))
+    (omega (arith, c.decreases), (within.0, (within.1.0, (within.1.1, (ap g.O.Objects.engine c.in_component-machine.ensures.objects ∙ c.requires.engine, (linked_alone c.args.self.now c.in_component-machine.result g.M.Limit.world c.requires.linked c.in_component-machine.ensures.alone c.in_component-machine.ensures.templates c.in_component-machine.ensures.beside, may_begin c.args.configuration.now c.begin_component.new.self (λ v r. refl) c.requires.within (call_entered g.M.Limit.world c.args.self.now c.args.chunk.now.file (component_request c.args.asked) (component_use c.args.asked) c.args.blocks.now c.args.configuration.now (c.in-Ok.ensures c.args.blocks.now) c.in_component-machine.result c.new-inside.result c.in_component-machine.ensures.alone c.in_component-machine.ensures.escapes c.in_component-machine.ensures.depth c.new-inside.ensures.names c.new-inside.ensures.above c.new-inside.ensures.included c.in_ok-outer.ensures.begins)))))))
 
 pub component-returns-in-Err-run_counted-clause-ends : goal.component-returns-in-Err-run_counted-clause-ends
 component-returns-in-Err-run_counted-clause-ends g t c =

@@ -1,29 +1,29 @@
 use Rattle.std.proofs.Common.{refl}
 use Rattle.tera_tree.specs.Delimiters.{delimiters_of}
 use Rattle.tera_registry.specs.Batch.{pairs_of}
-use Rattle.tera_registry.proofs.Adds.{copies-rise, add-unread, add-unlinked, add-linked, kept-accepted, kept-placed, kept-linked, kept-chosen}
+use Rattle.tera_registry.proofs.Adds.{copies-rise, add-unread, add-unlinked, add-linked, kept-faultless, kept-placed, kept-linked, kept-chosen}
 use Rattle.tera_registry.proofs.templates.Templates.add.Goals as goal
 
 pub put_all-requires-clause-rises : goal.put_all-requires-clause-rises
-put_all-requires-clause-rises c = copies-rise _ _ c.in_ok-all.ensures.cases.0 c.args.self.now.rises
+put_all-requires-clause-rises g c = copies-rise _ _ c.in_ok-all.ensures.cases.0 c.args.self.now.rises
 
 pub returns-in-Err : goal.returns-in-Err
-returns-in-Err c = λ r same.
+returns-in-Err g c = λ r same of.
     (add-unread r (delimiters_of c.args.delimiters.now) (pairs_of c.args.batch.now) c.args.self.now.all.items c.in_ok-all.all.items c.args.self.now.prefixes.items same c.in_ok-all.ensures.cases.0 c.in-Err.refusal c.in-Err.ensures.answer, refl)
 
 pub returns-in-Err-link : goal.returns-in-Err-link
-returns-in-Err-link c = λ r same.
-    (add-unlinked r (delimiters_of c.args.delimiters.now) (pairs_of c.args.batch.now) c.args.self.now.all.items c.in_ok-all.all.items c.args.self.now.prefixes.items same c.in_ok-all.ensures.cases.0 c.put_all.new.templates.items _ _ c.as_slice.ensures.value c.as_slice-2.ensures.value c.in-Ok.ensures.answer c.in-Err-link.fault c.in-Err-link.ensures.answer, refl)
+returns-in-Err-link g c = λ r same of.
+    (add-unlinked r (delimiters_of c.args.delimiters.now) (pairs_of c.args.batch.now) c.args.self.now.all.items c.in_ok-all.all.items c.args.self.now.prefixes.items same c.in_ok-all.ensures.cases.0 (g.O.Objects.engine c.args.objects.now) c.put_all.new.templates.items _ _ of c.as_slice.ensures.value c.as_slice-2.ensures.value c.in-Ok.ensures.answer c.in-Err-link.fault c.in-Err-link.ensures.answer, refl)
 
 pub invariant_of-self : goal.invariant_of-self
-invariant_of-self c = record {
+invariant_of-self g c = record {
   rises = c.in-Ok.ensures.rises;
-  accepted = kept-accepted c.put_all.new.templates.items _ c.args.self.now.prefixes.items _ c.as_slice.ensures.value c.as_slice-2.ensures.value c.in-Ok-link.ensures.answer;
-  placed = kept-placed c.put_all.new.templates.items _ c.args.self.now.prefixes.items _ c.as_slice.ensures.value c.as_slice-2.ensures.value _ c.in-Ok-link.ensures.ups;
-  linked = kept-linked c.put_all.new.templates.items _ c.args.self.now.prefixes.items _ c.as_slice.ensures.value c.as_slice-2.ensures.value _ c.in-Ok-link.ensures.roots;
-  chosen = kept-chosen c.put_all.new.templates.items _ c.args.self.now.prefixes.items _ c.as_slice.ensures.value c.as_slice-2.ensures.value c.in-Ok-link.links.choices c.in-Ok-link.ensures.choices;
+  faultless = kept-faultless (g.O.Objects.engine c.args.objects.now) c.put_all.new.templates.items _ c.args.self.now.prefixes.items _ c.as_slice.ensures.value c.as_slice-2.ensures.value c.in-Ok-link.ensures.answer;
+  placed = kept-placed (g.O.Objects.engine c.args.objects.now) c.put_all.new.templates.items _ c.args.self.now.prefixes.items _ c.as_slice.ensures.value c.as_slice-2.ensures.value _ c.in-Ok-link.ensures.ups;
+  linked = kept-linked (g.O.Objects.engine c.args.objects.now) c.put_all.new.templates.items _ c.args.self.now.prefixes.items _ c.as_slice.ensures.value c.as_slice-2.ensures.value _ c.in-Ok-link.ensures.roots;
+  chosen = kept-chosen (g.O.Objects.engine c.args.objects.now) c.put_all.new.templates.items _ c.args.self.now.prefixes.items _ c.as_slice.ensures.value c.as_slice-2.ensures.value c.in-Ok-link.links.choices c.in-Ok-link.ensures.choices;
 }
 
 pub returns : goal.returns
-returns c = λ r same.
-    add-linked r (delimiters_of c.args.delimiters.now) (pairs_of c.args.batch.now) c.args.self.now.all.items c.in_ok-all.all.items c.args.self.now.prefixes.items same c.in_ok-all.ensures.cases.0 c.put_all.new.templates.items _ _ c.as_slice.ensures.value c.as_slice-2.ensures.value c.in-Ok.ensures.answer c.in-Ok-link.ensures.answer
+returns g c = λ r same of.
+    add-linked r (delimiters_of c.args.delimiters.now) (pairs_of c.args.batch.now) c.args.self.now.all.items c.in_ok-all.all.items c.args.self.now.prefixes.items same c.in_ok-all.ensures.cases.0 (g.O.Objects.engine c.args.objects.now) c.put_all.new.templates.items _ _ of c.as_slice.ensures.value c.as_slice-2.ensures.value c.in-Ok.ensures.answer c.in-Ok-link.ensures.answer

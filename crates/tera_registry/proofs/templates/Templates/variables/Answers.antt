@@ -1,17 +1,16 @@
-use Rattle.std.proofs.Common.{Some, refl, sym, ap, ◌∙◌}
+use Rattle.std.proofs.Common.{◌∙◌}
 use Rattle.tera_registry.specs.Kept.{entries_of}
-use Rattle.tera_registry.specs.Templates.{with_templates}
 use Rattle.tera_registry.proofs.Element.{element}
 use Rattle.tera_registry.proofs.Wanted.{lent-grounded, lent-uncircled, answers-found, answers-none}
 use Rattle.tera_registry.proofs.templates.Templates.variables.Goals as goal
 
 pub variables-requires-clause-grounded : goal.variables-requires-clause-grounded
 variables-requires-clause-grounded c =
-    lent-grounded c.args.self.now.all.items c.as_slice-all.result.now c.args.self.now.prefixes.items c.as_slice-prefixes.result.now c.as_slice-all.ensures.value c.as_slice-prefixes.ensures.value c.args.self.now.accepted
+    lent-grounded c.args.self.now.all.items c.as_slice-all.result.now c.args.self.now.prefixes.items c.as_slice-prefixes.result.now c.as_slice-all.ensures.value c.as_slice-prefixes.ensures.value c.args.self.now.faultless
 
 pub variables-requires-clause-uncircled : goal.variables-requires-clause-uncircled
 variables-requires-clause-uncircled c =
-    lent-uncircled c.args.self.now.all.items c.as_slice-all.result.now c.args.self.now.prefixes.items c.as_slice-prefixes.result.now c.as_slice-all.ensures.value c.as_slice-prefixes.ensures.value c.args.self.now.accepted
+    lent-uncircled c.args.self.now.all.items c.as_slice-all.result.now c.args.self.now.prefixes.items c.as_slice-prefixes.result.now c.as_slice-all.ensures.value c.as_slice-prefixes.ensures.value c.args.self.now.faultless
 
 pub returns-in-Some : goal.returns-in-Some
 returns-in-Some c = λ r.

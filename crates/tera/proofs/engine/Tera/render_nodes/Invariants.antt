@@ -1,4 +1,0 @@
-use Rattle.tera.proofs.engine.Tera.render_nodes.Given as goal
-
-abbrev pub ghost-run_body : goal.ghost-run_body
-ghost-run_body g a = g.about

@@ -1,0 +1,39 @@
+use Rattle.std.proofs.Common.{Global, map, None, Result, string_bytes, refl, sym, ap, ◌∙◌, subst}
+use Rattle.tera_errors.specs.Site.{Text}
+use Rattle.tera_errors.specs.Fault.{Fault}
+use Rattle.tera_errors.specs.Answer.{Gives}
+use Rattle.tera_tree.specs.Tree.{Tree}
+use Rattle.tera_tree.specs.View.{nodes_of}
+use Rattle.tera_meaning.specs.Components.{one_off_name}
+use Rattle.tera_meaning.specs.Known.{lacks_a_callee}
+use Rattle.tera_meaning.specs.Accepted.{misses_an_include}
+use Rattle.tera_code.specs.Listing.{Listing}
+use Rattle.tera_registry.specs.Components.{kept_of}
+use Rattle.tera_machine.specs.Subject.{Subject}
+use Rattle.tera.specs.Registry.{registry_of, is_there}
+use Rattle.tera.proofs.Renders.{lacking-says, missing-says, nothing-missing}
+use Rattle.tera.proofs.engine.TeraOver.render_nodes.Goals as goal
+
+pub returns-then-lacks_a_callee : goal.returns-then-lacks_a_callee
+returns-then-lacks_a_callee g c =
+    let code = ap (λ (l : Listing). l.code) c.in_ok-chunk.ensures.ok in
+    let own = ap (map kept_of) c.as_slice.ensures.value ∙ c.in_ok-own.ensures.ok in
+    let lacks = c.lacks_a_callee.ensures (registry_of g.O.Objects.engine c.args.self.now) (let tree : Tree = record { parent = None; nodes = nodes_of c.args.nodes.now } in tree) one_off_name refl code own c.requires.1.1.1.1 in
+    let same = ap (λ (s : Subject). lacks_a_callee s.world.registry.engine (is_there s.world) s.tree) c.requires.1.1.1.0 in
+    lacking-says g.about c.message.result (same ∙ sym lacks ∙ c.if-lacks_a_callee.true) c.message.ensures
+
+pub returns-then-misses_an_include : goal.returns-then-misses_an_include
+returns-then-misses_an_include g c =
+    let same = ap (λ (s : Subject). misses_an_include s.world.registry s.tree) c.requires.1.1.1.0 in
+    let missing = same ∙ sym (c.misses_an_include.ensures (registry_of g.O.Objects.engine c.args.self.now)) ∙ c.if-misses_an_include.true in
+    missing-says g.about c.message-then-misses_an_include.result missing c.message-then-misses_an_include.ensures
+
+pub returns : goal.returns
+returns g c =
+    let code = ap (λ (l : Listing). l.code) c.in_ok-chunk.ensures.ok in
+    let own = ap (map kept_of) c.as_slice.ensures.value ∙ c.in_ok-own.ensures.ok in
+    let lacks = c.lacks_a_callee.ensures (registry_of g.O.Objects.engine c.args.self.now) (let tree : Tree = record { parent = None; nodes = nodes_of c.args.nodes.now } in tree) one_off_name refl code own c.requires.1.1.1.1 in
+    let known = ap (λ (s : Subject). lacks_a_callee s.world.registry.engine (is_there s.world) s.tree) c.requires.1.1.1.0 ∙ sym lacks ∙ c.if-lacks_a_callee.false in
+    let there = ap (λ (s : Subject). misses_an_include s.world.registry s.tree) c.requires.1.1.1.0 ∙ sym (c.misses_an_include.ensures (registry_of g.O.Objects.engine c.args.self.now)) ∙ c.if-misses_an_include.false in
+    let P : Result Text Fault → Type 0 = Gives (string_bytes {Z = Global}) c.run_body.result in
+    subst P (nothing-missing g.about known there) c.run_body.ensures

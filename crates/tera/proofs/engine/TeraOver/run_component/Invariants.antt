@@ -1,0 +1,4 @@
+use Rattle.tera.proofs.engine.TeraOver.run_component.Given as goal
+
+abbrev pub ghost-run_within : goal.ghost-run_within
+ghost-run_within g a = g.about

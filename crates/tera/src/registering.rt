@@ -1,0 +1,76 @@
+// The caller's filters, tests, functions and escape.
+ghost use Rattle.std.specs.Prelude.{◌≡◌, Ok};
+ghost use Rattle.tera_values.specs.Escape.{escape_html};
+ghost use Rattle.tera_objects.specs.Engine.{with_escape, with_filter, with_test, with_function};
+ghost use Rattle.tera_objects.specs.Kept.{Meanings, engine_of};
+ghost use Rattle.tera.specs.Configuring.{Configures};
+ghost use Rattle.tera.specs.Registering.{with_engine, MovesFrom};
+
+use crate::engine::TeraOver;
+use std::mem::replace;
+use tera_objects::ObjectsOver;
+use tera_values::TeraResult;
+
+/// `Tera` is such an engine, at boxes: its escape is a `Box<dyn EscapeFn>`, its filters are `Box<dyn Filter>`, its tests `Box<dyn Test>`
+/// and its functions `Box<dyn Function>`. The contracts hold whatever the objects mean.
+impl<E: Drop, F: Drop, T: Drop, G: Drop> TeraOver<ObjectsOver<E, F, T, G>> {
+    ghost use Rattle.tera.specs.Registry.{registry_of};
+
+    /// Texts are escaped by this from now on, also in templates that are there. The escape of before is dropped. Takes no memory.
+    pub fn set_escape_fn(&mut self, escape: E)
+        ensures { (m : Meanings E F T G) → registry_of (engine_of m) self.new
+            ≡ with_engine (with_escape (m.escape escape)) (registry_of (engine_of m) self.old) }
+    {
+        self.objects.set_escape_fn(escape);
+    }
+
+    /// Texts are escaped by `escape_html` from now on. The escape of before is dropped. Takes no memory.
+    pub fn reset_escape_fn(&mut self)
+        ensures { (m : Meanings E F T G) → registry_of (engine_of m) self.new
+            ≡ with_engine (with_escape escape_html) (registry_of (engine_of m) self.old) }
+    {
+        self.objects.reset_escape_fn();
+    }
+
+    /// The name stands for this filter from now on, also in templates that are there; a filter of the caller that it stood for is
+    /// dropped. Want of memory leaves all as it was, and drops this one.
+    pub fn register_filter(&mut self, name: &str, filter: F) -> TeraResult<()>
+        ensures { (m : Meanings E F T G) → let seen = registry_of (engine_of m) in
+            Configures result
+            (Ok (with_engine (with_filter name.now (m.filter filter)) (seen self.old)))
+            (seen self.old) (seen self.new) }
+    {
+        self.objects.register_filter(name, filter)
+    }
+
+    /// The name stands for this test from now on, as for a filter.
+    pub fn register_test(&mut self, name: &str, test: T) -> TeraResult<()>
+        ensures { (m : Meanings E F T G) → let seen = registry_of (engine_of m) in
+            Configures result
+            (Ok (with_engine (with_test name.now (m.test test)) (seen self.old)))
+            (seen self.old) (seen self.new) }
+    {
+        self.objects.register_test(name, test)
+    }
+
+    /// The name stands for this function from now on, as for a filter.
+    pub fn register_function(&mut self, name: &str, function: G) -> TeraResult<()>
+        ensures { (m : Meanings E F T G) → let seen = registry_of (engine_of m) in
+            Configures result
+            (Ok (with_engine (with_function name.now (m.function function)) (seen self.old)))
+            (seen self.old) (seen self.new) }
+    {
+        self.objects.register_function(name, function)
+    }
+
+    /// Moves the other engine's filters here, then its tests, then its functions, each in byte order of their names, but those whose
+    /// names stand for something here. After want of memory those that were moved stay. The rest of the other is dropped.
+    pub fn register_from(&mut self, other: TeraOver<ObjectsOver<E, F, T, G>>) -> TeraResult<()>
+        ensures { (m : Meanings E F T G) → let seen = registry_of (engine_of m) in
+            MovesFrom result (seen other).engine (seen self.old) (seen self.new) }
+    {
+        let mut other = other;
+        let objects = replace(&mut other.objects, ObjectsOver::new(self.alloc));
+        self.objects.register_from(objects)
+    }
+}

@@ -1,0 +1,10 @@
+use Rattle.tera_calls.proofs.boxed.register_function.Goals as goal
+
+pub returns : goal.returns
+returns g c =
+    c.register_function.ensures (record {
+      escape = λ b. (goal.EscapeFn-dyn g (b.vtable, b.value)).escaped b.value;
+      filter = λ b. record { meaning = (goal.Filter-dyn g (b.vtable, b.value)).meaning b.value; safe = (goal.Filter-dyn g (b.vtable, b.value)).safe b.value };
+      test = λ b. record { meaning = (goal.Test-dyn g (b.vtable, b.value)).meaning b.value };
+      function = λ b. record { meaning = (goal.Function-dyn g (b.vtable, b.value)).meaning b.value; safe = (goal.Function-dyn g (b.vtable, b.value)).safe b.value };
+    })

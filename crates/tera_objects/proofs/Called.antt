@@ -1,0 +1,116 @@
+-- Calls with values of bytes.
+use Rattle.std.proofs.Common.{◌≡◌, ◌||◌, is_some, Bool, List, [], ◌∷◌, Option, Some, None, option_map, Result, refl, sym, ap, ap₂, subst, ◌∙◌}
+use Rattle.tera_errors.specs.Fault.{Fault}
+use Rattle.tera_errors.specs.Answer.{Refusal, Gives}
+use Rattle.tera_values.specs.Alphabet.{plain}
+use Rattle.tera_errors.specs.Site.{Name}
+use Rattle.tera_values.specs.Named.{Named, at_name}
+use Rattle.tera_values.specs.Val.{Val}
+use Rattle.tera_built_ins.specs.declared.filter.BuiltInFilter.{BuiltInFilter}
+use Rattle.tera_built_ins.specs.declared.test.BuiltInTest.{BuiltInTest}
+use Rattle.tera_built_ins.specs.declared.function.BuiltInFunction.{BuiltInFunction}
+use Rattle.tera_built_ins.specs.Escaping.{escape_or_html}
+use Rattle.tera_built_ins.specs.Filters.{filter_named, filter_in, filtered_in}
+use Rattle.tera_built_ins.specs.TestTable.{test_named, test_in, tested_in}
+use Rattle.tera_built_ins.specs.FunctionTable.{function_named, function_in, called_in}
+use Rattle.tera_state.specs.Scope.{Around, Variables}
+use Rattle.tera_state.specs.View.{View, Standing, view_at, filters_left, escaping_in}
+use Rattle.tera_objects.specs.Calling.{answer_of, all_bare, seen_in, filter_called, test_called, function_called, filtered_by, tested_by, called_by}
+use Rattle.tera_objects.specs.Engine.{OwnFilter, OwnTest, OwnFunction, own_or_built_in}
+use Rattle.tera_objects.specs.Kept.{Meanings, each, engine_of}
+use Rattle.tera_objects.specs.Table.{listed}
+use Rattle.tera_objects.specs.declared.over.ObjectsOver.{ObjectsOver}
+use Rattle.tera_objects.proofs.Each.{at-each, is_some-map}
+use Rattle.tera_objects.proofs.Taken.{left}
+
+-- values of bytes have no marks
+pub all_bare-plain : (given : Named Val) → all_bare plain given ≡ given
+all_bare-plain [] = refl
+all_bare-plain (e ∷ es) = ap (λ (l : Named Val). e ∷ l) (all_bare-plain es)
+
+-- where the caller has nothing of the name
+module _ (view : View) (given : Named Val) where
+  pub built_in-filter : (v : Val) (f : Option BuiltInFilter) → filter_called plain view (own_or_built_in None f) v given ≡ filter_in plain (escaping_in view) f v given
+  built_in-filter v None = refl
+  built_in-filter v (Some f) = refl
+
+  pub built_in-test : (v : Val) (t : Option BuiltInTest) → test_called plain view (own_or_built_in None t) v given ≡ test_in plain t v given
+  built_in-test v None = refl
+  built_in-test v (Some t) = refl
+
+  pub built_in-function : (f : Option BuiltInFunction) → function_called plain view (own_or_built_in None f) given ≡ function_in plain f given
+  built_in-function None = refl
+  built_in-function (Some f) = refl
+
+-- whether a name stands for something
+pub either-there : {O B : Type 0} (o : Option O) (b : Option B) → is_some (own_or_built_in o b) ≡ (is_some b || is_some o)
+either-there (Some o) (Some b) = refl
+either-there (Some o) None = refl
+either-there None (Some b) = refl
+either-there None None = refl
+
+pub known-by : {A O B : Type 0} (meaning : A → O) (n : Name) (here : Named A) (b : Option B) → is_some (own_or_built_in (at_name n (each meaning here)) b) ≡ (is_some b || is_some (at_name n here))
+known-by meaning n here b =
+    either-there (at_name n (each meaning here)) b
+    ∙ ap (λ t. is_some b || t) (ap is_some (at-each meaning n here) ∙ is_some-map meaning (at_name n here))
+
+-- what calls answer where the scopes are these
+module _ {E F T G : Type 0} (m : Meanings E F T G) (o : ObjectsOver E F T G) (around : Around) (variables : Variables) (autoescape : Bool) where
+  -- the view there
+  abbrev here : View
+  here = seen_in plain (engine_of m o) around variables autoescape
+
+  -- and as it is lent
+  abbrev lent : List Name → View
+  lent taken = view_at around variables autoescape (escape_or_html m.escape o.escape) (filters_left (Some taken))
+
+  lent-here : {s : View} {taken : List Name} → s ≡ lent taken → taken ≡ o.filters.taken.items → s ≡ here
+  lent-here same names =
+      same ∙ ap lent names
+      ∙ ap (λ (standing : Standing). view_at around variables autoescape (escape_or_html m.escape o.escape) standing) (left m.filter o.filters.taken.items (listed o.filters.table) o.filters.are_taken)
+
+  module _ (name : Name) (given : Named Val) where
+    module _ (v : Val) (result : Result Val Refusal) where
+      pub own-filter : {s : View} {taken : List Name} {f : F} → s ≡ lent taken → taken ≡ o.filters.taken.items → Some f ≡ at_name name (listed o.filters.table)
+          → Gives (λ (a : Val). a) result (answer_of (m.filter f).safe ((m.filter f).meaning v given s)) → Gives (λ (a : Val). a) result (filtered_by plain (engine_of m o) here name v given)
+      own-filter {s} {taken} {f} same names there gives =
+          subst (λ (meant : Result Val Fault). Gives (λ (a : Val). a) result meant)
+          (ap₂ (λ (w : View) (l : Named Val). answer_of (m.filter f).safe ((m.filter f).meaning v l w)) (lent-here same names) (sym (all_bare-plain given))
+          ∙ ap (λ (x : Option OwnFilter). filter_called plain here (own_or_built_in x (filter_named name)) v given) (ap (option_map m.filter) there ∙ sym (at-each m.filter name (listed o.filters.table))))
+          gives
+
+      pub no-own-filter : at_name name (listed o.filters.table) ≡ None → Gives (λ (a : Val). a) result (filtered_in plain (escaping_in here) name v given) → Gives (λ (a : Val). a) result (filtered_by plain (engine_of m o) here name v given)
+      no-own-filter absent gives =
+          subst (λ (meant : Result Val Fault). Gives (λ (a : Val). a) result meant)
+          (sym (ap (λ (x : Option OwnFilter). filter_called plain here (own_or_built_in x (filter_named name)) v given) (at-each m.filter name (listed o.filters.table) ∙ ap (option_map m.filter) absent) ∙ built_in-filter here given v (filter_named name)))
+          gives
+
+    module _ (v : Val) (result : Result Bool Refusal) where
+      pub own-test : {s : View} {taken : List Name} {t : T} → s ≡ lent taken → taken ≡ o.filters.taken.items → Some t ≡ at_name name (listed o.tests)
+          → Gives (λ (b : Bool). b) result ((m.test t).meaning v given s) → Gives (λ (b : Bool). b) result (tested_by plain (engine_of m o) here name v given)
+      own-test {s} {taken} {t} same names there gives =
+          subst (λ (meant : Result Bool Fault). Gives (λ (b : Bool). b) result meant)
+          (ap₂ (λ (w : View) (l : Named Val). (m.test t).meaning v l w) (lent-here same names) (sym (all_bare-plain given))
+          ∙ ap (λ (x : Option OwnTest). test_called plain here (own_or_built_in x (test_named name)) v given) (ap (option_map m.test) there ∙ sym (at-each m.test name (listed o.tests))))
+          gives
+
+      pub no-own-test : at_name name (listed o.tests) ≡ None → Gives (λ (b : Bool). b) result (tested_in plain name v given) → Gives (λ (b : Bool). b) result (tested_by plain (engine_of m o) here name v given)
+      no-own-test absent gives =
+          subst (λ (meant : Result Bool Fault). Gives (λ (b : Bool). b) result meant)
+          (sym (ap (λ (x : Option OwnTest). test_called plain here (own_or_built_in x (test_named name)) v given) (at-each m.test name (listed o.tests) ∙ ap (option_map m.test) absent) ∙ built_in-test here given v (test_named name)))
+          gives
+
+    module _ (result : Result Val Refusal) where
+      pub own-function : {s : View} {taken : List Name} {f : G} → s ≡ lent taken → taken ≡ o.filters.taken.items → Some f ≡ at_name name (listed o.functions)
+          → Gives (λ (a : Val). a) result (answer_of (m.function f).safe ((m.function f).meaning given s)) → Gives (λ (a : Val). a) result (called_by plain (engine_of m o) here name given)
+      own-function {s} {taken} {f} same names there gives =
+          subst (λ (meant : Result Val Fault). Gives (λ (a : Val). a) result meant)
+          (ap₂ (λ (w : View) (l : Named Val). answer_of (m.function f).safe ((m.function f).meaning l w)) (lent-here same names) (sym (all_bare-plain given))
+          ∙ ap (λ (x : Option OwnFunction). function_called plain here (own_or_built_in x (function_named name)) given) (ap (option_map m.function) there ∙ sym (at-each m.function name (listed o.functions))))
+          gives
+
+      pub no-own-function : at_name name (listed o.functions) ≡ None → Gives (λ (a : Val). a) result (called_in plain name given) → Gives (λ (a : Val). a) result (called_by plain (engine_of m o) here name given)
+      no-own-function absent gives =
+          subst (λ (meant : Result Val Fault). Gives (λ (a : Val). a) result meant)
+          (sym (ap (λ (x : Option OwnFunction). function_called plain here (own_or_built_in x (function_named name)) given) (at-each m.function name (listed o.functions) ∙ ap (option_map m.function) absent) ∙ built_in-function here given (function_named name)))
+          gives

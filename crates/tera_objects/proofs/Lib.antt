@@ -1,0 +1,5 @@
+pub mod Listed
+pub mod Each
+pub mod Taken
+pub mod Called
+pub mod Registered

@@ -1,0 +1,49 @@
+-- What an engine means when something was registered.
+use Rattle.std.proofs.Common.{◌≡◌, ℕ, take, ap, ◌∙◌, Result, Ok, Err, OnOk, OnErr, Bool}
+use Rattle.tera_errors.specs.Site.{Name, Text}
+use Rattle.tera_values.specs.Named.{Named, put}
+use Rattle.tera_objects.specs.Engine.{Engine, OwnFilter, OwnTest, OwnFunction, with_filter, with_test, with_function}
+use Rattle.tera_objects.specs.Kept.{each}
+use Rattle.tera_objects.specs.Table.{moved}
+use Rattle.tera_objects.proofs.Each.{each-put, each-take, each-moved}
+
+-- what follows where something was done, or was refused
+pub on_ok : {T E P Q : Type 0} (r : Result T E) → (P → Q) → OnOk r P → OnOk r Q
+on_ok (Ok x) go h = go h
+on_ok (Err e) go h = tt
+
+pub on_err : {T E P Q : Type 0} (r : Result T E) → (P → Q) → OnErr r P → OnErr r Q
+on_err (Ok x) go h = tt
+on_err (Err e) go h = go h
+
+pub where_err : {T E P : Type 0} (r : Result T E) → P → OnErr r P
+where_err (Ok x) p = tt
+where_err (Err e) p = p
+
+-- an engine of these, and one of others in place of one kind
+abbrev pub engine : (Text → Text) → Named OwnFilter → Named OwnTest → Named OwnFunction → Engine
+engine escape filters tests functions =
+    record { escape = escape; filters = filters; tests = tests; functions = functions }
+
+module _ {F : Type 0} (escape : Text → Text) (filters : Named OwnFilter) (tests : Named OwnTest) (functions : Named OwnFunction) where
+  pub filter-put : (meaning : F → OwnFilter) (n : Name) (f : F) (old new : Named F) → new ≡ put n f old
+      → engine escape (each meaning new) tests functions ≡ with_filter n (meaning f) (engine escape (each meaning old) tests functions)
+  filter-put meaning n f old new h = ap (λ l. engine escape l tests functions) (ap (each meaning) h ∙ each-put meaning n f old)
+
+  pub test-put : (meaning : F → OwnTest) (n : Name) (f : F) (old new : Named F) → new ≡ put n f old
+      → engine escape filters (each meaning new) functions ≡ with_test n (meaning f) (engine escape filters (each meaning old) functions)
+  test-put meaning n f old new h = ap (λ l. engine escape filters l functions) (ap (each meaning) h ∙ each-put meaning n f old)
+
+  pub function-put : (meaning : F → OwnFunction) (n : Name) (f : F) (old new : Named F) → new ≡ put n f old
+      → engine escape filters tests (each meaning new) ≡ with_function n (meaning f) (engine escape filters tests (each meaning old))
+  function-put meaning n f old new h = ap (λ l. engine escape filters tests l) (ap (each meaning) h ∙ each-put meaning n f old)
+
+-- what was moved means what is moved of the meanings
+module _ {F O : Type 0} (meaning : F → O) (stands : Name → Bool) (old others new : Named F) where
+  pub all-moved : new ≡ moved stands old others → each meaning new ≡ moved stands (each meaning old) (each meaning others)
+  all-moved h = ap (each meaning) h ∙ each-moved meaning stands old others
+
+  pub some-moved : (k : ℕ) → new ≡ moved stands old (take k others) → each meaning new ≡ moved stands (each meaning old) (take k (each meaning others))
+  some-moved k h =
+      ap (each meaning) h ∙ each-moved meaning stands old (take k others)
+      ∙ ap (λ l. moved stands (each meaning old) l) (each-take meaning k others)

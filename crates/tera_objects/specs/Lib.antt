@@ -1,0 +1,6 @@
+pub mod Engine
+pub mod Calling
+pub mod Table
+pub mod Taken
+pub mod Kept
+pub mod Moving

@@ -1,0 +1,165 @@
+// The caller's boxes, and what they are lent.
+ghost use Rattle.std.specs.Prelude.{◌≡◌, ◌++◌, Some, string_bytes, OnOk, OnErr, IfErr};
+ghost use Rattle.tera_errors.specs.Answer.{Gives, Lacks};
+ghost use Rattle.tera_values.specs.Alphabet.{plain};
+ghost use Rattle.tera_built_ins.specs.Filters.{filtered_in};
+ghost use Rattle.tera_built_ins.specs.TestTable.{tested_in};
+ghost use Rattle.tera_built_ins.specs.FunctionTable.{called_in};
+ghost use Rattle.tera_state.specs.Rendered.{rendered};
+ghost use Rattle.tera_built_ins.specs.Escaping.{escape_or_html};
+ghost use Rattle.tera_state.specs.View.{view_of, view_at, filters_left};
+ghost use Rattle.tera_state.specs.Scopes.{around_of, variables_of};
+ghost use Rattle.tera_objects.specs.Calling.{answer_of};
+
+use crate::marked::marked_if;
+use std::alloc::Global;
+use tera_built_ins::{BuiltInFilter, BuiltInFunction, BuiltInTest, EscapeFn, Escaping};
+use tera_state::{Filter, Function, Scopes, State, StateOver, Test, write_value};
+use tera_values::{Error, Kwargs, Name, TeraResult, Value};
+
+/// The state that an object sees: the scopes, the escape, and the built-in filters but those whose names are taken.
+pub(crate) fn lent<'a, 'c>(
+    escape: &'a Option<Box<dyn EscapeFn>>,
+    taken: &'a [Name],
+    scopes: &'a Scopes<'c>,
+    autoescape: bool,
+) -> StateOver<'a, 'c, &'a dyn EscapeFn>
+    ensures { view_of (λ e. escaped e.now) result
+        ≡ view_at (around_of scopes.now) (variables_of scopes.now) autoescape
+        (escape_or_html (λ b. (⟦<dyn EscapeFn as EscapeFn>⟧ b.vtable).escaped b.value) escape.now)
+        (filters_left (Some taken.now)) }
+{
+    match escape {
+        Some(escape) => scopes.state(autoescape, Some(&**escape), Some(taken)),
+        None => scopes.state(autoescape, None, Some(taken)),
+    }
+}
+
+// The escape as it is lent to what is built in.
+fn lent_escape<'a>(escape: &'a Option<Box<dyn EscapeFn>>) -> Option<&'a dyn EscapeFn>
+    ensures { escape_or_html (λ e. escaped e.now) result
+        ≡ escape_or_html (λ b. (⟦<dyn EscapeFn as EscapeFn>⟧ b.vtable).escaped b.value) escape.now }
+{
+    match escape {
+        Some(escape) => Some(&**escape),
+        None => None,
+    }
+}
+
+/// Puts a value behind a text: its printed text, escaped by this where texts are escaped and the value is not safe.
+pub(crate) fn write_by(
+    escape: &Option<Box<dyn EscapeFn>>,
+    alloc: Global,
+    autoescape: bool,
+    value: &Value,
+    out: &mut String,
+) -> TeraResult<()>
+    ensures ok { OnOk result (string_bytes out.new ≡ string_bytes out.old ++ rendered autoescape
+        (escape_or_html (λ b. (⟦<dyn EscapeFn as EscapeFn>⟧ b.vtable).escaped b.value) escape.now)
+        value.now) }
+    ensures err { OnErr result (string_bytes out.new ≡ string_bytes out.old) }
+    ensures lacks { IfErr result Lacks }
+{
+    let lent = lent_escape(escape);
+    let escaping = Escaping {
+        autoescape,
+        escape: &lent,
+    };
+    write_value(alloc, escaping, value, out)
+}
+
+/// What the built-in filter of this name makes of the value, where texts are escaped by this.
+pub(crate) fn built_in_answer(
+    escape: &Option<Box<dyn EscapeFn>>,
+    alloc: Global,
+    autoescape: bool,
+    name: &str,
+    value: &Value,
+    arguments: &Kwargs,
+) -> TeraResult<Value>
+    ensures { Gives (λ v. v) result (filtered_in plain (record {
+      autoescape = autoescape;
+      escape = escape_or_html
+          (λ b. (⟦<dyn EscapeFn as EscapeFn>⟧ b.vtable).escaped b.value) escape.now;
+    }) name.now value.now arguments.now) }
+{
+    let lent = lent_escape(escape);
+    let escaping = Escaping {
+        autoescape,
+        escape: &lent,
+    };
+    BuiltInFilter::call_named(alloc, name, value, arguments, escaping)
+}
+
+/// Whether the built-in test of this name holds of the value.
+pub(crate) fn built_in_test_answer(
+    alloc: Global,
+    name: &str,
+    value: &Value,
+    arguments: &Kwargs,
+) -> TeraResult<bool>
+    ensures { Gives (λ b. b) result (tested_in plain name.now value.now arguments.now) }
+{
+    match BuiltInTest::named(name) {
+        Some(test) => test.call(alloc, value, arguments),
+        None => Err(Error::message(alloc, "there is no such test")),
+    }
+}
+
+/// What the built-in function of this name makes of the arguments.
+pub(crate) fn built_in_function_answer(
+    alloc: Global,
+    name: &str,
+    arguments: &Kwargs,
+) -> TeraResult<Value>
+    ensures { Gives (λ v. v) result (called_in plain name.now arguments.now) }
+{
+    match BuiltInFunction::named(name) {
+        Some(function) => function.call(alloc, arguments),
+        None => Err(Error::message(alloc, "there is no such function")),
+    }
+}
+
+/// What a filter of the caller answers, marked safe where it says so.
+pub(crate) fn filter_answer(
+    filter: &Box<dyn Filter>,
+    value: &Value,
+    arguments: Kwargs,
+    state: &State<'_>,
+) -> TeraResult<Value>
+    ensures { Gives (λ v. v) result (answer_of
+        ((⟦<dyn Filter as Filter>⟧ filter.now.vtable).safe filter.now.value)
+        ((⟦<dyn Filter as Filter>⟧ filter.now.vtable).meaning filter.now.value value.now arguments
+        (view_of (λ e. escaped e.now) state.now))) }
+{
+    let answer = filter.call(value, arguments, state);
+    marked_if(filter.is_safe(), answer)
+}
+
+/// Whether a test of the caller holds.
+pub(crate) fn test_answer(
+    test: &Box<dyn Test>,
+    value: &Value,
+    arguments: Kwargs,
+    state: &State<'_>,
+) -> TeraResult<bool>
+    ensures { Gives (λ b. b) result ((⟦<dyn Test as Test>⟧ test.now.vtable).meaning test.now.value
+        value.now arguments (view_of (λ e. escaped e.now) state.now)) }
+{
+    test.call(value, arguments, state)
+}
+
+/// What a function of the caller answers, marked safe where it says so.
+pub(crate) fn function_answer(
+    function: &Box<dyn Function>,
+    arguments: Kwargs,
+    state: &State<'_>,
+) -> TeraResult<Value>
+    ensures { Gives (λ v. v) result (answer_of
+        ((⟦<dyn Function as Function>⟧ function.now.vtable).safe function.now.value)
+        ((⟦<dyn Function as Function>⟧ function.now.vtable).meaning function.now.value arguments
+        (view_of (λ e. escaped e.now) state.now))) }
+{
+    let answer = function.call(arguments, state);
+    marked_if(function.is_safe(), answer)
+}

@@ -1,0 +1,18 @@
+//! What an engine has of its caller: filters, tests, functions and the escape.
+#![tactic(auto)]
+
+mod apply;
+mod boxes;
+mod calls;
+pub mod filters;
+mod marked;
+pub mod objects;
+pub mod over;
+mod standard;
+pub mod table;
+
+pub use apply::{filter, function, test};
+pub use filters::OwnFilters;
+pub use objects::Objects;
+pub use over::{CallerObjects, ObjectsOver};
+pub use table::{Standard, Table};

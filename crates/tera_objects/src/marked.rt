@@ -1,0 +1,19 @@
+// Answers that are marked safe.
+ghost use Rattle.std.specs.Prelude.{Result};
+ghost use Rattle.tera_errors.specs.Answer.{Gives};
+ghost use Rattle.tera_errors.specs.Fault.{Fault};
+ghost use Rattle.tera_values.specs.Val.{Val};
+ghost use Rattle.tera_objects.specs.Calling.{answer_of};
+
+use tera_values::{TeraResult, Value};
+
+/// The answer, whose text is marked safe where that is said. A text is not copied.
+pub(crate) fn marked_if(is_safe: bool, answer: TeraResult<Value>) -> TeraResult<Value>
+    ensures { (meant : Result Val Fault) → Gives (λ v. v) answer meant →
+        Gives (λ v. v) result (answer_of is_safe meant) }
+{
+    match answer {
+        Ok(value) if is_safe => Ok(value.mark_safe()),
+        answer => answer,
+    }
+}

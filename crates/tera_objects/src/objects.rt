@@ -1,0 +1,90 @@
+// What a rendering asks of an engine's objects.
+ghost use Rattle.std.specs.Prelude.{◌≡◌, ◌++◌, string_bytes, OnOk, OnErr, IfErr};
+ghost use Rattle.tera_errors.specs.Answer.{Gives, Lacks};
+ghost use Rattle.tera_values.specs.Alphabet.{plain};
+ghost use Rattle.tera_state.specs.Rendered.{rendered};
+ghost use Rattle.tera_state.specs.Scopes.{around_of, variables_of};
+ghost use Rattle.tera_objects.specs.Engine.{Engine, has_filter, has_test, has_function};
+ghost use Rattle.tera_objects.specs.Calling.{seen_in, filtered_by, tested_by, called_by};
+
+use std::alloc::Global;
+use tera_state::Scopes;
+use tera_values::{Kwargs, TeraResult, Value};
+
+/// The escape of an engine, and its filters, tests and functions: what is built in, and the caller's own. What renders takes
+/// these by a type parameter, since no functions that call each other may name a trait object.
+pub trait Objects: Drop {
+    // What they mean.
+    ghost engine: { Self → Engine };
+
+    /// Puts a value behind a text: its printed text, escaped where texts are escaped and the value is not safe. Want of
+    /// memory leaves the text as it was.
+    fn write(
+        &self,
+        alloc: Global,
+        autoescape: bool,
+        value: &Value,
+        out: &mut String,
+    ) -> TeraResult<()>
+        ensures ok { OnOk result (string_bytes out.new
+            ≡ string_bytes out.old ++ rendered autoescape (engine self.now).escape value.now) }
+        ensures err { OnErr result (string_bytes out.new ≡ string_bytes out.old) }
+        ensures lacks { IfErr result Lacks };
+
+    /// Whether the name stands for a filter.
+    fn has_filter(&self, name: &str) -> bool
+        ensures { result ≡ has_filter (engine self.now) name.now };
+
+    /// Whether the name stands for a test.
+    fn has_test(&self, name: &str) -> bool
+        ensures { result ≡ has_test (engine self.now) name.now };
+
+    /// Whether the name stands for a function.
+    fn has_function(&self, name: &str) -> bool
+        ensures { result ≡ has_function (engine self.now) name.now };
+
+    /// What the filter of this name makes of the value, with its own faults; a `Message` where there is none. An object sees
+    /// the scopes, and whether texts are escaped.
+    fn call_filter(
+        &self,
+        alloc: Global,
+        scopes: &Scopes<'_>,
+        autoescape: bool,
+        name: &str,
+        value: &Value,
+        arguments: Kwargs,
+    ) -> TeraResult<Value>
+        ensures { Gives (λ v. v) result (filtered_by plain (engine self.now)
+            (seen_in plain (engine self.now)
+            (around_of scopes.now) (variables_of scopes.now) autoescape)
+            name.now value.now arguments) };
+
+    /// Whether the test of this name holds of the value.
+    fn call_test(
+        &self,
+        alloc: Global,
+        scopes: &Scopes<'_>,
+        autoescape: bool,
+        name: &str,
+        value: &Value,
+        arguments: Kwargs,
+    ) -> TeraResult<bool>
+        ensures { Gives (λ b. b) result (tested_by plain (engine self.now)
+            (seen_in plain (engine self.now)
+            (around_of scopes.now) (variables_of scopes.now) autoescape)
+            name.now value.now arguments) };
+
+    /// What the function of this name makes of the arguments.
+    fn call_function(
+        &self,
+        alloc: Global,
+        scopes: &Scopes<'_>,
+        autoescape: bool,
+        name: &str,
+        arguments: Kwargs,
+    ) -> TeraResult<Value>
+        ensures { Gives (λ v. v) result (called_by plain (engine self.now)
+            (seen_in plain (engine self.now)
+            (around_of scopes.now) (variables_of scopes.now) autoescape)
+            name.now arguments) };
+}

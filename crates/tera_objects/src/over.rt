@@ -1,0 +1,138 @@
+// What is registered.
+ghost use Rattle.std.specs.Prelude.{◌≡◌, OnOk, OnErr, IfErr};
+ghost use Rattle.tera_errors.specs.Answer.{Lacks};
+ghost use Rattle.tera_values.specs.Escape.{escape_html};
+
+use crate::filters::OwnFilters;
+use crate::table::Table;
+use std::alloc::Global;
+use tera_built_ins::{BuiltInFilter, BuiltInFunction, BuiltInTest, EscapeFn};
+use tera_state::{Filter, Function, Test};
+use tera_values::TeraResult;
+
+/// The caller's objects, over any types of them: the escape, or none, and filters, tests and functions by name.
+#[derive(Drop)]
+pub struct ObjectsOver<E, F, T, G> {
+    pub escape: Option<E>,
+    pub filters: OwnFilters<F>,
+    pub tests: Table<T>,
+    pub functions: Table<G>,
+}
+
+/// The objects that a caller boxes.
+pub type CallerObjects = ObjectsOver<
+    Box<dyn EscapeFn>,
+    Box<dyn Filter>,
+    Box<dyn Test>,
+    Box<dyn Function>,
+>;
+
+impl<E: Drop, F: Drop, T: Drop, G: Drop> ObjectsOver<E, F, T, G> {
+    ghost use Rattle.tera_objects.specs.Engine.{standard_engine, has_filter, has_test, has_function, with_escape, with_filter, with_test, with_function};
+    ghost use Rattle.tera_objects.specs.Kept.{Meanings, engine_of};
+    ghost use Rattle.tera_objects.specs.Moving.{with_those_of, MovedInPart};
+
+    /// No objects: `escape_html`, and what is built in. Takes no memory.
+    pub fn new(alloc: Global) -> ObjectsOver<E, F, T, G>
+        ensures { (m : Meanings E F T G) → engine_of m result ≡ standard_engine }
+    {
+        ObjectsOver {
+            escape: None,
+            filters: OwnFilters::new(alloc),
+            tests: Table::new(alloc),
+            functions: Table::new(alloc),
+        }
+    }
+
+    /// Texts are escaped by this from now on. The old escape is dropped. Takes no memory.
+    pub fn set_escape_fn(&mut self, escape: E)
+        ensures { (m : Meanings E F T G) →
+            engine_of m self.new ≡ with_escape (m.escape escape) (engine_of m self.old) }
+    {
+        self.escape = Some(escape);
+    }
+
+    /// Texts are escaped by `escape_html` from now on. The old escape is dropped. Takes no memory.
+    pub fn reset_escape_fn(&mut self)
+        ensures { (m : Meanings E F T G) →
+            engine_of m self.new ≡ with_escape escape_html (engine_of m self.old) }
+    {
+        self.escape = None;
+    }
+
+    /// The name stands for this filter from now on. The caller's filter that it stood for is dropped. Want of memory leaves all
+    /// as it was.
+    pub fn register_filter(&mut self, name: &str, filter: F) -> TeraResult<()>
+        ensures ok { (m : Meanings E F T G) → OnOk result
+            (engine_of m self.new ≡ with_filter name.now (m.filter filter) (engine_of m self.old)) }
+        ensures err { (m : Meanings E F T G) → OnErr result
+            (engine_of m self.new ≡ engine_of m self.old) }
+        ensures lacks { IfErr result Lacks }
+    {
+        self.filters.put(name, filter)
+    }
+
+    /// The name stands for this test from now on, as for a filter.
+    pub fn register_test(&mut self, name: &str, test: T) -> TeraResult<()>
+        ensures ok { (m : Meanings E F T G) → OnOk result
+            (engine_of m self.new ≡ with_test name.now (m.test test) (engine_of m self.old)) }
+        ensures err { (m : Meanings E F T G) → OnErr result
+            (engine_of m self.new ≡ engine_of m self.old) }
+        ensures lacks { IfErr result Lacks }
+    {
+        self.tests.put(name, test)
+    }
+
+    /// The name stands for this function from now on, as for a filter.
+    pub fn register_function(&mut self, name: &str, function: G) -> TeraResult<()>
+        ensures ok { (m : Meanings E F T G) → OnOk result
+            (engine_of m self.new
+            ≡ with_function name.now (m.function function) (engine_of m self.old)) }
+        ensures err { (m : Meanings E F T G) → OnErr result
+            (engine_of m self.new ≡ engine_of m self.old) }
+        ensures lacks { IfErr result Lacks }
+    {
+        self.functions.put(name, function)
+    }
+
+    /// Moves the other's filters here, then its tests, then its functions, each in byte order of the names, but those whose names
+    /// stand for something here. After want of memory those that were moved stay, and the rest is dropped.
+    pub fn register_from(&mut self, other: ObjectsOver<E, F, T, G>) -> TeraResult<()>
+        ensures ok { (m : Meanings E F T G) → OnOk result
+            (engine_of m self.new ≡ with_those_of (engine_of m other) (engine_of m self.old)) }
+        ensures part { (m : Meanings E F T G) → OnErr result
+            (MovedInPart (engine_of m other) (engine_of m self.old) (engine_of m self.new)) }
+        ensures lacks { IfErr result Lacks }
+    {
+        let ObjectsOver {
+            escape: _,
+            filters,
+            tests,
+            functions,
+        } = other;
+        self.filters.move_from(filters)?;
+        self.tests.move_from::<BuiltInTest>(tests)?;
+        self.functions.move_from::<BuiltInFunction>(functions)
+    }
+
+    /// Whether the name stands for a filter.
+    pub fn knows_filter(&self, name: &str) -> bool
+        ensures { (m : Meanings E F T G) → result ≡ has_filter (engine_of m self.now) name.now }
+    {
+        self.filters.table.stands_for::<BuiltInFilter>(name)
+    }
+
+    /// Whether the name stands for a test.
+    pub fn knows_test(&self, name: &str) -> bool
+        ensures { (m : Meanings E F T G) → result ≡ has_test (engine_of m self.now) name.now }
+    {
+        self.tests.stands_for::<BuiltInTest>(name)
+    }
+
+    /// Whether the name stands for a function.
+    pub fn knows_function(&self, name: &str) -> bool
+        ensures { (m : Meanings E F T G) → result ≡ has_function (engine_of m self.now) name.now }
+    {
+        self.functions.stands_for::<BuiltInFunction>(name)
+    }
+}

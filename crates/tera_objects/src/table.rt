@@ -1,0 +1,90 @@
+// Things by name.
+ghost use Rattle.std.specs.Prelude.{◌≡◌, ◌||◌, ℕ, Bool, [], take, is_some, OnOk, OnErr, IfErr, option_copied};
+ghost use Rattle.tera_errors.specs.Answer.{Lacks};
+ghost use Rattle.tera_errors.specs.Site.{Name};
+ghost use Rattle.tera_values.specs.Named.{at_name, put};
+
+use std::alloc::Global;
+use std::collections::BTreeMap;
+use tera_values::TeraResult;
+
+/// What every engine has of a kind.
+pub trait Standard: Drop {
+    // Whether a name stands for one of them.
+    ghost stands: { Name → Bool };
+
+    /// Whether the name stands for one of them.
+    fn is_one(name: &str) -> bool
+        ensures { result ≡ stands name.now };
+}
+
+/// Things by name, in byte order of the names.
+#[derive(Drop)]
+pub struct Table<X> {
+    alloc: Global,
+    entries: BTreeMap<String, X>,
+}
+
+impl<X: Drop> Table<X> {
+    ghost use Rattle.tera_objects.specs.Table.{listed, moved};
+
+    /// Without any. Takes no memory.
+    pub fn new(alloc: Global) -> Table<X>
+        ensures { listed result ≡ [] }
+    {
+        Table {
+            alloc,
+            entries: BTreeMap::new(alloc),
+        }
+    }
+
+    /// What stands at the name.
+    pub fn get(&self, name: &str) -> Option<&X>
+        ensures { option_copied result ≡ at_name name.now (listed self.now) }
+    {
+        self.entries.get(name)
+    }
+
+    /// Whether something stands at the name.
+    pub fn contains(&self, name: &str) -> bool
+        ensures { result ≡ is_some (at_name name.now (listed self.now)) }
+    {
+        self.entries.contains_key(name)
+    }
+
+    /// Puts it at the name. What stood there is dropped. Want of memory leaves all as it was.
+    pub fn put(&mut self, name: &str, thing: X) -> TeraResult<()>
+        ensures ok { OnOk result (listed self.new ≡ put name.now thing (listed self.old)) }
+        ensures err { OnErr result (listed self.new ≡ listed self.old) }
+        ensures lacks { IfErr result Lacks }
+    {
+        let key = String::from_str(self.alloc, name)?;
+        self.entries.insert(key, thing)?;
+        Ok(())
+    }
+
+    /// Whether the name stands for something here, or for one of those that every engine has.
+    pub fn stands_for<S: Standard>(&self, name: &str) -> bool
+        ensures { result ≡ (S.stands name.now || is_some (at_name name.now (listed self.now))) }
+    {
+        S::is_one(name) || self.contains(name)
+    }
+
+    /// Moves the others here, in byte order of their names, but those whose names stand for something already. After want of
+    /// memory those that were moved stay.
+    pub fn move_from<S: Standard>(&mut self, other: Table<X>) -> TeraResult<()>
+        ensures ok { OnOk result (listed self.new
+            ≡ moved S.stands (listed self.old) (listed other)) }
+        ensures part { OnErr result ((k : ℕ) × (listed self.new
+            ≡ moved S.stands (listed self.old) (take k (listed other)))) }
+        ensures lacks { IfErr result Lacks }
+    {
+        let Table { alloc: _, entries } = other;
+        for (name, thing) in entries {
+            if !self.stands_for::<S>(name.as_str()) {
+                self.entries.insert(name, thing)?;
+            }
+        }
+        Ok(())
+    }
+}

@@ -1,0 +1,38 @@
+-- What templates and prefixes alone decide on is the same with any engine.
+use Rattle.std.proofs.Common.{◌≡◌, ℕ, List, length, Option, Some, None, String, Global, ◌∙◌}
+use Rattle.std.specs.declared.rc.Rc.{Rc}
+use Rattle.std.specs.declared.collections.BTreeMap.{BTreeMap}
+use Rattle.tera_objects.specs.Engine.{Engine}
+use Rattle.tera_meaning.specs.Registry.{Entry}
+use Rattle.tera_meaning.specs.Accepted.{leads_into_a_circle}
+use Rattle.tera_registry.specs.declared.choices.Choice.{Choice}
+use Rattle.tera_registry.specs.declared.lineage.Up.{Up}
+use Rattle.tera_registry.specs.declared.template.Template.{Template as Stored}
+use Rattle.tera_registry.specs.Choices.{AreChosen, IsFirstTie}
+use Rattle.tera_registry.specs.Edges.{AreEdges, IsFirstCircle}
+use Rattle.tera_registry.specs.Kept.{entries_of, seen, seen_by}
+use Rattle.tera_registry.specs.Links.{AreUps}
+use Rattle.tera_registry.proofs.Adds.{walks-same}
+use Rattle.tera_registry.proofs.Listed.{chosen-in-all}
+
+module _ (engine : Engine) (ts : List (Rc Stored Global)) (ps : List (String Global)) where
+  pub ups-served : (ups : List Up) (many : ℕ) → AreUps (seen ts ps) ups many → AreUps (seen_by engine ts ps) ups many
+  ups-served ups many a = record { as_many = a.as_many; those = a.those }
+
+  pub edges-served : (edges : List (List ℕ)) (many : ℕ) → AreEdges (seen ts ps) edges many → AreEdges (seen_by engine ts ps) edges many
+  edges-served edges many a = record { as_many = a.as_many; inside = a.inside; those = a.those }
+
+  same-circles : (t : Entry) → leads_into_a_circle (seen_by engine ts ps) t ≡ leads_into_a_circle (seen ts ps) t
+  same-circles t = walks-same (seen_by engine ts ps) (length (entries_of ts)) t
+
+  pub circle-served : (circle : Option ℕ) → IsFirstCircle (seen ts ps) circle → IsFirstCircle (seen_by engine ts ps) circle
+  circle-served None none = λ i t at. same-circles t ∙ none i t at
+  circle-served (Some c) is =
+      (λ i t lt at. same-circles t ∙ is.0 i t lt at, λ t at. same-circles t ∙ is.1 t at)
+
+  pub tie-served : (tie : Option ℕ) → IsFirstTie (seen ts ps) tie → IsFirstTie (seen_by engine ts ps) tie
+  tie-served None none = none
+  tie-served (Some c) is = is
+
+  pub chosen-served : (choices : BTreeMap (String Global) Choice Global) → AreChosen (seen ts ps) choices → AreChosen (seen_by engine ts ps) choices
+  chosen-served choices known = chosen-in-all (seen_by engine ts ps) choices known

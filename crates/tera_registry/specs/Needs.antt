@@ -1,0 +1,66 @@
+-- What templates need of others: what they call that is not built in.
+use Rattle.std.specs.Prelude.{Bool, false, not, is_some, List, ◌++◌, Option, Some, None, option_and_then, if◌then◌else◌}
+use Rattle.std.specs.List.{filter_map, flat_map}
+use Rattle.tera_errors.specs.Site.{Name}
+use Rattle.tera_tree.specs.Tree.{Nodes}
+use Rattle.tera_tree.specs.Calls.{Callee, AFilter, ATest, AFunction, AComponent, calls}
+use Rattle.tera_built_ins.specs.Filters.{filter_named}
+use Rattle.tera_built_ins.specs.TestTable.{test_named}
+use Rattle.tera_built_ins.specs.FunctionTable.{function_named}
+use Rattle.tera_code.specs.declared.blocks.Block.{Block}
+use Rattle.tera_code.specs.declared.instruction.Instruction.{Instruction}
+use Rattle.tera_code.specs.Listing.{Listing}
+use Rattle.tera_code.specs.Code.{Code}
+use Rattle.tera_code.specs.Called.{called_by}
+use Rattle.tera_objects.specs.Engine.{Engine}
+use Rattle.tera_meaning.specs.Known.{is_known, bodies}
+use Rattle.tera_registry.specs.declared.components.Component.{Component}
+use Rattle.tera_registry.specs.declared.needs.Need.{Need}
+use Rattle.tera_registry.specs.declared.needs.Need.TheVariants as need
+
+-- no component is
+abbrev pub is_built_in : Callee → Bool
+is_built_in (AFilter name) = is_some (filter_named name)
+is_built_in (ATest name) = is_some (test_named name)
+is_built_in (AFunction name) = is_some (function_named name)
+is_built_in (AComponent name) = false
+
+-- what is called, as templates keep it, and back
+abbrev pub as_need : Callee → Need
+as_need (AFilter name) = need.Filter name
+as_need (ATest name) = need.Test name
+as_need (AFunction name) = need.Function name
+as_need (AComponent name) = need.Component name
+
+abbrev pub callee_needed : Need → Callee
+callee_needed (need.Filter name) = AFilter name
+callee_needed (need.Test name) = ATest name
+callee_needed (need.Function name) = AFunction name
+callee_needed (need.Component name) = AComponent name
+
+abbrev pub need_of : Callee → Option Need
+need_of callee = if is_built_in callee then None else Some (as_need callee)
+
+-- what a body itself needs
+abbrev pub nodes_need : Nodes → List Need
+nodes_need body = filter_map need_of (calls body)
+
+-- what a template needs, in its own body, those of its blocks and those of its components
+abbrev pub needs_of : Nodes → List Need
+needs_of nodes = flat_map nodes_need (bodies nodes)
+
+-- whether what is needed is not there
+abbrev pub is_unmet : Engine → (Name → Bool) → Need → Bool
+is_unmet engine there needed = not (is_known engine there (callee_needed needed))
+
+-- what code needs
+abbrev pub needed_by : Instruction → Option Need
+needed_by i = option_and_then need_of (called_by i)
+
+abbrev pub code_needs : Code → List Need
+code_needs = filter_map needed_by
+
+-- what the code of a body needs, then that of blocks, then that of components
+abbrev pub bodies_need : Listing → List Block → List Component → List Need
+bodies_need body blocks components =
+    (code_needs body.code ++ flat_map (λ b. code_needs b.code.code) blocks) ++ flat_map (λ c. code_needs c.code.code) components

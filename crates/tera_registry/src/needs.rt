@@ -1,0 +1,160 @@
+// What a template needs of others: what it calls that is not built in.
+ghost use Rattle.std.specs.Prelude.{◌≡◌, ◌++◌, [], map, slice_get, option_and_then, OnOk, IfOk, IfErr};
+ghost use Rattle.std.specs.List.{flat_map, cons_option};
+ghost use Rattle.tera_errors.specs.Answer.{Lacks};
+ghost use Rattle.tera_tree.specs.Blocks as in_tree;
+ghost use Rattle.tera_tree.specs.View.{nodes_of};
+ghost use Rattle.tera_code.specs.Blocks.{block_of, block_listings};
+ghost use Rattle.tera_code.specs.Called.{callee_of};
+ghost use Rattle.tera_code.specs.Code.{listing_of};
+ghost use Rattle.tera_registry.specs.Components.{kept_of, kept_all};
+ghost use Rattle.tera_registry.specs.Needs.{is_built_in, as_need, callee_needed, needed_by, needs_of, code_needs, bodies_need};
+
+use crate::components::Component;
+use std::alloc::Global;
+use tera_built_ins::{BuiltInFilter, BuiltInFunction, BuiltInTest};
+use tera_code::{Block, Callee, Chunk};
+use tera_errors::TeraResult;
+use tera_tree::Node;
+use tera_values::Name;
+
+/// The name of a component that is called, or that of a filter, a test or a function that is not built in.
+#[derive(Drop)]
+pub enum Need {
+    Filter(Name),
+    Test(Name),
+    Function(Name),
+    Component(Name),
+}
+
+impl Need {
+    /// What is called. Takes no memory.
+    pub fn callee(&self) -> Callee<'_>
+        ensures { callee_of result ≡ callee_needed self.now }
+    {
+        match self {
+            Need::Filter(name) => Callee::Filter(name.as_str()),
+            Need::Test(name) => Callee::Test(name.as_str()),
+            Need::Function(name) => Callee::Function(name.as_str()),
+            Need::Component(name) => Callee::Component(name.as_str()),
+        }
+    }
+}
+
+/// Whether what is called is built in. No component is.
+fn is_built_in(callee: Callee<'_>) -> bool
+    ensures { result ≡ is_built_in (callee_of callee.entry) }
+{
+    match callee {
+        Callee::Filter(name) => BuiltInFilter::named(name).is_some(),
+        Callee::Test(name) => BuiltInTest::named(name).is_some(),
+        Callee::Function(name) => BuiltInFunction::named(name).is_some(),
+        Callee::Component(_) => false,
+    }
+}
+
+/// What is called, with a name of its own.
+fn as_need(alloc: Global, callee: Callee<'_>) -> TeraResult<Need>
+    ensures ok { IfOk result (λ n. n ≡ as_need (callee_of callee.entry)) }
+    ensures lacks { IfErr result Lacks }
+{
+    match callee {
+        Callee::Filter(name) => Ok(Need::Filter(Name::new(alloc, name)?)),
+        Callee::Test(name) => Ok(Need::Test(Name::new(alloc, name)?)),
+        Callee::Function(name) => Ok(Need::Function(Name::new(alloc, name)?)),
+        Callee::Component(name) => Ok(Need::Component(Name::new(alloc, name)?)),
+    }
+}
+
+/// Puts what the instruction at this place calls behind what was found, unless it is built in.
+fn add_need(alloc: Global, chunk: &Chunk, place: usize, needs: &mut Vec<Need>) -> TeraResult<()>
+    ensures ok { let needed = option_and_then needed_by (slice_get chunk.now.code place) in
+        OnOk result (needs.new.items ≡ needs.old.items ++ cons_option needed []) }
+    ensures lacks { IfErr result Lacks }
+{
+    let Some(callee) = chunk.callee_at(place) else {
+        return Ok(());
+    };
+    if is_built_in(callee) {
+        return Ok(());
+    }
+    needs.push(as_need(alloc, callee)?)?;
+    Ok(())
+}
+
+/// Puts what the code needs behind what was found.
+fn add_needs(alloc: Global, chunk: &Chunk, needs: &mut Vec<Need>) -> TeraResult<()>
+    ensures ok { OnOk result (needs.new.items ≡ needs.old.items ++ code_needs chunk.now.code) }
+    ensures lacks { IfErr result Lacks }
+{
+    for place in 0..chunk.len() {
+        add_need(alloc, chunk, place, needs)?;
+    }
+    Ok(())
+}
+
+/// Puts what the code of blocks needs behind what was found.
+fn add_of_blocks(alloc: Global, blocks: &[Block], needs: &mut Vec<Need>) -> TeraResult<()>
+    ensures ok { OnOk result (needs.new.items
+        ≡ needs.old.items ++ flat_map (λ b. code_needs b.code.code) blocks.now) }
+    ensures lacks { IfErr result Lacks }
+{
+    for block in blocks {
+        add_needs(alloc, &block.code, needs)?;
+    }
+    Ok(())
+}
+
+/// Puts what the code of components needs behind what was found.
+fn add_of_components(
+    alloc: Global,
+    components: &[Component],
+    needs: &mut Vec<Need>,
+) -> TeraResult<()>
+    ensures ok { OnOk result (needs.new.items
+        ≡ needs.old.items ++ flat_map (λ c. code_needs c.code.code) components.now) }
+    ensures lacks { IfErr result Lacks }
+{
+    for component in components {
+        add_needs(alloc, &component.code, needs)?;
+    }
+    Ok(())
+}
+
+/// What the code of a body needs, then that of blocks, then that of components.
+fn code_needs(
+    alloc: Global,
+    body: &Chunk,
+    blocks: &[Block],
+    components: &[Component],
+) -> TeraResult<Vec<Need>>
+    ensures ok { IfOk result (λ v. v.items ≡ bodies_need body.now blocks.now components.now) }
+    ensures lacks { IfErr result Lacks }
+{
+    let mut needs = Vec::new(alloc);
+    add_needs(alloc, body, &mut needs)?;
+    add_of_blocks(alloc, blocks, &mut needs)?;
+    add_of_components(alloc, components, &mut needs)?;
+    Ok(needs)
+}
+
+/// What the template of this name needs that has these nodes, where this is the code of its body, of its blocks and of its
+/// components.
+#[tactic(auto, using(crate::proofs::Needing::bodies_need_as_tree))]
+pub fn needs(
+    alloc: Global,
+    nodes: &[Node<'_>],
+    name: &str,
+    body: &Chunk,
+    blocks: &[Block],
+    components: &[Component],
+) -> TeraResult<Vec<Need>>
+    requires body { body.now ≡ listing_of name.now (nodes_of nodes.now) }
+    requires blocks { map block_of blocks.now
+        ≡ block_listings name.now (in_tree.blocks (nodes_of nodes.now)) }
+    requires components { map kept_of components.now ≡ kept_all name.now (nodes_of nodes.now) }
+    ensures ok { IfOk result (λ v. v.items ≡ needs_of (nodes_of nodes.now)) }
+    ensures lacks { IfErr result Lacks }
+{
+    code_needs(alloc, body, blocks, components)
+}

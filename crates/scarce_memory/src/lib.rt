@@ -27,10 +27,12 @@ pub enum Tried {
 pub fn refusals<F: Fn(usize) -> Tried>(alloc: Global, call: F) -> Option<usize>
     requires { F.IsAlwaysCallable call }
 {
-    with_little(alloc, || first_answer(call))?
+    with_little(alloc, || refusals_of_little(|budget| call(budget)))?
 }
 
-fn first_answer<F: Fn(usize) -> Tried>(call: F) -> Option<usize>
+/// The same within a call of `with_little` or `with_pieces`: to take all memory and give it back needs half a second, and many calls can be tried
+/// in between.
+pub fn refusals_of_little<F: FnMut(usize) -> Tried>(mut call: F) -> Option<usize>
     requires { F.IsAlwaysCallable call }
 {
     for refused in 0..ROOM / STEP {
@@ -48,9 +50,18 @@ fn first_answer<F: Fn(usize) -> Tried>(call: F) -> Option<usize>
 pub fn with_little<T, F: FnOnce() -> T>(alloc: Global, call: F) -> Option<T>
     requires { F.IsAlwaysCallable call }
 {
+    with_pieces(alloc, 64, call)
+}
+
+/// What the call answers where all memory is taken but for so many pieces of `ROOM` bytes; none where there are not even these.
+/// The C library keeps up to seven pieces of each of 64 sizes for itself that were given back. Where a call is tried hundreds of
+/// times these lie anywhere, and it takes a thousand pieces that there is always one of `ROOM` left between them.
+pub fn with_pieces<T, F: FnOnce() -> T>(alloc: Global, pieces: usize, call: F) -> Option<T>
+    requires { F.IsAlwaysCallable call }
+{
     let mut taken = Vec::with_capacity(alloc, 200_000).ok()?;
-    let mut little = Vec::with_capacity(alloc, 64).ok()?;
-    take_pieces(alloc, &mut little, 1 << 16, 64);
+    let mut little = Vec::with_capacity(alloc, pieces).ok()?;
+    take_pieces(alloc, &mut little, ROOM, pieces);
     let mut size: usize = 1 << 34;
     for _ in 0..18 {
         take_pieces(alloc, &mut taken, size, MOST);

@@ -1,5 +1,5 @@
 -- A rendering beside the registry, from what the reader answered.
-use Rattle.std.proofs.Common.{◌≡◌, Bool, true, false, ◌||◌, IsTrue, Some, None, is_some, Result, Ok, Err, if◌then◌else◌, refl, sym, ap, ap₂, ◌∙◌}
+use Rattle.std.proofs.Common.{◌≡◌, Bool, true, false, ◌||◌, IsTrue, Some, None, is_some, Result, Ok, Err, if◌then◌else◌, [], refl, sym, ap, ap₂, ◌∙◌}
 use Rattle.tera_errors.specs.Site.{Text}
 use Rattle.tera_errors.specs.Fault.{Fault, message}
 use Rattle.tera_errors.specs.Answer.{Refusal, Says, Tells, Gives, GivesOneOf, SaysOneOf}
@@ -34,6 +34,11 @@ fault-means (Gave signal run n) None before after h = tt
 fault-means (Gave signal run n) (Some fault) before after h = absurd h
 fault-means (Failed meant n) None before after h = tt
 fault-means (Failed meant n) (Some fault) before after h = ap Err (sym h)
+
+-- a run that ends leaves no capture open
+pub nothing-captured : (meant : Answer Signal) (u : Unit {0}) (before after : Config) → before.captures ≡ [] → Means meant before (Ok u) after → after.captures ≡ []
+nothing-captured (Gave signal run n) u before after none h = ap (λ (c : Config). c.captures) h ∙ none
+nothing-captured (Failed meant n) u before after none h = absurd h
 
 -- what is barred is refused, in place of any text that is meant
 barred-says : (b : Bool) (e : Refusal) (meant : Result Text Fault) → (let done : Result (Unit {0}) Fault = if b then Err message else Ok tt in Says e done) → Says e (if b then Err message else meant)

@@ -1,43 +1,67 @@
-//! Runs the examples that standard input names, one a line, and tells of each whether it is answered as its file says.
+//! Runs the examples that standard input names, one a line, and tells of each whether it is answered as its file says. Then it
+//! runs them again and again with memory refused, at the first request of the run, at the second one and so on, and tells
+//! whether what is refused is told as such, and all else is answered as if it had not been there.
+//!
+//! A name with the word `large` behind it is that of a script whose run takes more than the 65,536 bytes that `scarce_memory` deals
+//! out: it is run with all memory alone. All scripts are run so first, since the stack can't grow any more where memory is taken:
+//! what they need of it is there by then.
 #![tactic(auto)]
 
-use std::{fs, io};
-use tera::Tera;
-use tera_script::{Outcome, ReaderInput, WriterOutput, run};
+mod commands;
+mod example;
+mod judge;
+mod replies;
+mod trial;
 
-/// What the program `tera_run` writes for the script.
-fn replies(rt: &HostRuntime, engine: &mut Tera, script: &str) -> io::Result<Vec<u8>> {
-    let alloc = rt.alloc();
-    let mut reader = ReaderInput::new(fs::open(rt, script)?);
-    let mut writer = WriterOutput::new(Vec::new(alloc));
-    match run(alloc, &mut reader, &mut writer, engine) {
-        Outcome::Done => Ok(writer.into_inner()),
-        _ => Err(io::Error::other("the script was not run to its end")),
-    }
-}
+use example::{Example, example_of, is_answered, is_right_where_refused};
+use scarce_memory::with_pieces;
+use std::io;
 
-/// Whether a fresh engine answers the script of this name as the file of its name with `.stdout` behind says.
-fn is_answered(rt: &HostRuntime, engine: &mut Tera, name: &str) -> io::Result<bool> {
-    let path = format!(in rt.alloc(); "{name}.stdout")?;
-    let wanted = fs::read(rt, path.as_str())?;
-    let given = replies(rt, engine, name)?;
-    Ok(given == wanted)
-}
-
-fn tell(rt: &HostRuntime, name: &str) -> io::Result<()> {
-    let Ok(mut engine) = Tera::new(rt.alloc()) else {
-        return println!(rt; "{name}: out of memory");
-    };
-    if is_answered(rt, &mut engine, name)? {
+fn tell(rt: &HostRuntime, example: &Example) -> io::Result<()> {
+    let name = example.name.as_str();
+    if is_answered(rt, name)? {
         println!(rt; "{name}: as expected")
     } else {
         println!(rt; "{name}: other replies than expected")
     }
 }
 
-fn main(rt: HostRuntime) -> io::Result<()> {
-    for name in rt.lines(rt.alloc()) {
-        tell(&rt, name?.as_str())?;
+fn tell_where_refused(rt: &HostRuntime, example: &Example) -> io::Result<()> {
+    let name = example.name.as_str();
+    if example.is_large {
+        return Ok(());
+    }
+    if is_right_where_refused(rt, name)? {
+        println!(rt; "{name}: as expected where memory is refused")
+    } else {
+        println!(rt; "{name}: other replies than expected where memory is refused")
+    }
+}
+
+fn tell_all_where_refused(rt: &HostRuntime, examples: &[Example]) -> io::Result<()> {
+    for example in examples {
+        tell_where_refused(rt, example)?;
     }
     Ok(())
+}
+
+/// How many pieces of memory are left free.
+const PIECES: usize = 1_024;
+
+fn main(rt: HostRuntime) -> io::Result<()> {
+    let mut examples = Vec::new(rt.alloc());
+    for line in rt.lines(rt.alloc()) {
+        let example = example_of(rt.alloc(), line?.as_str())?;
+        tell(&rt, &example)?;
+        examples.push(example)?;
+    }
+    // Taking all memory needs half a second, so it is done once for all of them.
+    match with_pieces(
+        rt.alloc(),
+        PIECES,
+        || tell_all_where_refused(&rt, examples.as_slice()),
+    ) {
+        Some(told) => told,
+        None => println!(rt; "memory could not be taken"),
+    }
 }

@@ -1,3 +1,4 @@
+pub mod Starts
 pub mod Ends
 pub mod Taking
 pub mod Still

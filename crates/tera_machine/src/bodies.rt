@@ -26,7 +26,7 @@ use tera_objects::Objects;
 use tera_operators::Operand;
 use tera_registry::{Definer, Definers};
 use tera_state::Stack;
-use tera_values::{Name, TeraResult, Value};
+use tera_values::{Name, TeraResult};
 
 /// What a body that takes another has to itself: its open loops, and the blocks that ended in it so far.
 #[derive(Drop)]
@@ -74,24 +74,25 @@ impl<'c> Configuration<'c> {
         ensures scopes { OnOk result (self.new.scopes ≡ self.old.scopes) }
         ensures lacks { IfErr result Lacks }
     {
-        let text = self.texts.end()?;
         let Outer { places, ended } = outer;
         self.places = places;
         match asked {
             Asked::Block(name, _) => {
-                self.texts.append(text.as_str())?;
+                let text = self.texts.text();
+                wanted.note(self.alloc, name, text)?;
                 self.ended = Ended::with(
                     &ended,
                     &self.ended,
                     name.as_str().as_bytes(),
                     text.as_bytes(),
                 );
-                wanted.note(name, text);
+                self.texts.join();
                 Ok(())
             }
             Asked::Above(span) => {
                 self.ended = Ended::joined(&ended, &self.ended);
-                let value = Value::safe_string(self.alloc, text.as_str())?;
+                let value = self.texts.value(self.alloc, true)?;
+                self.texts.end();
                 self.operands.push(Operand::new(value, span))
             }
         }

@@ -28,12 +28,8 @@ impl<'c> Configuration<'c> {
         requires { IsReady (capture_ended machine.now.autoescape span) self.old }
         ensures { Does (capture_ended machine.now.autoescape span) self.old result self.new }
     {
-        let text = self.texts.end()?;
-        let value = if machine.autoescape {
-            Value::safe_string(machine.alloc, text.as_str())?
-        } else {
-            Value::string(machine.alloc, text.as_str())?
-        };
+        let value = self.texts.value(machine.alloc, machine.autoescape)?;
+        self.texts.end();
         self.push(value, span)
     }
 

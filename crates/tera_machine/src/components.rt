@@ -65,12 +65,8 @@ impl<'c> Configuration<'c> {
         self.places = places;
         self.ended = ended;
         self.scopes.leave();
-        let text = self.texts.end()?;
-        let value = if safe {
-            Value::safe_string(self.alloc, text.as_str())?
-        } else {
-            Value::string(self.alloc, text.as_str())?
-        };
+        let value = self.texts.value(self.alloc, safe)?;
+        self.texts.end();
         self.operands.push(Operand::new(value, span))
     }
 }

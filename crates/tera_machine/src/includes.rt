@@ -65,8 +65,8 @@ impl<'c> Configuration<'c> {
         self.places = places;
         self.ended = ended;
         self.scopes.leave();
-        let text = self.texts.end()?;
-        self.texts.append(text.as_str())
+        self.texts.join();
+        Ok(())
     }
 }
 

@@ -1,31 +1,36 @@
 // What a rendering puts out, and what is captured of it.
-ghost use Rattle.std.specs.Prelude.{◌≡◌, ◌≢◌, ◌++◌, ◌∷◌, [], OnOk, IfOk, IfErr, string_bytes, drop};
-ghost use Rattle.tera_errors.specs.Answer.{Lacks};
+ghost use Rattle.std.specs.Prelude.{◌≡◌, ◌≢◌, ◌++◌, ◌∷◌, [], Ok, OnOk, IfErr, string_bytes, drop};
+ghost use Rattle.tera_errors.specs.Answer.{Gives, Lacks};
+ghost use Rattle.tera_values.specs.Val.{text};
 ghost use Rattle.tera_state.specs.Rendered.{rendered};
-ghost use Rattle.tera_machine.specs.Layers.{around_layers};
+ghost use Rattle.tera_machine.specs.Layers.{around_layers, joined};
 
 use std::alloc::Global;
 use std::marker::Model;
-use std::mem::replace;
 use tera_objects::Objects;
 use tera_state::Stack;
 use tera_values::{TeraResult, Value};
 
-/// The text that grows at its end, and those around it. After a refusal a part of the new text may be there.
+/// All that a rendering has written, in one piece. What is captured is the end of it, from where the capture began: a text
+/// that joins the one around it stays where it is. A contract sees the innermost text, and those around it.
 #[derive(Drop)]
 pub struct Texts {
-    alloc: Global,
-    now: String,
-    below: Stack<String>,
+    all: String,
+    // Where the innermost text begins.
+    start: usize,
+    // Where those around it begin.
+    outer: Stack<usize>,
 }
 
 impl Model for Texts {
-    ghost use Rattle.std.specs.Prelude.{string_bytes, map};
-    ghost use Rattle.tera_machine.specs.Layers.{Layers};
+    ghost use Rattle.std.specs.Prelude.{string_bytes};
+    ghost use Rattle.tera_machine.specs.Layers.{Layers, layers_at, AreStarts};
 
     ghost Value = { Layers };
 
-    ghost view = { λ t. record { now = string_bytes t.now; below = map string_bytes t.below } };
+    ghost view = { λ t. layers_at t.start t.outer (string_bytes t.all) };
+
+    ghost invariant = { λ t. AreStarts t.start t.outer (string_bytes t.all) };
 }
 
 impl Texts {
@@ -34,23 +39,42 @@ impl Texts {
         ensures { result ≡ record { now = []; below = [] } }
     {
         Texts {
-            alloc,
-            now: String::new(alloc),
-            below: Stack::new(alloc),
+            all: String::new(alloc),
+            start: 0,
+            outer: Stack::new(alloc),
         }
     }
 
-    /// The text, which is moved and not copied.
+    /// All that is written, which is moved and not copied.
     pub fn into_string(self) -> String
+        requires { self.below ≡ [] }
         ensures { string_bytes result ≡ self.now }
     {
         let Texts {
-            alloc: _,
-            now,
-            below,
+            all,
+            start: _,
+            outer,
         } = self;
-        drop(below);
-        now
+        drop(outer);
+        all
+    }
+
+    /// The innermost text.
+    pub fn text(&self) -> &str
+        ensures { result.now ≡ self.now.now }
+    {
+        &self.all.as_str()[self.start..]
+    }
+
+    /// A copy of the innermost text as a value, safe or not.
+    pub fn value(&self, alloc: Global, safe: bool) -> TeraResult<Value>
+        ensures { Gives (λ v. v) result (Ok (text self.now.now safe)) }
+    {
+        if safe {
+            Value::safe_string(alloc, self.text())
+        } else {
+            Value::string(alloc, self.text())
+        }
     }
 
     /// This text at the end.
@@ -58,7 +82,7 @@ impl Texts {
         ensures ok { OnOk result (self.new ≡ record self.old { now = self.old.now ++ text.now }) }
         ensures lacks { IfErr result Lacks }
     {
-        self.now.push_str(text)?;
+        self.all.push_str(text)?;
         Ok(())
     }
 
@@ -75,7 +99,7 @@ impl Texts {
         }) }
         ensures lacks { IfErr result Lacks }
     {
-        objects.write(alloc, autoescape, value, &mut self.now)
+        objects.write(alloc, autoescape, value, &mut self.all)
     }
 
     /// A text of its own begins.
@@ -84,19 +108,32 @@ impl Texts {
             ≡ record { now = []; below = self.old.now ∷ self.old.below }) }
         ensures lacks { IfErr result Lacks }
     {
-        let outer = replace(&mut self.now, String::new(self.alloc));
-        self.below.push(outer)
+        self.outer.push(self.start)?;
+        self.start = self.all.len();
+        Ok(())
     }
 
-    /// The innermost text ends.
-    pub fn end(&mut self) -> TeraResult<String>
+    /// The innermost text ends, and is dropped.
+    pub fn end(&mut self)
         requires { self.old.below ≢ [] }
-        ensures taken { IfOk result (λ text. string_bytes text ≡ self.old.now) }
-        ensures rest { OnOk result (self.old.below ≡ self.new.now ∷ self.new.below) }
-        ensures lacks { IfErr result Lacks }
+        ensures { self.old.below ≡ self.new.now ∷ self.new.below }
     {
-        match self.below.pop() {
-            Some(outer) => Ok(replace(&mut self.now, outer)),
+        match self.outer.pop() {
+            Some(outer) => {
+                self.all.truncate(self.start);
+                self.start = outer;
+            }
+            None => unreachable!(),
+        }
+    }
+
+    /// The innermost text ends, and stays behind the one around it.
+    pub fn join(&mut self)
+        requires { self.old.below ≢ [] }
+        ensures { self.new ≡ joined self.old }
+    {
+        match self.outer.pop() {
+            Some(outer) => self.start = outer,
             None => unreachable!(),
         }
     }
@@ -111,9 +148,10 @@ impl Texts {
         if count == 0 {
             return;
         }
-        match self.below.pop() {
+        match self.outer.pop() {
             Some(outer) => {
-                self.now = outer;
+                self.all.truncate(self.start);
+                self.start = outer;
                 self.drop_marks(count - 1)
             }
             None => {}

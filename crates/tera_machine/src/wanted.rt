@@ -1,5 +1,5 @@
 // The block whose text is wanted.
-ghost use Rattle.std.specs.Prelude.{◌≡◌, [], ◌∷◌, None, Some, IfOk, IfErr, string_bytes, unwrap_or};
+ghost use Rattle.std.specs.Prelude.{◌≡◌, [], ◌∷◌, None, Some, OnOk, IfOk, IfErr, string_bytes, unwrap_or};
 ghost use Rattle.tera_errors.specs.Answer.{Lacks};
 ghost use Rattle.tera_machine.specs.Wanted.{is_wanted, Noted, text_kept};
 
@@ -55,13 +55,15 @@ impl Wanted {
         }
     }
 
-    /// A block ended with this text, which is kept where the block is wanted.
-    pub fn note(&mut self, name: &Name, text: String)
-        ensures { Noted self.old ((name.now, string_bytes text) ∷ []) self.new }
+    /// A block ended with this text, which is copied where the block is wanted.
+    pub fn note(&mut self, alloc: Global, name: &Name, text: &str) -> TeraResult<()>
+        ensures ok { OnOk result (Noted self.old ((name.now, text.now) ∷ []) self.new) }
+        ensures lacks { IfErr result Lacks }
     {
         if self.wants(name) {
-            self.last = Some(text);
+            self.last = Some(String::from_str(alloc, text)?);
         }
+        Ok(())
     }
 
     /// The text of the block as it ended last, or the empty text.

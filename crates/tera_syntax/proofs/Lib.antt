@@ -1,5 +1,6 @@
 pub mod Rows
 pub mod Gathered
+pub mod Again
 pub mod Whole
 pub mod Begun
 pub mod OneTag

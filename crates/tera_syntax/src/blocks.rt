@@ -1,14 +1,15 @@
 // The names of a tree's blocks and components.
-ghost use Rattle.std.specs.Prelude.{◌≡◌, ◌++◌, OnOk, IfErr, is_some, not};
+ghost use Rattle.std.specs.Prelude.{◌≡◌, ◌++◌, OnOk, IfOk, IfErr, is_some, not};
 ghost use Rattle.tera_syntax.specs.File as spec;
 ghost use Rattle.tera_syntax.specs.View.{names_of, node_components, node_names};
 ghost use Rattle.tera_tokens.specs.Answers.{Answers};
 ghost use Rattle.tera_tokens.specs.declared.refusal.Refusal.TheVariants.{OutOfMemory};
-ghost use Rattle.tera_tree.specs.Blocks.{are_distinct, block_names, is_among};
-ghost use Rattle.tera_tree.specs.Definitions.{component_names};
+ghost use Rattle.tera_tree.specs.Blocks.{are_distinct, block_names, has_each_block_once};
+ghost use Rattle.tera_tree.specs.Definitions.{component_names, has_each_component_once};
 ghost use Rattle.tera_tree.specs.View.{node_of, nodes_of, tree_of};
 
 use std::alloc::Global;
+use std::collections::HashMap;
 use tera_errors::Span;
 use tera_tokens::refusal::{Reason, Refusal};
 use tera_tree::{Node, ParserOutput};
@@ -120,46 +121,63 @@ fn end_of(node: &Node<'_>, at: usize) -> usize {
     }
 }
 
-/// Where the name stands among these, if it does.
-fn find(name: &str, names: &[PlacedName<'_>]) -> Option<Span>
-    ensures { is_some result ≡ is_among name.now (names_of names.now) }
+/// Where the first name that stands again stands next, if one does. The names are read from behind,
+/// beside where each of them stands first of all that was read.
+fn twice(alloc: Global, names: &[PlacedName<'_>]) -> Result<Option<Span>, Refusal>
+    ensures ok { IfOk result (λ found. is_some found ≡ not (are_distinct (names_of names.now))) }
+    ensures lacks { IfErr result (λ refusal. refusal ≡ OutOfMemory) }
 {
-    for other in names {
-        if name == other.name {
-            return Some(other.span);
+    let mut behind: HashMap<&str, Span> = HashMap::new(alloc);
+    let mut found = None;
+    let mut at = names.len();
+    while at > 0 {
+        at -= 1;
+        if let Some(next) = behind.insert(names[at].name, names[at].span)? {
+            found = Some(next);
         }
     }
-    None
+    Ok(found)
 }
 
-/// Where a name stands again that stands before, if one does.
-fn twice(names: &[PlacedName<'_>]) -> Option<Span>
-    ensures { is_some result ≡ not (are_distinct (names_of names.now)) }
+/// Where a block stands that has the name of one before, if one does.
+fn block_twice(alloc: Global, output: &ParserOutput<'_>) -> Result<Option<Span>, Refusal>
+    ensures ok { let once = has_each_block_once (tree_of output.now).nodes in
+        IfOk result (λ found. is_some found ≡ not once) }
+    ensures lacks { IfErr result (λ refusal. refusal ≡ OutOfMemory) }
 {
-    let mut at = 0;
-    while at < names.len() {
-        let found = find(names[at].name, &names[at + 1..]);
-        if found.is_some() {
-            return found;
-        }
-        at += 1;
+    let mut names = Vec::new(alloc);
+    gather(&mut names, output.nodes.as_slice())?;
+    twice(alloc, names.as_slice())
+}
+
+/// Where a component is defined that has the name of one before, if one is.
+fn component_twice(alloc: Global, output: &ParserOutput<'_>) -> Result<Option<Span>, Refusal>
+    ensures ok { let once = has_each_component_once (tree_of output.now).nodes in
+        IfOk result (λ found. is_some found ≡ not once) }
+    ensures lacks { IfErr result (λ refusal. refusal ≡ OutOfMemory) }
+{
+    let mut names = Vec::new(alloc);
+    gather_components(&mut names, output.nodes.as_slice())?;
+    twice(alloc, names.as_slice())
+}
+
+/// Refuses a tree where two blocks have one name, or two components.
+fn allow(alloc: Global, output: &ParserOutput<'_>) -> Result<(), Refusal>
+    ensures { let tree = tree_of output.now in Answers (λ done. tree) (spec.once tree) result }
+{
+    if let Some(span) = block_twice(alloc, output)? {
+        return Err(Refusal::Syntax(Reason::BlockTwice, span));
     }
-    None
+    match component_twice(alloc, output)? {
+        None => Ok(()),
+        Some(span) => Err(Refusal::Syntax(Reason::ComponentTwice, span)),
+    }
 }
 
 /// The tree, where no two of its blocks have one name, and no two of its components.
 pub(crate) fn once<'s>(alloc: Global, output: ParserOutput<'s>) -> Result<ParserOutput<'s>, Refusal>
     ensures { Answers tree_of (spec.once (tree_of output.entry)) result }
 {
-    let mut names = Vec::new(alloc);
-    gather(&mut names, output.nodes.as_slice())?;
-    if let Some(span) = twice(names.as_slice()) {
-        return Err(Refusal::Syntax(Reason::BlockTwice, span));
-    }
-    let mut components = Vec::new(alloc);
-    gather_components(&mut components, output.nodes.as_slice())?;
-    match twice(components.as_slice()) {
-        None => Ok(output),
-        Some(span) => Err(Refusal::Syntax(Reason::ComponentTwice, span)),
-    }
+    allow(alloc, &output)?;
+    Ok(output)
 }

@@ -1,10 +1,14 @@
-use Rattle.std.proofs.Common.{◌≡◌, ◌-◌, length, drop}
-use Rattle.tera_tree.specs.Blocks.{are_distinct}
+use Rattle.std.proofs.Common.{◌≡◌, ◌≤◌, length, drop, is_some, not}
+use Rattle.tera_errors.specs.Site.{Name}
+use Rattle.tera_tree.specs.Blocks.{are_distinct, is_among}
 use Rattle.tera_syntax.specs.View.{names_of}
+use Rattle.tera_syntax.proofs.Again.{place}
 use Rattle.tera_syntax.proofs.blocks.twice.Given as goal
 
 abbrev pub invariant-loop-at : goal.invariant-loop-at
-invariant-loop-at l = are_distinct (names_of (drop l.at l.names)) ≡ are_distinct (names_of l.names)
+invariant-loop-at l =
+    let rest = names_of (drop l.at l.names) in
+    (l.at ≤ length l.names) × ((q : Name) → is_some (place l.behind q) ≡ is_among q rest) × (is_some l.found ≡ not (are_distinct rest))
 
 abbrev pub decreases-loop-at : goal.decreases-loop-at
-decreases-loop-at l = length l.names - l.at
+decreases-loop-at l = l.at

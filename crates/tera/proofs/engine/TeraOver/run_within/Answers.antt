@@ -1,9 +1,16 @@
+use Rattle.std.proofs.Common.{ap}
+use Rattle.tera_machine.specs.Config.{Config, config_of}
 use Rattle.tera_state.specs.Scope.{nothing_set}
 use Rattle.tera_state.specs.Scopes.{variables_of}
 use Rattle.tera_meaning.specs.Run.{begun}
-use Rattle.tera_machine.specs.Subject.{meant}
-use Rattle.tera.proofs.Renders.{begins-means, fault-means}
+use Rattle.tera_machine.specs.Subject.{meant, meant_from}
+use Rattle.tera.proofs.Renders.{begins-means, fault-means, nothing-captured}
 use Rattle.tera.proofs.engine.TeraOver.run_within.Goals as goal
+
+pub into_string-requires : goal.into_string-requires
+into_string-requires g c =
+    let start = c.new-configuration in
+    nothing-captured (meant_from g.about start.result) _ (config_of start.result) (config_of c.run.new.configuration) (ap (λ (s : Config). s.captures) start.ensures.starts) c.in-Ok.ensures.means
 
 pub returns-in-Err : goal.returns-in-Err
 returns-in-Err g c =

@@ -1,0 +1,35 @@
+use Rattle.std.proofs.Common.{rules, ◌≡◌, ◌-◌, ◌≤◌, true, false, drop, length, get_or, is_some, not, sym, ap, ◌∙◌}
+use Rattle.tera_tree.specs.Blocks.{are_distinct, is_among}
+use Rattle.tera_syntax.specs.View.{names_of}
+use Rattle.tera_syntax.proofs.Again.{blank, place, next-names, place-more, found-more, found-still}
+use Rattle.tera_syntax.proofs.blocks.twice.Goals as goal
+
+pub loop-at-preserved-in-Some : goal.loop-at-preserved-in-Some
+loop-at-preserved-in-Some c =
+    let all = c.args.names.now in
+    let name = get_or all (c.loop-at.at - 1) blank in
+    let n = name.name.now in
+    let rest = names_of (drop c.loop-at.at all) in
+    let before = c.loop-at.invariant in
+    let next = next-names all c.loop-at.at (search rules) before.0 in
+    let fits : c.loop-at.at - 1 ≤ length all = search rules in
+    let again : is_among n rest ≡ true = sym (before.1 n) ∙ ap is_some (sym c.in_ok-next.ensures.old ∙ c.in-Some.is) in (
+      fits,
+      (λ q. place-more (place c.loop-at.behind) (place c.insert.new.self) name.span n rest (λ q. c.in_ok-next.ensures.updates.0 (record { ref_ptr = (0, 0); now = q })) before.1 q ∙ ap (is_among q) (sym next)),
+      found-more n rest again ∙ ap (λ names. not (are_distinct names)) (sym next),
+    )
+
+pub loop-at-preserved : goal.loop-at-preserved
+loop-at-preserved c =
+    let all = c.args.names.now in
+    let name = get_or all (c.loop-at.at - 1) blank in
+    let n = name.name.now in
+    let rest = names_of (drop c.loop-at.at all) in
+    let before = c.loop-at.invariant in
+    let next = next-names all c.loop-at.at (search rules) before.0 in
+    let fits : c.loop-at.at - 1 ≤ length all = search rules in
+    let new : is_among n rest ≡ false = sym (before.1 n) ∙ ap is_some (sym c.in_ok-next.ensures.old ∙ c.in_default.is) in (
+      fits,
+      (λ q. place-more (place c.loop-at.behind) (place c.insert.new.self) name.span n rest (λ q. c.in_ok-next.ensures.updates.0 (record { ref_ptr = (0, 0); now = q })) before.1 q ∙ ap (is_among q) (sym next)),
+      before.2 ∙ ap not (sym (found-still n rest new)) ∙ ap (λ names. not (are_distinct names)) (sym next),
+    )

@@ -1,4 +1,4 @@
--- Blocks and components that are found one after another.
+-- Blocks that are found one after another.
 use Rattle.std.proofs.Common.{◌≡◌, ℕ, Bool, Bor, List, [], ◌∷◌, ◌++◌, map, Vec, Box, Global, sym, ap, ap₂, ◌∙◌, append_assoc, append-nil}
 use Rattle.std.proofs.lemmas.List.{map-append}
 use Rattle.tera_errors.specs.Site as site
@@ -11,16 +11,13 @@ use Rattle.tera_tree.specs.declared.node.Node.{Node}
 use Rattle.tera_tree.specs.declared.node.SectionFilter.{SectionFilter}
 use Rattle.tera_tree.specs.declared.node.Node.TheVariants as variant
 use Rattle.tera_tree.specs.Tree as tree
-use Rattle.tera_tree.specs.View.{signature_of, node_of, nodes_of}
+use Rattle.tera_tree.specs.View.{node_of, nodes_of}
 use Rattle.tera_tree.specs.Blocks.{blocks, node_blocks}
 use Rattle.tera_tree.proofs.Views.{view_if, view_capture, view_section, view_for, view_block, view_component_call, view_definition}
 use Rattle.tera_code.specs.declared.blocks.Block.{Block}
 use Rattle.tera_code.specs.Listing.{Listing}
-use Rattle.tera_tree.specs.Definitions.{definitions, node_definitions}
-use Rattle.tera_code.specs.declared.components.Component.{Component}
 use Rattle.tera_code.specs.Code.{listing_of}
 use Rattle.tera_code.specs.Blocks.{block_of, block_listing, block_listings}
-use Rattle.tera_code.specs.Components.{component_of, component_listing, component_listings}
 
 abbrev Kept : Type 0
 Kept = List (site.Name × Listing)
@@ -94,23 +91,3 @@ blocks_block node name body span xs is a =
     ap (λ x. (name.now, nodes_of x) ∷ blocks (nodes_of x)) a
     ∙ ap node_blocks (sym (view_block name body span))
     ∙ ap (λ n. node_blocks (node_of n)) (sym is)
-
--- those of one node are found, and those of the rest are to come
-pub defined_node : (file : site.Name) (mid old all : List (tree.Signature × Listing)) (node : Node) (before rest : List Node) → before ≡ node ∷ rest → mid ≡ old ++ component_listings file (node_definitions (node_of node)) → old ++ component_listings file (definitions (nodes_of before)) ≡ all
-    → mid ++ component_listings file (definitions (nodes_of rest)) ≡ all
-defined_node file mid old all node before rest e h is =
-    found_more (component_listing file) old mid (node_definitions (node_of node)) (definitions (nodes_of rest)) (definitions (nodes_of before)) (ap (λ x. definitions (nodes_of x)) e) h ∙ is
-
--- none is to come
-pub defined_all : (file : site.Name) (old all : List (tree.Signature × Listing)) (rest : List Node) → rest ≡ [] → old ++ component_listings file (definitions (nodes_of rest)) ≡ all → old ≡ all
-defined_all file old all rest e is = sym (append-nil old) ∙ ap (λ x. old ++ component_listings file (definitions (nodes_of x))) (sym e) ∙ is
-
-pub defined_one : (file : site.Name) (old mid : List Component) (component : Component) (node : Node) (signature : Box Signature Global) (body : Vec Node Global) (xs : List Node) → node ≡ variant.Definition signature body → xs ≡ body.items → mid ≡ old ++ component ∷ []
-    → component.signature.now ≡ signature.value → component.code ≡ listing_of file (nodes_of xs) → map component_of mid ≡ map component_of old ++ component_listings file (node_definitions (node_of node))
-defined_one file old mid component node signature body xs is a e h g =
-    ap (λ x. map component_of x) e
-    ∙ map-append component_of old (component ∷ [])
-    ∙ ap₂ (λ s c. map component_of old ++ (signature_of s, c) ∷ []) h g
-    ∙ ap (λ x. map component_of old ++ (signature_of signature.value, listing_of file (nodes_of x)) ∷ []) a
-    ∙ ap (λ n. map component_of old ++ component_listings file (node_definitions n)) (sym (view_definition signature body))
-    ∙ ap (λ n. map component_of old ++ component_listings file (node_definitions (node_of n))) (sym is)

@@ -5,6 +5,5 @@ pub mod Code
 pub mod Places
 pub mod Group
 pub mod Blocks
-pub mod Components
 pub mod Asked
 pub mod Called

@@ -76,6 +76,13 @@ impl ComponentArg {
         self.name.as_str()
     }
 
+    /// The parameter's name once more, which shares its text.
+    pub(crate) fn shared_name(&self) -> TeraResult<Name>
+        ensures { Gives (λ n. n) result (Ok self.now.name) }
+    {
+        self.name.share()
+    }
+
     /// The same parameter.
     pub fn try_clone(&self) -> TeraResult<ComponentArg>
         ensures { Gives (λ a. a) result (Ok self.now) }

@@ -19,7 +19,7 @@ use std::alloc::Global;
 use std::marker::Model;
 use tera_state::Scopes;
 use tera_tree::Signature;
-use tera_values::{Context, Key, Map, Name, Shape, TeraResult, Value};
+use tera_values::{Context, Key, Kwargs, Map, Name, Shape, TeraResult, Value};
 
 /// What a component is given, as its signature says. It borrows nothing from the source.
 #[derive(Drop)]
@@ -134,7 +134,7 @@ impl ComponentDefinition {
         alloc: Global,
         given: &Map,
         caller: &Scopes<'_>,
-        context: &mut Context,
+        context: &mut Kwargs,
     ) -> TeraResult<()>
         ensures { Gives (λ _. context.new) result (or_message (with_formals
             (λ n. look_implicit n (around_of caller.now) (variables_of caller.now))
@@ -142,19 +142,19 @@ impl ComponentDefinition {
     {
         for argument in self.arguments.iter() {
             let value = argument.value(alloc, self.name.as_str(), given, caller)?;
-            context.insert(argument.name(), value)?;
+            context.put(argument.shared_name()?, value.shared(alloc)?)?;
         }
         Ok(())
     }
 
     // Puts what no parameter takes at its name, and refuses it where it has none.
-    fn put_others(&self, alloc: Global, others: Map, context: &mut Context) -> TeraResult<()>
+    fn put_others(&self, alloc: Global, others: Map, context: &mut Kwargs) -> TeraResult<()>
         ensures { (over : List (Name × Val)) → others ≡ text_keys over →
             Gives (λ _. context.new) result
             (or_message (with_rest self.now.rest over context.old)) }
     {
         if let Some(rest) = &self.rest {
-            return context.insert(rest.as_str(), Value::map(others));
+            return context.put(rest.share()?, Value::map(others).shared(alloc)?);
         }
         match others.entry_at(0) {
             Some((name, _)) => Err(faults::unknown(alloc, self.name.as_str(), name)),
@@ -168,13 +168,13 @@ impl ComponentDefinition {
         given: &Map,
         caller: &Scopes<'_>,
         body: Option<Value>,
-    ) -> TeraResult<Context>
+    ) -> TeraResult<Kwargs>
         ensures { Gives (λ c. c) result (or_message (call_context self.now
             (named_arguments given.now) body
             (λ n. look_implicit n (around_of caller.now) (variables_of caller.now)))) }
     {
         let others = self.others(alloc, given)?;
-        let mut context = begun(alloc, body)?;
+        let mut context = begun(alloc, self.arguments.len(), body)?;
         self.put_arguments(alloc, given, caller, &mut context)?;
         self.put_others(alloc, others, &mut context)?;
         Ok(context)
@@ -187,7 +187,7 @@ impl ComponentDefinition {
         given: &Map,
         caller: &Scopes<'_>,
         body: Option<Value>,
-    ) -> TeraResult<Context>
+    ) -> TeraResult<Kwargs>
         ensures { (s : Signed) → self.now ≡ definition_of s →
             Gives (λ c. c) result (or_message (component_context s
             (named_arguments given.now) body
@@ -203,7 +203,7 @@ impl ComponentDefinition {
         given: &Context,
         caller: &Scopes<'_>,
         body: Option<Value>,
-    ) -> TeraResult<Context>
+    ) -> TeraResult<Kwargs>
         ensures { (s : Signed) → self.now ≡ definition_of s →
             Gives (λ c. c) result (or_message (component_context s given.now body
             (λ n. look_implicit n (around_of caller.now) (variables_of caller.now)))) }
@@ -216,11 +216,11 @@ impl ComponentDefinition {
     }
 }
 
-// A context with the body alone.
-fn begun(alloc: Global, body: Option<Value>) -> TeraResult<Context>
+// A context with the body alone, and with room for so many parameters.
+fn begun(alloc: Global, parameters: usize, body: Option<Value>) -> TeraResult<Kwargs>
     ensures { Gives (λ c. c) result (Ok (with_body body [])) }
 {
-    let mut context = Context::new(alloc);
+    let mut context = Kwargs::with_capacity(alloc, parameters)?;
     if let Some(body) = body {
         context.insert("body", body)?;
     }

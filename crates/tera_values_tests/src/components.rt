@@ -58,14 +58,14 @@ fn by_name(
     let implicits = named(alloc, implicits)?;
     let caller = Scopes::new(alloc, &implicits, None);
     let context = show(alloc, rest)?.build_context_by_name(alloc, &given, &caller, None)?;
-    context.to_value()
+    context.to_context()?.to_value()
 }
 
 fn with_body(alloc: Global, given: &Map, body: Value) -> TeraResult<Value> {
     let implicits = named(alloc, &[("name", Text("Vincent"))])?;
     let caller = Scopes::new(alloc, &implicits, None);
     let context = show(alloc, None)?.build_context(alloc, given, &caller, Some(body))?;
-    context.to_value()
+    context.to_context()?.to_value()
 }
 
 /// Whether the call answered this value, or refused in this way.

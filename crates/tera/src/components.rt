@@ -115,7 +115,7 @@ impl<O: Objects> TeraOver<O> {
         let body = handed(self.alloc, body)?;
         let mut scopes = Scopes::new(self.alloc, implicits, Some(&self.global_context));
         let definition = found.definition;
-        let context = match definition.build_context_by_name(self.alloc, args, &scopes, body) {
+        let context = match definition.bind_by_name(self.alloc, args, &scopes, body) {
             Ok(context) => context,
             Err(error) => return Err(error),
         };

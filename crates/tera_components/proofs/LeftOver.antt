@@ -68,3 +68,22 @@ only_left-next d es i e one is =
     by : (left : Bool) → find e.0 (only_left d (take i es)) ≡ None → only_left d (take i es) ++ cond left (e ∷ []) [] ≡ cond left (insert_pair (only_left d (take i es)) e.0 e.1) (only_left d (take i es))
     by true none = sym (inserted_last (only_left d (take i es)) e.0 e.1 none)
     by false none = append-nil (only_left d (take i es))
+
+some_behind : (k : KeyVal) (e : KeyVal × Val) (es : Pairs) → is_some (find k es) ≡ true → is_some (find k (e ∷ es)) ≡ true
+some_behind k e es h = by (key_eq k e.0)
+  where
+    by : (b : Bool) → is_some (cond b (Some e.1) (find k es)) ≡ true
+    by true = refl
+    by false = h
+
+-- where a parameter has each name, nothing is left
+pub none_left : (d : Definition) (es : Pairs) → ((n : Name) → is_some (find (ktext n) es) ≡ true → is_among n (formal_names d) ≡ true) → left_over d (named_arguments es) ≡ []
+none_left d [] h = refl
+none_left d ((kbool b, v) ∷ es) h = none_left d es (λ n s. h n (some_behind (ktext n) (kbool b, v) es s))
+none_left d ((kint z, v) ∷ es) h = none_left d es (λ n s. h n (some_behind (ktext n) (kint z, v) es s))
+none_left d ((ktext m, v) ∷ es) h =
+    by (is_among m (formal_names d)) (h m (ap (λ b. is_some (cond b (Some v) (find (ktext m) es))) (key_same (ktext m)))) (none_left d es (λ n s. h n (some_behind (ktext n) (ktext m, v) es s)))
+  where
+    by : (b : Bool) → b ≡ true → left_over d (named_arguments es) ≡ [] → cond (not b) ((m, v) ∷ left_over d (named_arguments es)) (left_over d (named_arguments es)) ≡ []
+    by true t rest = rest
+    by false t rest = absurd (cc)

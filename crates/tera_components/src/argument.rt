@@ -12,9 +12,10 @@ use crate::faults;
 use crate::literals::value_from;
 use std::alloc::Global;
 use std::marker::Model;
+use tera_operators::Entries;
 use tera_state::Scopes;
 use tera_tree::{ArgumentType, Parameter};
-use tera_values::{Map, Name, Shape, TeraResult, Value};
+use tera_values::{Name, Shape, TeraResult, Value};
 
 /// A parameter of a component. Its default is kept as a value, so that a copy of that is a count.
 #[derive(Drop)]
@@ -76,6 +77,13 @@ impl ComponentArg {
         self.name.as_str()
     }
 
+    /// The parameter's name once more, which shares its text.
+    pub(crate) fn shared_name(&self) -> TeraResult<Name>
+        ensures { Gives (λ n. n) result (Ok self.now.name) }
+    {
+        self.name.share()
+    }
+
     /// The same parameter.
     pub fn try_clone(&self) -> TeraResult<ComponentArg>
         ensures { Gives (λ a. a) result (Ok self.now) }
@@ -109,7 +117,7 @@ impl ComponentArg {
     }
 
     // What is given, undefined too; else what is looked up; else the default.
-    fn offer(&self, alloc: Global, given: &Map, caller: &Scopes<'_>) -> TeraResult<Option<Value>>
+    fn offer(&self, alloc: Global, given: &Entries<'_>, caller: &Scopes<'_>) -> TeraResult<Option<Value>>
         ensures { Gives (λ o. o) result (Ok (offered
             (λ n. look_implicit n (around_of caller.now) (variables_of caller.now))
             (named_arguments given.now) self.now)) }
@@ -131,7 +139,7 @@ impl ComponentArg {
         &self,
         alloc: Global,
         component: &str,
-        given: &Map,
+        given: &Entries<'_>,
         caller: &Scopes<'_>,
     ) -> TeraResult<Value>
         ensures { Gives (λ v. v) result (or_message (formal_value
@@ -154,7 +162,7 @@ impl ComponentArg {
 
 // The argument of this name.
 #[tactic(auto, using(crate::proofs::Arguments::find_ktext))]
-fn argument_at<'a>(given: &'a Map, name: &str) -> Option<&'a Value>
+fn argument_at<'a>(given: &'a Entries<'_>, name: &str) -> Option<&'a Value>
     ensures { option_copied result ≡ at_name name.now (named_arguments given.entry.now) }
 {
     given.get_text(name)

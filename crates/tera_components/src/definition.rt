@@ -17,9 +17,10 @@ use crate::argument::ComponentArg;
 use crate::faults;
 use std::alloc::Global;
 use std::marker::Model;
+use tera_operators::Entries;
 use tera_state::Scopes;
 use tera_tree::Signature;
-use tera_values::{Context, Key, Map, Name, Shape, TeraResult, Value};
+use tera_values::{Context, Key, Kwargs, Map, Name, Shape, TeraResult, Value};
 
 /// What a component is given, as its signature says. It borrows nothing from the source.
 #[derive(Drop)]
@@ -114,8 +115,8 @@ impl ComponentDefinition {
         all.insert(key, value)
     }
 
-    // The arguments that no parameter takes.
-    fn others(&self, alloc: Global, given: &Map) -> TeraResult<Map>
+    // The arguments of a map that no parameter takes.
+    fn others_of(&self, alloc: Global, given: &Map) -> TeraResult<Map>
         ensures { Gives (λ m. m) result
             (Ok (text_keys (left_over self.now (named_arguments given.now)))) }
     {
@@ -128,13 +129,27 @@ impl ComponentDefinition {
         Ok(all)
     }
 
+    // The same of all that is given. A call mostly gives what its parameters take: then no map of it is made.
+    fn others(&self, alloc: Global, given: &Entries<'_>) -> TeraResult<Map>
+        ensures { Gives (λ m. m) result
+            (Ok (text_keys (left_over self.now (named_arguments given.now)))) }
+    {
+        if given.are_among(&self.names) {
+            return Ok(Map::new(alloc));
+        }
+        match given.as_map() {
+            Some(given) => self.others_of(alloc, given),
+            None => self.others_of(alloc, &given.to_map(alloc)?),
+        }
+    }
+
     // Puts the values of the parameters at their names.
     fn put_arguments(
         &self,
         alloc: Global,
-        given: &Map,
+        given: &Entries<'_>,
         caller: &Scopes<'_>,
-        context: &mut Context,
+        context: &mut Kwargs,
     ) -> TeraResult<()>
         ensures { Gives (λ _. context.new) result (or_message (with_formals
             (λ n. look_implicit n (around_of caller.now) (variables_of caller.now))
@@ -142,19 +157,19 @@ impl ComponentDefinition {
     {
         for argument in self.arguments.iter() {
             let value = argument.value(alloc, self.name.as_str(), given, caller)?;
-            context.insert(argument.name(), value)?;
+            context.put(argument.shared_name()?, value.shared(alloc)?)?;
         }
         Ok(())
     }
 
     // Puts what no parameter takes at its name, and refuses it where it has none.
-    fn put_others(&self, alloc: Global, others: Map, context: &mut Context) -> TeraResult<()>
+    fn put_others(&self, alloc: Global, others: Map, context: &mut Kwargs) -> TeraResult<()>
         ensures { (over : List (Name × Val)) → others ≡ text_keys over →
             Gives (λ _. context.new) result
             (or_message (with_rest self.now.rest over context.old)) }
     {
         if let Some(rest) = &self.rest {
-            return context.insert(rest.as_str(), Value::map(others));
+            return context.put(rest.share()?, Value::map(others).shared(alloc)?);
         }
         match others.entry_at(0) {
             Some((name, _)) => Err(faults::unknown(alloc, self.name.as_str(), name)),
@@ -165,22 +180,58 @@ impl ComponentDefinition {
     fn context(
         &self,
         alloc: Global,
-        given: &Map,
+        given: &Entries<'_>,
         caller: &Scopes<'_>,
         body: Option<Value>,
-    ) -> TeraResult<Context>
+    ) -> TeraResult<Kwargs>
         ensures { Gives (λ c. c) result (or_message (call_context self.now
             (named_arguments given.now) body
             (λ n. look_implicit n (around_of caller.now) (variables_of caller.now)))) }
     {
         let others = self.others(alloc, given)?;
-        let mut context = begun(alloc, body)?;
+        let mut context = begun(alloc, self.arguments.len(), body)?;
         self.put_arguments(alloc, given, caller, &mut context)?;
         self.put_others(alloc, others, &mut context)?;
         Ok(context)
     }
 
-    /// The context of a call with these arguments; a `Message` where they do not fit. A key that is no text names no argument.
+    /// What the body of a call with these arguments reads; a `Message` where they do not fit. A key that is no text names no
+    /// argument.
+    pub fn bind(
+        &self,
+        alloc: Global,
+        given: &Entries<'_>,
+        caller: &Scopes<'_>,
+        body: Option<Value>,
+    ) -> TeraResult<Kwargs>
+        ensures { (s : Signed) → self.now ≡ definition_of s →
+            Gives (λ c. c) result (or_message (component_context s
+            (named_arguments given.now) body
+            (λ n. look_implicit n (around_of caller.now) (variables_of caller.now)))) }
+    {
+        self.context(alloc, given, caller, body)
+    }
+
+    /// The same where the arguments are values by name, in byte order of these.
+    pub fn bind_by_name(
+        &self,
+        alloc: Global,
+        given: &Context,
+        caller: &Scopes<'_>,
+        body: Option<Value>,
+    ) -> TeraResult<Kwargs>
+        ensures { (s : Signed) → self.now ≡ definition_of s →
+            Gives (λ c. c) result (or_message (component_context s given.now body
+            (λ n. look_implicit n (around_of caller.now) (variables_of caller.now)))) }
+    {
+        let given = given.to_value()?;
+        match given.shape() {
+            Shape::Map(given) => self.bind(alloc, &Entries::of_map(given), caller, body),
+            _ => unreachable!(),
+        }
+    }
+
+    /// The same as a context, for callers who keep it.
     pub fn build_context(
         &self,
         alloc: Global,
@@ -193,34 +244,15 @@ impl ComponentDefinition {
             (named_arguments given.now) body
             (λ n. look_implicit n (around_of caller.now) (variables_of caller.now)))) }
     {
-        self.context(alloc, given, caller, body)
-    }
-
-    /// The same where the arguments are values by name, in byte order of these.
-    pub fn build_context_by_name(
-        &self,
-        alloc: Global,
-        given: &Context,
-        caller: &Scopes<'_>,
-        body: Option<Value>,
-    ) -> TeraResult<Context>
-        ensures { (s : Signed) → self.now ≡ definition_of s →
-            Gives (λ c. c) result (or_message (component_context s given.now body
-            (λ n. look_implicit n (around_of caller.now) (variables_of caller.now)))) }
-    {
-        let given = given.to_value()?;
-        match given.shape() {
-            Shape::Map(given) => self.build_context(alloc, given, caller, body),
-            _ => unreachable!(),
-        }
+        self.bind(alloc, &Entries::of_map(given), caller, body)?.to_context()
     }
 }
 
-// A context with the body alone.
-fn begun(alloc: Global, body: Option<Value>) -> TeraResult<Context>
+// A context with the body alone, and with room for so many parameters.
+fn begun(alloc: Global, parameters: usize, body: Option<Value>) -> TeraResult<Kwargs>
     ensures { Gives (λ c. c) result (Ok (with_body body [])) }
 {
-    let mut context = Context::new(alloc);
+    let mut context = Kwargs::with_capacity(alloc, parameters)?;
     if let Some(body) = body {
         context.insert("body", body)?;
     }

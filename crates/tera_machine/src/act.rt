@@ -413,7 +413,7 @@ impl<'c> Configuration<'c> {
         machine: &VirtualMachine<'_, O>,
         file: &str,
         name: &'f Name,
-        keys: &Keys<'_>,
+        keys: &Keys<'f>,
         has_body: bool,
         span: Span,
     ) -> TeraResult<Flow<'f>>

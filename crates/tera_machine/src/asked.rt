@@ -1,5 +1,6 @@
 // What an instruction asks of bodies that stand elsewhere.
-use tera_values::{Map, Name, Span, Value};
+use tera_operators::Entries;
+use tera_values::{Name, Span, Value};
 
 /// A body to take: a block by its name, at the span of the name, or what the next template above makes of the block that
 /// runs, at the span of the call.
@@ -14,7 +15,7 @@ pub enum Asked<'f> {
 #[derive(Drop)]
 pub struct AskedComponent<'f> {
     pub name: &'f Name,
-    pub given: Map,
+    pub given: Entries<'f>,
     pub body: Option<Value>,
     pub safe: bool,
     pub span: Span,

@@ -23,7 +23,7 @@ use tera_errors::Error;
 use tera_objects::Objects;
 use tera_operators::{Operand, fault_at};
 use tera_registry::{Component, Defined, Templates};
-use tera_values::{Context, Name, Span, TeraResult, Value};
+use tera_values::{Kwargs, Name, Span, TeraResult, Value};
 
 /// How deep components may call one another.
 const MAX_DEPTH: usize = 20;
@@ -38,13 +38,13 @@ pub struct Beside<'t> {
 #[derive(Drop)]
 pub struct Called<'t> {
     pub code: &'t Chunk,
-    pub context: Context,
+    pub context: Kwargs,
     pub depth: usize,
 }
 
 impl<'c> Configuration<'c> {
     /// The body of a component begins, in a state that reads nothing but the context.
-    pub(crate) fn begin_component(&mut self, context: Context) -> TeraResult<Outer>
+    pub(crate) fn begin_component(&mut self, context: Kwargs) -> TeraResult<Outer>
         ensures begins { IfOk result (λ outer. Begins
             (in_component context (around_of self.old.scopes) (variables_of self.old.scopes))
             self.old outer self.new) }
@@ -151,7 +151,7 @@ impl<'t, O: Objects> VirtualMachine<'t, O> {
         let scopes = &configuration.scopes;
         let context = match component
             .definition
-            .build_context(self.alloc, &given, scopes, body)
+            .bind(self.alloc, &given, scopes, body)
         {
             Ok(context) => context,
             Err(refusal) => return Err(fault_at(self.alloc, chunk.file(), &refusal, span)),

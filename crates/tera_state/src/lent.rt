@@ -4,36 +4,60 @@ ghost use Rattle.tera_errors.specs.Answer.{Gives, Lacks};
 
 use std::alloc::Global;
 use std::marker::Model;
-use tera_values::{Context, TeraResult, Value};
+use tera_values::{Context, Kwargs, Sought, TeraResult, Value};
 
-/// The names of a context that lives elsewhere, or none. A contract sees the names, and not where they lie.
+/// What lends names: a context, the arguments of a component, or nobody.
+#[derive(Clone, Copy)]
+enum Lender<'c> {
+    Nobody,
+    Context(&'c Context),
+    Arguments(&'c Kwargs),
+}
+
+/// Names that live elsewhere, or none. A contract sees the names, and not where they lie.
 #[derive(Drop)]
 pub struct Lent<'c> {
-    context: Option<&'c Context>,
+    lender: Lender<'c>,
 }
 
 impl<'c> Model for Lent<'c> {
     ghost use Rattle.tera_values.specs.Named.{Named, named_code};
     ghost use Rattle.tera_values.specs.Val.{Val};
     ghost use Rattle.tera_values.specs.Code.{val_code};
-    ghost use Rattle.tera_state.specs.Lent.{names_of};
+    ghost use Rattle.tera_state.specs.Lent.{lent_by};
 
     ghost Value = { Named Val };
 
     ghost coded = { named_code val_code };
 
-    ghost view = { λ l. names_of l.context };
+    ghost view = { λ l. lent_by l.lender };
 }
 
 impl<'c> Lent<'c> {
     ghost use Rattle.tera_values.specs.Named.{at_name, put_all};
     ghost use Rattle.tera_state.specs.Lent.{names_of};
 
-    /// Takes no memory.
+    /// The names of the context. Takes no memory.
     pub fn new(context: Option<&'c Context>) -> Lent<'c>
         ensures { result ≡ names_of context.entry }
     {
-        Lent { context }
+        match context {
+            Some(context) => Lent {
+                lender: Lender::Context(context),
+            },
+            None => Lent {
+                lender: Lender::Nobody,
+            },
+        }
+    }
+
+    /// The names of a component's arguments. Takes no memory.
+    pub fn arguments(arguments: &'c Kwargs) -> Lent<'c>
+        ensures { result ≡ arguments.now }
+    {
+        Lent {
+            lender: Lender::Arguments(arguments),
+        }
     }
 
     /// The same names, lent once more. Takes no memory.
@@ -41,7 +65,7 @@ impl<'c> Lent<'c> {
         ensures { result ≡ self.now }
     {
         Lent {
-            context: self.context,
+            lender: self.lender,
         }
     }
 
@@ -49,9 +73,10 @@ impl<'c> Lent<'c> {
     pub fn to_context(&self, alloc: Global) -> TeraResult<Context>
         ensures { Gives (λ c. c) result (Ok self.now) }
     {
-        match self.context {
-            Some(context) => context.try_clone(),
-            None => Ok(Context::new(alloc)),
+        match self.lender {
+            Lender::Nobody => Ok(Context::new(alloc)),
+            Lender::Context(context) => context.try_clone(),
+            Lender::Arguments(arguments) => arguments.to_context(),
         }
     }
 
@@ -60,19 +85,21 @@ impl<'c> Lent<'c> {
         ensures ok { OnOk result (names.new ≡ put_all self.now names.old) }
         ensures lacks { IfErr result Lacks }
     {
-        match self.context {
-            Some(context) => names.put_all(context),
-            None => Ok(()),
+        match self.lender {
+            Lender::Nobody => Ok(()),
+            Lender::Context(context) => names.put_all(context),
+            Lender::Arguments(arguments) => arguments.put_into(names),
         }
     }
 
     /// The value at a name.
-    pub fn get(&self, name: &str) -> Option<&'c Value>
+    pub fn get(&self, name: &Sought<'_>) -> Option<&'c Value>
         ensures { option_copied result ≡ at_name name.now self.now }
     {
-        match self.context {
-            Some(context) => context.get(name),
-            None => None,
+        match self.lender {
+            Lender::Nobody => None,
+            Lender::Context(context) => context.get(name.as_str()),
+            Lender::Arguments(arguments) => arguments.look(name),
         }
     }
 }

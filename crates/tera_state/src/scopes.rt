@@ -20,7 +20,7 @@ use crate::open_loops::OpenLoops;
 use crate::stack::Stack;
 use std::alloc::Global;
 use std::mem::replace;
-use tera_values::{Context, Name, Sought, TeraResult, Value};
+use tera_values::{Context, Kwargs, Name, Sought, TeraResult, Value};
 
 /// The body that runs, those above it, and all that they set.
 #[derive(Drop)]
@@ -73,11 +73,11 @@ impl<'c> Scopes<'c> {
     {
         match in_body(&self.bindings, height, body, name) {
             Found::Nothing => match &body.standing {
-                Standing::Whole(context, global) => match context.get(name.as_str()) {
+                Standing::Whole(context, global) => match context.get(name) {
                     Some(value) => Found::Kept(value),
-                    None => kept(global.get(name.as_str())),
+                    None => kept(global.get(name)),
                 },
-                Standing::Called(context) => kept(context.get(name.as_str())),
+                Standing::Called(arguments) => kept(arguments.look(name)),
                 Standing::Included => {
                     if height == 0 {
                         return Found::Nothing;
@@ -86,7 +86,7 @@ impl<'c> Scopes<'c> {
                         Some(includer) => {
                             let found = self.bound_at(height - 1, includer, name);
                             if found.is_undefined() {
-                                kept(self.context_at(height - 1, includer).get(name.as_str()))
+                                kept(self.context_at(height - 1, includer).get(name))
                             } else {
                                 found
                             }
@@ -133,7 +133,7 @@ impl<'c> Scopes<'c> {
     {
         match &body.standing {
             Standing::Whole(context, _) => return context.share(),
-            Standing::Called(context) => return Lent::new(Some(context)),
+            Standing::Called(arguments) => return Lent::arguments(arguments),
             Standing::Included => {}
         }
         if height == 0 {
@@ -293,17 +293,17 @@ impl<'c> Scopes<'c> {
         self.enter(Standing::Included)
     }
 
-    /// Begins a component, which reads the context alone.
-    pub fn enter_component(&mut self, context: Context) -> TeraResult<()>
+    /// Begins a component, which reads the arguments alone.
+    pub fn enter_component(&mut self, arguments: Kwargs) -> TeraResult<()>
         ensures around { OnOk result (around_of self.new
-            ≡ in_component context (around_of self.old) (variables_of self.old)) }
+            ≡ in_component arguments (around_of self.old) (variables_of self.old)) }
         ensures variables { OnOk result (variables_of self.new ≡ nothing_set) }
         ensures coming { OnOk result (coming_of self.new ≡ []) }
         ensures outer { OnOk result (coming_around self.new
             ≡ coming_of self.old ∷ coming_around self.old) }
         ensures lacks { IfErr result Lacks }
     {
-        self.enter(Standing::Called(context))
+        self.enter(Standing::Called(arguments))
     }
 
     fn enter(&mut self, inner: Standing<'c>) -> TeraResult<()>

@@ -2,7 +2,7 @@
 use std::alloc::Global;
 use tera::{Context, Value};
 use tera_state::{ForLoop, Scopes};
-use tera_values::{Name, Sought};
+use tera_values::{Kwargs, Name, Sought};
 
 fn name(alloc: Global, text: &str) -> Option<Name> {
     Name::new(alloc, text).ok()
@@ -91,7 +91,7 @@ fn included(alloc: Global, scopes: &mut Scopes<'_>) -> bool {
 
 fn called(alloc: Global, scopes: &mut Scopes<'_>) -> bool {
     sets(alloc, scopes, "a", 2)
-        && scopes.enter_component(Context::new(alloc)).is_ok()
+        && scopes.enter_component(Kwargs::new(alloc)).is_ok()
         && finds(alloc, scopes, "a", None)
         && finds_above(alloc, scopes, "a", Some(2))
 }

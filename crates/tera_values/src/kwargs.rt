@@ -1,16 +1,20 @@
 // Arguments by name.
-ghost use Rattle.std.specs.Prelude.{◌≡◌, [], IfErr, IfSome, IsErr, OnOk, OnErr, option_copied, option_map};
+ghost use Rattle.std.specs.Prelude.{◌≡◌, [], Ok, IfErr, IfSome, IsErr, OnOk, OnErr, option_copied, option_map};
 ghost use Rattle.tera_errors.specs.Answer.{Gives, Lacks, MemorySuffices};
-ghost use Rattle.tera_values.specs.Named.{at_name, name_cmp, place, put, IsAscending};
+ghost use Rattle.tera_values.specs.Named.{at_name, name_cmp, place, put, put_all, IsAscending};
 ghost use Rattle.tera_values.specs.Arguments.{read, read_needed};
 
 use crate::argument::ArgFromValue;
-use crate::name::Name;
+use crate::context::Context;
+use crate::name::{Name, Sought};
 use std::alloc::Global;
 use std::cmp::Ordering;
 use std::marker::Model;
 use tera_errors::{Error, TeraResult};
 use tera_values_data::Value;
+
+/// Up to so many arguments are looked at one after the other.
+const FEW: usize = 8;
 
 /// Arguments by name. Those that nothing asks for are ignored. They stand in byte order of their names, since a call has
 /// few and gives them in that order: each goes to the end, and none is hashed.
@@ -45,6 +49,16 @@ impl Kwargs {
         }
     }
 
+    /// No arguments yet, with room for so many.
+    pub fn with_capacity(alloc: Global, capacity: usize) -> TeraResult<Kwargs>
+        ensures { Gives (λ k. k) result (Ok []) }
+    {
+        Ok(Kwargs {
+            alloc,
+            entries: Vec::with_capacity(alloc, capacity)?,
+        })
+    }
+
     /// Puts the value at the name, in place of one that stood there. The name is copied.
     pub fn insert(&mut self, name: &str, value: Value) -> TeraResult<()>
         ensures ok { OnOk result (self.new ≡ put name.now value self.old) }
@@ -77,6 +91,37 @@ impl Kwargs {
             Ok(at) => Some(&self.entries[at].1),
             Err(_) => None,
         }
+    }
+
+    /// The same by a name whose hash is known. Takes no memory.
+    pub fn look(&self, name: &Sought<'_>) -> Option<&Value>
+        ensures { option_copied result ≡ at_name name.now self.now }
+    {
+        if self.entries.len() <= FEW {
+            among(self.entries.as_slice(), name)
+        } else {
+            self.value(name.as_str())
+        }
+    }
+
+    /// Puts all into the names of a context.
+    pub fn put_into(&self, names: &mut Context) -> TeraResult<()>
+        ensures ok { OnOk result (names.new ≡ put_all self.now names.old) }
+        ensures lacks { IfErr result Lacks }
+    {
+        for entry in self.entries.iter() {
+            names.insert(entry.0.as_str(), entry.1.try_clone()?)?;
+        }
+        Ok(())
+    }
+
+    /// A context with the same values at the same names.
+    pub fn to_context(&self) -> TeraResult<Context>
+        ensures { Gives (λ c. c) result (Ok self.now) }
+    {
+        let mut names = Context::new(self.alloc);
+        self.put_into(&mut names)?;
+        Ok(names)
     }
 
     /// The argument, or none where it is absent; `InvalidArgument` where it is of a wrong type. Only what is read takes memory.
@@ -114,6 +159,18 @@ fn place(entries: &[(Name, Value)], name: &str) -> Result<usize, usize>
     ensures { result ≡ place name.now entries.now }
 {
     entries.binary_search_by(|entry| compared(entry, name))
+}
+
+// The value at the name, looked for from the first entry on.
+fn among<'a>(entries: &'a [(Name, Value)], name: &Sought<'_>) -> Option<&'a Value>
+    ensures { option_copied result ≡ at_name name.now entries.now }
+{
+    for entry in entries {
+        if name.is(&entry.0) {
+            return Some(&entry.1);
+        }
+    }
+    None
 }
 
 fn compared(entry: &(Name, Value), name: &str) -> Ordering

@@ -57,8 +57,8 @@ fn by_name(
     let given = named(alloc, given)?;
     let implicits = named(alloc, implicits)?;
     let caller = Scopes::new(alloc, &implicits, None);
-    let context = show(alloc, rest)?.build_context_by_name(alloc, &given, &caller, None)?;
-    context.to_value()
+    let arguments = show(alloc, rest)?.bind_by_name(alloc, &given, &caller, None)?;
+    arguments.to_context()?.to_value()
 }
 
 fn with_body(alloc: Global, given: &Map, body: Value) -> TeraResult<Value> {

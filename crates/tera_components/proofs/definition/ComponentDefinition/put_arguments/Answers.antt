@@ -23,4 +23,4 @@ loop-argument-preserved c =
     let look : Name → Val = λ n. look_implicit n (around_of c.args.caller.now) (variables_of c.args.caller.now) in
     let given : List (Name × Val) = named_arguments c.args.given.now in
     c.loop-argument.invariant
-    ∙ with_formals_next look given c.deref-argument-items.result.now c.loop-argument.argument-index c.argument-item.result c.loop-argument.context c.insert.new.self _ c.in_ok-value.value c.loop-argument-test.true c.argument-item.is c.in_ok-value.ensures c.name.ensures c.in_ok-insert.ensures.ok
+    ∙ with_formals_next look given c.deref-argument-items.result.now c.loop-argument.argument-index c.argument-item.result c.loop-argument.context c.put.new.self _ c.in_ok-value.value c.loop-argument-test.true c.argument-item.is c.in_ok-value.ensures c.name.ensures c.in_ok-put.ensures.ok

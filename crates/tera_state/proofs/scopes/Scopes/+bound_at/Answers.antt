@@ -12,21 +12,21 @@ returns-in-Some t c =
     let fs = lower c.args.height c.args.self.now.below in
     let s = c.args.body.now.standing in
     from_beyond c.args.name.now c.args.self.now.bindings c.args.height c.args.body.now fs _ c.in-Nothing.ensures
-    (first _ _ _ (c.in-Some.ensures ∙ ap (λ m. at_name m c.in-Whole.context) c.as_str.ensures) c.in-Some.value.now refl ∙ sym (whole_beyond c.args.name.now c.args.self.now.bindings s _ _ fs c.in-Whole.is))
+    (first _ _ _ c.in-Some.ensures c.in-Some.value.now refl ∙ sym (whole_beyond c.args.name.now c.args.self.now.bindings s _ _ fs c.in-Whole.is))
 
 pub returns-in-None : goal.returns-in-None
 returns-in-None t c =
     let fs = lower c.args.height c.args.self.now.below in
     let s = c.args.body.now.standing in
     from_beyond c.args.name.now c.args.self.now.bindings c.args.height c.args.body.now fs _ c.in-Nothing.ensures
-    (second _ _ _ (c.in-None.ensures ∙ ap (λ m. at_name m c.in-Whole.context) c.as_str.ensures) (c.kept.ensures ∙ c.get-in-None.ensures ∙ ap (λ m. at_name m c.in-Whole.global) c.as_str-in-None.ensures) ∙ sym (whole_beyond c.args.name.now c.args.self.now.bindings s _ _ fs c.in-Whole.is))
+    (second _ _ _ c.in-None.ensures (c.kept.ensures ∙ c.get-in-None.ensures) ∙ sym (whole_beyond c.args.name.now c.args.self.now.bindings s _ _ fs c.in-Whole.is))
 
 pub returns-in-Called : goal.returns-in-Called
 returns-in-Called t c =
     let fs = lower c.args.height c.args.self.now.below in
     let s = c.args.body.now.standing in
     from_beyond c.args.name.now c.args.self.now.bindings c.args.height c.args.body.now fs _ c.in-Nothing.ensures
-    (c.kept-in-Called.ensures ∙ c.get-in-Called.ensures ∙ ap (λ m. at_name m c.in-Called.context) c.as_str-in-Called.ensures ∙ sym (called_beyond c.args.name.now c.args.self.now.bindings s _ fs c.in-Called.is))
+    (c.kept-in-Called.ensures ∙ c.look.ensures ∙ sym (called_beyond c.args.name.now c.args.self.now.bindings s _ fs c.in-Called.is))
 
 pub returns-then-is_undefined : goal.returns-then-is_undefined
 returns-then-is_undefined t c =
@@ -39,7 +39,7 @@ returns-then-is_undefined t c =
     from_beyond n bs h c.args.body.now (lower h below) _ c.in-Nothing.ensures
     (from_context n bs below h c.args.body.now.standing c.in-Some-at_height.includer.now positive within c.in-Included.is c.in-Some-at_height.ensures (found_value c.bound_at-found.result) c.bound_at-found.ensures _
     (sym c.is_undefined.ensures ∙ c.if-is_undefined.true)
-    (c.kept-then-is_undefined.ensures ∙ c.get-then-is_undefined.ensures ∙ ap (λ m. at_name m c.context_at.result) c.as_str-then-is_undefined.ensures ∙ ap (at_name n) c.context_at.ensures))
+    (c.kept-then-is_undefined.ensures ∙ c.get-then-is_undefined.ensures ∙ ap (at_name n) c.context_at.ensures))
 
 pub returns-else-is_undefined : goal.returns-else-is_undefined
 returns-else-is_undefined t c =

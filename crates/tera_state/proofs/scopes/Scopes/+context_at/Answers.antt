@@ -7,7 +7,7 @@ pub returns-in-Whole : goal.returns-in-Whole
 returns-in-Whole t c = c.share.ensures ∙ sym (whole_context c.args.body.now.standing _ _ (lower c.args.height c.args.self.now.below) c.in-Whole.is)
 
 pub returns-in-Called : goal.returns-in-Called
-returns-in-Called t c = c.new.ensures ∙ sym (called_context c.args.body.now.standing _ (lower c.args.height c.args.self.now.below) c.in-Called.is)
+returns-in-Called t c = c.arguments.ensures ∙ sym (called_context c.args.body.now.standing _ (lower c.args.height c.args.self.now.below) c.in-Called.is)
 
 pub returns-in-Some : goal.returns-in-Some
 returns-in-Some t c =

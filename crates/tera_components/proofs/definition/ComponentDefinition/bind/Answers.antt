@@ -4,7 +4,7 @@ use Rattle.tera_state.specs.Scope.{look_implicit}
 use Rattle.tera_state.specs.Scopes.{around_of, variables_of}
 use Rattle.tera_components.specs.Definition.{named_arguments}
 use Rattle.tera_components.proofs.Calls.{gives_called}
-use Rattle.tera_components.proofs.definition.ComponentDefinition.build_context.Goals as goal
+use Rattle.tera_components.proofs.definition.ComponentDefinition.bind.Goals as goal
 
 pub returns : goal.returns
 returns c =

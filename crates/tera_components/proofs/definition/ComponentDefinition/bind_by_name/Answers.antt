@@ -8,11 +8,11 @@ use Rattle.tera_state.specs.Scopes.{around_of, variables_of}
 use Rattle.tera_components.specs.Context.{component_context}
 use Rattle.tera_components.specs.Definition.{or_message}
 use Rattle.tera_components.proofs.Arguments.{named_arguments-map}
-use Rattle.tera_components.proofs.definition.ComponentDefinition.build_context_by_name.Goals as goal
+use Rattle.tera_components.proofs.definition.ComponentDefinition.bind_by_name.Goals as goal
 
 pub returns : goal.returns
 returns c = λ s e.
     let look : Name → Val = λ n. look_implicit n (around_of c.args.caller.now) (variables_of c.args.caller.now) in
-    subst (λ (given : List (Name × Val)). Gives (λ (m : Named Val). m) c.build_context.result (or_message (component_context s given c.args.body look)))
+    subst (λ (given : List (Name × Val)). Gives (λ (m : Named Val). m) c.bind.result (or_message (component_context s given c.args.body look)))
     (named_arguments-map c.args.given.now c.in-Map.given.now c.in_ok-given.given c.in_ok-given.ensures c.in-Map.ensures)
-    (c.build_context.ensures s e)
+    (c.bind.ensures s e)

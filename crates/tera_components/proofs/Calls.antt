@@ -41,6 +41,9 @@ pub or_message_some : {A : Type 0} (o : Option A) (a : A) → ◌≡◌ {A = Res
 or_message_some None a e = cc
 or_message_some (Some b) a e = cc
 
+pub answered : {A : Type 0} (a b : A) → ◌≡◌ {A = Result A Fault} (Ok a) (Ok b) → a ≡ b
+answered a b e = cc
+
 -- what refuses the value of a parameter refuses the call
 pub says_refused : {A B : Type 0} (told : Refusal) (o : Option A) (f : A → Option B) → Says told (or_message o) → Says told (or_message (option_and_then f o))
 says_refused None o f h = tt

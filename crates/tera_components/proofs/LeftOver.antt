@@ -1,12 +1,13 @@
 -- The entries whose keys no parameter has, one by one.
-use Rattle.std.proofs.Common.{◌≡◌, ℕ, ◌+◌, ◌<◌, Bool, true, false, not, cond, List, [], ◌∷◌, ◌++◌, Some, None, refl, sym, ap, ◌∙◌, subst, length, take, get_or, arith}
+use Rattle.std.proofs.Common.{◌≡◌, ℕ, ◌+◌, ◌<◌, Bool, true, false, not, cond, List, [], ◌∷◌, ◌++◌, Some, None, is_some, refl, sym, ap, ◌∙◌, subst, length, take, get_or, is_eq, arith}
 use Rattle.std.specs.List.{filter, slice_get}
 use Rattle.std.proofs.lemmas.List.{take_more, append-nil, length-take, get_or-take}
 use Rattle.std.proofs.lemmas.List.Elements.{filter-append}
 use Rattle.std.proofs.lemmas.Option.{slice_get_within, get_or_from_slice_get}
+use Rattle.tera_errors.specs.Site.{Name}
 use Rattle.tera_tree.specs.Blocks.{is_among}
 use Rattle.tera_values_data.specs.Index.{key_at, IsDistinct}
-use Rattle.tera_values_data.proofs.Keys.{key_exact, is_eq_true}
+use Rattle.tera_values_data.proofs.Keys.{key_exact, key_tied, is_eq_true}
 use Rattle.tera_values_data.proofs.Places.{find_absent}
 use Rattle.tera_values.specs.Val.{Val, KeyVal, kbool, kint, ktext, undefined}
 use Rattle.tera_values.specs.Access.{key_eq, find, insert_pair}
@@ -82,7 +83,7 @@ none_left d [] h = refl
 none_left d ((kbool b, v) ∷ es) h = none_left d es (λ n s. h n (some_behind (ktext n) (kbool b, v) es s))
 none_left d ((kint z, v) ∷ es) h = none_left d es (λ n s. h n (some_behind (ktext n) (kint z, v) es s))
 none_left d ((ktext m, v) ∷ es) h =
-    by (is_among m (formal_names d)) (h m (ap (λ b. is_some (cond b (Some v) (find (ktext m) es))) (key_same (ktext m)))) (none_left d es (λ n s. h n (some_behind (ktext n) (ktext m, v) es s)))
+    by (is_among m (formal_names d)) (h m (ap (λ b. is_some (cond b (Some v) (find (ktext m) es))) (ap is_eq (key_tied (ktext m))))) (none_left d es (λ n s. h n (some_behind (ktext n) (ktext m, v) es s)))
   where
     by : (b : Bool) → b ≡ true → left_over d (named_arguments es) ≡ [] → cond (not b) ((m, v) ∷ left_over d (named_arguments es)) (left_over d (named_arguments es)) ≡ []
     by true t rest = rest

@@ -226,7 +226,10 @@ impl ComponentDefinition {
     {
         let given = given.to_value()?;
         match given.shape() {
-            Shape::Map(given) => self.bind(alloc, &Entries::of_map(given), caller, body),
+            Shape::Map(given) => {
+                let given = Entries::of_map(given);
+                self.bind(alloc, &given, caller, body)
+            }
             _ => unreachable!(),
         }
     }

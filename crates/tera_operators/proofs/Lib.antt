@@ -1,3 +1,4 @@
 pub mod Views
 pub mod Keeping
 pub mod Spreading
+pub mod Listing

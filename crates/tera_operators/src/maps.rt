@@ -6,13 +6,17 @@ ghost use Rattle.tera_tree.specs.View.{key_of, key_option};
 ghost use Rattle.tera_values.specs.View.{key_view};
 ghost use Rattle.tera_operators.specs.Literals.{key_val, pairs_of, kept, entry_after, from_left, from_right, map_entries, map_of};
 
+use crate::listed::Entries;
 use crate::operand::Operand;
 use std::alloc::Global;
 use tera_tree::OwnedKey;
 use tera_values::{Error, Key, Map, Shape, Span, TeraResult, Value};
 
+/// Up to so many entries are looked at one after the other.
+const FEW: usize = 16;
+
 /// The key of a map that is written out as this one.
-fn key_from(alloc: Global, key: &OwnedKey) -> TeraResult<Key>
+pub(crate) fn key_from(alloc: Global, key: &OwnedKey) -> TeraResult<Key>
     ensures { Gives key_view result (Ok (key_val (key_of key.now))) }
 {
     match key {
@@ -146,9 +150,9 @@ fn has_spread(keys: &[Option<OwnedKey>]) -> bool
     keys.iter().any(|key| key.is_none())
 }
 
-/// All entries, by whether one of them is spread.
+/// The map of all entries, by whether one of them is spread.
 #[tactic(auto, using(crate::proofs::Keeping::with_spread, crate::proofs::Keeping::without_spread))]
-pub fn entries(
+fn made(
     alloc: Global,
     file: &str,
     keys: &[Option<OwnedKey>],
@@ -162,6 +166,25 @@ pub fn entries(
         from_right(alloc, file, keys, operands)
     } else {
         from_left(alloc, keys, operands)
+    }
+}
+
+/// The entries, which lie as they were evaluated. Where one of them is spread, or where they are many, they are a map.
+#[tactic(auto, using(crate::proofs::Keeping::without_spread))]
+pub fn entries<'k>(
+    alloc: Global,
+    file: &str,
+    keys: &'k [Option<OwnedKey>],
+    operands: Vec<Operand>,
+) -> TeraResult<Entries<'k>>
+    requires { length keys.now ≡ length operands.items }
+    ensures { Gives (λ m. m) result
+        (map_entries file.now (zip (map_list key_option keys.now) operands.items)) }
+{
+    if keys.len() > FEW || has_spread(keys) {
+        Ok(Entries::made(made(alloc, file, keys, operands)?))
+    } else {
+        Ok(Entries::of_operands(keys, operands))
     }
 }
 
@@ -179,6 +202,6 @@ pub fn map(
     ensures { Gives (λ o. o) result
         (map_of file.now (zip (map_list key_option keys.now) operands.items) span) }
 {
-    let all = entries(alloc, file, keys, operands)?;
+    let all = made(alloc, file, keys, operands)?;
     Ok(Operand::new(Value::map(all).shared(alloc)?, span))
 }

@@ -1,7 +1,12 @@
-use Rattle.std.proofs.Common.{Ok, sym, ap}
+use Rattle.std.proofs.Common.{Ok, sym, ap, ◌∙◌}
+use Rattle.tera_tree.specs.Blocks.{is_among}
 use Rattle.tera_values.specs.Named.{text_keys}
+use Rattle.tera_components.specs.Definition.{Definition, formal_names}
 use Rattle.tera_components.proofs.LeftOver.{none_left}
 use Rattle.tera_components.proofs.definition.ComponentDefinition.others.Goals as goal
 
 pub returns-then-are_among : goal.returns-then-are_among
-returns-then-are_among c = ap Ok (sym (ap text_keys (none_left c.args.self.now c.args.given.now (λ n s. sym (c.args.self.now.invariant n)))))
+returns-then-are_among c = ap Ok (ap text_keys (none_left c.args.self.now c.args.given.now (λ n found.
+    sym (ap (λ (d : Definition). is_among n (formal_names d)) c.self.view_is)
+    ∙ sym (c.self.invariant n)
+    ∙ c.are_among.ensures.among c.if-are_among.true n found)) ∙ sym c.new.ensures)

@@ -1,12 +1,12 @@
-use Rattle.std.proofs.Common.{rules, List, Option, ◌∙◌}
+use Rattle.std.proofs.Common.{◌≡◌, rules, List, Option, sym, ap, ◌∙◌}
 use Rattle.tera_errors.specs.Answer.{Says}
 use Rattle.tera_errors.specs.Site.{Name}
 use Rattle.tera_values.specs.Val.{Val}
-use Rattle.tera_values.specs.Named.{Named}
+use Rattle.tera_values.specs.Named.{Named, put}
 use Rattle.tera_state.specs.Scope.{look_implicit}
 use Rattle.tera_state.specs.Scopes.{around_of, variables_of}
 use Rattle.tera_components.specs.Definition.{named_arguments, with_formals, or_message}
-use Rattle.tera_components.proofs.Calls.{with_formals_refused, with_formals_next}
+use Rattle.tera_components.proofs.Calls.{answered, with_formals_refused, with_formals_next}
 use Rattle.tera_components.proofs.definition.ComponentDefinition.put_arguments.Goals as goal
 
 pub returns-in_err-value : goal.returns-in_err-value
@@ -22,5 +22,9 @@ pub loop-argument-preserved : goal.loop-argument-preserved
 loop-argument-preserved c =
     let look : Name → Val = λ n. look_implicit n (around_of c.args.caller.now) (variables_of c.args.caller.now) in
     let given : List (Name × Val) = named_arguments c.args.given.now in
+    let name = c.in_ok-shared_name.field-0 in
+    let value = c.in_ok-shared.field-0 in
+    let named : name ≡ c.argument-item.result.name = sym (answered _ _ c.in_ok-shared_name.ensures) in
+    let shared : value ≡ c.in_ok-value.value = sym (answered _ _ c.in_ok-shared.ensures.value) in
     c.loop-argument.invariant
-    ∙ with_formals_next look given c.deref-argument-items.result.now c.loop-argument.argument-index c.argument-item.result c.loop-argument.context c.put.new.self _ c.in_ok-value.value c.loop-argument-test.true c.argument-item.is c.in_ok-value.ensures c.name.ensures c.in_ok-put.ensures.ok
+    ∙ with_formals_next look given c.deref-argument-items.result.now c.loop-argument.argument-index c.argument-item.result c.loop-argument.context c.put.new.self name c.in_ok-value.value c.loop-argument-test.true c.argument-item.is c.in_ok-value.ensures named (c.in_ok-put.ensures.ok ∙ ap (λ v. put name v c.loop-argument.context) shared)

@@ -117,7 +117,12 @@ impl ComponentArg {
     }
 
     // What is given, undefined too; else what is looked up; else the default.
-    fn offer(&self, alloc: Global, given: &Entries<'_>, caller: &Scopes<'_>) -> TeraResult<Option<Value>>
+    fn offer(
+        &self,
+        alloc: Global,
+        given: &Entries<'_>,
+        caller: &Scopes<'_>,
+    ) -> TeraResult<Option<Value>>
         ensures { Gives (λ o. o) result (Ok (offered
             (λ n. look_implicit n (around_of caller.now) (variables_of caller.now))
             (named_arguments given.now) self.now)) }

@@ -247,7 +247,8 @@ impl ComponentDefinition {
             (named_arguments given.now) body
             (λ n. look_implicit n (around_of caller.now) (variables_of caller.now)))) }
     {
-        self.bind(alloc, &Entries::of_map(given), caller, body)?.to_context()
+        self.bind(alloc, &Entries::of_map(given), caller, body)?
+            .to_context()
     }
 }
 

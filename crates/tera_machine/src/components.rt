@@ -149,10 +149,7 @@ impl<'t, O: Objects> VirtualMachine<'t, O> {
             ));
         };
         let scopes = &configuration.scopes;
-        let context = match component
-            .definition
-            .bind(self.alloc, &given, scopes, body)
-        {
+        let context = match component.definition.bind(self.alloc, &given, scopes, body) {
             Ok(context) => context,
             Err(refusal) => return Err(fault_at(self.alloc, chunk.file(), &refusal, span)),
         };

@@ -11,6 +11,7 @@ ghost use Rattle.tera_tokens.specs.declared.token.Token as token;
 ghost use Rattle.tera_tree.specs.View.{tree_of};
 
 use crate::heads::is_extends;
+use crate::places::Standing;
 use crate::progress::Progress;
 use crate::statements::{behind, step};
 use crate::words::quoted_name;
@@ -68,13 +69,29 @@ impl<'s> File<'s> {
         }
     }
 
-    /// Takes a piece more to what was read. The tokens are those of a tag.
+    /// Takes a piece more to what was read, which stands there. The tokens are those of a tag.
     pub fn step(
         &mut self,
         alloc: Global,
+        standing: Standing,
         piece: Piece<'s>,
         tokens: &[Token<'s>],
     ) -> Result<(), Refusal>
+        ensures { let meant = piece_of tokens.now piece.entry in
+            FileBecomes (spec.file_step 200 (file_of self.old) meant) result self.new }
+    {
+        self.progress.tag = standing.whole;
+        match self.take(alloc, piece, tokens) {
+            Ok(()) => Ok(()),
+            Err(Refusal::Syntax(why, span)) => {
+                Err(Refusal::Syntax(why, standing.pointed(span, tokens)))
+            }
+            Err(Refusal::OutOfMemory) => Err(Refusal::OutOfMemory),
+        }
+    }
+
+    /// The same, where a refusal points at a token or behind the last one.
+    fn take(&mut self, alloc: Global, piece: Piece<'s>, tokens: &[Token<'s>]) -> Result<(), Refusal>
         ensures { let meant = piece_of tokens.now piece.entry in
             FileBecomes (spec.file_step 200 (file_of self.old) meant) result self.new }
     {
@@ -106,7 +123,7 @@ impl<'s> File<'s> {
     }
 
     /// The tree, where the text ends here. It takes no memory.
-    pub fn finish(self, at: usize) -> Result<ParserOutput<'s>, Refusal>
+    pub fn finish(self) -> Result<ParserOutput<'s>, Refusal>
         ensures value { Answers tree_of (spec.file_finished (file_of self.entry)) result }
         ensures told { IfErr result IsSyntax }
     {
@@ -115,7 +132,7 @@ impl<'s> File<'s> {
             progress,
             ..
         } = self;
-        match progress.finish(at) {
+        match progress.finish() {
             Ok(nodes) => Ok(ParserOutput { parent, nodes }),
             Err(refusal) => Err(refusal),
         }

@@ -6,6 +6,7 @@ mod components;
 mod file;
 mod heads;
 pub mod laws;
+mod places;
 mod progress;
 pub mod reader;
 mod statements;

@@ -31,6 +31,8 @@ pub(crate) struct Frame<'s> {
     is_chained: bool,
     /// What it stands in.
     surroundings: Surroundings,
+    /// Its first tag.
+    opened: Span,
 }
 
 /// How far the reading is: what is open, and the nodes that were read in it.
@@ -41,6 +43,8 @@ pub(crate) struct Progress<'s> {
     found: Vec<Node<'s>>,
     /// What these nodes stand in.
     pub surroundings: Surroundings,
+    /// The tag that is read.
+    pub tag: Span,
 }
 
 /// A refusal that points at the first token of a tag.
@@ -54,6 +58,8 @@ pub(crate) fn refused(tag: &[Token<'_>], why: Reason) -> Refusal
 fn stray(tag: &[Token<'_>]) -> Reason {
     if is_extends(tag) {
         Reason::LateExtends
+    } else if Tokens::begin(tag, false).text().starts_with("end") {
+        Reason::NotOpen
     } else {
         Reason::NoStatement
     }
@@ -99,6 +105,7 @@ impl<'s> Progress<'s> {
             frames: Vec::new(alloc),
             found: Vec::new(alloc),
             surroundings: Surroundings::outside(),
+            tag: Span { start: 0, end: 0 },
         }
     }
 
@@ -152,6 +159,11 @@ impl<'s> Progress<'s> {
             return Err(refused(tag, Reason::TooDeep));
         }
         let inside = head.inside(self.surroundings);
+        let opened = if is_chained {
+            self.innermost()
+        } else {
+            self.tag
+        };
         let before = replace(&mut self.found, Vec::new(alloc));
         self.frames.push(Frame {
             before,
@@ -159,6 +171,7 @@ impl<'s> Progress<'s> {
             body: None,
             is_chained,
             surroundings: self.surroundings,
+            opened,
         })?;
         self.surroundings = inside;
         Ok(())
@@ -248,19 +261,27 @@ impl<'s> Progress<'s> {
         Err(refused(tag, Reason::NotOpen))
     }
 
+    /// The first tag of the innermost statement that is open.
+    fn innermost(&self) -> Span {
+        match self.frames.last() {
+            Some(frame) => frame.opened,
+            None => self.tag,
+        }
+    }
+
     /// The nodes, where the text ends here. It takes no memory.
-    pub fn finish(self, at: usize) -> Result<Vec<Node<'s>>, Refusal>
+    pub fn finish(self) -> Result<Vec<Node<'s>>, Refusal>
         ensures value { let meant = spec.finished (progress_of self.entry).frames
             (progress_of self.entry).found in
             Answers (λ nodes. nodes_of nodes.items) meant result }
         ensures told { IfErr result IsSyntax }
     {
+        let opened = self.innermost();
         let Progress { frames, found, .. } = self;
         if frames.is_empty() {
             Ok(found)
         } else {
-            let span = Span { start: at, end: at };
-            Err(Refusal::Syntax(Reason::NoEnd, span))
+            Err(Refusal::Syntax(Reason::NoEnd, opened))
         }
     }
 }

@@ -11,9 +11,9 @@ ghost use Rattle.tera_tree.specs.View.{tree_of};
 
 use crate::blocks::once;
 use crate::file::File;
+use crate::places::{Standing, piece, words};
 use std::alloc::Global;
 use tera_errors::{Error, Span, TeraResult};
-use tera_tokens::cut::next_piece;
 use tera_tokens::refusal::Refusal;
 use tera_tree::{Delimiters, ParserOutput};
 
@@ -34,20 +34,21 @@ fn spelled<'s>(
     let mut trims = false;
     let mut opening = None;
     while !rest.is_empty() {
-        let piece = match next_piece(&mut tokens, delimiters, rest, at, trims, opening) {
+        let piece = match piece(&mut tokens, delimiters, rest, at, trims, opening) {
             Ok(piece) => piece,
             Err(refusal) => return Err(refusal),
         };
+        let standing = Standing::new(delimiters, at, &piece);
         rest = piece.rest;
         at = piece.next;
         trims = piece.trims;
         opening = piece.opening;
-        match file.step(alloc, piece.piece, tokens.as_slice()) {
+        match file.step(alloc, standing, piece.piece, tokens.as_slice()) {
             Ok(()) => {}
             Err(refusal) => return Err(refusal),
         }
     }
-    file.finish(at)
+    file.finish()
 }
 
 /// The tree of a text.
@@ -94,7 +95,7 @@ pub fn parse<'s>(
         Ok(output) => Ok(output),
         Err(Refusal::Syntax(why, span)) => {
             let span = clipped(span, source.len());
-            Err(Error::syntax(alloc, why.words(), name, span))
+            Err(Error::syntax(alloc, words(why), name, span))
         }
         Err(Refusal::OutOfMemory) => Err(Error::out_of_memory()),
     }

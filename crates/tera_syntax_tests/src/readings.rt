@@ -5,11 +5,12 @@ ghost use Rattle.tera_tree.specs.Delimiters.{accepted, delimiters_of};
 use crate::applications::{APPLICATION_NESTS, APPLICATIONS, UNREAD_APPLICATIONS};
 use crate::components::{CALLS, COMPONENT_NESTS, DEFINITIONS, UNREAD_CALLS, UNREAD_DEFINITIONS};
 use crate::includes::{INCLUDE_NESTS, INCLUDES, UNREAD_INCLUDES};
+use crate::places::{PLACES, Place};
 use crate::rows::{NESTS, Nest, OTHERS, Other, REFUSED, Row, TREES, Text, UNUSABLE, Unusable};
 use crate::sections::{SECTION_NESTS, SECTIONS, UNREAD_SECTIONS};
 use crate::shown::Shown;
 use std::alloc::Global;
-use tera_errors::ErrorKind;
+use tera_errors::{ErrorKind, Span};
 use tera_syntax::{Delimiters, ParserOutput, parse};
 
 fn is_shown(alloc: Global, output: &ParserOutput, want: &str) -> bool {
@@ -41,6 +42,33 @@ fn is_refused(alloc: Global, delimiters: &Delimiters, text: &str) -> bool
             _ => false,
         },
     }
+}
+
+/// Whether the text is a syntax error that points there and says so.
+fn is_placed(alloc: Global, delimiters: &Delimiters, place: &Place) -> bool
+    requires { IsTrue (accepted (delimiters_of delimiters.now)) }
+{
+    let Place(text, start, end, words) = *place;
+    match parse(alloc, "t", text, delimiters) {
+        Ok(_) => false,
+        Err(error) => match error.kind() {
+            ErrorKind::SyntaxError(report) => {
+                report.span() == Span { start, end } && report.message() == words
+            }
+            _ => false,
+        },
+    }
+}
+
+fn first_misplaced(alloc: Global, delimiters: &Delimiters, places: &[Place]) -> Option<&'static str>
+    requires { IsTrue (accepted (delimiters_of delimiters.now)) }
+{
+    for place in places {
+        if !is_placed(alloc, delimiters, place) {
+            return Some(place.0);
+        }
+    }
+    None
 }
 
 fn put(all: &mut String, text: &str) -> bool {
@@ -132,6 +160,15 @@ fn trees(rt: HostRuntime) {
 fn refusals(rt: HostRuntime) {
     let wrong = match standard(rt.alloc()) {
         Some(delimiters) => first_read(rt.alloc(), &delimiters, &REFUSED),
+        None => Some("want of memory"),
+    };
+    assert_eq!(rt; wrong, None);
+}
+
+#[test]
+fn places(rt: HostRuntime) {
+    let wrong = match standard(rt.alloc()) {
+        Some(delimiters) => first_misplaced(rt.alloc(), &delimiters, &PLACES),
         None => Some("want of memory"),
     };
     assert_eq!(rt; wrong, None);

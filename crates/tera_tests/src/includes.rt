@@ -296,7 +296,7 @@ fault RenderingError a 3 10
 @@ end
 =>
 fault SyntaxError __tera_one_off 11 15
-fault SyntaxError __tera_one_off 10 10
+fault SyntaxError __tera_one_off 11 13
 
 @@ str off
 {% include "a" "b" %}

@@ -116,7 +116,7 @@ ok
 @@ end
 =>
 fault Message
-fault SyntaxError __tera_one_off 30 30"#;
+fault SyntaxError __tera_one_off 17 30"#;
 
 /// The same, of children and what they make of the blocks above.
 const CHILDREN: &str = r#"@@ template base.html

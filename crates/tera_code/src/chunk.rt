@@ -108,6 +108,8 @@ impl Chunk {
         }
     }
 
+    // Inlined, as is what it stands on: each caller names one form, and no other one is looked for.
+    #[inline(always)]
     pub(crate) fn emit(
         &mut self,
         alloc: Global,
@@ -123,6 +125,7 @@ impl Chunk {
     }
 
     // The same for a text that is put out, which is most of a template: no other form is looked for.
+    #[inline(always)]
     pub(crate) fn emit_text(&mut self, text: &str) -> TeraResult<()>
         ensures ok { OnOk result
             (self.new ≡ lengthened self.old (instruction.WriteText text.now ∷ [])) }
@@ -134,6 +137,7 @@ impl Chunk {
     }
 
     // The same for a name whose value is put out.
+    #[inline(always)]
     pub(crate) fn emit_name(
         &mut self,
         alloc: Global,
@@ -150,6 +154,7 @@ impl Chunk {
         Ok(())
     }
 
+    #[inline(always)]
     pub(crate) fn fill(
         &mut self,
         alloc: Global,

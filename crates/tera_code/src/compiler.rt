@@ -65,6 +65,7 @@ impl Compiler {
         self.alloc
     }
 
+    #[inline(always)]
     pub(crate) fn emit(&mut self, instruction: Instruction<'_>) -> TeraResult<()>
         ensures ok { OnOk result (self.new ≡ lengthened self.old (instruction.entry ∷ [])) }
         ensures lacks { IfErr result Lacks }
@@ -72,6 +73,7 @@ impl Compiler {
         self.chunk.emit(self.alloc, &mut self.seen, instruction)
     }
 
+    #[inline(always)]
     pub(crate) fn emit_text(&mut self, text: &str) -> TeraResult<()>
         ensures ok { OnOk result
             (self.new ≡ lengthened self.old (instruction.WriteText text.now ∷ [])) }
@@ -80,6 +82,7 @@ impl Compiler {
         self.chunk.emit_text(text)
     }
 
+    #[inline(always)]
     pub(crate) fn emit_name(&mut self, name: &str, span: Span) -> TeraResult<()>
         ensures ok { OnOk result
             (self.new ≡ lengthened self.old (instruction.WriteName name.now span ∷ [])) }
@@ -90,6 +93,7 @@ impl Compiler {
     }
 
     // Keeps a place for a jump, whose length is known once what it passes is written.
+    #[inline(always)]
     pub(crate) fn keep_place(&mut self) -> TeraResult<usize>
         ensures place { IfOk result (λ place. place ≡ length self.old.code) }
         ensures ok { OnOk result (self.new ≡ lengthened self.old (instruction.Jump 0 ∷ [])) }
@@ -109,6 +113,7 @@ impl Compiler {
     }
 
     // Puts the instruction at the place that was kept for it.
+    #[inline(always)]
     pub(crate) fn fill(&mut self, place: usize, instruction: Instruction<'_>) -> TeraResult<()>
         requires { place < length self.old.code }
         ensures ok { OnOk result (self.new ≡ filled place instruction.entry self.old) }
@@ -118,6 +123,7 @@ impl Compiler {
             .fill(self.alloc, &mut self.seen, place, instruction)
     }
 
+    #[inline(always)]
     pub(crate) fn constant(&mut self, constant: Constant<'_>, span: Span) -> TeraResult<()>
         ensures ok { OnOk result (self.new ≡ lengthened self.old
             (instruction.LoadConst constant.entry span ∷ [])) }

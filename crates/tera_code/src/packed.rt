@@ -226,6 +226,7 @@ impl Tables {
         }
     }
 
+    #[inline(always)]
     pub(crate) fn text(&mut self, text: &str) -> TeraResult<Packed>
         ensures grows { Grows (shelf_of self.old) (shelf_of self.new) }
         ensures ok { IfOk result (λ p. Packs (shelf_of self.new) p
@@ -238,6 +239,7 @@ impl Tables {
         Ok(Packed::WriteText { start, end })
     }
 
+    #[inline(always)]
     fn constant(&mut self, constant: &Constant<'_>, span: Span) -> TeraResult<Packed>
         ensures grows { Grows (shelf_of self.old) (shelf_of self.new) }
         ensures ok { IfOk result (λ p. Packs (shelf_of self.new) p
@@ -280,6 +282,7 @@ impl Tables {
         Ok((name, span))
     }
 
+    #[inline(always)]
     pub(crate) fn written_name(
         &mut self,
         alloc: Global,
@@ -438,7 +441,9 @@ impl Tables {
         Ok((call, span))
     }
 
-    /// The instruction by numbers, with all that it names put where they find it.
+    /// The instruction by numbers, with all that it names put where they find it. Inlined, so that a caller that names the form is
+    /// left with what that form needs.
+    #[inline(always)]
     pub(crate) fn pack(
         &mut self,
         alloc: Global,

@@ -30,7 +30,6 @@ pub fn write_value<E: EscapeFn>(
 }
 
 // The printed text of a value, escaped.
-#[inline(never)]
 fn write_escaped<E: EscapeFn>(
     alloc: Global,
     escaping: Escaping<'_, E>,

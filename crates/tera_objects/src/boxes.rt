@@ -47,6 +47,7 @@ fn lent_escape<'a>(escape: &'a Option<Box<dyn EscapeFn>>) -> Option<&'a dyn Esca
 }
 
 /// Puts a value behind a text: its printed text, escaped by this where texts are escaped and the value is not safe.
+#[inline(never)]
 pub(crate) fn write_by(
     escape: &Option<Box<dyn EscapeFn>>,
     alloc: Global,

@@ -26,6 +26,8 @@ impl Objects for ObjectsOver<Box<dyn EscapeFn>, Box<dyn Filter>, Box<dyn Test>, 
       };
     }) };
 
+    // What needs no escape, as an integer, is printed without a call.
+    #[inline(always)]
     fn write(
         &self,
         alloc: Global,
@@ -33,6 +35,12 @@ impl Objects for ObjectsOver<Box<dyn EscapeFn>, Box<dyn Filter>, Box<dyn Test>, 
         value: &Value,
         out: &mut String,
     ) -> TeraResult<()> {
+        if value.as_i128().is_some() {
+            return value.print_to(out);
+        }
+        if !autoescape || value.is_safe() {
+            return value.print_to(out);
+        }
         write_by(&self.escape, alloc, autoescape, value, out)
     }
 

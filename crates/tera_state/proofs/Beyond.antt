@@ -7,7 +7,7 @@ use Rattle.tera_values.specs.Val.{Val, undefined}
 use Rattle.tera_values.specs.Access.{is_undefined}
 use Rattle.tera_values.specs.Named.{Named, at_name}
 use Rattle.tera_state.specs.Found.{found_value}
-use Rattle.tera_state.specs.Scope.{Variables, bound, bound_above, defined, handed_down, outermost, in_variables, Frame as FrameMeant}
+use Rattle.tera_state.specs.Scope.{Variables, Turn, in_turn, in_turns, in_innermost, bound, bound_above, defined, handed_down, outermost, in_variables, Frame as FrameMeant}
 use Rattle.tera_state.specs.Stack.{lower}
 use Rattle.tera_state.specs.Scopes.{context_of, frame_of, above_of, variables_at}
 use Rattle.tera_state.specs.declared.bindings.Binding.{Binding}
@@ -37,6 +37,15 @@ beyond n f (u ∷ us) = option_or (handed_down f.kind (bound n u.0 us u.1)) (out
 pub bound_split : (n : Name) (f : FrameMeant) (us : List (FrameMeant × Variables)) (v : Variables) → bound n f us v ≡ option_or (in_variables n v) (beyond n f us)
 bound_split n f [] v = refl
 bound_split n f (u ∷ us) v = refl
+
+-- what the innermost turn binds is what the body binds
+turn_first : (r : Found) (n : Name) (ts : List Turn) → (r ≡ found.Nothing → ⊥) → found_value r ≡ in_innermost n ts → found_value r ≡ in_turns n ts
+turn_first r n [] some e = e
+turn_first r n (t ∷ ts) some e = kept_first r (in_turn n t) (in_turns n ts) some e
+
+pub innermost_first : (r : Found) (n : Name) (f : FrameMeant) (us : List (FrameMeant × Variables)) (v : Variables) → (r ≡ found.Nothing → ⊥) → found_value r ≡ in_innermost n v.turns → found_value r ≡ bound n f us v
+innermost_first r n f us v some e =
+    kept_first r _ _ some (kept_first r _ _ some (turn_first r n v.turns some e)) ∙ sym (bound_split n f us v)
 
 module _ (n : Name) (bs : List Binding) where
   abbrev pub at : Standing → List Frame → Option Val

@@ -70,6 +70,10 @@ abbrev pub in_turns : {C : Type 0} → Name → List (TurnOf C) → Option (ValO
 in_turns n [] = None
 in_turns n (t ∷ ts) = option_or (in_turn n t) (in_turns n ts)
 
+abbrev pub in_innermost : {C : Type 0} → Name → List (TurnOf C) → Option (ValOf C)
+in_innermost n [] = None
+in_innermost n (t ∷ ts) = in_turn n t
+
 abbrev pub in_variables : {C : Type 0} → Name → VariablesOf C → Option (ValOf C)
 in_variables n v = option_or (in_turns n v.turns) (at_name n v.sets)
 

@@ -4,7 +4,7 @@ ghost use Rattle.tera_errors.specs.Answer.{Lacks};
 ghost use Rattle.tera_state.specs.Bound.{layer_of};
 ghost use Rattle.tera_state.specs.Found.{found_value};
 ghost use Rattle.tera_state.specs.Opened.{turn_of, turns_of, InnermostGoesOn};
-ghost use Rattle.tera_state.specs.Scope.{in_turn, in_turns};
+ghost use Rattle.tera_state.specs.Scope.{in_turn, in_turns, in_innermost};
 ghost use Rattle.tera_state.specs.Stack.{lower};
 
 use crate::bindings::Bindings;
@@ -87,6 +87,23 @@ impl OpenLoops {
         match &mut self.innermost {
             Some(innermost) => innermost.next(),
             None => false,
+        }
+    }
+
+    /// What the turn of the innermost loop binds, where one is open. Takes no memory.
+    #[inline(always)]
+    pub fn look_innermost<'a>(
+        &'a self,
+        bindings: &'a Bindings,
+        frame: usize,
+        name: &Sought<'_>,
+    ) -> Found<'a>
+        ensures { found_value result
+            ≡ in_innermost name.now (turns_of bindings.now frame self.now) }
+    {
+        match &self.innermost {
+            Some(innermost) => in_turn(bindings, frame, self.around.len() + 1, innermost, name),
+            None => Found::Nothing,
         }
     }
 

@@ -1,6 +1,7 @@
 // The text that a value is rendered as.
 ghost use Rattle.std.specs.Prelude.{◌≡◌, ◌++◌, string_bytes, OnOk, OnErr, IfErr};
 ghost use Rattle.tera_errors.specs.Answer.{Lacks};
+ghost use Rattle.tera_values.specs.Printed.{printed};
 ghost use Rattle.tera_built_ins.specs.Escaping.{escaping_of};
 ghost use Rattle.tera_state.specs.Rendered.{written_by};
 
@@ -9,7 +10,8 @@ use tera_built_ins::{EscapeFn, Escaping};
 use tera_values::{TeraResult, Value};
 
 /// Puts a value behind a text: its printed text, escaped where texts are escaped and the value is not safe. A text is not
-/// copied on the way. Want of memory leaves the text as it was.
+/// copied on the way. Want of memory leaves the text as it was. What needs no escape is printed without a call.
+#[inline(always)]
 pub fn write_value<E: EscapeFn>(
     alloc: Global,
     escaping: Escaping<'_, E>,
@@ -24,6 +26,21 @@ pub fn write_value<E: EscapeFn>(
     if !escaping.autoescape || value.is_safe() {
         return value.print_to(out);
     }
+    write_escaped(alloc, escaping, value, out)
+}
+
+// The printed text of a value, escaped.
+fn write_escaped<E: EscapeFn>(
+    alloc: Global,
+    escaping: Escaping<'_, E>,
+    value: &Value,
+    out: &mut String,
+) -> TeraResult<()>
+    ensures ok { OnOk result (string_bytes out.new ≡ string_bytes out.old
+        ++ (escaping_of E.escaped escaping.entry).escape (printed value.now)) }
+    ensures err { OnErr result (string_bytes out.new ≡ string_bytes out.old) }
+    ensures lacks { IfErr result Lacks }
+{
     match value.as_str() {
         Some(text) => escaping.escape.escape(text, out),
         None => escaping.escape.escape(value.printed(alloc)?.as_str(), out),

@@ -58,12 +58,22 @@ fn kept<'a>(value: Option<&'a Value>) -> Found<'a>
 }
 
 impl<'c> Scopes<'c> {
-    /// What the name stands for. Takes no memory and copies nothing.
+    /// What the name stands for. Takes no memory and copies nothing. Most names are those of the innermost turn, which is
+    /// asked without a call.
+    #[inline(always)]
     pub fn look(&self, name: &Sought<'_>) -> Found<'_>
         ensures { unwrap_or (found_value result) undefined
             ≡ look name.now (around_of self.now) (variables_of self.now) }
     {
-        self.bound_at(self.below.len(), &self.frame, name)
+        let height = self.below.len();
+        match self
+            .frame
+            .loops
+            .look_innermost(&self.bindings, height, name)
+        {
+            Found::Nothing => self.bound_at(height, &self.frame, name),
+            found => found,
+        }
     }
 
     // What a body with so many frames below it has the name stand for.

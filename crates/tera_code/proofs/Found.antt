@@ -16,7 +16,6 @@ use Rattle.tera_tree.specs.Blocks.{blocks, node_blocks}
 use Rattle.tera_tree.proofs.Views.{view_if, view_capture, view_section, view_for, view_block, view_component_call, view_definition}
 use Rattle.tera_code.specs.declared.blocks.Block.{Block}
 use Rattle.tera_code.specs.Listing.{Listing}
-use Rattle.tera_code.specs.Code.{listing_of}
 use Rattle.tera_code.specs.Blocks.{block_of, block_listing, block_listings}
 
 abbrev Kept : Type 0
@@ -42,13 +41,12 @@ found_node file old mid all node before rest e h is =
 pub found_all : (file : site.Name) (old all : Kept) (rest : List Node) → rest ≡ [] → old ++ block_listings file (blocks (nodes_of rest)) ≡ all → old ≡ all
 found_all file old all rest e is = sym (append-nil old) ∙ ap (λ x. old ++ block_listings file (blocks (nodes_of x))) (sym e) ∙ is
 
--- one is found, and those inside it are to come
-pub found_one : (file : site.Name) (old mid : List Block) (block : Block) (body : site.Name × tree.Nodes) (inside : Bodies) → mid ≡ old ++ block ∷ [] → block_of block ≡ block_listing file body → map block_of mid ++ block_listings file inside ≡ map block_of old ++ block_listings file (body ∷ inside)
-found_one file old mid block body inside e h =
-    ap (λ x. map block_of x ++ block_listings file inside) e
-    ∙ ap (λ x. x ++ block_listings file inside) (map-append block_of old (block ∷ []))
-    ∙ append_assoc (map block_of old) (block_of block ∷ []) (block_listings file inside)
-    ∙ ap (λ x. map block_of old ++ x ∷ block_listings file inside) h
+-- one is found
+pub found_block : (file : site.Name) (old mid : List Block) (block : Block) (body : site.Name × tree.Nodes) → mid ≡ old ++ block ∷ [] → block_of block ≡ block_listing file body → map block_of mid ≡ map block_of old ++ block_listings file (body ∷ [])
+found_block file old mid block body e h =
+    ap (map block_of) e
+    ∙ map-append block_of old (block ∷ [])
+    ∙ ap (λ x. map block_of old ++ x ∷ []) h
 
 pub blocks_if : (node : Node) (condition : Box Expression Global) (body other : Vec Node Global) (xs ys : List Node) → node ≡ variant.If condition body other → xs ≡ body.items → ys ≡ other.items → blocks (nodes_of xs) ++ blocks (nodes_of ys) ≡ node_blocks (node_of node)
 blocks_if node condition body other xs ys is a b =

@@ -18,7 +18,7 @@ use Rattle.tera_code.specs.declared.instruction.Instruction.TheVariants as instr
 use Rattle.tera_code.specs.declared.packed.Packed.{Packed}
 use Rattle.tera_code.specs.declared.packed.Packed.TheVariants as packed
 use Rattle.tera_code.specs.declared.packed.LoopNames.{LoopNames}
-use Rattle.tera_code.specs.Packed.{Shelf, Longer, Grows, Packs, Within, unpacked, span_at, name_at, call_at}
+use Rattle.tera_code.specs.Packed.{Shelf, Longer, Grows, Packs, Within, unpacked, span_at, name_at, call_at, reference_at}
 use Rattle.tera_code.specs.Listing.{Listing}
 use Rattle.tera_code.specs.Code.{lengthened}
 use Rattle.tera_code.specs.Places.{filled}
@@ -90,10 +90,16 @@ module _ (s t : Shelf) (u : IsUtf8 s.pool) (v : IsUtf8 t.pool) (g : Grows s t) w
   name_same n l = at_longer s.names t.names n _ g.1.0 l
 
   below_call : (n : ℕ) → n < length s.calls → n < length t.calls
-  below_call n l = below_longer s.calls t.calls n g.1.1.1.1.1.1.1 l
+  below_call n l = below_longer s.calls t.calls n g.1.1.1.1.1.1.1.0 l
 
   call_same : (n : ℕ) → n < length s.calls → call_at t n ≡ call_at s n
-  call_same n l = at_longer s.calls t.calls n _ g.1.1.1.1.1.1.1 l
+  call_same n l = at_longer s.calls t.calls n _ g.1.1.1.1.1.1.1.0 l
+
+  below_reference : (n : ℕ) → n < length s.references → n < length t.references
+  below_reference n l = below_longer s.references t.references n g.1.1.1.1.1.1.1.1 l
+
+  reference_same : (n : ℕ) → n < length s.references → reference_at t n ≡ reference_at s n
+  reference_same n l = at_longer s.references t.references n _ g.1.1.1.1.1.1.1.1 l
 
   within_stays : (p : Packed) → Within s p → Within t p
   within_stays (packed.WriteText start end) w = (w.0, (boundary_longer s.pool t.pool start u v g.0 w.1.0, boundary_longer s.pool t.pool end u v g.0 w.1.1))
@@ -129,9 +135,9 @@ module _ (s t : Shelf) (u : IsUtf8 s.pool) (v : IsUtf8 t.pool) (g : Grows s t) w
   within_stays (packed.JumpIfFalseOrPop skip) w = tt
   within_stays (packed.JumpIfTrueOrPop skip) w = tt
   within_stays (packed.TakeBlock name span) w = (below_name name w.0, below_span span w.1)
-  within_stays (packed.TakeInclude name span) w = (below_name name w.0, below_span span w.1)
-  within_stays (packed.TakeComponent has_body name keys span) w =
-      (below_name name w.0, below_longer s.keys t.keys keys g.1.1.1.1.0 w.1, below_span span w.2)
+  within_stays (packed.TakeInclude reference span) w = (below_reference reference w.0, below_span span w.1)
+  within_stays (packed.TakeComponent has_body reference keys span) w =
+      (below_reference reference w.0, below_longer s.keys t.keys keys g.1.1.1.1.0 w.1, below_span span w.2)
   within_stays (packed.TakeAbove span arguments) w = below_span span w
   within_stays (packed.ApplyFilter call span) w = (below_call call w.0, below_span span w.1)
   within_stays (packed.ApplyTest call span) w = (below_call call w.0, below_span span w.1)
@@ -171,10 +177,10 @@ module _ (s t : Shelf) (u : IsUtf8 s.pool) (v : IsUtf8 t.pool) (g : Grows s t) w
   unpacked_stays (packed.JumpIfFalseOrPop skip) w = refl
   unpacked_stays (packed.JumpIfTrueOrPop skip) w = refl
   unpacked_stays (packed.TakeBlock name span) w = ap₂ (λ x y. instruction.TakeBlock x y) (name_same name w.0) (span_same span w.1)
-  unpacked_stays (packed.TakeInclude name span) w = ap₂ (λ x y. instruction.TakeInclude x y) (name_same name w.0) (span_same span w.1)
-  unpacked_stays (packed.TakeComponent has_body name keys span) w =
-      ap₂ (λ x y. instruction.TakeComponent x y has_body (span_at t span)) (name_same name w.0) (at_longer s.keys t.keys keys _ g.1.1.1.1.0 w.1)
-      ∙ ap (λ z. instruction.TakeComponent (name_at s name) (get_or s.keys keys []) has_body z) (span_same span w.2)
+  unpacked_stays (packed.TakeInclude reference span) w = ap₂ (λ x y. instruction.TakeInclude x y) (reference_same reference w.0) (span_same span w.1)
+  unpacked_stays (packed.TakeComponent has_body reference keys span) w =
+      ap₂ (λ x y. instruction.TakeComponent x y has_body (span_at t span)) (reference_same reference w.0) (at_longer s.keys t.keys keys _ g.1.1.1.1.0 w.1)
+      ∙ ap (λ z. instruction.TakeComponent (reference_at s reference) (get_or s.keys keys []) has_body z) (span_same span w.2)
   unpacked_stays (packed.TakeAbove span arguments) w = ap (λ y. instruction.TakeAbove arguments y) (span_same span w)
   unpacked_stays (packed.ApplyFilter call span) w = ap₂ (λ (x : Text × List Text) y. instruction.ApplyFilter x.0 x.1 y) (call_same call w.0) (span_same span w.1)
   unpacked_stays (packed.ApplyTest call span) w = ap₂ (λ (x : Text × List Text) y. instruction.ApplyTest x.0 x.1 y) (call_same call w.0) (span_same span w.1)

@@ -26,6 +26,8 @@ pub record Shelf : Type 0 where
   pub loops : List LoopNames
   -- the name that is called, and the names of the arguments
   pub calls : List (Text × List Text)
+  -- the names of what is taken and stands elsewhere
+  pub references : List Text
 
 abbrev pub shelf_of : Tables → Shelf
 shelf_of t =
@@ -38,6 +40,7 @@ shelf_of t =
       spans = t.spans.items;
       loops = t.loops.items;
       calls = map (λ c. (c.name, c.arguments.items)) t.calls.items;
+      references = map (λ r. r.name) t.references.items;
     }
 
 abbrev pub span_at : Shelf → ℕ → Span
@@ -51,6 +54,9 @@ loop_at s i = get_or s.loops i (record { key = None; name = [] })
 
 abbrev pub call_at : Shelf → ℕ → Text × List Text
 call_at s i = get_or s.calls i ([], [])
+
+abbrev pub reference_at : Shelf → ℕ → Text
+reference_at s i = get_or s.references i []
 
 -- the instruction that is meant
 abbrev pub unpacked : Shelf → Packed → Instruction
@@ -86,8 +92,9 @@ unpacked s (packed.PopJumpIfFalse skip) = instruction.PopJumpIfFalse skip
 unpacked s (packed.JumpIfFalseOrPop skip) = instruction.JumpIfFalseOrPop skip
 unpacked s (packed.JumpIfTrueOrPop skip) = instruction.JumpIfTrueOrPop skip
 unpacked s (packed.TakeBlock name span) = instruction.TakeBlock (name_at s name) (span_at s span)
-unpacked s (packed.TakeInclude name span) = instruction.TakeInclude (name_at s name) (span_at s span)
-unpacked s (packed.TakeComponent has_body name keys span) = instruction.TakeComponent (name_at s name) (get_or s.keys keys []) has_body (span_at s span)
+unpacked s (packed.TakeInclude reference span) = instruction.TakeInclude (reference_at s reference) (span_at s span)
+unpacked s (packed.TakeComponent has_body reference keys span) =
+    instruction.TakeComponent (reference_at s reference) (get_or s.keys keys []) has_body (span_at s span)
 unpacked s (packed.TakeAbove span arguments) = instruction.TakeAbove arguments (span_at s span)
 unpacked s (packed.ApplyFilter call span) = instruction.ApplyFilter (call_at s call).0 (call_at s call).1 (span_at s span)
 unpacked s (packed.ApplyTest call span) = instruction.ApplyTest (call_at s call).0 (call_at s call).1 (span_at s span)
@@ -129,8 +136,9 @@ Within s (packed.PopJumpIfFalse skip) = Unit {0}
 Within s (packed.JumpIfFalseOrPop skip) = Unit {0}
 Within s (packed.JumpIfTrueOrPop skip) = Unit {0}
 Within s (packed.TakeBlock name span) = (name < length s.names) × (span < length s.spans)
-Within s (packed.TakeInclude name span) = (name < length s.names) × (span < length s.spans)
-Within s (packed.TakeComponent has_body name keys span) = (name < length s.names) × (keys < length s.keys) × (span < length s.spans)
+Within s (packed.TakeInclude reference span) = (reference < length s.references) × (span < length s.spans)
+Within s (packed.TakeComponent has_body reference keys span) =
+    (reference < length s.references) × (keys < length s.keys) × (span < length s.spans)
 Within s (packed.TakeAbove span arguments) = span < length s.spans
 Within s (packed.ApplyFilter call span) = (call < length s.calls) × (span < length s.spans)
 Within s (packed.ApplyTest call span) = (call < length s.calls) × (span < length s.spans)
@@ -149,7 +157,8 @@ Grows s t =
     × (Longer s.spreads t.spreads
     × (Longer s.keys t.keys
     × (Longer s.spans t.spans
-    × (Longer s.loops t.loops × Longer s.calls t.calls))))))
+    × (Longer s.loops t.loops
+    × (Longer s.calls t.calls × Longer s.references t.references)))))))
 
 -- this element stands there
 abbrev pub IsAt : {X : Type 0} → List X → ℕ → X → Type 0

@@ -1,5 +1,5 @@
 // The blocks of a template, each with code of its own.
-ghost use Rattle.std.specs.Prelude.{◌≡◌, ◌++◌, map, OnOk, IfOk, IfErr};
+ghost use Rattle.std.specs.Prelude.{◌≡◌, ◌++◌, [], ◌∷◌, map, OnOk, IfOk, IfErr};
 ghost use Rattle.tera_errors.specs.Answer.{Lacks};
 ghost use Rattle.tera_code.specs.Blocks.{block_of, block_listing, block_listings};
 ghost use Rattle.tera_tree.specs.Blocks.{blocks, node_blocks};
@@ -66,7 +66,7 @@ fn add(alloc: Global, node: &Node, file: &str, found: &mut Vec<Block>) -> TeraRe
         Node::Definition { body, .. } => add_all(alloc, body.as_slice(), file, found),
         Node::Block { body, name, .. } => {
             let body = body.as_slice();
-            found.push(made(alloc, body, file, name)?)?;
+            put(alloc, body, file, name, found)?;
             add_all(alloc, body, file, found)
         }
         Node::Content { .. }
@@ -76,6 +76,24 @@ fn add(alloc: Global, node: &Node, file: &str, found: &mut Vec<Block>) -> TeraRe
         | Node::Break
         | Node::Continue => Ok(()),
     }
+}
+
+// Puts the block of this name, which has this body, behind those that were found.
+#[tactic(auto, using(crate::proofs::Found::found_block))]
+fn put(
+    alloc: Global,
+    body: &[Node],
+    file: &str,
+    name: &str,
+    found: &mut Vec<Block>,
+) -> TeraResult<()>
+    ensures ok { OnOk result (map block_of found.new.items
+        ≡ map block_of found.old.items
+        ++ block_listings file.now ((name.now, nodes_of body.now) ∷ [])) }
+    ensures lacks { IfErr result Lacks }
+{
+    found.push(made(alloc, body, file, name)?)?;
+    Ok(())
 }
 
 fn made(alloc: Global, body: &[Node], file: &str, name: &str) -> TeraResult<Block>

@@ -10,6 +10,7 @@ use crate::callee::Callee;
 use crate::instruction::Instruction;
 use crate::lent::LentInstruction;
 use crate::packed::{Packed, Tables};
+use crate::reference::Reference;
 use crate::steps::Steps;
 use std::alloc::Global;
 use std::marker::Model;
@@ -63,6 +64,11 @@ impl Chunk {
         ensures { result.now ≡ self.now.file }
     {
         self.file.as_str()
+    }
+
+    /// What its code takes that stands elsewhere, each at its number.
+    pub fn references(&self) -> &[Reference] {
+        self.tables.references.as_slice()
     }
 
     /// The instruction at this place, from 0, which is counted where there is one. No other call hands one out.

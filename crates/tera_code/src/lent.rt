@@ -210,8 +210,9 @@ impl<'a> LentInstruction<'a> {
             Packed::ApplyFilter { call, .. } => Some(Callee::Filter(self.tables.called(call))),
             Packed::ApplyTest { call, .. } => Some(Callee::Test(self.tables.called(call))),
             Packed::CallFunction { call, .. } => Some(Callee::Function(self.tables.called(call))),
-            Packed::TakeComponent { name, .. } => {
-                Some(Callee::Component(self.tables.whole_name(name).as_str()))
+            Packed::TakeComponent { reference, .. } => {
+                let name = self.tables.reference(reference);
+                Some(Callee::Component(name.as_name().as_str()))
             }
             _ => None,
         }

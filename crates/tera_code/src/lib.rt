@@ -17,6 +17,7 @@ mod loops;
 mod nodes;
 mod packed;
 mod parts;
+pub mod reference;
 pub mod steps;
 mod unpack;
 
@@ -29,4 +30,5 @@ pub use content::{Keys, LentName, Names, Spreads, Text};
 pub use instruction::Instruction;
 pub use lent::LentInstruction;
 pub use nodes::compiled;
+pub use reference::Reference;
 pub use steps::Steps;

@@ -10,6 +10,7 @@ use crate::constant::{Constant, Kept, small_integer};
 use crate::content::{Keys, LentName, Names, Spreads};
 use crate::instruction::Instruction;
 use crate::parts::copied;
+use crate::reference::Reference;
 use std::alloc::Global;
 use tera_errors::Error;
 use tera_tree::{BinaryOperator, OwnedKey};
@@ -106,12 +107,12 @@ pub(crate) enum Packed {
         span: u32,
     },
     TakeInclude {
-        name: u32,
+        reference: u32,
         span: u32,
     },
     TakeComponent {
         has_body: bool,
-        name: u32,
+        reference: u32,
         keys: u32,
         span: u32,
     },
@@ -161,6 +162,7 @@ pub(crate) struct Tables {
     pub(crate) spans: Vec<Span>,
     pub(crate) loops: Vec<LoopNames>,
     pub(crate) calls: Vec<CallNames>,
+    pub(crate) references: Vec<Reference>,
 }
 
 /// A number that instructions hold. More than they can hold is want of memory.
@@ -220,6 +222,7 @@ impl Tables {
             spans: Vec::new(alloc),
             loops: Vec::new(alloc),
             calls: Vec::new(alloc),
+            references: Vec::new(alloc),
         }
     }
 
@@ -339,15 +342,28 @@ impl Tables {
         Ok(Packed::TakeBlock { name, span })
     }
 
+    /// Puts what is taken and stands elsewhere beside the others, and tells its place.
+    fn add_reference(&mut self, name: &LentName<'_>, is_component: bool) -> TeraResult<u32>
+        ensures grows { Grows (shelf_of self.old) (shelf_of self.new) }
+        ensures ok { IfOk result (λ n. IsAt (shelf_of self.new).references n name.now) }
+        ensures lacks { IfErr result Lacks }
+    {
+        let reference = Reference {
+            name: name.share()?,
+            is_component,
+        };
+        number(&mut self.references, reference)
+    }
+
     fn take_include(&mut self, name: &LentName<'_>, span: Span) -> TeraResult<Packed>
         ensures grows { Grows (shelf_of self.old) (shelf_of self.new) }
         ensures ok { IfOk result
             (λ p. Packs (shelf_of self.new) p (instruction.TakeInclude name.now span)) }
         ensures lacks { IfErr result Lacks }
     {
-        let name = number(&mut self.names, name.share()?)?;
+        let reference = self.add_reference(name, false)?;
         let span = number(&mut self.spans, span)?;
-        Ok(Packed::TakeInclude { name, span })
+        Ok(Packed::TakeInclude { reference, span })
     }
 
     fn take_component(
@@ -363,13 +379,13 @@ impl Tables {
             (instruction.TakeComponent name.now keys.now has_body span)) }
         ensures lacks { IfErr result Lacks }
     {
-        let name = number(&mut self.names, name.share()?)?;
+        let reference = self.add_reference(name, true)?;
         let keys = copies(alloc, keys.as_slice())?;
         let keys = number(&mut self.keys, keys)?;
         let span = number(&mut self.spans, span)?;
         Ok(Packed::TakeComponent {
             has_body,
-            name,
+            reference,
             keys,
             span,
         })

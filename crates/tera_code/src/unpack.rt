@@ -1,7 +1,7 @@
 // What packed instructions mean.
 ghost use Rattle.std.specs.Prelude.{◌≡◌, ◌<◌, ◌≤◌, ◌-◌, length, take, drop, string_bytes};
 ghost use Rattle.std.specs.Str.{IsCharBoundary};
-ghost use Rattle.tera_code.specs.Packed.{Within, shelf_of, span_at, name_at, call_at, unpacked};
+ghost use Rattle.tera_code.specs.Packed.{Within, shelf_of, span_at, name_at, call_at, reference_at, unpacked};
 
 use crate::constant::Constant;
 use crate::content::{Keys, LentName, Names, Spreads, Text};
@@ -55,6 +55,14 @@ impl Tables {
         ensures { result ≡ (call_at (shelf_of self.now) number).0 }
     {
         LentName::new(&self.calls[number as usize].name)
+    }
+
+    /// What is taken and stands elsewhere, by its name, which carries the number.
+    pub(crate) fn reference(&self, number: u32) -> LentName<'_>
+        requires { number < length self.now.references.items }
+        ensures { result ≡ reference_at (shelf_of self.now) number }
+    {
+        LentName::numbered(&self.references[number as usize].name, number as usize)
     }
 
     fn argument_names(&self, number: u32) -> Names<'_>
@@ -163,19 +171,19 @@ impl Tables {
                 name: LentName::new(self.whole_name(name)),
                 span: self.span(span),
             },
-            Packed::TakeInclude { name, span } => Instruction::TakeInclude {
-                name: LentName::new(self.whole_name(name)),
+            Packed::TakeInclude { reference, span } => Instruction::TakeInclude {
+                name: self.reference(reference),
                 span: self.span(span),
             },
             Packed::TakeComponent {
                 has_body,
-                name,
+                reference,
                 keys,
                 span,
             } => {
                 let keys = &self.keys[keys as usize];
                 Instruction::TakeComponent {
-                    name: LentName::new(self.whole_name(name)),
+                    name: self.reference(reference),
                     keys: Keys::new(keys.as_slice()),
                     has_body,
                     span: self.span(span),

@@ -1,8 +1,8 @@
-use Rattle.std.proofs.Common.{◌++◌, map, sym, ap, ◌∙◌}
+use Rattle.std.proofs.Common.{[], ◌∷◌, ◌++◌, map, refl, sym, ap, ◌∙◌}
 use Rattle.tera_tree.specs.View.{nodes_of}
-use Rattle.tera_code.specs.Blocks.{block_of, block_listings}
+use Rattle.tera_code.specs.Blocks.{block_of, block_listing, block_listings}
 use Rattle.tera_code.proofs.Written.{on_ok_by}
-use Rattle.tera_code.proofs.Found.{found_more, found_one, blocks_if, blocks_for, blocks_capture, blocks_section, blocks_block, blocks_component_call, blocks_definition}
+use Rattle.tera_code.proofs.Found.{found_more, blocks_if, blocks_for, blocks_capture, blocks_section, blocks_block, blocks_component_call, blocks_definition}
 use Rattle.tera_code.proofs.blocks.+blocks.Goals as goal
 
 pub add-returns-in_ok-add_all-in-If-clause-ok : goal.add-returns-in_ok-add_all-in-If-clause-ok
@@ -21,10 +21,10 @@ pub add-returns-in-FilterSection-clause-ok : goal.add-returns-in-FilterSection-c
 add-returns-in-FilterSection-clause-ok t c =
     on_ok_by _ _ _ _ (ap (λ x. map block_of c.args.found.now.items ++ block_listings c.args.file.now x) (blocks_section _ c.in-FilterSection.filters c.in-FilterSection.body _ c.in-FilterSection.is c.as_slice-in-FilterSection.ensures.value)) c.add_all-in-FilterSection.ensures.ok
 
-pub add-returns-in_ok-push-in-Block-clause-ok : goal.add-returns-in_ok-push-in-Block-clause-ok
-add-returns-in_ok-push-in-Block-clause-ok t c =
+pub add-returns-in_ok-put-in-Block-clause-ok : goal.add-returns-in_ok-put-in-Block-clause-ok
+add-returns-in_ok-put-in-Block-clause-ok t c =
     on_ok_by _ _ _ _ (
-    found_one _ _ _ _ (c.in-Block.name.now, nodes_of c.as_slice-body.result.now) _ c.in_ok-push-in-Block.ensures.items c.in_ok-made-in-Block.ensures.ok
+    found_more (block_listing c.args.file.now) _ _ ((c.in-Block.name.now, nodes_of c.as_slice-body.result.now) ∷ []) _ _ refl c.in_ok-put-in-Block.ensures.ok
     ∙ ap (λ x. map block_of c.args.found.now.items ++ block_listings c.args.file.now x) (blocks_block _ c.in-Block.name c.in-Block.body c.in-Block.span _ c.in-Block.is c.as_slice-body.ensures.value)
     ) c.add_all-in-Block.ensures.ok
 

@@ -21,9 +21,6 @@ use Rattle.tera_code.specs.Blocks.{block_of, block_listing, block_listings}
 abbrev Kept : Type 0
 Kept = List (site.Name × Listing)
 
-abbrev Bodies : Type 0
-Bodies = List (site.Name × tree.Nodes)
-
 -- some are found, and others are to come
 pub found_more : {A B : Type 0} (f : A → B) (old mid : List B) (some others whole : List A) → whole ≡ some ++ others → mid ≡ old ++ map f some → mid ++ map f others ≡ old ++ map f whole
 found_more f old mid some others whole e h =

@@ -28,6 +28,7 @@ pub mod Chosen
 pub mod Choosing
 pub mod Definitions
 pub mod Besides
+pub mod Leading
 pub mod Listed
 pub mod Served
 pub mod Wanted

@@ -14,6 +14,11 @@ use Rattle.tera_registry.specs.declared.choices.Choice.{Choice}
 abbrev pub chosen : BTreeMap (String Global) Choice Global → Name → Option Choice
 chosen = get_by_text
 
+-- it is what stands at some name
+pub record IsTaken (choices : BTreeMap (String Global) Choice Global) (choice : Choice) : Type 0 where
+  pub name : Name
+  pub is : chosen choices name ≡ Some choice
+
 -- whether definitions of this priority are better than one that was taken
 abbrev pub improves : Option Choice → ℕ → Bool
 improves None p = true

@@ -14,4 +14,6 @@ pub mod Edges
 pub mod Reached
 pub mod Links
 pub mod Definers
+pub mod References
+pub mod LinkTable
 pub mod Templates

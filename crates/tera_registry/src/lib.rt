@@ -11,6 +11,7 @@ mod includes;
 mod known;
 mod lineage;
 mod link;
+pub mod links;
 mod meant;
 mod names;
 mod needs;
@@ -22,4 +23,5 @@ mod variables;
 mod walks;
 
 pub use components::Component;
+pub use links::Home;
 pub use templates::{Defined, Definer, Definers, Found, Templates};

@@ -6,12 +6,14 @@ ghost use Rattle.tera_meaning.specs.Registry.{Registry};
 ghost use Rattle.tera_registry.specs.Order.{Rises};
 ghost use Rattle.tera_registry.specs.Choices.{AreChosen};
 ghost use Rattle.tera_registry.specs.Links.{AreUps, AreRoots};
-ghost use Rattle.tera_registry.specs.Kept.{entries_of, seen_by};
+ghost use Rattle.tera_registry.specs.Kept.{entries_of, seen, seen_by};
+ghost use Rattle.tera_registry.specs.References.{AreAllRight};
 
 use crate::choices::{Choice, Taken, choices};
 use crate::definers::any_lacks;
 use crate::edges::edges;
 use crate::lineage::{Up, all_above, roots};
+use crate::links::{LinkTable, link_table};
 use crate::template::Template;
 use crate::walks::least_circle;
 use std::alloc::Global;
@@ -21,12 +23,13 @@ use tera_errors::{Error, TeraResult};
 use tera_objects::Objects;
 
 /// How templates go together: what each extends, the place of the last parent of each, and which definition of each
-/// component is taken.
+/// component is taken, and what code names of all that.
 #[derive(Drop)]
 pub struct Links {
     pub ups: Vec<Up>,
     pub roots: Vec<usize>,
     pub choices: BTreeMap<String, Choice>,
+    pub table: LinkTable,
 }
 
 /// Links templates. Refuses those that do not go together, with the first fault by name.
@@ -44,6 +47,8 @@ pub fn link<O: Objects>(
     ensures ups { IfOk result (λ l. AreUps registry l.ups.items (length registry.templates)) }
     ensures roots { IfOk result (λ l. AreRoots registry l.roots.items (length registry.templates)) }
     ensures choices { IfOk result (λ l. AreChosen registry l.choices) }
+    ensures table { IfOk result (λ l. AreAllRight (seen templates.now prefixes.now) l.choices
+        l.table.bodies.items) }
 {
     let ups = all_above(alloc, templates, prefixes)?;
     let edges = edges(alloc, templates, prefixes)?;
@@ -65,9 +70,11 @@ pub fn link<O: Objects>(
             "a template has a block that none of its parents has, or names what is not there",
         ));
     }
+    let table = link_table(alloc, templates, prefixes, &choices)?;
     Ok(Links {
         ups,
         roots,
         choices,
+        table,
     })
 }

@@ -12,9 +12,11 @@ ghost use Rattle.tera_meaning.specs.Registry.{Entry, Registry};
 ghost use Rattle.std.specs.Coded.{codes};
 ghost use Rattle.tera_code.specs.contracts.chunk.Chunk as chunk;
 ghost use Rattle.tera_registry.specs.contracts.choices.Choice as choice;
-ghost use Rattle.tera_registry.specs.Choices.{AreChosen};
+ghost use Rattle.tera_registry.specs.Choices.{AreChosen, IsTaken, chosen};
+ghost use Rattle.tera_registry.specs.References.{AreAllRight, LeadsTo-prop};
 ghost use Rattle.tera_registry.specs.Order.{Rises, Rises-prop};
 ghost use Rattle.tera_registry.specs.Links.{ArePlaced, IsLinked};
+ghost use Rattle.tera_registry.specs.Places.{IsPlace};
 ghost use Rattle.tera_registry.specs.Kept.{entries_of, seen};
 ghost use Rattle.tera_registry.specs.Batch.{ConfiguresOneOf, Adds, pairs_of};
 
@@ -26,6 +28,7 @@ use crate::includes::misses;
 use crate::known::{any_lacks, code_lacks};
 use crate::lineage::Up;
 use crate::link::link;
+use crate::links::{Home, LinkTable};
 use crate::names::resolve;
 use crate::template::Template;
 use crate::variables::variables;
@@ -37,7 +40,7 @@ use tera_components::ComponentDefinition;
 use tera_errors::{Error, TeraResult};
 use tera_objects::Objects;
 use tera_tree::{Delimiters, Node};
-use tera_values::Sought;
+use tera_values::{Name, Sought};
 
 /// Templates by name, and the prefixes by which a name is looked up that none of them has.
 pub struct Templates {
@@ -48,11 +51,14 @@ pub struct Templates {
     ups: Vec<Up>,
     roots: Vec<usize>,
     choices: BTreeMap<String, Choice>,
+    /// What each include and each call of a component leads to, found once as well.
+    links: LinkTable,
     ghost rises: { Rises (entries_of all.items) } by { Rises-prop _ },
     ghost faultless: { first_fault (seen all.items prefixes.items) [] (entries_of all.items) ≡ None },
     ghost placed: { ArePlaced (seen all.items prefixes.items) ups.items } by { Prim.hlevel codes },
     ghost linked: { IsLinked all.items prefixes.items roots.items } by { Prim.hlevel (codes, chunk.the_row.coded) },
     ghost chosen: { AreChosen (seen all.items prefixes.items) choices } by { Prim.hlevel (codes, choice.the_row.coded) },
+    ghost right: { AreAllRight (seen all.items prefixes.items) choices links.bodies.items } by { Prim.hlevel LeadsTo-prop },
 }
 
 // By hand, so that templates that go out of scope are one call.
@@ -65,12 +71,14 @@ impl Drop for Templates {
             ups,
             roots,
             choices,
+            links,
         } = self;
         drop(all);
         drop(prefixes);
         drop(ups);
         drop(roots);
         drop(choices);
+        drop(links);
     }
 }
 
@@ -94,11 +102,26 @@ pub struct Found<'t> {
 pub struct Defined<'t> {
     pub definition: &'t ComponentDefinition,
     pub chunk: &'t Chunk,
+    /// Where the links of its code are.
+    pub home: Home,
 }
 
 impl<'t> Found<'t> {
     ghost use Rattle.tera_meaning.specs.Lineage.{definers};
     ghost use Rattle.tera_registry.specs.Templates.{with_templates, definers_of};
+
+    /// Where the links of the code are that a rendering of it begins with.
+    pub fn home(&self) -> Home {
+        match self.templates.roots.get(self.place) {
+            Some(root) => self.templates.links.home_of_body(*root),
+            None => Home::nowhere(),
+        }
+    }
+
+    /// Where the links of its own code are.
+    pub fn body_home(&self) -> Home {
+        self.templates.links.home_of_body(self.place)
+    }
 
     /// Those who define a block for the template, nearest first. Takes no memory.
     pub fn definers(&self, block: &str) -> Definers<'t>
@@ -131,6 +154,8 @@ struct Start<'t> {
 #[derive(Clone, Copy)]
 pub struct Definer<'t> {
     pub chunk: &'t Chunk,
+    /// Where the links of its code are.
+    pub home: Home,
     pub above: Definers<'t>,
 }
 
@@ -188,6 +213,7 @@ impl Templates {
             ups: Vec::new(alloc),
             roots: Vec::new(alloc),
             choices: BTreeMap::new(alloc),
+            links: LinkTable::new(alloc),
         }
     }
 
@@ -226,6 +252,7 @@ impl Templates {
         self.ups = links.ups;
         self.roots = links.roots;
         self.choices = links.choices;
+        self.links = links.table;
         Ok(())
     }
 
@@ -234,15 +261,36 @@ impl Templates {
         ensures { (r : Registry) → Finds (with_templates r self.now) name.now result }
     {
         let place = resolve(self.all.as_slice(), self.prefixes.as_slice(), name)?;
+        Some(self.found_at(place))
+    }
+
+    /// The same for the name of a reference, which has this number in code at home there: what is linked is not looked up.
+    pub fn find_linked(&self, name: &Name, home: Home, number: usize) -> Option<Found<'_>>
+        ensures { (r : Registry) → Finds (with_templates r self.now) name.now result }
+    {
+        match self.links.template(name, home, number) {
+            Some(place) => Some(self.found_at(place)),
+            None => self.find(name.as_str()),
+        }
+    }
+
+    // The template at a place, to which some names resolve.
+    fn found_at(&self, place: usize) -> Found<'_>
+        requires { place < length self.now.all.items }
+        ensures { (r : Registry) (name : Name)
+            → IsPlace (templates_of self.now) (Some place)
+            (resolve (with_templates r self.now) name)
+            → Finds (with_templates r self.now) name (Some result) }
+    {
         let template: &Template = &self.all[place];
         let root: &Template = &self.all[self.roots[place]];
-        Some(Found {
+        Found {
             name: template.name.as_str(),
             chunk: &root.body,
             body: &template.body,
             templates: self,
             place,
-        })
+        }
     }
 
     /// Where the first of those stands who define a block, from a template on.
@@ -279,6 +327,7 @@ impl Templates {
         let block = &blocks[at.block];
         Some(Definer {
             chunk: &block.code,
+            home: self.links.home_of_block(at.template, at.block),
             above: Definers {
                 start: Some(Start {
                     templates: self,
@@ -322,12 +371,36 @@ impl Templates {
             result }
     {
         let choice = self.choices.get(name)?;
+        Some(self.defined_at(*choice))
+    }
+
+    /// The same for the name of a reference, which has this number in code at home there: what is linked is not looked up.
+    pub fn component_linked(&self, name: &Name, home: Home, number: usize) -> Option<Defined<'_>>
+        ensures { (r : Registry) → IsDefined (component (with_templates r self.now) name.now)
+            result }
+    {
+        match self.links.component(name, home, number) {
+            Some(choice) => Some(self.defined_at(choice)),
+            None => self.component(name.as_str()),
+        }
+    }
+
+    // The component of which this is taken.
+    fn defined_at(&self, choice: Choice) -> Defined<'_>
+        requires { IsTaken self.now.choices choice }
+        ensures { (r : Registry) (name : Name) → chosen self.now.choices name ≡ Some choice
+            → IsDefined (component (with_templates r self.now) name) (Some result) }
+    {
         let template: &Template = &self.all[choice.template];
         let component = &template.components[choice.component];
-        Some(Defined {
+        let home = self
+            .links
+            .home_of_component(choice.template, template.blocks.len(), choice.component);
+        Defined {
             definition: &component.definition,
             chunk: &component.code,
-        })
+            home,
+        }
     }
 
     /// Whether a template defines a component of this name. Takes no memory.

@@ -1,9 +1,9 @@
-use Rattle.std.proofs.Common.{◌≡◌, Some, None, refl, sym, ◌∙◌, arith}
+use Rattle.std.proofs.Common.{◌≡◌, None, sym}
 use Rattle.tera_meaning.specs.Components.{component}
-use Rattle.tera_registry.specs.Choices.{chosen, chosen_of}
-use Rattle.tera_registry.specs.Templates.{with_templates, registry_in}
+use Rattle.tera_registry.specs.Choices.{chosen}
+use Rattle.tera_registry.specs.Templates.{with_templates}
 use Rattle.tera_registry.proofs.Definitions.{component-none}
-use Rattle.tera_registry.proofs.Listed.{chosen-in-all, taken-within, taken-in, taken-component-within, taken-defined}
+use Rattle.tera_registry.proofs.Listed.{chosen-in-all}
 use Rattle.tera_registry.proofs.templates.Templates.component.Goals as goal
 
 pub returns-in_err-choice : goal.returns-in_err-choice
@@ -13,31 +13,3 @@ returns-in_err-choice c = λ r.
     let name = c.args.name.now in
     let none : component q name ≡ None = component-none q name (chosen self.choices name) (chosen-in-all q self.choices self.chosen name) (sym c.in_err-choice.ensures.value) in
     rw c.from_residual.ensures none
-
-pub index-requires : goal.index-requires
-index-requires c =
-    let self = c.args.self.now in
-    let choice = c.in_ok-choice.choice.now in
-    let name = c.args.name.now in
-    let taken : chosen_of (registry_in self) name ≡ Some choice = sym (self.chosen name) ∙ sym c.in_ok-choice.ensures.value in
-    omega (arith, taken-within (registry_in self) self.all.items name choice refl taken, self.all.ok)
-
-pub index-component-requires : goal.index-component-requires
-index-component-requires c =
-    let self = c.args.self.now in
-    let choice = c.in_ok-choice.choice.now in
-    let name = c.args.name.now in
-    let taken : chosen_of (registry_in self) name ≡ Some choice = sym (self.chosen name) ∙ sym c.in_ok-choice.ensures.value in
-    let at = taken-in (registry_in self) self.all.items name choice c.index.result.now refl taken c.index.ensures in
-    let u = c.index.result.now.value in
-    rw c.deref-template.ensures (omega (arith, taken-component-within (registry_in self) name choice u at, u.components.ok))
-
-pub returns : goal.returns
-returns c = λ r.
-    let self = c.args.self.now in
-    let q = with_templates r self in
-    let choice = c.in_ok-choice.choice.now in
-    let name = c.args.name.now in
-    let taken : chosen_of q name ≡ Some choice = sym (chosen-in-all q self.choices self.chosen name) ∙ sym c.in_ok-choice.ensures.value in
-    let at = taken-in q self.all.items name choice c.index.result.now refl taken c.index.ensures in
-    taken-defined q name choice c.index.result.now.value c.index-component.result.now _ at (rw c.deref-template.ensures at c.index-component.ensures) refl refl

@@ -1,0 +1,21 @@
+-- Links: what a name leads to, by the place of a template and by its name.
+use Rattle.std.proofs.Common.{◌≡◌, ℕ, map, option_map, Some, String, Global, refl, sym, ap, ◌∙◌, slice_get}
+use Rattle.std.specs.declared.collections.BTreeMap.{BTreeMap}
+use Rattle.std.proofs.lemmas.Option.{slice_get-map}
+use Rattle.tera_errors.specs.Site.{Name}
+use Rattle.tera_meaning.specs.Registry.{Registry, Entry}
+use Rattle.tera_meaning.specs.Resolve.{resolve}
+use Rattle.tera_registry.specs.declared.choices.Choice.{Choice}
+use Rattle.tera_registry.specs.declared.links.Destination.TheVariants as destination
+use Rattle.tera_registry.specs.References.{LeadsTo}
+use Rattle.tera_registry.specs.Order.{Rises}
+use Rattle.tera_registry.specs.Places.{IsPlace}
+use Rattle.tera_registry.proofs.Linked.{at-its-place}
+
+module _ (r : Registry) (choices : BTreeMap (String Global) Choice Global) (name : Name) (place : ℕ) where
+  pub leads-there : IsPlace r.templates (Some place) (resolve r name) → LeadsTo r choices name (destination.Template place)
+  leads-there is =
+      (slice_get-map (λ (t : Entry). t.0) r.templates place ∙ ap (option_map (λ (t : Entry). t.0)) (sym is.0), is.1)
+
+  pub is-there : Rises r.templates → LeadsTo r choices name (destination.Template place) → IsPlace r.templates (Some place) (resolve r name)
+  is-there rises is = (at-its-place r place name (resolve r name) rises is.1 refl is.0, is.1)

@@ -46,5 +46,5 @@ flow_of (flow.Skip count) = Skip count
 flow_of (flow.To place count) = To place count
 flow_of flow.Out = Out
 flow_of (flow.Ask a) = Ask (request_of a) (use_of a)
-flow_of (flow.Include name span) = Ask (AnInclude name.now span) Written
+flow_of (flow.Include a) = Ask (AnInclude a.name.now a.span) Written
 flow_of (flow.Component a) = Ask (component_request a.value) (component_use a.value)

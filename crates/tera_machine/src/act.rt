@@ -9,11 +9,11 @@ ghost use Rattle.tera_machine.specs.Subject.{here_of};
 ghost use Rattle.tera_state.specs.Scopes.{around_of};
 ghost use Rattle.tera_tree.specs.declared.expression.BinaryOperator.{BinaryOperator as Operator};
 
-use crate::asked::{Asked, AskedComponent};
+use crate::asked::{Asked, AskedComponent, AskedTemplate};
 use crate::configuration::Configuration;
 use crate::machine::{Flow, VirtualMachine};
 use std::alloc::Global;
-use tera_code::{Instruction, Keys, Spreads};
+use tera_code::{Instruction, Keys, LentName, Spreads};
 use tera_objects::Objects;
 use tera_operators::Operand;
 use tera_state::Found;
@@ -81,13 +81,19 @@ impl<'c> Configuration<'c> {
                 Ok(Flow::Ask(Asked::Block(name.as_name(), *span)))
             }
             Instruction::TakeAbove { arguments, span } => self.take_above(*arguments, *span),
-            Instruction::TakeInclude { name, span } => Ok(Flow::Include(name.as_name(), *span)),
+            Instruction::TakeInclude { name, span } => {
+                Ok(Flow::Include(AskedTemplate {
+                    name: name.as_name(),
+                    number: name.number(),
+                    span: *span,
+                }))
+            }
             Instruction::TakeComponent {
                 name,
                 keys,
                 has_body,
                 span,
-            } => self.take_component(machine, file, name.as_name(), keys, *has_body, *span),
+            } => self.take_component(machine, file, name, keys, *has_body, *span),
             Instruction::ApplyFilter {
                 name,
                 arguments,
@@ -412,7 +418,7 @@ impl<'c> Configuration<'c> {
         &mut self,
         machine: &VirtualMachine<'_, O>,
         file: &str,
-        name: &'f Name,
+        name: &LentName<'f>,
         keys: &Keys<'f>,
         has_body: bool,
         span: Span,
@@ -432,7 +438,8 @@ impl<'c> Configuration<'c> {
         let body = self.handed(machine.alloc, has_body)?;
         let given = tera_operators::entries(machine.alloc, file, keys, operands)?;
         let asked = AskedComponent {
-            name,
+            name: name.as_name(),
+            number: name.number(),
             given,
             body,
             safe: machine.autoescape,

@@ -10,11 +10,20 @@ pub enum Asked<'f> {
     Above(Span),
 }
 
-/// A component to run, at the span of its call: the entries that its attributes make, at will the text that it is handed, and
+/// A template to include, by its name and the number of the reference, at the span of the name.
+#[derive(Clone, Copy)]
+pub struct AskedTemplate<'f> {
+    pub name: &'f Name,
+    pub number: usize,
+    pub span: Span,
+}
+
+/// A component to run, at the span of its call, by its name and the number of the reference: the entries that its attributes make, at will the text that it is handed, and
 /// whether the text that it makes is safe.
 #[derive(Drop)]
 pub struct AskedComponent<'f> {
     pub name: &'f Name,
+    pub number: usize,
     pub given: Entries<'f>,
     pub body: Option<Value>,
     pub safe: bool,

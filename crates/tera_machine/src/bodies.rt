@@ -24,7 +24,7 @@ use tera_code::Chunk;
 use tera_errors::Error;
 use tera_objects::Objects;
 use tera_operators::Operand;
-use tera_registry::{Definer, Definers};
+use tera_registry::{Definer, Definers, Home};
 use tera_state::Stack;
 use tera_values::{Name, TeraResult};
 
@@ -39,6 +39,7 @@ pub struct Outer {
 #[derive(Drop)]
 pub struct Inside<'t> {
     pub chunk: &'t Chunk,
+    pub home: Home,
     pub above: Definers<'t>,
     pub outer: Outer,
 }
@@ -175,6 +176,7 @@ impl<'t, O: Objects> VirtualMachine<'t, O> {
         let outer = configuration.begin_body()?;
         Ok(Inside {
             chunk: definer.chunk,
+            home: definer.home,
             above,
             outer,
         })
@@ -195,6 +197,7 @@ impl<'t, O: Objects> VirtualMachine<'t, O> {
     {
         let Inside {
             chunk: _,
+            home: _,
             above,
             outer,
         } = inside;

@@ -22,7 +22,7 @@ use tera_code::Chunk;
 use tera_errors::Error;
 use tera_objects::Objects;
 use tera_operators::{Operand, fault_at};
-use tera_registry::{Component, Defined, Templates};
+use tera_registry::{Component, Defined, Home, Templates};
 use tera_values::{Kwargs, Name, Span, TeraResult, Value};
 
 /// How deep components may call one another.
@@ -34,10 +34,11 @@ pub struct Beside<'t> {
     pub components: &'t [Component],
 }
 
-/// A component that is called: its code, the context in which it runs, and how many components are open then.
+/// A component that is called: its code and where that is linked, the context in which it runs, and how many components are open then.
 #[derive(Drop)]
 pub struct Called<'t> {
     pub code: &'t Chunk,
+    pub home: Home,
     pub context: Kwargs,
     pub depth: usize,
 }
@@ -82,6 +83,7 @@ fn first_of<'t>(components: &'t [Component], name: &Name) -> Option<Defined<'t>>
             return Some(Defined {
                 definition: &component.definition,
                 chunk: &component.code,
+                home: Home::nowhere(),
             });
         }
     }
@@ -90,12 +92,12 @@ fn first_of<'t>(components: &'t [Component], name: &Name) -> Option<Defined<'t>>
 
 impl<'t, O: Objects> VirtualMachine<'t, O> {
     // The component of this name among those of the templates.
-    fn registered<M: Limit>(&self, name: &Name) -> Option<Defined<'t>>
+    fn registered<M: Limit>(&self, name: &Name, home: Home, number: usize) -> Option<Defined<'t>>
         requires { IsLinked self.now M.world }
         ensures { IsDefined (component M.world.registry name.now) result }
     {
         let templates: &'t Templates = self.templates;
-        templates.component(name.as_str())
+        templates.component_linked(name, home, number)
     }
 
     // The one among those of the text beside them.
@@ -110,11 +112,11 @@ impl<'t, O: Objects> VirtualMachine<'t, O> {
     }
 
     // The component of this name: that of the templates, else that of the text beside them.
-    fn named<M: Limit>(&self, name: &Name) -> Option<Defined<'t>>
+    fn named<M: Limit>(&self, name: &Name, home: Home, number: usize) -> Option<Defined<'t>>
         requires { IsLinked self.now M.world }
         ensures { IsDefined (component_at M.world name.now) result }
     {
-        match self.registered::<M>(name) {
+        match self.registered::<M>(name, home, number) {
             Some(component) => Some(component),
             None => self.beside(name),
         }
@@ -125,6 +127,7 @@ impl<'t, O: Objects> VirtualMachine<'t, O> {
     pub(crate) fn called<M: Limit>(
         &self,
         chunk: &Chunk,
+        home: Home,
         asked: AskedComponent<'_>,
         configuration: &Configuration<'_>,
     ) -> TeraResult<Called<'t>>
@@ -135,12 +138,13 @@ impl<'t, O: Objects> VirtualMachine<'t, O> {
     {
         let AskedComponent {
             name,
+            number,
             given,
             body,
             safe: _,
             span,
         } = asked;
-        let Some(component) = self.named::<M>(name) else {
+        let Some(component) = self.named::<M>(name, home, number) else {
             return Err(Error::rendering(
                 self.alloc,
                 "no component has this name",
@@ -159,6 +163,7 @@ impl<'t, O: Objects> VirtualMachine<'t, O> {
         }
         Ok(Called {
             code: component.chunk,
+            home: component.home,
             context,
             depth: self.depth + 1,
         })

@@ -13,6 +13,7 @@ ghost use Rattle.tera_machine.specs.Includes.{FindsTemplate};
 ghost use Rattle.tera_machine.specs.Apart.{Begins, Rejoins};
 ghost use Rattle.tera_machine.specs.Subject.{IsLinked, place_at};
 
+use crate::asked::AskedTemplate;
 use crate::blocks::OpenBlocks;
 use crate::bodies::Outer;
 use crate::configuration::Configuration;
@@ -20,8 +21,8 @@ use crate::machine::{Limit, VirtualMachine};
 use tera_code::Chunk;
 use tera_errors::Error;
 use tera_objects::Objects;
-use tera_registry::{Found, Templates};
-use tera_values::{Name, Span, TeraResult};
+use tera_registry::{Found, Home, Templates};
+use tera_values::{Name, TeraResult};
 
 /// The templates that are included and open, the innermost first: each lies where its body is run.
 #[derive(Clone, Copy)]
@@ -72,28 +73,30 @@ impl<'c> Configuration<'c> {
 
 impl<'t, O: Objects> VirtualMachine<'t, O> {
     // The template to which the name resolves.
-    fn found<M: Limit>(&self, name: &Name) -> Option<Found<'t>>
+    fn found<M: Limit>(&self, name: &Name, home: Home, number: usize) -> Option<Found<'t>>
         requires { IsLinked self.now M.world }
         ensures { Finds M.world.registry name.now result }
     {
         let templates: &'t Templates = self.templates;
-        templates.find(name.as_str())
+        templates.find_linked(name, home, number)
     }
 
     /// The template to include, or the fault of the request.
     pub(crate) fn included<M: Limit>(
         &self,
         chunk: &Chunk,
-        name: &Name,
-        span: Span,
+        home: Home,
+        asked: AskedTemplate<'_>,
         blocks: &OpenBlocks<'t>,
     ) -> TeraResult<Found<'t>>
         requires { IsLinked self.now M.world }
         ensures { (c : Configuration) → FindsTemplate M.world
-            (place_at self.now chunk.now.file blocks.now c) (AnInclude name.now span)
+            (place_at self.now chunk.now.file blocks.now c) (AnInclude asked.entry.name.now
+            asked.entry.span)
             (config_of c).run.vars result }
     {
-        let Some(found) = self.found::<M>(name) else {
+        let AskedTemplate { name, number, span } = asked;
+        let Some(found) = self.found::<M>(name, home, number) else {
             return Err(Error::rendering(
                 self.alloc,
                 "no template has this name",

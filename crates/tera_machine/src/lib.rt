@@ -18,7 +18,7 @@ mod step;
 pub mod texts;
 pub mod wanted;
 
-pub use asked::{Asked, AskedComponent};
+pub use asked::{Asked, AskedComponent, AskedTemplate};
 pub use blocks::OpenBlocks;
 pub use configuration::Configuration;
 pub use ended::Ended;

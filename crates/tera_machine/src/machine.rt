@@ -15,7 +15,7 @@ ghost use Rattle.tera_machine.specs.Progress.{BodyWithin};
 ghost use Rattle.tera_machine.specs.Bodies.{Stays, BodyRan};
 ghost use Rattle.tera_machine.specs.Subject.{Subject, IsLinked, kept_beside, meant_from, engine_of, place_at, place_of, Means};
 
-use crate::asked::{Asked, AskedComponent};
+use crate::asked::{Asked, AskedComponent, AskedTemplate};
 use crate::blocks::OpenBlocks;
 use crate::components::{Beside, Called};
 use crate::configuration::Configuration;
@@ -25,8 +25,8 @@ use std::marker::Brand;
 use std::sync::ledger::Ledger;
 use tera_code::{Chunk, Steps};
 use tera_objects::Objects;
-use tera_registry::{Component, Found, Templates};
-use tera_values::{Name, Span, TeraResult};
+use tera_registry::{Component, Found, Home, Templates};
+use tera_values::{Name, TeraResult};
 
 /// Where the machine goes on.
 #[derive(Drop)]
@@ -41,8 +41,8 @@ pub enum Flow<'f> {
     Out,
     /// At the next instruction, when another body was taken.
     Ask(Asked<'f>),
-    /// At the next instruction, when the template of this name was included, at the span of the name.
-    Include(&'f Name, Span),
+    /// At the next instruction, when this template was included.
+    Include(AskedTemplate<'f>),
     /// At the next instruction, when this component was run.
     Component(Box<AskedComponent<'f>>),
 }
@@ -72,6 +72,8 @@ pub struct VirtualMachine<'t, O> {
     pub(crate) template: Option<Found<'t>>,
     pub(crate) beside: Option<Beside<'t>>,
     pub(crate) depth: usize,
+    /// Where the code is linked that it runs first.
+    pub(crate) home: Home,
 }
 
 impl<'t, O: Objects> VirtualMachine<'t, O> {
@@ -109,6 +111,7 @@ impl<'t, O: Objects> VirtualMachine<'t, O> {
             template: None,
             beside: None,
             depth: 0,
+            home: Home::nowhere(),
         }
     }
 
@@ -134,6 +137,7 @@ impl<'t, O: Objects> VirtualMachine<'t, O> {
             template: Some(template),
             beside: None,
             depth: 0,
+            home: template.home(),
         }
     }
 
@@ -150,6 +154,18 @@ impl<'t, O: Objects> VirtualMachine<'t, O> {
             beside: Some(Beside { components }),
             ..self
         }
+    }
+
+    /// The same, for code that is linked at home there.
+    pub fn linked_at(self, home: Home) -> VirtualMachine<'t, O>
+        ensures escapes { result.autoescape ≡ self.entry.autoescape }
+        ensures templates { result.templates.now ≡ self.entry.templates.now }
+        ensures objects { result.objects.now ≡ self.entry.objects.now }
+        ensures template { result.template ≡ self.entry.template }
+        ensures beside { result.beside ≡ self.entry.beside }
+        ensures depth { result.depth ≡ self.entry.depth }
+    {
+        VirtualMachine { home, ..self }
     }
 
     // The same for a template that is included.
@@ -169,11 +185,12 @@ impl<'t, O: Objects> VirtualMachine<'t, O> {
             template: Some(template),
             beside: self.beside,
             depth: self.depth,
+            home: template.body_home(),
         }
     }
 
     // The same for a component, where so many are open with it. It takes no blocks.
-    fn in_component(&self, depth: usize) -> VirtualMachine<'t, O>
+    fn in_component(&self, depth: usize, home: Home) -> VirtualMachine<'t, O>
         ensures escapes { result.autoescape ≡ self.now.autoescape }
         ensures templates { result.templates.now ≡ self.now.templates.now }
         ensures objects { result.objects.now ≡ self.now.objects.now }
@@ -189,6 +206,7 @@ impl<'t, O: Objects> VirtualMachine<'t, O> {
             template: None,
             beside: self.beside,
             depth,
+            home,
         }
     }
 
@@ -212,7 +230,7 @@ impl<'t, O: Objects> VirtualMachine<'t, O> {
             ≡ around_of configuration.old.scopes) }
     {
         let mut blocks = OpenBlocks::new(self.alloc, Wanted::none());
-        self.run_counted::<Brand, L>(chunk, &mut blocks, configuration, steps)
+        self.run_counted::<Brand, L>(chunk, self.home, &mut blocks, configuration, steps)
     }
 
     /// The same, where no block ended before: the text of the block of this name as it ended last, or the empty text.
@@ -236,7 +254,7 @@ impl<'t, O: Objects> VirtualMachine<'t, O> {
     {
         let wanted = Wanted::block(block)?;
         let mut blocks = OpenBlocks::new(self.alloc, wanted);
-        match self.run_counted::<Brand, L>(chunk, &mut blocks, configuration, steps) {
+        match self.run_counted::<Brand, L>(chunk, self.home, &mut blocks, configuration, steps) {
             Ok(()) => {}
             Err(error) => return Err(error),
         }
@@ -250,11 +268,12 @@ impl<'t, O: Objects> VirtualMachine<'t, O> {
         Ok(wanted.into_text(self.alloc))
     }
 
-    // The same, in the machine's own terms, and where blocks may be open.
+    // The same, in the machine's own terms, of code that is linked at home, and where blocks may be open.
     #[cycle(run)]
     fn run_counted<M: Limit, L: Ledger>(
         &self,
         chunk: &Chunk,
+        home: Home,
         blocks: &mut OpenBlocks<'t>,
         configuration: &mut Configuration<'_>,
         steps: &mut Steps<L>,
@@ -290,15 +309,15 @@ impl<'t, O: Objects> VirtualMachine<'t, O> {
                         Err(error) => return Err(error),
                     }
                 }
-                Flow::Include(name, span) => {
-                    match self.include::<M, L>(chunk, name, span, blocks, configuration, steps) {
+                Flow::Include(asked) => {
+                    match self.include::<M, L>(chunk, home, asked, blocks, configuration, steps) {
                         Ok(()) => at = next,
                         Err(error) => return Err(error),
                     }
                 }
                 Flow::Component(asked) => {
                     let asked = Box::into_inner(asked);
-                    match self.component::<M, L>(chunk, asked, blocks, configuration, steps) {
+                    match self.component::<M, L>(chunk, home, asked, blocks, configuration, steps) {
                         Ok(()) => at = next,
                         Err(error) => return Err(error),
                     }
@@ -337,7 +356,7 @@ impl<'t, O: Objects> VirtualMachine<'t, O> {
             Ok(inside) => inside,
             Err(error) => return Err(error),
         };
-        match self.run_counted::<M, L>(inside.chunk, blocks, configuration, steps) {
+        match self.run_counted::<M, L>(inside.chunk, inside.home, blocks, configuration, steps) {
             Ok(()) => {}
             Err(error) => return Err(error),
         }
@@ -350,8 +369,8 @@ impl<'t, O: Objects> VirtualMachine<'t, O> {
     fn include<M: Limit, L: Ledger>(
         &self,
         chunk: &Chunk,
-        name: &Name,
-        span: Span,
+        home: Home,
+        asked: AskedTemplate<'_>,
         blocks: &OpenBlocks<'t>,
         configuration: &mut Configuration<'_>,
         steps: &mut Steps<L>,
@@ -360,23 +379,30 @@ impl<'t, O: Objects> VirtualMachine<'t, O> {
         requires linked { IsLinked self.now M.world }
         requires within { BodyWithin M.world
             (place_at self.now chunk.now.file blocks.now configuration.old)
-            (AnInclude name.now span) Written (config_of configuration.old) (M.most - steps.old) }
+            (AnInclude asked.name.now asked.span) Written (config_of configuration.old)
+            (M.most - steps.old) }
         ensures counted { steps.old ≤ steps.new }
         ensures bounded { steps.old ≤ M.most → steps.new ≤ M.most }
         ensures ends { BodyRan M.world (place_at self.now chunk.now.file blocks.now
-            configuration.old) (AnInclude name.now span) Written (config_of configuration.old)
-            result (config_of configuration.new) (steps.new - steps.old) }
+            configuration.old) (AnInclude asked.entry.name.now asked.entry.span) Written
+            (config_of configuration.old) result (config_of configuration.new) (steps.new - steps.old) }
         ensures stays { OnOk result (Stays blocks.now configuration.old blocks.now
             configuration.new) }
     {
-        let found = match self.included::<M>(chunk, name, span, blocks) {
+        let found = match self.included::<M>(chunk, home, asked, blocks) {
             Ok(found) => found,
             Err(error) => return Err(error),
         };
         let machine = self.in_template(found);
         let mut inside = OpenBlocks::in_template(self.alloc, found.name, &blocks.included);
         let outer = configuration.begin_include()?;
-        match machine.run_counted::<M, L>(found.body, &mut inside, configuration, steps) {
+        match machine.run_counted::<M, L>(
+            found.body,
+            machine.home,
+            &mut inside,
+            configuration,
+            steps,
+        ) {
             Ok(()) => {}
             Err(error) => return Err(error),
         }
@@ -389,6 +415,7 @@ impl<'t, O: Objects> VirtualMachine<'t, O> {
     fn component<M: Limit, L: Ledger>(
         &self,
         chunk: &Chunk,
+        home: Home,
         asked: AskedComponent<'_>,
         blocks: &OpenBlocks<'t>,
         configuration: &mut Configuration<'_>,
@@ -411,19 +438,20 @@ impl<'t, O: Objects> VirtualMachine<'t, O> {
     {
         let safe = asked.safe;
         let span = asked.span;
-        let called = match self.called::<M>(chunk, asked, configuration) {
+        let called = match self.called::<M>(chunk, home, asked, configuration) {
             Ok(called) => called,
             Err(error) => return Err(error),
         };
         let Called {
             code,
+            home,
             context,
             depth,
         } = called;
-        let machine = self.in_component(depth);
+        let machine = self.in_component(depth, home);
         let mut inside = OpenBlocks::new(self.alloc, Wanted::none());
         let outer = configuration.begin_component(context)?;
-        match machine.run_counted::<M, L>(code, &mut inside, configuration, steps) {
+        match machine.run_counted::<M, L>(code, machine.home, &mut inside, configuration, steps) {
             Ok(()) => {}
             Err(error) => return Err(error),
         }

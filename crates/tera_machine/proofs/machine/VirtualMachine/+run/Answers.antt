@@ -105,7 +105,7 @@ run_counted-returns-in-Err-take-clause-ends g t c =
 
 pub run_counted-include-requires : goal.run_counted-include-requires
 run_counted-include-requires g t c κs within =
-    (omega (arith, one_left c.loop-instruction.invariant.progress c.in-Some.ensures.found, c.in-Some.ensures.count, c.loop-instruction.invariant.progress.counted, c.decreases), (within.0, (within.1.0, (within.1.1, (c.requires.engine, (c.requires.linked, at_place (place_same c.args.self.now c.args.chunk.now.file c.args.chunk.now.file refl (moved c.step.new.self c.loop-instruction.invariant.stays c.in-Ok.ensures.1.0 c.in-Ok.ensures.1.1 (still (here_of g.O.Objects.engine c.args.self.now c.file.result.now c.loop-instruction.configuration) (c.loop-instruction.at + 1) c.in-Some.instruction _ _ _ c.in-Ok.ensures.0))) (body_within (at_request c.loop-instruction.invariant.progress (here_is g.O.Objects.engine g.M.Limit.world c.args.self.now _ _ c.args.blocks.now c.loop-instruction.configuration c.args.configuration.now c.requires.engine c.file.ensures c.loop-instruction.invariant.stays.around) c.in-Some.ensures.found c.in-Some.ensures.count (AnInclude c.in-Include.name.now c.in-Include.span) Written c.in-Ok.ensures.0 c.in-Include.is refl))))))))
+    (omega (arith, one_left c.loop-instruction.invariant.progress c.in-Some.ensures.found, c.in-Some.ensures.count, c.loop-instruction.invariant.progress.counted, c.decreases), (within.0, (within.1.0, (within.1.1, (c.requires.engine, (c.requires.linked, at_place (place_same c.args.self.now c.args.chunk.now.file c.args.chunk.now.file refl (moved c.step.new.self c.loop-instruction.invariant.stays c.in-Ok.ensures.1.0 c.in-Ok.ensures.1.1 (still (here_of g.O.Objects.engine c.args.self.now c.file.result.now c.loop-instruction.configuration) (c.loop-instruction.at + 1) c.in-Some.instruction _ _ _ c.in-Ok.ensures.0))) (body_within (at_request c.loop-instruction.invariant.progress (here_is g.O.Objects.engine g.M.Limit.world c.args.self.now _ _ c.args.blocks.now c.loop-instruction.configuration c.args.configuration.now c.requires.engine c.file.ensures c.loop-instruction.invariant.stays.around) c.in-Some.ensures.found c.in-Some.ensures.count (AnInclude c.in-Include.asked.name.now c.in-Include.asked.span) Written c.in-Ok.ensures.0 c.in-Include.is refl))))))))
 
 pub run_counted-loop-instruction-smaller-in-Ok-include : goal.run_counted-loop-instruction-smaller-in-Ok-include
 run_counted-loop-instruction-smaller-in-Ok-include g t c =
@@ -113,7 +113,7 @@ run_counted-loop-instruction-smaller-in-Ok-include g t c =
 
 pub run_counted-loop-instruction-preserved-in-Ok-include : goal.run_counted-loop-instruction-preserved-in-Ok-include
 run_counted-loop-instruction-preserved-in-Ok-include g t c = record {
-  progress = came_back (at_request c.loop-instruction.invariant.progress (here_is g.O.Objects.engine g.M.Limit.world c.args.self.now _ _ c.args.blocks.now c.loop-instruction.configuration c.args.configuration.now c.requires.engine c.file.ensures c.loop-instruction.invariant.stays.around) c.in-Some.ensures.found c.in-Some.ensures.count (AnInclude c.in-Include.name.now c.in-Include.span) Written c.in-Ok.ensures.0 c.in-Include.is refl) _ _ c.in-Ok-include.ensures.counted c.in-Ok-include.ensures.bounded (ends_at (place_same c.args.self.now c.args.chunk.now.file c.args.chunk.now.file refl (moved c.step.new.self c.loop-instruction.invariant.stays c.in-Ok.ensures.1.0 c.in-Ok.ensures.1.1 (still (here_of g.O.Objects.engine c.args.self.now c.file.result.now c.loop-instruction.configuration) (c.loop-instruction.at + 1) c.in-Some.instruction _ _ _ c.in-Ok.ensures.0))) c.in-Ok-include.ensures.ends);
+  progress = came_back (at_request c.loop-instruction.invariant.progress (here_is g.O.Objects.engine g.M.Limit.world c.args.self.now _ _ c.args.blocks.now c.loop-instruction.configuration c.args.configuration.now c.requires.engine c.file.ensures c.loop-instruction.invariant.stays.around) c.in-Some.ensures.found c.in-Some.ensures.count (AnInclude c.in-Include.asked.name.now c.in-Include.asked.span) Written c.in-Ok.ensures.0 c.in-Include.is refl) _ _ c.in-Ok-include.ensures.counted c.in-Ok-include.ensures.bounded (ends_at (place_same c.args.self.now c.args.chunk.now.file c.args.chunk.now.file refl (moved c.step.new.self c.loop-instruction.invariant.stays c.in-Ok.ensures.1.0 c.in-Ok.ensures.1.1 (still (here_of g.O.Objects.engine c.args.self.now c.file.result.now c.loop-instruction.configuration) (c.loop-instruction.at + 1) c.in-Some.instruction _ _ _ c.in-Ok.ensures.0))) c.in-Ok-include.ensures.ends);
   stays = stays_then (moved c.step.new.self c.loop-instruction.invariant.stays c.in-Ok.ensures.1.0 c.in-Ok.ensures.1.1 (still (here_of g.O.Objects.engine c.args.self.now c.file.result.now c.loop-instruction.configuration) (c.loop-instruction.at + 1) c.in-Some.instruction _ _ _ c.in-Ok.ensures.0)) c.in-Ok-include.ensures.stays;
 }
 
@@ -123,7 +123,7 @@ run_counted-returns-in-Err-include-clause-bounded g t c =
 
 pub run_counted-returns-in-Err-include-clause-ends : goal.run_counted-returns-in-Err-include-clause-ends
 run_counted-returns-in-Err-include-clause-ends g t c =
-    take_failed (place_same c.args.self.now c.args.chunk.now.file c.args.chunk.now.file refl (moved c.step.new.self c.loop-instruction.invariant.stays c.in-Ok.ensures.1.0 c.in-Ok.ensures.1.1 (still (here_of g.O.Objects.engine c.args.self.now c.file.result.now c.loop-instruction.configuration) (c.loop-instruction.at + 1) c.in-Some.instruction _ _ _ c.in-Ok.ensures.0))) (at_request c.loop-instruction.invariant.progress (here_is g.O.Objects.engine g.M.Limit.world c.args.self.now _ _ c.args.blocks.now c.loop-instruction.configuration c.args.configuration.now c.requires.engine c.file.ensures c.loop-instruction.invariant.stays.around) c.in-Some.ensures.found c.in-Some.ensures.count (AnInclude c.in-Include.name.now c.in-Include.span) Written c.in-Ok.ensures.0 c.in-Include.is refl) _ _ _ c.in-Err-include.ensures.counted c.in-Err-include.ensures.ends
+    take_failed (place_same c.args.self.now c.args.chunk.now.file c.args.chunk.now.file refl (moved c.step.new.self c.loop-instruction.invariant.stays c.in-Ok.ensures.1.0 c.in-Ok.ensures.1.1 (still (here_of g.O.Objects.engine c.args.self.now c.file.result.now c.loop-instruction.configuration) (c.loop-instruction.at + 1) c.in-Some.instruction _ _ _ c.in-Ok.ensures.0))) (at_request c.loop-instruction.invariant.progress (here_is g.O.Objects.engine g.M.Limit.world c.args.self.now _ _ c.args.blocks.now c.loop-instruction.configuration c.args.configuration.now c.requires.engine c.file.ensures c.loop-instruction.invariant.stays.around) c.in-Some.ensures.found c.in-Some.ensures.count (AnInclude c.in-Include.asked.name.now c.in-Include.asked.span) Written c.in-Ok.ensures.0 c.in-Include.is refl) _ _ _ c.in-Err-include.ensures.counted c.in-Err-include.ensures.ends
 
 pub run_counted-component-requires : goal.run_counted-component-requires
 run_counted-component-requires g t c κs within =
@@ -172,31 +172,31 @@ take-returns-clause-stays g t c =
 
 pub include-returns-in-Err-clause-ends : goal.include-returns-in-Err-clause-ends
 include-returns-in-Err-clause-ends g t c =
-    include_failed g.M.Limit.world c.args.self.now c.args.chunk.now.file c.args.name.now c.args.span c.args.blocks.now c.args.configuration.now c.in-Err.error _ _ (omega arith) (c.in-Err.ensures c.args.configuration.now)
+    include_failed g.M.Limit.world c.args.self.now c.args.chunk.now.file c.args.asked.name.now c.args.asked.span c.args.blocks.now c.args.configuration.now c.in-Err.error _ _ (omega arith) (c.in-Err.ensures c.args.configuration.now)
 
 pub include-run_counted-requires : goal.include-run_counted-requires
 include-run_counted-requires g t c κs within =
-    (omega (arith, c.decreases), (within.0, (within.1.0, (within.1.1, (ap g.O.Objects.engine c.in_template-machine.ensures.objects ∙ c.requires.engine, (linked_in c.args.self.now c.in_template-machine.result g.M.Limit.world c.in-Ok.found c.requires.linked c.in_template-machine.ensures.template c.in_template-machine.ensures.templates c.in_template-machine.ensures.beside (c.in-Ok.ensures c.args.configuration.now).among, may_begin c.args.configuration.now c.begin_include.new.self (λ v r. refl) c.requires.within (include_entered g.M.Limit.world c.args.self.now c.args.chunk.now.file c.args.name.now c.args.span c.args.blocks.now c.args.configuration.now (c.in-Ok.ensures c.args.configuration.now) c.in_template-machine.result c.in_template-inside.result c.in_template-machine.ensures.template c.in_template-machine.ensures.escapes c.in_template-machine.ensures.depth c.in_template-inside.ensures.names c.in_template-inside.ensures.above c.in_template-inside.ensures.included c.in_ok-outer.ensures.begins)))))))
+    (omega (arith, c.decreases), (within.0, (within.1.0, (within.1.1, (ap g.O.Objects.engine c.in_template-machine.ensures.objects ∙ c.requires.engine, (linked_in c.args.self.now c.in_template-machine.result g.M.Limit.world c.in-Ok.found c.requires.linked c.in_template-machine.ensures.template c.in_template-machine.ensures.templates c.in_template-machine.ensures.beside (c.in-Ok.ensures c.args.configuration.now).among, may_begin c.args.configuration.now c.begin_include.new.self (λ v r. refl) c.requires.within (include_entered g.M.Limit.world c.args.self.now c.args.chunk.now.file c.args.asked.name.now c.args.asked.span c.args.blocks.now c.args.configuration.now (c.in-Ok.ensures c.args.configuration.now) c.in_template-machine.result c.in_template-inside.result c.in_template-machine.ensures.template c.in_template-machine.ensures.escapes c.in_template-machine.ensures.depth c.in_template-inside.ensures.names c.in_template-inside.ensures.above c.in_template-inside.ensures.included c.in_ok-outer.ensures.begins)))))))
 
 pub include-returns-in-Err-run_counted-clause-ends : goal.include-returns-in-Err-run_counted-clause-ends
 include-returns-in-Err-run_counted-clause-ends g t c =
-    apart_failed c.args.configuration.now c.begin_include.new.self (λ v r. refl) c.requires.within (include_entered g.M.Limit.world c.args.self.now c.args.chunk.now.file c.args.name.now c.args.span c.args.blocks.now c.args.configuration.now (c.in-Ok.ensures c.args.configuration.now) c.in_template-machine.result c.in_template-inside.result c.in_template-machine.ensures.template c.in_template-machine.ensures.escapes c.in_template-machine.ensures.depth c.in_template-inside.ensures.names c.in_template-inside.ensures.above c.in_template-inside.ensures.included c.in_ok-outer.ensures.begins) c.in-Err-run_counted.error _ _ c.in-Err-run_counted.ensures.ends
+    apart_failed c.args.configuration.now c.begin_include.new.self (λ v r. refl) c.requires.within (include_entered g.M.Limit.world c.args.self.now c.args.chunk.now.file c.args.asked.name.now c.args.asked.span c.args.blocks.now c.args.configuration.now (c.in-Ok.ensures c.args.configuration.now) c.in_template-machine.result c.in_template-inside.result c.in_template-machine.ensures.template c.in_template-machine.ensures.escapes c.in_template-machine.ensures.depth c.in_template-inside.ensures.names c.in_template-inside.ensures.above c.in_template-inside.ensures.included c.in_ok-outer.ensures.begins) c.in-Err-run_counted.error _ _ c.in-Err-run_counted.ensures.ends
 
 pub include-end_include-requires-clause-text : goal.include-end_include-requires-clause-text
 include-end_include-requires-clause-text g t c =
-    may_rejoin c.args.configuration.now c.begin_include.new.self (λ v r. refl) c.requires.within (include_entered g.M.Limit.world c.args.self.now c.args.chunk.now.file c.args.name.now c.args.span c.args.blocks.now c.args.configuration.now (c.in-Ok.ensures c.args.configuration.now) c.in_template-machine.result c.in_template-inside.result c.in_template-machine.ensures.template c.in_template-machine.ensures.escapes c.in_template-machine.ensures.depth c.in_template-inside.ensures.names c.in_template-inside.ensures.above c.in_template-inside.ensures.included c.in_ok-outer.ensures.begins) c.run_counted.new.configuration c.in-Ok-run_counted.ensures.ends
+    may_rejoin c.args.configuration.now c.begin_include.new.self (λ v r. refl) c.requires.within (include_entered g.M.Limit.world c.args.self.now c.args.chunk.now.file c.args.asked.name.now c.args.asked.span c.args.blocks.now c.args.configuration.now (c.in-Ok.ensures c.args.configuration.now) c.in_template-machine.result c.in_template-inside.result c.in_template-machine.ensures.template c.in_template-machine.ensures.escapes c.in_template-machine.ensures.depth c.in_template-inside.ensures.names c.in_template-inside.ensures.above c.in_template-inside.ensures.included c.in_ok-outer.ensures.begins) c.run_counted.new.configuration c.in-Ok-run_counted.ensures.ends
 
 pub include-end_include-requires-clause-state : goal.include-end_include-requires-clause-state
 include-end_include-requires-clause-state g t c =
-    has_outer c.args.configuration.now c.begin_include.new.self (λ v r. refl) c.requires.within (include_entered g.M.Limit.world c.args.self.now c.args.chunk.now.file c.args.name.now c.args.span c.args.blocks.now c.args.configuration.now (c.in-Ok.ensures c.args.configuration.now) c.in_template-machine.result c.in_template-inside.result c.in_template-machine.ensures.template c.in_template-machine.ensures.escapes c.in_template-machine.ensures.depth c.in_template-inside.ensures.names c.in_template-inside.ensures.above c.in_template-inside.ensures.included c.in_ok-outer.ensures.begins) c.run_counted.new.configuration c.in-Ok-run_counted.ensures.ends c.in_ok-outer.ensures.begins refl c.in-Ok-run_counted.ensures.stays
+    has_outer c.args.configuration.now c.begin_include.new.self (λ v r. refl) c.requires.within (include_entered g.M.Limit.world c.args.self.now c.args.chunk.now.file c.args.asked.name.now c.args.asked.span c.args.blocks.now c.args.configuration.now (c.in-Ok.ensures c.args.configuration.now) c.in_template-machine.result c.in_template-inside.result c.in_template-machine.ensures.template c.in_template-machine.ensures.escapes c.in_template-machine.ensures.depth c.in_template-inside.ensures.names c.in_template-inside.ensures.above c.in_template-inside.ensures.included c.in_ok-outer.ensures.begins) c.run_counted.new.configuration c.in-Ok-run_counted.ensures.ends c.in_ok-outer.ensures.begins refl c.in-Ok-run_counted.ensures.stays
 
 pub include-returns-clause-ends : goal.include-returns-clause-ends
 include-returns-clause-ends g t c =
-    apart_over c.args.configuration.now c.begin_include.new.self (λ v r. refl) c.requires.within (include_entered g.M.Limit.world c.args.self.now c.args.chunk.now.file c.args.name.now c.args.span c.args.blocks.now c.args.configuration.now (c.in-Ok.ensures c.args.configuration.now) c.in_template-machine.result c.in_template-inside.result c.in_template-machine.ensures.template c.in_template-machine.ensures.escapes c.in_template-machine.ensures.depth c.in_template-inside.ensures.names c.in_template-inside.ensures.above c.in_template-inside.ensures.included c.in_ok-outer.ensures.begins) c.run_counted.new.configuration c.in-Ok-run_counted.ensures.ends c.in_ok-outer.ensures.begins refl c.in-Ok-run_counted.ensures.stays c.end_include.new.self c.end_include.result c.end_include.ensures.rejoins c.end_include.ensures.lacks
+    apart_over c.args.configuration.now c.begin_include.new.self (λ v r. refl) c.requires.within (include_entered g.M.Limit.world c.args.self.now c.args.chunk.now.file c.args.asked.name.now c.args.asked.span c.args.blocks.now c.args.configuration.now (c.in-Ok.ensures c.args.configuration.now) c.in_template-machine.result c.in_template-inside.result c.in_template-machine.ensures.template c.in_template-machine.ensures.escapes c.in_template-machine.ensures.depth c.in_template-inside.ensures.names c.in_template-inside.ensures.above c.in_template-inside.ensures.included c.in_ok-outer.ensures.begins) c.run_counted.new.configuration c.in-Ok-run_counted.ensures.ends c.in_ok-outer.ensures.begins refl c.in-Ok-run_counted.ensures.stays c.end_include.new.self c.end_include.result c.end_include.ensures.rejoins c.end_include.ensures.lacks
 
 pub include-returns-clause-stays : goal.include-returns-clause-stays
 include-returns-clause-stays g t c =
-    apart_stayed c.args.configuration.now c.begin_include.new.self (λ v r. refl) c.requires.within (include_entered g.M.Limit.world c.args.self.now c.args.chunk.now.file c.args.name.now c.args.span c.args.blocks.now c.args.configuration.now (c.in-Ok.ensures c.args.configuration.now) c.in_template-machine.result c.in_template-inside.result c.in_template-machine.ensures.template c.in_template-machine.ensures.escapes c.in_template-machine.ensures.depth c.in_template-inside.ensures.names c.in_template-inside.ensures.above c.in_template-inside.ensures.included c.in_ok-outer.ensures.begins) c.run_counted.new.configuration c.in-Ok-run_counted.ensures.ends c.in_ok-outer.ensures.begins refl c.in-Ok-run_counted.ensures.stays c.args.blocks.now c.end_include.new.self c.end_include.result c.end_include.ensures.rejoins
+    apart_stayed c.args.configuration.now c.begin_include.new.self (λ v r. refl) c.requires.within (include_entered g.M.Limit.world c.args.self.now c.args.chunk.now.file c.args.asked.name.now c.args.asked.span c.args.blocks.now c.args.configuration.now (c.in-Ok.ensures c.args.configuration.now) c.in_template-machine.result c.in_template-inside.result c.in_template-machine.ensures.template c.in_template-machine.ensures.escapes c.in_template-machine.ensures.depth c.in_template-inside.ensures.names c.in_template-inside.ensures.above c.in_template-inside.ensures.included c.in_ok-outer.ensures.begins) c.run_counted.new.configuration c.in-Ok-run_counted.ensures.ends c.in_ok-outer.ensures.begins refl c.in-Ok-run_counted.ensures.stays c.args.blocks.now c.end_include.new.self c.end_include.result c.end_include.ensures.rejoins
 
 pub component-returns-in-Err-clause-ends : goal.component-returns-in-Err-clause-ends
 component-returns-in-Err-clause-ends g t c =

@@ -145,7 +145,7 @@ impl<O: Objects> TeraOver<O> {
             autoescape,
             &self.templates,
             &self.objects,
-        );
+        ).linked_at(found.home);
         self.run_within::<L>(&machine, found.chunk, scopes, blank)
     }
 }

@@ -328,6 +328,32 @@ ok
 fault Message
 user
 
+@@ prefix p/
+@@ template p/c
+{% component Y() %}y{{ <X/> }}{% endcomponent %}{% component X() %}far{% endcomponent %}
+@@ end
+@@ template t
+{% for n in [1, 2] %}{{ <X/> }}{{ <Y/> }}.{% endfor %}
+@@ end
+@@ add
+@@ render t
+@@ template a
+{% component Z() %}z{% endcomponent %}{% component X() %}near{% endcomponent %}
+@@ end
+@@ add
+@@ render t
+@@ component Y off
+=>
+ok
+ok
+ok
+ok
+faryfar.faryfar.
+ok
+ok
+nearynear.nearynear.
+ynear
+
 @@ prefix themes/
 @@ template a.html
 {% component Foo() %}A{% endcomponent Foo %}

@@ -99,6 +99,41 @@ ok
 child-partial
 child-partial
 
+@@ prefix p/
+@@ template b
+B
+@@ end
+@@ template p/c
+behind
+@@ end
+@@ template t
+{% for x in [1, 2] %}{% include "b" %}{% include "c" %}.{% endfor %}{% block k %}{% include "c" %}{% endblock %}
+@@ end
+@@ add
+@@ render t
+@@ template a
+@@ end
+@@ template b
+new
+@@ end
+@@ template c
+c
+@@ end
+@@ add
+@@ render t
+=>
+ok
+ok
+ok
+ok
+ok
+Bbehind.Bbehind.behind
+ok
+ok
+ok
+ok
+newc.newc.c
+
 @@ template a.html
 {{ name }}
 @@ end

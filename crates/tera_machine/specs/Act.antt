@@ -26,6 +26,7 @@ use Rattle.tera_code.specs.declared.instruction.Instruction.{Instruction}
 use Rattle.tera_code.specs.declared.instruction.Instruction.TheVariants.{WriteText, WriteTop, WriteName, LoadConst, LoadName, LoadAttribute, LoadItem, Slice, Not, Negate, Binary, MakeArray, MakeMap, Jump, PopJumpIfFalse, JumpIfFalseOrPop, JumpIfTrueOrPop, Store, LoadContext, StartLoop, NextTurn, EndLoop, Keep, EndComprehension, StartCapture, EndCapture, LeaveLoop, LeaveTurn, TakeBlock, TakeAbove, TakeInclude, TakeComponent, ApplyFilter, ApplyTest, CallFunction}
 use Rattle.tera_machine.specs.declared.configuration.Configuration.{Configuration}
 use Rattle.tera_machine.specs.declared.machine.Flow as declared
+use Rattle.tera_machine.specs.declared.machine.Flow.TheVariants as declared_flow
 use Rattle.tera_machine.specs.Config.{Config, config_of}
 use Rattle.tera_machine.specs.Flow.{Written, Pushed, On, Skip, To, Out, Ask, flow_of}
 use Rattle.tera_machine.specs.Did.{Did, Goes, Faults, Sticks, holding, pushed, with_text, with_vars, outcome}
@@ -271,3 +272,8 @@ abbrev pub Does : (Config → Did) → Configuration → Result declared.Flow Re
 Does does before result after =
     Acted (does (config_of before)) result (config_of after)
     × ((around_of after.scopes ≡ around_of before.scopes) × OnOk result (beneath after ≡ beneath before))
+
+-- what goes on at the next instruction, if at all
+abbrev pub going_on : Result (Unit {0}) Refusal → Result declared.Flow Refusal
+going_on (Ok u) = Ok declared_flow.On
+going_on (Err e) = Err e

@@ -4,7 +4,7 @@ ghost use Rattle.tera_errors.specs.Answer.{Tells, Lacks};
 ghost use Rattle.tera_errors.specs.Fault.{rendering_error};
 ghost use Rattle.tera_machine.specs.Config.{config_of};
 ghost use Rattle.tera_machine.specs.Did.{pushed, holding};
-ghost use Rattle.tera_machine.specs.Act.{act, IsReady, IsSmall, Does, text_written, outcome_put, top_written, name_written, name_loaded, context_loaded, stored, attribute_loaded, item_loaded, sliced, denied, negated, operated, array_made, map_made, handed, component_taken, popped_branch, kept_if_falsy, kept_if_truthy, above_taken};
+ghost use Rattle.tera_machine.specs.Act.{act, IsReady, IsSmall, Does, going_on, text_written, outcome_put, top_written, name_written, name_loaded, context_loaded, stored, attribute_loaded, item_loaded, sliced, denied, negated, operated, array_made, map_made, handed, component_taken, popped_branch, kept_if_falsy, kept_if_truthy, above_taken};
 ghost use Rattle.tera_machine.specs.Subject.{here_of};
 ghost use Rattle.tera_state.specs.Scopes.{around_of};
 ghost use Rattle.tera_tree.specs.declared.expression.BinaryOperator.{BinaryOperator as Operator};
@@ -145,7 +145,6 @@ impl<'c> Configuration<'c> {
         Ok(Flow::On)
     }
 
-    // The value is read where it lies.
     #[inline(always)]
     pub(crate) fn write_name<'f, O: Objects>(
         &mut self,
@@ -157,23 +156,37 @@ impl<'c> Configuration<'c> {
         ensures { Does (name_written (here_of O.engine machine.now file.now self.old) name.now span)
             self.old result self.new }
     {
+        self.put_name(machine, file, name, span)?;
+        Ok(Flow::On)
+    }
+
+    // The value is read where it lies. A flow is not handed out, since that of a text or a value is always the same.
+    #[inline(always)]
+    pub(crate) fn put_name<O: Objects>(
+        &mut self,
+        machine: &VirtualMachine<'_, O>,
+        file: &str,
+        name: &Sought<'_>,
+        span: Span,
+    ) -> TeraResult<()>
+        ensures { Does (name_written (here_of O.engine machine.now file.now self.old) name.now span)
+            self.old (going_on result) self.new }
+    {
         let found = self.scopes.look(name);
         if found.is_undefined() {
             return Err(undefined_written(machine.alloc, file, span));
         }
-        match &found {
+        match found {
             Found::Kept(value) => {
                 self.texts
                     .append_value(machine.alloc, machine.objects, machine.autoescape, value)?
             }
-            _ => self.texts.append_value(
-                machine.alloc,
-                machine.objects,
-                machine.autoescape,
-                &found.to_value(machine.alloc)?,
-            )?,
+            found => {
+                self.texts
+                    .append_found(machine.alloc, machine.objects, machine.autoescape, found)?
+            }
         }
-        Ok(Flow::On)
+        Ok(())
     }
 
     pub(crate) fn put<'f>(&mut self, operand: Operand) -> TeraResult<Flow<'f>>

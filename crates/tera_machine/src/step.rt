@@ -2,7 +2,7 @@
 ghost use Rattle.tera_values.specs.Val.{int};
 ghost use Rattle.tera_machine.specs.Config.{config_of};
 ghost use Rattle.tera_machine.specs.Did.{pushed};
-ghost use Rattle.tera_machine.specs.Act.{act, IsReady, IsSmall, Does, name_written, name_loaded};
+ghost use Rattle.tera_machine.specs.Act.{act, IsReady, IsSmall, Does, going_on, name_written, name_loaded};
 ghost use Rattle.tera_machine.specs.Subject.{here_of};
 ghost use Rattle.tera_state.specs.Scopes.{around_of};
 
@@ -46,6 +46,26 @@ impl<'c> Configuration<'c> {
         if let Some(skip) = instruction.as_jump() {
             return Ok(Flow::Skip(skip));
         }
+        self.step_on(machine, file, next, instruction)
+    }
+
+    // The rest of these, whose flow is handed out in memory. It is asked for behind the others, so that no place for it is
+    // made ready in their turns.
+    #[inline(always)]
+    fn step_on<'f, O: Objects>(
+        &mut self,
+        machine: &VirtualMachine<'_, O>,
+        file: &str,
+        next: usize,
+        instruction: &LentInstruction<'f>,
+    ) -> TeraResult<Flow<'f>>
+        requires ready { IsReady (act (here_of O.engine machine.now file.now self.old)
+            next instruction.now) self.old }
+        requires small { IsSmall (act (here_of O.engine machine.now file.now self.old)
+            next instruction.now (config_of self.old)) }
+        ensures { Does (act (here_of O.engine machine.now file.now self.old) next instruction.now)
+            self.old result self.new }
+    {
         if let Some((name, span)) = instruction.as_loaded_name() {
             return self.load_named(machine.alloc, name, span);
         }
@@ -92,7 +112,8 @@ impl<'c> Configuration<'c> {
         self.push(Value::from_int(i128::from(number)), span)
     }
 
-    #[inline(never)]
+    // What it does always goes on at the next instruction, so that no flow is handed out by the call.
+    #[inline(always)]
     fn write_named<'f, O: Objects>(
         &mut self,
         machine: &VirtualMachine<'_, O>,
@@ -103,7 +124,22 @@ impl<'c> Configuration<'c> {
         ensures { Does (name_written (here_of O.engine machine.now file.now self.old) name.now span)
             self.old result self.new }
     {
-        self.write_name(machine, file, &name.sought(), span)
+        self.put_named(machine, file, name, span)?;
+        Ok(Flow::On)
+    }
+
+    #[inline(never)]
+    fn put_named<O: Objects>(
+        &mut self,
+        machine: &VirtualMachine<'_, O>,
+        file: &str,
+        name: &Name,
+        span: Span,
+    ) -> TeraResult<()>
+        ensures { Does (name_written (here_of O.engine machine.now file.now self.old) name.now span)
+            self.old (going_on result) self.new }
+    {
+        self.put_name(machine, file, &name.sought(), span)
     }
 
     #[inline(never)]

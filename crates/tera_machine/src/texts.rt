@@ -1,14 +1,15 @@
 // What a rendering puts out, and what is captured of it.
-ghost use Rattle.std.specs.Prelude.{◌≡◌, ◌≢◌, ◌++◌, ◌∷◌, [], Ok, OnOk, IfErr, string_bytes, drop};
+ghost use Rattle.std.specs.Prelude.{◌≡◌, ◌≢◌, ◌++◌, ◌∷◌, [], Ok, OnOk, IfErr, string_bytes, drop, unwrap_or};
 ghost use Rattle.tera_errors.specs.Answer.{Gives, Lacks};
-ghost use Rattle.tera_values.specs.Val.{text};
+ghost use Rattle.tera_values.specs.Val.{text, undefined};
+ghost use Rattle.tera_state.specs.Found.{found_value};
 ghost use Rattle.tera_state.specs.Rendered.{rendered};
 ghost use Rattle.tera_machine.specs.Layers.{around_layers, joined};
 
 use std::alloc::Global;
 use std::marker::Model;
 use tera_objects::Objects;
-use tera_state::Stack;
+use tera_state::{Found, Stack};
 use tera_values::{TeraResult, Value};
 
 /// All that a rendering has written, in one piece. What is captured is the end of it, from where the capture began: a text
@@ -87,6 +88,7 @@ impl Texts {
     }
 
     /// What the value is rendered as, at the end, by the escape of these objects.
+    #[inline(always)]
     pub fn append_value<O: Objects>(
         &mut self,
         alloc: Global,
@@ -100,6 +102,25 @@ impl Texts {
         ensures lacks { IfErr result Lacks }
     {
         objects.write(alloc, autoescape, value, &mut self.all)
+    }
+
+    /// The same for what a name stands for.
+    #[inline(never)]
+    pub fn append_found<O: Objects>(
+        &mut self,
+        alloc: Global,
+        objects: &O,
+        autoescape: bool,
+        found: Found<'_>,
+    ) -> TeraResult<()>
+        ensures ok { OnOk result (self.new ≡ record self.old {
+          now = self.old.now ++ rendered autoescape (O.engine objects.now).escape
+              (unwrap_or (found_value found.entry) undefined);
+        }) }
+        ensures lacks { IfErr result Lacks }
+    {
+        let value = found.to_value(alloc)?;
+        self.append_value(alloc, objects, autoescape, &value)
     }
 
     /// A text of its own begins.

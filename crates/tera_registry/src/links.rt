@@ -110,7 +110,7 @@ impl LinkTable {
     }
 
     /// The place of the template to which the name of a reference leads, as far as it is linked.
-    pub fn template(&self, name: &Name, home: Home, number: usize) -> Option<usize>
+    pub fn place(&self, name: &Name, home: Home, number: usize) -> Option<usize>
         ensures { (r : Registry) (choices : BTreeMap (String Global) Choice Global)
             → AreAllRight r choices self.now.bodies.items
             → IfSome result (λ place. LeadsTo r choices name.now (destination.Template place)) }
@@ -122,7 +122,7 @@ impl LinkTable {
     }
 
     /// What is taken of the component to which the name of a reference leads, as far as it is linked.
-    pub fn component(&self, name: &Name, home: Home, number: usize) -> Option<Choice>
+    pub fn choice(&self, name: &Name, home: Home, number: usize) -> Option<Choice>
         ensures { (r : Registry) (choices : BTreeMap (String Global) Choice Global)
             → AreAllRight r choices self.now.bodies.items
             → IfSome result (λ taken. LeadsTo r choices name.now (destination.Component taken)) }

@@ -268,7 +268,7 @@ impl Templates {
     pub fn find_linked(&self, name: &Name, home: Home, number: usize) -> Option<Found<'_>>
         ensures { (r : Registry) → Finds (with_templates r self.now) name.now result }
     {
-        match self.links.template(name, home, number) {
+        match self.links.place(name, home, number) {
             Some(place) => Some(self.found_at(place)),
             None => self.find(name.as_str()),
         }
@@ -379,7 +379,7 @@ impl Templates {
         ensures { (r : Registry) → IsDefined (component (with_templates r self.now) name.now)
             result }
     {
-        match self.links.component(name, home, number) {
+        match self.links.choice(name, home, number) {
             Some(choice) => Some(self.defined_at(choice)),
             None => self.component(name.as_str()),
         }

@@ -2,6 +2,7 @@ use Rattle.std.proofs.Common.{refl}
 use Rattle.tera_tree.specs.Delimiters.{delimiters_of}
 use Rattle.tera_registry.specs.Batch.{pairs_of}
 use Rattle.tera_registry.proofs.Adds.{copies-rise, add-unread, add-unlinked, add-linked, kept-faultless, kept-placed, kept-linked, kept-chosen}
+use Rattle.tera_registry.proofs.Leading.{kept-right}
 use Rattle.tera_registry.proofs.templates.Templates.add.Goals as goal
 
 pub put_all-requires-clause-rises : goal.put_all-requires-clause-rises
@@ -22,6 +23,7 @@ invariant_of-self g c = record {
   placed = kept-placed (g.O.Objects.engine c.args.objects.now) c.put_all.new.templates.items _ c.args.self.now.prefixes.items _ c.as_slice.ensures.value c.as_slice-2.ensures.value _ c.in-Ok-link.ensures.ups;
   linked = kept-linked (g.O.Objects.engine c.args.objects.now) c.put_all.new.templates.items _ c.args.self.now.prefixes.items _ c.as_slice.ensures.value c.as_slice-2.ensures.value _ c.in-Ok-link.ensures.roots;
   chosen = kept-chosen (g.O.Objects.engine c.args.objects.now) c.put_all.new.templates.items _ c.args.self.now.prefixes.items _ c.as_slice.ensures.value c.as_slice-2.ensures.value c.in-Ok-link.links.choices c.in-Ok-link.ensures.choices;
+  right = kept-right c.put_all.new.templates.items _ c.args.self.now.prefixes.items _ c.in-Ok-link.links.choices c.in-Ok-link.links.table.bodies.items c.as_slice.ensures.value c.as_slice-2.ensures.value c.in-Ok-link.ensures.table;
 }
 
 pub returns : goal.returns

@@ -13,3 +13,9 @@ returns-in_err-choice c = λ r.
     let name = c.args.name.now in
     let none : component q name ≡ None = component-none q name (chosen self.choices name) (chosen-in-all q self.choices self.chosen name) (sym c.in_err-choice.ensures.value) in
     rw c.from_residual.ensures none
+
+pub defined_at-requires : goal.defined_at-requires
+defined_at-requires c = record { name = c.args.name.now; is = sym c.in_ok-choice.ensures.value }
+
+pub returns : goal.returns
+returns c = λ r. c.defined_at.ensures r c.args.name.now (sym c.in_ok-choice.ensures.value)

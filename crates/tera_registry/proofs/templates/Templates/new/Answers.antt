@@ -1,4 +1,5 @@
 use Rattle.tera_registry.proofs.Empty.{none-rises, none-faultless, none-placed, none-linked, none-chosen}
+use Rattle.tera_registry.proofs.Leading.{none-right}
 use Rattle.tera_registry.proofs.templates.Templates.new.Goals as goal
 
 pub invariant_of-result : goal.invariant_of-result
@@ -8,4 +9,5 @@ invariant_of-result c = record {
   placed = none-placed _ _ _ c.new.ensures.items c.new-2.ensures.items;
   linked = none-linked _ _ _ c.new.ensures.items c.new-3.ensures.items;
   chosen = none-chosen _ _ c.new-4.result c.new.ensures.items c.new-4.ensures.empty;
+  right = none-right _ _ _ c.new-5.ensures;
 }

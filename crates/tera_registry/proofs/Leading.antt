@@ -26,9 +26,9 @@ module _ (r : Registry) (choices : BTreeMap (String Global) Choice Global) (name
   is-there rises is = (at-its-place r place name (resolve r name) rises is.1 refl is.0, is.1)
 
 -- no body has a link
-pub none-right : (r : Registry) (choices : BTreeMap (String Global) Choice Global) (bodies : List (Vec Link Global)) → bodies ≡ [] → AreAllRight r choices bodies
-none-right r choices bodies e =
-    subst (AreAllRight r choices) (sym e) (All-nil (λ (links : Vec Link Global). AreRight r choices links.items))
+pub none-right : (ts : List (Rc Stored Global)) (ps : List (String Global)) (choices : BTreeMap (String Global) Choice Global) (bodies : List (Vec Link Global)) → bodies ≡ [] → AreAllRight (seen ts ps) choices bodies
+none-right ts ps choices bodies e =
+    subst (AreAllRight (seen ts ps) choices) (sym e) (All-nil (λ (links : Vec Link Global). AreRight (seen ts ps) choices links.items))
 
 -- links among templates that are lent
 pub kept-right : (ts lent : List (Rc Stored Global)) (ps lent_ps : List (String Global)) (choices : BTreeMap (String Global) Choice Global) (bodies : List (Vec Link Global)) → lent ≡ ts → lent_ps ≡ ps → AreAllRight (seen lent lent_ps) choices bodies → AreAllRight (seen ts ps) choices bodies

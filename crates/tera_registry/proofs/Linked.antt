@@ -94,7 +94,7 @@ placed r ups a = record {
         sym (ap (name_above r) is.1 ∙ ap (λ o. Some (option_map (λ (e : Entry). e.0) o)) is.2.0 ∙ ap Some (sym (slice_get-map (λ (e : Entry). e.0) r.templates i)))
 
 -- the template that is found, where it has the name of the one at a place
-at-its-place : (r : Registry) (i : ℕ) (n : Name) (o : Option Entry) → Rises r.templates → i < length r.templates → resolve r n ≡ o → slice_get (map (λ e. e.0) r.templates) i ≡ option_map (λ e. e.0) o → resolve r n ≡ slice_get r.templates i
+pub at-its-place : (r : Registry) (i : ℕ) (n : Name) (o : Option Entry) → Rises r.templates → i < length r.templates → resolve r n ≡ o → slice_get (map (λ e. e.0) r.templates) i ≡ option_map (λ e. e.0) o → resolve r n ≡ slice_get r.templates i
 at-its-place r i n None rises lt found same =
     (let e = element r.templates i lt in
     let q : Some (e.0).0 ≡ None = sym (slice_get-map (λ (e : Entry). e.0) r.templates i ∙ ap (option_map (λ (e : Entry). e.0)) e.1) ∙ same in

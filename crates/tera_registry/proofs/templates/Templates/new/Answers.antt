@@ -9,5 +9,5 @@ invariant_of-result c = record {
   placed = none-placed _ _ _ c.new.ensures.items c.new-2.ensures.items;
   linked = none-linked _ _ _ c.new.ensures.items c.new-3.ensures.items;
   chosen = none-chosen _ _ c.new-4.result c.new.ensures.items c.new-4.ensures.empty;
-  right = none-right _ _ _ c.new-5.ensures;
+  right = none-right c.new.result.items c.args.prefixes.items c.new-4.result _ c.new-5.ensures;
 }

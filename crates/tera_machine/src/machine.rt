@@ -291,11 +291,10 @@ impl<'t, O: Objects> VirtualMachine<'t, O> {
         ensures stays { OnOk result (Stays blocks.old configuration.old blocks.new
             configuration.new) }
     {
-        let file = chunk.file();
         let mut at = 0;
         while let Some(instruction) = chunk.get(at, steps) {
             let next = at + 1;
-            let flow = match configuration.step(self, file, next, &instruction) {
+            let flow = match configuration.step(self, chunk.file(), next, &instruction) {
                 Ok(flow) => flow,
                 Err(error) => return Err(error),
             };

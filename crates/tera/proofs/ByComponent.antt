@@ -5,7 +5,7 @@ use Rattle.std.specs.Cmp.Lexicographic.{bytes_decides}
 use Rattle.tera_errors.specs.Site.{Text, Name}
 use Rattle.tera_errors.specs.Fault.{Fault, message, component_not_found}
 use Rattle.tera_errors.specs.Answer.{Refusal, Says, Gives, GivesOneOf, SaysOneOf}
-use Rattle.tera_tree.specs.Tree.{Signature, Nodes}
+use Rattle.tera_syntax_tree.specs.Tree.{Signature, Nodes}
 use Rattle.tera_values.specs.Alphabet.{marking, plain}
 use Rattle.tera_values.specs.Escape.{escape_html}
 use Rattle.tera_values.specs.Val.{Val, text}

@@ -2,7 +2,7 @@
 use Rattle.std.proofs.Common.{◌≡◌, List, [], Some, None, Result, Ok, Err, OnOk, OnErr, IfErr, refl, sym, ap, subst}
 use Rattle.tera_errors.specs.Answer.{Refusal, Lacks}
 use Rattle.tera_errors.specs.Site.{Text}
-use Rattle.tera_tree.specs.Delimiters.{Delims, standard}
+use Rattle.tera_syntax_tree.specs.Delimiters.{Delims, standard}
 use Rattle.tera_values.specs.Val.{Val}
 use Rattle.tera_values.specs.Named.{Named}
 use Rattle.tera_objects.specs.Engine.{Engine, standard_engine}

@@ -7,7 +7,7 @@ use Rattle.tera_values.specs.Alphabet.{marking}
 use Rattle.tera_values.specs.Escape.{escape_html}
 use Rattle.tera_values.specs.Val.{Val}
 use Rattle.tera_values.specs.Named.{Named}
-use Rattle.tera_tree.specs.Tree.{Tree, Nodes}
+use Rattle.tera_syntax_tree.specs.Tree.{Tree, Nodes}
 use Rattle.tera_syntax.specs.Reads.{Reads}
 use Rattle.tera_state.specs.Scope.{Variables, nothing_set}
 use Rattle.tera_meaning.specs.Run.{Signal, Answer, Failed, Gave, begun}

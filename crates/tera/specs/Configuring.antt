@@ -3,7 +3,7 @@ use Rattle.std.specs.Prelude.{◌≡◌, ◌&&◌, cond, List, Result, Ok, Err}
 use Rattle.tera_errors.specs.Fault.{Fault, message}
 use Rattle.tera_errors.specs.Site.{Text}
 use Rattle.tera_errors.specs.Answer.{Refusal, Says}
-use Rattle.tera_tree.specs.Delimiters.{Delims, accepted}
+use Rattle.tera_syntax_tree.specs.Delimiters.{Delims, accepted}
 use Rattle.tera_meaning.specs.Registry.{Registry}
 use Rattle.tera_registry.specs.Templates.{is_empty}
 

@@ -4,14 +4,14 @@ use Rattle.tera_errors.specs.Site.{Text, Name}
 use Rattle.tera_errors.specs.Fault.{Fault, message}
 use Rattle.tera_values.specs.Val.{Val}
 use Rattle.tera_values.specs.Named.{Named}
-use Rattle.tera_tree.specs.Delimiters.{delimiters_of}
-use Rattle.tera_tree.specs.Tree.{Nodes, NoNodes}
-use Rattle.tera_tree.specs.Definitions.{definitions}
+use Rattle.tera_syntax_tree.specs.Delimiters.{delimiters_of}
+use Rattle.tera_syntax_tree.specs.Tree.{Nodes, NoNodes}
+use Rattle.tera_syntax_tree.specs.Definitions.{definitions}
 use Rattle.tera_state.specs.Scope.{Around, nothing_set}
 use Rattle.tera_objects.specs.Engine.{Engine}
 use Rattle.tera_components.specs.Definition.{Info, definition_of, info_of}
 use Rattle.tera_meaning.specs.Run.{begun}
-use Rattle.tera_meaning.specs.Registry.{Entry, Registry}
+pub use Rattle.tera_meaning.specs.Registry.{Entry, Registry}
 use Rattle.tera_meaning.specs.Resolve.{entry_at}
 use Rattle.tera_meaning.specs.Rendering.{alone, outermost, text_of, block_of}
 use Rattle.tera_meaning.specs.Known.{lacks_a_callee}

@@ -7,12 +7,12 @@ use Rattle.tera_values.specs.Alphabet.{marking}
 use Rattle.tera_values.specs.Escape.{escape_html}
 use Rattle.tera_values.specs.Val.{Val}
 use Rattle.tera_values.specs.Named.{Named}
-use Rattle.tera_tree.specs.Tree.{Tree}
+use Rattle.tera_syntax_tree.specs.Tree.{Tree}
 use Rattle.tera_syntax.specs.Reads.{Reads}
 use Rattle.tera_meaning.specs.Registry.{Entry, Registry}
 use Rattle.tera_meaning.specs.Components.{one_off_name}
 use Rattle.tera_meaning.specs.Resolve.{resolve}
-use Rattle.tera_meaning.specs.Rendering.{autoescapes, has_a_block, render, render_in, render_block, render_block_in, render_component, render_component_in, render_str, render_str_in}
+pub use Rattle.tera_meaning.specs.Rendering.{autoescapes, has_a_block, render, render_in, render_block, render_block_in, render_component, render_component_in, render_str, render_str_in}
 use Rattle.tera_marks.specs.Origin.{Traces}
 
 -- whether a text may be rendered beside the registry: it extends no template and has no block

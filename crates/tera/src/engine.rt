@@ -3,7 +3,7 @@ ghost use Rattle.std.specs.Prelude.{◌≡◌, [], Ok, IsTrue, OnOk, IfErr, fals
 ghost use Rattle.std.specs.Borrow.{sem};
 ghost use Rattle.tera_errors.specs.Answer.{Gives, GivesOneOf, Tells};
 ghost use Rattle.tera_errors.specs.Fault.{message};
-ghost use Rattle.tera_tree.specs.Delimiters.{delimiters_of, accepted};
+ghost use Rattle.tera_syntax_tree.specs.Delimiters.{delimiters_of, accepted};
 ghost use Rattle.tera_meaning.specs.Registry.{new_registry};
 ghost use Rattle.tera_registry.specs.Templates.{is_empty};
 ghost use Rattle.tera.specs.Rendering.{OneOff, AppendsOneOf};
@@ -14,7 +14,7 @@ use crate::texts::{copied, standard_suffixes};
 use std::alloc::Global;
 use tera_objects::{CallerObjects, Objects};
 use tera_registry::Templates;
-use tera_tree::Delimiters;
+use tera_syntax_tree::Delimiters;
 use tera_values::{Context, Error, TeraResult};
 
 /// An engine, over any objects of its caller: what templates are read by, and what every rendering reads. Definitions see it as a

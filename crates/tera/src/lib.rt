@@ -18,7 +18,7 @@ pub use tera_state::{
     Filter, ForLoop, ForLoopIterator, Function, State, StateOver, StringInput, Test,
 };
 pub use tera_syntax::parse;
-pub use tera_tree::{
+pub use tera_syntax_tree::{
     BinaryOperator, Bounds, Delimiters, Entry, Expression, Heading, Item, LiteralKey, Node,
     ParserOutput, Quoted,
 };

@@ -1,8 +1,8 @@
 // From a text, or the code of a body, to what it renders to.
 ghost use Rattle.std.specs.Prelude.{◌≡◌, [], OnOk, string_bytes};
 ghost use Rattle.tera_errors.specs.Answer.{Gives, GivesOneOf};
-ghost use Rattle.tera_tree.specs.Blocks.{blocks};
-ghost use Rattle.tera_tree.specs.View.{nodes_of, tree_of};
+ghost use Rattle.tera_syntax_tree.specs.Blocks.{blocks};
+ghost use Rattle.tera_syntax_tree.specs.View.{nodes_of, tree_of};
 ghost use Rattle.tera_state.specs.Scope.{nothing_set};
 ghost use Rattle.tera_state.specs.Scopes.{around_of, variables_of};
 ghost use Rattle.tera_code.specs.Code.{nodes_code};
@@ -22,7 +22,7 @@ use tera_registry::components::components;
 use tera_registry::tops::top_blocks;
 use tera_state::Scopes;
 use tera_syntax::parse;
-use tera_tree::{Node, ParserOutput};
+use tera_syntax_tree::{Node, ParserOutput};
 use tera_values::{Context, Error, Name, TeraResult};
 
 /// The name that faults give to a text that is no template of the engine.

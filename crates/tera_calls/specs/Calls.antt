@@ -2,7 +2,7 @@
 use Rattle.std.specs.Prelude.{◌≡◌, List, [], ◌∷◌, Result, Ok}
 use Rattle.tera_errors.specs.Site.{Name}
 use Rattle.tera_errors.specs.Answer.{Refusal}
-use Rattle.tera_tree.specs.Delimiters.{delimiters_of}
+use Rattle.tera_syntax_tree.specs.Delimiters.{delimiters_of}
 use Rattle.tera_values.specs.Escape.{escape_html}
 use Rattle.tera_values.specs.Val.{Val}
 use Rattle.tera_values.specs.Named.{put}

@@ -4,7 +4,7 @@ use Rattle.tera_errors.specs.Site.{Text}
 use Rattle.tera_errors.specs.Fault.{Fault}
 use Rattle.tera_values.specs.Alphabet.{Alphabet, plain, marking}
 use Rattle.tera_values.specs.Escape.{escape_html}
-use Rattle.tera_tree.specs.Tree.{Tree}
+use Rattle.tera_syntax_tree.specs.Tree.{Tree}
 use Rattle.tera_syntax.specs.Reads.{Reads}
 use Rattle.tera_meaning.specs.Registry.{Entry, Registry}
 use Rattle.tera_meaning.specs.Resolve.{resolve}

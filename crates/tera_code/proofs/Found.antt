@@ -3,27 +3,23 @@ use Rattle.std.proofs.Common.{◌≡◌, ℕ, Bool, Bor, List, [], ◌∷◌, �
 use Rattle.std.proofs.lemmas.List.{map-append}
 use Rattle.tera_errors.specs.Site as site
 use Rattle.tera_errors.specs.declared.span.Span.{Span}
-use Rattle.tera_tree.specs.declared.expression.Heading.{Heading}
-use Rattle.tera_tree.specs.declared.expression.Expression.{Expression}
-use Rattle.tera_tree.specs.declared.expression.Entry.{Entry}
-use Rattle.tera_tree.specs.declared.component.Signature.{Signature}
-use Rattle.tera_tree.specs.declared.node.Node.{Node}
-use Rattle.tera_tree.specs.declared.node.SectionFilter.{SectionFilter}
-use Rattle.tera_tree.specs.declared.node.Node.TheVariants as variant
-use Rattle.tera_tree.specs.Tree as tree
-use Rattle.tera_tree.specs.View.{node_of, nodes_of}
-use Rattle.tera_tree.specs.Blocks.{blocks, node_blocks}
-use Rattle.tera_tree.proofs.Views.{view_if, view_capture, view_section, view_for, view_block, view_component_call, view_definition}
+use Rattle.tera_syntax_tree.specs.declared.expression.Heading.{Heading}
+use Rattle.tera_syntax_tree.specs.declared.expression.Expression.{Expression}
+use Rattle.tera_syntax_tree.specs.declared.expression.Entry.{Entry}
+use Rattle.tera_syntax_tree.specs.declared.component.Signature.{Signature}
+use Rattle.tera_syntax_tree.specs.declared.node.Node.{Node}
+use Rattle.tera_syntax_tree.specs.declared.node.SectionFilter.{SectionFilter}
+use Rattle.tera_syntax_tree.specs.declared.node.Node.TheVariants as variant
+use Rattle.tera_syntax_tree.specs.Tree as tree
+use Rattle.tera_syntax_tree.specs.View.{node_of, nodes_of}
+use Rattle.tera_syntax_tree.specs.Blocks.{blocks, node_blocks}
+use Rattle.tera_syntax_tree.proofs.Views.{view_if, view_capture, view_section, view_for, view_block, view_component_call, view_definition}
 use Rattle.tera_code.specs.declared.blocks.Block.{Block}
 use Rattle.tera_code.specs.Listing.{Listing}
-use Rattle.tera_code.specs.Code.{listing_of}
 use Rattle.tera_code.specs.Blocks.{block_of, block_listing, block_listings}
 
 abbrev Kept : Type 0
 Kept = List (site.Name × Listing)
-
-abbrev Bodies : Type 0
-Bodies = List (site.Name × tree.Nodes)
 
 -- some are found, and others are to come
 pub found_more : {A B : Type 0} (f : A → B) (old mid : List B) (some others whole : List A) → whole ≡ some ++ others → mid ≡ old ++ map f some → mid ++ map f others ≡ old ++ map f whole

@@ -9,9 +9,9 @@ use Rattle.std.specs.List.{All}
 use Rattle.std.specs.Str.{IsUtf8, IsCharBoundary}
 use Rattle.tera_errors.specs.Site.{Text}
 use Rattle.tera_values.specs.Val as val
-use Rattle.tera_tree.specs.declared.expression.OwnedKey.{OwnedKey}
-use Rattle.tera_tree.specs.Tree.{Key}
-use Rattle.tera_tree.specs.View.{key_option, keys_of}
+use Rattle.tera_syntax_tree.specs.declared.expression.OwnedKey.{OwnedKey}
+use Rattle.tera_syntax_tree.specs.Tree.{Key}
+use Rattle.tera_syntax_tree.specs.View.{key_option, keys_of}
 use Rattle.tera_code.specs.Constant.{small_integer}
 use Rattle.tera_code.specs.declared.instruction.Instruction.{Instruction}
 use Rattle.tera_code.specs.declared.instruction.Instruction.TheVariants as instruction

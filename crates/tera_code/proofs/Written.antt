@@ -3,23 +3,23 @@ use Rattle.std.proofs.Common.{◌≡◌, ℕ, suc, Bool, false, Bor, length, Lis
 use Rattle.tera_errors.specs.declared.span.Span.{Span}
 use Rattle.tera_errors.specs.Fault.{Fault}
 use Rattle.tera_errors.specs.Answer.{Refusal}
-use Rattle.tera_tree.specs.declared.expression.Item.{Item}
-use Rattle.tera_tree.specs.declared.expression.Entry.{Entry}
-use Rattle.tera_tree.specs.declared.expression.Argument.{Argument}
-use Rattle.tera_tree.specs.declared.expression.OwnedKey.{OwnedKey}
-use Rattle.tera_tree.specs.declared.expression.Heading.{Heading}
-use Rattle.tera_tree.specs.declared.expression.Expression.{Expression}
-use Rattle.tera_tree.specs.declared.expression.Expression.TheVariants as expression
-use Rattle.tera_tree.specs.declared.node.Node.{Node}
-use Rattle.tera_tree.specs.declared.node.SectionFilter.{SectionFilter}
-use Rattle.tera_tree.specs.declared.node.Node.TheVariants as variant
-use Rattle.tera_tree.specs.Tree.{Key, Arguments, If}
-use Rattle.tera_tree.specs.View.{key_option, literal_option, comprehension_of, optional_of, expr_of, items_of, entries_of, arguments_of, filters_of, node_of, nodes_of, for_of}
-use Rattle.tera_tree.proofs.Views.{view_array, view_map, view_super, view_filter, view_test, view_call, view_component, view_if, view_capture, view_section, view_component_call, view_for}
+use Rattle.tera_syntax_tree.specs.declared.expression.Item.{Item}
+use Rattle.tera_syntax_tree.specs.declared.expression.Entry.{Entry}
+use Rattle.tera_syntax_tree.specs.declared.expression.Argument.{Argument}
+use Rattle.tera_syntax_tree.specs.declared.expression.OwnedKey.{OwnedKey}
+use Rattle.tera_syntax_tree.specs.declared.expression.Heading.{Heading}
+use Rattle.tera_syntax_tree.specs.declared.expression.Expression.{Expression}
+use Rattle.tera_syntax_tree.specs.declared.expression.Expression.TheVariants as expression
+use Rattle.tera_syntax_tree.specs.declared.node.Node.{Node}
+use Rattle.tera_syntax_tree.specs.declared.node.SectionFilter.{SectionFilter}
+use Rattle.tera_syntax_tree.specs.declared.node.Node.TheVariants as variant
+use Rattle.tera_syntax_tree.specs.Tree.{Key, Arguments, If}
+use Rattle.tera_syntax_tree.specs.View.{key_option, literal_option, comprehension_of, optional_of, expr_of, items_of, entries_of, arguments_of, filters_of, node_of, nodes_of, for_of}
+use Rattle.tera_syntax_tree.proofs.Views.{view_array, view_map, view_super, view_filter, view_test, view_call, view_component, view_if, view_capture, view_section, view_component_call, view_for}
 use Rattle.tera_code.specs.declared.instruction.Instruction.{Instruction}
 use Rattle.tera_code.specs.declared.instruction.Instruction.TheVariants as instruction
 use Rattle.tera_code.specs.Listing.{Listing}
-use Rattle.tera_tree.specs.View.{keys_of}
+use Rattle.tera_syntax_tree.specs.View.{keys_of}
 use Rattle.tera_code.specs.Code.{expr_code, items_code, entries_code, arguments_code, arguments_length, argument_names, section_code, captured_code, handed_code, node_code, nodes_code, turn_code, spreads_of, keys_in, lengthened}
 use Rattle.tera_code.specs.Places.{filled, behind, looped}
 use Rattle.tera_code.proofs.Lengthened.{lengthened-lengthened}

@@ -2,7 +2,7 @@
 use Rattle.std.specs.Prelude.{ℕ, ℤ, Bool, true, false, Option, Some, None, option_map}
 use Rattle.tera_errors.specs.Site as site
 use Rattle.tera_errors.specs.declared.span.Span.{Span}
-use Rattle.tera_tree.specs.declared.expression.BinaryOperator.{BinaryOperator}
+use Rattle.tera_syntax_tree.specs.declared.expression.BinaryOperator.{BinaryOperator}
 use Rattle.tera_code.specs.Constant.{small_integer}
 use Rattle.tera_code.specs.declared.instruction.Instruction.{Instruction}
 use Rattle.tera_code.specs.declared.instruction.Instruction.TheVariants as instruction

@@ -1,7 +1,7 @@
 -- The blocks of a tree, each with its code.
 use Rattle.std.specs.Prelude.{List, map}
 use Rattle.tera_errors.specs.Site as site
-use Rattle.tera_tree.specs.Tree.{Nodes}
+use Rattle.tera_syntax_tree.specs.Tree.{Nodes}
 use Rattle.tera_code.specs.declared.blocks.Block.{Block}
 use Rattle.tera_code.specs.Listing.{Listing}
 use Rattle.tera_code.specs.Code.{listing_of}

@@ -1,7 +1,7 @@
 -- What code calls.
 use Rattle.std.specs.Prelude.{◌≡◌, ℕ, List, filter_map, Option, Some, None}
-use Rattle.tera_tree.specs.Tree.{Nodes}
-use Rattle.tera_tree.specs.Calls.{Callee, AFilter, ATest, AFunction, AComponent, calls}
+use Rattle.tera_syntax_tree.specs.Tree.{Nodes}
+use Rattle.tera_syntax_tree.specs.Calls.{Callee, AFilter, ATest, AFunction, AComponent, calls}
 use Rattle.tera_code.specs.declared.callee.Callee as declared
 use Rattle.tera_code.specs.declared.callee.Callee.TheVariants as callee
 use Rattle.tera_code.specs.declared.instruction.Instruction.{Instruction}

@@ -1,6 +1,6 @@
 -- Kinds of expressions and of nodes.
 use Rattle.std.specs.Prelude.{Bool, true, false}
-use Rattle.tera_tree.specs.Tree.{Expr, Nothing, Boolean, Integer, Text, Name, Attribute, Index, Slice, Not, Negate, Binary, And, Or, Ternary, Array, Map, Comprehension, Super, Filter, Test, Call, Component, Node, If, For, Capture, FilterSection, ComponentCall}
+use Rattle.tera_syntax_tree.specs.Tree.{Expr, Nothing, Boolean, Integer, Text, Name, Attribute, Index, Slice, Not, Negate, Binary, And, Or, Ternary, Array, Map, Comprehension, Super, Filter, Test, Call, Component, Node, If, For, Capture, FilterSection, ComponentCall}
 
 pub data Group : Type 0 where
   -- has no parts

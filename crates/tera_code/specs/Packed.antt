@@ -5,8 +5,8 @@ use Rattle.tera_errors.specs.Site.{Text}
 use Rattle.tera_errors.specs.declared.span.Span.{Span}
 use Rattle.tera_values.specs.Val.{Val}
 use Rattle.tera_values.specs.Val as val
-use Rattle.tera_tree.specs.Tree.{Key}
-use Rattle.tera_tree.specs.View.{keys_of}
+use Rattle.tera_syntax_tree.specs.Tree.{Key}
+use Rattle.tera_syntax_tree.specs.View.{keys_of}
 use Rattle.tera_code.specs.Constant.{small_integer}
 use Rattle.tera_code.specs.declared.instruction.Instruction.{Instruction}
 use Rattle.tera_code.specs.declared.instruction.Instruction.TheVariants as instruction

@@ -2,13 +2,13 @@
 ghost use Rattle.std.specs.Prelude.{◌≡◌, ◌++◌, [], ◌∷◌, map, OnOk, IfOk, IfErr};
 ghost use Rattle.tera_errors.specs.Answer.{Lacks};
 ghost use Rattle.tera_code.specs.Blocks.{block_of, block_listing, block_listings};
-ghost use Rattle.tera_tree.specs.Blocks.{blocks, node_blocks};
-ghost use Rattle.tera_tree.specs.View.{node_of, nodes_of};
+ghost use Rattle.tera_syntax_tree.specs.Blocks.{blocks, node_blocks};
+ghost use Rattle.tera_syntax_tree.specs.View.{node_of, nodes_of};
 
 use crate::chunk::Chunk;
 use crate::nodes::compiled;
 use std::alloc::Global;
-use tera_tree::Node;
+use tera_syntax_tree::Node;
 use tera_values::{Name, TeraResult};
 
 /// A block of a template: its name, and the code of its body.
@@ -71,6 +71,7 @@ fn add(alloc: Global, node: &Node, file: &str, found: &mut Vec<Block>) -> TeraRe
         }
         Node::Content { .. }
         | Node::Print { .. }
+        | Node::PrintName { .. }
         | Node::Set { .. }
         | Node::Include { .. }
         | Node::Break

@@ -4,15 +4,15 @@ ghost use Rattle.tera_errors.specs.Answer.{Gives, Lacks};
 ghost use Rattle.tera_code.specs.declared.instruction.Instruction.TheVariants as instruction;
 ghost use Rattle.tera_code.specs.Code.{expr_code, arguments_code, argument_names, filters_code, keys_in, lengthened};
 ghost use Rattle.tera_code.specs.Group.{group, Request};
-ghost use Rattle.tera_tree.specs.Tree.{MoreFilters, NoFilters};
-ghost use Rattle.tera_tree.specs.View.{expr_of, entries_of, arguments_of, filters_of};
+ghost use Rattle.tera_syntax_tree.specs.Tree.{MoreFilters, NoFilters};
+ghost use Rattle.tera_syntax_tree.specs.View.{expr_of, entries_of, arguments_of, filters_of};
 
 use crate::compiler::Compiler;
 use crate::content::{Keys, LentName, Names};
 use crate::instruction::Instruction;
 use crate::parts::keys;
 use std::alloc::Global;
-use tera_tree::{Argument, Entry, Expression, SectionFilter};
+use tera_syntax_tree::{Argument, Entry, Expression, SectionFilter};
 use tera_values::{Name, Span, TeraResult};
 
 impl Compiler {

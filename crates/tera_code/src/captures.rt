@@ -4,15 +4,15 @@ ghost use Rattle.tera_errors.specs.Answer.{Lacks};
 ghost use Rattle.tera_code.specs.declared.instruction.Instruction.TheVariants as instruction;
 ghost use Rattle.tera_code.specs.Code.{node_code, nodes_code, section_code, captured_code, lengthened};
 ghost use Rattle.tera_code.specs.Group.{captures_body};
-ghost use Rattle.tera_tree.specs.Tree.{Set, first_span};
-ghost use Rattle.tera_tree.specs.View.{expr_of, filters_of, node_of, nodes_of};
+ghost use Rattle.tera_syntax_tree.specs.Tree.{Set, first_span};
+ghost use Rattle.tera_syntax_tree.specs.View.{expr_of, filters_of, node_of, nodes_of};
 
 use crate::compiler::Compiler;
 use crate::content::LentName;
 use crate::instruction::Instruction;
 use std::alloc::Global;
 use tera_errors::Error;
-use tera_tree::{Expression, Node, SectionFilter};
+use tera_syntax_tree::{Expression, Node, SectionFilter};
 use tera_values::{Name, Span, TeraResult};
 
 impl Compiler {

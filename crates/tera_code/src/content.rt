@@ -3,7 +3,7 @@ ghost use Rattle.std.specs.Prelude.{◌≡◌, None, Ok, IsOk, length};
 ghost use Rattle.tera_errors.specs.Answer.{Gives};
 
 use std::marker::Model;
-use tera_tree::OwnedKey;
+use tera_syntax_tree::OwnedKey;
 use tera_values::{Name, TeraResult};
 
 /// A piece of a template's text, or the name of an attribute. A contract sees its bytes.
@@ -175,8 +175,8 @@ pub struct Keys<'a> {
 
 impl<'a> Model for Keys<'a> {
     ghost use Rattle.std.specs.Prelude.{List, Option};
-    ghost use Rattle.tera_tree.specs.Tree.{Key};
-    ghost use Rattle.tera_tree.specs.View.{keys_of};
+    ghost use Rattle.tera_syntax_tree.specs.Tree.{Key};
+    ghost use Rattle.tera_syntax_tree.specs.View.{keys_of};
 
     ghost Value = { List (Option Key) };
 
@@ -184,7 +184,7 @@ impl<'a> Model for Keys<'a> {
 }
 
 impl<'a> Keys<'a> {
-    ghost use Rattle.tera_tree.specs.View.{keys_of};
+    ghost use Rattle.tera_syntax_tree.specs.View.{keys_of};
 
     /// A key, or none, for each entry.
     pub fn new(keys: &'a [Option<OwnedKey>]) -> Keys<'a>

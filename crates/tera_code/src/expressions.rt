@@ -3,13 +3,13 @@ ghost use Rattle.std.specs.Prelude.{◌≡◌, OnOk, IfErr};
 ghost use Rattle.tera_errors.specs.Answer.{Lacks};
 ghost use Rattle.tera_code.specs.Code.{expr_code, bound_code, items_code, entries_code, lengthened};
 ghost use Rattle.tera_code.specs.Group.{group, Access, Operation, Branch, Collection, Loop, Request};
-ghost use Rattle.tera_tree.specs.View.{expr_of, optional_of, items_of, entries_of};
+ghost use Rattle.tera_syntax_tree.specs.View.{expr_of, optional_of, items_of, entries_of};
 
 use crate::compiler::Compiler;
 use crate::constant::Constant;
 use crate::instruction::Instruction;
 use std::alloc::Global;
-use tera_tree::{Entry, Expression, Item};
+use tera_syntax_tree::{Entry, Expression, Item};
 use tera_values::{Span, TeraResult};
 
 impl Compiler {

@@ -1,7 +1,7 @@
 // What the machine can be told.
 use crate::constant::Constant;
 use crate::content::{Keys, LentName, Names, Spreads, Text};
-use tera_tree::BinaryOperator;
+use tera_syntax_tree::BinaryOperator;
 use tera_values::{Sought, Span};
 
 /// One instruction, as a chunk hands it out: it borrows texts, names, constants and lists from the chunk, and no part of a

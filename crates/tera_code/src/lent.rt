@@ -13,7 +13,7 @@ use crate::content::Text;
 use crate::instruction::Instruction;
 use crate::packed::{Packed, Tables};
 use std::marker::Model;
-use tera_tree::BinaryOperator;
+use tera_syntax_tree::BinaryOperator;
 use tera_values::{Name, Span};
 
 /// An instruction that lies in its chunk. A contract sees the instruction that is meant. What is run most can be asked for

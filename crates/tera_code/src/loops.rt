@@ -5,13 +5,13 @@ ghost use Rattle.tera_code.specs.declared.instruction.Instruction.TheVariants as
 ghost use Rattle.tera_code.specs.Code.{expr_code, lengthened};
 ghost use Rattle.tera_code.specs.Group.{group, Loop};
 ghost use Rattle.tera_code.specs.Places.{looped};
-ghost use Rattle.tera_tree.specs.View.{expr_of};
+ghost use Rattle.tera_syntax_tree.specs.View.{expr_of};
 
 use crate::compiler::Compiler;
 use crate::content::{LentName, Spreads};
 use crate::instruction::Instruction;
 use std::alloc::Global;
-use tera_tree::{Expression, Heading};
+use tera_syntax_tree::{Expression, Heading};
 use tera_values::{Name, Span, TeraResult};
 
 impl Compiler {

@@ -4,8 +4,8 @@ ghost use Rattle.tera_errors.specs.Answer.{Lacks};
 ghost use Rattle.tera_code.specs.declared.instruction.Instruction.TheVariants as instruction;
 ghost use Rattle.tera_code.specs.Code.{named, handed_code, node_code, nodes_code, listing_of, lengthened};
 ghost use Rattle.tera_code.specs.Group.{has_other_body};
-ghost use Rattle.tera_tree.specs.Tree.{Print};
-ghost use Rattle.tera_tree.specs.View.{expr_of, entries_of, node_of, nodes_of};
+ghost use Rattle.tera_syntax_tree.specs.Tree as tree;
+ghost use Rattle.tera_syntax_tree.specs.View.{expr_of, entries_of, node_of, nodes_of};
 
 use crate::chunk::Chunk;
 use crate::compiler::Compiler;
@@ -13,7 +13,7 @@ use crate::content::LentName;
 use crate::instruction::Instruction;
 use crate::parts::is_context;
 use std::alloc::Global;
-use tera_tree::{Entry, Expression, Node};
+use tera_syntax_tree::{Entry, Expression, Node};
 use tera_values::{Name, Span, TeraResult};
 
 impl Compiler {
@@ -67,6 +67,7 @@ impl Compiler {
         match node {
             Node::Content { text, span: _ } => self.emit_text(text),
             Node::Print { value } => self.print(value),
+            Node::PrintName { name, span } => self.print_name(name, *span),
             Node::If { .. } | Node::For { .. } => self.branching(node, drops),
             Node::Set {
                 name,
@@ -163,9 +164,23 @@ impl Compiler {
         })
     }
 
+    // The map of all that is bound is made first; what any other name stands for is put out where it lies.
+    fn print_name(&mut self, name: &str, span: Span) -> TeraResult<()>
+        ensures ok { OnOk result (self.new ≡ lengthened self.old
+            (node_code (tree.Print (tree.Name name.now span)) 0)) }
+        ensures lacks { IfErr result Lacks }
+    {
+        if is_context(name) {
+            self.load(name, span)?;
+            self.emit(Instruction::WriteTop)
+        } else {
+            self.emit_name(name, span)
+        }
+    }
+
     fn print(&mut self, value: &Expression) -> TeraResult<()>
         ensures ok { OnOk result (self.new ≡ lengthened self.old
-            (node_code (Print (expr_of value.now)) 0)) }
+            (node_code (tree.Print (expr_of value.now)) 0)) }
         ensures lacks { IfErr result Lacks }
     {
         match named(value) {

@@ -3,7 +3,7 @@ ghost use Rattle.std.specs.Prelude.{◌≡◌, ◌<◌, ◌≤◌, ◌-◌, ◌^
 ghost use Rattle.std.specs.Str.{IsCharBoundary};
 ghost use Rattle.tera_errors.specs.Answer.{Gives, Lacks};
 ghost use Rattle.tera_code.specs.Packed.{Grows, Longer, IsAt, Packs, Within, shelf_of, span_at, name_at, unpacked};
-ghost use Rattle.tera_tree.specs.View.{keys_of};
+ghost use Rattle.tera_syntax_tree.specs.View.{keys_of};
 ghost use Rattle.tera_code.specs.declared.instruction.Instruction.TheVariants as instruction;
 
 use crate::constant::{Constant, Kept, small_integer};
@@ -13,7 +13,7 @@ use crate::parts::copied;
 use crate::reference::Reference;
 use std::alloc::Global;
 use tera_errors::Error;
-use tera_tree::{BinaryOperator, OwnedKey};
+use tera_syntax_tree::{BinaryOperator, OwnedKey};
 use tera_values::{Name, Sought, Span, TeraResult, Value};
 
 /// An instruction that names by number what it needs.

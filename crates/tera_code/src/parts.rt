@@ -5,15 +5,15 @@ ghost use Rattle.tera_values.specs.Val as val;
 ghost use Rattle.tera_code.specs.declared.instruction.Instruction.TheVariants as instruction;
 ghost use Rattle.tera_code.specs.Code.{lengthened, is_context, name_code, spreads_of, keys_in};
 ghost use Rattle.tera_code.specs.Places.{divided};
-ghost use Rattle.tera_tree.specs.View.{keys_of};
-ghost use Rattle.tera_tree.specs.View.{items_of, entries_of, key_option, key_of, literal_option, literal_of, quoted_of};
+ghost use Rattle.tera_syntax_tree.specs.View.{keys_of};
+ghost use Rattle.tera_syntax_tree.specs.View.{items_of, entries_of, key_option, key_of, literal_option, literal_of, quoted_of};
 
 use crate::compiler::Compiler;
 use crate::constant::Constant;
 use crate::content::{Keys, Spreads, Text};
 use crate::instruction::Instruction;
 use std::alloc::Global;
-use tera_tree::{Entry, Item, LiteralKey, OwnedKey};
+use tera_syntax_tree::{Entry, Item, LiteralKey, OwnedKey};
 use tera_values::{Sought, Span, TeraResult, Value};
 
 impl Compiler {

@@ -6,7 +6,7 @@ use Rattle.std.proofs.lemmas.List.Folds.{list_any-append}
 use Rattle.std.proofs.lemmas.Map.Text.{is_eq-slice_cmp}
 use Rattle.tera_errors.specs.Fault.{Fault}
 use Rattle.tera_errors.specs.Site.{Name}
-use Rattle.tera_tree.specs.Blocks.{is_among}
+use Rattle.tera_syntax_tree.specs.Blocks.{is_among}
 use Rattle.tera_values.specs.Val.{Val, KeyVal, kbool, kint, ktext, map, entries}
 use Rattle.tera_values.specs.Access.{key_eq, find, insert_pair, pairs}
 use Rattle.tera_values_data.proofs.Keys.{key_exact, is_eq_true}

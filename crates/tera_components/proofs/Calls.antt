@@ -6,8 +6,8 @@ use Rattle.std.proofs.lemmas.List.{drop_more}
 use Rattle.tera_errors.specs.Answer.{Refusal, Says, Gives}
 use Rattle.tera_errors.specs.Fault.{Fault}
 use Rattle.tera_errors.specs.Site.{Name}
-use Rattle.tera_tree.specs.Blocks.{is_among}
-use Rattle.tera_tree.specs.Tree.{Parameter, Signature}
+use Rattle.tera_syntax_tree.specs.Blocks.{is_among}
+use Rattle.tera_syntax_tree.specs.Tree.{Parameter, Signature}
 use Rattle.tera_values.specs.Alphabet.{plain}
 use Rattle.tera_values.specs.Val.{Val}
 use Rattle.tera_values.specs.Named.{Named, put}

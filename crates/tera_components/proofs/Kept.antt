@@ -2,8 +2,8 @@
 use Rattle.std.proofs.Common.{◌≡◌, ℕ, ◌+◌, ◌<◌, List, [], ◌∷◌, ◌++◌, Result, Ok, sym, ap, ◌∙◌, map as map_list, length, take, get_or}
 use Rattle.std.proofs.lemmas.List.{take_more, map-append}
 use Rattle.tera_errors.specs.Fault.{Fault}
-use Rattle.tera_tree.specs.declared.component.Parameter as declared
-use Rattle.tera_tree.specs.View.{parameter_of}
+use Rattle.tera_syntax_tree.specs.declared.component.Parameter as declared
+use Rattle.tera_syntax_tree.specs.View.{parameter_of}
 use Rattle.tera_components.specs.Definition.{Formal, formal_of}
 
 abbrev pub kept_of : List declared.Parameter → List Formal

@@ -5,7 +5,7 @@ use Rattle.std.proofs.lemmas.List.{take_more, append-nil, length-take, get_or-ta
 use Rattle.std.proofs.lemmas.List.Elements.{filter-append}
 use Rattle.std.proofs.lemmas.Option.{slice_get_within, get_or_from_slice_get}
 use Rattle.tera_errors.specs.Site.{Name}
-use Rattle.tera_tree.specs.Blocks.{is_among}
+use Rattle.tera_syntax_tree.specs.Blocks.{is_among}
 use Rattle.tera_values_data.specs.Index.{key_at, IsDistinct}
 use Rattle.tera_values_data.proofs.Keys.{key_exact, key_tied, is_eq_true}
 use Rattle.tera_values_data.proofs.Places.{find_absent}

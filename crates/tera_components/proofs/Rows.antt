@@ -1,12 +1,12 @@
 -- Values of what is written out item by item.
 use Rattle.std.proofs.Common.{◌≡◌, Vec, Global, List, [], ◌∷◌, Ok, Result, refl, sym, ap, ◌∙◌, map as map_list}
 use Rattle.tera_errors.specs.Fault.{Fault}
-use Rattle.tera_tree.specs.declared.component.Literal.{Literal, Row_of-Literal, end_of-Literal, more_of-Literal, items-the_row-Literal, items_hidden-the_row-Literal-0, Row_of-LiteralEntry, end_of-LiteralEntry, more_of-LiteralEntry, items-the_row-LiteralEntry, items_hidden-the_row-LiteralEntry-1}
-use Rattle.tera_tree.specs.declared.component.Literal.TheVariants as written
-use Rattle.tera_tree.specs.declared.component.LiteralEntry.{LiteralEntry}
+use Rattle.tera_syntax_tree.specs.declared.component.Literal.{Literal, Row_of-Literal, end_of-Literal, more_of-Literal, items-the_row-Literal, items_hidden-the_row-Literal-0, Row_of-LiteralEntry, end_of-LiteralEntry, more_of-LiteralEntry, items-the_row-LiteralEntry, items_hidden-the_row-LiteralEntry-1}
+use Rattle.tera_syntax_tree.specs.declared.component.Literal.TheVariants as written
+use Rattle.tera_syntax_tree.specs.declared.component.LiteralEntry.{LiteralEntry}
 use mathlib.Core.Former.{Count}
-use Rattle.tera_tree.specs.Tree.{ArrayLiteral, MapLiteral, MoreLiterals, MoreLiteralEntries}
-use Rattle.tera_tree.specs.View.{written_of, literal_of, row_literals, row_literal_entries, literals_of, literal_entries_of}
+use Rattle.tera_syntax_tree.specs.Tree.{ArrayLiteral, MapLiteral, MoreLiterals, MoreLiteralEntries}
+use Rattle.tera_syntax_tree.specs.View.{written_of, literal_of, row_literals, row_literal_entries, literals_of, literal_entries_of}
 use Rattle.tera_values.specs.Alphabet.{plain}
 use Rattle.tera_values.specs.Val.{Val, KeyVal, array, map, vals, item, entries}
 use Rattle.tera_components.specs.Context.{literal_value, literal_items_in, literal_pairs_in}

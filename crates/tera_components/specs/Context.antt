@@ -2,10 +2,10 @@
 use Rattle.std.specs.Prelude.{Bool, true, false, not, List, [], ◌∷◌, filter, map as map_list, Option, Some, None, option_map, option_and_then, codes, if◌then◌else◌}
 use Rattle.std.specs.Option.{option_or}
 use Rattle.tera_errors.specs.Site.{Name}
-use Rattle.tera_tree.specs.declared.component.ArgumentType.{ArgumentType}
-use Rattle.tera_tree.specs.declared.component.ArgumentType.TheVariants as a
-use Rattle.tera_tree.specs.Tree.{Literal, NothingLiteral, BooleanLiteral, IntegerLiteral, TextLiteral, ArrayLiteral, MapLiteral, Literals, NoLiterals, MoreLiterals, LiteralEntries, NoLiteralEntries, MoreLiteralEntries, Parameter, Signature}
-use Rattle.tera_tree.specs.Blocks.{is_among}
+use Rattle.tera_syntax_tree.specs.declared.component.ArgumentType.{ArgumentType}
+use Rattle.tera_syntax_tree.specs.declared.component.ArgumentType.TheVariants as a
+use Rattle.tera_syntax_tree.specs.Tree.{Literal, NothingLiteral, BooleanLiteral, IntegerLiteral, TextLiteral, ArrayLiteral, MapLiteral, Literals, NoLiterals, MoreLiterals, LiteralEntries, NoLiteralEntries, MoreLiteralEntries, Parameter, Signature}
+use Rattle.tera_syntax_tree.specs.Blocks.{is_among}
 use Rattle.tera_values.specs.Alphabet.{Alphabet, plain, made}
 use Rattle.tera_values.specs.Val.{ValOf, ValsOf, KeyVal, Val, none, bool, int, text, array, map, no_items, item, entries}
 use Rattle.tera_values.specs.Access.{insert_pair}

@@ -5,10 +5,10 @@ use Rattle.std.specs.List.{filter_map}
 use Rattle.std.specs.Coded.{Coded, code_by, coded×, coded_ℕ, coded_bool, coded_list, coded_option}
 use Rattle.tera_errors.specs.Fault.{Fault, message}
 use Rattle.tera_errors.specs.Site.{Name}
-use Rattle.tera_tree.specs.declared.component.ArgumentType.{ArgumentType}
-use Rattle.tera_tree.specs.contracts.component.ArgumentType.{the_row}
-use Rattle.tera_tree.specs.Tree.{Parameter, Signature}
-use Rattle.tera_tree.specs.Blocks.{is_among}
+use Rattle.tera_syntax_tree.specs.declared.component.ArgumentType.{ArgumentType}
+use Rattle.tera_syntax_tree.specs.contracts.component.ArgumentType.{the_row}
+use Rattle.tera_syntax_tree.specs.Tree.{Parameter, Signature}
+use Rattle.tera_syntax_tree.specs.Blocks.{is_among}
 use Rattle.tera_values.specs.Val.{ValOf, Val, KeyVal, kbool, kint, ktext}
 use Rattle.tera_values.specs.Code.{val_code}
 use Rattle.tera_values.specs.Access.{find, insert_pair}

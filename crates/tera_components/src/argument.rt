@@ -1,7 +1,7 @@
 // Parameters of components, and the values that they take.
 ghost use Rattle.std.specs.Prelude.{◌≡◌, Ok, option_copied};
 ghost use Rattle.tera_errors.specs.Answer.{Gives};
-ghost use Rattle.tera_tree.specs.View.{parameter_of};
+ghost use Rattle.tera_syntax_tree.specs.View.{parameter_of};
 ghost use Rattle.tera_values.specs.Named.{at_name};
 ghost use Rattle.tera_state.specs.Scope.{look_implicit};
 ghost use Rattle.tera_state.specs.Scopes.{around_of, variables_of};
@@ -14,7 +14,7 @@ use std::alloc::Global;
 use std::marker::Model;
 use tera_operators::Entries;
 use tera_state::Scopes;
-use tera_tree::{ArgumentType, Parameter};
+use tera_syntax_tree::{ArgumentType, Parameter};
 use tera_values::{Name, Shape, TeraResult, Value};
 
 /// A parameter of a component. Its default is kept as a value, so that a copy of that is a count.

@@ -2,9 +2,9 @@
 ghost use Rattle.std.specs.Prelude.{◌≡◌, Ok, List, [], OnOk, IfErr};
 ghost use Rattle.tera_errors.specs.Answer.{Gives, Lacks};
 ghost use Rattle.tera_errors.specs.Site.{Name};
-ghost use Rattle.tera_tree.specs.Tree.{Signature as Signed};
-ghost use Rattle.tera_tree.specs.View.{signature_of};
-ghost use Rattle.tera_tree.specs.Blocks.{is_among};
+ghost use Rattle.tera_syntax_tree.specs.Tree.{Signature as Signed};
+ghost use Rattle.tera_syntax_tree.specs.View.{signature_of};
+ghost use Rattle.tera_syntax_tree.specs.Blocks.{is_among};
 ghost use Rattle.tera_values.specs.Val.{Val};
 ghost use Rattle.tera_values.specs.View.{key_view};
 ghost use Rattle.tera_values.specs.Named.{text_keys};
@@ -19,7 +19,7 @@ use std::alloc::Global;
 use std::marker::Model;
 use tera_operators::Entries;
 use tera_state::Scopes;
-use tera_tree::Signature;
+use tera_syntax_tree::Signature;
 use tera_values::{Context, Key, Kwargs, Map, Name, Shape, TeraResult, Value};
 
 /// What a component is given, as its signature says. It borrows nothing from the source.

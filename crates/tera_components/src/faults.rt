@@ -3,7 +3,7 @@ ghost use Rattle.tera_errors.specs.Answer.{Tells};
 ghost use Rattle.tera_errors.specs.Fault.{message};
 
 use std::alloc::{AllocError, Global};
-use tera_tree::ArgumentType;
+use tera_syntax_tree::ArgumentType;
 use tera_values::{Error, Key};
 
 fn in_words(alloc: Global, words: Result<String, AllocError>) -> Error

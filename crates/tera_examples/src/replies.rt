@@ -1,7 +1,7 @@
 // Runs with all the memory that there is.
 use std::alloc::Global;
 use tera::Tera;
-use tera_script::{Outcome, ReaderInput, WriterOutput, run};
+use tera_run_script::{Outcome, ReaderInput, WriterOutput, run};
 
 /// What the program `tera_run` writes for the script; none where it is not run to its end.
 pub fn replies(alloc: Global, script: &str) -> Option<Vec<u8>> {

@@ -4,7 +4,7 @@ use crate::judge::is_right;
 use scarce_memory::{Tried, with_budget};
 use std::alloc::{AllocError, Global};
 use tera::Tera;
-use tera_script::{Outcome, ReaderInput, WriterOutput, run};
+use tera_run_script::{Outcome, ReaderInput, WriterOutput, run};
 
 /// How many bytes the faults of a script may take, beside its replies.
 const FAULTS: usize = 16_384;

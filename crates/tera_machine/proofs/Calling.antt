@@ -8,7 +8,7 @@ use Rattle.tera_errors.specs.Site.{Name}
 use Rattle.tera_errors.specs.declared.span.Span.{Span}
 use Rattle.tera_errors.specs.Fault.{Fault, message}
 use Rattle.tera_errors.specs.Answer.{Refusal, Says, Tells}
-use Rattle.tera_tree.specs.Tree.{Signature, Nodes}
+use Rattle.tera_syntax_tree.specs.Tree.{Signature, Nodes}
 use Rattle.tera_values.specs.Alphabet.{plain}
 use Rattle.tera_values.specs.Val.{Val}
 use Rattle.tera_values.specs.Named.{Named}

@@ -4,7 +4,7 @@ use Rattle.std.specs.Prelude.{slice_get}
 use Rattle.tera_errors.specs.declared.span.Span.{Span}
 use Rattle.tera_errors.specs.Site as site
 use Rattle.tera_errors.specs.Fault.{Fault}
-use Rattle.tera_tree.specs.Tree.{Expr, Nothing, Boolean, Integer, Text, Name, Attribute, Index, Slice, Not, Negate, Binary, And, Or, Ternary, Array, Map, Comprehension, Super, Filter, Test, Call, Component, Node, Content, Print, If, Set, Capture, FilterSection, For, Block, Include, ComponentCall, Definition, Break, Continue, Nodes, NoNodes, MoreNodes}
+use Rattle.tera_syntax_tree.specs.Tree.{Expr, Nothing, Boolean, Integer, Text, Name, Attribute, Index, Slice, Not, Negate, Binary, And, Or, Ternary, Array, Map, Comprehension, Super, Filter, Test, Call, Component, Node, Content, Print, If, Set, Capture, FilterSection, For, Block, Include, ComponentCall, Definition, Break, Continue, Nodes, NoNodes, MoreNodes}
 use Rattle.tera_values.specs.Access.{truthy}
 use Rattle.tera_state.specs.Scope.{Turn, Heading, look, dump, assign}
 use Rattle.tera_operators.specs.Operand.{Evaluated}

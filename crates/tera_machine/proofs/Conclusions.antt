@@ -2,7 +2,7 @@
 use Rattle.std.proofs.Common.{◌≡◌, ℕ, zero, suc, ◌+◌, ◌-◌, ◌*◌, ◌<◌, ◌≤◌, [], length, Some, None, Result, Ok, Err, refl, sym, ap, ◌∙◌, subst, arith}
 use Rattle.tera_errors.specs.Fault.{Fault}
 use Rattle.tera_errors.specs.Answer.{Refusal}
-use Rattle.tera_tree.specs.Tree.{Nodes}
+use Rattle.tera_syntax_tree.specs.Tree.{Nodes}
 use Rattle.tera_values.specs.Alphabet.{plain}
 use Rattle.tera_state.specs.Scope.{Variables}
 use Rattle.tera_meaning.specs.Run.{Run, Request, Signal, On, Broke, Continued, Answer, Failed, Gave, more, visits_of}

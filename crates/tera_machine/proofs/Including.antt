@@ -4,7 +4,7 @@ use Rattle.std.specs.Prelude.{option_map, if◌then◌else◌}
 use Rattle.tera_errors.specs.Site.{Name}
 use Rattle.tera_errors.specs.declared.span.Span.{Span}
 use Rattle.tera_errors.specs.Answer.{Refusal}
-use Rattle.tera_tree.specs.Blocks.{is_among}
+use Rattle.tera_syntax_tree.specs.Blocks.{is_among}
 use Rattle.tera_state.specs.Scope.{Variables, nothing_set, in_include}
 use Rattle.tera_state.specs.Scopes.{variables_of, around_of}
 use Rattle.tera_meaning.specs.Registry.{Entry}

@@ -2,7 +2,7 @@
 use Rattle.std.proofs.Common.{◌≡◌, ℕ, ◌-◌, ◌<◌, true, false, List, Some, sym, ap, ◌∙◌}
 use Rattle.std.specs.Prelude.{slice_get, reverse, ◌||◌, bytes_eq}
 use Rattle.tera_errors.specs.Site.{Name}
-use Rattle.tera_tree.specs.Blocks.{is_among}
+use Rattle.tera_syntax_tree.specs.Blocks.{is_among}
 use Rattle.tera_state.specs.Stack.{lower}
 use Rattle.tera_state.proofs.Finds.{lower_at}
 

@@ -3,7 +3,7 @@ use Rattle.std.proofs.Common.{◌≡◌, ℕ, suc, ◌+◌, List, [], ◌∷◌,
 use Rattle.std.specs.Prelude.{slice_get}
 use Rattle.tera_errors.specs.Site as site
 use Rattle.tera_errors.specs.declared.span.Span.{Span}
-use Rattle.tera_tree.specs.Tree.{Entries, Filters, NoFilters, MoreFilters, first_span}
+use Rattle.tera_syntax_tree.specs.Tree.{Entries, Filters, NoFilters, MoreFilters, first_span}
 use Rattle.tera_values.specs.Alphabet.{plain}
 use Rattle.tera_values.specs.Val.{text}
 use Rattle.tera_state.specs.Scope.{Variables}

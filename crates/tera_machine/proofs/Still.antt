@@ -11,7 +11,7 @@ use Rattle.tera_meaning.specs.Here.{Here, filtered_at, tested_at, called_at}
 use Rattle.tera_operators.specs.Operand.{Evaluated, Outcome}
 use Rattle.tera_operators.specs.Operators.{not_of}
 use Rattle.tera_values.specs.Val.{Val, KeyVal}
-use Rattle.tera_tree.specs.Tree.{Key}
+use Rattle.tera_syntax_tree.specs.Tree.{Key}
 use Rattle.tera_operators.specs.Literals.{array_of, map_entries, map_of}
 use Rattle.tera_operators.specs.Calls.{filter_applied_by, test_applied_by, function_called_by}
 use Rattle.tera_code.specs.declared.instruction.Instruction.{Instruction}

@@ -6,8 +6,8 @@ use Rattle.tera_errors.specs.Site as site
 use Rattle.tera_errors.specs.Site.{Text}
 use Rattle.tera_errors.specs.Fault.{Fault}
 use Rattle.tera_errors.specs.Answer.{Refusal}
-use Rattle.tera_tree.specs.Tree.{Key}
-use Rattle.tera_tree.specs.declared.expression.BinaryOperator.{BinaryOperator}
+use Rattle.tera_syntax_tree.specs.Tree.{Key}
+use Rattle.tera_syntax_tree.specs.declared.expression.BinaryOperator.{BinaryOperator}
 use Rattle.tera_values.specs.Alphabet.{plain}
 use Rattle.tera_values.specs.Access.{truthy}
 use Rattle.tera_values.specs.Val.{Val, KeyVal}

@@ -2,7 +2,7 @@
 use Rattle.std.specs.Prelude.{◌≡◌, ℕ, List, [], ◌∷◌, ◌++◌, drop, Some, None, Result, Ok, Err}
 use Rattle.tera_errors.specs.Site.{Name, Text}
 use Rattle.tera_errors.specs.Answer.{Refusal}
-use Rattle.tera_tree.specs.Tree.{Nodes}
+use Rattle.tera_syntax_tree.specs.Tree.{Nodes}
 use Rattle.tera_state.specs.Scope.{Variables}
 use Rattle.tera_state.specs.Scopes.{around_of, coming_of}
 use Rattle.tera_meaning.specs.Lineage.{Definer}

@@ -2,7 +2,7 @@
 use Rattle.std.specs.Prelude.{◌≡◌, [], List, map, Option, Some, None, Result, Ok, Err, option_map}
 use Rattle.tera_errors.specs.Site.{Name}
 use Rattle.tera_errors.specs.Answer.{Refusal}
-use Rattle.tera_tree.specs.Tree.{Nodes}
+use Rattle.tera_syntax_tree.specs.Tree.{Nodes}
 use Rattle.tera_state.specs.Scopes.{around_of}
 use Rattle.tera_objects.specs.Engine.{Engine}
 use Rattle.tera_components.specs.Definition.{Definition}

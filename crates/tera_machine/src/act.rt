@@ -7,17 +7,18 @@ ghost use Rattle.tera_machine.specs.Did.{pushed, holding};
 ghost use Rattle.tera_machine.specs.Act.{act, IsReady, IsSmall, Does, going_on, text_written, outcome_put, top_written, name_written, name_loaded, context_loaded, stored, attribute_loaded, item_loaded, sliced, denied, negated, operated, array_made, map_made, handed, component_taken, popped_branch, kept_if_falsy, kept_if_truthy, above_taken};
 ghost use Rattle.tera_machine.specs.Subject.{here_of};
 ghost use Rattle.tera_state.specs.Scopes.{around_of};
-ghost use Rattle.tera_tree.specs.declared.expression.BinaryOperator.{BinaryOperator as Operator};
+ghost use Rattle.tera_syntax_tree.specs.declared.expression.BinaryOperator.{BinaryOperator as Operator};
 
 use crate::asked::{Asked, AskedComponent, AskedTemplate};
 use crate::configuration::Configuration;
 use crate::machine::{Flow, VirtualMachine};
+use crate::taken::take;
 use std::alloc::Global;
 use tera_code::{Instruction, Keys, LentName, Spreads};
 use tera_objects::Objects;
 use tera_operators::Operand;
 use tera_state::Found;
-use tera_tree::BinaryOperator;
+use tera_syntax_tree::BinaryOperator;
 use tera_values::{Error, Name, Sought, Span, TeraResult, Value};
 
 impl<'c> Configuration<'c> {
@@ -130,9 +131,7 @@ impl<'c> Configuration<'c> {
         ensures { Does (top_written (here_of O.engine machine.now file.now self.old))
             self.old result self.new }
     {
-        let Some(operand) = self.operands.pop() else {
-            unreachable!()
-        };
+        let operand = take(&mut self.operands);
         if operand.value().is_undefined() {
             return Err(undefined_written(machine.alloc, file, operand.span()));
         }
@@ -234,9 +233,7 @@ impl<'c> Configuration<'c> {
         requires { IsReady (stored is_global name.now) self.old }
         ensures { Does (stored is_global name.now) self.old result self.new }
     {
-        let Some(operand) = self.operands.pop() else {
-            unreachable!()
-        };
+        let operand = take(&mut self.operands);
         let value = operand.into_value().shared(alloc)?;
         if is_global {
             self.scopes.set_global(name.share()?, value)?;
@@ -258,9 +255,7 @@ impl<'c> Configuration<'c> {
         requires { IsReady (attribute_loaded file.now name.now optional span) self.old }
         ensures { Does (attribute_loaded file.now name.now optional span) self.old result self.new }
     {
-        let Some(target) = self.operands.pop() else {
-            unreachable!()
-        };
+        let target = take(&mut self.operands);
         let operand = tera_operators::attribute(alloc, file, &target, name, optional, span)?;
         self.put(operand)
     }
@@ -276,12 +271,8 @@ impl<'c> Configuration<'c> {
         requires { IsReady (item_loaded file.now optional span) self.old }
         ensures { Does (item_loaded file.now optional span) self.old result self.new }
     {
-        let Some(index) = self.operands.pop() else {
-            unreachable!()
-        };
-        let Some(target) = self.operands.pop() else {
-            unreachable!()
-        };
+        let index = take(&mut self.operands);
+        let target = take(&mut self.operands);
         let operand = tera_operators::item(alloc, file, &target, &index, optional, span)?;
         self.put(operand)
     }
@@ -296,18 +287,10 @@ impl<'c> Configuration<'c> {
         requires { IsReady (sliced file.now optional span) self.old }
         ensures { Does (sliced file.now optional span) self.old result self.new }
     {
-        let Some(step) = self.operands.pop() else {
-            unreachable!()
-        };
-        let Some(end) = self.operands.pop() else {
-            unreachable!()
-        };
-        let Some(start) = self.operands.pop() else {
-            unreachable!()
-        };
-        let Some(target) = self.operands.pop() else {
-            unreachable!()
-        };
+        let step = take(&mut self.operands);
+        let end = take(&mut self.operands);
+        let start = take(&mut self.operands);
+        let target = take(&mut self.operands);
         let operand = tera_operators::slice(
             alloc, file, &target, &start, &end, &step, optional, span,
         )?;
@@ -319,9 +302,7 @@ impl<'c> Configuration<'c> {
         requires { IsReady denied self.old }
         ensures { Does denied self.old result self.new }
     {
-        let Some(operand) = self.operands.pop() else {
-            unreachable!()
-        };
+        let operand = take(&mut self.operands);
         self.put(tera_operators::not(&operand))
     }
 
@@ -329,9 +310,7 @@ impl<'c> Configuration<'c> {
         requires { IsReady (negated file.now) self.old }
         ensures { Does (negated file.now) self.old result self.new }
     {
-        let Some(operand) = self.operands.pop() else {
-            unreachable!()
-        };
+        let operand = take(&mut self.operands);
         let operand = tera_operators::negative(alloc, file, &operand)?;
         self.put(operand)
     }
@@ -347,12 +326,8 @@ impl<'c> Configuration<'c> {
         requires { IsReady (operated file.now operator span) self.old }
         ensures { Does (operated file.now operator span) self.old result self.new }
     {
-        let Some(right) = self.operands.pop() else {
-            unreachable!()
-        };
-        let Some(left) = self.operands.pop() else {
-            unreachable!()
-        };
+        let right = take(&mut self.operands);
+        let left = take(&mut self.operands);
         let operand = tera_operators::binary(alloc, file, operator, &left, &right, span)?;
         self.put(operand)
     }
@@ -421,10 +396,8 @@ impl<'c> Configuration<'c> {
         if !has_body {
             return Ok(None);
         }
-        match self.operands.pop() {
-            Some(operand) => Ok(Some(operand.into_value().shared(alloc)?)),
-            None => unreachable!(),
-        }
+        let operand = take(&mut self.operands);
+        Ok(Some(operand.into_value().shared(alloc)?))
     }
 
     fn take_component<'f, O: Objects>(
@@ -466,9 +439,7 @@ impl<'c> Configuration<'c> {
         requires { IsReady (popped_branch skip) self.old }
         ensures { Does (popped_branch skip) self.old result self.new }
     {
-        let Some(operand) = self.operands.pop() else {
-            unreachable!()
-        };
+        let operand = take(&mut self.operands);
         if operand.value().is_truthy() {
             Ok(Flow::On)
         } else {
@@ -480,9 +451,7 @@ impl<'c> Configuration<'c> {
         requires { IsReady (kept_if_falsy skip) self.old }
         ensures { Does (kept_if_falsy skip) self.old result self.new }
     {
-        let Some(operand) = self.operands.pop() else {
-            unreachable!()
-        };
+        let operand = take(&mut self.operands);
         if operand.value().is_truthy() {
             Ok(Flow::On)
         } else {
@@ -495,9 +464,7 @@ impl<'c> Configuration<'c> {
         requires { IsReady (kept_if_truthy skip) self.old }
         ensures { Does (kept_if_truthy skip) self.old result self.new }
     {
-        let Some(operand) = self.operands.pop() else {
-            unreachable!()
-        };
+        let operand = take(&mut self.operands);
         if operand.value().is_truthy() {
             self.operands.push(operand)?;
             Ok(Flow::Skip(skip))

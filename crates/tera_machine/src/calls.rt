@@ -4,6 +4,7 @@ ghost use Rattle.tera_machine.specs.Subject.{here_of};
 
 use crate::configuration::Configuration;
 use crate::machine::{Flow, VirtualMachine};
+use crate::taken::take;
 use tera_code::{LentName, Names};
 use tera_objects::{Objects, filter, function, test};
 use tera_values::{Span, TeraResult};
@@ -29,9 +30,7 @@ impl<'c> Configuration<'c> {
             unreachable!()
         }
         let operands = self.operands.pop_many(names.len())?;
-        let Some(target) = self.operands.pop() else {
-            unreachable!()
-        };
+        let target = take(&mut self.operands);
         let operand = filter(
             machine.alloc,
             file,
@@ -67,9 +66,7 @@ impl<'c> Configuration<'c> {
             unreachable!()
         }
         let operands = self.operands.pop_many(names.len())?;
-        let Some(target) = self.operands.pop() else {
-            unreachable!()
-        };
+        let target = take(&mut self.operands);
         let operand = test(
             machine.alloc,
             file,

@@ -15,6 +15,7 @@ mod loops;
 pub mod machine;
 pub mod place;
 mod step;
+mod taken;
 pub mod texts;
 pub mod wanted;
 

@@ -13,6 +13,7 @@ ghost use Rattle.tera_machine.specs.Subject.{here_of};
 use crate::configuration::Configuration;
 use crate::machine::{Flow, VirtualMachine};
 use crate::place::LoopPlace;
+use crate::taken::take;
 use std::alloc::Global;
 use tera_code::LentName;
 use tera_objects::Objects;
@@ -79,9 +80,7 @@ impl<'c> Configuration<'c> {
             next key.now name.now counts size) self.old result self.new }
     {
         let alloc = machine.alloc;
-        let Some(operand) = self.operands.pop() else {
-            unreachable!()
-        };
+        let operand = take(&mut self.operands);
         match opened(alloc, file, key, name, counts, operand)? {
             None => Ok(Flow::Skip(size + 2)),
             Some(opened) => {
@@ -120,9 +119,7 @@ impl<'c> Configuration<'c> {
         ensures stays { around_of self.new.scopes ≡ around_of self.old.scopes }
     {
         self.scopes.close_loop();
-        let Some(place) = self.places.pop() else {
-            unreachable!()
-        };
+        let place = take(&mut self.places);
         let LoopPlace {
             start: _,
             size: _,
@@ -143,12 +140,8 @@ impl<'c> Configuration<'c> {
         requires { IsReady kept self.old }
         ensures { Does kept self.old result self.new }
     {
-        let Some(operand) = self.operands.pop() else {
-            unreachable!()
-        };
-        let Some(mut place) = self.places.pop() else {
-            unreachable!()
-        };
+        let operand = take(&mut self.operands);
+        let mut place = take(&mut self.places);
         place.kept.push(operand.into_value())?;
         self.places.push(place)?;
         Ok(Flow::On)

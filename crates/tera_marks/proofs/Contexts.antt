@@ -1,10 +1,10 @@
 -- The context in which a component runs, at marked characters.
 use Rattle.std.proofs.Common.{◌≡◌, ℕ, Bool, true, false, not, List, [], ◌∷◌, refl, ap, Option, Some, None, option_map, codes, if◌then◌else◌}
 use Rattle.tera_errors.specs.Site.{Name}
-use Rattle.tera_tree.specs.declared.component.ArgumentType.{ArgumentType}
-use Rattle.tera_tree.specs.declared.component.ArgumentType.TheVariants as argument
-use Rattle.tera_tree.specs.Tree.{Literal, NothingLiteral, BooleanLiteral, IntegerLiteral, TextLiteral, ArrayLiteral, MapLiteral, Literals, NoLiterals, MoreLiterals, LiteralEntries, NoLiteralEntries, MoreLiteralEntries, Parameter, Signature}
-use Rattle.tera_tree.specs.Blocks.{is_among}
+use Rattle.tera_syntax_tree.specs.declared.component.ArgumentType.{ArgumentType}
+use Rattle.tera_syntax_tree.specs.declared.component.ArgumentType.TheVariants as argument
+use Rattle.tera_syntax_tree.specs.Tree.{Literal, NothingLiteral, BooleanLiteral, IntegerLiteral, TextLiteral, ArrayLiteral, MapLiteral, Literals, NoLiterals, MoreLiterals, LiteralEntries, NoLiteralEntries, MoreLiteralEntries, Parameter, Signature}
+use Rattle.tera_syntax_tree.specs.Blocks.{is_among}
 use Rattle.tera_values.specs.Alphabet.{Marked, made, plain, marking}
 use Rattle.tera_values.specs.Val as val
 use Rattle.tera_values.specs.Val.{KeyVal, ValOf}

@@ -10,8 +10,8 @@ use Rattle.std.proofs.lemmas.List.{length-map}
 use mathlib.Core.Path.{fun_ext}
 use Rattle.tera_errors.specs.Site.{Name}
 use Rattle.tera_errors.specs.Fault.{Fault, message}
-use Rattle.tera_tree.specs.Tree.{Nodes}
-use Rattle.tera_tree.specs.Blocks.{blocks, block_names, is_among}
+use Rattle.tera_syntax_tree.specs.Tree.{Nodes}
+use Rattle.tera_syntax_tree.specs.Blocks.{blocks, block_names, is_among}
 use Rattle.tera_values.specs.Alphabet.{Alphabet, plain}
 use Rattle.tera_values.specs.Named.{Named}
 use Rattle.tera_values.specs.Val.{ValOf}

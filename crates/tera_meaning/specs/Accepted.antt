@@ -4,9 +4,9 @@ use Rattle.std.specs.List.{list_any, filter_map}
 use Rattle.std.specs.Option.{option_or}
 use Rattle.tera_errors.specs.Site.{Name}
 use Rattle.tera_errors.specs.Fault.{Fault, message, circular_include}
-use Rattle.tera_tree.specs.Tree.{Nodes}
-use Rattle.tera_tree.specs.Blocks.{top_blocks}
-use Rattle.tera_tree.specs.Includes.{includes}
+use Rattle.tera_syntax_tree.specs.Tree.{Nodes}
+use Rattle.tera_syntax_tree.specs.Blocks.{top_blocks}
+use Rattle.tera_syntax_tree.specs.Includes.{includes}
 use Rattle.tera_meaning.specs.Registry.{Entry, Registry}
 use Rattle.tera_meaning.specs.Resolve.{resolve, parents}
 use Rattle.tera_meaning.specs.Known.{lacks_a_callee}

@@ -3,9 +3,9 @@ use Rattle.std.specs.Prelude.{◌≡◌, ℕ, suc, Bool, nat_lt, nat_eq, ◌&&�
 use Rattle.std.specs.List.{list_any, starts_with, position}
 use Rattle.std.specs.List.Sorted.{IsStrictlySortedBy}
 use Rattle.tera_errors.specs.Site.{Name}
-use Rattle.tera_tree.specs.Tree.{Signature, Nodes}
-use Rattle.tera_tree.specs.Blocks.{is_among}
-use Rattle.tera_tree.specs.Definitions.{definitions, component_names}
+use Rattle.tera_syntax_tree.specs.Tree.{Signature, Nodes}
+use Rattle.tera_syntax_tree.specs.Blocks.{is_among}
+use Rattle.tera_syntax_tree.specs.Definitions.{definitions, component_names}
 use Rattle.tera_values.specs.Named.{name_cmp}
 use Rattle.tera_meaning.specs.Registry.{Entry, Registry}
 

@@ -2,10 +2,10 @@
 use Rattle.std.specs.Prelude.{Bool, not, List, ◌∷◌, ◌++◌, map}
 use Rattle.tera_errors.specs.Site.{Name}
 use Rattle.std.specs.List.{list_any}
-use Rattle.tera_tree.specs.Tree.{Nodes}
-use Rattle.tera_tree.specs.Blocks.{blocks}
-use Rattle.tera_tree.specs.Definitions.{definitions}
-use Rattle.tera_tree.specs.Calls.{Callee, AFilter, ATest, AFunction, AComponent, calls}
+use Rattle.tera_syntax_tree.specs.Tree.{Nodes}
+use Rattle.tera_syntax_tree.specs.Blocks.{blocks}
+use Rattle.tera_syntax_tree.specs.Definitions.{definitions}
+use Rattle.tera_syntax_tree.specs.Calls.{Callee, AFilter, ATest, AFunction, AComponent, calls}
 use Rattle.tera_objects.specs.Engine.{Engine, has_filter, has_test, has_function}
 
 -- with this engine, where these components are there

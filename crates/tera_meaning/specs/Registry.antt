@@ -3,8 +3,8 @@ use Rattle.std.specs.Prelude.{[], ◌∷◌, List, codes}
 use Rattle.tera_values.specs.Val.{Val}
 use Rattle.tera_values.specs.Named.{Named}
 use Rattle.tera_errors.specs.Site.{Name, Text}
-use Rattle.tera_tree.specs.Tree.{Tree}
-use Rattle.tera_tree.specs.Delimiters.{Delims, standard}
+use Rattle.tera_syntax_tree.specs.Tree.{Tree}
+use Rattle.tera_syntax_tree.specs.Delimiters.{Delims, standard}
 use Rattle.tera_objects.specs.Engine.{Engine, standard_engine}
 
 -- a template: its text, and the tree that the text spells

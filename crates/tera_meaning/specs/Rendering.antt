@@ -6,13 +6,13 @@ use Rattle.tera_errors.specs.Fault.{Fault, message, template_not_found, componen
 use Rattle.tera_values.specs.Alphabet.{Alphabet, plain}
 use Rattle.tera_values.specs.Val.{Val, ValOf, text}
 use Rattle.tera_values.specs.Named.{Named}
-use Rattle.tera_tree.specs.Tree.{Tree, Nodes}
-use Rattle.tera_tree.specs.Blocks.{top_blocks}
+use Rattle.tera_syntax_tree.specs.Tree.{Tree, Nodes}
+use Rattle.tera_syntax_tree.specs.Blocks.{top_blocks}
 use Rattle.tera_state.specs.Scope.{AroundOf, Around, outside, in_component, look_implicit, nothing_set}
 use Rattle.tera_meaning.specs.Run.{Signal, Answer, AnswerOf, Failed, Gave}
 use Rattle.tera_meaning.specs.Registry.{Entry, Registry}
 use Rattle.tera_meaning.specs.Resolve.{resolve, root}
-use Rattle.tera_tree.specs.Definitions.{definitions}
+use Rattle.tera_syntax_tree.specs.Definitions.{definitions}
 use Rattle.tera_components.specs.Context.{component_context_in}
 use Rattle.tera_meaning.specs.Components.{Component, component, one_off_name}
 use Rattle.tera_meaning.specs.Known.{lacks_a_callee}

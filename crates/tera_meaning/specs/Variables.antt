@@ -4,7 +4,7 @@ use Rattle.std.specs.List.{list_any, starts_with}
 use Rattle.std.specs.List.Sorted.{IsStrictlySortedBy}
 use Rattle.tera_errors.specs.Site.{Name}
 use Rattle.tera_errors.specs.Fault.{Fault, template_not_found}
-use Rattle.tera_tree.specs.Blocks.{is_among}
+use Rattle.tera_syntax_tree.specs.Blocks.{is_among}
 use Rattle.tera_values.specs.Named.{name_cmp}
 use Rattle.tera_meaning.specs.Registry.{Entry, Registry}
 use Rattle.tera_meaning.specs.Resolve.{resolve}

@@ -4,8 +4,8 @@ use Rattle.tera_errors.specs.Site.{Name}
 use Rattle.tera_errors.specs.declared.span.Span.{Span}
 use Rattle.tera_errors.specs.Fault.{Fault, message, rendering_error}
 use Rattle.std.specs.Option.{option_or}
-use Rattle.tera_tree.specs.Tree.{Signature, Nodes}
-use Rattle.tera_tree.specs.Blocks.{block_names, is_among}
+use Rattle.tera_syntax_tree.specs.Tree.{Signature, Nodes}
+use Rattle.tera_syntax_tree.specs.Blocks.{block_names, is_among}
 use Rattle.tera_values.specs.Alphabet.{Alphabet, plain}
 use Rattle.tera_state.specs.Scope.{AroundOf, VariablesOf, Variables, in_include, in_component, look_implicit, nothing_set}
 use Rattle.tera_meaning.specs.Here.{HereOf}

@@ -4,11 +4,11 @@ use Rattle.std.specs.List.{zip, list_any, slice_get}
 use Rattle.std.proofs.lemmas.List.{drop_more, length-map, get_or-map}
 use Rattle.std.proofs.lemmas.Option.{slice_get_within, get_or_from_slice_get}
 use Rattle.tera_errors.specs.Answer.{Refusal, Tells, Says}
-use Rattle.tera_tree.specs.View.{key_option}
-use Rattle.tera_tree.specs.declared.expression.OwnedKey.{OwnedKey}
+use Rattle.tera_syntax_tree.specs.View.{key_option}
+use Rattle.tera_syntax_tree.specs.declared.expression.OwnedKey.{OwnedKey}
 use Rattle.tera_errors.specs.Site.{Name}
 use Rattle.tera_errors.specs.Fault.{Fault}
-use Rattle.tera_tree.specs.Tree.{Key}
+use Rattle.tera_syntax_tree.specs.Tree.{Key}
 use Rattle.tera_values.specs.Val.{Val, KeyVal}
 use Rattle.tera_values.specs.Access.{key_eq, find, insert_pair}
 use Rattle.tera_operators.specs.Operand.{Evaluated, then, known, fault_at}

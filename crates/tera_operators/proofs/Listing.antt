@@ -2,9 +2,9 @@
 use Rattle.std.proofs.Common.{◌≡◌, Bool, true, false, ◌&&◌, cond, List, [], ◌∷◌, ◌++◌, Option, Some, None, is_some, refl, ap, sym, ◌∙◌, ◌<◌, ◌+◌, ℕ, length, get_or, take, map as map_list, arith}
 use Rattle.std.specs.List.{zip, list_all}
 use Rattle.std.proofs.lemmas.List.{take_more, get_or_default, length-map, length-take-le, get_or-map}
-use Rattle.tera_tree.specs.View.{key_of, key_option}
-use Rattle.tera_tree.specs.declared.expression.OwnedKey.{OwnedKey}
-use Rattle.tera_tree.specs.Tree.{Key}
+use Rattle.tera_syntax_tree.specs.View.{key_of, key_option}
+use Rattle.tera_syntax_tree.specs.declared.expression.OwnedKey.{OwnedKey}
+use Rattle.tera_syntax_tree.specs.Tree.{Key}
 use Rattle.tera_values.specs.Val.{Val, KeyVal, ktext, undefined}
 use Rattle.tera_values.specs.Keys.{key_cmp}
 use Rattle.tera_values.specs.Access.{key_eq, find, insert_pair}

@@ -2,9 +2,9 @@
 use Rattle.std.specs.Prelude.{◌≡◌, Bool, true, false, List, [], Option, Some, None, is_some, length, map as map_list}
 use Rattle.std.specs.List.{zip, list_all}
 use Rattle.tera_errors.specs.Site.{Name}
-use Rattle.tera_tree.specs.declared.expression.OwnedKey.{OwnedKey}
-use Rattle.tera_tree.specs.Tree.{Key}
-use Rattle.tera_tree.specs.View.{key_option}
+use Rattle.tera_syntax_tree.specs.declared.expression.OwnedKey.{OwnedKey}
+use Rattle.tera_syntax_tree.specs.Tree.{Key}
+use Rattle.tera_syntax_tree.specs.View.{key_option}
 use Rattle.tera_values.specs.Val.{Val, KeyVal, kbool, kint, ktext}
 use Rattle.tera_values.specs.Access.{find, key_eq}
 use Rattle.tera_operators.specs.Operand.{Evaluated}

@@ -4,7 +4,7 @@ use Rattle.std.specs.List.{list_any}
 use Rattle.tera_errors.specs.declared.span.Span.{Span}
 use Rattle.tera_errors.specs.Site.{Name}
 use Rattle.tera_errors.specs.Fault.{Fault}
-use Rattle.tera_tree.specs.Tree.{Key, BoolKey, IntKey, TextKey}
+use Rattle.tera_syntax_tree.specs.Tree.{Key, BoolKey, IntKey, TextKey}
 use Rattle.tera_values.specs.Val.{ValOf, KeyVal, kbool, kint, ktext, undefined, none, bool, int, text, bytes, array, map, list_of, vals, entries}
 use Rattle.tera_values.specs.Access.{find, insert_pair, pairs}
 use Rattle.tera_operators.specs.Operand.{EvaluatedOf, OutcomeOf, at_span, known, then}

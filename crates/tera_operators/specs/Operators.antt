@@ -5,8 +5,8 @@ use Rattle.std.specs.Ordering.{int_eq, is_lt, is_gt, is_le, is_ge}
 use Rattle.tera_errors.specs.declared.span.Span.{Span}
 use Rattle.tera_errors.specs.Site.{Name}
 use Rattle.tera_errors.specs.Fault.{Fault}
-use Rattle.tera_tree.specs.declared.expression.BinaryOperator.{BinaryOperator}
-use Rattle.tera_tree.specs.declared.expression.BinaryOperator.TheVariants as op
+use Rattle.tera_syntax_tree.specs.declared.expression.BinaryOperator.{BinaryOperator}
+use Rattle.tera_syntax_tree.specs.declared.expression.BinaryOperator.TheVariants as op
 use Rattle.tera_values.specs.Alphabet.{Alphabet, plain}
 use Rattle.tera_values.specs.Val.{Val, ValOf, bool, text}
 use Rattle.tera_values.specs.Access.{int_of, truthy}

@@ -2,7 +2,7 @@
 ghost use Rattle.std.specs.Prelude.{◌≡◌, true, Ok, IfSome, length, option_copied};
 ghost use Rattle.std.specs.List.{list_all};
 ghost use Rattle.tera_errors.specs.Answer.{Gives};
-ghost use Rattle.tera_tree.specs.View.{key_option};
+ghost use Rattle.tera_syntax_tree.specs.View.{key_option};
 ghost use Rattle.tera_values.specs.Val.{ktext};
 ghost use Rattle.tera_values.specs.View.{key_view};
 ghost use Rattle.tera_values.specs.Access.{find};
@@ -12,7 +12,7 @@ use crate::maps::key_from;
 use crate::operand::Operand;
 use std::alloc::Global;
 use std::marker::Model;
-use tera_tree::OwnedKey;
+use tera_syntax_tree::OwnedKey;
 use tera_values::{Key, Map, TeraResult, Value};
 
 /// How entries lie: operands beside their keys, where none is spread; a map that was made of them; or a map that belongs

@@ -2,14 +2,14 @@
 ghost use Rattle.std.specs.Prelude.{◌≡◌, [], ◌∷◌, Ok, length, map as map_list, OnOk, IfErr, option_copied, is_none};
 ghost use Rattle.std.specs.List.{zip, list_any};
 ghost use Rattle.tera_errors.specs.Answer.{Gives, Lacks};
-ghost use Rattle.tera_tree.specs.View.{key_of, key_option};
+ghost use Rattle.tera_syntax_tree.specs.View.{key_of, key_option};
 ghost use Rattle.tera_values.specs.View.{key_view};
 ghost use Rattle.tera_operators.specs.Literals.{key_val, pairs_of, kept, entry_after, from_left, from_right, map_entries, map_of};
 
 use crate::listed::Entries;
 use crate::operand::Operand;
 use std::alloc::Global;
-use tera_tree::OwnedKey;
+use tera_syntax_tree::OwnedKey;
 use tera_values::{Error, Key, Map, Shape, Span, TeraResult, Value};
 
 /// Up to so many entries are looked at one after the other.

@@ -9,7 +9,7 @@ use crate::membership::is_in;
 use crate::operand::Operand;
 use crate::text::concatenate;
 use std::alloc::Global;
-use tera_tree::BinaryOperator;
+use tera_syntax_tree::BinaryOperator;
 use tera_values::{Span, TeraResult};
 
 /// What the operator makes of the two operands. The span is that of the expression, which only `in` takes on: others run

@@ -6,7 +6,7 @@ use Rattle.std.proofs.lemmas.Option.{slice_get_within}
 use Rattle.std.specs.Str.{bytes_eq}
 use Rattle.std.specs.Prelude.{cond}
 use Rattle.tera_errors.specs.Site.{Name}
-use Rattle.tera_tree.specs.Blocks.{top_blocks}
+use Rattle.tera_syntax_tree.specs.Blocks.{top_blocks}
 use Rattle.tera_values.specs.Named.{Named}
 use Rattle.tera_meaning.specs.Registry.{Registry, Entry}
 use Rattle.tera_meaning.specs.Resolve.{entry_at}

@@ -7,12 +7,12 @@ use Rattle.std.specs.Option.{option_or}
 use Rattle.tera_errors.specs.Site.{Name, Text}
 use Rattle.tera_errors.specs.Fault.{Fault, message, circular_include}
 use Rattle.tera_errors.specs.Answer.{Refusal, Says, SaysOneOf}
-use Rattle.tera_tree.specs.Delimiters.{Delims}
+use Rattle.tera_syntax_tree.specs.Delimiters.{Delims}
 use Rattle.tera_values.specs.Named.{Named, put_all}
 use Rattle.tera_objects.specs.Engine.{Engine}
 use Rattle.tera_meaning.specs.Registry.{Template, Entry, Registry, new_registry}
 use Rattle.tera_meaning.specs.Accepted.{fault_of_parents, includes_of, can_walk, fault_if, template_fault, first_fault, missing, fault}
-use Rattle.tera_tree.specs.Definitions.{component_names}
+use Rattle.tera_syntax_tree.specs.Definitions.{component_names}
 use Rattle.tera_meaning.specs.Components.{priority, has_a_tie}
 use Rattle.tera_meaning.specs.Resolve.{parents}
 use Rattle.tera_meaning.specs.Adding.{unless_faulty, accepted}

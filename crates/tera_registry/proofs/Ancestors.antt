@@ -6,7 +6,7 @@ use Rattle.std.specs.Option.{option_or}
 use Rattle.std.proofs.lemmas.Option.{slice_get_read, slice_get-get_or, slice_get-map}
 use Rattle.tera_errors.specs.Fault.{Fault, message, circular_extend, circular_include}
 use Rattle.tera_errors.specs.Site.{Name}
-use Rattle.tera_tree.specs.Tree.{Nodes}
+use Rattle.tera_syntax_tree.specs.Tree.{Nodes}
 use Rattle.tera_meaning.specs.Registry.{Registry, Entry}
 use Rattle.tera_meaning.specs.Resolve.{entry_at, onto, or_missing, or_none, up, resolve, parents}
 use Rattle.tera_meaning.specs.Lineage.{Definer, definers_in, ancestors}

@@ -5,8 +5,8 @@ use Rattle.std.proofs.lemmas.Option.{slice_get-get_or, slice_get-map}
 use Rattle.tera_errors.specs.Site.{Name, Text}
 use Rattle.tera_errors.specs.Fault.{Fault}
 use Rattle.tera_errors.specs.Answer.{Refusal, Lacks, SaysOneOf, GivesOneOf}
-use Rattle.tera_tree.specs.Delimiters.{Delims}
-use Rattle.tera_tree.specs.Tree.{Tree}
+use Rattle.tera_syntax_tree.specs.Delimiters.{Delims}
+use Rattle.tera_syntax_tree.specs.Tree.{Tree}
 use Rattle.tera_values.specs.Named.{Named, put}
 use Rattle.tera_syntax.specs.Reads.{Reads}
 use Rattle.tera_meaning.specs.Registry.{Template, Entry}

@@ -5,9 +5,9 @@ use Rattle.std.specs.List.{list_any}
 use mathlib.Core.Path.{fun_ext}
 use Rattle.std.specs.Option.{option_or}
 use Rattle.tera_errors.specs.Site.{Name}
-use Rattle.tera_tree.specs.Tree.{Tree, Signature, Nodes}
-use Rattle.tera_tree.specs.Blocks as in_tree
-use Rattle.tera_tree.specs.Definitions.{definitions}
+use Rattle.tera_syntax_tree.specs.Tree.{Tree, Signature, Nodes}
+use Rattle.tera_syntax_tree.specs.Blocks as in_tree
+use Rattle.tera_syntax_tree.specs.Definitions.{definitions}
 use Rattle.tera_code.specs.Listing.{Listing}
 use Rattle.tera_code.specs.Code.{nodes_code}
 use Rattle.tera_objects.specs.Engine.{Engine}

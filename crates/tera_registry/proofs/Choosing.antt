@@ -11,8 +11,8 @@ use Rattle.std.proofs.lemmas.Simd.{map-map}
 use Rattle.tera_registry.specs.declared.components.Component.{Component}
 use Rattle.tera_registry.specs.Components.{kept_of, kept_as, kept_all, kept_names}
 use Rattle.tera_errors.specs.Site.{Name}
-use Rattle.tera_tree.specs.Tree.{Nodes}
-use Rattle.tera_tree.specs.Definitions.{definitions, component_names}
+use Rattle.tera_syntax_tree.specs.Tree.{Nodes}
+use Rattle.tera_syntax_tree.specs.Definitions.{definitions, component_names}
 use Rattle.tera_meaning.specs.Registry.{Entry, Registry}
 use Rattle.tera_meaning.specs.Components.{priority, is_tie}
 use Rattle.tera_registry.specs.declared.choices.Choice.{Choice}

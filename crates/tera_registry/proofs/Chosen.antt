@@ -2,9 +2,9 @@
 use Rattle.std.proofs.Common.{◌≡◌, ℕ, zero, suc, ◌+◌, Bool, true, false, ◌||◌, if◌then◌else◌, nat_lt, nat_eq, bytes_eq, List, [], ◌∷◌, take, filter, map, Option, Some, None, option_map, refl, sym, ap, ◌∙◌, inl, inr, arith, slice_get}
 use Rattle.std.proofs.lemmas.Bool.{cases_Bool, ltb-true}
 use Rattle.tera_errors.specs.Site.{Name}
-use Rattle.tera_tree.specs.Tree.{Signature, Nodes}
-use Rattle.tera_tree.specs.Blocks.{is_among}
-use Rattle.tera_tree.specs.Definitions.{definitions, component_names}
+use Rattle.tera_syntax_tree.specs.Tree.{Signature, Nodes}
+use Rattle.tera_syntax_tree.specs.Blocks.{is_among}
+use Rattle.tera_syntax_tree.specs.Definitions.{definitions, component_names}
 use Rattle.tera_meaning.specs.Registry.{Entry, Registry}
 use Rattle.tera_meaning.specs.Components.{component_named, component_in, priority, defines, better, best_from, is_better, definer_of, is_tie}
 use Rattle.tera_registry.specs.declared.choices.Choice.{Choice}

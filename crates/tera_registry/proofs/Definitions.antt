@@ -7,13 +7,13 @@ use Rattle.std.proofs.lemmas.List.{length-map, map-append}
 use Rattle.std.proofs.lemmas.Option.{slice_get_read, slice_get-map, slice_get_within}
 use Rattle.tera_errors.specs.Site.{Name}
 use Rattle.tera_errors.specs.Fault.{Fault}
-use Rattle.tera_tree.specs.Tree.{Signature, Nodes}
-use Rattle.tera_tree.specs.Definitions.{definitions, node_definitions}
-use Rattle.tera_tree.specs.View.{node_of, nodes_of, signature_of}
-use Rattle.tera_tree.specs.declared.node.Node.{Node as Read}
-use Rattle.tera_tree.specs.declared.node.Node.TheVariants as variant
-use Rattle.tera_tree.specs.declared.component.Signature.{Signature as Written}
-use Rattle.tera_tree.proofs.Views.{view_definition}
+use Rattle.tera_syntax_tree.specs.Tree.{Signature, Nodes}
+use Rattle.tera_syntax_tree.specs.Definitions.{definitions, node_definitions}
+use Rattle.tera_syntax_tree.specs.View.{node_of, nodes_of, signature_of}
+use Rattle.tera_syntax_tree.specs.declared.node.Node.{Node as Read}
+use Rattle.tera_syntax_tree.specs.declared.node.Node.TheVariants as variant
+use Rattle.tera_syntax_tree.specs.declared.component.Signature.{Signature as Written}
+use Rattle.tera_syntax_tree.proofs.Views.{view_definition}
 use Rattle.tera_code.specs.Code.{listing_of}
 use Rattle.tera_components.specs.Definition.{Definition, definition_of}
 use Rattle.tera_objects.specs.Engine.{Engine}

@@ -3,10 +3,10 @@ use Rattle.std.proofs.Common.{◌≡◌, ℕ, zero, suc, ◌+◌, ◌-◌, ◌<�
 use Rattle.std.proofs.lemmas.Bool.{cases_lt}
 use Rattle.std.specs.List.{list_any}
 use Rattle.tera_errors.specs.Site.{Name}
-use Rattle.tera_tree.specs.Tree.{Signature, Nodes}
-use Rattle.tera_tree.specs.Blocks as in_tree
-use Rattle.tera_tree.specs.Definitions.{definitions}
-use Rattle.tera_tree.specs.Calls.{Callee}
+use Rattle.tera_syntax_tree.specs.Tree.{Signature, Nodes}
+use Rattle.tera_syntax_tree.specs.Blocks as in_tree
+use Rattle.tera_syntax_tree.specs.Definitions.{definitions}
+use Rattle.tera_syntax_tree.specs.Calls.{Callee}
 use Rattle.tera_code.specs.Listing.{Listing}
 use Rattle.tera_code.specs.Code.{Code, nodes_code}
 use Rattle.tera_code.specs.Called.{called_by, callees}

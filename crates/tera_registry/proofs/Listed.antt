@@ -13,10 +13,10 @@ use Rattle.std.specs.String.{string_cmp}
 use Rattle.std.proofs.lemmas.Map.Text.{is_eq-slice_cmp}
 use Rattle.std.proofs.lemmas.Option.{slice_get_within}
 use Rattle.tera_errors.specs.Site.{Name}
-use Rattle.tera_tree.specs.Tree.{Signature, Nodes}
-use Rattle.tera_tree.specs.Blocks.{is_among}
-use Rattle.tera_tree.specs.Definitions.{definitions}
-use Rattle.tera_tree.specs.View.{nodes_of}
+use Rattle.tera_syntax_tree.specs.Tree.{Signature, Nodes}
+use Rattle.tera_syntax_tree.specs.Blocks.{is_among}
+use Rattle.tera_syntax_tree.specs.Definitions.{definitions}
+use Rattle.tera_syntax_tree.specs.View.{nodes_of}
 use Rattle.tera_values.specs.Named.{name_cmp}
 use Rattle.tera_code.specs.Listing.{Listing}
 use Rattle.tera_components.specs.Definition.{Definition}

@@ -5,8 +5,8 @@ use Rattle.tera_errors.specs.Site.{Name, Text}
 use Rattle.tera_errors.specs.Fault.{Fault}
 use Rattle.tera_errors.specs.Answer.{Refusal, SaysOneOf}
 use Rattle.tera_values.specs.Named.{Named}
-use Rattle.tera_tree.specs.Tree.{Tree}
-use Rattle.tera_tree.specs.Delimiters.{Delims}
+use Rattle.tera_syntax_tree.specs.Tree.{Tree}
+use Rattle.tera_syntax_tree.specs.Delimiters.{Delims}
 use Rattle.tera_syntax.specs.Reads.{Reads}
 use Rattle.tera_meaning.specs.Registry.{Template, Registry}
 use Rattle.tera_meaning.specs.Resolve.{onto}

@@ -4,7 +4,7 @@ use Rattle.std.specs.declared.alloc.Global.{Global}
 use Rattle.std.specs.declared.collections.BTreeMap.{BTreeMap}
 use Rattle.std.specs.BTreeMap.{get_by_text}
 use Rattle.tera_errors.specs.Site.{Name}
-use Rattle.tera_tree.specs.Definitions.{component_names}
+use Rattle.tera_syntax_tree.specs.Definitions.{component_names}
 use Rattle.tera_meaning.specs.Registry.{Entry, Registry}
 use Rattle.tera_meaning.specs.Components.{priority, has_a_tie}
 use Rattle.tera_registry.specs.First.{IsFirstOne}

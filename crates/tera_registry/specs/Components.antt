@@ -1,8 +1,8 @@
 -- Components as templates keep them.
 use Rattle.std.specs.Prelude.{List, map}
 use Rattle.tera_errors.specs.Site.{Name}
-use Rattle.tera_tree.specs.Tree.{Signature, Nodes}
-use Rattle.tera_tree.specs.Definitions.{definitions}
+use Rattle.tera_syntax_tree.specs.Tree.{Signature, Nodes}
+use Rattle.tera_syntax_tree.specs.Definitions.{definitions}
 use Rattle.tera_components.specs.Definition.{Definition, definition_of}
 use Rattle.tera_code.specs.Listing.{Listing}
 use Rattle.tera_code.specs.Code.{listing_of}

@@ -3,8 +3,8 @@ use Rattle.std.specs.Prelude.{◌≡◌, ℕ, false, List, [], ◌∷◌, length
 use Rattle.std.specs.declared.alloc.Global.{Global}
 use Rattle.std.specs.declared.rc.Rc.{Rc}
 use Rattle.tera_errors.specs.Site.{Name}
-use Rattle.tera_tree.specs.Tree.{Nodes}
-use Rattle.tera_tree.specs.Blocks.{blocks}
+use Rattle.tera_syntax_tree.specs.Tree.{Nodes}
+use Rattle.tera_syntax_tree.specs.Blocks.{blocks}
 use Rattle.tera_meaning.specs.Registry.{Entry, Registry}
 use Rattle.tera_meaning.specs.Resolve.{parents}
 use Rattle.tera_meaning.specs.Lineage.{Definer, ancestors, definers_in}

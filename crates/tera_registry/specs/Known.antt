@@ -4,7 +4,7 @@ use Rattle.std.specs.List.{list_any}
 use Rattle.std.specs.declared.alloc.Global.{Global}
 use Rattle.std.specs.declared.collections.BTreeMap.{BTreeMap}
 use Rattle.tera_errors.specs.Site.{Name}
-use Rattle.tera_tree.specs.Calls.{Callee}
+use Rattle.tera_syntax_tree.specs.Calls.{Callee}
 use Rattle.tera_code.specs.declared.instruction.Instruction.{Instruction}
 use Rattle.tera_code.specs.Code.{Code}
 use Rattle.tera_code.specs.Called.{called_by}

@@ -2,8 +2,8 @@
 use Rattle.std.specs.Prelude.{Bool, false, not, is_some, List, ◌++◌, Option, Some, None, option_and_then, if◌then◌else◌}
 use Rattle.std.specs.List.{filter_map, flat_map}
 use Rattle.tera_errors.specs.Site.{Name}
-use Rattle.tera_tree.specs.Tree.{Nodes}
-use Rattle.tera_tree.specs.Calls.{Callee, AFilter, ATest, AFunction, AComponent, calls}
+use Rattle.tera_syntax_tree.specs.Tree.{Nodes}
+use Rattle.tera_syntax_tree.specs.Calls.{Callee, AFilter, ATest, AFunction, AComponent, calls}
 use Rattle.tera_built_ins.specs.Filters.{filter_named}
 use Rattle.tera_built_ins.specs.TestTable.{test_named}
 use Rattle.tera_built_ins.specs.FunctionTable.{function_named}

@@ -3,8 +3,8 @@ use Rattle.std.specs.Prelude.{◌≡◌, List, Result, Ok, Err}
 use Rattle.tera_errors.specs.Site.{Name, Text}
 use Rattle.tera_errors.specs.Fault.{Fault}
 use Rattle.tera_values.specs.Named.{Named, put_all}
-use Rattle.tera_tree.specs.Tree.{Tree}
-use Rattle.tera_tree.specs.Delimiters.{Delims}
+use Rattle.tera_syntax_tree.specs.Tree.{Tree}
+use Rattle.tera_syntax_tree.specs.Delimiters.{Delims}
 use Rattle.tera_syntax.specs.Reads.{Reads}
 use Rattle.tera_meaning.specs.Registry.{Template, Entry}
 use Rattle.tera_registry.specs.Batch.{ReadsBatch}

@@ -1,9 +1,9 @@
 // A batch of texts that is read, and put among templates.
 ghost use Rattle.std.specs.Prelude.{◌≡◌, IfOk, IfErr, IsTrue, map, option_map, string_bytes};
 ghost use Rattle.tera_errors.specs.Answer.{GivesOneOf, Lacks};
-ghost use Rattle.tera_tree.specs.Blocks as in_tree;
-ghost use Rattle.tera_tree.specs.Delimiters.{delimiters_of, accepted};
-ghost use Rattle.tera_tree.specs.View.{nodes_of, quoted_option, tree_of};
+ghost use Rattle.tera_syntax_tree.specs.Blocks as in_tree;
+ghost use Rattle.tera_syntax_tree.specs.Delimiters.{delimiters_of, accepted};
+ghost use Rattle.tera_syntax_tree.specs.View.{nodes_of, quoted_option, tree_of};
 ghost use Rattle.tera_code.specs.Blocks.{block_of, block_listings};
 ghost use Rattle.tera_code.specs.Code.{listing_of};
 ghost use Rattle.tera_registry.specs.Order.{Rises};
@@ -26,7 +26,7 @@ use tera_code::blocks::blocks;
 use tera_code::{Block, Chunk, compiled};
 use tera_errors::TeraResult;
 use tera_syntax::parse;
-use tera_tree::{Delimiters, Node, ParserOutput, Quoted};
+use tera_syntax_tree::{Delimiters, Node, ParserOutput, Quoted};
 use tera_variables::free;
 
 /// Reads each text and puts it at its name, up to the first that spells no tree.

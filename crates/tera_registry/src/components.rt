@@ -1,15 +1,15 @@
 // The components of a template, as they are kept.
 ghost use Rattle.std.specs.Prelude.{◌≡◌, ◌++◌, map, OnOk, IfOk, IfErr};
 ghost use Rattle.tera_errors.specs.Answer.{Lacks};
-ghost use Rattle.tera_tree.specs.Definitions.{node_definitions};
-ghost use Rattle.tera_tree.specs.View.{node_of, nodes_of};
+ghost use Rattle.tera_syntax_tree.specs.Definitions.{node_definitions};
+ghost use Rattle.tera_syntax_tree.specs.View.{node_of, nodes_of};
 ghost use Rattle.tera_registry.specs.Components.{kept_of, kept_as, kept_all};
 
 use std::alloc::Global;
 use tera_code::{Chunk, compiled};
 use tera_components::ComponentDefinition;
 use tera_errors::TeraResult;
-use tera_tree::Node;
+use tera_syntax_tree::Node;
 
 /// A component that a template defines: what it is given, and the code of its body.
 #[derive(Drop)]
@@ -47,6 +47,7 @@ fn add(alloc: Global, node: &Node, file: &str, found: &mut Vec<Component>) -> Te
         }
         Node::Content { .. }
         | Node::Print { .. }
+        | Node::PrintName { .. }
         | Node::If { .. }
         | Node::Set { .. }
         | Node::Capture { .. }

@@ -2,8 +2,8 @@
 ghost use Rattle.std.specs.Prelude.{◌≡◌, ◌++◌, OnOk, IfOk, IfErr, is_none};
 ghost use Rattle.std.specs.List.{list_any};
 ghost use Rattle.tera_errors.specs.Answer.{Lacks};
-ghost use Rattle.tera_tree.specs.Includes.{includes, node_includes};
-ghost use Rattle.tera_tree.specs.View.{node_of, nodes_of};
+ghost use Rattle.tera_syntax_tree.specs.Includes.{includes, node_includes};
+ghost use Rattle.tera_syntax_tree.specs.View.{node_of, nodes_of};
 ghost use Rattle.tera_meaning.specs.Accepted.{misses_an_include};
 ghost use Rattle.tera_meaning.specs.Resolve.{resolve};
 ghost use Rattle.tera_registry.specs.Order.{Rises};
@@ -14,7 +14,7 @@ use crate::template::Template;
 use std::alloc::Global;
 use std::rc::Rc;
 use tera_errors::TeraResult;
-use tera_tree::Node;
+use tera_syntax_tree::Node;
 use tera_values::Name;
 
 /// The names, in the order of the text.
@@ -67,6 +67,7 @@ fn add(alloc: Global, node: &Node, found: &mut Vec<Name>) -> TeraResult<()>
         }
         Node::Content { .. }
         | Node::Print { .. }
+        | Node::PrintName { .. }
         | Node::Set { .. }
         | Node::Break
         | Node::Continue => Ok(()),
@@ -112,6 +113,7 @@ fn node_misses(node: &Node, templates: &[Rc<Template>], prefixes: &[String]) -> 
         Node::Include { name, .. } => resolve(templates, prefixes, name.as_str()).is_none(),
         Node::Content { .. }
         | Node::Print { .. }
+        | Node::PrintName { .. }
         | Node::Set { .. }
         | Node::Break
         | Node::Continue => false,

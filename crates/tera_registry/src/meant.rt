@@ -1,11 +1,11 @@
 // The tree of a template, for contracts alone.
 ghost use Rattle.std.specs.Prelude.{◌≡◌, List};
 ghost use Rattle.std.specs.Borrow.{ftrue};
-ghost use Rattle.tera_tree.specs.declared.node.Node.{Node as Read};
+ghost use Rattle.tera_syntax_tree.specs.declared.node.Node.{Node as Read};
 ghost use Rattle.tera_registry.specs.Code.{read_code};
 
 use std::marker::Model;
-use tera_tree::Node;
+use tera_syntax_tree::Node;
 
 /// The nodes that the text of a template was read to. It takes no memory, and its functions do nothing when they run. Only
 /// contracts say what it holds.

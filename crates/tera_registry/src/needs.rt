@@ -2,8 +2,8 @@
 ghost use Rattle.std.specs.Prelude.{◌≡◌, ◌++◌, [], map, slice_get, option_and_then, OnOk, IfOk, IfErr};
 ghost use Rattle.std.specs.List.{flat_map, cons_option};
 ghost use Rattle.tera_errors.specs.Answer.{Lacks};
-ghost use Rattle.tera_tree.specs.Blocks as in_tree;
-ghost use Rattle.tera_tree.specs.View.{nodes_of};
+ghost use Rattle.tera_syntax_tree.specs.Blocks as in_tree;
+ghost use Rattle.tera_syntax_tree.specs.View.{nodes_of};
 ghost use Rattle.tera_code.specs.Blocks.{block_of, block_listings};
 ghost use Rattle.tera_code.specs.Called.{callee_of};
 ghost use Rattle.tera_code.specs.Code.{listing_of};
@@ -15,7 +15,7 @@ use std::alloc::Global;
 use tera_built_ins::{BuiltInFilter, BuiltInFunction, BuiltInTest};
 use tera_code::{Block, Callee, Chunk};
 use tera_errors::TeraResult;
-use tera_tree::Node;
+use tera_syntax_tree::Node;
 use tera_values::Name;
 
 /// The name of a component that is called, or that of a filter, a test or a function that is not built in.

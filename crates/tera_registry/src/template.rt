@@ -1,9 +1,9 @@
 // Templates as they are kept.
 ghost use Rattle.std.specs.Prelude.{◌≡◌, map, string_bytes};
 ghost use Rattle.std.specs.Coded.{Coded-set, codes};
-ghost use Rattle.tera_tree.specs.Blocks as in_tree;
-ghost use Rattle.tera_tree.specs.Includes as in_nodes;
-ghost use Rattle.tera_tree.specs.View.{nodes_of};
+ghost use Rattle.tera_syntax_tree.specs.Blocks as in_tree;
+ghost use Rattle.tera_syntax_tree.specs.Includes as in_nodes;
+ghost use Rattle.tera_syntax_tree.specs.View.{nodes_of};
 ghost use Rattle.tera_components.specs.Definition.{definition_code};
 ghost use Rattle.tera_registry.specs.Components as kept;
 ghost use Rattle.tera_registry.specs.Needs.{needs_of};

@@ -1,8 +1,8 @@
 // All templates of an engine, linked.
 ghost use Rattle.std.specs.Prelude.{◌≡◌, ◌<◌, IfOk, IfErr, Some, None, Ok, map, length, slice_get, is_some, string_bytes, IsTrue, [], ◌∷◌};
 ghost use Rattle.tera_errors.specs.Answer.{Gives, GivesOneOf, Lacks};
-ghost use Rattle.tera_tree.specs.Delimiters.{delimiters_of, accepted};
-ghost use Rattle.tera_tree.specs.View.{nodes_of};
+ghost use Rattle.tera_syntax_tree.specs.Delimiters.{delimiters_of, accepted};
+ghost use Rattle.tera_syntax_tree.specs.View.{nodes_of};
 ghost use Rattle.tera_meaning.specs.Accepted.{first_fault, is_component, misses_an_include};
 ghost use Rattle.tera_meaning.specs.Lineage.{ancestors, definers_in};
 ghost use Rattle.tera_meaning.specs.Components.{AreComponentNames};
@@ -39,7 +39,7 @@ use tera_code::Chunk;
 use tera_components::ComponentDefinition;
 use tera_errors::{Error, TeraResult};
 use tera_objects::Objects;
-use tera_tree::{Delimiters, Node};
+use tera_syntax_tree::{Delimiters, Node};
 use tera_values::{Name, Sought};
 
 /// Templates by name, and the prefixes by which a name is looked up that none of them has.
@@ -192,8 +192,8 @@ impl<'t> Definers<'t> {
 impl Templates {
     ghost use Rattle.tera_registry.specs.Templates.{templates_of, prefixes_of, with_templates, is_empty, Finds, IsDefined, registry_in, started, AreNext};
     ghost use Rattle.tera_errors.specs.Site.{Name};
-    ghost use Rattle.tera_tree.specs.Tree.{Tree};
-    ghost use Rattle.tera_tree.specs.Blocks.{blocks};
+    ghost use Rattle.tera_syntax_tree.specs.Tree.{Tree};
+    ghost use Rattle.tera_syntax_tree.specs.Blocks.{blocks};
     ghost use Rattle.tera_code.specs.Code.{nodes_code};
     ghost use Rattle.tera_meaning.specs.Components.{component};
     ghost use Rattle.tera_meaning.specs.Known.{lacks_a_callee};

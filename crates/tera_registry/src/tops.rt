@@ -1,12 +1,12 @@
 // The blocks of a template that are inside no other block.
 ghost use Rattle.std.specs.Prelude.{◌≡◌, ◌++◌, OnOk, IfOk, IfErr};
 ghost use Rattle.tera_errors.specs.Answer.{Lacks};
-ghost use Rattle.tera_tree.specs.Blocks.{top_blocks, node_top_blocks};
-ghost use Rattle.tera_tree.specs.View.{node_of, nodes_of};
+ghost use Rattle.tera_syntax_tree.specs.Blocks.{top_blocks, node_top_blocks};
+ghost use Rattle.tera_syntax_tree.specs.View.{node_of, nodes_of};
 
 use std::alloc::Global;
 use tera_errors::TeraResult;
-use tera_tree::Node;
+use tera_syntax_tree::Node;
 use tera_values::Name;
 
 /// Their names, in the order of the text.
@@ -58,6 +58,7 @@ fn add(alloc: Global, node: &Node, found: &mut Vec<Name>) -> TeraResult<()>
         }
         Node::Content { .. }
         | Node::Print { .. }
+        | Node::PrintName { .. }
         | Node::Set { .. }
         | Node::Include { .. }
         | Node::Break

@@ -4,7 +4,7 @@
 use std::io::BufWriter;
 use std::process::ExitCode;
 use tera::Tera;
-pub use tera_script::{
+pub use tera_run_script::{
     Command, Failure, Input, Outcome, Output, ReaderInput, Reply, WriterOutput, complaint, run,
     run_commands,
 };

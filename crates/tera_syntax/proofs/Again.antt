@@ -7,7 +7,7 @@ use Rattle.std.specs.HashMap.{HashMap, get}
 use Rattle.std.proofs.lemmas.List.{drop_more}
 use Rattle.tera_errors.specs.Site.{Name}
 use Rattle.tera_errors.specs.declared.span.Span.{Span}
-use Rattle.tera_tree.specs.Blocks.{are_distinct, is_among}
+use Rattle.tera_syntax_tree.specs.Blocks.{are_distinct, is_among}
 use Rattle.tera_syntax.specs.declared.blocks.PlacedName.{PlacedName}
 use Rattle.tera_syntax.specs.View.{names_of}
 

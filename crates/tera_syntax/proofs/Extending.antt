@@ -3,16 +3,16 @@ use Rattle.std.proofs.Common.{◌≡◌, ℕ, ◌<◌, ◌≤◌, List, [], ◌�
 use Rattle.std.specs.Prelude.{option_map, option_and_then}
 use Rattle.std.proofs.lemmas.Slice.Eq.{bytes_eq-Decides}
 use Rattle.tera_errors.specs.Site.{Name}
-use Rattle.tera_tree.specs.Tree.{Content, Nodes, NoNodes, Tree}
-use Rattle.tera_tree.specs.Depth.{nodes_depth}
-use Rattle.tera_tree.specs.Places.{in_place}
-use Rattle.tera_tree.specs.Blocks.{has_each_block_once}
-use Rattle.tera_tree.specs.Definitions.{defines_at_top, has_each_component_once}
-use Rattle.tera_tokens.specs.declared.token.Kind.TheVariants as k
-use Rattle.tera_tokens.specs.Token.{Token}
-use Rattle.tera_tokens.specs.Input.{begin, text, same}
-use Rattle.tera_tokens.specs.Cut.{Piece, Words, Comment, Variable, Block, Broken}
-use Rattle.tera_expressions.proofs.Steps.{guard, same-is, alike}
+use Rattle.tera_syntax_tree.specs.Tree.{Content, Nodes, NoNodes, Tree}
+use Rattle.tera_syntax_tree.specs.Depth.{nodes_depth}
+use Rattle.tera_syntax_tree.specs.Places.{in_place}
+use Rattle.tera_syntax_tree.specs.Blocks.{has_each_block_once}
+use Rattle.tera_syntax_tree.specs.Definitions.{defines_at_top, has_each_component_once}
+use Rattle.tera_syntax_tokens.specs.declared.token.Kind.TheVariants as k
+use Rattle.tera_syntax_tokens.specs.Token.{Token}
+use Rattle.tera_syntax_tokens.specs.Input.{begin, text, same}
+use Rattle.tera_syntax_tokens.specs.Cut.{Piece, Words, Comment, Variable, Block, Broken}
+use Rattle.tera_syntax_expressions.proofs.Steps.{guard, same-is, alike}
 use Rattle.tera_syntax.specs.declared.heads.Surroundings.{Surroundings}
 use Rattle.tera_syntax.specs.Heads.{outside, first, is_extends}
 use Rattle.tera_syntax.specs.Grammar.{Begins, Extends, is_space, Front, nothing, space, remark, DerivesFile, root, child}

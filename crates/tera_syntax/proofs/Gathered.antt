@@ -3,18 +3,18 @@ use Rattle.std.proofs.Common.{◌≡◌, List, [], ◌∷◌, ◌++◌, map, Vec
 use Rattle.std.proofs.lemmas.List.{append_assoc, map-append}
 use Rattle.tera_errors.specs.Site.{Name, Text}
 use Rattle.tera_errors.specs.declared.span.Span.{Span}
-use Rattle.tera_tokens.specs.declared.refusal.Refusal.{Refusal}
-use Rattle.tera_tree.specs.declared.expression.Expression.{Expression}
-use Rattle.tera_tree.specs.declared.component.Signature.{Signature}
-use Rattle.tera_tree.specs.declared.expression.Entry.{Entry}
-use Rattle.tera_tree.specs.declared.expression.Heading.{Heading}
-use Rattle.tera_tree.specs.declared.node.Node as declared
-use Rattle.tera_tree.specs.declared.node.SectionFilter.{SectionFilter}
-use Rattle.tera_tree.specs.declared.node.Node.TheVariants as variant
-use Rattle.tera_tree.specs.Tree.{Nodes}
-use Rattle.tera_tree.specs.Blocks.{blocks, block_names}
-use Rattle.tera_tree.specs.View.{node_of, nodes_of}
-use Rattle.tera_tree.proofs.Views.{view_if, view_for, view_capture, view_section, view_block, view_component_call, view_definition}
+use Rattle.tera_syntax_tokens.specs.declared.refusal.Refusal.{Refusal}
+use Rattle.tera_syntax_tree.specs.declared.expression.Expression.{Expression}
+use Rattle.tera_syntax_tree.specs.declared.component.Signature.{Signature}
+use Rattle.tera_syntax_tree.specs.declared.expression.Entry.{Entry}
+use Rattle.tera_syntax_tree.specs.declared.expression.Heading.{Heading}
+use Rattle.tera_syntax_tree.specs.declared.node.Node as declared
+use Rattle.tera_syntax_tree.specs.declared.node.SectionFilter.{SectionFilter}
+use Rattle.tera_syntax_tree.specs.declared.node.Node.TheVariants as variant
+use Rattle.tera_syntax_tree.specs.Tree.{Nodes}
+use Rattle.tera_syntax_tree.specs.Blocks.{blocks, block_names}
+use Rattle.tera_syntax_tree.specs.View.{node_of, nodes_of}
+use Rattle.tera_syntax_tree.proofs.Views.{view_if, view_for, view_capture, view_section, view_block, view_component_call, view_definition}
 use Rattle.tera_syntax.specs.declared.blocks.PlacedName.{PlacedName}
 use Rattle.tera_syntax.specs.View.{names_of, node_names}
 

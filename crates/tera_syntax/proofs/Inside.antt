@@ -2,19 +2,19 @@
 use Rattle.std.proofs.Common.{◌≡◌, ℕ, arith, Bool, true, false, List, Option, length, IsTrue, refl, sym, ap, ◌∙◌}
 use Rattle.std.specs.Str.{IsUtf8}
 use Rattle.tera_errors.specs.Site.{Name, Text}
-use Rattle.tera_tree.specs.Delimiters.{delimiters_of, accepted}
-use Rattle.tera_tree.specs.declared.delimiters.Delimiters.{Delimiters}
-use Rattle.tera_tree.specs.Tree.{Expr, Filters, Node, Nodes, Tree}
-use Rattle.tera_tree.specs.Inside.{Within, ExprInside, EntriesInside, FiltersInside, NodeInside, NodesInside, Inside}
-use Rattle.tera_tokens.specs.declared.token.Kind.{Kind}
-use Rattle.tera_tokens.specs.declared.token.Kind.TheVariants as k
-use Rattle.tera_tokens.specs.Token.{Token}
-use Rattle.tera_tokens.specs.Input.{Input, begin, kind, start, next, span, is_word}
-use Rattle.tera_tokens.specs.Cut.{Piece}
-use Rattle.tera_tokens.proofs.Order.{InOrder, in_order-le, Orderly, Onward, onward_next, onward_then, start_le}
-use Rattle.tera_tokens.proofs.Stretches.{PiecesInside, pieces_inside}
-use Rattle.tera_expressions.proofs.Calls.{calls_lie}
-use Rattle.tera_expressions.proofs.Inside.{expr_lies, attributes_lie, filters_lie}
+use Rattle.tera_syntax_tree.specs.Delimiters.{delimiters_of, accepted}
+use Rattle.tera_syntax_tree.specs.declared.delimiters.Delimiters.{Delimiters}
+use Rattle.tera_syntax_tree.specs.Tree.{Expr, Filters, Node, Nodes, Tree}
+use Rattle.tera_syntax_tree.specs.Inside.{Within, ExprInside, EntriesInside, FiltersInside, NodeInside, NodesInside, Inside}
+use Rattle.tera_syntax_tokens.specs.declared.token.Kind.{Kind}
+use Rattle.tera_syntax_tokens.specs.declared.token.Kind.TheVariants as k
+use Rattle.tera_syntax_tokens.specs.Token.{Token}
+use Rattle.tera_syntax_tokens.specs.Input.{Input, begin, kind, start, next, span, is_word}
+use Rattle.tera_syntax_tokens.specs.Cut.{Piece}
+use Rattle.tera_syntax_tokens.proofs.Order.{InOrder, in_order-le, Orderly, Onward, onward_next, onward_then, start_le}
+use Rattle.tera_syntax_tokens.proofs.Stretches.{PiecesInside, pieces_inside}
+use Rattle.tera_syntax_expressions.proofs.Calls.{calls_lie}
+use Rattle.tera_syntax_expressions.proofs.Inside.{expr_lies, attributes_lie, filters_lie}
 use Rattle.tera_syntax.specs.declared.heads.Surroundings.{Surroundings}
 use Rattle.tera_syntax.specs.Heads.{Head, IfHead, ForHead, SetHead, SectionHead, BlockHead, CallHead, DefinitionHead, make, first}
 use Rattle.tera_syntax.specs.Grammar.{DerivesWhole, whole, DerivesPipe, pipe, Simple, set, includes, breaks, continues, Opens, choice, loop, capture, filtered, section, block, call, definition, GoesOn, elif, DerivesNodes, empty, content, blank, comment, print, single, bodied, DerivesRest, ended, split, chained, Front, nothing, space, remark, DerivesFile, root, child}

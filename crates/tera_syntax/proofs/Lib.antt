@@ -2,6 +2,7 @@ pub mod Rows
 pub mod Gathered
 pub mod Again
 pub mod Whole
+pub mod Lone
 pub mod Begun
 pub mod OneTag
 pub mod Complete

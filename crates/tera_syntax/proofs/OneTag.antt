@@ -3,19 +3,19 @@ use Rattle.std.proofs.Common.{◌≡◌, ℕ, suc, ◌≤◌, List, [], ◌∷�
 use Rattle.std.specs.Prelude.{option_map}
 use Rattle.std.proofs.lemmas.Slice.Eq.{bytes_eq-Decides}
 use Rattle.tera_errors.specs.Site.{Text, Name}
-use Rattle.tera_tokens.specs.declared.token.Kind.{Kind}
-use Rattle.tera_tokens.specs.declared.token.Kind.TheVariants as k
-use Rattle.tera_tokens.specs.Token.{Token}
-use Rattle.tera_tokens.specs.Input.{Input, Outcome, begin, kind, text, start, next, span, same, is_word}
-use Rattle.tera_tokens.specs.Cut.{is_alone}
-use Rattle.tera_tokens.specs.Literal.{literal}
-use Rattle.tera_tree.specs.Tree.{Expr, Entries, Filters, NoFilters, Signature, Node, Set, Include, Break, Continue}
-use Rattle.tera_tree.specs.Depth.{depth, entries_depth, filters_depth, parameters_depth, node_depth}
-use Rattle.tera_expressions.specs.Grammar.{DerivesAttributes}
-use Rattle.tera_expressions.specs.Headings.{Names, calls}
-use Rattle.tera_expressions.specs.Parameters.{DerivesSignature}
-use Rattle.tera_expressions.proofs.Calls.{calls-got, calls-is}
-use Rattle.tera_expressions.proofs.Steps.{guard, chosen, either, same-is, same-refl, alike, unlike}
+use Rattle.tera_syntax_tokens.specs.declared.token.Kind.{Kind}
+use Rattle.tera_syntax_tokens.specs.declared.token.Kind.TheVariants as k
+use Rattle.tera_syntax_tokens.specs.Token.{Token}
+use Rattle.tera_syntax_tokens.specs.Input.{Input, Outcome, begin, kind, text, start, next, span, same, is_word}
+use Rattle.tera_syntax_tokens.specs.Cut.{is_alone}
+use Rattle.tera_syntax_tokens.specs.Literal.{literal}
+use Rattle.tera_syntax_tree.specs.Tree.{Expr, Entries, Filters, NoFilters, Signature, Node, Set, Include, Break, Continue}
+use Rattle.tera_syntax_tree.specs.Depth.{depth, entries_depth, filters_depth, parameters_depth, node_depth}
+use Rattle.tera_syntax_expressions.specs.Grammar.{DerivesAttributes}
+use Rattle.tera_syntax_expressions.specs.Headings.{Names, calls}
+use Rattle.tera_syntax_expressions.specs.Parameters.{DerivesSignature}
+use Rattle.tera_syntax_expressions.proofs.Calls.{calls-got, calls-is}
+use Rattle.tera_syntax_expressions.proofs.Steps.{guard, chosen, either, same-is, same-refl, alike, unlike}
 use Rattle.tera_syntax.specs.declared.heads.Surroundings.{Surroundings}
 use Rattle.tera_syntax.specs.Heads.{Head, IfHead, ForHead, SetHead, SectionHead, BlockHead, CallHead, DefinitionHead, head_depth, end_kind, is_end, is_named, is_call_end, first, ends}
 use Rattle.tera_syntax.specs.Grammar.{DerivesWhole, IsWord, Begins, Quotes, set_word, Simple, set, includes, breaks, continues, DerivesPipe, Opens, choice, loop, capture, filtered, section, block, call, definition, GoesOn, elif}

@@ -1,10 +1,10 @@
 -- In what is derived, `break`, `continue`, blocks and the definitions of components stand in their places.
 use Rattle.std.proofs.Common.{◌≡◌, Bool, true, false, ◌&&◌, List, IsTrue, refl}
-use Rattle.tera_tokens.specs.Token.{Token}
-use Rattle.tera_tokens.specs.Cut.{Piece}
-use Rattle.tera_tree.specs.Tree.{Node, Nodes}
-use Rattle.tera_tree.specs.Places.{node_in_place, in_place}
-use Rattle.tera_tree.specs.Definitions.{node_defined_in_place, defined_in_place}
+use Rattle.tera_syntax_tokens.specs.Token.{Token}
+use Rattle.tera_syntax_tokens.specs.Cut.{Piece}
+use Rattle.tera_syntax_tree.specs.Tree.{Node, Nodes}
+use Rattle.tera_syntax_tree.specs.Places.{node_in_place, in_place}
+use Rattle.tera_syntax_tree.specs.Definitions.{node_defined_in_place, defined_in_place}
 use Rattle.tera_syntax.specs.declared.heads.Surroundings.{Surroundings}
 use Rattle.tera_syntax.specs.Heads.{Head, IfHead, ForHead, SetHead, SectionHead, BlockHead, CallHead, DefinitionHead, nested, make, inside}
 use Rattle.tera_syntax.specs.Grammar.{Simple, set, includes, breaks, continues, Opens, choice, loop, capture, filtered, section, block, call, definition, elif, DerivesNodes, empty, content, blank, comment, print, single, bodied, DerivesRest, ended, split, chained}

@@ -5,19 +5,19 @@ use Rattle.tera_errors.specs.Site.{Text, Name}
 use Rattle.tera_errors.specs.Fault.{Fault}
 use Rattle.tera_errors.specs.Answer.{Refusal, Tells, SaysOneOf}
 use Rattle.tera_errors.specs.declared.span.Span.{Span}
-use Rattle.tera_tokens.specs.Answers.{Refuses}
-use Rattle.tera_tokens.specs.declared.refusal.Refusal as reader
-use Rattle.tera_tokens.specs.declared.refusal.Refusal.TheVariants.{Syntax}
-use Rattle.tera_tokens.specs.Bytes.{place}
-use Rattle.tera_tokens.specs.Cut.{Piece, Words, Found, words, trims_before, opening_at, opens, piece, cut, pieces}
-use Rattle.tera_tree.specs.Delimiters.{Delims}
-use Rattle.tera_tree.specs.Depth.{nodes_depth}
+use Rattle.tera_syntax_tokens.specs.Answers.{Refuses}
+use Rattle.tera_syntax_tokens.specs.declared.refusal.Refusal as reader
+use Rattle.tera_syntax_tokens.specs.declared.refusal.Refusal.TheVariants.{Syntax}
+use Rattle.tera_syntax_tokens.specs.Bytes.{place}
+use Rattle.tera_syntax_tokens.specs.Cut.{Piece, Words, Found, words, trims_before, opening_at, opens, piece, cut, pieces}
+use Rattle.tera_syntax_tree.specs.Delimiters.{Delims}
+use Rattle.tera_syntax_tree.specs.Depth.{nodes_depth}
 use Rattle.tera_syntax.specs.File.{spelled, file}
 use Rattle.tera_syntax.specs.Reads.{SpellsNone}
 use Rattle.tera_syntax.specs.Spells.{Spells}
-use Rattle.tera_tree.specs.Tree.{Tree, NoNodes}
-use Rattle.tera_tokens.proofs.Places.{by_order, place_le, place_here, place_passes}
-use Rattle.tera_tokens.proofs.Cuts.{cut_step, cut_nothing}
+use Rattle.tera_syntax_tree.specs.Tree.{Tree, NoNodes}
+use Rattle.tera_syntax_tokens.proofs.Places.{by_order, place_le, place_here, place_passes}
+use Rattle.tera_syntax_tokens.proofs.Cuts.{cut_step, cut_nothing}
 use Rattle.tera_syntax.proofs.Extending.{spelled_complete, file_complete}
 
 -- what an error that tells a fault says

@@ -4,11 +4,11 @@ use Rattle.tera_errors.specs.Site.{Text}
 use Rattle.std.proofs.lemmas.List.{drop_more, get_or-reverse, length-reverse, reverse-append}
 use Rattle.std.proofs.lemmas.Option.{get_or_from_slice_get, slice_get-get_or, slice_get_within}
 use Rattle.std.specs.List.{slice_get}
-use Rattle.tera_tokens.specs.Token.{Token}
-use Rattle.tera_tree.specs.Tree.{Nodes, NoNodes, MoreNodes}
-use Rattle.tera_tree.specs.Depth.{node_depth, nodes_depth}
-use Rattle.tera_tree.specs.declared.node.Node as declared
-use Rattle.tera_tree.specs.View.{node_of, nodes_of}
+use Rattle.tera_syntax_tokens.specs.Token.{Token}
+use Rattle.tera_syntax_tree.specs.Tree.{Nodes, NoNodes, MoreNodes}
+use Rattle.tera_syntax_tree.specs.Depth.{node_depth, nodes_depth}
+use Rattle.tera_syntax_tree.specs.declared.node.Node as declared
+use Rattle.tera_syntax_tree.specs.View.{node_of, nodes_of}
 use Rattle.tera_syntax.specs.Heads.{Head, ends}
 use Rattle.tera_syntax.specs.Reader.{Frame, closed, join, one, shut, turned}
 use Rattle.tera_syntax.specs.View.{frame_of, frames_of, head_of}

@@ -1,24 +1,24 @@
 -- An expression, filters, a signature or a call that are all from here to the end of a tag.
 use Rattle.std.proofs.Common.{◌≡◌, ℕ, zero, suc, ◌≤◌, ◌<◌, nat_lt, length, Bool, true, false, Some, None, if◌then◌else◌, refl, ap, ◌∙◌, subst, arith}
 use Rattle.std.proofs.lemmas.Grind.{common_steps}
-use Rattle.tera_tokens.specs.declared.token.Kind.TheVariants as k
-use Rattle.tera_tokens.specs.declared.token.Kind.{Kind}
-use Rattle.tera_tokens.specs.Input.{Input, Outcome, kind, text, next, span, same, is_word}
-use Rattle.tera_expressions.specs.Expressions.{Deep, expr, filters, attributes}
-use Rattle.tera_expressions.specs.Parameters.{DerivesSignature, signature}
-use Rattle.tera_expressions.specs.Arguments.{begins_attribute}
-use Rattle.tera_tree.specs.Tree.{Expr, Entries, Filters, Signature, Node}
-use Rattle.tera_tree.specs.Depth.{depth, entries_depth, filters_depth, parameters_depth}
-use Rattle.tera_expressions.specs.Grammar.{Derives, DerivesAttributes, DerivesFilters}
+use Rattle.tera_syntax_tokens.specs.declared.token.Kind.TheVariants as k
+use Rattle.tera_syntax_tokens.specs.declared.token.Kind.{Kind}
+use Rattle.tera_syntax_tokens.specs.Input.{Input, Outcome, kind, text, next, span, same, is_word}
+use Rattle.tera_syntax_expressions.specs.Expressions.{Deep, expr, filters, attributes}
+use Rattle.tera_syntax_expressions.specs.Parameters.{DerivesSignature, signature}
+use Rattle.tera_syntax_expressions.specs.Arguments.{begins_attribute}
+use Rattle.tera_syntax_tree.specs.Tree.{Expr, Entries, Filters, Signature, Node}
+use Rattle.tera_syntax_tree.specs.Depth.{depth, entries_depth, filters_depth, parameters_depth}
+use Rattle.tera_syntax_expressions.specs.Grammar.{Derives, DerivesAttributes, DerivesFilters}
 use Rattle.tera_syntax.specs.Grammar.{DerivesWhole, whole, DerivesPipe, pipe}
 use Rattle.tera_syntax.specs.Heads.{Head, CallHead}
 use Rattle.tera_syntax.specs.Reader as r
-use Rattle.tera_expressions.proofs.Steps.{guard, alike, same-is, same-refl}
-use Rattle.tera_expressions.proofs.Sound.{what_is_read}
-use Rattle.tera_expressions.proofs.Complete.{complete}
-use Rattle.tera_expressions.proofs.Sections.{filters_are_derived, filters_are_read}
-use Rattle.tera_expressions.proofs.AttributeLaws.{attributes_are_derived, attributes_are_read}
-use Rattle.tera_expressions.proofs.Signatures.{what_is_signed, signature_is}
+use Rattle.tera_syntax_expressions.proofs.Steps.{guard, alike, same-is, same-refl}
+use Rattle.tera_syntax_expressions.proofs.Sound.{what_is_read}
+use Rattle.tera_syntax_expressions.proofs.Complete.{complete}
+use Rattle.tera_syntax_expressions.proofs.Sections.{filters_are_derived, filters_are_read}
+use Rattle.tera_syntax_expressions.proofs.AttributeLaws.{attributes_are_derived, attributes_are_read}
+use Rattle.tera_syntax_expressions.proofs.Signatures.{what_is_signed, signature_is}
 
 ended_by : {A : Type 0} (q : Bool) (x y : A) → (if q then Some x else None) ≡ Some y → (q ≡ true) × (x ≡ y)
 ended_by true x y h = (refl, cc)

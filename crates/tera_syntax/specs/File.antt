@@ -1,10 +1,10 @@
 -- The reader of a whole text, as a function: nodes, and in front of them what the text extends.
 use Rattle.std.specs.Prelude.{ℕ, List, [], ◌∷◌, Bool, true, false, ◌&&◌, Option, Some, None, option_map, option_and_then, if◌then◌else◌}
 use Rattle.tera_errors.specs.Site.{Name}
-use Rattle.tera_tree.specs.Tree.{Tree}
-use Rattle.tera_tree.specs.Blocks.{has_each_block_once}
-use Rattle.tera_tree.specs.Definitions.{has_each_component_once}
-use Rattle.tera_tokens.specs.Cut.{Piece, Words, Comment, Variable, Block, Broken}
+use Rattle.tera_syntax_tree.specs.Tree.{Tree}
+use Rattle.tera_syntax_tree.specs.Blocks.{has_each_block_once}
+use Rattle.tera_syntax_tree.specs.Definitions.{has_each_component_once}
+use Rattle.tera_syntax_tokens.specs.Cut.{Piece, Words, Comment, Variable, Block, Broken}
 use Rattle.tera_syntax.specs.Heads.{is_extends}
 use Rattle.tera_syntax.specs.Grammar.{is_space}
 use Rattle.tera_syntax.specs.Reader.{Progress, begun, quoted_name, step, finished}

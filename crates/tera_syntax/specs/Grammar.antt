@@ -3,16 +3,16 @@ use Rattle.std.specs.Prelude.{◌≡◌, ◌≢◌, List, [], ◌∷◌, length,
 use Rattle.std.specs.Str.{trim_start}
 use Rattle.tera_errors.specs.Site as site
 use Rattle.tera_errors.specs.declared.span.Span.{Span}
-use Rattle.tera_tree.specs.Tree.{Expr, Entries, Filters, NoFilters, Signature, Content, Print, Set, Include, Break, Continue, Node, Nodes, NoNodes, MoreNodes}
-use Rattle.tera_tokens.specs.declared.token.Kind.{Kind}
-use Rattle.tera_tokens.specs.declared.token.Kind.TheVariants as k
-use Rattle.tera_tokens.specs.Token.{Token}
-use Rattle.tera_tokens.specs.Input.{Input, begin, kind, text, start, next, span, is_word}
-use Rattle.tera_tokens.specs.Literal.{literal}
-use Rattle.tera_tokens.specs.Cut.{Piece, Words, Comment, Variable, Block, is_alone}
-use Rattle.tera_expressions.specs.Grammar.{Derives, DerivesAttributes, DerivesFilters}
-use Rattle.tera_expressions.specs.Headings.{Names, Calls}
-use Rattle.tera_expressions.specs.Parameters.{DerivesSignature}
+use Rattle.tera_syntax_tree.specs.Tree.{Expr, Entries, Filters, NoFilters, Signature, Content, Print, Set, Include, Break, Continue, Node, Nodes, NoNodes, MoreNodes}
+use Rattle.tera_syntax_tokens.specs.declared.token.Kind.{Kind}
+use Rattle.tera_syntax_tokens.specs.declared.token.Kind.TheVariants as k
+use Rattle.tera_syntax_tokens.specs.Token.{Token}
+use Rattle.tera_syntax_tokens.specs.Input.{Input, begin, kind, text, start, next, span, is_word}
+use Rattle.tera_syntax_tokens.specs.Literal.{literal}
+use Rattle.tera_syntax_tokens.specs.Cut.{Piece, Words, Comment, Variable, Block, is_alone}
+use Rattle.tera_syntax_expressions.specs.Grammar.{Derives, DerivesAttributes, DerivesFilters}
+use Rattle.tera_syntax_expressions.specs.Headings.{Names, Calls}
+use Rattle.tera_syntax_expressions.specs.Parameters.{DerivesSignature}
 use Rattle.tera_syntax.specs.declared.heads.Surroundings.{Surroundings}
 use Rattle.tera_syntax.specs.Heads.{Head, IfHead, ForHead, SetHead, SectionHead, BlockHead, CallHead, DefinitionHead, outside, nested, make, splits, chains, inside, first, ends}
 

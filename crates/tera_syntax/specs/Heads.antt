@@ -2,13 +2,13 @@
 use Rattle.std.specs.Prelude.{ℕ, List, [], ◌∷◌, Bool, true, false, ◌&&◌, ◌||◌, bytes_eq, codes, Option}
 use Rattle.tera_errors.specs.Site as site
 use Rattle.tera_errors.specs.declared.span.Span.{Span}
-use Rattle.tera_tree.specs.Tree.{Expr, Entries, Filters, Signature, If, For, Capture, FilterSection, Block, ComponentCall, Definition, Node, Nodes}
-use Rattle.tera_tree.specs.Depth.{depth, entries_depth, filters_depth, parameters_depth}
-use Rattle.tera_tokens.specs.declared.token.Kind.{Kind}
-use Rattle.tera_tokens.specs.declared.token.Kind.TheVariants as k
-use Rattle.tera_tokens.specs.Token.{Token}
-use Rattle.tera_tokens.specs.Input.{begin, kind, text, same, is_word}
-use Rattle.tera_tokens.specs.Cut.{is_alone}
+use Rattle.tera_syntax_tree.specs.Tree.{Expr, Entries, Filters, Signature, If, For, Capture, FilterSection, Block, ComponentCall, Definition, Node, Nodes}
+use Rattle.tera_syntax_tree.specs.Depth.{depth, entries_depth, filters_depth, parameters_depth}
+use Rattle.tera_syntax_tokens.specs.declared.token.Kind.{Kind}
+use Rattle.tera_syntax_tokens.specs.declared.token.Kind.TheVariants as k
+use Rattle.tera_syntax_tokens.specs.Token.{Token}
+use Rattle.tera_syntax_tokens.specs.Input.{begin, kind, text, same, is_word}
+use Rattle.tera_syntax_tokens.specs.Cut.{is_alone}
 use Rattle.tera_syntax.specs.declared.heads.Surroundings.{Surroundings}
 
 -- what a text's first tag stands in: nothing

@@ -2,10 +2,10 @@
 use Rattle.std.specs.Prelude.{◌≡◌, length, IsTrue}
 use Rattle.std.specs.Str.{IsUtf8}
 use Rattle.tera_errors.specs.Site.{Name, Text}
-use Rattle.tera_tree.specs.Delimiters.{Delims, accepted, delimiters_of}
-use Rattle.tera_tree.specs.declared.delimiters.Delimiters.{Delimiters}
-use Rattle.tera_tree.specs.Inside.{Inside}
-use Rattle.tera_tree.specs.Tree.{Tree}
+use Rattle.tera_syntax_tree.specs.Delimiters.{Delims, accepted, delimiters_of}
+use Rattle.tera_syntax_tree.specs.declared.delimiters.Delimiters.{Delimiters}
+use Rattle.tera_syntax_tree.specs.Inside.{Inside}
+use Rattle.tera_syntax_tree.specs.Tree.{Tree}
 use Rattle.tera_syntax.specs.Spells.{Spells}
 
 -- A text spells one tree at most.

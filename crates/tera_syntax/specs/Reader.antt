@@ -2,16 +2,16 @@
 use Rattle.std.specs.Prelude.{ℕ, suc, nat_lt, ◌-◌, ◌==◌, length, List, [], ◌∷◌, Bool, true, false, Option, Some, None, option_map, option_and_then, bytes_eq, codes, if◌then◌else◌}
 use Rattle.tera_errors.specs.Site.{Text, Name}
 use Rattle.tera_errors.specs.declared.span.Span.{Span}
-use Rattle.tera_tokens.specs.declared.token.Kind.{Kind}
-use Rattle.tera_tokens.specs.declared.token.Kind.TheVariants as k
-use Rattle.tera_tokens.specs.Token.{Token}
-use Rattle.tera_tokens.specs.Input.{Input, Outcome, begin, kind, text, start, next, span, same, is_word}
-use Rattle.tera_tokens.specs.Literal.{literal}
-use Rattle.tera_expressions.specs.Expressions.{Deep, expr, filters, attributes}
-use Rattle.tera_expressions.specs.Headings.{calls}
-use Rattle.tera_expressions.specs.Parameters.{signature}
-use Rattle.tera_tokens.specs.Cut.{Piece, Words, Comment, Variable, Block, Broken, is_alone}
-use Rattle.tera_tree.specs.Tree.{Expr, Entries, Filters, NoFilters, Signature, Content, Print, Set, Include, Break, Continue, Node, Nodes, NoNodes, MoreNodes}
+use Rattle.tera_syntax_tokens.specs.declared.token.Kind.{Kind}
+use Rattle.tera_syntax_tokens.specs.declared.token.Kind.TheVariants as k
+use Rattle.tera_syntax_tokens.specs.Token.{Token}
+use Rattle.tera_syntax_tokens.specs.Input.{Input, Outcome, begin, kind, text, start, next, span, same, is_word}
+use Rattle.tera_syntax_tokens.specs.Literal.{literal}
+use Rattle.tera_syntax_expressions.specs.Expressions.{Deep, expr, filters, attributes}
+use Rattle.tera_syntax_expressions.specs.Headings.{calls}
+use Rattle.tera_syntax_expressions.specs.Parameters.{signature}
+use Rattle.tera_syntax_tokens.specs.Cut.{Piece, Words, Comment, Variable, Block, Broken, is_alone}
+use Rattle.tera_syntax_tree.specs.Tree.{Expr, Entries, Filters, NoFilters, Signature, Content, Print, Set, Include, Break, Continue, Node, Nodes, NoNodes, MoreNodes}
 use Rattle.tera_syntax.specs.declared.heads.Surroundings.{Surroundings}
 use Rattle.tera_syntax.specs.Heads.{Head, IfHead, ForHead, SetHead, SectionHead, BlockHead, CallHead, DefinitionHead, outside, nested, make, splits, chains, inside, first, ends}
 

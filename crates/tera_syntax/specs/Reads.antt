@@ -3,12 +3,12 @@ use Rattle.std.specs.Prelude.{◌≡◌, ℕ, Result, Ok, Err, length, drop, IsT
 use Rattle.tera_errors.specs.Site.{Text, Name}
 use Rattle.tera_errors.specs.Fault.{Fault, syntax_error}
 use Rattle.tera_errors.specs.declared.span.Span.{Span}
-use Rattle.tera_tokens.specs.Cut.{opens}
-use Rattle.tera_tree.specs.Delimiters.{Delims}
-use Rattle.tera_tree.specs.Depth.{IsWellFormed}
-use Rattle.tera_tree.specs.Inside.{Within}
+use Rattle.tera_syntax_tokens.specs.Cut.{opens}
+use Rattle.tera_syntax_tree.specs.Delimiters.{Delims}
+use Rattle.tera_syntax_tree.specs.Depth.{IsWellFormed}
+use Rattle.tera_syntax_tree.specs.Inside.{Within}
 use Rattle.tera_syntax.specs.Spells.{Spells}
-use Rattle.tera_tree.specs.Tree.{Tree}
+use Rattle.tera_syntax_tree.specs.Tree.{Tree}
 
 -- the text spells no well-formed tree
 abbrev pub SpellsNone : Name → Delims → Text → Type 0

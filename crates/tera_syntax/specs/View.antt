@@ -1,15 +1,15 @@
 -- What is open while a text is read, as plain data.
 use Rattle.std.specs.Prelude.{◌≡◌, List, Option, Some, None, Result, Ok, Err, Vec, map, option_copied, reverse}
 use Rattle.std.specs.Global.{Global}
-use Rattle.tera_tree.specs.declared.expression.Heading.{Heading}
-use Rattle.tera_tree.specs.declared.node.Node as declared
-use Rattle.tera_tokens.specs.declared.refusal.Refusal.{Refusal}
-use Rattle.tera_tokens.specs.Answers.{Refuses}
+use Rattle.tera_syntax_tree.specs.declared.expression.Heading.{Heading}
+use Rattle.tera_syntax_tree.specs.declared.node.Node as declared
+use Rattle.tera_syntax_tokens.specs.declared.refusal.Refusal.{Refusal}
+use Rattle.tera_syntax_tokens.specs.Answers.{Refuses}
 use Rattle.tera_errors.specs.Site.{Name}
-use Rattle.tera_tree.specs.Tree.{Node, Nodes}
-use Rattle.tera_tree.specs.Blocks.{node_blocks}
-use Rattle.tera_tree.specs.Definitions.{node_definitions}
-use Rattle.tera_tree.specs.View.{expr_of, entries_of, filters_of, signature_of, nodes_of, quoted_option}
+use Rattle.tera_syntax_tree.specs.Tree.{Node, Nodes}
+use Rattle.tera_syntax_tree.specs.Blocks.{node_blocks}
+use Rattle.tera_syntax_tree.specs.Definitions.{node_definitions}
+use Rattle.tera_syntax_tree.specs.View.{expr_of, entries_of, filters_of, signature_of, nodes_of, quoted_option}
 use Rattle.tera_syntax.specs.Heads.{Head, IfHead, ForHead, SetHead, SectionHead, BlockHead, CallHead, DefinitionHead}
 use Rattle.tera_syntax.specs.Reader.{Frame, Progress}
 use Rattle.tera_syntax.specs.File.{File}

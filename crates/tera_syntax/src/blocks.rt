@@ -2,17 +2,17 @@
 ghost use Rattle.std.specs.Prelude.{◌≡◌, ◌++◌, OnOk, IfOk, IfErr, is_some, not};
 ghost use Rattle.tera_syntax.specs.File as spec;
 ghost use Rattle.tera_syntax.specs.View.{names_of, node_components, node_names};
-ghost use Rattle.tera_tokens.specs.Answers.{Answers};
-ghost use Rattle.tera_tokens.specs.declared.refusal.Refusal.TheVariants.{OutOfMemory};
-ghost use Rattle.tera_tree.specs.Blocks.{are_distinct, block_names, has_each_block_once};
-ghost use Rattle.tera_tree.specs.Definitions.{component_names, has_each_component_once};
-ghost use Rattle.tera_tree.specs.View.{node_of, nodes_of, tree_of};
+ghost use Rattle.tera_syntax_tokens.specs.Answers.{Answers};
+ghost use Rattle.tera_syntax_tokens.specs.declared.refusal.Refusal.TheVariants.{OutOfMemory};
+ghost use Rattle.tera_syntax_tree.specs.Blocks.{are_distinct, block_names, has_each_block_once};
+ghost use Rattle.tera_syntax_tree.specs.Definitions.{component_names, has_each_component_once};
+ghost use Rattle.tera_syntax_tree.specs.View.{node_of, nodes_of, tree_of};
 
 use std::alloc::Global;
 use std::collections::HashMap;
 use tera_errors::Span;
-use tera_tokens::refusal::{Reason, Refusal};
-use tera_tree::{Node, ParserOutput};
+use tera_syntax_tokens::refusal::{Reason, Refusal};
+use tera_syntax_tree::{Node, ParserOutput};
 
 /// The name of a block or a component, and where it stands.
 #[derive(Clone, Copy)]
@@ -75,8 +75,8 @@ fn gather_node<'s>(names: &mut Vec<PlacedName<'s>>, node: &Node<'s>) -> Result<(
             span: _,
         } => gather(names, body.as_slice()),
         Node::Definition { signature: _, body } => gather(names, body.as_slice()),
-        Node::Content { .. } | Node::Print { .. } | Node::Set { .. } => Ok(()),
-        Node::Include { .. } | Node::Break | Node::Continue => Ok(()),
+        Node::Content { .. } | Node::Print { .. } | Node::PrintName { .. } => Ok(()),
+        Node::Set { .. } | Node::Include { .. } | Node::Break | Node::Continue => Ok(()),
     }
 }
 

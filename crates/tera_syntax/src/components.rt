@@ -2,21 +2,21 @@
 ghost use Rattle.std.specs.Prelude.{option_and_then};
 ghost use Rattle.tera_syntax.specs.Reader as spec;
 ghost use Rattle.tera_syntax.specs.View.{Becomes, head_of, progress_of};
-ghost use Rattle.tera_tokens.specs.Answers.{Answers};
-ghost use Rattle.tera_tokens.specs.Input.{begin};
-ghost use Rattle.tera_tokens.specs.Takes.{input};
-ghost use Rattle.tera_tokens.specs.Token.{tokens_of};
-ghost use Rattle.tera_tree.specs.View.{signature_of};
+ghost use Rattle.tera_syntax_tokens.specs.Answers.{Answers};
+ghost use Rattle.tera_syntax_tokens.specs.Input.{begin};
+ghost use Rattle.tera_syntax_tokens.specs.Takes.{input};
+ghost use Rattle.tera_syntax_tokens.specs.Token.{tokens_of};
+ghost use Rattle.tera_syntax_tree.specs.View.{signature_of};
 
 use crate::heads::Head;
 use crate::progress::{Progress, refused};
 use std::alloc::Global;
-use tera_expressions::components::attributes;
-use tera_expressions::parameters::signature;
-use tera_tokens::input::{Tokens, is_word, same};
-use tera_tokens::refusal::{Reason, Refusal};
-use tera_tokens::token::{Kind, Token};
-use tera_tree::Signature;
+use tera_syntax_expressions::components::attributes;
+use tera_syntax_expressions::parameters::signature;
+use tera_syntax_tokens::input::{Tokens, is_word, same};
+use tera_syntax_tokens::refusal::{Reason, Refusal};
+use tera_syntax_tokens::token::{Kind, Token};
+use tera_syntax_tree::Signature;
 
 /// Behind `component`.
 pub(crate) fn define<'s>(

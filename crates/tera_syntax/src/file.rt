@@ -4,11 +4,11 @@ ghost use Rattle.tera_syntax.specs.File as spec;
 ghost use Rattle.tera_syntax.specs.Grammar.{is_space};
 ghost use Rattle.tera_syntax.specs.Reader.{quoted_name};
 ghost use Rattle.tera_syntax.specs.View.{FileBecomes, file_of};
-ghost use Rattle.tera_tokens.specs.Answers.{Answers, IsSyntax};
-ghost use Rattle.tera_tokens.specs.Found.{piece_of};
-ghost use Rattle.tera_tokens.specs.Token.{tokens_of};
-ghost use Rattle.tera_tokens.specs.declared.token.Token as token;
-ghost use Rattle.tera_tree.specs.View.{tree_of};
+ghost use Rattle.tera_syntax_tokens.specs.Answers.{Answers, IsSyntax};
+ghost use Rattle.tera_syntax_tokens.specs.Found.{piece_of};
+ghost use Rattle.tera_syntax_tokens.specs.Token.{tokens_of};
+ghost use Rattle.tera_syntax_tokens.specs.declared.token.Token as token;
+ghost use Rattle.tera_syntax_tree.specs.View.{tree_of};
 
 use crate::heads::is_extends;
 use crate::places::Standing;
@@ -16,10 +16,10 @@ use crate::progress::Progress;
 use crate::statements::{behind, step};
 use crate::words::quoted_name;
 use std::alloc::Global;
-use tera_tokens::cut::Piece;
-use tera_tokens::refusal::Refusal;
-use tera_tokens::token::Token;
-use tera_tree::{ParserOutput, Quoted};
+use tera_syntax_tokens::cut::Piece;
+use tera_syntax_tokens::refusal::Refusal;
+use tera_syntax_tokens::token::Token;
+use tera_syntax_tree::{ParserOutput, Quoted};
 
 /// How far the reading of a text is.
 #[derive(Drop)]
@@ -70,6 +70,7 @@ impl<'s> File<'s> {
     }
 
     /// Takes a piece more to what was read, which stands there. The tokens are those of a tag.
+    #[inline(always)]
     pub fn step(
         &mut self,
         alloc: Global,

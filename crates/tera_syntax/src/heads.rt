@@ -2,14 +2,14 @@
 ghost use Rattle.std.specs.Prelude.{◌≡◌};
 ghost use Rattle.tera_syntax.specs.Heads as spec;
 ghost use Rattle.tera_syntax.specs.View.{head_of};
-ghost use Rattle.tera_tokens.specs.Token.{tokens_of};
-ghost use Rattle.tera_tree.specs.View.{node_of, nodes_of};
+ghost use Rattle.tera_syntax_tokens.specs.Token.{tokens_of};
+ghost use Rattle.tera_syntax_tree.specs.View.{node_of, nodes_of};
 
 use tera_errors::Span;
-use tera_tokens::cut::is_alone;
-use tera_tokens::input::{Tokens, is_word, same};
-use tera_tokens::token::{Kind, Token};
-use tera_tree::{Entry, Expression, Heading, Node, SectionFilter, Signature};
+use tera_syntax_tokens::cut::is_alone;
+use tera_syntax_tokens::input::{Tokens, is_word, same};
+use tera_syntax_tokens::token::{Kind, Token};
+use tera_syntax_tree::{Entry, Expression, Heading, Node, SectionFilter, Signature};
 
 /// What a tag stands in.
 #[derive(Clone, Copy)]

@@ -13,7 +13,7 @@ mod statements;
 mod words;
 
 pub use reader::parse;
-pub use tera_tree::{
+pub use tera_syntax_tree::{
     Argument, ArgumentType, BinaryOperator, Delimiters, Entry, Expression, Heading, Item, Literal,
     LiteralEntry, LiteralKey, Node, Parameter, ParserOutput, SectionFilter, Signature,
 };

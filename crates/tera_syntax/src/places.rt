@@ -1,16 +1,16 @@
 // Where a refusal points: at the tag, or at what in it is wrong.
 ghost use Rattle.std.specs.Prelude.{◌≡◌, ◌<◌, ◌+◌, ◌^◌, List, length, IfOk, IsTrue};
-ghost use Rattle.tera_tokens.specs.Answers.{Answers, Follows};
-ghost use Rattle.tera_tokens.specs.Cut as spec;
-ghost use Rattle.tera_tokens.specs.Cut.{Knows};
-ghost use Rattle.tera_tokens.specs.Found.{found_of};
-ghost use Rattle.tera_tree.specs.Delimiters.{accepted, delimiters_of};
+ghost use Rattle.tera_syntax_tokens.specs.Answers.{Answers, Follows};
+ghost use Rattle.tera_syntax_tokens.specs.Cut as spec;
+ghost use Rattle.tera_syntax_tokens.specs.Cut.{Knows};
+ghost use Rattle.tera_syntax_tokens.specs.Found.{found_of};
+ghost use Rattle.tera_syntax_tree.specs.Delimiters.{accepted, delimiters_of};
 
 use tera_errors::Span;
-use tera_tokens::cut::{Found, Opening, Piece, next_piece};
-use tera_tokens::refusal::{Reason, Refusal};
-use tera_tokens::token::Token;
-use tera_tree::Delimiters;
+use tera_syntax_tokens::cut::{Found, Opening, Piece, next_piece};
+use tera_syntax_tokens::refusal::{Reason, Refusal};
+use tera_syntax_tokens::token::Token;
+use tera_syntax_tree::Delimiters;
 
 /// Where a piece of the source stands, with its delimiters, and where the end delimiter of a tag does.
 #[derive(Clone, Copy)]
@@ -21,6 +21,7 @@ pub(crate) struct Standing {
 
 impl Standing {
     /// Of a piece that begins at this place.
+    #[inline(always)]
     pub fn new(delimiters: &Delimiters, at: usize, found: &Found<'_>) -> Standing {
         let size = match found.piece {
             Piece::Variable => delimiters.variable_end.len(),
@@ -84,6 +85,7 @@ fn pointed(why: Reason, span: Span, text: &str, at: usize) -> Span {
 }
 
 /// The same as `next_piece`, with a refusal that points at what is wrong.
+#[inline(always)]
 pub(crate) fn piece<'a>(
     tokens: &mut Vec<Token<'a>>,
     delimiters: &Delimiters,
@@ -109,13 +111,5 @@ pub(crate) fn piece<'a>(
             Err(Refusal::Syntax(why, pointed(why, span, text, at)))
         }
         Err(Refusal::OutOfMemory) => Err(Refusal::OutOfMemory),
-    }
-}
-
-/// What an error says of a reason. A statement that is open is told of at its first tag.
-pub(crate) fn words(why: Reason) -> &'static str {
-    match why {
-        Reason::NoEnd => "the statement that begins here has no end",
-        why => why.words(),
     }
 }

@@ -3,18 +3,18 @@ ghost use Rattle.std.specs.Prelude.{◌≡◌, ◌-◌, suc, length, true, Some,
 ghost use Rattle.tera_syntax.specs.Heads as heads;
 ghost use Rattle.tera_syntax.specs.Reader as spec;
 ghost use Rattle.tera_syntax.specs.View.{Becomes, body_of, frame_of, head_of, progress_of};
-ghost use Rattle.tera_tokens.specs.Answers.{Answers, IsSyntax};
-ghost use Rattle.tera_tokens.specs.Token.{tokens_of};
-ghost use Rattle.tera_tree.specs.View.{node_of, nodes_of};
+ghost use Rattle.tera_syntax_tokens.specs.Answers.{Answers, IsSyntax};
+ghost use Rattle.tera_syntax_tokens.specs.Token.{tokens_of};
+ghost use Rattle.tera_syntax_tree.specs.View.{node_of, nodes_of};
 
 use crate::heads::{Head, Surroundings, is_extends};
 use std::alloc::Global;
 use std::mem::replace;
 use tera_errors::Span;
-use tera_tokens::input::Tokens;
-use tera_tokens::refusal::{Reason, Refusal};
-use tera_tokens::token::Token;
-use tera_tree::Node;
+use tera_syntax_tokens::input::Tokens;
+use tera_syntax_tokens::refusal::{Reason, Refusal};
+use tera_syntax_tokens::token::Token;
+use tera_syntax_tree::Node;
 
 /// How deep a tree may be.
 const MAX_DEPTH: usize = 200;

@@ -3,19 +3,19 @@ ghost use Rattle.std.specs.Prelude.{IfOk, IsTrue, length};
 ghost use Rattle.tera_errors.specs.Answer.{GivesOneOf};
 ghost use Rattle.tera_syntax.specs.File as spec;
 ghost use Rattle.tera_syntax.specs.Reads.{Reads, ReadsPlainText};
-ghost use Rattle.tera_tokens.specs.Answers.{Answers};
-ghost use Rattle.tera_tokens.specs.Cut.{pieces};
-ghost use Rattle.tera_tree.specs.Delimiters.{accepted, delimiters_of};
-ghost use Rattle.tera_tree.specs.Inside.{Inside, Within};
-ghost use Rattle.tera_tree.specs.View.{tree_of};
+ghost use Rattle.tera_syntax_tokens.specs.Answers.{Answers};
+ghost use Rattle.tera_syntax_tokens.specs.Cut.{pieces};
+ghost use Rattle.tera_syntax_tree.specs.Delimiters.{accepted, delimiters_of};
+ghost use Rattle.tera_syntax_tree.specs.Inside.{Inside, Within};
+ghost use Rattle.tera_syntax_tree.specs.View.{tree_of};
 
 use crate::blocks::once;
 use crate::file::File;
-use crate::places::{Standing, piece, words};
+use crate::places::{Standing, piece};
 use std::alloc::Global;
 use tera_errors::{Error, Span, TeraResult};
-use tera_tokens::refusal::Refusal;
-use tera_tree::{Delimiters, ParserOutput};
+use tera_syntax_tokens::refusal::Refusal;
+use tera_syntax_tree::{Delimiters, ParserOutput};
 
 /// The tree that a text spells, in which two blocks may have one name.
 fn spelled<'s>(
@@ -95,7 +95,7 @@ pub fn parse<'s>(
         Ok(output) => Ok(output),
         Err(Refusal::Syntax(why, span)) => {
             let span = clipped(span, source.len());
-            Err(Error::syntax(alloc, words(why), name, span))
+            Err(Error::syntax(alloc, why.words(), name, span))
         }
         Err(Refusal::OutOfMemory) => Err(Error::out_of_memory()),
     }

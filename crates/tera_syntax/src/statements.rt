@@ -1,13 +1,13 @@
 // What a piece of the text adds to what was read.
-ghost use Rattle.std.specs.Prelude.{◌≡◌};
+ghost use Rattle.std.specs.Prelude.{◌≡◌, ◌∷◌, [], IfSome};
 ghost use Rattle.tera_syntax.specs.Reader as spec;
 ghost use Rattle.tera_syntax.specs.View.{Becomes, heading_of, progress_of};
-ghost use Rattle.tera_tokens.specs.Answers.{Answers};
-ghost use Rattle.tera_tokens.specs.Found.{piece_of};
-ghost use Rattle.tera_tokens.specs.Input.{begin, next};
-ghost use Rattle.tera_tokens.specs.Takes.{input};
-ghost use Rattle.tera_tokens.specs.Token.{tokens_of};
-ghost use Rattle.tera_tree.specs.View.{expr_of, filters_of, node_of};
+ghost use Rattle.tera_syntax_tokens.specs.Answers.{Answers};
+ghost use Rattle.tera_syntax_tokens.specs.Found.{piece_of};
+ghost use Rattle.tera_syntax_tokens.specs.Input.{begin, next};
+ghost use Rattle.tera_syntax_tokens.specs.Takes.{input};
+ghost use Rattle.tera_syntax_tokens.specs.Token.{token_of, tokens_of};
+ghost use Rattle.tera_syntax_tree.specs.View.{expr_of, filters_of, node_of};
 
 use crate::components::call;
 use crate::heads::{Head, first};
@@ -15,14 +15,14 @@ use crate::progress::{Progress, refused};
 use crate::words::named;
 use std::alloc::Global;
 use tera_errors::Span;
-use tera_expressions::expressions::expr;
-use tera_expressions::filters::filters;
-use tera_expressions::headings::{LoopNames, names};
-use tera_tokens::cut::{Piece, is_alone};
-use tera_tokens::input::{Tokens, same};
-use tera_tokens::refusal::{Reason, Refusal};
-use tera_tokens::token::{Kind, Token};
-use tera_tree::{Expression, Heading, Node, SectionFilter};
+use tera_syntax_expressions::expressions::expr;
+use tera_syntax_expressions::filters::filters;
+use tera_syntax_expressions::headings::{LoopNames, names};
+use tera_syntax_tokens::cut::{Piece, is_alone};
+use tera_syntax_tokens::input::{Tokens, same};
+use tera_syntax_tokens::refusal::{Reason, Refusal};
+use tera_syntax_tokens::token::{Kind, Token};
+use tera_syntax_tree::{Expression, Heading, Node, SectionFilter};
 
 /// An expression that is all from here to the end of the tag.
 #[tactic(auto, unfolding(crate::specs::Reader::whole))]
@@ -145,8 +145,43 @@ fn put_words<'s>(progress: &mut Progress<'s>, text: &'s str, span: Span) -> Resu
     progress.add(Node::Content { text, span })
 }
 
-/// `{{ value }}`
+/// The token of a tag that is one name and nothing else.
+#[inline(always)]
+fn lone_name<'s>(tag: &[Token<'s>]) -> Option<Token<'s>>
+    ensures only { IfSome result (λ t. tokens_of tag.now ≡ token_of t ∷ []) }
+    ensures name { IfSome result (λ t. t.kind ≡ Kind.Name) }
+{
+    match tag {
+        [token] => match token.kind {
+            Kind::Name => Some(*token),
+            _ => None,
+        },
+        _ => None,
+    }
+}
+
+/// `{{ value }}`. Most are a name alone, which no box is made for.
 fn print<'s>(progress: &mut Progress<'s>, alloc: Global, tag: &[Token<'s>]) -> Result<(), Refusal>
+    ensures { let s = progress_of progress.old in
+        let tokens = tokens_of tag.now in
+        let value = spec.whole (spec.room 200 s) (begin s.surroundings.in_loop tokens) in
+        Becomes (spec.printed 200 s value) result progress.new }
+{
+    match lone_name(tag) {
+        Some(token) if progress.room() > 0 => progress.add(Node::PrintName {
+            name: token.text,
+            span: token.span,
+        }),
+        _ => print_value(progress, alloc, tag),
+    }
+}
+
+/// The same of any value.
+fn print_value<'s>(
+    progress: &mut Progress<'s>,
+    alloc: Global,
+    tag: &[Token<'s>],
+) -> Result<(), Refusal>
     ensures { let s = progress_of progress.old in
         let tokens = tokens_of tag.now in
         let value = spec.whole (spec.room 200 s) (begin s.surroundings.in_loop tokens) in

@@ -2,23 +2,23 @@
 ghost use Rattle.std.specs.Prelude.{◌≡◌, IfOk, List, get_or, option_and_then};
 ghost use Rattle.tera_syntax.specs.Reader as spec;
 ghost use Rattle.tera_syntax.specs.View.{Becomes, progress_of};
-ghost use Rattle.tera_tokens.specs.Answers.{Answers};
-ghost use Rattle.tera_tokens.specs.Input.{next};
-ghost use Rattle.tera_tokens.specs.Takes.{input};
-ghost use Rattle.tera_tokens.specs.Token.{Token, tokens_of};
-ghost use Rattle.tera_tree.specs.View.{node_of, quoted_of};
+ghost use Rattle.tera_syntax_tokens.specs.Answers.{Answers};
+ghost use Rattle.tera_syntax_tokens.specs.Input.{next};
+ghost use Rattle.tera_syntax_tokens.specs.Takes.{input};
+ghost use Rattle.tera_syntax_tokens.specs.Token.{Token, tokens_of};
+ghost use Rattle.tera_syntax_tree.specs.View.{node_of, quoted_of};
 
 use crate::components::define;
 use crate::heads::Head;
 use crate::progress::{Progress, refused};
 use crate::statements::{behind, pipe, put, whole};
 use std::alloc::Global;
-use tera_tokens::cut::is_alone;
-use tera_tokens::input::{Tokens, is_word, same};
-use tera_tokens::literal::literal;
-use tera_tokens::refusal::{Reason, Refusal};
-use tera_tokens::token::{Kind, Token};
-use tera_tree::{Node, Quoted};
+use tera_syntax_tokens::cut::is_alone;
+use tera_syntax_tokens::input::{Tokens, is_word, same};
+use tera_syntax_tokens::literal::literal;
+use tera_syntax_tokens::refusal::{Reason, Refusal};
+use tera_syntax_tokens::token::{Kind, Token};
+use tera_syntax_tree::{Node, Quoted};
 
 /// Behind `set` or `set_global`.
 fn set<'s>(

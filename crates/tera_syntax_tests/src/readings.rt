@@ -1,6 +1,6 @@
 //! Readings of small texts.
 ghost use Rattle.std.specs.Prelude.{IsTrue, IfSome, OnOk};
-ghost use Rattle.tera_tree.specs.Delimiters.{accepted, delimiters_of};
+ghost use Rattle.tera_syntax_tree.specs.Delimiters.{accepted, delimiters_of};
 
 use crate::applications::{APPLICATION_NESTS, APPLICATIONS, UNREAD_APPLICATIONS};
 use crate::components::{CALLS, COMPONENT_NESTS, DEFINITIONS, UNREAD_CALLS, UNREAD_DEFINITIONS};

@@ -67,6 +67,13 @@ impl Shown {
         }
     }
 
+    /// A name that is put out, as it is shown where it is an expression.
+    fn lone_name(&mut self, name: &str, span: Span) {
+        self.put("(");
+        self.put(name);
+        self.put_span(span);
+    }
+
     #[cycle(expression)]
     fn put_bound(&mut self, bound: &Option<Box<Expression>>) {
         match bound {
@@ -310,6 +317,7 @@ impl Shown {
                     self.put_span(*span);
                 }
                 Node::Print { value } => self.expression(value),
+                Node::PrintName { name, span } => self.lone_name(name, *span),
                 Node::If {
                     condition,
                     body,

@@ -1,7 +1,7 @@
 //! Scripts with templates by name.
 use crate::devices::{Sink, Source, run_between};
 use std::alloc::Global;
-use tera_script::Outcome::{Done, Unreadable};
+use tera_run_script::Outcome::{Done, Unreadable};
 
 /// Scripts with their replies behind the line `=>`, and an empty line between two of them. The last line feed of each is left out.
 const BATCHES: &str = r#"@@ template a

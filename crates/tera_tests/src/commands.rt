@@ -1,7 +1,7 @@
 //! Commands in memory.
 use std::alloc::Global;
 use tera::Tera;
-use tera_script::{Command, Reply, run_commands};
+use tera_run_script::{Command, Reply, run_commands};
 
 fn are_right(replies: &[Reply]) -> bool {
     matches!(

@@ -3,7 +3,7 @@ use std::alloc::Global;
 use std::io;
 use std::io::{ErrorKind, Read, Write};
 use tera::Tera;
-use tera_script::{Outcome, ReaderInput, WriterOutput, run};
+use tera_run_script::{Outcome, ReaderInput, WriterOutput, run};
 
 /// Gives a text, a few bytes a read. The first read is interrupted; the one with this number fails.
 #[derive(Clone, Copy)]

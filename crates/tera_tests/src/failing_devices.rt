@@ -1,8 +1,8 @@
 //! Runs between readers and writers that fail, and what is told of them.
 use crate::devices::{Failing, Sink, Source, run_between};
 use std::alloc::Global;
-use tera_script::Outcome::{Device, Done, NoMemory, Unreadable};
-use tera_script::{Outcome, WriterOutput, complaint};
+use tera_run_script::Outcome::{Device, Done, NoMemory, Unreadable};
+use tera_run_script::{Outcome, WriterOutput, complaint};
 
 const HELLO: &[u8] = b"@@ text name\nworld\n@@ end\n@@ str off\nHello {{ name }}!\n@@ end\n";
 

@@ -3,7 +3,7 @@ use crate::devices::{Sink, Source, run_on};
 use scarce_memory::{Tried, refusals, with_budget};
 use std::alloc::Global;
 use tera::Tera;
-use tera_script::Outcome;
+use tera_run_script::Outcome;
 
 /// A script that is run.
 #[derive(Clone, Copy)]

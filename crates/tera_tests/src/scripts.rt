@@ -1,8 +1,8 @@
 //! Scripts, their replies, and what their runs come to.
 use crate::devices::{Sink, Source, run_between};
 use std::alloc::Global;
-use tera_script::Outcome;
-use tera_script::Outcome::{Done, Unreadable};
+use tera_run_script::Outcome;
+use tera_run_script::Outcome::{Done, Unreadable};
 
 /// A script, its replies, and what a run of it comes to.
 #[derive(Clone, Copy)]

@@ -4,7 +4,7 @@ use crate::sample::{Sample, is_value, map, refusal, value};
 use std::alloc::Global;
 use tera_components::{ComponentDefinition, ComponentInfo};
 use tera_state::Scopes;
-use tera_tree::{ArgumentType, Literal, Parameter, Quoted, Signature};
+use tera_syntax_tree::{ArgumentType, Literal, Parameter, Quoted, Signature};
 use tera_values::{Context, Error, Map, TeraResult, Value};
 
 fn parameter<'s>(

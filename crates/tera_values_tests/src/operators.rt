@@ -5,7 +5,7 @@ use crate::sample::Sample::{Int, Ints, Nothing, Pairs, Safe, Text, Truth, Undefi
 use crate::sample::{Sample, value};
 use std::alloc::Global;
 use tera_operators::{Operand, array, attribute, binary, item, map, negative, not, slice};
-use tera_tree::{BinaryOperator as Op, OwnedKey};
+use tera_syntax_tree::{BinaryOperator as Op, OwnedKey};
 use tera_values::{Error, ErrorKind, Shape, Span, TeraResult};
 
 const NODE: Span = Span { start: 1, end: 99 };

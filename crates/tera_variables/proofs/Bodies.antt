@@ -1,16 +1,16 @@
 -- Nodes with bodies, as they are seen where the bodies are lent.
 use Rattle.std.proofs.Common.{◌≡◌, Bool, Bor, List, ℕ, Vec, Box, Global, sym, ap, ap₂, ◌∙◌}
 use Rattle.tera_errors.specs.declared.span.Span.{Span}
-use Rattle.tera_tree.specs.declared.expression.Heading.{Heading}
-use Rattle.tera_tree.specs.declared.expression.Expression.{Expression}
-use Rattle.tera_tree.specs.declared.node.Node as declared
-use Rattle.tera_tree.specs.declared.node.SectionFilter.{SectionFilter}
-use Rattle.tera_tree.specs.declared.node.Node.TheVariants as variant
-use Rattle.tera_tree.specs.declared.expression.Entry.{Entry}
-use Rattle.tera_tree.specs.declared.component.Signature.{Signature}
-use Rattle.tera_tree.specs.Tree.{If, Capture, FilterSection, Block, ComponentCall, Definition}
-use Rattle.tera_tree.specs.View.{node_of, nodes_of, filters_of, entries_of, signature_of, expr_of, for_of}
-use Rattle.tera_tree.proofs.Views.{view_if, view_capture, view_section, view_for, view_block, view_component_call, view_definition}
+use Rattle.tera_syntax_tree.specs.declared.expression.Heading.{Heading}
+use Rattle.tera_syntax_tree.specs.declared.expression.Expression.{Expression}
+use Rattle.tera_syntax_tree.specs.declared.node.Node as declared
+use Rattle.tera_syntax_tree.specs.declared.node.SectionFilter.{SectionFilter}
+use Rattle.tera_syntax_tree.specs.declared.node.Node.TheVariants as variant
+use Rattle.tera_syntax_tree.specs.declared.expression.Entry.{Entry}
+use Rattle.tera_syntax_tree.specs.declared.component.Signature.{Signature}
+use Rattle.tera_syntax_tree.specs.Tree.{If, Capture, FilterSection, Block, ComponentCall, Definition}
+use Rattle.tera_syntax_tree.specs.View.{node_of, nodes_of, filters_of, entries_of, signature_of, expr_of, for_of}
+use Rattle.tera_syntax_tree.proofs.Views.{view_if, view_capture, view_section, view_for, view_block, view_component_call, view_definition}
 
 pub node_if : (node : declared.Node) (condition : Box Expression Global) (body other : Vec declared.Node Global) (xs ys : List declared.Node) → node ≡ variant.If condition body other → xs ≡ body.items → ys ≡ other.items → node_of node ≡ If (expr_of condition.value) (nodes_of xs) (nodes_of ys)
 node_if node condition body other xs ys is a b =

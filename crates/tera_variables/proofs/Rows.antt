@@ -3,9 +3,9 @@ use Rattle.std.proofs.Common.{◌≡◌, ℕ, ◌+◌, ◌<◌, Bool, true, fals
 use mathlib.Core.Path.{fun_ext}
 use Rattle.tera_errors.specs.Answer.{Refusal}
 use Rattle.tera_errors.specs.Site.{Name}
-use Rattle.tera_tree.specs.declared.node.Node as declared
-use Rattle.tera_tree.specs.Tree.{Node, Nodes}
-use Rattle.tera_tree.specs.View.{node_of, nodes_of}
+use Rattle.tera_syntax_tree.specs.declared.node.Node as declared
+use Rattle.tera_syntax_tree.specs.Tree.{Node, Nodes}
+use Rattle.tera_syntax_tree.specs.View.{node_of, nodes_of}
 use Rattle.tera_variables.specs.Free.{Names, nobody, only, node_free, free, node_binds, binds, set_binds, ◌∪◌, ◌∖◌}
 use Rattle.tera_variables.specs.Sets.{before, before_all}
 use Rattle.tera_variables.proofs.Unions.{ok-then, before-both, without-union, two, looped}

@@ -2,9 +2,9 @@
 use Rattle.std.specs.Prelude.{String, false}
 use Rattle.std.specs.declared.alloc.Global.{Global}
 use Rattle.std.specs.BTreeSet.{BTreeSet, contains_text}
-use Rattle.tera_tree.specs.declared.expression.Bounds.{Bounds}
-use Rattle.tera_tree.specs.Tree.{Node, Nodes}
-use Rattle.tera_tree.specs.View.{optional_of}
+use Rattle.tera_syntax_tree.specs.declared.expression.Bounds.{Bounds}
+use Rattle.tera_syntax_tree.specs.Tree.{Node, Nodes}
+use Rattle.tera_syntax_tree.specs.View.{optional_of}
 use Rattle.tera_variables.specs.Free.{Names, optional_free, node_free, free, node_binds, binds, ◌∪◌, ◌∖◌}
 
 abbrev pub names_in : BTreeSet (String Global) → Names

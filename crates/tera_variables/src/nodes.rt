@@ -2,17 +2,17 @@
 // away before what the node itself looks up is added. So there is one set, from which each name goes in and out at little cost.
 ghost use Rattle.std.specs.Prelude.{◌≡◌, OnOk, IfOk, IfErr, true, false};
 ghost use Rattle.tera_errors.specs.Answer.{Lacks};
-ghost use Rattle.tera_tree.specs.Tree.{FilterSection};
-ghost use Rattle.tera_tree.specs.View.{filters_of, node_of, nodes_of};
+ghost use Rattle.tera_syntax_tree.specs.Tree.{FilterSection};
+ghost use Rattle.tera_syntax_tree.specs.View.{filters_of, node_of, nodes_of};
 ghost use Rattle.tera_variables.specs.Free.{free, node_binds, binds, set_binds, ◌∖◌};
 ghost use Rattle.tera_variables.specs.Sets.{names_in, before, before_all};
 
 use crate::expressions::{add_entries, add_expression, add_filters};
-use crate::sets::{join, remove, remove_loop_names};
+use crate::sets::{add as add_name, join, remove, remove_loop_names};
 use std::alloc::Global;
 use std::collections::BTreeSet;
 use tera_errors::TeraResult;
-use tera_tree::{Heading, Node, SectionFilter};
+use tera_syntax_tree::{Heading, Node, SectionFilter};
 
 /// The names that are free in nodes, each once.
 pub fn free(alloc: Global, nodes: &[Node]) -> TeraResult<BTreeSet<String>>
@@ -47,6 +47,7 @@ fn add(alloc: Global, node: &Node, found: &mut BTreeSet<String>) -> TeraResult<(
 {
     match node {
         Node::Print { value } => add_expression(alloc, value, found),
+        Node::PrintName { name, .. } => add_name(alloc, name, found),
         Node::If {
             condition,
             body,
@@ -164,6 +165,7 @@ fn remove_globals_of(node: &Node, found: &mut BTreeSet<String>)
         Node::ComponentCall { body, .. } => remove_globals(body.as_slice(), found),
         Node::Content { .. }
         | Node::Print { .. }
+        | Node::PrintName { .. }
         | Node::Include { .. }
         | Node::Definition { .. }
         | Node::Break

@@ -7,7 +7,7 @@ ghost use Rattle.tera_variables.specs.Sets.{names_in};
 use std::alloc::Global;
 use std::collections::BTreeSet;
 use tera_errors::TeraResult;
-use tera_tree::Heading;
+use tera_syntax_tree::Heading;
 
 /// Puts a name among those that were found.
 pub fn add(alloc: Global, name: &str, found: &mut BTreeSet<String>) -> TeraResult<()>

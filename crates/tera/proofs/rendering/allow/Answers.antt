@@ -1,8 +1,8 @@
 use Rattle.std.proofs.Common.{◌≡◌, [], length, ap, sym, ◌∙◌, arith}
 use Rattle.std.proofs.lemmas.Bool.Decides.{nat_tests}
 use Rattle.std.proofs.lemmas.List.{nil_from_length}
-use Rattle.tera_tree.specs.Blocks.{top_blocks}
-use Rattle.tera_tree.specs.View.{nodes_of}
+use Rattle.tera_syntax_tree.specs.Blocks.{top_blocks}
+use Rattle.tera_syntax_tree.specs.View.{nodes_of}
 use Rattle.tera.proofs.NoBlocks.{blocks-none}
 use Rattle.tera.proofs.rendering.allow.Goals as goal
 

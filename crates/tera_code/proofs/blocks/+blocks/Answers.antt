@@ -1,5 +1,5 @@
 use Rattle.std.proofs.Common.{[], ◌∷◌, ◌++◌, map, refl, sym, ap, ◌∙◌}
-use Rattle.tera_tree.specs.View.{nodes_of}
+use Rattle.tera_syntax_tree.specs.View.{nodes_of}
 use Rattle.tera_code.specs.Blocks.{block_of, block_listing, block_listings}
 use Rattle.tera_code.proofs.Written.{on_ok_by}
 use Rattle.tera_code.proofs.Found.{found_more, blocks_if, blocks_for, blocks_capture, blocks_section, blocks_block, blocks_component_call, blocks_definition}

@@ -1,6 +1,6 @@
 use Rattle.std.proofs.Common.{◌≡◌, ◌++◌, map, drop}
-use Rattle.tera_tree.specs.View.{nodes_of}
-use Rattle.tera_tree.specs.Blocks.{blocks}
+use Rattle.tera_syntax_tree.specs.View.{nodes_of}
+use Rattle.tera_syntax_tree.specs.Blocks.{blocks}
 use Rattle.tera_code.specs.Blocks.{block_of, block_listings}
 use Rattle.tera_code.proofs.blocks.+blocks.Given as goal
 

@@ -1,5 +1,5 @@
 use Rattle.std.proofs.Common.{◌≡◌, ◌++◌, drop}
-use Rattle.tera_tree.specs.View.{arguments_of}
+use Rattle.tera_syntax_tree.specs.View.{arguments_of}
 use Rattle.tera_code.specs.Code.{argument_names}
 use Rattle.tera_code.proofs.calls.argument_names.Given as goal
 

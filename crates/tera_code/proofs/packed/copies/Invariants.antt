@@ -1,5 +1,5 @@
 use Rattle.std.proofs.Common.{◌≡◌, ◌++◌, drop}
-use Rattle.tera_tree.specs.View.{keys_of}
+use Rattle.tera_syntax_tree.specs.View.{keys_of}
 use Rattle.tera_code.proofs.packed.copies.Given as goal
 
 abbrev pub invariant-loop-key : goal.invariant-loop-key

@@ -1,5 +1,5 @@
 use Rattle.std.proofs.Common.{◌≡◌, ◌++◌, drop}
-use Rattle.tera_tree.specs.View.{items_of}
+use Rattle.tera_syntax_tree.specs.View.{items_of}
 use Rattle.tera_code.specs.Code.{spreads_of}
 use Rattle.tera_code.proofs.parts.spreads.Given as goal
 

@@ -1,5 +1,5 @@
 use Rattle.std.proofs.Common.{◌≡◌, [], take, drop, map as map_list}
-use Rattle.tera_tree.specs.View.{written_of, literal_entries_of}
+use Rattle.tera_syntax_tree.specs.View.{written_of, literal_entries_of}
 use Rattle.tera_values.specs.Alphabet.{plain}
 use Rattle.tera_components.specs.Context.{literal_value, literal_pairs_in}
 use Rattle.tera_components.proofs.literals.+literals.Given as goal

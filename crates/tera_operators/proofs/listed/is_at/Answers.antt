@@ -1,7 +1,7 @@
 use Rattle.std.proofs.Common.{rules, ◌≡◌, sym, ap, ◌∙◌, string_bytes}
 use Rattle.std.proofs.lemmas.Map.Text.{is_eq-slice_cmp}
 use Rattle.tera_errors.specs.Site.{Name}
-use Rattle.tera_tree.specs.View.{key_option}
+use Rattle.tera_syntax_tree.specs.View.{key_option}
 use Rattle.tera_values.specs.Val.{ktext}
 use Rattle.tera_values.specs.Access.{key_eq}
 use Rattle.tera_operators.specs.Entries.{is_at}

@@ -1,5 +1,5 @@
 use Rattle.std.proofs.Common.{rules, ◌≡◌, true, false, ℕ, ◌+◌, ◌-◌, ◌<◌, Some, length, take, sym, ap, ◌∙◌, arith}
-use Rattle.tera_tree.specs.View.{key_option}
+use Rattle.tera_syntax_tree.specs.View.{key_option}
 use Rattle.tera_values.specs.Val.{ktext}
 use Rattle.tera_values.specs.Access.{find}
 use Rattle.tera_operators.specs.Entries.{listed, is_at}

@@ -2,7 +2,7 @@ use Rattle.std.proofs.Common.{◌≡◌, length, map as map_list}
 use Rattle.std.specs.List.{zip}
 use Rattle.std.specs.Iterator.Adapters.{zip_first, zip_second}
 use Rattle.std.specs.Slice.Iter.{iter_rest}
-use Rattle.tera_tree.specs.View.{key_option}
+use Rattle.tera_syntax_tree.specs.View.{key_option}
 use Rattle.tera_operators.specs.Literals.{from_left}
 use Rattle.tera_operators.specs.Entries.{listed}
 use Rattle.tera_operators.proofs.listed.listed_map.Given as goal

@@ -1,6 +1,6 @@
 use Rattle.std.proofs.Common.{◌≡◌, true, take}
 use Rattle.std.specs.List.{list_all}
-use Rattle.tera_tree.specs.View.{key_option}
+use Rattle.tera_syntax_tree.specs.View.{key_option}
 use Rattle.tera_operators.specs.Entries.{is_key_named}
 use Rattle.tera_operators.proofs.listed.listed_named.Given as goal
 

@@ -3,7 +3,7 @@ use Rattle.std.specs.List.{zip}
 use Rattle.std.specs.Iterator.Adapters.{zip_first, zip_second}
 use Rattle.std.specs.Slice.Iter.{iter_rest}
 use Rattle.std.specs.Vec.Iter.{into_iter_items}
-use Rattle.tera_tree.specs.View.{key_option}
+use Rattle.tera_syntax_tree.specs.View.{key_option}
 use Rattle.tera_operators.specs.Literals.{from_left}
 use Rattle.tera_operators.proofs.maps.from_left.Given as goal
 

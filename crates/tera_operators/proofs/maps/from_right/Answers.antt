@@ -1,8 +1,8 @@
 use Rattle.std.proofs.Common.{rules, ℕ, ◌+◌, length-append, ◌≡◌, ◌≤◌, ◌++◌, [], ◌∷◌, Ok, List, Option, length, get_or, map as map_list, arith, ◌∙◌, ap}
 use Rattle.std.specs.List.{zip}
-use Rattle.tera_tree.specs.View.{key_option}
+use Rattle.tera_syntax_tree.specs.View.{key_option}
 use Rattle.tera_errors.specs.Answer.{Says}
-use Rattle.tera_tree.specs.Tree.{Key}
+use Rattle.tera_syntax_tree.specs.Tree.{Key}
 use Rattle.tera_operators.specs.Operand.{Evaluated}
 use Rattle.tera_operators.specs.Literals.{from_right, entry_after}
 use Rattle.tera_operators.proofs.Keeping.{onto, from_right_onto, onto_popped, says_onto, zip_none, nothing}

@@ -1,6 +1,6 @@
 use Rattle.std.proofs.Common.{◌≡◌, ◌≤◌, Ok, length, map as map_list}
 use Rattle.std.specs.List.{zip}
-use Rattle.tera_tree.specs.View.{key_option}
+use Rattle.tera_syntax_tree.specs.View.{key_option}
 use Rattle.tera_operators.specs.Literals.{from_right}
 use Rattle.tera_operators.proofs.Keeping.{onto}
 use Rattle.tera_operators.proofs.maps.from_right.Given as goal

@@ -1,4 +1,4 @@
-use Rattle.tera_tree.specs.Delimiters.{delimiters_of}
+use Rattle.tera_syntax_tree.specs.Delimiters.{delimiters_of}
 use Rattle.tera_registry.specs.Order.{Rises}
 use Rattle.tera_registry.specs.Batch.{pairs_of}
 use Rattle.tera_registry.specs.Kept.{entries_of}

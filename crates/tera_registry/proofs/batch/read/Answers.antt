@@ -1,4 +1,4 @@
-use Rattle.tera_tree.specs.View.{tree_of}
+use Rattle.tera_syntax_tree.specs.View.{tree_of}
 use Rattle.tera_registry.specs.Kept.{entry_of}
 use Rattle.tera_registry.proofs.Batches.{makes, makes-none}
 use Rattle.tera_registry.proofs.batch.read.Goals as goal

@@ -1,8 +1,8 @@
 use Rattle.std.proofs.Common.{◌≡◌, Some, None, string_bytes, sym, ap, ◌∙◌, arith, slice_get}
 use Rattle.std.proofs.lemmas.List.{take_all}
 use Rattle.tera_meaning.specs.Components.{priority}
-use Rattle.tera_tree.specs.View.{nodes_of}
-use Rattle.tera_tree.specs.Definitions.{component_names}
+use Rattle.tera_syntax_tree.specs.View.{nodes_of}
+use Rattle.tera_syntax_tree.specs.Definitions.{component_names}
 use Rattle.tera_registry.specs.Kept.{entry_of, entries_of, seen}
 use Rattle.tera_registry.specs.Components.{kept_names}
 use Rattle.tera_registry.specs.Choices.{chosen, chosen_in, chosen_from, ties_at}

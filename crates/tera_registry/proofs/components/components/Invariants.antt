@@ -1,5 +1,5 @@
 use Rattle.std.proofs.Common.{◌≡◌, ◌++◌, map, drop}
-use Rattle.tera_tree.specs.View.{nodes_of}
+use Rattle.tera_syntax_tree.specs.View.{nodes_of}
 use Rattle.tera_registry.specs.Components.{kept_of, kept_all}
 use Rattle.tera_registry.proofs.components.components.Given as goal
 

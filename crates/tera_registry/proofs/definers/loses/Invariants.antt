@@ -1,5 +1,5 @@
 use Rattle.std.proofs.Common.{◌≡◌, Some, slice_get}
-use Rattle.tera_tree.specs.Blocks.{top_blocks}
+use Rattle.tera_syntax_tree.specs.Blocks.{top_blocks}
 use Rattle.tera_meaning.specs.Registry.{Entry}
 use Rattle.tera_meaning.specs.Accepted.{is_lost}
 use Rattle.tera_registry.proofs.Absent.{NoneYet}

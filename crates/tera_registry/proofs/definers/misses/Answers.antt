@@ -1,6 +1,6 @@
 use Rattle.std.proofs.Common.{◌≡◌, length, nat_lt, ap, ◌∙◌, arith}
-use Rattle.tera_tree.specs.Includes.{includes}
-use Rattle.tera_tree.specs.View.{nodes_of}
+use Rattle.tera_syntax_tree.specs.Includes.{includes}
+use Rattle.tera_syntax_tree.specs.View.{nodes_of}
 use Rattle.tera_meaning.specs.Resolve.{resolve}
 use Rattle.tera_registry.proofs.Filled.{fewer-is}
 use Rattle.tera_registry.proofs.definers.misses.Goals as goal

@@ -2,7 +2,7 @@ use Rattle.std.proofs.Common.{[], ap, ◌∙◌}
 use Rattle.std.specs.List.{list_any}
 use Rattle.tera_registry.specs.Known.{is_there}
 use Rattle.tera_registry.specs.Needs.{is_unmet}
-use Rattle.tera_tree.specs.View.{nodes_of}
+use Rattle.tera_syntax_tree.specs.View.{nodes_of}
 use Rattle.tera_registry.proofs.Definitions.{misses-callee}
 use Rattle.tera_registry.proofs.definers.misses_a_callee.Goals as goal
 

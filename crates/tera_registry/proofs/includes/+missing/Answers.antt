@@ -1,8 +1,8 @@
 use Rattle.std.proofs.Common.{◌≡◌, Bool, true, false, ◌||◌, ℕ, not, Option, Some, None, is_some, is_none, refl, sym, ap, ◌∙◌}
 use Rattle.std.specs.List.{list_any}
 use Rattle.tera_errors.specs.Site.{Name}
-use Rattle.tera_tree.specs.Includes.{includes, node_includes}
-use Rattle.tera_tree.specs.View.{node_of, nodes_of}
+use Rattle.tera_syntax_tree.specs.Includes.{includes, node_includes}
+use Rattle.tera_syntax_tree.specs.View.{node_of, nodes_of}
 use Rattle.tera_meaning.specs.Registry.{Registry}
 use Rattle.tera_meaning.specs.Resolve.{resolve}
 use Rattle.tera_registry.specs.Kept.{entries_of, seen}

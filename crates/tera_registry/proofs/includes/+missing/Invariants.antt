@@ -1,5 +1,5 @@
 use Rattle.std.proofs.Common.{◌≡◌, drop}
-use Rattle.tera_tree.specs.View.{nodes_of}
+use Rattle.tera_syntax_tree.specs.View.{nodes_of}
 use Rattle.tera_meaning.specs.Accepted.{misses_an_include}
 use Rattle.tera_registry.specs.Kept.{seen}
 use Rattle.tera_registry.proofs.includes.+missing.Given as goal

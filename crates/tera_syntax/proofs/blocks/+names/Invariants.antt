@@ -1,6 +1,6 @@
 use Rattle.std.proofs.Common.{◌≡◌, ◌++◌, drop}
-use Rattle.tera_tree.specs.Blocks.{block_names}
-use Rattle.tera_tree.specs.View.{nodes_of}
+use Rattle.tera_syntax_tree.specs.Blocks.{block_names}
+use Rattle.tera_syntax_tree.specs.View.{nodes_of}
 use Rattle.tera_syntax.specs.View.{names_of}
 use Rattle.tera_syntax.proofs.blocks.+names.Given as goal
 

@@ -1,5 +1,5 @@
 use Rattle.std.proofs.Common.{rules, ◌≡◌, ◌-◌, ◌≤◌, true, false, drop, length, get_or, is_some, not, sym, ap, ◌∙◌}
-use Rattle.tera_tree.specs.Blocks.{are_distinct, is_among}
+use Rattle.tera_syntax_tree.specs.Blocks.{are_distinct, is_among}
 use Rattle.tera_syntax.specs.View.{names_of}
 use Rattle.tera_syntax.proofs.Again.{blank, place, next-names, place-more, found-more, found-still}
 use Rattle.tera_syntax.proofs.blocks.twice.Goals as goal

@@ -1,6 +1,6 @@
 use Rattle.std.proofs.Common.{◌≡◌, ◌≤◌, length, drop, is_some, not}
 use Rattle.tera_errors.specs.Site.{Name}
-use Rattle.tera_tree.specs.Blocks.{are_distinct, is_among}
+use Rattle.tera_syntax_tree.specs.Blocks.{are_distinct, is_among}
 use Rattle.tera_syntax.specs.View.{names_of}
 use Rattle.tera_syntax.proofs.Again.{place}
 use Rattle.tera_syntax.proofs.blocks.twice.Given as goal

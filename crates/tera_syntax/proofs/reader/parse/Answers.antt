@@ -1,7 +1,7 @@
 use Rattle.std.proofs.Common.{refl}
-use Rattle.tera_tree.specs.Delimiters.{delimiters_of}
+use Rattle.tera_syntax_tree.specs.Delimiters.{delimiters_of}
 use Rattle.tera_syntax.specs.Reads.{Reads, ReadsPlainText}
-use Rattle.tera_tree.specs.View.{tree_of}
+use Rattle.tera_syntax_tree.specs.View.{tree_of}
 use Rattle.tera_syntax.proofs.Extending.{file_sound, file_placed, file_defined}
 use Rattle.tera_syntax.proofs.Inside.{tree_inside}
 use Rattle.tera_syntax.proofs.Plain.{says_one, refused_by, spells_none, plain, one_tree}

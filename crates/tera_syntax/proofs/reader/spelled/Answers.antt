@@ -2,17 +2,17 @@ use Rattle.std.proofs.Common.{◌≡◌, ◌-◌, length, List, Option, Some, ap
 use Rattle.std.specs.Prelude.{option_and_then}
 use Rattle.std.proofs.lemmas.List.{length-drop}
 use Rattle.std.proofs.lemmas.Bool.Decides.{Decides-eqb}
-use Rattle.tera_tokens.specs.Cut.{cut, Found}
-use Rattle.tera_tokens.specs.declared.cut.Found as found
-use Rattle.tera_tokens.specs.declared.token.Token.{Token}
-use Rattle.tera_tokens.specs.Answers.{Answers}
-use Rattle.tera_tree.specs.Delimiters.{delimiters_of}
-use Rattle.tera_tree.specs.View.{tree_of}
-use Rattle.tera_tokens.specs.Found.{found_of}
+use Rattle.tera_syntax_tokens.specs.Cut.{cut, Found}
+use Rattle.tera_syntax_tokens.specs.declared.cut.Found as found
+use Rattle.tera_syntax_tokens.specs.declared.token.Token.{Token}
+use Rattle.tera_syntax_tokens.specs.Answers.{Answers}
+use Rattle.tera_syntax_tree.specs.Delimiters.{delimiters_of}
+use Rattle.tera_syntax_tree.specs.View.{tree_of}
+use Rattle.tera_syntax_tokens.specs.Found.{found_of}
 use Rattle.tera_syntax.specs.File as spec
 use Rattle.tera_syntax.specs.View.{file_of}
-use Rattle.tera_tokens.proofs.Cuts.{cut_step, cut_broken, cut_nothing}
-use Rattle.tera_expressions.proofs.Turns.{refused}
+use Rattle.tera_syntax_tokens.proofs.Cuts.{cut_step, cut_broken, cut_nothing}
+use Rattle.tera_syntax_expressions.proofs.Turns.{refused}
 use Rattle.tera_syntax.proofs.Extending.{file_broken}
 use Rattle.tera_syntax.proofs.Rows.{some_bytes}
 use Rattle.tera_syntax.proofs.reader.spelled.Goals as goal

@@ -1,8 +1,8 @@
 use denote.Shadow.{shadow}
 use denote.Text.{Utf8}
 use Rattle.std.proofs.Common.{◌≡◌, ◌+◌, length}
-use Rattle.tera_tokens.specs.Cut.{Knows, cut, pieces}
-use Rattle.tera_tree.specs.Delimiters.{delimiters_of}
+use Rattle.tera_syntax_tokens.specs.Cut.{Knows, cut, pieces}
+use Rattle.tera_syntax_tree.specs.Delimiters.{delimiters_of}
 use Rattle.tera_syntax.specs.File as spec
 use Rattle.tera_syntax.specs.View.{file_of}
 use Rattle.tera_syntax.proofs.reader.spelled.Given as goal

@@ -1,6 +1,6 @@
 use Rattle.std.proofs.Common.{◌≡◌, false, sym, subst}
 use Rattle.std.specs.Prelude.{option_and_then}
-use Rattle.tera_tokens.specs.Token.{tokens_of}
+use Rattle.tera_syntax_tokens.specs.Token.{tokens_of}
 use Rattle.tera_syntax.specs.Reader.{room, taken}
 use Rattle.tera_syntax.specs.View.{Becomes, progress_of}
 use Rattle.tera_syntax.proofs.Begun.{hint, none_begun}

@@ -1,5 +1,5 @@
 use Rattle.std.proofs.Common.{◌∙◌, ap, refl, sym, arith}
-use Rattle.tera_tree.specs.View.{items_of, entries_of, arguments_of}
+use Rattle.tera_syntax_tree.specs.View.{items_of, entries_of, arguments_of}
 use Rattle.std.proofs.lemmas.List.{drop_all}
 use Rattle.tera_variables.specs.Free.{items_free, entries_free, arguments_free, ◌∪◌}
 use Rattle.tera_variables.specs.Sets.{names_in}

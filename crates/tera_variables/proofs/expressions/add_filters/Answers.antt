@@ -1,6 +1,6 @@
 use Rattle.std.proofs.Common.{◌∙◌, ap, sym, arith}
 use Rattle.std.proofs.lemmas.List.{drop_all}
-use Rattle.tera_tree.specs.View.{filters_of, arguments_of}
+use Rattle.tera_syntax_tree.specs.View.{filters_of, arguments_of}
 use Rattle.tera_variables.specs.Free.{filters_free, arguments_free, ◌∪◌}
 use Rattle.tera_variables.specs.Sets.{names_in}
 use Rattle.tera_variables.proofs.Unions.{union-pass}

@@ -1,5 +1,5 @@
 use Rattle.std.proofs.Common.{◌≡◌, drop}
-use Rattle.tera_tree.specs.View.{filters_of}
+use Rattle.tera_syntax_tree.specs.View.{filters_of}
 use Rattle.tera_variables.specs.Free.{filters_free, ◌∪◌}
 use Rattle.tera_variables.specs.Sets.{names_in}
 use Rattle.tera_variables.proofs.expressions.add_filters.Given as goal

@@ -1,5 +1,5 @@
 use Rattle.std.proofs.Common.{◌≡◌, true, drop}
-use Rattle.tera_tree.specs.View.{nodes_of}
+use Rattle.tera_syntax_tree.specs.View.{nodes_of}
 use Rattle.tera_variables.specs.Free.{binds, ◌∖◌}
 use Rattle.tera_variables.specs.Sets.{names_in}
 use Rattle.tera_variables.proofs.nodes.+globals.Given as goal

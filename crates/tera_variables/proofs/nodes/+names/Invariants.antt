@@ -1,5 +1,5 @@
 use Rattle.std.proofs.Common.{◌≡◌, ◌≤◌, length, drop}
-use Rattle.tera_tree.specs.View.{nodes_of}
+use Rattle.tera_syntax_tree.specs.View.{nodes_of}
 use Rattle.tera_variables.specs.Sets.{names_in, before_all}
 use Rattle.tera_variables.proofs.nodes.+names.Given as goal
 

@@ -2,7 +2,7 @@ use Rattle.std.proofs.Common.{Global, Result, string_bytes, ap, subst}
 use Rattle.tera_errors.specs.Site.{Text}
 use Rattle.tera_errors.specs.Fault.{Fault}
 use Rattle.tera_errors.specs.Answer.{Gives}
-use Rattle.tera_tree.specs.View.{nodes_of, tree_of}
+use Rattle.tera_syntax_tree.specs.View.{nodes_of, tree_of}
 use Rattle.tera.specs.Registry.{registry_of}
 use Rattle.tera.proofs.Renders.{refused, refused-tree, rendered, beside-means}
 use Rattle.tera.proofs.engine.TeraOver.read_and_render.Goals as goal

@@ -1,4 +1,4 @@
-use Rattle.tera_tree.specs.View.{nodes_of}
+use Rattle.tera_syntax_tree.specs.View.{nodes_of}
 use Rattle.tera.specs.Registry.{registry_of, subject_beside}
 use Rattle.tera.proofs.engine.TeraOver.read_and_render.Given as goal
 

@@ -2,8 +2,8 @@ use Rattle.std.proofs.Common.{Global, map, None, Result, string_bytes, refl, sym
 use Rattle.tera_errors.specs.Site.{Text}
 use Rattle.tera_errors.specs.Fault.{Fault}
 use Rattle.tera_errors.specs.Answer.{Gives}
-use Rattle.tera_tree.specs.Tree.{Tree}
-use Rattle.tera_tree.specs.View.{nodes_of}
+use Rattle.tera_syntax_tree.specs.Tree.{Tree}
+use Rattle.tera_syntax_tree.specs.View.{nodes_of}
 use Rattle.tera_meaning.specs.Components.{one_off_name}
 use Rattle.tera_meaning.specs.Known.{lacks_a_callee}
 use Rattle.tera_meaning.specs.Accepted.{misses_an_include}

@@ -1,5 +1,5 @@
 use Rattle.std.proofs.Common.{refl, ◌∙◌, ◌∷◌, ◌++◌, length, ap, ap₂, sym}
-use Rattle.tera_tree.specs.View.{expr_of}
+use Rattle.tera_syntax_tree.specs.View.{expr_of}
 use Rattle.tera_code.specs.declared.instruction.Instruction.TheVariants as instruction
 use Rattle.tera_code.specs.Code.{expr_code, choice_code, lengthened}
 use Rattle.tera_code.proofs.Filled.{jump_written, choice_written}

@@ -1,5 +1,5 @@
 use Rattle.std.proofs.Common.{◌≡◌, drop}
-use Rattle.tera_tree.specs.View.{items_of, entries_of, arguments_of}
+use Rattle.tera_syntax_tree.specs.View.{items_of, entries_of, arguments_of}
 use Rattle.tera_code.specs.Code.{items_code, entries_code, arguments_code, lengthened}
 use Rattle.tera_code.proofs.compiler.Compiler.+expressions.Given as goal
 

@@ -1,5 +1,5 @@
 use Rattle.std.proofs.Common.{◌≡◌, drop}
-use Rattle.tera_tree.specs.View.{filters_of}
+use Rattle.tera_syntax_tree.specs.View.{filters_of}
 use Rattle.tera_code.specs.Code.{filters_code, lengthened}
 use Rattle.tera_code.proofs.compiler.Compiler.filters.Given as goal
 

@@ -1,5 +1,5 @@
 use Rattle.std.proofs.Common.{◌≡◌, take, map as map_list}
-use Rattle.tera_tree.specs.View.{parameter_of}
+use Rattle.tera_syntax_tree.specs.View.{parameter_of}
 use Rattle.tera_components.specs.Definition.{AreNames, formal_of}
 use Rattle.tera_components.proofs.definition.ComponentDefinition.new.Given as goal
 

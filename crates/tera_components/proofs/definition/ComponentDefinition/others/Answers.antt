@@ -1,5 +1,5 @@
 use Rattle.std.proofs.Common.{Ok, sym, ap, ◌∙◌}
-use Rattle.tera_tree.specs.Blocks.{is_among}
+use Rattle.tera_syntax_tree.specs.Blocks.{is_among}
 use Rattle.tera_values.specs.Named.{text_keys}
 use Rattle.tera_components.specs.Definition.{Definition, formal_names}
 use Rattle.tera_components.proofs.LeftOver.{none_left}

@@ -1,5 +1,5 @@
 use Rattle.std.proofs.Common.{◌≡◌, ◌≤◌, length}
-use Rattle.tera_tree.specs.Blocks.{is_among}
+use Rattle.tera_syntax_tree.specs.Blocks.{is_among}
 use Rattle.tera_state.specs.Stack.{lower}
 use Rattle.tera_machine.proofs.blocks.OpenBlocks.has.Given as goal
 

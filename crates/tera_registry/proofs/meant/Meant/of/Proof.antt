@@ -15,7 +15,7 @@ use denote.Signature.{plain, types_at}
 use denote.Slice.{shr_slice_vals, shr_slice_Tells}
 use denote.Triple.Entry.{alive}
 use denote.Triple.Walked.{says, Stays, stay_none_slice, Goes-none_slice, ends_at}
-use Rattle.tera_tree.specs.contracts.node.Node as node
+use Rattle.tera_syntax_tree.specs.contracts.node.Node as node
 use Rattle.tera_registry.specs.contracts.meant.Meant as meant
 use Rattle.tera_registry.specs.contracts.meant.Meant.of as f
 use Rattle.tera_registry.proofs.meant.Meant.of.Statement.{statement}

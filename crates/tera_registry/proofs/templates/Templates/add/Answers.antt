@@ -1,5 +1,5 @@
 use Rattle.std.proofs.Common.{refl}
-use Rattle.tera_tree.specs.Delimiters.{delimiters_of}
+use Rattle.tera_syntax_tree.specs.Delimiters.{delimiters_of}
 use Rattle.tera_registry.specs.Batch.{pairs_of}
 use Rattle.tera_registry.proofs.Adds.{copies-rise, add-unread, add-unlinked, add-linked, kept-faultless, kept-placed, kept-linked, kept-chosen}
 use Rattle.tera_registry.proofs.Leading.{kept-right}

@@ -1,7 +1,7 @@
 use Rattle.std.proofs.Common.{◌≡◌, vec_len}
 use Rattle.tera_syntax.specs.Reader as spec
 use Rattle.tera_syntax.specs.View.{frames_of}
-use Rattle.tera_tree.specs.View.{nodes_of}
+use Rattle.tera_syntax_tree.specs.View.{nodes_of}
 use Rattle.tera_syntax.proofs.progress.Progress.close.Given as goal
 
 abbrev pub invariant-loop-frame : goal.invariant-loop-frame

@@ -1,7 +1,7 @@
 use Rattle.std.proofs.Common.{◌-◌, length, sym, ap, ◌∙◌, subst}
 use Rattle.std.specs.List.{slice_get}
-use Rattle.tera_tree.specs.View.{nodes_of}
-use Rattle.tera_expressions.proofs.Turns.{refuses}
+use Rattle.tera_syntax_tree.specs.View.{nodes_of}
+use Rattle.tera_syntax_expressions.proofs.Turns.{refuses}
 use Rattle.tera_syntax.specs.Heads.{chains}
 use Rattle.tera_syntax.specs.Reader.{turned}
 use Rattle.tera_syntax.specs.View.{Becomes}

@@ -1,8 +1,8 @@
 use Rattle.std.proofs.Common.{◌-◌, length, sym, ap, ◌∙◌, subst}
 use Rattle.std.specs.List.{slice_get}
-use Rattle.tera_tokens.specs.Token.{tokens_of}
-use Rattle.tera_tree.specs.View.{nodes_of}
-use Rattle.tera_expressions.proofs.Turns.{refuses}
+use Rattle.tera_syntax_tokens.specs.Token.{tokens_of}
+use Rattle.tera_syntax_tree.specs.View.{nodes_of}
+use Rattle.tera_syntax_expressions.proofs.Turns.{refuses}
 use Rattle.tera_syntax.specs.Reader.{shut}
 use Rattle.tera_syntax.specs.View.{Becomes}
 use Rattle.tera_syntax.proofs.Rows.{nothing_open, shut_innermost, shut_otherwise}

@@ -1,8 +1,8 @@
 use Rattle.std.proofs.Common.{◌-◌, length, sym, ap, ◌∙◌, subst}
 use Rattle.std.specs.List.{slice_get}
 use Rattle.std.specs.Prelude.{option_map}
-use Rattle.tera_tree.specs.View.{nodes_of}
-use Rattle.tera_expressions.proofs.Turns.{refuses}
+use Rattle.tera_syntax_tree.specs.View.{nodes_of}
+use Rattle.tera_syntax_expressions.proofs.Turns.{refuses}
 use Rattle.tera_syntax.specs.Heads.{splits}
 use Rattle.tera_syntax.specs.Reader.{aside, turned}
 use Rattle.tera_syntax.specs.View.{Becomes}

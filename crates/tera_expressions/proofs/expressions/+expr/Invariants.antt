@@ -1,4 +1,0 @@
-use Rattle.tera_expressions.proofs.expressions.+expr.Given as goal
-
-abbrev pub decreases-expr : goal.decreases-expr
-decreases-expr l = l.limit

@@ -1,0 +1,105 @@
+-- Where an argument is put in a row of them, and the turns of the loop that reads them.
+use Rattle.std.proofs.Common.{◌≡◌, ℕ, suc, ◌+◌, ◌≤◌, max, List, [], ◌∷◌, length, true, false, Option, Some, None, option_map, refl, ◌∙◌, ap, arith, Ordering, Less, Equal, Greater}
+use Rattle.std.specs.List.{insert}
+use Rattle.std.specs.Ordering.{match_ordering}
+use Rattle.tera_errors.specs.Site.{Name}
+use Rattle.tera_syntax_tree.specs.declared.expression.Argument as argument
+use Rattle.tera_syntax_tree.specs.Tree.{Expr, Arguments, NoArguments, MoreArguments}
+use Rattle.tera_syntax_tree.specs.View.{arguments_of, expr_of}
+use Rattle.tera_syntax_tokens.specs.declared.token.Kind.TheVariants.{RightParenthesis, Comma}
+use Rattle.tera_syntax_tokens.specs.Input.{Input, Outcome, Parser, and_then, kind, text, next, same, expect}
+use Rattle.tera_syntax_expressions.specs.Arguments.{name_cmp, put_argument, argument_name}
+use Rattle.tera_syntax_expressions.specs.Parts.{place_of}
+use Rattle.tera_syntax_expressions.specs.Expressions as r
+use Rattle.tera_syntax_expressions.specs.Expressions.{Deep}
+use Rattle.tera_syntax_expressions.proofs.ArgumentRows.{named-got}
+
+-- the place, where this many others were passed
+abbrev pub from : ℕ → Option ℕ → Option ℕ
+from at o = option_map (λ k. at + k) o
+
+abbrev by : Ordering → Option ℕ → Option ℕ
+by o p = match_ordering o (Some 0) None (option_map suc p)
+
+-- An argument is put where its place is.
+pub placed-at : (all : List argument.Argument) (at : ℕ) (a : argument.Argument) → place_of a.name.now (arguments_of all) ≡ Some at
+    → (at ≤ length all) × (put_argument a.name.now (expr_of a.value) (arguments_of all) ≡ Some (arguments_of (insert all at a)))
+placed-at [] at a h = let e : 0 ≡ at = cc in rw (← e) (omega arith, refl)
+placed-at (b ∷ rest) at a h = go (λ m e. placed-at rest m a e) (name_cmp a.name.now b.name.now) h
+  where
+    after : Arguments → Arguments
+    after more = MoreArguments b.name.now (expr_of b.value) more
+
+    Put : Option Arguments → Type 0
+    Put o = (at ≤ suc (length rest)) × (o ≡ Some (arguments_of (insert (b ∷ rest) at a)))
+
+    behind : ((m : ℕ) → place_of a.name.now (arguments_of rest) ≡ Some m → (m ≤ length rest) × (put_argument a.name.now (expr_of a.value) (arguments_of rest) ≡ Some (arguments_of (insert rest m a))))
+        → (o : Option ℕ) → place_of a.name.now (arguments_of rest) ≡ o → option_map suc o ≡ Some at → Put (option_map after (put_argument a.name.now (expr_of a.value) (arguments_of rest)))
+    behind again None e h = cc
+    behind again (Some m) e h =
+        let f : suc m ≡ at = cc in
+        let w = again m e in let l = w.0 in
+        rw (← f) (omega (arith, l), ap (option_map after) w.1)
+
+    go : ((m : ℕ) → place_of a.name.now (arguments_of rest) ≡ Some m → (m ≤ length rest) × (put_argument a.name.now (expr_of a.value) (arguments_of rest) ≡ Some (arguments_of (insert rest m a))))
+        → (o : Ordering) → by o (place_of a.name.now (arguments_of rest)) ≡ Some at
+        → Put (match_ordering o (Some (MoreArguments a.name.now (expr_of a.value) (after (arguments_of rest)))) None (option_map after (put_argument a.name.now (expr_of a.value) (arguments_of rest))))
+    go again Less h = let e : 0 ≡ at = cc in rw (← e) (omega arith, refl)
+    go again Equal h = cc
+    go again Greater h = behind again (place_of a.name.now (arguments_of rest)) refl h
+
+-- Without a place it is not put.
+pub not-placed : (n : Name) (x : Expr) (all : Arguments) → place_of n all ≡ None → put_argument n x all ≡ None
+not-placed n x NoArguments h = cc
+not-placed n x (MoreArguments m y rest) h = go (λ e. not-placed n x rest e) (name_cmp n m) h
+  where
+    behind : (place_of n rest ≡ None → put_argument n x rest ≡ None) → (o : Option ℕ) → place_of n rest ≡ o → option_map suc o ≡ None → option_map (MoreArguments m y) (put_argument n x rest) ≡ None
+    behind again None e h = ap (option_map (MoreArguments m y)) (again e)
+    behind again (Some k) e h = cc
+
+    go : (place_of n rest ≡ None → put_argument n x rest ≡ None) → (o : Ordering) → by o (place_of n rest) ≡ None
+        → match_ordering o (Some (MoreArguments n x (MoreArguments m y rest))) None (option_map (MoreArguments m y) (put_argument n x rest)) ≡ None
+    go again Less h = cc
+    go again Equal h = refl
+    go again Greater h = behind again (place_of n rest) refl h
+
+-- the turns of the loop over arguments
+module _ (limit : ℕ) (sub : ℕ → Parser Deep) where
+  pub argument_placed : (found all : Arguments) (i m j : Input) (x : Deep) → argument_name i ≡ Some (text i, m) → sub 0 m ≡ Some (x, j) → put_argument (text i) x.expr found ≡ Some all
+      → r.argument limit sub found i ≡ Some ((all, x.depth), j)
+  unfolding r.argument
+  argument_placed found all i m j x e f g = rw (e, f, g) refl
+
+  pub argument_unplaced : (found : Arguments) (i : Input) → place_of (text i) found ≡ None → r.argument limit sub found i ≡ None
+  unfolding r.argument
+  argument_unplaced found i h = go (argument_name i) refl
+    where
+      value : (o : Outcome Deep) → and_then o (λ x. r.placed limit sub (put_argument (text i) x.expr found) x.depth) ≡ None
+      value None = refl
+      value (Some p) = ap (λ o. r.placed limit sub o p.0.depth p.1) (not-placed (text i) p.0.expr found h)
+
+      go : (o : Outcome Name) → argument_name i ≡ o → and_then o (λ n. λ j. and_then (sub 0 j) (λ x. r.placed limit sub (put_argument n x.expr found) x.depth)) ≡ None
+      go None e = refl
+      go (Some p) e =
+          let n = named-got i p.1 p.0 e in
+          ap (λ n. and_then (sub 0 p.1) (λ x. r.placed limit sub (put_argument n x.expr found) x.depth)) n.2 ∙ value (sub 0 p.1)
+
+  pub arguments_end : (n : ℕ) (found : Arguments) (d : ℕ) (i : Input) → same RightParenthesis (kind i) ≡ true → r.arguments_from limit sub (suc n) found d i ≡ Some ((found, d), next i)
+  unfolding r.arguments_from
+  arguments_end n found d i h = rw h refl
+
+  abbrev pub rest_of : ℕ → ℕ → Arguments × ℕ → Parser (Arguments × ℕ)
+  rest_of n d p = r.behind_argument limit sub (r.arguments_from limit sub n) d p
+
+  pub arguments_next : (n : ℕ) (found : Arguments) (d : ℕ) (i : Input) → same RightParenthesis (kind i) ≡ false → r.arguments_from limit sub (suc n) found d i ≡ and_then (r.argument limit sub found i) (rest_of n d)
+  unfolding r.arguments_from
+  arguments_next n found d i h = rw h refl
+
+  pub arguments_comma : (n d : ℕ) (p : Arguments × ℕ) (j : Input) → same Comma (kind j) ≡ true → rest_of n d p j ≡ r.arguments_from limit sub n p.0 (max d p.1) (next j)
+  arguments_comma n d p j h = rw h refl
+
+  abbrev pub arguments_closed : Arguments → ℕ → Unit {0} → Parser (Arguments × ℕ)
+  arguments_closed f m done k = Some ((f, m), k)
+
+  pub arguments_shut : (n d : ℕ) (p : Arguments × ℕ) (j : Input) → same Comma (kind j) ≡ false → rest_of n d p j ≡ and_then (expect RightParenthesis j) (arguments_closed p.0 (max d p.1))
+  arguments_shut n d p j h = rw h refl

@@ -1,0 +1,80 @@
+-- How the reader's parts of expressions stand to their definitions.
+use Rattle.std.specs.Prelude.{◌≡◌, ℕ, List, [], ◌∷◌, map, Vec, Bool, Option, Some, None, option_map, suc, Result, Ok, Err, option_copied}
+use Rattle.std.specs.Borrow.{Bor}
+use Rattle.std.specs.declared.alloc.Global.{Global}
+use denote.Ref.{MutBor}
+use Rattle.tera_errors.specs.Site.{Name}
+use Rattle.tera_errors.specs.declared.span.Span.{Span}
+use Rattle.tera_syntax_tree.specs.declared.expression.Expression.{Expression}
+use Rattle.tera_syntax_tree.specs.declared.expression.Item as item
+use Rattle.tera_syntax_tree.specs.declared.expression.Entry as entry
+use Rattle.tera_syntax_tree.specs.declared.component.Parameter as parameter
+use Rattle.tera_syntax_tree.specs.Definitions.{rest_names}
+use Rattle.tera_syntax_tree.specs.Tree.{Expr, Parameter, Key, Optional, And, Or, Binary, Arguments, NoArguments, MoreArguments}
+use Rattle.tera_syntax_tree.specs.View.{expr_of, optional_of, items_of, entries_of, parameter_of}
+use Rattle.tera_syntax_tokens.specs.declared.refusal.Refusal.{Refusal}
+use Rattle.tera_syntax_tokens.specs.declared.refusal.Refusal.TheVariants.{Syntax, OutOfMemory}
+use Rattle.tera_syntax_tokens.specs.declared.input.Tokens.{Tokens}
+use Rattle.tera_syntax_tokens.specs.Answers.{Refuses}
+use Rattle.tera_syntax_tokens.specs.Input.{Input, Outcome, Parser, and_then}
+use Rattle.tera_syntax_tokens.specs.Takes.{Takes, input}
+use Rattle.tera_syntax_expressions.specs.declared.expressions.Deep as declared
+use Rattle.tera_syntax_expressions.specs.declared.headings.LoopNames.{LoopNames}
+use Rattle.tera_syntax_expressions.specs.declared.reader.Part.{Part}
+use Rattle.tera_syntax_expressions.specs.declared.operators.Infix.{Infix}
+use Rattle.tera_syntax_expressions.specs.declared.operators.Infix.TheVariants as form
+use Rattle.std.specs.Ordering.{match_ordering}
+use Rattle.tera_syntax_expressions.specs.Arguments.{name_cmp}
+use Rattle.tera_syntax_expressions.specs.Expressions.{Deep, expr, join_items, one_item, join_entries, one_entry}
+
+abbrev pub deep_of : declared.Deep → Deep
+deep_of x = record { expr = expr_of x.expression.value; depth = x.depth }
+
+abbrev pub part_of : Part → Optional × ℕ
+part_of p = (optional_of p.expression, p.depth)
+
+abbrev pub names_of : LoopNames → Option Name × Name
+names_of n = (option_copied n.key, n.name.now)
+
+abbrev pub infix_of : Infix → Expr → Expr → Span → Expr
+infix_of form.And = And
+infix_of form.Or = Or
+infix_of (form.Binary operator) = Binary operator
+
+-- a function value that reads expressions to a depth
+pub record Nests (limit : ℕ) (pre : Global → MutBor Tokens → ℕ → ℕ → Type 0)
+    (post : Global → MutBor Tokens → ℕ → ℕ → Result declared.Deep Refusal → MutBor Tokens → Type 0) : Type 0 where
+  pub callable : (alloc : Global) (old : MutBor Tokens) (floor : ℕ) → pre alloc old limit floor
+  pub reads : (alloc : Global) (old new : MutBor Tokens) (floor : ℕ) (r : Result declared.Deep Refusal) → post alloc old limit floor r new
+      → Takes deep_of (expr limit floor (input old.now)) r new.now
+
+-- an item was read behind those that were there, and its depth is the answer
+abbrev pub TakesItem : Outcome Deep → Bool → List item.Item → List item.Item → Result ℕ Refusal → Tokens → Type 0
+TakesItem meant is_spread old items (Ok d) new = (x : Deep) × (meant ≡ Some (x, input new)) × (x.depth ≡ d) × (items_of items ≡ join_items (items_of old) (one_item is_spread x.expr))
+TakesItem meant is_spread old items (Err refusal) new = Refuses meant refusal
+
+-- an entry was read behind those that were there, and its depth is the answer
+abbrev pub TakesEntry : Outcome (Option Key) → Parser Deep → List entry.Entry → List entry.Entry → Result ℕ Refusal → Tokens → Type 0
+TakesEntry meant sub old entries (Ok d) new = (key : Option Key) × (j : Input) × (x : Deep) × (meant ≡ Some (key, j)) × (sub j ≡ Some (x, input new)) × (x.depth ≡ d)
+    × (entries_of entries ≡ join_entries (entries_of old) (one_entry key x.expr))
+TakesEntry meant sub old entries (Err refusal) new = Refuses (and_then meant (λ key. sub)) refusal
+
+-- a form is made, unless memory is refused
+abbrev pub Makes : Expr → Result Expression Refusal → Type 0
+Makes meant (Ok x) = expr_of x ≡ meant
+Makes meant (Err (Syntax why span)) = ⊥
+Makes meant (Err OutOfMemory) = Unit {0}
+
+-- how many of the arguments stand before the place of this name; none where one has it
+abbrev pub place_of : Name → Arguments → Option ℕ
+place_of n NoArguments = Some 0
+place_of n (MoreArguments m y rest) = match_ordering (name_cmp n m) (Some 0) None (option_map suc (place_of n rest))
+
+-- the names of a signature: those of its parameters, and of what takes all other arguments
+abbrev pub signature_names : List parameter.Parameter → Option Name → List Name
+signature_names [] rest = rest_names rest
+signature_names (p ∷ ps) rest = p.name.now ∷ signature_names ps rest
+
+-- what stands in its parentheses
+abbrev pub parameters_of : Vec parameter.Parameter Global × Option (Bor Name) → List Parameter × Option Name
+parameters_of p = (map parameter_of p.0.items, option_copied p.1)

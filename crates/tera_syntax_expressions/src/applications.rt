@@ -1,0 +1,117 @@
+// Filters and tests of a value.
+ghost use Rattle.std.specs.Prelude.{◌≡◌};
+ghost use Rattle.tera_syntax_tree.specs.View.{arguments_of};
+ghost use Rattle.tera_syntax_tokens.specs.Takes.{Takes, input};
+ghost use Rattle.tera_syntax_expressions.specs.Arguments as call;
+ghost use Rattle.tera_syntax_expressions.specs.Expressions as spec;
+ghost use Rattle.tera_syntax_expressions.specs.Parts.{Nests, deep_of};
+
+use crate::expressions::Deep;
+use crate::reader::{Reader, larger};
+use std::alloc::Global;
+use tera_syntax_tokens::input::{Tokens, is_word, same};
+use tera_syntax_tokens::refusal::{Reason, Refusal};
+use tera_syntax_tokens::token::Kind;
+use tera_syntax_tree::{Argument, Expression};
+
+impl<'s, F: Fn(Global, &mut Tokens<'_, 's>, usize, u8) -> Result<Deep<'s>, Refusal>> Reader<F> {
+    /// `x | name`, from the bar on.
+    #[tactic(auto, unfolding(crate::specs::Expressions::filter, crate::specs::Expressions::passed))]
+    pub(crate) fn filter(
+        &self,
+        tokens: &mut Tokens<'_, 's>,
+        start: usize,
+        x: Deep<'s>,
+    ) -> Result<Deep<'s>, Refusal>
+        requires { Nests self.now.below (F.pre self.now.expr) (F.post self.now.expr) }
+        ensures { let meant = spec.filter self.now.limit (spec.expr self.now.below) start
+            (deep_of x.entry) in Takes deep_of (meant (input tokens.old)) result tokens.new }
+    {
+        tokens.take();
+        if !is_word(tokens.kind()) {
+            return Err(tokens.refuse(Reason::Expected(Kind::Name)));
+        }
+        let name = tokens.text();
+        tokens.take();
+        let (arguments, b) = self.given(tokens)?;
+        let a = x.depth;
+        let depth = larger(a, b);
+        let span = tokens.span(start);
+        let expression = Expression::filter(x.expression, name, arguments, span);
+        self.node(tokens, depth, expression)
+    }
+
+    /// `x is name`, or `x is not name`, from `is` on.
+    #[tactic(auto, unfolding(crate::specs::Expressions::tested))]
+    pub(crate) fn test(
+        &self,
+        tokens: &mut Tokens<'_, 's>,
+        start: usize,
+        x: Deep<'s>,
+    ) -> Result<Deep<'s>, Refusal>
+        requires { Nests self.now.below (F.pre self.now.expr) (F.post self.now.expr) }
+        ensures { let meant = spec.tested self.now.limit (spec.expr self.now.below) start
+            (deep_of x.entry) in Takes deep_of (meant (input tokens.old)) result tokens.new }
+    {
+        tokens.take();
+        if !same(Kind::Not, tokens.kind()) {
+            return self.test_by_name(tokens, start, x);
+        }
+        tokens.take();
+        let y = self.test_by_name(tokens, start, x)?;
+        let depth = y.depth;
+        let expression = Expression::not(y.expression, tokens.span(start));
+        self.node(tokens, depth, expression)
+    }
+
+    /// A test, from its name on.
+    #[tactic(auto, unfolding(crate::specs::Expressions::test_by_name, crate::specs::Expressions::passed))]
+    pub(crate) fn test_by_name(
+        &self,
+        tokens: &mut Tokens<'_, 's>,
+        start: usize,
+        x: Deep<'s>,
+    ) -> Result<Deep<'s>, Refusal>
+        requires { Nests self.now.below (F.pre self.now.expr) (F.post self.now.expr) }
+        ensures { let meant = spec.test_by_name self.now.limit (spec.expr self.now.below) start
+            (deep_of x.entry) in Takes deep_of (meant (input tokens.old)) result tokens.new }
+    {
+        if !is_test_name(tokens.kind()) {
+            return Err(tokens.refuse(Reason::Expected(Kind::Name)));
+        }
+        let name = tokens.text();
+        tokens.take();
+        let (arguments, b) = self.given(tokens)?;
+        let a = x.depth;
+        let depth = larger(a, b);
+        let span = tokens.span(start);
+        let expression = Expression::test(x.expression, name, arguments, span);
+        self.node(tokens, depth, expression)
+    }
+
+    /// The arguments behind a name, if they are written, and the greatest depth.
+    #[tactic(auto, unfolding(crate::specs::Expressions::given))]
+    pub(crate) fn given(
+        &self,
+        tokens: &mut Tokens<'_, 's>,
+    ) -> Result<(Vec<Argument<'s>>, usize), Refusal>
+        requires { Nests self.now.below (F.pre self.now.expr) (F.post self.now.expr) }
+        ensures { let meant = spec.given self.now.limit (spec.expr self.now.below) in
+            Takes (λ p. (arguments_of p.0.items, p.1)) (meant (input tokens.old))
+            result tokens.new }
+    {
+        if !same(Kind::LeftParenthesis, tokens.kind()) {
+            return Ok((Vec::new(self.alloc), 0));
+        }
+        tokens.take();
+        self.arguments(tokens)
+    }
+}
+
+/// Whether a test may be called by this token.
+#[tactic(auto, unfolding(crate::specs::Arguments::is_test_name))]
+fn is_test_name(kind: Kind) -> bool
+    ensures { result ≡ call.is_test_name kind }
+{
+    is_word(kind) && !same(Kind::Not, kind)
+}

@@ -1,0 +1,157 @@
+// Calls and their arguments.
+ghost use Rattle.std.specs.Prelude.{◌≡◌};
+ghost use Rattle.tera_syntax_tree.specs.Tree.{NoArguments};
+ghost use Rattle.tera_syntax_tree.specs.View.{arguments_of, expr_of};
+ghost use Rattle.tera_syntax_tokens.specs.Input.{left, text};
+ghost use Rattle.tera_syntax_tokens.specs.Takes.{Takes, input};
+ghost use Rattle.tera_syntax_expressions.specs.Arguments as call;
+ghost use Rattle.tera_syntax_expressions.specs.Expressions as spec;
+ghost use Rattle.tera_syntax_expressions.specs.Parts.{Nests, deep_of, place_of};
+
+use crate::expressions::Deep;
+use crate::levels::kinds;
+use crate::reader::{Reader, larger};
+use std::alloc::Global;
+use std::cmp::Ordering;
+use tera_errors::Span;
+use tera_syntax_tokens::input::{Tokens, is_word, same};
+use tera_syntax_tokens::refusal::{Reason, Refusal};
+use tera_syntax_tokens::token::Kind;
+use tera_syntax_tree::{Argument, Expression};
+
+impl<'s, F: Fn(Global, &mut Tokens<'_, 's>, usize, u8) -> Result<Deep<'s>, Refusal>> Reader<F> {
+    /// `name(name = x, ..)`
+    #[tactic(auto, unfolding(crate::specs::Expressions::call))]
+    pub(crate) fn call(&self, tokens: &mut Tokens<'_, 's>) -> Result<Deep<'s>, Refusal>
+        requires { Nests self.now.below (F.pre self.now.expr) (F.post self.now.expr) }
+        ensures { let meant = spec.call self.now.limit (spec.expr self.now.below) in
+            Takes deep_of (meant (input tokens.old)) result tokens.new }
+    {
+        let start = tokens.start();
+        let name = tokens.text();
+        tokens.take();
+        tokens.take();
+        let (arguments, depth) = self.arguments(tokens)?;
+        let expression = make_call(name, arguments, tokens.span(start));
+        self.node(tokens, depth, expression)
+    }
+
+    /// Arguments with commas between, up to a parenthesis, and the greatest depth.
+    #[tactic(auto, unfolding(crate::specs::Expressions::arguments_from))]
+    pub(crate) fn arguments(
+        &self,
+        tokens: &mut Tokens<'_, 's>,
+    ) -> Result<(Vec<Argument<'s>>, usize), Refusal>
+        requires { Nests self.now.below (F.pre self.now.expr) (F.post self.now.expr) }
+        ensures { let meant = spec.arguments_from self.now.limit (spec.expr self.now.below)
+            (left (input tokens.old)) NoArguments 0 (input tokens.old) in
+            Takes (λ p. (arguments_of p.0.items, p.1)) meant result tokens.new }
+    {
+        let mut found = Vec::new(self.alloc);
+        let mut depth = 0usize;
+        for _turn in 0..tokens.left() {
+            if same(Kind::RightParenthesis, tokens.kind()) {
+                tokens.take();
+                return Ok((found, depth));
+            }
+            let x = match self.argument(tokens, &mut found) {
+                Ok(x) => x,
+                Err(refusal) => return Err(refusal),
+            };
+            depth = larger(depth, x);
+            if !same(Kind::Comma, tokens.kind()) {
+                match tokens.expect(Kind::RightParenthesis) {
+                    Ok(()) => return Ok((found, depth)),
+                    Err(refusal) => return Err(refusal),
+                }
+            }
+            tokens.take();
+        }
+        Err(tokens.refuse(Reason::Expected(Kind::RightParenthesis)))
+    }
+
+    /// An argument, at its place among those that were read, and its depth.
+    #[tactic(auto, unfolding(crate::specs::Expressions::argument))]
+    pub(crate) fn argument(
+        &self,
+        tokens: &mut Tokens<'_, 's>,
+        found: &mut Vec<Argument<'s>>,
+    ) -> Result<usize, Refusal>
+        requires { Nests self.now.below (F.pre self.now.expr) (F.post self.now.expr) }
+        ensures { let meant = spec.argument self.now.limit (spec.expr self.now.below)
+            (arguments_of found.old.items) (input tokens.old) in
+            Takes (λ d. (arguments_of found.new.items, d)) meant result tokens.new }
+    {
+        let name = tokens.text();
+        let at = match place(found.as_slice(), name) {
+            Some(at) => at,
+            None => return Err(tokens.refuse(Reason::Expected(Kind::RightParenthesis))),
+        };
+        match argument_name(tokens) {
+            Ok(()) => {}
+            Err(refusal) => return Err(refusal),
+        }
+        let x = match self.sub(tokens, 0) {
+            Ok(x) => x,
+            Err(refusal) => return Err(refusal),
+        };
+        found.insert(
+            at,
+            Argument {
+                name,
+                value: Box::into_inner(x.expression),
+            },
+        )?;
+        Ok(x.depth)
+    }
+}
+
+/// Goes past the name of an argument and the sign behind it.
+#[tactic(auto, unfolding(crate::specs::Arguments::argument_name))]
+pub(crate) fn argument_name(tokens: &mut Tokens<'_, '_>) -> Result<(), Refusal>
+    ensures { let meant = call.argument_name (input tokens.old) in
+        Takes (λ done. text (input tokens.old)) meant result tokens.new }
+{
+    if !is_word(tokens.kind()) {
+        return Err(tokens.refuse(Reason::Expected(Kind::Name)));
+    }
+    tokens.take();
+    tokens.expect(Kind::Assign)
+}
+
+/// Where an argument of this name is put among others. None where one of them has it.
+fn place(found: &[Argument<'_>], name: &str) -> Option<usize>
+    ensures { result ≡ place_of name.now (arguments_of found.now) }
+{
+    let mut at = 0usize;
+    for argument in found {
+        match name.as_bytes().cmp(&argument.name.as_bytes()) {
+            Ordering::Less => return Some(at),
+            Ordering::Equal => return None,
+            Ordering::Greater => at += 1,
+        }
+    }
+    Some(at)
+}
+
+/// Whether a call begins here.
+#[inline]
+#[tactic(auto, unfolding(crate::specs::Arguments::is_call))]
+pub(crate) fn is_call(tokens: &Tokens<'_, '_>) -> bool
+    ensures { result ≡ call.is_call (input tokens.now) }
+{
+    same(Kind::LeftParenthesis, kinds(tokens).1)
+}
+
+/// The form of a call by this name.
+#[tactic(auto, unfolding(crate::specs::Arguments::call_form))]
+fn make_call<'s>(name: &'s str, arguments: Vec<Argument<'s>>, span: Span) -> Expression<'s>
+    ensures { let all = arguments_of arguments.entry.items in
+        expr_of result ≡ call.call_form name.now all span }
+{
+    if name == "super" {
+        Expression::above(arguments, span)
+    } else {
+        Expression::call(name, arguments, span)
+    }
+}

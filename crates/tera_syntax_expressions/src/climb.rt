@@ -1,0 +1,142 @@
+// The climb from operator to operator. Open parentheses are counted, and cost no call.
+ghost use Rattle.std.specs.Prelude.{◌≡◌, [], Some};
+ghost use Rattle.tera_syntax_tokens.specs.Input.{left, starts};
+ghost use Rattle.tera_syntax_tokens.specs.Takes.{Takes, input};
+ghost use Rattle.tera_syntax_tokens.specs.Token.{tokens_of};
+ghost use Rattle.tera_syntax_expressions.specs.Expressions as spec;
+ghost use Rattle.tera_syntax_expressions.specs.Parts.{Nests, deep_of};
+
+use crate::expressions::Deep;
+use crate::levels::{begins, gives, goes_on};
+use crate::operators::Infix::{self, Binary};
+use crate::reader::Reader;
+use std::alloc::Global;
+use tera_syntax_tokens::input::{Tokens, same, start_at};
+use tera_syntax_tokens::refusal::{Reason, Refusal};
+use tera_syntax_tokens::token::{Kind, Token};
+use tera_syntax_tree::BinaryOperator as Operator;
+
+impl<'s, F: Fn(Global, &mut Tokens<'_, 's>, usize, u8) -> Result<Deep<'s>, Refusal>> Reader<F> {
+    /// An expression of this level or above.
+    #[tactic(auto, unfolding(crate::specs::Expressions::level, crate::specs::Expressions::level_with))]
+    pub(crate) fn level(&self, tokens: &mut Tokens<'_, 's>, floor: u8) -> Result<Deep<'s>, Refusal>
+        requires { Nests self.now.below (F.pre self.now.expr) (F.post self.now.expr) }
+        ensures { Takes deep_of (spec.level self.now.limit (spec.expr self.now.below) floor
+            (input tokens.old)) result tokens.new }
+    {
+        let run = tokens.ahead;
+        let turns = tokens.left();
+        let opens = opened(tokens);
+        let begins = begins(tokens.kind());
+        if begins < if opens == 0 { floor } else { 0 } {
+            return Err(tokens.refuse(Reason::NoExpression));
+        }
+        let start = tokens.start();
+        let x = self.head(tokens)?;
+        self.climb(tokens, run, opens, turns, floor, begins, start, x)
+    }
+
+    /// Goes on with operators, and closes the parentheses that are open. `run` begins with these.
+    #[tactic(auto, unfolding(crate::specs::Expressions::climb))]
+    pub(crate) fn climb(
+        &self,
+        tokens: &mut Tokens<'_, 's>,
+        run: &[Token<'_>],
+        mut opens: usize,
+        turns: usize,
+        floor: u8,
+        mut have: u8,
+        mut start: usize,
+        mut x: Deep<'s>,
+    ) -> Result<Deep<'s>, Refusal>
+        requires { Nests self.now.below (F.pre self.now.expr) (F.post self.now.expr) }
+        ensures { Takes deep_of (spec.climb self.now.limit (spec.expr self.now.below) turns
+            (starts (tokens_of run.now) opens) floor have start (deep_of x.entry)
+            (input tokens.old)) result tokens.new }
+    {
+        for _turn in 0..turns {
+            let kind = tokens.kind();
+            if goes_on(if opens == 0 { floor } else { 0 }, have, kind) {
+                x = self.operation(tokens, start, x)?;
+                have = gives(kind);
+            } else if opens == 0 {
+                return Ok(x);
+            } else {
+                match tokens.expect(Kind::RightParenthesis) {
+                    Ok(()) => {
+                        opens -= 1;
+                        start = start_at(run, opens);
+                        have = 11;
+                    }
+                    Err(refusal) => return Err(refusal),
+                }
+            }
+        }
+        Err(tokens.refuse(Reason::NoOperation))
+    }
+
+    /// What the next token goes on to.
+    #[tactic(auto, unfolding(crate::specs::Expressions::operation, crate::specs::Expressions::applied))]
+    pub(crate) fn operation(
+        &self,
+        tokens: &mut Tokens<'_, 's>,
+        start: usize,
+        x: Deep<'s>,
+    ) -> Result<Deep<'s>, Refusal>
+        requires { Nests self.now.below (F.pre self.now.expr) (F.post self.now.expr) }
+        ensures { Takes deep_of (spec.operation self.now.limit (spec.expr self.now.below) start
+            (deep_of x.entry) (input tokens.old)) result tokens.new }
+    {
+        match tokens.kind() {
+            Kind::If => self.choice(tokens, start, x),
+            Kind::Not => self.not_in(tokens, start, x),
+            Kind::Is => self.test(tokens, start, x),
+            Kind::Bar => self.filter(tokens, start, x),
+            Kind::Dot => self.attribute(tokens, false, start, x),
+            Kind::OptionalDot => self.attribute(tokens, true, start, x),
+            Kind::LeftBracket => self.subscript(tokens, false, start, x),
+            Kind::OptionalBracket => self.subscript(tokens, true, start, x),
+            Kind::Or => self.infixed(tokens, 2, Infix::Or, start, x),
+            Kind::And => self.infixed(tokens, 3, Infix::And, start, x),
+            Kind::Equal => self.infixed(tokens, 5, Binary(Operator::Equal), start, x),
+            Kind::NotEqual => self.infixed(tokens, 5, Binary(Operator::NotEqual), start, x),
+            Kind::Less => self.infixed(tokens, 5, Binary(Operator::Less), start, x),
+            Kind::Greater => self.infixed(tokens, 5, Binary(Operator::Greater), start, x),
+            Kind::LessOrEqual => self.infixed(tokens, 5, Binary(Operator::LessOrEqual), start, x),
+            Kind::GreaterOrEqual => self.infixed(
+                tokens,
+                5,
+                Binary(Operator::GreaterOrEqual),
+                start,
+                x,
+            ),
+            Kind::In => self.infixed(tokens, 5, Binary(Operator::In), start, x),
+            Kind::Tilde => self.infixed(tokens, 6, Binary(Operator::Concat), start, x),
+            Kind::Plus => self.infixed(tokens, 7, Binary(Operator::Add), start, x),
+            Kind::Minus => self.infixed(tokens, 7, Binary(Operator::Subtract), start, x),
+            Kind::Star => self.infixed(tokens, 8, Binary(Operator::Multiply), start, x),
+            Kind::Slash => self.infixed(tokens, 8, Binary(Operator::Divide), start, x),
+            Kind::FloorSlash => self.infixed(tokens, 8, Binary(Operator::FloorDivide), start, x),
+            Kind::Percent => self.infixed(tokens, 8, Binary(Operator::Remainder), start, x),
+            Kind::Power => self.infixed(tokens, 8, Binary(Operator::Power), start, x),
+            _ => Err(tokens.refuse(Reason::NoOperation)),
+        }
+    }
+}
+
+/// How many parentheses open here. They are taken.
+#[tactic(auto, unfolding(crate::specs::Expressions::opened))]
+pub(crate) fn opened(tokens: &mut Tokens<'_, '_>) -> usize
+    ensures { spec.opened (left (input tokens.old)) [] (input tokens.old)
+        ≡ Some (starts (tokens_of tokens.old.ahead.now) result, input tokens.new) }
+{
+    let mut count = 0usize;
+    for _turn in 0..tokens.left() {
+        if !same(Kind::LeftParenthesis, tokens.kind()) {
+            break;
+        }
+        tokens.take();
+        count += 1;
+    }
+    count
+}

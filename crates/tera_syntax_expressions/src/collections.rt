@@ -1,0 +1,275 @@
+// Arrays and maps.
+ghost use Rattle.std.specs.Prelude.{◌≡◌, IfOk};
+ghost use Rattle.tera_syntax_tree.specs.Tree.{NoEntries};
+ghost use Rattle.tera_syntax_tree.specs.View.{items_of, entries_of, literal_option};
+ghost use Rattle.tera_syntax_tokens.specs.Input.{kind, left, same};
+ghost use Rattle.tera_syntax_tokens.specs.Takes.{Takes, input};
+ghost use Rattle.tera_syntax_expressions.specs.Expressions as spec;
+ghost use Rattle.tera_syntax_expressions.specs.Keys.{key_at};
+ghost use Rattle.tera_syntax_expressions.specs.Parts.{TakesItem, TakesEntry, Nests, deep_of};
+
+use crate::expressions::Deep;
+use crate::reader::{Reader, larger};
+use std::alloc::{AllocError, Global};
+use tera_syntax_tokens::input::{Tokens, same};
+use tera_syntax_tokens::literal::{integer, literal};
+use tera_syntax_tokens::refusal::{Reason, Refusal};
+use tera_syntax_tokens::token::Kind;
+use tera_syntax_tree::{Entry, Expression, Item, LiteralKey};
+
+impl<'s, F: Fn(Global, &mut Tokens<'_, 's>, usize, u8) -> Result<Deep<'s>, Refusal>> Reader<F> {
+    /// What stands behind a bracket: an array, or a comprehension where `for` follows the first expression.
+    #[tactic(auto, unfolding(crate::specs::Expressions::bracketed))]
+    pub(crate) fn bracketed(
+        &self,
+        tokens: &mut Tokens<'_, 's>,
+        start: usize,
+    ) -> Result<Deep<'s>, Refusal>
+        requires { Nests self.now.below (F.pre self.now.expr) (F.post self.now.expr) }
+        ensures { let meant = spec.bracketed self.now.limit (spec.expr self.now.below) start in
+            Takes deep_of (meant (input tokens.old)) result tokens.new }
+    {
+        if same(Kind::RightBracket, tokens.kind()) {
+            tokens.take();
+            let expression = Expression::array(Vec::new(self.alloc), tokens.span(start));
+            return self.node(tokens, 0, expression);
+        }
+        let is_spread = take_dots(tokens);
+        let x = self.sub(tokens, 0)?;
+        if !is_spread && same(Kind::For, tokens.kind()) {
+            self.comprehension(tokens, start, x)
+        } else {
+            self.array(tokens, start, is_spread, x)
+        }
+    }
+
+    /// `[x, ..]`, from behind the first item.
+    #[tactic(auto, unfolding(crate::specs::Expressions::array))]
+    pub(crate) fn array(
+        &self,
+        tokens: &mut Tokens<'_, 's>,
+        start: usize,
+        is_spread: bool,
+        x: Deep<'s>,
+    ) -> Result<Deep<'s>, Refusal>
+        requires { Nests self.now.below (F.pre self.now.expr) (F.post self.now.expr) }
+        ensures { let meant = spec.array self.now.limit (spec.expr self.now.below) start is_spread
+            (deep_of x.entry) in Takes deep_of (meant (input tokens.old)) result tokens.new }
+    {
+        let mut found = Vec::new(self.alloc);
+        let depth = x.depth;
+        found.push(Item {
+            is_spread,
+            value: Box::into_inner(x.expression),
+        })?;
+        let (items, depth) = self.items_behind(tokens, found, depth)?;
+        let expression = Expression::array(items, tokens.span(start));
+        self.node(tokens, depth, expression)
+    }
+
+    /// All items, from behind the first, and the greatest depth.
+    #[tactic(auto, unfolding(crate::specs::Expressions::items_behind))]
+    pub(crate) fn items_behind(
+        &self,
+        tokens: &mut Tokens<'_, 's>,
+        found: Vec<Item<'s>>,
+        depth: usize,
+    ) -> Result<(Vec<Item<'s>>, usize), Refusal>
+        requires { Nests self.now.below (F.pre self.now.expr) (F.post self.now.expr) }
+        ensures { let meant = spec.items_behind self.now.limit (spec.expr self.now.below)
+            (items_of found.entry.items) depth in
+            Takes (λ p. (items_of p.0.items, p.1)) (meant (input tokens.old)) result tokens.new }
+    {
+        if same(Kind::Comma, tokens.kind()) {
+            tokens.take();
+            return self.items(tokens, found, depth);
+        }
+        tokens.expect(Kind::RightBracket)?;
+        Ok((found, depth))
+    }
+
+    /// Items with commas between, up to a bracket, behind those that were read.
+    #[tactic(auto, unfolding(crate::specs::Expressions::items_from))]
+    pub(crate) fn items(
+        &self,
+        tokens: &mut Tokens<'_, 's>,
+        mut found: Vec<Item<'s>>,
+        mut depth: usize,
+    ) -> Result<(Vec<Item<'s>>, usize), Refusal>
+        requires { Nests self.now.below (F.pre self.now.expr) (F.post self.now.expr) }
+        ensures { let meant = spec.items_from self.now.limit (spec.expr self.now.below)
+            (left (input tokens.old)) (items_of found.entry.items) depth in
+            Takes (λ p. (items_of p.0.items, p.1)) (meant (input tokens.old)) result tokens.new }
+    {
+        for _turn in 0..tokens.left() {
+            if same(Kind::RightBracket, tokens.kind()) {
+                tokens.take();
+                return Ok((found, depth));
+            }
+            let x = match self.item(tokens, &mut found) {
+                Ok(x) => x,
+                Err(refusal) => return Err(refusal),
+            };
+            depth = larger(depth, x);
+            if !same(Kind::Comma, tokens.kind()) {
+                match tokens.expect(Kind::RightBracket) {
+                    Ok(()) => return Ok((found, depth)),
+                    Err(refusal) => return Err(refusal),
+                }
+            }
+            tokens.take();
+        }
+        Err(tokens.refuse(Reason::Expected(Kind::RightBracket)))
+    }
+
+    /// An item, behind those that were read, and its depth.
+    pub(crate) fn item(
+        &self,
+        tokens: &mut Tokens<'_, 's>,
+        found: &mut Vec<Item<'s>>,
+    ) -> Result<usize, Refusal>
+        requires { Nests self.now.below (F.pre self.now.expr) (F.post self.now.expr) }
+        ensures { TakesItem (spec.expr self.now.below 0 (spec.behind_dots (input tokens.old)))
+            (same Kind.Spread (kind (input tokens.old)))
+            found.old.items found.new.items result tokens.new }
+    {
+        let is_spread = take_dots(tokens);
+        let x = self.sub(tokens, 0)?;
+        found.push(Item {
+            is_spread,
+            value: Box::into_inner(x.expression),
+        })?;
+        Ok(x.depth)
+    }
+
+    /// `{"key": x, ..}`
+    #[tactic(auto, unfolding(crate::specs::Expressions::map))]
+    pub(crate) fn map(&self, tokens: &mut Tokens<'_, 's>) -> Result<Deep<'s>, Refusal>
+        requires { Nests self.now.below (F.pre self.now.expr) (F.post self.now.expr) }
+        ensures { Takes deep_of (spec.map self.now.limit (spec.expr self.now.below)
+            (input tokens.old)) result tokens.new }
+    {
+        let start = tokens.start();
+        tokens.take();
+        let (entries, depth) = self.entries(tokens)?;
+        let expression = Expression::map(entries, tokens.span(start));
+        self.node(tokens, depth, expression)
+    }
+
+    /// Entries with commas between, up to a brace, and the greatest depth.
+    #[tactic(auto, unfolding(crate::specs::Expressions::entries_from))]
+    pub(crate) fn entries(
+        &self,
+        tokens: &mut Tokens<'_, 's>,
+    ) -> Result<(Vec<Entry<'s>>, usize), Refusal>
+        requires { Nests self.now.below (F.pre self.now.expr) (F.post self.now.expr) }
+        ensures { Takes (λ p. (entries_of p.0.items, p.1))
+            (spec.entries_from self.now.limit (spec.expr self.now.below) (left (input tokens.old))
+            NoEntries 0 (input tokens.old)) result tokens.new }
+    {
+        let mut found = Vec::new(self.alloc);
+        let mut depth = 0usize;
+        for _turn in 0..tokens.left() {
+            if same(Kind::RightBrace, tokens.kind()) {
+                tokens.take();
+                return Ok((found, depth));
+            }
+            let x = match self.entry(tokens, &mut found) {
+                Ok(x) => x,
+                Err(refusal) => return Err(refusal),
+            };
+            depth = larger(depth, x);
+            if !same(Kind::Comma, tokens.kind()) {
+                match tokens.expect(Kind::RightBrace) {
+                    Ok(()) => return Ok((found, depth)),
+                    Err(refusal) => return Err(refusal),
+                }
+            }
+            tokens.take();
+        }
+        Err(tokens.refuse(Reason::Expected(Kind::RightBrace)))
+    }
+
+    /// An entry, behind those that were read, and its depth.
+    pub(crate) fn entry(
+        &self,
+        tokens: &mut Tokens<'_, 's>,
+        found: &mut Vec<Entry<'s>>,
+    ) -> Result<usize, Refusal>
+        requires { Nests self.now.below (F.pre self.now.expr) (F.post self.now.expr) }
+        ensures { TakesEntry (spec.entry_key (input tokens.old)) (spec.expr self.now.below 0)
+            found.old.items found.new.items result tokens.new }
+    {
+        let key = match entry_key(self.alloc, tokens) {
+            Ok(key) => key,
+            Err(refusal) => return Err(refusal),
+        };
+        let x = match self.sub(tokens, 0) {
+            Ok(x) => x,
+            Err(refusal) => return Err(refusal),
+        };
+        found.push(Entry {
+            key,
+            value: Box::into_inner(x.expression),
+        })?;
+        Ok(x.depth)
+    }
+}
+
+/// Takes the key of an entry and its colon, or the dots of a map that is spread.
+#[tactic(auto, unfolding(crate::specs::Expressions::entry_key))]
+pub(crate) fn entry_key<'s>(
+    alloc: Global,
+    tokens: &mut Tokens<'_, 's>,
+) -> Result<Option<LiteralKey<'s>>, Refusal>
+    ensures { Takes literal_option (spec.entry_key (input tokens.old)) result tokens.new }
+{
+    if same(Kind::Spread, tokens.kind()) {
+        tokens.take();
+        return Ok(None);
+    }
+    match key_at(alloc, tokens)? {
+        Some(key) => {
+            tokens.take();
+            tokens.expect(Kind::Colon)?;
+            Ok(Some(key))
+        }
+        None => Err(tokens.refuse(Reason::NoExpression)),
+    }
+}
+
+/// The key that the next token is: a text, an integer, true or false.
+#[tactic(auto, unfolding(crate::specs::Keys::key_at))]
+pub(crate) fn key_at<'s>(
+    alloc: Global,
+    tokens: &Tokens<'_, 's>,
+) -> Result<Option<LiteralKey<'s>>, AllocError>
+    ensures { IfOk result (λ o. literal_option o ≡ key_at (input tokens.now)) }
+{
+    match tokens.kind() {
+        Kind::Text => match literal(alloc, tokens.text())? {
+            Some(text) => Ok(Some(LiteralKey::Text(text))),
+            None => Ok(None),
+        },
+        Kind::Int => match integer(tokens.text()) {
+            Some(value) => Ok(Some(LiteralKey::Int(value))),
+            None => Ok(None),
+        },
+        Kind::True => Ok(Some(LiteralKey::Bool(true))),
+        Kind::False => Ok(Some(LiteralKey::Bool(false))),
+        _ => Ok(None),
+    }
+}
+
+/// Takes the dots of an item that is spread.
+pub(crate) fn take_dots(tokens: &mut Tokens<'_, '_>) -> bool
+    ensures value { result ≡ same Kind.Spread (kind (input tokens.old)) }
+    ensures rest { input tokens.new ≡ spec.behind_dots (input tokens.old) }
+{
+    if same(Kind::Spread, tokens.kind()) {
+        tokens.take();
+        true
+    } else {
+        false
+    }
+}

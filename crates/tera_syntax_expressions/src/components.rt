@@ -1,0 +1,228 @@
+// Components that are called, and their attributes.
+ghost use Rattle.std.specs.Prelude.{◌≡◌};
+ghost use Rattle.tera_syntax_tree.specs.Tree.{NoEntries};
+ghost use Rattle.tera_syntax_tree.specs.View.{entries_of};
+ghost use Rattle.tera_syntax_tokens.specs.Input.{left};
+ghost use Rattle.tera_syntax_tokens.specs.Takes.{Takes, input};
+ghost use Rattle.tera_syntax_expressions.specs.Arguments as call;
+ghost use Rattle.tera_syntax_expressions.specs.Expressions as spec;
+ghost use Rattle.tera_syntax_expressions.specs.Parts.{Nests, deep_of};
+
+use crate::arguments::argument_name;
+use crate::expressions::{Deep, expr};
+use crate::reader::{Reader, larger};
+use std::alloc::Global;
+use tera_syntax_tokens::input::{Tokens, is_word, same};
+use tera_syntax_tokens::literal::literal;
+use tera_syntax_tokens::refusal::{Reason, Refusal};
+use tera_syntax_tokens::token::Kind;
+use tera_syntax_tree::{Entry, Expression, LiteralKey, Quoted};
+
+/// Attributes up to where none begins, no deeper than `limit`, and the greatest depth.
+#[tactic(auto, unfolding(crate::specs::Expressions::attributes))]
+pub fn attributes<'s>(
+    alloc: Global,
+    tokens: &mut Tokens<'_, 's>,
+    limit: usize,
+) -> Result<(Vec<Entry<'s>>, usize), Refusal>
+    ensures { let meant = spec.attributes limit (input tokens.old) in
+        Takes (λ p. (entries_of p.0.items, p.1)) meant result tokens.new }
+{
+    let reader = Reader {
+        alloc,
+        limit,
+        below: limit,
+        expr,
+    };
+    let (found, depth) = reader.attributes(tokens)?;
+    if depth > limit {
+        return Err(tokens.refuse(Reason::TooDeep));
+    }
+    Ok((found, depth))
+}
+
+impl<'s, F: Fn(Global, &mut Tokens<'_, 's>, usize, u8) -> Result<Deep<'s>, Refusal>> Reader<F> {
+    /// `<name attributes/>`
+    #[tactic(auto, unfolding(crate::specs::Expressions::component))]
+    pub(crate) fn component(&self, tokens: &mut Tokens<'_, 's>) -> Result<Deep<'s>, Refusal>
+        requires { Nests self.now.below (F.pre self.now.expr) (F.post self.now.expr) }
+        ensures { let meant = spec.component self.now.limit (spec.expr self.now.below) in
+            Takes deep_of (meant (input tokens.old)) result tokens.new }
+    {
+        let start = tokens.start();
+        tokens.take();
+        if !is_word(tokens.kind()) {
+            return Err(tokens.refuse(Reason::Expected(Kind::Name)));
+        }
+        let name = tokens.text();
+        tokens.take();
+        let (attributes, depth) = self.attributes(tokens)?;
+        self.component_of(tokens, start, name, attributes, depth)
+    }
+
+    /// A component whose attributes were read, up to its end.
+    #[tactic(auto, unfolding(crate::specs::Expressions::component_of))]
+    pub(crate) fn component_of(
+        &self,
+        tokens: &mut Tokens<'_, 's>,
+        start: usize,
+        name: &'s str,
+        attributes: Vec<Entry<'s>>,
+        depth: usize,
+    ) -> Result<Deep<'s>, Refusal>
+        ensures { let all = entries_of attributes.entry.items in
+            let reader = spec.component_of self.now.limit (spec.expr self.now.below) in
+            let meant = reader start name.now all depth in
+            Takes deep_of (meant (input tokens.old)) result tokens.new }
+    {
+        tokens.expect(Kind::TagEnd)?;
+        let expression = Expression::component(name, attributes, tokens.span(start));
+        self.node(tokens, depth, expression)
+    }
+
+    /// Attributes up to where none begins, and the greatest depth.
+    #[tactic(auto, unfolding(crate::specs::Expressions::attributes_from))]
+    pub(crate) fn attributes(
+        &self,
+        tokens: &mut Tokens<'_, 's>,
+    ) -> Result<(Vec<Entry<'s>>, usize), Refusal>
+        requires { Nests self.now.below (F.pre self.now.expr) (F.post self.now.expr) }
+        ensures { let meant = spec.attributes_from self.now.limit (spec.expr self.now.below)
+            (left (input tokens.old)) NoEntries 0 (input tokens.old) in
+            Takes (λ p. (entries_of p.0.items, p.1)) meant result tokens.new }
+    {
+        let mut found = Vec::new(self.alloc);
+        let mut depth = 0usize;
+        for _turn in 0..tokens.left() {
+            if !begins_attribute(tokens.kind()) {
+                return Ok((found, depth));
+            }
+            let x = match self.any_attribute(tokens, &mut found) {
+                Ok(x) => x,
+                Err(refusal) => return Err(refusal),
+            };
+            depth = larger(depth, x);
+        }
+        Ok((found, depth))
+    }
+
+    /// An attribute, behind those that were read, and its depth.
+    #[tactic(auto, unfolding(crate::specs::Expressions::any_attribute))]
+    pub(crate) fn any_attribute(
+        &self,
+        tokens: &mut Tokens<'_, 's>,
+        found: &mut Vec<Entry<'s>>,
+    ) -> Result<usize, Refusal>
+        requires { Nests self.now.below (F.pre self.now.expr) (F.post self.now.expr) }
+        ensures { let meant = spec.any_attribute self.now.limit (spec.expr self.now.below)
+            (entries_of found.old.items) (input tokens.old) in
+            Takes (λ d. (entries_of found.new.items, d)) meant result tokens.new }
+    {
+        if same(Kind::LeftBrace, tokens.kind()) {
+            tokens.take();
+            self.spread_attribute(tokens, found)
+        } else {
+            self.named_attribute(tokens, found)
+        }
+    }
+
+    /// `name="text"` or `name={x}`
+    #[tactic(auto, unfolding(crate::specs::Expressions::named_attribute))]
+    pub(crate) fn named_attribute(
+        &self,
+        tokens: &mut Tokens<'_, 's>,
+        found: &mut Vec<Entry<'s>>,
+    ) -> Result<usize, Refusal>
+        requires { Nests self.now.below (F.pre self.now.expr) (F.post self.now.expr) }
+        ensures { let meant = spec.named_attribute self.now.limit (spec.expr self.now.below)
+            (entries_of found.old.items) (input tokens.old) in
+            Takes (λ d. (entries_of found.new.items, d)) meant result tokens.new }
+    {
+        let name = tokens.text();
+        match argument_name(tokens) {
+            Ok(()) => {}
+            Err(refusal) => return Err(refusal),
+        }
+        let x = match self.attribute_value(tokens) {
+            Ok(x) => x,
+            Err(refusal) => return Err(refusal),
+        };
+        let key = Some(LiteralKey::Text(Quoted::Lent(name)));
+        let value = Box::into_inner(x.expression);
+        found.push(Entry { key, value })?;
+        Ok(x.depth)
+    }
+
+    /// `{...x}`, from behind its brace.
+    #[tactic(auto, unfolding(crate::specs::Expressions::spread_attribute))]
+    pub(crate) fn spread_attribute(
+        &self,
+        tokens: &mut Tokens<'_, 's>,
+        found: &mut Vec<Entry<'s>>,
+    ) -> Result<usize, Refusal>
+        requires { Nests self.now.below (F.pre self.now.expr) (F.post self.now.expr) }
+        ensures { let meant = spec.spread_attribute self.now.limit (spec.expr self.now.below)
+            (entries_of found.old.items) (input tokens.old) in
+            Takes (λ d. (entries_of found.new.items, d)) meant result tokens.new }
+    {
+        match tokens.expect(Kind::Spread) {
+            Ok(()) => {}
+            Err(refusal) => return Err(refusal),
+        }
+        let x = match self.braced(tokens) {
+            Ok(x) => x,
+            Err(refusal) => return Err(refusal),
+        };
+        let value = Box::into_inner(x.expression);
+        found.push(Entry { key: None, value })?;
+        Ok(x.depth)
+    }
+
+    /// The value of an attribute: a text, or an expression in braces.
+    #[tactic(auto, unfolding(crate::specs::Expressions::attribute_value))]
+    pub(crate) fn attribute_value(&self, tokens: &mut Tokens<'_, 's>) -> Result<Deep<'s>, Refusal>
+        requires { Nests self.now.below (F.pre self.now.expr) (F.post self.now.expr) }
+        ensures { let meant = spec.attribute_value self.now.limit (spec.expr self.now.below) in
+            Takes deep_of (meant (input tokens.old)) result tokens.new }
+    {
+        if same(Kind::LeftBrace, tokens.kind()) {
+            tokens.take();
+            return self.braced(tokens);
+        }
+        if !same(Kind::Text, tokens.kind()) {
+            return Err(tokens.refuse(Reason::Expected(Kind::Text)));
+        }
+        let start = tokens.start();
+        match literal(self.alloc, tokens.text())? {
+            Some(text) => {
+                tokens.take();
+                let span = tokens.span(start);
+                Ok(Deep {
+                    expression: Box::new(self.alloc, Expression::Text { text, span })?,
+                    depth: 1,
+                })
+            }
+            None => Err(tokens.refuse(Reason::NoExpression)),
+        }
+    }
+
+    /// An expression that a brace closes.
+    #[tactic(auto, unfolding(crate::specs::Expressions::braced))]
+    pub(crate) fn braced(&self, tokens: &mut Tokens<'_, 's>) -> Result<Deep<'s>, Refusal>
+        requires { Nests self.now.below (F.pre self.now.expr) (F.post self.now.expr) }
+        ensures { let meant = spec.braced self.now.limit (spec.expr self.now.below) in
+            Takes deep_of (meant (input tokens.old)) result tokens.new }
+    {
+        let x = self.sub(tokens, 0)?;
+        tokens.expect(Kind::RightBrace)?;
+        Ok(x)
+    }
+}
+
+/// Whether an attribute begins with a token of this kind.
+#[tactic(auto, unfolding(crate::specs::Arguments::begins_attribute))]
+fn begins_attribute(kind: Kind) -> bool
+    ensures { result ≡ call.begins_attribute kind }
+{
+    is_word(kind) || same(Kind::LeftBrace, kind)
+}

@@ -1,0 +1,100 @@
+// Comprehensions.
+ghost use Rattle.std.specs.Prelude.{◌≡◌, IfOk, option_copied};
+ghost use Rattle.tera_syntax_tree.specs.View.{expr_of};
+ghost use Rattle.tera_syntax_tokens.specs.Takes.{Takes, input};
+ghost use Rattle.tera_syntax_expressions.specs.Expressions as spec;
+ghost use Rattle.tera_syntax_expressions.specs.Parts.{Nests, deep_of, names_of, part_of};
+
+use crate::expressions::Deep;
+use crate::headings::{LoopNames, names};
+use crate::reader::{Part, Reader, larger};
+use std::alloc::{AllocError, Global};
+use tera_syntax_tokens::input::{Tokens, same};
+use tera_syntax_tokens::refusal::Refusal;
+use tera_syntax_tokens::token::Kind;
+use tera_syntax_tree::{Expression, Heading};
+
+impl<'s, F: Fn(Global, &mut Tokens<'_, 's>, usize, u8) -> Result<Deep<'s>, Refusal>> Reader<F> {
+    /// `[x for name in y]`, from `for` on.
+    #[tactic(auto, unfolding(crate::specs::Expressions::comprehension))]
+    pub(crate) fn comprehension(
+        &self,
+        tokens: &mut Tokens<'_, 's>,
+        start: usize,
+        x: Deep<'s>,
+    ) -> Result<Deep<'s>, Refusal>
+        requires { Nests self.now.below (F.pre self.now.expr) (F.post self.now.expr) }
+        ensures { let meant = spec.comprehension self.now.limit (spec.expr self.now.below) start
+            (deep_of x.entry) in Takes deep_of (meant (input tokens.old)) result tokens.new }
+    {
+        tokens.take();
+        let names = names(tokens)?;
+        let target = self.sub(tokens, 1)?;
+        let only = self.condition(tokens)?;
+        self.comprehension_made(tokens, start, x, names, target, only)
+    }
+
+    /// The condition of a comprehension, if it is written, and how deep it is.
+    #[tactic(auto, unfolding(crate::specs::Expressions::condition))]
+    pub(crate) fn condition(&self, tokens: &mut Tokens<'_, 's>) -> Result<Part<'s>, Refusal>
+        requires { Nests self.now.below (F.pre self.now.expr) (F.post self.now.expr) }
+        ensures { let meant = spec.condition self.now.limit (spec.expr self.now.below) in
+            Takes part_of (meant (input tokens.old)) result tokens.new }
+    {
+        if !same(Kind::If, tokens.kind()) {
+            return Ok(Part {
+                expression: None,
+                depth: 0,
+            });
+        }
+        tokens.take();
+        let x = self.sub(tokens, 1)?;
+        Ok(Part {
+            expression: Some(x.expression),
+            depth: x.depth,
+        })
+    }
+
+    /// A comprehension whose parts were read, up to its bracket.
+    #[tactic(auto, unfolding(crate::specs::Expressions::comprehension_made))]
+    pub(crate) fn comprehension_made(
+        &self,
+        tokens: &mut Tokens<'_, 's>,
+        start: usize,
+        x: Deep<'s>,
+        names: LoopNames<'s>,
+        target: Deep<'s>,
+        only: Part<'s>,
+    ) -> Result<Deep<'s>, Refusal>
+        ensures { let meant = spec.comprehension_made self.now.limit (spec.expr self.now.below)
+            start (deep_of x.entry) (names_of names.entry)
+            (deep_of target.entry) (part_of only.entry) in
+            Takes deep_of (meant (input tokens.old)) result tokens.new }
+    {
+        tokens.expect(Kind::RightBracket)?;
+        let (a, b, c) = (x.depth, target.depth, only.depth);
+        let depth = larger(a, larger(b, c));
+        let heading = heading(self.alloc, names, target.expression)?;
+        let span = tokens.span(start);
+        let expression = Expression::comprehension(x.expression, heading, only.expression, span);
+        self.node(tokens, depth, expression)
+    }
+}
+
+/// The names of a loop and what it goes over, in one.
+fn heading<'s>(
+    alloc: Global,
+    names: LoopNames<'s>,
+    target: Box<Expression<'s>>,
+) -> Result<Box<Heading<'s>>, AllocError>
+    ensures key { IfOk result (λ h. option_copied h.value.key ≡ option_copied names.entry.key) }
+    ensures name { IfOk result (λ h. h.value.name.now ≡ names.entry.name.now) }
+    ensures target { IfOk result (λ h. expr_of h.value.target ≡ expr_of target.entry.value) }
+{
+    let heading = Heading {
+        key: names.key,
+        name: names.name,
+        target: Box::into_inner(target),
+    };
+    Ok(Box::new(alloc, heading)?)
+}

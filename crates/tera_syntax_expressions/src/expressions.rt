@@ -1,0 +1,45 @@
+// Expressions, to a greatest depth.
+ghost use Rattle.tera_syntax_tokens.specs.Takes.{Takes, input};
+ghost use Rattle.tera_syntax_expressions.specs.Expressions as spec;
+ghost use Rattle.tera_syntax_expressions.specs.Parts.{deep_of};
+
+use crate::levels::stands_alone;
+use crate::reader::Reader;
+use std::alloc::Global;
+use tera_syntax_tokens::input::Tokens;
+use tera_syntax_tokens::refusal::{Reason, Refusal};
+use tera_syntax_tree::Expression;
+
+/// An expression, and how deep it is.
+#[derive(Drop)]
+pub struct Deep<'s> {
+    /// The expression.
+    pub expression: Box<Expression<'s>>,
+    /// How deep it is: a leaf is 1 deep.
+    pub depth: usize,
+}
+
+/// An expression of this level or above, no deeper than `limit`.
+pub fn expr<'s>(
+    alloc: Global,
+    tokens: &mut Tokens<'_, 's>,
+    limit: usize,
+    floor: u8,
+) -> Result<Deep<'s>, Refusal>
+    ensures { Takes deep_of (spec.expr limit floor (input tokens.old)) result tokens.new }
+{
+    if limit == 0 {
+        return Err(tokens.refuse(Reason::TooDeep));
+    }
+    let reader = Reader {
+        alloc,
+        limit,
+        below: limit - 1,
+        expr,
+    };
+    if stands_alone(tokens, floor) {
+        reader.leaf(tokens)
+    } else {
+        reader.level(tokens, floor)
+    }
+}

@@ -1,0 +1,99 @@
+// Filters of what a body puts out, as the head of a section has them.
+ghost use Rattle.tera_syntax_tree.specs.Tree.{NoFilters};
+ghost use Rattle.tera_syntax_tree.specs.View.{filters_of};
+ghost use Rattle.tera_syntax_tokens.specs.Input.{left};
+ghost use Rattle.tera_syntax_tokens.specs.Takes.{Takes, input};
+ghost use Rattle.tera_syntax_expressions.specs.Expressions as spec;
+ghost use Rattle.tera_syntax_expressions.specs.Parts.{Nests};
+
+use crate::expressions::{Deep, expr};
+use crate::reader::{Reader, larger};
+use std::alloc::Global;
+use tera_syntax_tokens::input::{Tokens, is_word, same};
+use tera_syntax_tokens::refusal::{Reason, Refusal};
+use tera_syntax_tokens::token::Kind;
+use tera_syntax_tree::SectionFilter;
+
+/// Filters with bars between, no deeper than `limit`, and the greatest depth.
+#[tactic(auto, unfolding(crate::specs::Expressions::filters))]
+pub fn filters<'s>(
+    alloc: Global,
+    tokens: &mut Tokens<'_, 's>,
+    limit: usize,
+) -> Result<(Vec<SectionFilter<'s>>, usize), Refusal>
+    ensures { let meant = spec.filters limit (input tokens.old) in
+        Takes (λ p. (filters_of p.0.items, p.1)) meant result tokens.new }
+{
+    if limit == 0 {
+        return Err(tokens.refuse(Reason::TooDeep));
+    }
+    let reader = Reader {
+        alloc,
+        limit,
+        below: limit - 1,
+        expr,
+    };
+    reader.filters(tokens)
+}
+
+impl<'s, F: Fn(Global, &mut Tokens<'_, 's>, usize, u8) -> Result<Deep<'s>, Refusal>> Reader<F> {
+    /// Filters with bars between, and the greatest depth.
+    #[tactic(auto, unfolding(crate::specs::Expressions::filters_from))]
+    pub(crate) fn filters(
+        &self,
+        tokens: &mut Tokens<'_, 's>,
+    ) -> Result<(Vec<SectionFilter<'s>>, usize), Refusal>
+        requires { Nests self.now.below (F.pre self.now.expr) (F.post self.now.expr) }
+        ensures { let meant = spec.filters_from self.now.limit (spec.expr self.now.below)
+            (left (input tokens.old)) NoFilters 0 (input tokens.old) in
+            Takes (λ p. (filters_of p.0.items, p.1)) meant result tokens.new }
+    {
+        let mut found = Vec::new(self.alloc);
+        let mut depth = 0usize;
+        for _turn in 0..tokens.left() {
+            let x = match self.section_filter(tokens, &mut found) {
+                Ok(x) => x,
+                Err(refusal) => return Err(refusal),
+            };
+            depth = larger(depth, x);
+            if !same(Kind::Bar, tokens.kind()) {
+                return Ok((found, depth));
+            }
+            tokens.take();
+        }
+        Err(tokens.refuse(Reason::Expected(Kind::Name)))
+    }
+
+    /// A filter, behind those that were read, and its depth.
+    #[tactic(auto, unfolding(crate::specs::Expressions::section_filter))]
+    pub(crate) fn section_filter(
+        &self,
+        tokens: &mut Tokens<'_, 's>,
+        found: &mut Vec<SectionFilter<'s>>,
+    ) -> Result<usize, Refusal>
+        requires { Nests self.now.below (F.pre self.now.expr) (F.post self.now.expr) }
+        ensures { let meant = spec.section_filter self.now.limit (spec.expr self.now.below)
+            (filters_of found.old.items) (input tokens.old) in
+            Takes (λ d. (filters_of found.new.items, d)) meant result tokens.new }
+    {
+        if !is_word(tokens.kind()) {
+            return Err(tokens.refuse(Reason::Expected(Kind::Name)));
+        }
+        let start = tokens.start();
+        let name = tokens.text();
+        tokens.take();
+        let (arguments, depth) = match self.given(tokens) {
+            Ok(given) => given,
+            Err(refusal) => return Err(refusal),
+        };
+        if depth >= self.limit {
+            return Err(tokens.refuse(Reason::TooDeep));
+        }
+        found.push(SectionFilter {
+            name,
+            arguments,
+            span: tokens.span(start),
+        })?;
+        Ok(depth + 1)
+    }
+}

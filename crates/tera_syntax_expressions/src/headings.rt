@@ -1,0 +1,59 @@
+// What a loop calls its items.
+ghost use Rattle.std.specs.Prelude.{option_copied};
+ghost use Rattle.tera_syntax_tokens.specs.Takes.{Takes, input};
+ghost use Rattle.tera_syntax_expressions.specs.Headings as spec;
+ghost use Rattle.tera_syntax_expressions.specs.Parts.{names_of};
+
+use tera_syntax_tokens::input::{Tokens, same};
+use tera_syntax_tokens::refusal::{Reason, Refusal};
+use tera_syntax_tokens::token::Kind;
+
+/// What a loop calls its items, and their keys where it names them.
+#[derive(Drop)]
+pub struct LoopNames<'s> {
+    /// The key's name stands first in the text.
+    pub key: Option<&'s str>,
+    /// The value's.
+    pub name: &'s str,
+}
+
+/// Takes the names of a loop and the `in` behind them.
+#[tactic(auto, unfolding(crate::specs::Headings::calls, crate::specs::Headings::calls_behind))]
+pub fn names<'s>(tokens: &mut Tokens<'_, 's>) -> Result<LoopNames<'s>, Refusal>
+    ensures { Takes names_of (spec.calls (input tokens.old)) result tokens.new }
+{
+    let first = name(tokens)?;
+    if !same(Kind::Comma, tokens.kind()) {
+        return called(tokens, None, first);
+    }
+    tokens.take();
+    let value = name(tokens)?;
+    called(tokens, Some(first), value)
+}
+
+/// What stands behind the last name.
+#[tactic(auto, unfolding(crate::specs::Headings::called))]
+fn called<'s>(
+    tokens: &mut Tokens<'_, 's>,
+    key: Option<&'s str>,
+    name: &'s str,
+) -> Result<LoopNames<'s>, Refusal>
+    ensures { let meant = spec.called (option_copied key.entry) name.now in
+        Takes names_of (meant (input tokens.old)) result tokens.new }
+{
+    tokens.expect(Kind::In)?;
+    Ok(LoopNames { key, name })
+}
+
+/// Takes a name.
+#[tactic(auto, unfolding(crate::specs::Headings::name))]
+pub(crate) fn name<'s>(tokens: &mut Tokens<'_, 's>) -> Result<&'s str, Refusal>
+    ensures { Takes (λ t. t.now) (spec.name (input tokens.old)) result tokens.new }
+{
+    if !same(Kind::Name, tokens.kind()) {
+        return Err(tokens.refuse(Reason::Expected(Kind::Name)));
+    }
+    let name = tokens.text();
+    tokens.take();
+    Ok(name)
+}

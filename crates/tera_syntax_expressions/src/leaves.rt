@@ -1,0 +1,173 @@
+// What stands before the first operator.
+ghost use Rattle.tera_syntax_tree.specs.Tree.{Boolean};
+ghost use Rattle.tera_syntax_tokens.specs.Input.{next, span, start};
+ghost use Rattle.tera_syntax_tokens.specs.Takes.{Takes, input};
+ghost use Rattle.tera_syntax_expressions.specs.Expressions as spec;
+ghost use Rattle.tera_syntax_expressions.specs.Loops as loops;
+ghost use Rattle.std.specs.Prelude.{◌≡◌, option_map};
+ghost use Rattle.tera_syntax_expressions.specs.Parts.{Nests, deep_of};
+
+use crate::arguments::is_call;
+use crate::expressions::Deep;
+use crate::reader::Reader;
+use std::alloc::Global;
+use tera_syntax_tokens::input::{Tokens, same};
+use tera_syntax_tokens::literal::{integer, literal};
+use tera_syntax_tokens::refusal::{Reason, Refusal};
+use tera_syntax_tokens::token::Kind;
+use tera_syntax_tree::Expression;
+
+impl<'s, F: Fn(Global, &mut Tokens<'_, 's>, usize, u8) -> Result<Deep<'s>, Refusal>> Reader<F> {
+    /// What stands before the first operator.
+    #[tactic(auto, unfolding(crate::specs::Expressions::head))]
+    pub(crate) fn head(&self, tokens: &mut Tokens<'_, 's>) -> Result<Deep<'s>, Refusal>
+        requires { Nests self.now.below (F.pre self.now.expr) (F.post self.now.expr) }
+        ensures { Takes deep_of (spec.head self.now.limit (spec.expr self.now.below)
+            (input tokens.old)) result tokens.new }
+    {
+        match tokens.kind() {
+            Kind::Minus => self.negated(tokens),
+            Kind::Not => self.inverted(tokens),
+            Kind::Int => self.int(tokens),
+            Kind::Text => self.text(tokens),
+            Kind::True => self.constant(tokens, true),
+            Kind::False => self.constant(tokens, false),
+            Kind::Nothing => {
+                let start = tokens.start();
+                tokens.take();
+                let span = tokens.span(start);
+                self.node(tokens, 0, Expression::None { span })
+            }
+            Kind::Name => self.name(tokens),
+            Kind::LeftBracket => {
+                let start = tokens.start();
+                tokens.take();
+                self.bracketed(tokens, start)
+            }
+            Kind::LeftBrace => self.map(tokens),
+            Kind::Less => self.component(tokens),
+            _ => Err(tokens.refuse(Reason::NoExpression)),
+        }
+    }
+
+    /// A name or an integer, and what else may begin an expression.
+    #[tactic(auto, unfolding(crate::specs::Expressions::head))]
+    pub(crate) fn leaf(&self, tokens: &mut Tokens<'_, 's>) -> Result<Deep<'s>, Refusal>
+        requires { Nests self.now.below (F.pre self.now.expr) (F.post self.now.expr) }
+        ensures { Takes deep_of (spec.head self.now.limit (spec.expr self.now.below)
+            (input tokens.old)) result tokens.new }
+    {
+        match tokens.kind() {
+            Kind::Name => self.name(tokens),
+            Kind::Int => self.int(tokens),
+            _ => self.head(tokens),
+        }
+    }
+
+    /// An integer.
+    #[inline(always)]
+    pub(crate) fn int(&self, tokens: &mut Tokens<'_, 's>) -> Result<Deep<'s>, Refusal>
+        ensures { Takes deep_of (spec.head_by self.now.limit (spec.expr self.now.below) Kind.Int
+            (input tokens.old)) result tokens.new }
+    {
+        let start = tokens.start();
+        match integer(tokens.text()) {
+            Some(value) => {
+                tokens.take();
+                let span = tokens.span(start);
+                self.node(tokens, 0, Expression::Int { value, span })
+            }
+            None => Err(tokens.refuse(Reason::LargeInteger)),
+        }
+    }
+
+    /// A text in quotes.
+    pub(crate) fn text(&self, tokens: &mut Tokens<'_, 's>) -> Result<Deep<'s>, Refusal>
+        ensures { Takes deep_of (spec.head_by self.now.limit (spec.expr self.now.below) Kind.Text
+            (input tokens.old)) result tokens.new }
+    {
+        let start = tokens.start();
+        match literal(self.alloc, tokens.text())? {
+            Some(text) => {
+                tokens.take();
+                let span = tokens.span(start);
+                self.node(tokens, 0, Expression::Text { text, span })
+            }
+            None => Err(tokens.refuse(Reason::NoExpression)),
+        }
+    }
+
+    /// A name, or a call.
+    #[inline(always)]
+    pub(crate) fn name(&self, tokens: &mut Tokens<'_, 's>) -> Result<Deep<'s>, Refusal>
+        requires { Nests self.now.below (F.pre self.now.expr) (F.post self.now.expr) }
+        ensures { Takes deep_of (spec.head_by self.now.limit (spec.expr self.now.below) Kind.Name
+            (input tokens.old)) result tokens.new }
+    {
+        let start = tokens.start();
+        if let Some(name) = loop_name(tokens) {
+            tokens.take();
+            tokens.take();
+            tokens.take();
+            let span = tokens.span(start);
+            return self.node(tokens, 0, Expression::Name { name, span });
+        }
+        if is_call(tokens) {
+            return self.call(tokens);
+        }
+        let name = tokens.text();
+        tokens.take();
+        let span = tokens.span(start);
+        self.node(tokens, 0, Expression::Name { name, span })
+    }
+
+    /// `true` or `false`.
+    pub(crate) fn constant(
+        &self,
+        tokens: &mut Tokens<'_, 's>,
+        value: bool,
+    ) -> Result<Deep<'s>, Refusal>
+        ensures { Takes deep_of (spec.node self.now.limit 0
+            (Boolean value (span (start (input tokens.old)) (next (input tokens.old))))
+            (next (input tokens.old))) result tokens.new }
+    {
+        let start = tokens.start();
+        tokens.take();
+        let span = tokens.span(start);
+        self.node(tokens, 0, Expression::Bool { value, span })
+    }
+}
+
+/// The name that a loop gives to the next three tokens, if these are one.
+#[tactic(auto, unfolding(crate::specs::Loops::loop_name))]
+fn loop_name(tokens: &Tokens<'_, '_>) -> Option<&'static str>
+    ensures { option_map (λ s. s.now) result ≡ loops.loop_name (input tokens.now) }
+{
+    if !tokens.in_loop || tokens.text() != "loop" {
+        return None;
+    }
+    let mut ahead = Tokens {
+        ahead: tokens.ahead,
+        last: tokens.last,
+        in_loop: tokens.in_loop,
+    };
+    ahead.take();
+    if !same(Kind::Dot, ahead.kind()) {
+        return None;
+    }
+    ahead.take();
+    loop_word(ahead.text())
+}
+
+fn loop_word(word: &str) -> Option<&'static str>
+    ensures { option_map (λ s. s.now) result ≡ loops.loop_word word.now }
+{
+    match word {
+        "index" => Some("__tera_loop_index"),
+        "index0" => Some("__tera_loop_index0"),
+        "first" => Some("__tera_loop_first"),
+        "last" => Some("__tera_loop_last"),
+        "length" => Some("__tera_loop_length"),
+        _ => None,
+    }
+}

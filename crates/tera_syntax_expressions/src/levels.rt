@@ -1,0 +1,122 @@
+// Levels of precedence: which tokens go on with an expression, and to what.
+ghost use Rattle.std.specs.Prelude.{◌≡◌, ◌&&◌, ◌||◌, ℕ, IsTrue, nat_le, not};
+ghost use Rattle.tera_syntax_tokens.specs.Input.{Parser, kind, next, same as spec_same};
+ghost use Rattle.tera_syntax_tokens.specs.declared.token.Kind.TheVariants as Kind;
+ghost use Rattle.tera_syntax_tokens.specs.Takes.{input};
+ghost use Rattle.tera_syntax_expressions.specs.Expressions as spec;
+
+use tera_syntax_tokens::input::{Tokens, same};
+use tera_syntax_tokens::token::Kind;
+
+/// The least level of an expression before this token that goes on with it, and 12 where none does.
+#[tactic(auto, unfolding(crate::specs::Expressions::needs))]
+pub(crate) fn needs(kind: Kind) -> u8
+    ensures { result ≡ spec.needs kind }
+{
+    match kind {
+        Kind::If | Kind::Or => 1,
+        Kind::And => 2,
+        Kind::Not
+        | Kind::Equal
+        | Kind::NotEqual
+        | Kind::Less
+        | Kind::Greater
+        | Kind::LessOrEqual
+        | Kind::GreaterOrEqual
+        | Kind::In
+        | Kind::Is => 4,
+        Kind::Tilde => 5,
+        Kind::Plus | Kind::Minus => 6,
+        Kind::Star | Kind::Slash | Kind::FloorSlash | Kind::Percent => 7,
+        Kind::Power | Kind::Bar => 10,
+        Kind::Dot | Kind::OptionalDot | Kind::LeftBracket | Kind::OptionalBracket => 11,
+        _ => 12,
+    }
+}
+
+/// The level of what this token goes on to.
+#[tactic(auto, unfolding(crate::specs::Expressions::gives))]
+pub(crate) fn gives(kind: Kind) -> u8
+    ensures { result ≡ spec.gives kind }
+{
+    match kind {
+        Kind::If => 0,
+        Kind::Or => 1,
+        Kind::And => 2,
+        Kind::Not
+        | Kind::Equal
+        | Kind::NotEqual
+        | Kind::Less
+        | Kind::Greater
+        | Kind::LessOrEqual
+        | Kind::GreaterOrEqual
+        | Kind::In
+        | Kind::Is => 4,
+        Kind::Tilde => 5,
+        Kind::Plus | Kind::Minus => 6,
+        Kind::Star | Kind::Slash | Kind::FloorSlash | Kind::Percent => 7,
+        Kind::Power => 9,
+        Kind::Bar => 10,
+        Kind::Dot | Kind::OptionalDot | Kind::LeftBracket | Kind::OptionalBracket => 11,
+        _ => 12,
+    }
+}
+
+/// Whether an expression of the level `have` goes on with this token, to the level `floor` or above.
+#[inline(always)]
+pub(crate) fn goes_on(floor: u8, have: u8, kind: Kind) -> bool
+    ensures { result ≡ spec.goes_on floor have kind }
+{
+    floor <= gives(kind) && needs(kind) <= have
+}
+
+/// The level of what begins with this token.
+#[tactic(auto, unfolding(crate::specs::Expressions::begins))]
+pub(crate) fn begins(kind: Kind) -> u8
+    ensures { result ≡ spec.begins kind }
+{
+    match kind {
+        Kind::Not => 3,
+        Kind::Minus => 8,
+        _ => 11,
+    }
+}
+
+/// The kinds of the next two tokens.
+#[inline]
+#[tactic(auto, unfolding(tera_syntax_tokens::specs::Input::kind, tera_syntax_tokens::specs::Input::next))]
+pub(crate) fn kinds(tokens: &Tokens<'_, '_>) -> (Kind, Kind)
+    ensures first { result.0 ≡ kind (input tokens.now) }
+    ensures second { result.1 ≡ kind (next (input tokens.now)) }
+{
+    match tokens.ahead {
+        [] => (Kind::End, Kind::End),
+        [first] => (first.kind, Kind::End),
+        [first, second, ..] => (first.kind, second.kind),
+    }
+}
+
+/// Whether the first of two tokens is a name or an integer, and the second neither goes on with it to this level nor
+/// opens the arguments of a call.
+fn is_alone(floor: u8, first: Kind, second: Kind) -> bool
+    ensures { let is_leaf = spec_same Kind.Name first || spec_same Kind.Int first in
+        let goes_on = spec.goes_on floor 11 second in
+        let is_called = spec_same Kind.LeftParenthesis second in
+        result ≡ (((is_leaf && nat_le floor 11) && not goes_on) && not is_called) }
+{
+    (same(Kind::Name, first) || same(Kind::Int, first))
+        && floor <= 11
+        && !goes_on(floor, 11, second)
+        && !same(Kind::LeftParenthesis, second)
+}
+
+/// Whether the next operand is a name or an integer, and nothing goes on with it to this level. Most are.
+#[inline]
+pub(crate) fn stands_alone(tokens: &Tokens<'_, '_>, floor: u8) -> bool
+    ensures { let here = input tokens.now in
+        IsTrue result → (limit : ℕ) → (sub : ℕ → Parser spec.Deep) →
+        spec.level limit sub floor here ≡ spec.head limit sub here }
+{
+    let (first, second) = kinds(tokens);
+    is_alone(floor, first, second)
+}

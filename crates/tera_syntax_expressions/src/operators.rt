@@ -1,0 +1,177 @@
+// Operators of one, two and three operands.
+ghost use Rattle.std.specs.Prelude.{◌≡◌};
+ghost use Rattle.tera_syntax_tree.specs.Tree.{Not, Negate};
+ghost use Rattle.tera_syntax_tree.specs.View.{expr_of};
+ghost use Rattle.tera_syntax_tokens.specs.Takes.{Takes, input};
+ghost use Rattle.tera_syntax_expressions.specs.Expressions as spec;
+ghost use Rattle.tera_syntax_expressions.specs.Parts.{Nests, deep_of, infix_of};
+
+use crate::expressions::Deep;
+use crate::reader::{Reader, larger};
+use std::alloc::Global;
+use tera_errors::Span;
+use tera_syntax_tokens::input::{Tokens, same};
+use tera_syntax_tokens::refusal::{Reason, Refusal};
+use tera_syntax_tokens::token::Kind;
+use tera_syntax_tree::{BinaryOperator, Expression};
+
+/// What stands between two operands.
+#[derive(Clone, Copy)]
+pub(crate) enum Infix {
+    /// `and`, which reads its right operand only where it has to.
+    And,
+    /// `or`, likewise.
+    Or,
+    /// An operator that works on two values.
+    Binary(BinaryOperator),
+}
+
+impl<'s, F: Fn(Global, &mut Tokens<'_, 's>, usize, u8) -> Result<Deep<'s>, Refusal>> Reader<F> {
+    /// `-x`
+    #[tactic(auto, unfolding(crate::specs::Expressions::prefixed))]
+    pub(crate) fn negated(&self, tokens: &mut Tokens<'_, 's>) -> Result<Deep<'s>, Refusal>
+        requires { Nests self.now.below (F.pre self.now.expr) (F.post self.now.expr) }
+        ensures { Takes deep_of (spec.prefixed self.now.limit (spec.expr self.now.below) 8 Negate
+            (input tokens.old)) result tokens.new }
+    {
+        let start = tokens.start();
+        tokens.take();
+        let x = self.sub(tokens, 8)?;
+        let depth = x.depth;
+        let expression = Expression::negate(x.expression, tokens.span(start));
+        self.node(tokens, depth, expression)
+    }
+
+    /// `not x`
+    #[tactic(auto, unfolding(crate::specs::Expressions::prefixed))]
+    pub(crate) fn inverted(&self, tokens: &mut Tokens<'_, 's>) -> Result<Deep<'s>, Refusal>
+        requires { Nests self.now.below (F.pre self.now.expr) (F.post self.now.expr) }
+        ensures { Takes deep_of (spec.prefixed self.now.limit (spec.expr self.now.below) 3 Not
+            (input tokens.old)) result tokens.new }
+    {
+        let start = tokens.start();
+        tokens.take();
+        let x = self.sub(tokens, 3)?;
+        let depth = x.depth;
+        let expression = Expression::not(x.expression, tokens.span(start));
+        self.node(tokens, depth, expression)
+    }
+
+    /// An operator and what stands behind it, of this level or above.
+    #[tactic(auto, unfolding(crate::specs::Expressions::infixed))]
+    pub(crate) fn infixed(
+        &self,
+        tokens: &mut Tokens<'_, 's>,
+        level: u8,
+        op: Infix,
+        start: usize,
+        x: Deep<'s>,
+    ) -> Result<Deep<'s>, Refusal>
+        requires { Nests self.now.below (F.pre self.now.expr) (F.post self.now.expr) }
+        ensures { Takes deep_of (spec.infixed self.now.limit (spec.expr self.now.below) level
+            (infix_of op) start (deep_of x.entry) (input tokens.old)) result tokens.new }
+    {
+        tokens.take();
+        let y = self.sub(tokens, level)?;
+        let (a, b) = (x.depth, y.depth);
+        let depth = larger(a, b);
+        let span = tokens.span(start);
+        let expression = make_infix(op, x.expression, y.expression, span);
+        self.node(tokens, depth, expression)
+    }
+
+    /// The same, for an operator that works on two values.
+    #[tactic(auto, unfolding(crate::specs::Expressions::applied))]
+    pub(crate) fn binary(
+        &self,
+        tokens: &mut Tokens<'_, 's>,
+        level: u8,
+        operator: BinaryOperator,
+        start: usize,
+        x: Deep<'s>,
+    ) -> Result<Deep<'s>, Refusal>
+        requires { Nests self.now.below (F.pre self.now.expr) (F.post self.now.expr) }
+        ensures { Takes deep_of (spec.applied self.now.limit (spec.expr self.now.below)
+            level operator start (deep_of x.entry) (input tokens.old)) result tokens.new }
+    {
+        self.infixed(tokens, level, Infix::Binary(operator), start, x)
+    }
+
+    /// `x not in y`
+    #[tactic(auto, unfolding(crate::specs::Expressions::not_in))]
+    pub(crate) fn not_in(
+        &self,
+        tokens: &mut Tokens<'_, 's>,
+        start: usize,
+        x: Deep<'s>,
+    ) -> Result<Deep<'s>, Refusal>
+        requires { Nests self.now.below (F.pre self.now.expr) (F.post self.now.expr) }
+        ensures { Takes deep_of (spec.not_in self.now.limit (spec.expr self.now.below) start
+            (deep_of x.entry) (input tokens.old)) result tokens.new }
+    {
+        tokens.take();
+        if !same(Kind::In, tokens.kind()) {
+            return Err(tokens.refuse(Reason::Expected(Kind::In)));
+        }
+        let y = self.binary(tokens, 5, BinaryOperator::In, start, x)?;
+        let depth = y.depth;
+        let expression = Expression::not(y.expression, tokens.span(start));
+        self.node(tokens, depth, expression)
+    }
+
+    /// `x if y else z`, from `if` on.
+    #[tactic(auto, unfolding(crate::specs::Expressions::choice))]
+    pub(crate) fn choice(
+        &self,
+        tokens: &mut Tokens<'_, 's>,
+        start: usize,
+        x: Deep<'s>,
+    ) -> Result<Deep<'s>, Refusal>
+        requires { Nests self.now.below (F.pre self.now.expr) (F.post self.now.expr) }
+        ensures { Takes deep_of (spec.choice self.now.limit (spec.expr self.now.below) start
+            (deep_of x.entry) (input tokens.old)) result tokens.new }
+    {
+        tokens.take();
+        let y = self.sub(tokens, 1)?;
+        tokens.expect(Kind::Else)?;
+        self.other(tokens, start, x, y)
+    }
+
+    /// What stands behind `else`.
+    #[tactic(auto, unfolding(crate::specs::Expressions::other))]
+    pub(crate) fn other(
+        &self,
+        tokens: &mut Tokens<'_, 's>,
+        start: usize,
+        x: Deep<'s>,
+        y: Deep<'s>,
+    ) -> Result<Deep<'s>, Refusal>
+        requires { Nests self.now.below (F.pre self.now.expr) (F.post self.now.expr) }
+        ensures { Takes deep_of (spec.other self.now.limit (spec.expr self.now.below) start
+            (deep_of x.entry) (deep_of y.entry) (input tokens.old)) result tokens.new }
+    {
+        let z = self.sub(tokens, 0)?;
+        let (a, b, c) = (x.depth, y.depth, z.depth);
+        let depth = larger(a, larger(b, c));
+        let span = tokens.span(start);
+        let expression = Expression::ternary(x.expression, y.expression, z.expression, span);
+        self.node(tokens, depth, expression)
+    }
+}
+
+/// The form that an operator makes of its operands.
+pub(crate) fn make_infix<'s>(
+    op: Infix,
+    left: Box<Expression<'s>>,
+    right: Box<Expression<'s>>,
+    span: Span,
+) -> Expression<'s>
+    ensures { expr_of result ≡ infix_of op (expr_of left.entry.value) (expr_of right.entry.value)
+        span }
+{
+    match op {
+        Infix::And => Expression::and(left, right, span),
+        Infix::Or => Expression::or(left, right, span),
+        Infix::Binary(operator) => Expression::binary(operator, left, right, span),
+    }
+}

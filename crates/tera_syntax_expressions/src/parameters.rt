@@ -1,0 +1,223 @@
+// Signatures of components.
+ghost use Rattle.std.specs.Prelude.{◌≡◌, [], map, option_copied, IfOk, IfErr};
+ghost use Rattle.tera_syntax_tree.specs.Definitions.{has_fit_parameters};
+ghost use Rattle.tera_syntax_tree.specs.View.{parameter_of, signature_of, written_option};
+ghost use Rattle.tera_syntax_tokens.specs.Input.{left};
+ghost use Rattle.tera_syntax_tokens.specs.Takes.{Takes, input};
+ghost use Rattle.tera_syntax_tokens.specs.declared.refusal.Refusal.TheVariants.{OutOfMemory};
+ghost use Rattle.tera_syntax_expressions.specs.Parameters as spec;
+ghost use Rattle.tera_syntax_expressions.specs.Parts.{parameters_of};
+
+use crate::headings::name;
+use crate::literals::written;
+use std::alloc::Global;
+use std::collections::HashSet;
+use tera_syntax_tokens::input::{Tokens, is_word, same};
+use tera_syntax_tokens::refusal::{Reason, Refusal};
+use tera_syntax_tokens::token::Kind;
+use tera_syntax_tree::{ArgumentType, Literal, Parameter, Signature};
+
+/// A component's name and its parameters in parentheses, with defaults no deeper than `limit`.
+#[tactic(auto, unfolding(crate::specs::Parameters::signature, crate::specs::Parameters::signature_from))]
+pub fn signature<'s>(
+    alloc: Global,
+    tokens: &mut Tokens<'_, 's>,
+    limit: usize,
+) -> Result<Signature<'s>, Refusal>
+    ensures { Takes signature_of (spec.signature limit (input tokens.old)) result tokens.new }
+{
+    if !is_word(tokens.kind()) {
+        return Err(tokens.refuse(Reason::Expected(Kind::Name)));
+    }
+    let name = tokens.text();
+    tokens.take();
+    tokens.expect(Kind::LeftParenthesis)?;
+    let (parameters, rest) = all_parameters(alloc, tokens, limit)?;
+    tokens.expect(Kind::RightParenthesis)?;
+    let signature = Signature {
+        name,
+        parameters,
+        rest,
+    };
+    if !is_fit(alloc, &signature)? {
+        return Err(tokens.refuse(Reason::ParameterTwice));
+    }
+    Ok(signature)
+}
+
+/// What stands in the parentheses.
+#[tactic(auto, unfolding(crate::specs::Parameters::all_parameters))]
+fn all_parameters<'s>(
+    alloc: Global,
+    tokens: &mut Tokens<'_, 's>,
+    limit: usize,
+) -> Result<(Vec<Parameter<'s>>, Option<&'s str>), Refusal>
+    ensures { let meant = spec.all_parameters limit (input tokens.old) in
+        Takes parameters_of meant result tokens.new }
+{
+    if same(Kind::RightParenthesis, tokens.kind()) {
+        return Ok((Vec::new(alloc), None));
+    }
+    parameters(alloc, tokens, limit)
+}
+
+/// Parameters with commas between, and last at will the name of what takes all other arguments.
+#[tactic(auto, unfolding(crate::specs::Parameters::parameters_from))]
+fn parameters<'s>(
+    alloc: Global,
+    tokens: &mut Tokens<'_, 's>,
+    limit: usize,
+) -> Result<(Vec<Parameter<'s>>, Option<&'s str>), Refusal>
+    ensures { let i = input tokens.old in
+        Takes parameters_of (spec.parameters_from limit (left i) [] i) result tokens.new }
+{
+    let mut found = Vec::new(alloc);
+    for _turn in 0..tokens.left() {
+        if same(Kind::Spread, tokens.kind()) {
+            tokens.take();
+            match name(tokens) {
+                Ok(rest) => return Ok((found, Some(rest))),
+                Err(refusal) => return Err(refusal),
+            }
+        }
+        match with_parameter(alloc, tokens, limit, &mut found) {
+            Ok(()) => {}
+            Err(refusal) => return Err(refusal),
+        }
+        if !same(Kind::Comma, tokens.kind()) {
+            return Ok((found, None));
+        }
+        tokens.take();
+    }
+    Err(tokens.refuse(Reason::Expected(Kind::Name)))
+}
+
+/// A parameter, behind those that were read.
+#[tactic(auto, unfolding(crate::specs::Parameters::with_parameter))]
+fn with_parameter<'s>(
+    alloc: Global,
+    tokens: &mut Tokens<'_, 's>,
+    limit: usize,
+    found: &mut Vec<Parameter<'s>>,
+) -> Result<(), Refusal>
+    ensures { let before = map parameter_of found.old.items in
+        let meant = spec.with_parameter limit before (input tokens.old) in
+        Takes (λ done. map parameter_of found.new.items) meant result tokens.new }
+{
+    let parameter = match parameter(alloc, tokens, limit) {
+        Ok(parameter) => parameter,
+        Err(refusal) => return Err(refusal),
+    };
+    found.push(parameter)?;
+    Ok(())
+}
+
+/// `name: Type = default`, or the same with `@` before it.
+#[tactic(auto, unfolding(crate::specs::Parameters::parameter))]
+fn parameter<'s>(
+    alloc: Global,
+    tokens: &mut Tokens<'_, 's>,
+    limit: usize,
+) -> Result<Parameter<'s>, Refusal>
+    ensures { Takes parameter_of (spec.parameter limit (input tokens.old)) result tokens.new }
+{
+    if same(Kind::At, tokens.kind()) {
+        tokens.take();
+        parameter_by_name(alloc, tokens, limit, true)
+    } else {
+        parameter_by_name(alloc, tokens, limit, false)
+    }
+}
+
+/// A parameter, from its name on.
+#[tactic(auto, unfolding(crate::specs::Parameters::parameter_by_name, crate::specs::Parameters::named_parameter))]
+fn parameter_by_name<'s>(
+    alloc: Global,
+    tokens: &mut Tokens<'_, 's>,
+    limit: usize,
+    is_implicit: bool,
+) -> Result<Parameter<'s>, Refusal>
+    ensures { let meant = spec.parameter_by_name limit is_implicit (input tokens.old) in
+        Takes parameter_of meant result tokens.new }
+{
+    let name = name(tokens)?;
+    let of_type = parameter_type(tokens)?;
+    let default = default_value(alloc, tokens, limit)?;
+    Ok(Parameter {
+        name,
+        is_implicit,
+        of_type,
+        default,
+    })
+}
+
+/// The type of a parameter, if it is written.
+#[tactic(auto, unfolding(crate::specs::Parameters::parameter_type))]
+fn parameter_type(tokens: &mut Tokens<'_, '_>) -> Result<Option<ArgumentType>, Refusal>
+    ensures { Takes (λ t. t) (spec.parameter_type (input tokens.old)) result tokens.new }
+{
+    if !same(Kind::Colon, tokens.kind()) {
+        return Ok(None);
+    }
+    tokens.take();
+    if !is_word(tokens.kind()) {
+        return Err(tokens.refuse(Reason::Expected(Kind::Name)));
+    }
+    match type_of(tokens.text()) {
+        Some(of_type) => {
+            tokens.take();
+            Ok(Some(of_type))
+        }
+        None => Err(tokens.refuse(Reason::NoType)),
+    }
+}
+
+/// The type of this name, whose first letter may be small.
+fn type_of(word: &str) -> Option<ArgumentType>
+    ensures { result ≡ spec.type_of word.now }
+{
+    match word {
+        "String" | "string" => Some(ArgumentType::String),
+        "Bool" | "bool" => Some(ArgumentType::Bool),
+        "Integer" | "integer" => Some(ArgumentType::Integer),
+        "Number" | "number" => Some(ArgumentType::Number),
+        "Array" | "array" => Some(ArgumentType::Array),
+        "Map" | "map" => Some(ArgumentType::Map),
+        _ => None,
+    }
+}
+
+/// The default of a parameter, if it is written.
+#[tactic(auto, unfolding(crate::specs::Parameters::default_value))]
+fn default_value<'s>(
+    alloc: Global,
+    tokens: &mut Tokens<'_, 's>,
+    limit: usize,
+) -> Result<Option<Literal<'s>>, Refusal>
+    ensures { Takes written_option (spec.default_value limit (input tokens.old)) result tokens.new }
+{
+    if !same(Kind::Assign, tokens.kind()) {
+        return Ok(None);
+    }
+    tokens.take();
+    let value = written(alloc, tokens, limit)?;
+    Ok(Some(value))
+}
+
+/// Whether no two parameters have one name, and none is called `body`.
+fn is_fit(alloc: Global, signature: &Signature<'_>) -> Result<bool, Refusal>
+    ensures ok { IfOk result (λ fit. fit ≡ has_fit_parameters (signature_of signature.now)) }
+    ensures lacks { IfErr result (λ refusal. refusal ≡ OutOfMemory) }
+{
+    let mut seen: HashSet<&str> = HashSet::new(alloc);
+    seen.insert("body")?;
+    for parameter in signature.parameters.iter() {
+        if !seen.insert(parameter.name)? {
+            return Ok(false);
+        }
+    }
+    match signature.rest {
+        Some(rest) => Ok(seen.insert(rest)?),
+        None => Ok(true),
+    }
+}

@@ -1,0 +1,69 @@
+// What every form is read with.
+ghost use Rattle.std.specs.Prelude.{◌≡◌, max};
+ghost use Rattle.tera_syntax_tree.specs.View.{expr_of};
+ghost use Rattle.tera_syntax_tokens.specs.Takes.{Takes, input};
+ghost use Rattle.tera_syntax_expressions.specs.Expressions as spec;
+ghost use Rattle.tera_syntax_expressions.specs.Parts.{Nests, deep_of};
+
+use crate::expressions::Deep;
+use std::alloc::Global;
+use tera_syntax_tokens::input::Tokens;
+use tera_syntax_tokens::refusal::{Reason, Refusal};
+use tera_syntax_tree::Expression;
+
+/// A bound of a slice, if it is written, and how deep it is.
+#[derive(Drop)]
+pub(crate) struct Part<'s> {
+    pub(crate) expression: Option<Box<Expression<'s>>>,
+    pub(crate) depth: usize,
+}
+
+/// The reader of expressions of one depth.
+#[derive(Drop)]
+pub(crate) struct Reader<F> {
+    pub(crate) alloc: Global,
+    /// How deep an expression may be.
+    pub(crate) limit: usize,
+    /// How deep its parts may be.
+    pub(crate) below: usize,
+    /// What reads its parts.
+    pub(crate) expr: F,
+}
+
+impl<'s, F: Fn(Global, &mut Tokens<'_, 's>, usize, u8) -> Result<Deep<'s>, Refusal>> Reader<F> {
+    /// A part, of this level or above.
+    pub(crate) fn sub(&self, tokens: &mut Tokens<'_, 's>, floor: u8) -> Result<Deep<'s>, Refusal>
+        requires { Nests self.now.below (F.pre self.now.expr) (F.post self.now.expr) }
+        ensures { Takes deep_of (spec.expr self.now.below floor (input tokens.old))
+            result tokens.new }
+    {
+        (self.expr)(self.alloc, tokens, self.below, floor)
+    }
+
+    /// A form over parts of this depth.
+    #[tactic(auto, unfolding(crate::specs::Expressions::node))]
+    pub(crate) fn node(
+        &self,
+        tokens: &mut Tokens<'_, 's>,
+        depth: usize,
+        expression: Expression<'s>,
+    ) -> Result<Deep<'s>, Refusal>
+        ensures { Takes deep_of (spec.node self.now.limit depth (expr_of expression.entry)
+            (input tokens.old)) result tokens.new }
+    {
+        if depth >= self.limit {
+            return Err(tokens.refuse(Reason::TooDeep));
+        }
+        Ok(Deep {
+            expression: Box::new(self.alloc, expression)?,
+            depth: depth + 1,
+        })
+    }
+}
+
+/// The larger of two depths.
+pub(crate) fn larger(a: usize, b: usize) -> usize
+    ensures { result ≡ max a b }
+{
+    if a < b { b } else { a }
+}

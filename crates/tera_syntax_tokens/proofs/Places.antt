@@ -1,0 +1,146 @@
+-- Places in a text.
+use Rattle.std.proofs.Common.{inl, inr, ◌≡◌, ℕ, zero, suc, ◌+◌, ◌<◌, ◌≤◌, [], ◌∷◌, ◌++◌, Bool, true, false, ◌||◌, ◌==◌, length, take, drop, get_or, refl, ap, sym, ◌∙◌, arith, if◌then◌else◌}
+use Rattle.std.proofs.lemmas.Grind.{common_steps}
+use Rattle.std.proofs.lemmas.List.{drop_more, drop_all, drop-drop, get_or-drop, length-drop, length-append, get_or_append_left, take_at}
+use Rattle.std.proofs.lemmas.Slice.Eq.{starts_is}
+use Rattle.std.proofs.lemmas.Bool.Decides.{Decides-eqb, leb_tells}
+use Rattle.std.proofs.lemmas.Str.{IsCharBoundary-start, IsCharBoundary-from_take, IsCharBoundary-from_rest, IsUtf8-drop}
+use Rattle.std.specs.Str.{IsUtf8, IsCharBoundary}
+use Rattle.memchr.specs.Find.{is_byte, is_byte3}
+use Rattle.tera_errors.specs.Site.{Text}
+use Rattle.tera_syntax_tokens.specs.Bytes.{begins, place, heads}
+
+pub by_order : {P : Type 0} (a b : ℕ) → (a < b → P) → (b ≤ a → P) → P
+by_order a b f g = elim (leb_tells (suc a) b) [ inl p ↦ f p.1 | inr p ↦ g (omega arith) ]
+
+place_head : (test : Text → Bool) (b : ℕ) (bs : Text) → test (b ∷ bs) ≡ true → place test (b ∷ bs) ≡ 0
+unfolding place
+place_head test b bs h = rw h
+
+place_tail : (test : Text → Bool) (b : ℕ) (bs : Text) → test (b ∷ bs) ≡ false → place test (b ∷ bs) ≡ suc (place test bs)
+unfolding place
+place_tail test b bs h = rw h
+
+pub place_here : (test : Text → Bool) (i : ℕ) (text : Text) → i < length text → test (drop i text) ≡ true → place test (drop i text) ≡ 0
+place_here test i text l h =
+    let d = drop_more text i 0 l in
+    rw d (place_head test (get_or text i 0) (drop (i + 1) text) (ap test (sym d) ∙ h))
+
+pub place_later : (test : Text → Bool) (i : ℕ) (text : Text) → i < length text → test (drop i text) ≡ false → place test (drop i text) ≡ suc (place test (drop (i + 1) text))
+place_later test i text l h =
+    let d = drop_more text i 0 l in
+    rw d (place_tail test (get_or text i 0) (drop (i + 1) text) (ap test (sym d) ∙ h))
+
+pub place_end : (test : Text → Bool) (i : ℕ) (text : Text) → length text ≤ i → place test (drop i text) ≡ 0
+unfolding place
+place_end test i text l = let d = drop_all i text l in rw d refl
+
+passes_by : (q : Bool) (test : Text → Bool) (b : ℕ) (bs : Text) → test (b ∷ bs) ≡ q → (place test bs < length bs → test (drop (place test bs) bs) ≡ true)
+    → (if q then 0 else suc (place test bs)) < length (b ∷ bs) → test (drop (if q then 0 else suc (place test bs)) (b ∷ bs)) ≡ true
+passes_by true test b bs e later l = e
+passes_by false test b bs e later l = later (omega arith)
+
+-- there the test is passed
+pub place_passes : (test : Text → Bool) (text : Text) → place test text < length text → test (drop (place test text) text) ≡ true
+unfolding place
+place_passes test [] l = absurd (omega arith)
+place_passes test (b ∷ bs) l = passes_by (test (b ∷ bs)) test b bs refl (place_passes test bs) l
+
+pub place_le : (test : Text → Bool) (text : Text) → place test text ≤ length text
+unfolding place
+place_le test [] = omega arith
+place_le test (b ∷ bs) = let h = place_le test bs in grind (arith, common_steps, h)
+
+pub begins_is : (word text : Text) → begins word text ≡ true → text ≡ word ++ drop (length word) text
+begins_is word text h = (starts_is Decides-eqb text word (begins word text) refl).0 h
+
+pub word_fits : (word text : Text) (i : ℕ) → begins word (drop i text) ≡ true → 0 < length word → i + length word ≤ length text
+word_fits word text i h l =
+    let e : length (drop i text) ≡ length (word ++ drop (length word) (drop i text)) = ap length (begins_is word (drop i text) h) in
+    omega (arith, e, length-drop i text, length-append word (drop (length word) (drop i text)))
+
+pub word_lead : (word text : Text) (i : ℕ) → begins word (drop i text) ≡ true → 0 < length word → get_or text i 0 ≡ get_or word 0 0
+word_lead word text i h l =
+    let e = ap (λ bs. get_or bs 0 0) (begins_is word (drop i text) h) in
+    let p : i + 0 ≡ i = omega arith in
+    ap (λ k. get_or text k 0) (sym p) ∙ sym (get_or-drop i text 0 0) ∙ e ∙ get_or_append_left word (drop (length word) (drop i text)) 0 0 l
+
+-- a text may be cut before a word that stands in it, and behind it
+pub boundary_before : (word text : Text) (i : ℕ) → IsUtf8 word → begins word (drop i text) ≡ true → 0 < length word → IsCharBoundary text i
+boundary_before word text i u h l =
+    let f = word_fits word text i h l in
+    let e = word_lead word text i h l in
+    (omega arith, λ _ high. rw e ((IsCharBoundary-start word u).1 l (rw e at high)))
+
+pub boundary_after : (word text : Text) (i : ℕ) → IsUtf8 text → IsUtf8 word → begins word (drop i text) ≡ true → 0 < length word → IsCharBoundary text (i + length word)
+boundary_after word text i u v h l =
+    let f = word_fits word text i h l in
+    let d : IsUtf8 (drop i text) = IsUtf8-drop text i u (boundary_before word text i v h l) in
+    let t : take (length word) (drop i text) ≡ word = ap (take (length word)) (begins_is word (drop i text) h) ∙ take_at word (drop (length word) (drop i text)) (length word) refl in
+    let w : IsUtf8 (take (length word) (drop i text)) = rw t v in
+    let m : length word ≤ length (drop i text) = omega (arith, length-drop i text) in
+    IsCharBoundary-from_rest text i (length word) (omega arith) (IsCharBoundary-from_take (drop i text) (length word) d m w)
+
+-- the first place of a byte that passes a test
+pub place_of_head : (test : ℕ → Bool) (text : Text) (k : ℕ) → k ≤ length text → ((j : ℕ) → j < k → test (get_or text j 0) ≡ false)
+    → (k < length text → test (get_or text k 0) ≡ true) → place (heads test) text ≡ k
+unfolding place
+place_of_head test [] k l before here = omega arith
+place_of_head test (b ∷ bs) zero l before here = rw (here (omega arith)) refl
+place_of_head test (b ∷ bs) (suc k) l before here =
+    rw (before 0 (omega arith)) (ap suc (place_of_head test bs k (omega arith) (λ j m. before (suc j) (omega arith)) (λ m. here (omega arith))))
+
+-- tests that say the same find the same place
+place_alike : (p q : Text → Bool) → ((text : Text) → p text ≡ q text) → (text : Text) → place p text ≡ place q text
+unfolding place
+place_alike p q h [] = refl
+place_alike p q h (b ∷ bs) = rw (h (b ∷ bs), place_alike p q h bs) refl
+
+thrice : (t : Bool) → t ≡ (t || t || t)
+thrice true = refl
+thrice false = refl
+
+heads_thrice : (a : ℕ) (text : Text) → heads (is_byte a) text ≡ heads (is_byte3 a a a) text
+heads_thrice a [] = refl
+heads_thrice a (b ∷ bs) = thrice (b == a)
+
+-- one byte of three that are one
+pub place_thrice : (a b c : ℕ) (text : Text) → b ≡ a → c ≡ a → place (heads (is_byte a)) text ≡ place (heads (is_byte3 a b c)) text
+place_thrice a b c text e f = rw (e, f) (place_alike (heads (is_byte a)) (heads (is_byte3 a a a)) (heads_thrice a) text)
+
+-- A search may pass over what a weaker test does not pass.
+skips_by : (t u : Bool) (p q : Text → Bool) (b : ℕ) (bs : Text) → p (b ∷ bs) ≡ t → q (b ∷ bs) ≡ u → (u ≡ true → t ≡ true)
+    → place q bs ≡ place p bs + place q (drop (place p bs) bs) → place q (b ∷ bs) ≡ place p (b ∷ bs) + place q (drop (place p (b ∷ bs)) (b ∷ bs))
+unfolding place
+skips_by true u p q b bs e f s h = let n : 0 + place q (b ∷ bs) ≡ place q (b ∷ bs) = omega arith in rw e (sym n)
+skips_by false true p q b bs e f s h = let n = s refl in absurd (cc)
+skips_by false false p q b bs e f s h =
+    let n : suc (place p bs) + place q (drop (place p bs) bs) ≡ suc (place p bs + place q (drop (place p bs) bs)) = omega arith in
+    rw (e, f) (ap suc h ∙ sym n)
+
+pub place_skips : (p q : Text → Bool) → ((text : Text) → q text ≡ true → p text ≡ true) → (text : Text) → place q text ≡ place p text + place q (drop (place p text) text)
+unfolding place
+place_skips p q s [] = refl
+place_skips p q s (b ∷ bs) = skips_by (p (b ∷ bs)) (q (b ∷ bs)) p q b bs refl refl (s (b ∷ bs)) (place_skips p q s bs)
+
+pub place_goes_on : (p q : Text → Bool) → ((text : Text) → q text ≡ true → p text ≡ true) → (i k : ℕ) (text : Text) → i < length text → q (drop i text) ≡ false
+    → k ≡ place p (drop (i + 1) text) → place q (drop i text) ≡ suc (k + place q (drop ((i + 1) + k) text))
+place_goes_on p q s i k text l h e =
+    place_later q i text l h ∙ ap suc (place_skips p q s (drop (i + 1) text) ∙ rw (← e, drop-drop k (i + 1) text) refl)
+
+pub is_false : (q : Bool) → (q ≡ true → ⊥) → q ≡ false
+is_false true h = absurd (h refl)
+is_false false h = refl
+
+-- a text that begins with a word begins with its first byte
+pub heads_word : (test : ℕ → Bool) (word text : Text) → begins word text ≡ true → 0 < length word → test (get_or word 0 0) ≡ true → heads test text ≡ true
+heads_word test word [] h l e = let f = word_fits word [] 0 h l in absurd (omega arith)
+heads_word test word (b ∷ bs) h l e = let p : b ≡ get_or word 0 0 = word_lead word (b ∷ bs) 0 h l in rw p e
+
+-- a step of a search that passes over what a weaker test does not pass
+pub place_step : (p q : Text → Bool) → ((text : Text) → q text ≡ true → p text ≡ true) → (i k n : ℕ) (text : Text) → i < length text → q (drop i text) ≡ false
+    → k ≡ place p (drop (i + 1) text) → n ≡ i + place q (drop i text) → (((i + 1) + k) ≤ length text) × (n ≡ ((i + 1) + k) + place q (drop ((i + 1) + k) text))
+place_step p q s i k n text l h e f =
+    let g = place_goes_on p q s i k text l h e in
+    let m = place_le p (drop (i + 1) text) in
+    (omega (arith, m, e, length-drop (i + 1) text), omega (arith, f, g))

@@ -1,0 +1,72 @@
+use Rattle.std.proofs.Common.{◌≡◌, ◌+◌, drop, length, ap, sym, ◌∙◌, Some, option_map, not, false, arith, rules}
+use Rattle.std.proofs.lemmas.List.{length-drop}
+use Rattle.std.proofs.lemmas.Str.{IsUtf8-string_bytes, IsUtf8-drop, IsCharBoundary-from_rest}
+use Rattle.std.specs.Str.{IsUtf8, IsCharBoundary}
+use denote.Enum.Bare.{same_true, sameb}
+use Rattle.tera_syntax_tree.specs.Delimiters.{delimiters_of}
+use Rattle.tera_syntax_tokens.specs.contracts.cut.Tag.{the_type}
+use Rattle.tera_syntax_tokens.specs.declared.cut.Tag.TheVariants as tag
+use Rattle.tera_syntax_tokens.specs.Cut.{opening_at, start_size}
+use Rattle.tera_syntax_tokens.specs.Found.{end_of}
+use Rattle.tera_syntax_tokens.proofs.Openings.{filled, start_of, start_fits, start_boundary, start_size_fits}
+use Rattle.tera_syntax_tokens.proofs.Raws.{no_opening, no_block, block_is, end_moves, not_false}
+use Rattle.tera_syntax_tokens.proofs.raw.endraw.Goals as goal
+
+pub returns-in-None-clause-value : goal.returns-in-None-clause-value
+returns-in-None-clause-value c at =
+    sym (ap (option_map end_of) (no_opening (delimiters_of c.args.delimiters.now) at c.args.text.now (cc)))
+
+pub returns-then-ne-clause-value : goal.returns-then-ne-clause-value
+returns-then-ne-clause-value c at =
+    let h : opening_at (delimiters_of c.args.delimiters.now) c.args.text.now ≡ Some c.in-Some.opening = cc in
+    sym (ap (option_map end_of) (no_block (delimiters_of c.args.delimiters.now) at c.args.text.now c.in-Some.opening h
+    (λ e. let f : not (sameb the_type c.in-Some.opening.tag tag.Block) ≡ false = ap (λ t. not (sameb the_type t tag.Block)) e in cc)))
+
+pub start_size-size-requires : goal.start_size-size-requires
+start_size-size-requires c =
+    let h : opening_at (delimiters_of c.args.delimiters.now) c.args.text.now ≡ Some c.in-Some.opening = cc in
+    (start_fits c.args.text.now c.in-Some.opening (start_of c.args.delimiters.now c.args.text.now c.in-Some.opening c.requires.usable h)).1
+
+pub after-requires : goal.after-requires
+after-requires c =
+    let h : opening_at (delimiters_of c.args.delimiters.now) c.args.text.now ≡ Some c.in-Some.opening = cc in
+    let s = start_of c.args.delimiters.now c.args.text.now c.in-Some.opening c.requires.usable h in
+    rw c.start_size-size.ensures (start_size_fits c.args.text.now c.in-Some.opening s)
+
+pub ending-requires : goal.ending-requires
+ending-requires c = record { some = rw c.as_bytes.ensures.value (filled (delimiters_of c.args.delimiters.now) c.requires.usable).block_end }
+
+pub returns-in-Some-ending-clause-value : goal.returns-in-Some-ending-clause-value
+returns-in-Some-ending-clause-value c at =
+    let h : opening_at (delimiters_of c.args.delimiters.now) c.args.text.now ≡ Some c.in-Some.opening = cc in
+    let k = same_true the_type (search rules) _ _ (not_false _ (sym c.ne.ensures ∙ c.if-ne.false)) in
+    let b = block_is (delimiters_of c.args.delimiters.now) at c.args.text.now c.in-Some.opening c.start_size-size.result c.as_bytes.result.now c.after.result.now h k
+    c.start_size-size.ensures c.as_bytes.ensures.value c.after.ensures in
+    sym (ap Some (end_moves at c.start_size-size.result c.in-Some-ending.ending)) ∙ c.in-Some-ending.ensures.value (at + c.start_size-size.result) ∙ ap (option_map end_of) b
+
+pub returns-in-None-ending-clause-value : goal.returns-in-None-ending-clause-value
+returns-in-None-ending-clause-value c at =
+    let h : opening_at (delimiters_of c.args.delimiters.now) c.args.text.now ≡ Some c.in-Some.opening = cc in
+    let k = same_true the_type (search rules) _ _ (not_false _ (sym c.ne.ensures ∙ c.if-ne.false)) in
+    let b = block_is (delimiters_of c.args.delimiters.now) at c.args.text.now c.in-Some.opening c.start_size-size.result c.as_bytes.result.now c.after.result.now h k
+    c.start_size-size.ensures c.as_bytes.ensures.value c.after.ensures in
+    c.in-None-ending.ensures.value (at + c.start_size-size.result) ∙ ap (option_map end_of) b
+
+pub returns-in-Some-ending-clause-within : goal.returns-in-Some-ending-clause-within
+returns-in-Some-ending-clause-within c =
+    let h : opening_at (delimiters_of c.args.delimiters.now) c.args.text.now ≡ Some c.in-Some.opening = cc in
+    let s = start_size_fits c.args.text.now c.in-Some.opening (start_of c.args.delimiters.now c.args.text.now c.in-Some.opening c.requires.usable h) in
+    let l : length c.after.result.now ≡ length (drop c.start_size-size.result c.args.text.now) = ap length c.after.ensures in
+    omega (arith, s, l, c.start_size-size.ensures, length-drop c.start_size-size.result c.args.text.now, c.in-Some-ending.ensures.within)
+
+pub returns-in-Some-ending-clause-fits : goal.returns-in-Some-ending-clause-fits
+returns-in-Some-ending-clause-fits c u =
+    let h : opening_at (delimiters_of c.args.delimiters.now) c.args.text.now ≡ Some c.in-Some.opening = cc in
+    let s = start_of c.args.delimiters.now c.args.text.now c.in-Some.opening c.requires.usable h in
+    let n = start_size c.in-Some.opening c.args.text.now in
+    let b : IsCharBoundary c.args.text.now n = start_boundary c.args.text.now c.in-Some.opening s u in
+    let r : c.after.result.now ≡ drop n c.args.text.now = c.after.ensures ∙ ap (λ k. drop k c.args.text.now) c.start_size-size.ensures in
+    let v : IsUtf8 c.after.result.now = rw r (IsUtf8-drop c.args.text.now n u b) in
+    let w : IsUtf8 c.as_bytes.result.now = rw c.as_bytes.ensures.value (IsUtf8-string_bytes c.args.delimiters.now.block_end) in
+    let f : IsCharBoundary c.after.result.now c.in-Some-ending.ending.size = c.in-Some-ending.ensures.fits v w in
+    rw c.start_size-size.ensures (IsCharBoundary-from_rest c.args.text.now n c.in-Some-ending.ending.size b.0 (rw r at f))

@@ -1,0 +1,93 @@
+// Parts of a text, by bytes.
+ghost use Rattle.std.specs.Prelude.{◌≡◌, ◌≤◌, length, drop, take, IsTrue};
+ghost use Rattle.memchr.specs.Find.{is_byte, is_byte3};
+ghost use Rattle.tera_syntax_tokens.specs.Bytes as spec;
+
+use memchr::{memchr, memchr3};
+
+/// The bytes from a place on.
+pub(crate) fn after(bytes: &[u8], i: usize) -> &[u8]
+    requires { i ≤ length bytes.now }
+    ensures { result.now ≡ drop i bytes.now }
+{
+    bytes.split_at(i).1
+}
+
+/// The bytes up to a place.
+pub(crate) fn before(bytes: &[u8], i: usize) -> &[u8]
+    requires { i ≤ length bytes.now }
+    ensures { result.now ≡ take i bytes.now }
+{
+    bytes.split_at(i).0
+}
+
+/// Whether the bytes begin with the word. It has two bytes mostly, which are compared without a loop.
+#[inline]
+pub(crate) fn begins(word: &[u8], bytes: &[u8]) -> bool
+    ensures { result ≡ spec.begins word.now bytes.now }
+{
+    match (word, bytes) {
+        ([a, b], [c, d, ..]) => a == c && b == d,
+        _ => begins_any(word, bytes),
+    }
+}
+
+/// The same for a word of any length.
+fn begins_any(word: &[u8], bytes: &[u8]) -> bool
+    ensures { result ≡ spec.begins word.now bytes.now }
+{
+    for (i, b) in word.iter().enumerate() {
+        if i >= bytes.len() {
+            return false;
+        }
+        if bytes[i] != *b {
+            return false;
+        }
+    }
+    true
+}
+
+/// The first place where a word begins, or the end.
+#[tactic(auto, unfolding(crate::specs::Bytes::place))]
+pub(crate) fn place(word: &[u8], bytes: &[u8]) -> usize
+    ensures { result ≡ spec.place (spec.begins word.now) bytes.now }
+{
+    for i in 0..bytes.len() {
+        if begins(word, after(bytes, i)) {
+            return i;
+        }
+    }
+    bytes.len()
+}
+
+/// The first place where one of three bytes stands, or the end. Mostly they are one byte, which is looked for faster.
+pub(crate) fn place_of_byte(a: u8, b: u8, c: u8, bytes: &[u8]) -> usize
+    ensures value { result ≡ spec.place (spec.heads (is_byte3 a b c)) bytes.now }
+    ensures within { result ≤ length bytes.now }
+{
+    if are_one(a, b, c) {
+        return place_of_one(a, bytes);
+    }
+    match memchr3(a, b, c, bytes) {
+        Some(i) => i,
+        None => bytes.len(),
+    }
+}
+
+/// Whether the bytes are one.
+fn are_one(a: u8, b: u8, c: u8) -> bool
+    ensures { IsTrue result → (b ≡ a) × (c ≡ a) }
+{
+    a == b && a == c
+}
+
+/// The first place where this byte stands, or the end.
+fn place_of_one(a: u8, bytes: &[u8]) -> usize
+    ensures value { result ≡ spec.place (spec.heads (is_byte a)) bytes.now }
+    ensures within { result ≤ length bytes.now }
+{
+    match memchr(a, bytes) {
+        Some(i) => i,
+        None => bytes.len(),
+    }
+}

@@ -1,0 +1,155 @@
+-- Views of what holds a Vec, by the Vec's items.
+use Rattle.std.proofs.Common.{◌≡◌, Vec, Box, Bool, Bor, Global, option_copied, refl, ap, ap₂, ◌∙◌}
+use mathlib.Core.Former.{Count}
+use Rattle.tera_errors.specs.Site.{Text}
+use Rattle.tera_errors.specs.declared.span.Span.{Span}
+use Rattle.tera_syntax_tree.specs.declared.expression.Heading.{Heading}
+use Rattle.tera_syntax_tree.specs.declared.expression.Item as item
+use Rattle.tera_syntax_tree.specs.declared.expression.Entry as entry
+use Rattle.tera_syntax_tree.specs.declared.expression.Argument as argument
+use Rattle.tera_syntax_tree.specs.declared.expression.Expression.{Expression, Row_of-Item, end_of-Item, more_of-Item, items-the_row-Item, items_hidden-the_row-Item-0, Row_of-Entry, end_of-Entry, more_of-Entry, items-the_row-Entry, items_hidden-the_row-Entry-1, Row_of-Argument, end_of-Argument, more_of-Argument, items-the_row-Argument, items_hidden-the_row-Argument-2}
+use Rattle.tera_syntax_tree.specs.declared.expression.Expression.TheVariants as expression
+use Rattle.tera_syntax_tree.specs.declared.component.Literal.{Row_of-Literal, end_of-Literal, more_of-Literal, items-the_row-Literal, items_hidden-the_row-Literal-0, Row_of-LiteralEntry, end_of-LiteralEntry, more_of-LiteralEntry, items-the_row-LiteralEntry, items_hidden-the_row-LiteralEntry-1}
+use Rattle.tera_syntax_tree.specs.declared.component.Literal as declared_literal
+use Rattle.tera_syntax_tree.specs.declared.component.Literal.TheVariants as written
+use Rattle.tera_syntax_tree.specs.declared.component.LiteralEntry.{LiteralEntry}
+use Rattle.tera_syntax_tree.specs.declared.component.Signature as signature
+use Rattle.tera_syntax_tree.specs.declared.node.Node.{Row_of-Node, end_of-Node, more_of-Node, items-the_row-Node, items_hidden-the_row-Node-0}
+use Rattle.tera_syntax_tree.specs.declared.node.Node as declared
+use Rattle.tera_syntax_tree.specs.declared.node.SectionFilter.{SectionFilter}
+use Rattle.tera_syntax_tree.specs.declared.node.Node.TheVariants as variant
+use Rattle.tera_syntax_tree.specs.Tree.{Array, Map, Super, Filter, Test, Call, Component, ArrayLiteral, MapLiteral, MoreLiterals, MoreLiteralEntries, MoreItems, MoreEntries, MoreArguments, If, Capture, FilterSection, For, Block, ComponentCall, Definition, MoreNodes}
+use Rattle.tera_syntax_tree.specs.View.{literal_of, literal_option, expr_of, row_items, items_of, row_entries, entries_of, row_arguments, arguments_of, written_of, row_literals, literals_of, row_literal_entries, literal_entries_of, signature_of, filters_of, node_of, row_nodes, nodes_of, for_of}
+
+pub items_row : (m : _) (row : Row_of-Item m) → row_items row ≡ items_of (items-the_row-Item m row)
+items_row m end_of-Item = refl
+items_row m (more_of-Item s e rest) = ap (λ r. MoreItems s (expr_of e) r) (items_row _ rest)
+
+pub entries_row : (m : _) (row : Row_of-Entry m) → row_entries row ≡ entries_of (items-the_row-Entry m row)
+entries_row m end_of-Entry = refl
+entries_row m (more_of-Entry k e rest) = ap (λ r. MoreEntries (literal_option k) (expr_of e) r) (entries_row _ rest)
+
+pub arguments_row : (m : _) (row : Row_of-Argument m) → row_arguments row ≡ arguments_of (items-the_row-Argument m row)
+arguments_row m end_of-Argument = refl
+arguments_row m (more_of-Argument n e rest) = ap (λ r. MoreArguments n.now (expr_of e) r) (arguments_row _ rest)
+
+pub nodes_row : (m : _) (row : Row_of-Node m) → row_nodes row ≡ nodes_of (items-the_row-Node m row)
+nodes_row m end_of-Node = refl
+nodes_row m (more_of-Node n rest) = ap (λ r. MoreNodes (node_of n) r) (nodes_row _ rest)
+
+pub literals_row : (m : _) (row : Row_of-Literal m) → row_literals row ≡ literals_of (items-the_row-Literal m row)
+literals_row m end_of-Literal = refl
+literals_row m (more_of-Literal v rest) = ap (λ r. MoreLiterals (written_of v) r) (literals_row _ rest)
+
+pub literal_entries_row : (m : _) (row : Row_of-LiteralEntry m) → row_literal_entries row ≡ literal_entries_of (items-the_row-LiteralEntry m row)
+literal_entries_row m end_of-LiteralEntry = refl
+literal_entries_row m (more_of-LiteralEntry k v rest) = ap (λ r. MoreLiteralEntries (literal_of k) (written_of v) r) (literal_entries_row _ rest)
+
+abbrev literals_in : declared_literal.Literal → (n : Count) × Row_of-Literal n
+literals_in (written.Array' _ row) = (_, row)
+literals_in _ = (_, end_of-Literal)
+
+abbrev literal_entries_in : declared_literal.Literal → (n : Count) × Row_of-LiteralEntry n
+literal_entries_in (written.Map' _ row) = (_, row)
+literal_entries_in _ = (_, end_of-LiteralEntry)
+
+abbrev items_in : Expression → (n : Count) × Row_of-Item n
+items_in (expression.Array' _ row _) = (_, row)
+items_in _ = (_, end_of-Item)
+
+abbrev entries_in : Expression → (n : Count) × Row_of-Entry n
+entries_in (expression.Map' _ row _) = (_, row)
+entries_in (expression.Component' _ _ row _) = (_, row)
+entries_in _ = (_, end_of-Entry)
+
+abbrev arguments_in : Expression → (n : Count) × Row_of-Argument n
+arguments_in (expression.Super' _ row _) = (_, row)
+arguments_in (expression.Filter' _ _ _ _ row _) = (_, row)
+arguments_in (expression.Test' _ _ _ _ row _) = (_, row)
+arguments_in (expression.Call' _ _ row _) = (_, row)
+arguments_in _ = (_, end_of-Argument)
+
+abbrev body_in : declared.Node → (n : Count) × Row_of-Node n
+body_in (variant.If' _ _ row _ _) = (_, row)
+body_in (variant.Capture' _ _ _ row _) = (_, row)
+body_in (variant.FilterSection' _ _ row) = (_, row)
+body_in (variant.For' _ _ row _ _) = (_, row)
+body_in (variant.Block' _ _ row _) = (_, row)
+body_in (variant.ComponentCall' _ _ _ row _) = (_, row)
+body_in (variant.Definition' _ _ row) = (_, row)
+body_in _ = (_, end_of-Node)
+
+abbrev other_in : declared.Node → (n : Count) × Row_of-Node n
+other_in (variant.If' _ _ _ _ row) = (_, row)
+other_in (variant.For' _ _ _ _ row) = (_, row)
+other_in _ = (_, end_of-Node)
+
+nodes_is : (r : (n : Count) × Row_of-Node n) (all : Vec declared.Node Global) → items-the_row-Node r.0 r.1 ≡ all.items → row_nodes r.1 ≡ nodes_of all.items
+nodes_is r all e = nodes_row r.0 r.1 ∙ ap nodes_of e
+
+pub view_array : (all : Vec item.Item Global) (span : Span) → expr_of (expression.Array all span) ≡ Array (items_of all.items) span
+view_array all span =
+    let r = items_in (expression.Array all span) in
+    ap (λ x. Array x span) (items_row r.0 r.1 ∙ ap items_of (items_hidden-the_row-Item-0 all))
+
+pub view_map : (all : Vec entry.Entry Global) (span : Span) → expr_of (expression.Map all span) ≡ Map (entries_of all.items) span
+view_map all span =
+    let r = entries_in (expression.Map all span) in
+    ap (λ x. Map x span) (entries_row r.0 r.1 ∙ ap entries_of (items_hidden-the_row-Entry-1 all))
+
+pub view_super : (all : Vec argument.Argument Global) (span : Span) → expr_of (expression.Super all span) ≡ Super (arguments_of all.items) span
+view_super all span =
+    let r = arguments_in (expression.Super all span) in
+    ap (λ x. Super x span) (arguments_row r.0 r.1 ∙ ap arguments_of (items_hidden-the_row-Argument-2 all))
+
+arguments_are : (r : (n : Count) × Row_of-Argument n) (all : Vec argument.Argument Global) → items-the_row-Argument r.0 r.1 ≡ all.items → row_arguments r.1 ≡ arguments_of all.items
+arguments_are r all e = arguments_row r.0 r.1 ∙ ap arguments_of e
+
+pub view_filter : (v : Box Expression Global) (n : Bor Text) (all : Vec argument.Argument Global) (span : Span) → expr_of (expression.Filter v n all span) ≡ Filter (expr_of v.value) n.now (arguments_of all.items) span
+view_filter v n all span = ap (λ x. Filter (expr_of v.value) n.now x span) (arguments_are (arguments_in (expression.Filter v n all span)) all (items_hidden-the_row-Argument-2 all))
+
+pub view_test : (v : Box Expression Global) (n : Bor Text) (all : Vec argument.Argument Global) (span : Span) → expr_of (expression.Test v n all span) ≡ Test (expr_of v.value) n.now (arguments_of all.items) span
+view_test v n all span = ap (λ x. Test (expr_of v.value) n.now x span) (arguments_are (arguments_in (expression.Test v n all span)) all (items_hidden-the_row-Argument-2 all))
+
+pub view_call : (n : Bor Text) (all : Vec argument.Argument Global) (span : Span) → expr_of (expression.Call n all span) ≡ Call n.now (arguments_of all.items) span
+view_call n all span = ap (λ x. Call n.now x span) (arguments_are (arguments_in (expression.Call n all span)) all (items_hidden-the_row-Argument-2 all))
+
+pub view_component : (n : Bor Text) (all : Vec entry.Entry Global) (span : Span) → expr_of (expression.Component n all span) ≡ Component n.now (entries_of all.items) span
+view_component n all span =
+    let r = entries_in (expression.Component n all span) in
+    ap (λ x. Component n.now x span) (entries_row r.0 r.1 ∙ ap entries_of (items_hidden-the_row-Entry-1 all))
+
+pub view_block : (t : Bor Text) (body : Vec declared.Node Global) (span : Span) → node_of (variant.Block t body span) ≡ Block t.now (nodes_of body.items) span
+view_block t body span = ap (λ x. Block t.now x span) (nodes_is (body_in (variant.Block t body span)) body (items_hidden-the_row-Node-0 body))
+
+pub view_if : (c : Box Expression Global) (body other : Vec declared.Node Global) → node_of (variant.If c body other) ≡ If (expr_of c.value) (nodes_of body.items) (nodes_of other.items)
+view_if c body other =
+    ap₂ (λ x y. If (expr_of c.value) x y) (nodes_is (body_in (variant.If c body other)) body (items_hidden-the_row-Node-0 body)) (nodes_is (other_in (variant.If c body other)) other (items_hidden-the_row-Node-0 other))
+
+pub view_capture : (t : Bor Text) (filters : Vec SectionFilter Global) (body : Vec declared.Node Global) (is_global : Bool) → node_of (variant.Capture t filters body is_global) ≡ Capture t.now (filters_of filters.items) (nodes_of body.items) is_global
+view_capture t filters body is_global = ap (λ x. Capture t.now (filters_of filters.items) x is_global) (nodes_is (body_in (variant.Capture t filters body is_global)) body (items_hidden-the_row-Node-0 body))
+
+pub view_section : (filters : Vec SectionFilter Global) (body : Vec declared.Node Global) → node_of (variant.FilterSection filters body) ≡ FilterSection (filters_of filters.items) (nodes_of body.items)
+view_section filters body = ap (λ x. FilterSection (filters_of filters.items) x) (nodes_is (body_in (variant.FilterSection filters body)) body (items_hidden-the_row-Node-0 body))
+
+pub view_for : (h : Box Heading Global) (body other : Vec declared.Node Global) → node_of (variant.For h body other) ≡ for_of h.value body.items other.items
+view_for h body other =
+    ap₂ (λ x y. For (option_copied h.value.key) h.value.name.now (expr_of h.value.target) x y) (nodes_is (body_in (variant.For h body other)) body (items_hidden-the_row-Node-0 body)) (nodes_is (other_in (variant.For h body other)) other (items_hidden-the_row-Node-0 other))
+
+pub view_component_call : (t : Bor Text) (es : Vec entry.Entry Global) (body : Vec declared.Node Global) (span : Span)
+    → node_of (variant.ComponentCall t es body span) ≡ ComponentCall t.now (entries_of es.items) (nodes_of body.items) span
+view_component_call t es body span =
+    ap (λ x. ComponentCall t.now (entries_of es.items) x span) (nodes_is (body_in (variant.ComponentCall t es body span)) body (items_hidden-the_row-Node-0 body))
+
+pub view_definition : (s : Box signature.Signature Global) (body : Vec declared.Node Global) → node_of (variant.Definition s body) ≡ Definition (signature_of s.value) (nodes_of body.items)
+view_definition s body = ap (λ x. Definition (signature_of s.value) x) (nodes_is (body_in (variant.Definition s body)) body (items_hidden-the_row-Node-0 body))
+
+pub view_array_literal : (all : Vec declared_literal.Literal Global) → written_of (written.Array all) ≡ ArrayLiteral (literals_of all.items)
+view_array_literal all =
+    let r = literals_in (written.Array all) in
+    ap ArrayLiteral (literals_row r.0 r.1 ∙ ap literals_of (items_hidden-the_row-Literal-0 all))
+
+pub view_map_literal : (all : Vec LiteralEntry Global) → written_of (written.Map all) ≡ MapLiteral (literal_entries_of all.items)
+view_map_literal all =
+    let r = literal_entries_in (written.Map all) in
+    ap MapLiteral (literal_entries_row r.0 r.1 ∙ ap literal_entries_of (items_hidden-the_row-LiteralEntry-1 all))

@@ -1,0 +1,104 @@
+-- How deep trees are.
+use Rattle.std.specs.Prelude.{ℕ, suc, max, ◌≤◌, false, IsTrue, List, [], ◌∷◌, Option, Some, None}
+use Rattle.tera_syntax_tree.specs.Tree.{Expr, Nothing, Boolean, Integer, Text, Name, Attribute, Index, Slice, Not, Negate, Binary, And, Or, Ternary, Array, Map, Comprehension, Super, Filter, Test, Call, Component, Optional, Absent, Present, Items, NoItems, MoreItems, Entries, NoEntries, MoreEntries, Arguments, NoArguments, MoreArguments, Literal, NothingLiteral, BooleanLiteral, IntegerLiteral, TextLiteral, ArrayLiteral, MapLiteral, Literals, NoLiterals, MoreLiterals, LiteralEntries, NoLiteralEntries, MoreLiteralEntries, Parameter, Filters, NoFilters, MoreFilters, Node, Content, Print, If, Set, Capture, FilterSection, For, Block, Include, ComponentCall, Definition, Break, Continue, Nodes, NoNodes, MoreNodes, Tree}
+use Rattle.tera_syntax_tree.specs.Places.{in_place}
+use Rattle.tera_syntax_tree.specs.Blocks.{has_each_block_once}
+use Rattle.tera_syntax_tree.specs.Definitions.{defines_at_top, has_each_component_once}
+
+-- a leaf has depth 1, and anything else one more than its deepest part
+abbrev mutual
+  pub depth : Expr → ℕ
+  depth (Nothing span) = 1
+  depth (Boolean b span) = 1
+  depth (Integer z span) = 1
+  depth (Text t span) = 1
+  depth (Name n span) = 1
+  depth (Attribute e n optional span) = suc (depth e)
+  depth (Index a b optional span) = suc (max (depth a) (depth b))
+  depth (Slice e a b c optional span) =
+      suc (max (depth e) (max (optional_depth a) (max (optional_depth b) (optional_depth c))))
+  depth (Not e span) = suc (depth e)
+  depth (Negate e span) = suc (depth e)
+  depth (Binary op a b span) = suc (max (depth a) (depth b))
+  depth (And a b span) = suc (max (depth a) (depth b))
+  depth (Or a b span) = suc (max (depth a) (depth b))
+  depth (Ternary v c o span) = suc (max (depth v) (max (depth c) (depth o)))
+  depth (Array all span) = suc (items_depth all)
+  depth (Map all span) = suc (entries_depth all)
+  depth (Comprehension v key n e c span) = suc (max (depth v) (max (depth e) (optional_depth c)))
+  depth (Super all span) = suc (arguments_depth all)
+  depth (Filter e n all span) = suc (max (depth e) (arguments_depth all))
+  depth (Test e n all span) = suc (max (depth e) (arguments_depth all))
+  depth (Call n all span) = suc (arguments_depth all)
+  depth (Component n all span) = suc (entries_depth all)
+
+  pub optional_depth : Optional → ℕ
+  optional_depth Absent = 0
+  optional_depth (Present e) = depth e
+
+  pub items_depth : Items → ℕ
+  items_depth NoItems = 0
+  items_depth (MoreItems s e rest) = max (depth e) (items_depth rest)
+
+  pub entries_depth : Entries → ℕ
+  entries_depth NoEntries = 0
+  entries_depth (MoreEntries k e rest) = max (depth e) (entries_depth rest)
+
+  pub arguments_depth : Arguments → ℕ
+  arguments_depth NoArguments = 0
+  arguments_depth (MoreArguments n e rest) = max (depth e) (arguments_depth rest)
+
+abbrev mutual
+  pub literal_depth : Literal → ℕ
+  literal_depth NothingLiteral = 1
+  literal_depth (BooleanLiteral b) = 1
+  literal_depth (IntegerLiteral z) = 1
+  literal_depth (TextLiteral t) = 1
+  literal_depth (ArrayLiteral all) = suc (literals_depth all)
+  literal_depth (MapLiteral all) = suc (literal_entries_depth all)
+
+  pub literals_depth : Literals → ℕ
+  literals_depth NoLiterals = 0
+  literals_depth (MoreLiterals v rest) = max (literal_depth v) (literals_depth rest)
+
+  pub literal_entries_depth : LiteralEntries → ℕ
+  literal_entries_depth NoLiteralEntries = 0
+  literal_entries_depth (MoreLiteralEntries k v rest) = max (literal_depth v) (literal_entries_depth rest)
+
+abbrev pub default_depth : Option Literal → ℕ
+default_depth None = 0
+default_depth (Some v) = literal_depth v
+
+-- how deep the defaults are
+abbrev pub parameters_depth : List Parameter → ℕ
+parameters_depth [] = 0
+parameters_depth (p ∷ ps) = max (default_depth p.default) (parameters_depth ps)
+
+abbrev pub filters_depth : Filters → ℕ
+filters_depth NoFilters = 0
+filters_depth (MoreFilters n all span rest) = max (suc (arguments_depth all)) (filters_depth rest)
+
+abbrev mutual
+  pub node_depth : Node → ℕ
+  node_depth (Content t span) = 1
+  node_depth (Print e) = suc (depth e)
+  node_depth (If c body other) = suc (max (depth c) (max (nodes_depth body) (nodes_depth other)))
+  node_depth (Set n e is_global) = suc (depth e)
+  node_depth (Capture n fs body is_global) = suc (max (filters_depth fs) (nodes_depth body))
+  node_depth (FilterSection fs body) = suc (max (filters_depth fs) (nodes_depth body))
+  node_depth (For key n e body other) = suc (max (depth e) (max (nodes_depth body) (nodes_depth other)))
+  node_depth (Block n body span) = suc (nodes_depth body)
+  node_depth (Include n span) = 1
+  node_depth (ComponentCall n all body span) = suc (max (entries_depth all) (nodes_depth body))
+  node_depth (Definition s body) = suc (max (parameters_depth s.parameters) (nodes_depth body))
+  node_depth Break = 1
+  node_depth Continue = 1
+
+  pub nodes_depth : Nodes → ℕ
+  nodes_depth NoNodes = 0
+  nodes_depth (MoreNodes n rest) = max (node_depth n) (nodes_depth rest)
+
+-- what the grammar allows: at most 200 deep, nothing out of its place, and no two blocks and no two components of one name
+abbrev pub IsWellFormed : Tree → Type 0
+IsWellFormed t = (nodes_depth t.nodes ≤ 200) × IsTrue (in_place false t.nodes) × IsTrue (has_each_block_once t.nodes)
+    × IsTrue (defines_at_top t.nodes) × IsTrue (has_each_component_once t.nodes)

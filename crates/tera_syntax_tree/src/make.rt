@@ -1,0 +1,344 @@
+// Trees from their parts.
+ghost use Rattle.std.specs.Prelude.{◌≡◌};
+ghost use Rattle.tera_syntax_tree.specs.Tree.{Attribute, Index, Not, Negate, Binary, And, Or, Ternary, Array, Map, Super, Filter, Test, Call, Component, ArrayLiteral, MapLiteral, If, Set, Capture, FilterSection, Block, ComponentCall, Definition};
+ghost use Rattle.tera_syntax_tree.specs.View.{expr_of, slice_of, comprehension_of, items_of, entries_of, arguments_of, written_of, literals_of, literal_entries_of, signature_of, filters_of, node_of, nodes_of, for_of};
+
+use crate::component::{Literal, LiteralEntry, Signature};
+use crate::expression::{Argument, BinaryOperator, Bounds, Entry, Expression, Heading, Item};
+use crate::node::{Node, SectionFilter};
+use tera_errors::Span;
+
+impl<'s> Expression<'s> {
+    /// `target.name`, or `target?.name` where it is optional.
+    pub fn attribute(
+        target: Box<Expression<'s>>,
+        name: &'s str,
+        optional: bool,
+        span: Span,
+    ) -> Expression<'s>
+        ensures { expr_of result ≡ Attribute (expr_of target.entry.value) name.now
+            optional span }
+    {
+        Expression::Attribute {
+            target,
+            name,
+            optional,
+            span,
+        }
+    }
+
+    /// `target[index]`, or `target?[index]` where it is optional.
+    pub fn index(
+        target: Box<Expression<'s>>,
+        index: Box<Expression<'s>>,
+        optional: bool,
+        span: Span,
+    ) -> Expression<'s>
+        ensures { expr_of result ≡ Index (expr_of target.entry.value) (expr_of index.entry.value)
+            optional span }
+    {
+        Expression::Index {
+            target,
+            index,
+            optional,
+            span,
+        }
+    }
+
+    /// The bounds are those that are written, each in its place.
+    pub fn slice(
+        target: Box<Expression<'s>>,
+        bounds: Box<Bounds<'s>>,
+        optional: bool,
+        span: Span,
+    ) -> Expression<'s>
+        ensures { expr_of result ≡ slice_of target.entry.value bounds.entry.value optional span }
+    {
+        Expression::Slice {
+            target,
+            bounds,
+            optional,
+            span,
+        }
+    }
+
+    /// `not operand`
+    pub fn not(operand: Box<Expression<'s>>, span: Span) -> Expression<'s>
+        ensures { expr_of result ≡ Not (expr_of operand.entry.value) span }
+    {
+        Expression::Not { operand, span }
+    }
+
+    /// `-operand`
+    pub fn negate(operand: Box<Expression<'s>>, span: Span) -> Expression<'s>
+        ensures { expr_of result ≡ Negate (expr_of operand.entry.value) span }
+    {
+        Expression::Negate { operand, span }
+    }
+
+    /// The operator between two operands.
+    pub fn binary(
+        operator: BinaryOperator,
+        left: Box<Expression<'s>>,
+        right: Box<Expression<'s>>,
+        span: Span,
+    ) -> Expression<'s>
+        ensures { expr_of result ≡ Binary operator (expr_of left.entry.value)
+            (expr_of right.entry.value)
+            span }
+    {
+        Expression::Binary {
+            operator,
+            left,
+            right,
+            span,
+        }
+    }
+
+    /// `left and right`
+    pub fn and(left: Box<Expression<'s>>, right: Box<Expression<'s>>, span: Span) -> Expression<'s>
+        ensures { expr_of result ≡ And (expr_of left.entry.value) (expr_of right.entry.value) span }
+    {
+        Expression::And { left, right, span }
+    }
+
+    /// `left or right`
+    pub fn or(left: Box<Expression<'s>>, right: Box<Expression<'s>>, span: Span) -> Expression<'s>
+        ensures { expr_of result ≡ Or (expr_of left.entry.value) (expr_of right.entry.value) span }
+    {
+        Expression::Or { left, right, span }
+    }
+
+    /// `value if condition else other`
+    pub fn ternary(
+        value: Box<Expression<'s>>,
+        condition: Box<Expression<'s>>,
+        other: Box<Expression<'s>>,
+        span: Span,
+    ) -> Expression<'s>
+        ensures { expr_of result ≡ Ternary (expr_of value.entry.value)
+            (expr_of condition.entry.value)
+            (expr_of other.entry.value) span }
+    {
+        Expression::Ternary {
+            value,
+            condition,
+            other,
+            span,
+        }
+    }
+
+    /// `[item, ..]`
+    pub fn array(items: Vec<Item<'s>>, span: Span) -> Expression<'s>
+        ensures { expr_of result ≡ Array (items_of items.entry.items) span }
+    {
+        Expression::Array { items, span }
+    }
+
+    /// `{key: value, ..}`
+    pub fn map(entries: Vec<Entry<'s>>, span: Span) -> Expression<'s>
+        ensures { expr_of result ≡ Map (entries_of entries.entry.items) span }
+    {
+        Expression::Map { entries, span }
+    }
+
+    /// `[value for heading if condition]`
+    pub fn comprehension(
+        value: Box<Expression<'s>>,
+        heading: Box<Heading<'s>>,
+        condition: Option<Box<Expression<'s>>>,
+        span: Span,
+    ) -> Expression<'s>
+        ensures { expr_of result
+            ≡ comprehension_of value.entry.value heading.entry.value condition.entry span }
+    {
+        Expression::Comprehension {
+            value,
+            heading,
+            condition,
+            span,
+        }
+    }
+
+    /// `super(name = value, ..)`
+    pub fn above(arguments: Vec<Argument<'s>>, span: Span) -> Expression<'s>
+        ensures { expr_of result ≡ Super (arguments_of arguments.entry.items) span }
+    {
+        Expression::Super { arguments, span }
+    }
+
+    /// `value | name(name = value, ..)`
+    pub fn filter(
+        value: Box<Expression<'s>>,
+        name: &'s str,
+        arguments: Vec<Argument<'s>>,
+        span: Span,
+    ) -> Expression<'s>
+        ensures { expr_of result ≡ Filter (expr_of value.entry.value) name.now
+            (arguments_of arguments.entry.items) span }
+    {
+        Expression::Filter {
+            value,
+            name,
+            arguments,
+            span,
+        }
+    }
+
+    /// `value is name(name = value, ..)`
+    pub fn test(
+        value: Box<Expression<'s>>,
+        name: &'s str,
+        arguments: Vec<Argument<'s>>,
+        span: Span,
+    ) -> Expression<'s>
+        ensures { expr_of result ≡ Test (expr_of value.entry.value) name.now
+            (arguments_of arguments.entry.items) span }
+    {
+        Expression::Test {
+            value,
+            name,
+            arguments,
+            span,
+        }
+    }
+
+    /// `name(name = value, ..)`
+    pub fn call(name: &'s str, arguments: Vec<Argument<'s>>, span: Span) -> Expression<'s>
+        ensures { expr_of result ≡ Call name.now (arguments_of arguments.entry.items) span }
+    {
+        Expression::Call {
+            name,
+            arguments,
+            span,
+        }
+    }
+
+    /// `<name attributes/>`
+    pub fn component(name: &'s str, attributes: Vec<Entry<'s>>, span: Span) -> Expression<'s>
+        ensures { expr_of result ≡ Component name.now (entries_of attributes.entry.items) span }
+    {
+        Expression::Component {
+            name,
+            attributes,
+            span,
+        }
+    }
+}
+
+impl<'s> Literal<'s> {
+    /// `[value, ..]`
+    pub fn array(items: Vec<Literal<'s>>) -> Literal<'s>
+        ensures { written_of result ≡ ArrayLiteral (literals_of items.entry.items) }
+    {
+        Literal::Array(items)
+    }
+
+    /// `{key: value, ..}`
+    pub fn map(entries: Vec<LiteralEntry<'s>>) -> Literal<'s>
+        ensures { written_of result ≡ MapLiteral (literal_entries_of entries.entry.items) }
+    {
+        Literal::Map(entries)
+    }
+}
+
+impl<'s> Node<'s> {
+    /// `{% if condition %}body{% else %}other{% endif %}`
+    #[tactic(auto, using(crate::proofs::Views::view_if))]
+    pub fn choice(
+        condition: Box<Expression<'s>>,
+        body: Vec<Node<'s>>,
+        other: Vec<Node<'s>>,
+    ) -> Node<'s>
+        ensures { node_of result ≡ If (expr_of condition.entry.value) (nodes_of body.entry.items)
+            (nodes_of other.entry.items) }
+    {
+        Node::If {
+            condition,
+            body,
+            other,
+        }
+    }
+
+    /// `{% set name = value %}`, or `{% set_global name = value %}` where it is global.
+    pub fn set(name: &'s str, value: Box<Expression<'s>>, is_global: bool) -> Node<'s>
+        ensures { node_of result ≡ Set name.now (expr_of value.entry.value) is_global }
+    {
+        Node::Set {
+            name,
+            value,
+            is_global,
+        }
+    }
+
+    /// `{% set name | filter %}body{% endset %}`, or the same with `set_global` where it is global.
+    pub fn capture(
+        name: &'s str,
+        filters: Vec<SectionFilter<'s>>,
+        body: Vec<Node<'s>>,
+        is_global: bool,
+    ) -> Node<'s>
+        ensures { node_of result ≡ Capture name.now (filters_of filters.entry.items)
+            (nodes_of body.entry.items) is_global }
+    {
+        Node::Capture {
+            name,
+            filters,
+            body,
+            is_global,
+        }
+    }
+
+    /// `{% filter filters %}body{% endfilter %}`
+    pub fn filter_section(filters: Vec<SectionFilter<'s>>, body: Vec<Node<'s>>) -> Node<'s>
+        ensures { node_of result ≡ FilterSection (filters_of filters.entry.items)
+            (nodes_of body.entry.items) }
+    {
+        Node::FilterSection { filters, body }
+    }
+
+    /// `{% block name %}body{% endblock %}`
+    pub fn block(name: &'s str, body: Vec<Node<'s>>, span: Span) -> Node<'s>
+        ensures { node_of result ≡ Block name.now (nodes_of body.entry.items) span }
+    {
+        Node::Block { name, body, span }
+    }
+
+    /// `{% <name attributes> %}body{% </name> %}`
+    pub fn component_call(
+        name: &'s str,
+        attributes: Vec<Entry<'s>>,
+        body: Vec<Node<'s>>,
+        span: Span,
+    ) -> Node<'s>
+        ensures { node_of result ≡ ComponentCall name.now (entries_of attributes.entry.items)
+            (nodes_of body.entry.items) span }
+    {
+        Node::ComponentCall {
+            name,
+            attributes,
+            body,
+            span,
+        }
+    }
+
+    /// `{% component signature %}body{% endcomponent %}`
+    pub fn definition(signature: Box<Signature<'s>>, body: Vec<Node<'s>>) -> Node<'s>
+        ensures { node_of result ≡ Definition (signature_of signature.entry.value)
+            (nodes_of body.entry.items) }
+    {
+        Node::Definition { signature, body }
+    }
+
+    /// `{% for heading %}body{% else %}other{% endfor %}`
+    #[tactic(auto, using(crate::proofs::Views::view_for))]
+    pub fn each(heading: Box<Heading<'s>>, body: Vec<Node<'s>>, other: Vec<Node<'s>>) -> Node<'s>
+        ensures { node_of result ≡ for_of heading.entry.value body.entry.items other.entry.items }
+    {
+        Node::For {
+            heading,
+            body,
+            other,
+        }
+    }
+}

@@ -1,0 +1,157 @@
+// Nodes of a template. They borrow names and texts from its source.
+use crate::component::Signature;
+use crate::expression::{Argument, Entry, Expression, Heading};
+use crate::quoted::Quoted;
+use tera_errors::Span;
+
+/// A node of a template: a piece of its text, or a tag with what belongs to it.
+pub enum Node<'s> {
+    /// Text that is written as it stands. The span is what it covers.
+    Content {
+        text: &'s str,
+        span: Span,
+    },
+    /// `{{ value }}`
+    Print {
+        value: Box<Expression<'s>>,
+    },
+    /// `{{ name }}`, which is read and kept without a box. The span is that of the name.
+    PrintName {
+        name: &'s str,
+        span: Span,
+    },
+    /// `{% if condition %}body{% else %}other{% endif %}`; an `elif` is an `if` in the other body.
+    If {
+        condition: Box<Expression<'s>>,
+        body: Vec<Node<'s>>,
+        other: Vec<Node<'s>>,
+    },
+    /// `{% set name = value %}`, or `{% set_global name = value %}` where it is global.
+    Set {
+        name: &'s str,
+        value: Box<Expression<'s>>,
+        is_global: bool,
+    },
+    /// `{% set name | filter %}body{% endset %}`, or the same with `set_global` where it is global. There may be no filter.
+    Capture {
+        name: &'s str,
+        filters: Vec<SectionFilter<'s>>,
+        body: Vec<Node<'s>>,
+        is_global: bool,
+    },
+    /// `{% filter filters %}body{% endfilter %}`
+    FilterSection {
+        filters: Vec<SectionFilter<'s>>,
+        body: Vec<Node<'s>>,
+    },
+    /// `{% for name in target %}body{% else %}other{% endfor %}`
+    For {
+        heading: Box<Heading<'s>>,
+        body: Vec<Node<'s>>,
+        other: Vec<Node<'s>>,
+    },
+    /// `{% block name %}body{% endblock %}`. The span is that of the name.
+    Block {
+        name: &'s str,
+        body: Vec<Node<'s>>,
+        span: Span,
+    },
+    /// `{% include "name" %}`. The span is that of the name with its quotes.
+    Include {
+        name: Quoted<'s>,
+        span: Span,
+    },
+    /// `{% <name attributes> %}body{% </name> %}`: a component that is handed a body. The span is that of the first tag's `<` to `>`.
+    ComponentCall {
+        name: &'s str,
+        attributes: Vec<Entry<'s>>,
+        body: Vec<Node<'s>>,
+        span: Span,
+    },
+    /// `{% component signature %}body{% endcomponent %}`. It writes nothing where it stands.
+    Definition {
+        signature: Box<Signature<'s>>,
+        body: Vec<Node<'s>>,
+    },
+    /// `{% break %}`
+    Break,
+    /// `{% continue %}`
+    Continue,
+}
+
+// By hand, so that nodes that go out of scope are one call.
+impl<'s> Drop for Node<'s> {
+    fn drop(self) {
+        match self {
+            Node::Content { text: _, span: _ } => {}
+            Node::Print { value: _ } => {}
+            Node::PrintName { name: _, span: _ } => {}
+            Node::If {
+                condition: _,
+                body: _,
+                other: _,
+            } => {}
+            Node::Set {
+                name: _,
+                value: _,
+                is_global: _,
+            } => {}
+            Node::Capture {
+                name: _,
+                filters: _,
+                body: _,
+                is_global: _,
+            } => {}
+            Node::FilterSection {
+                filters: _,
+                body: _,
+            } => {}
+            Node::For {
+                heading: _,
+                body: _,
+                other: _,
+            } => {}
+            Node::Block {
+                name: _,
+                body: _,
+                span: _,
+            } => {}
+            Node::Include { name: _, span: _ } => {}
+            Node::ComponentCall {
+                name: _,
+                attributes: _,
+                body: _,
+                span: _,
+            } => {}
+            Node::Definition {
+                signature: _,
+                body: _,
+            } => {}
+            Node::Break => {}
+            Node::Continue => {}
+        }
+    }
+}
+
+/// A filter of what a body puts out. Its span begins with its name.
+#[derive(Drop)]
+pub struct SectionFilter<'s> {
+    pub name: &'s str,
+    pub arguments: Vec<Argument<'s>>,
+    pub span: Span,
+}
+
+/// What the reader makes of a text, from which it borrows.
+pub struct ParserOutput<'s> {
+    /// The name of the template that the text extends, if it does.
+    pub parent: Option<Quoted<'s>>,
+    pub nodes: Vec<Node<'s>>,
+}
+
+impl<'s> Drop for ParserOutput<'s> {
+    fn drop(self) {
+        let ParserOutput { parent, nodes } = self;
+        drop(parent);
+        drop(nodes);
+    }
+}

@@ -1,5 +1,0 @@
-use Rattle.tera_tree.proofs.Views.{view_array}
-use Rattle.tera_tree.proofs.expression.Expression.array.Goals as goal
-
-pub returns : goal.returns
-returns c = view_array c.args.items c.args.span

@@ -1,5 +1,0 @@
-use Rattle.tera_tree.proofs.Views.{view_call}
-use Rattle.tera_tree.proofs.expression.Expression.call.Goals as goal
-
-pub returns : goal.returns
-returns c = view_call c.args.name c.args.arguments c.args.span

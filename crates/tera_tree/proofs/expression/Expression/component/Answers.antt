@@ -1,5 +1,0 @@
-use Rattle.tera_tree.proofs.Views.{view_component}
-use Rattle.tera_tree.proofs.expression.Expression.component.Goals as goal
-
-pub returns : goal.returns
-returns c = view_component c.args.name c.args.attributes c.args.span

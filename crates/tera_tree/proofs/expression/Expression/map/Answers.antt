@@ -1,5 +1,0 @@
-use Rattle.tera_tree.proofs.Views.{view_map}
-use Rattle.tera_tree.proofs.expression.Expression.map.Goals as goal
-
-pub returns : goal.returns
-returns c = view_map c.args.entries c.args.span

@@ -1,5 +1,0 @@
-use Rattle.tera_tree.proofs.Views.{view_test}
-use Rattle.tera_tree.proofs.expression.Expression.test.Goals as goal
-
-pub returns : goal.returns
-returns c = view_test c.args.value c.args.name c.args.arguments c.args.span

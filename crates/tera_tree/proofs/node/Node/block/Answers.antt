@@ -1,5 +1,0 @@
-use Rattle.tera_tree.proofs.Views.{view_block}
-use Rattle.tera_tree.proofs.node.Node.block.Goals as goal
-
-pub returns : goal.returns
-returns c = view_block c.args.name c.args.body c.args.span

@@ -1,5 +1,0 @@
-use Rattle.tera_tree.proofs.Views.{view_capture}
-use Rattle.tera_tree.proofs.node.Node.capture.Goals as goal
-
-pub returns : goal.returns
-returns c = view_capture c.args.name c.args.filters c.args.body c.args.is_global

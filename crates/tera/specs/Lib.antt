@@ -12,6 +12,7 @@ pub use Rattle.tera_errors.specs.Report
 pub use Rattle.tera_values.specs.Val
 pub use Rattle.tera_values.specs.Named
 pub use Rattle.tera_values.specs.Number
+pub use Rattle.tera_operators.specs.Operand
 pub use Rattle.tera_state.specs.View
 pub use Rattle.tera_components.specs.Definition
 pub use Rattle.tera_meaning.specs.Components

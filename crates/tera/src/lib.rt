@@ -19,8 +19,8 @@ pub use tera_state::{
 };
 pub use tera_syntax::parse;
 pub use tera_syntax_tree::{
-    BinaryOperator, Bounds, Delimiters, Entry, Expression, Heading, Item, LiteralKey, Node,
-    ParserOutput, Quoted,
+    BinaryOperator, Bounds, Choice, Delimiters, Entry, Expression, Heading, Indexed, Item,
+    LiteralKey, Node, Operands, ParserOutput, Quoted,
 };
 pub use tera_values::{
     ArgFromValue, Context, Error, ErrorKind, Key, Kwargs, Map, ReportError, Span, TeraResult,

@@ -1,12 +1,14 @@
 // The instructions of one body.
-ghost use Rattle.std.specs.Prelude.{◌≡◌, ◌+◌, ◌<◌, ◌^◌, [], ◌∷◌, length, slice_get, OnOk, IfErr, IfSome, MatchOption, Some, None, option_map, option_and_then};
+ghost use Rattle.std.specs.Prelude.{◌≡◌, ◌+◌, ◌<◌, ◌^◌, [], ◌∷◌, cond, false, length, slice_get, OnOk, IfErr, IfSome, IsTrue, MatchOption, Some, None, option_map, option_and_then, unwrap_or};
 ghost use Rattle.tera_errors.specs.Answer.{Lacks};
+ghost use Rattle.tera_code.specs.Asked.{loaded_attribute, is_write_top, jump_length_if_false};
 ghost use Rattle.tera_code.specs.Called.{callee_of, called_by};
 ghost use Rattle.tera_code.specs.Code.{lengthened};
 ghost use Rattle.tera_code.specs.declared.instruction.Instruction.TheVariants as instruction;
 ghost use Rattle.tera_code.specs.Places.{filled};
 
 use crate::callee::Callee;
+use crate::content::Text;
 use crate::instruction::Instruction;
 use crate::lent::LentInstruction;
 use crate::packed::{Packed, Tables};
@@ -71,7 +73,7 @@ impl Chunk {
         self.tables.references.as_slice()
     }
 
-    /// The instruction at this place, from 0, which is counted where there is one. No other call hands one out.
+    /// The instruction at this place, from 0, which is counted where there is one. No call hands one out that it doesn't count.
     #[inline(always)]
     pub fn get<L: Ledger>(&self, at: usize, steps: &mut Steps<L>) -> Option<LentInstruction<'_>>
         ensures found { MatchOption result (slice_get self.now.code at ≡ None)
@@ -85,6 +87,78 @@ impl Chunk {
             Some(packed) => {
                 steps.tick();
                 Some(LentInstruction::new(packed, &self.tables))
+            }
+        }
+    }
+
+    /// The attribute that the instruction at this place takes, which is counted where it takes one.
+    #[inline(always)]
+    pub fn attribute_at<L: Ledger>(
+        &self,
+        at: usize,
+        steps: &mut Steps<L>,
+    ) -> Option<(Text<'_>, bool, Span)>
+        ensures means { IfSome result (λ p. slice_get self.now.code at
+            ≡ Some (instruction.LoadAttribute p.0 p.1 p.2)) }
+        ensures exact { option_map (λ p. (p.0, p.1, p.2)) result
+            ≡ option_and_then loaded_attribute (slice_get self.now.code at) }
+        ensures count { MatchOption result (steps.new ≡ steps.old)
+            (λ _. steps.new ≡ steps.old + 1) }
+    {
+        match self.code.get(at) {
+            None => None,
+            Some(packed) => match LentInstruction::new(packed, &self.tables).as_attribute() {
+                None => None,
+                Some(attribute) => {
+                    steps.tick();
+                    Some(attribute)
+                }
+            },
+        }
+    }
+
+    /// Whether the instruction at this place puts out the topmost operand. It is counted where it does.
+    #[inline(always)]
+    pub fn writes_top_at<L: Ledger>(&self, at: usize, steps: &mut Steps<L>) -> bool
+        ensures means { IsTrue result → slice_get self.now.code at ≡ Some instruction.WriteTop }
+        ensures exact { result
+            ≡ unwrap_or (option_map is_write_top (slice_get self.now.code at)) false }
+        ensures count { steps.new ≡ cond result (steps.old + 1) steps.old }
+    {
+        match self.code.get(at) {
+            None => false,
+            Some(packed) => {
+                if LentInstruction::new(packed, &self.tables).is_write_top() {
+                    steps.tick();
+                    true
+                } else {
+                    false
+                }
+            }
+        }
+    }
+
+    /// How many instructions that at this place passes where the operand that it takes is falsy. It is counted where it is such
+    /// a one.
+    #[inline(always)]
+    pub fn pop_jump_if_false_at<L: Ledger>(&self, at: usize, steps: &mut Steps<L>) -> Option<usize>
+        ensures means { IfSome result (λ skip. slice_get self.now.code at
+            ≡ Some (instruction.PopJumpIfFalse skip)) }
+        ensures exact { result
+            ≡ option_and_then jump_length_if_false (slice_get self.now.code at) }
+        ensures count { MatchOption result (steps.new ≡ steps.old)
+            (λ _. steps.new ≡ steps.old + 1) }
+    {
+        match self.code.get(at) {
+            None => None,
+            Some(packed) => {
+                match LentInstruction::new(packed, &self.tables).as_pop_jump_if_false() {
+                    None => None,
+                    Some(skip) => {
+                        steps.tick();
+                        Some(skip)
+                    }
+                }
             }
         }
     }

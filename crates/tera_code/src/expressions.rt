@@ -63,13 +63,12 @@ impl Compiler {
                 self.attribute(name, *optional, *span)
             }
             Expression::Index {
-                target,
-                index,
+                parts,
                 optional,
                 span,
             } => {
-                self.expression(target)?;
-                self.expression(index)?;
+                self.expression(&parts.target)?;
+                self.expression(&parts.index)?;
                 self.emit(Instruction::LoadItem {
                     optional: *optional,
                     span: *span,
@@ -113,12 +112,11 @@ impl Compiler {
             }
             Expression::Binary {
                 operator,
-                left,
-                right,
+                operands,
                 span,
             } => {
-                self.expression(left)?;
-                self.expression(right)?;
+                self.expression(&operands.left)?;
+                self.expression(&operands.right)?;
                 self.emit(Instruction::Binary(*operator, *span))
             }
             _ => unreachable!(),
@@ -134,29 +132,24 @@ impl Compiler {
         ensures lacks { IfErr result Lacks }
     {
         match expression {
-            Expression::And { left, right, .. } => {
-                self.expression(left)?;
+            Expression::And { operands, .. } => {
+                self.expression(&operands.left)?;
                 let place = self.keep_place()?;
-                self.expression(right)?;
+                self.expression(&operands.right)?;
                 self.fill(place, Instruction::JumpIfFalseOrPop(self.behind(place)))
             }
-            Expression::Or { left, right, .. } => {
-                self.expression(left)?;
+            Expression::Or { operands, .. } => {
+                self.expression(&operands.left)?;
                 let place = self.keep_place()?;
-                self.expression(right)?;
+                self.expression(&operands.right)?;
                 self.fill(place, Instruction::JumpIfTrueOrPop(self.behind(place)))
             }
-            Expression::Ternary {
-                value,
-                condition,
-                other,
-                ..
-            } => {
-                self.expression(condition)?;
+            Expression::Ternary { choice, .. } => {
+                self.expression(&choice.condition)?;
                 let place = self.keep_place()?;
-                self.expression(value)?;
+                self.expression(&choice.value)?;
                 let place = self.divide(place)?;
-                self.expression(other)?;
+                self.expression(&choice.other)?;
                 self.fill(place, Instruction::Jump(self.behind(place)))
             }
             _ => unreachable!(),

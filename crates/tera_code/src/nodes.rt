@@ -1,8 +1,8 @@
 // Nodes.
-ghost use Rattle.std.specs.Prelude.{◌≡◌, [], ◌∷◌, true, OnOk, IfOk, IfErr, MatchOption, Some, None};
+ghost use Rattle.std.specs.Prelude.{◌≡◌, [], ◌∷◌, true, OnOk, IfOk, IfErr};
 ghost use Rattle.tera_errors.specs.Answer.{Lacks};
 ghost use Rattle.tera_code.specs.declared.instruction.Instruction.TheVariants as instruction;
-ghost use Rattle.tera_code.specs.Code.{named, handed_code, node_code, nodes_code, listing_of, lengthened};
+ghost use Rattle.tera_code.specs.Code.{handed_code, node_code, nodes_code, listing_of, lengthened};
 ghost use Rattle.tera_code.specs.Group.{has_other_body};
 ghost use Rattle.tera_syntax_tree.specs.Tree as tree;
 ghost use Rattle.tera_syntax_tree.specs.View.{expr_of, entries_of, node_of, nodes_of};
@@ -183,9 +183,9 @@ impl Compiler {
             (node_code (tree.Print (expr_of value.now)) 0)) }
         ensures lacks { IfErr result Lacks }
     {
-        match named(value) {
-            Some((name, span)) => self.emit_name(name, span),
-            None => {
+        match value {
+            Expression::Name { name, span } => self.print_name(name, *span),
+            _ => {
                 self.expression(value)?;
                 self.emit(Instruction::WriteTop)
             }
@@ -201,21 +201,4 @@ pub fn compiled(alloc: Global, file: &str, nodes: &[Node]) -> TeraResult<Chunk>
     let mut compiler = Compiler::new(alloc, file)?;
     compiler.compile(nodes)?;
     Ok(compiler.into_chunk())
-}
-
-// The name that an expression is, if it is one that is looked up.
-fn named<'s>(expression: &Expression<'s>) -> Option<(&'s str, Span)>
-    ensures { MatchOption result (named (expr_of expression.now) ≡ None)
-        (λ p. named (expr_of expression.now) ≡ Some (p.0.now, p.1)) }
-{
-    match expression {
-        Expression::Name { name, span } => {
-            if is_context(name) {
-                None
-            } else {
-                Some((name, *span))
-            }
-        }
-        _ => None,
-    }
 }

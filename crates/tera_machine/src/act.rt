@@ -12,7 +12,6 @@ ghost use Rattle.tera_syntax_tree.specs.declared.expression.BinaryOperator.{Bina
 use crate::asked::{Asked, AskedComponent, AskedTemplate};
 use crate::configuration::Configuration;
 use crate::machine::{Flow, VirtualMachine};
-use crate::taken::take;
 use std::alloc::Global;
 use tera_code::{Instruction, Keys, LentName, Spreads};
 use tera_objects::Objects;
@@ -131,7 +130,7 @@ impl<'c> Configuration<'c> {
         ensures { Does (top_written (here_of O.engine machine.now file.now self.old))
             self.old result self.new }
     {
-        let operand = take(&mut self.operands);
+        let operand = self.operands.take();
         if operand.value().is_undefined() {
             return Err(undefined_written(machine.alloc, file, operand.span()));
         }
@@ -233,7 +232,7 @@ impl<'c> Configuration<'c> {
         requires { IsReady (stored is_global name.now) self.old }
         ensures { Does (stored is_global name.now) self.old result self.new }
     {
-        let operand = take(&mut self.operands);
+        let operand = self.operands.take();
         let value = operand.into_value().shared(alloc)?;
         if is_global {
             self.scopes.set_global(name.share()?, value)?;
@@ -255,7 +254,7 @@ impl<'c> Configuration<'c> {
         requires { IsReady (attribute_loaded file.now name.now optional span) self.old }
         ensures { Does (attribute_loaded file.now name.now optional span) self.old result self.new }
     {
-        let target = take(&mut self.operands);
+        let target = self.operands.take();
         let operand = tera_operators::attribute(alloc, file, &target, name, optional, span)?;
         self.put(operand)
     }
@@ -271,8 +270,8 @@ impl<'c> Configuration<'c> {
         requires { IsReady (item_loaded file.now optional span) self.old }
         ensures { Does (item_loaded file.now optional span) self.old result self.new }
     {
-        let index = take(&mut self.operands);
-        let target = take(&mut self.operands);
+        let index = self.operands.take();
+        let target = self.operands.take();
         let operand = tera_operators::item(alloc, file, &target, &index, optional, span)?;
         self.put(operand)
     }
@@ -287,10 +286,10 @@ impl<'c> Configuration<'c> {
         requires { IsReady (sliced file.now optional span) self.old }
         ensures { Does (sliced file.now optional span) self.old result self.new }
     {
-        let step = take(&mut self.operands);
-        let end = take(&mut self.operands);
-        let start = take(&mut self.operands);
-        let target = take(&mut self.operands);
+        let step = self.operands.take();
+        let end = self.operands.take();
+        let start = self.operands.take();
+        let target = self.operands.take();
         let operand = tera_operators::slice(
             alloc, file, &target, &start, &end, &step, optional, span,
         )?;
@@ -302,7 +301,7 @@ impl<'c> Configuration<'c> {
         requires { IsReady denied self.old }
         ensures { Does denied self.old result self.new }
     {
-        let operand = take(&mut self.operands);
+        let operand = self.operands.take();
         self.put(tera_operators::not(&operand))
     }
 
@@ -310,7 +309,7 @@ impl<'c> Configuration<'c> {
         requires { IsReady (negated file.now) self.old }
         ensures { Does (negated file.now) self.old result self.new }
     {
-        let operand = take(&mut self.operands);
+        let operand = self.operands.take();
         let operand = tera_operators::negative(alloc, file, &operand)?;
         self.put(operand)
     }
@@ -326,8 +325,8 @@ impl<'c> Configuration<'c> {
         requires { IsReady (operated file.now operator span) self.old }
         ensures { Does (operated file.now operator span) self.old result self.new }
     {
-        let right = take(&mut self.operands);
-        let left = take(&mut self.operands);
+        let right = self.operands.take();
+        let left = self.operands.take();
         let operand = tera_operators::binary(alloc, file, operator, &left, &right, span)?;
         self.put(operand)
     }
@@ -396,7 +395,7 @@ impl<'c> Configuration<'c> {
         if !has_body {
             return Ok(None);
         }
-        let operand = take(&mut self.operands);
+        let operand = self.operands.take();
         Ok(Some(operand.into_value().shared(alloc)?))
     }
 
@@ -439,7 +438,7 @@ impl<'c> Configuration<'c> {
         requires { IsReady (popped_branch skip) self.old }
         ensures { Does (popped_branch skip) self.old result self.new }
     {
-        let operand = take(&mut self.operands);
+        let operand = self.operands.take();
         if operand.value().is_truthy() {
             Ok(Flow::On)
         } else {
@@ -451,7 +450,7 @@ impl<'c> Configuration<'c> {
         requires { IsReady (kept_if_falsy skip) self.old }
         ensures { Does (kept_if_falsy skip) self.old result self.new }
     {
-        let operand = take(&mut self.operands);
+        let operand = self.operands.take();
         if operand.value().is_truthy() {
             Ok(Flow::On)
         } else {
@@ -464,7 +463,7 @@ impl<'c> Configuration<'c> {
         requires { IsReady (kept_if_truthy skip) self.old }
         ensures { Does (kept_if_truthy skip) self.old result self.new }
     {
-        let operand = take(&mut self.operands);
+        let operand = self.operands.take();
         if operand.value().is_truthy() {
             self.operands.push(operand)?;
             Ok(Flow::Skip(skip))

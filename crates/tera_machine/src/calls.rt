@@ -4,7 +4,6 @@ ghost use Rattle.tera_machine.specs.Subject.{here_of};
 
 use crate::configuration::Configuration;
 use crate::machine::{Flow, VirtualMachine};
-use crate::taken::take;
 use tera_code::{LentName, Names};
 use tera_objects::{Objects, filter, function, test};
 use tera_values::{Span, TeraResult};
@@ -30,7 +29,7 @@ impl<'c> Configuration<'c> {
             unreachable!()
         }
         let operands = self.operands.pop_many(names.len())?;
-        let target = take(&mut self.operands);
+        let target = self.operands.take();
         let operand = filter(
             machine.alloc,
             file,
@@ -66,7 +65,7 @@ impl<'c> Configuration<'c> {
             unreachable!()
         }
         let operands = self.operands.pop_many(names.len())?;
-        let target = take(&mut self.operands);
+        let target = self.operands.take();
         let operand = test(
             machine.alloc,
             file,

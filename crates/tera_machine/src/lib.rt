@@ -15,7 +15,6 @@ mod loops;
 pub mod machine;
 pub mod place;
 mod step;
-mod taken;
 pub mod texts;
 pub mod wanted;
 

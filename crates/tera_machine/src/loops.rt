@@ -13,7 +13,6 @@ ghost use Rattle.tera_machine.specs.Subject.{here_of};
 use crate::configuration::Configuration;
 use crate::machine::{Flow, VirtualMachine};
 use crate::place::LoopPlace;
-use crate::taken::take;
 use std::alloc::Global;
 use tera_code::LentName;
 use tera_objects::Objects;
@@ -80,7 +79,7 @@ impl<'c> Configuration<'c> {
             next key.now name.now counts size) self.old result self.new }
     {
         let alloc = machine.alloc;
-        let operand = take(&mut self.operands);
+        let operand = self.operands.take();
         match opened(alloc, file, key, name, counts, operand)? {
             None => Ok(Flow::Skip(size + 2)),
             Some(opened) => {
@@ -119,7 +118,7 @@ impl<'c> Configuration<'c> {
         ensures stays { around_of self.new.scopes ≡ around_of self.old.scopes }
     {
         self.scopes.close_loop();
-        let place = take(&mut self.places);
+        let place = self.places.take();
         let LoopPlace {
             start: _,
             size: _,
@@ -140,8 +139,8 @@ impl<'c> Configuration<'c> {
         requires { IsReady kept self.old }
         ensures { Does kept self.old result self.new }
     {
-        let operand = take(&mut self.operands);
-        let mut place = take(&mut self.places);
+        let operand = self.operands.take();
+        let mut place = self.places.take();
         place.kept.push(operand.into_value())?;
         self.places.push(place)?;
         Ok(Flow::On)

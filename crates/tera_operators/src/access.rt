@@ -1,10 +1,13 @@
 // Attributes, items and slices.
-ghost use Rattle.tera_errors.specs.Answer.{Gives};
-ghost use Rattle.std.specs.Prelude.{◌≡◌, IsTrue, IsSome, IsOk, IsOkAnd};
+ghost use Rattle.std.specs.Prelude.{◌≡◌, IsTrue, IsSome, IsOk, IsOkAnd, option_copied, unwrap_or};
+ghost use Rattle.tera_errors.specs.Answer.{Gives, Tells};
+ghost use Rattle.tera_errors.specs.Fault.{rendering_error};
 ghost use Rattle.tera_values.specs.Access.{IsScalar};
+ghost use Rattle.tera_values.specs.Val.{undefined};
+ghost use Rattle.tera_operators.specs.Operand.{Evaluated};
 ghost use Rattle.tera_operators.specs.Accesses.{is_missing, part_of, Decides, attribute_of, item_of, bound_at, slice_of};
 
-use crate::operand::Operand;
+use crate::operand::{LentOperand, Operand};
 use crate::place::{operand_or_fault, spanning};
 use std::alloc::Global;
 use tera_values::{Error, Shape, Span, TeraResult, Value};
@@ -18,6 +21,12 @@ fn is_missing(value: &Value) -> bool
         Shape::None => true,
         _ => false,
     }
+}
+
+fn undefined_has_no_parts(alloc: Global, file: &str, span: Span) -> Error
+    ensures { Tells result (rendering_error (record { file = file.now; span = span })) }
+{
+    Error::rendering(alloc, "undefined has no parts", file, span)
 }
 
 /// What any access answers of a target that has no parts: a fault of undefined, or, where the access is optional, undefined
@@ -38,12 +47,66 @@ fn without_parts(
             return Ok(Some(Operand::new(Value::undefined(), span)));
         }
     } else if target.value().is_undefined() {
-        return Err(Error::rendering(alloc, "undefined has no parts", file, target.span()));
+        return Err(undefined_has_no_parts(alloc, file, target.span()));
     }
     Ok(None)
 }
 
-/// `target.name`, or `target?.name` where it is optional: undefined where the target has no such attribute.
+impl<'v> LentOperand<'v> {
+    /// `target.name`, or `target?.name` where it is optional: undefined where the target has no such attribute. It is lent
+    /// as the target is.
+    pub fn attribute(
+        &self,
+        alloc: Global,
+        file: &str,
+        name: &str,
+        optional: bool,
+        span: Span,
+    ) -> TeraResult<LentOperand<'v>>
+        ensures part { Gives (λ o. o) result
+            (attribute_of file.now optional self.now name.now span) }
+        ensures ready { IsOk (attribute_of file.now optional self.now name.now span) →
+            IsOk result }
+    {
+        match self.value() {
+            Some(value) => attribute_in(alloc, file, value, self.span(), name, optional, span),
+            None => {
+                if optional {
+                    Ok(LentOperand::new(None, span))
+                } else {
+                    Err(undefined_has_no_parts(alloc, file, self.span()))
+                }
+            }
+        }
+    }
+}
+
+// The same of a value at its own span, which is there.
+fn attribute_in<'v>(
+    alloc: Global,
+    file: &str,
+    value: &'v Value,
+    at: Span,
+    name: &str,
+    optional: bool,
+    span: Span,
+) -> TeraResult<LentOperand<'v>>
+    ensures part { let target : Evaluated = record { value = value.now; span = at } in
+        Gives (λ o. o) result (attribute_of file.now optional target name.now span) }
+    ensures ready { let target : Evaluated = record { value = value.now; span = at } in
+        IsOk (attribute_of file.now optional target name.now span) → IsOk result }
+{
+    if optional {
+        if is_missing(value) {
+            return Ok(LentOperand::new(None, span));
+        }
+    } else if value.is_undefined() {
+        return Err(undefined_has_no_parts(alloc, file, at));
+    }
+    Ok(LentOperand::new(value.get_attr(name), span))
+}
+
+/// The same as an operand of its own, of a target that was evaluated.
 pub fn attribute(
     alloc: Global,
     file: &str,
@@ -57,13 +120,10 @@ pub fn attribute(
     ensures ready { IsOkAnd (attribute_of file.now optional target.now name.now span)
         (λ o. IsScalar o.value) → IsOk result }
 {
-    if let Some(answer) = without_parts(alloc, file, target, optional, span)? {
-        return Ok(answer);
-    }
-    match target.value().get_attr(name) {
-        Some(value) => Ok(Operand::new(value.try_clone()?, span)),
-        None => Ok(Operand::new(Value::undefined(), span)),
-    }
+    target
+        .lend()
+        .attribute(alloc, file, name, optional, span)?
+        .to_operand()
 }
 
 /// `target[index]`, or `target?[index]` where it is optional.

@@ -21,6 +21,6 @@ pub use calls::{arguments, operand_or_call_fault};
 pub use compare::not;
 pub use listed::Entries;
 pub use maps::{entries, map};
-pub use operand::Operand;
+pub use operand::{LentOperand, Operand};
 pub use operator::binary;
 pub use place::{fault_at, operand_or_fault};

@@ -1,9 +1,12 @@
 // Values that were evaluated.
-ghost use Rattle.std.specs.Prelude.{◌≡◌};
+ghost use Rattle.std.specs.Prelude.{◌≡◌, Ok, IsOk, option_copied, unwrap_or};
+ghost use Rattle.tera_errors.specs.Answer.{Gives};
+ghost use Rattle.tera_values.specs.Access.{IsScalar, is_undefined, truthy};
+ghost use Rattle.tera_values.specs.Val.{undefined};
 ghost use Rattle.tera_operators.specs.Operand.{Evaluated};
 
 use std::marker::Model;
-use tera_values::{Span, Value};
+use tera_values::{Span, TeraResult, Value};
 
 /// A value, and the span at which a fault in it is reported.
 #[derive(Drop)]
@@ -54,5 +57,98 @@ impl Operand {
     {
         let Operand { value, span: _ } = self;
         value
+    }
+
+    /// The same, where it lies.
+    #[inline(always)]
+    pub fn lend(&self) -> LentOperand<'_>
+        ensures { result ≡ self.now }
+    {
+        LentOperand {
+            value: Some(&self.value),
+            span: self.span,
+        }
+    }
+}
+
+/// An operand that lies elsewhere: nothing of it is copied. Without a value it is undefined.
+#[derive(Drop)]
+pub struct LentOperand<'v> {
+    value: Option<&'v Value>,
+    span: Span,
+}
+
+impl<'v> Model for LentOperand<'v> {
+    ghost use Rattle.std.specs.Prelude.{option_copied, unwrap_or};
+    ghost use Rattle.tera_values.specs.Val.{undefined};
+    ghost use Rattle.tera_operators.specs.Operand.{Evaluated, evaluated_code};
+
+    ghost Value = { Evaluated };
+
+    ghost coded = { evaluated_code };
+
+    ghost view = { λ o. record {
+      value = unwrap_or (option_copied o.value) undefined;
+      span = o.span;
+    } };
+}
+
+impl<'v> LentOperand<'v> {
+    /// The value at its span, or undefined.
+    #[inline(always)]
+    pub fn new(value: Option<&'v Value>, span: Span) -> LentOperand<'v>
+        ensures { result
+            ≡ record { value = unwrap_or (option_copied value.entry) undefined; span = span } }
+    {
+        LentOperand { value, span }
+    }
+
+    /// The value, where there is one.
+    #[inline(always)]
+    pub fn value(&self) -> Option<&'v Value>
+        ensures { unwrap_or (option_copied result) undefined ≡ self.now.value }
+    {
+        self.value
+    }
+
+    /// The span.
+    #[inline(always)]
+    pub fn span(&self) -> Span
+        ensures { result ≡ self.now.span }
+    {
+        self.span
+    }
+
+    /// Whether it is undefined.
+    #[inline(always)]
+    pub fn is_undefined(&self) -> bool
+        ensures { result ≡ is_undefined self.now.value }
+    {
+        match self.value {
+            Some(value) => value.is_undefined(),
+            None => true,
+        }
+    }
+
+    /// Whether a choice takes it for true.
+    #[inline(always)]
+    pub fn is_truthy(&self) -> bool
+        ensures { result ≡ truthy self.now.value }
+    {
+        match self.value {
+            Some(value) => value.is_truthy(),
+            None => false,
+        }
+    }
+
+    /// An operand of its own. Only what is not in shared form is copied.
+    pub fn to_operand(&self) -> TeraResult<Operand>
+        ensures operand { Gives (λ o. o) result (Ok self.now) }
+        ensures ready { IsScalar self.now.value → IsOk result }
+    {
+        match self.value {
+            Some(value) => Ok(Operand::new(value.try_clone()?, self.span)),
+            None => Ok(Operand::new(Value::undefined(), self.span)),
+        }
     }
 }

@@ -341,9 +341,6 @@ impl<'c> Scopes<'c> {
         ensures coming { coming_around self.old ≡ coming_of self.new ∷ coming_around self.new }
     {
         self.bindings.clear_frame(self.below.len());
-        match self.below.pop() {
-            Some(outer) => self.frame = outer,
-            None => {}
-        }
+        self.frame = self.below.take();
     }
 }

@@ -1,5 +1,5 @@
 // A stack.
-ghost use Rattle.std.specs.Prelude.{◌≡◌, ◌<◌, ◌≤◌, ◌^◌, [], ◌∷◌, length, reverse, take, drop, slice_get, MatchOption, IfOk, OnOk, OnErr, IfErr, None, Some};
+ghost use Rattle.std.specs.Prelude.{◌≡◌, ◌≢◌, ◌<◌, ◌≤◌, ◌^◌, [], ◌∷◌, length, reverse, take, drop, slice_get, MatchOption, IfOk, OnOk, OnErr, IfErr, None, Some};
 ghost use Rattle.tera_errors.specs.Answer.{Lacks};
 
 use std::alloc::Global;
@@ -47,6 +47,18 @@ impl<T: Drop> Stack<T> {
             (λ value. self.old ≡ value ∷ self.new) }
     {
         self.items.pop()
+    }
+
+    /// The topmost value, taken off, where it is known that there is one.
+    #[inline(always)]
+    pub fn take(&mut self) -> T
+        requires { self.old ≢ [] }
+        ensures { self.old ≡ result ∷ self.new }
+    {
+        match self.items.pop() {
+            Some(value) => value,
+            None => unreachable!(),
+        }
     }
 
     /// How many values there are.

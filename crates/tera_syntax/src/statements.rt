@@ -26,12 +26,12 @@ use tera_syntax_tree::{Expression, Heading, Node, SectionFilter};
 
 /// An expression that is all from here to the end of the tag.
 #[tactic(auto, unfolding(crate::specs::Reader::whole))]
-pub(crate) fn whole<'s>(
+fn whole<'s>(
     alloc: Global,
     tokens: &mut Tokens<'_, 's>,
     limit: usize,
-) -> Result<Box<Expression<'s>>, Refusal>
-    ensures { Answers (λ b. expr_of b.value) (spec.whole limit (input tokens.old)) result }
+) -> Result<Expression<'s>, Refusal>
+    ensures { Answers expr_of (spec.whole limit (input tokens.old)) result }
 {
     let value = expr(alloc, tokens, limit, 0)?;
     if same(Kind::End, tokens.kind()) {
@@ -39,6 +39,18 @@ pub(crate) fn whole<'s>(
     } else {
         Err(tokens.refuse(Reason::TagGoesOn))
     }
+}
+
+/// The same in a box.
+pub(crate) fn boxed<'s>(
+    alloc: Global,
+    tokens: &mut Tokens<'_, 's>,
+    limit: usize,
+) -> Result<Box<Expression<'s>>, Refusal>
+    ensures { Answers (λ b. expr_of b.value) (spec.whole limit (input tokens.old)) result }
+{
+    let value = whole(alloc, tokens, limit)?;
+    Ok(Box::new(alloc, value)?)
 }
 
 /// Filters that are all from here to the end of the tag.
@@ -67,7 +79,7 @@ fn heading<'s>(
     ensures { Answers (λ b. heading_of b.value) (spec.looping limit (input tokens.old)) result }
 {
     let LoopNames { key, name } = names(tokens)?;
-    let target = Box::into_inner(whole(alloc, tokens, limit)?);
+    let target = whole(alloc, tokens, limit)?;
     Ok(Box::new(alloc, Heading { key, name, target })?)
 }
 
@@ -108,7 +120,7 @@ fn statement<'s>(
     match first(tag) {
         Kind::If => {
             let mut ahead = behind(tag, progress.surroundings.in_loop);
-            let condition = whole(alloc, &mut ahead, progress.room())?;
+            let condition = boxed(alloc, &mut ahead, progress.room())?;
             progress.open(alloc, false, Head::If(condition), tag)
         }
         Kind::For => {
@@ -118,7 +130,7 @@ fn statement<'s>(
         }
         Kind::Elif => {
             let mut ahead = behind(tag, progress.around().in_loop);
-            let condition = whole(alloc, &mut ahead, progress.room())?;
+            let condition = boxed(alloc, &mut ahead, progress.room())?;
             progress.go_on(alloc, tag)?;
             progress.open(alloc, true, Head::If(condition), tag)
         }
@@ -160,7 +172,7 @@ fn lone_name<'s>(tag: &[Token<'s>]) -> Option<Token<'s>>
     }
 }
 
-/// `{{ value }}`. Most are a name alone, which no box is made for.
+/// `{{ value }}`. No box is made for a name alone.
 fn print<'s>(progress: &mut Progress<'s>, alloc: Global, tag: &[Token<'s>]) -> Result<(), Refusal>
     ensures { let s = progress_of progress.old in
         let tokens = tokens_of tag.now in
@@ -188,7 +200,7 @@ fn print_value<'s>(
         Becomes (spec.printed 200 s value) result progress.new }
 {
     let mut ahead = Tokens::begin(tag, progress.surroundings.in_loop);
-    let value = whole(alloc, &mut ahead, progress.room())?;
+    let value = boxed(alloc, &mut ahead, progress.room())?;
     progress.add(Node::Print { value })
 }
 

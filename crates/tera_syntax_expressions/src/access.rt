@@ -2,15 +2,15 @@
 ghost use Rattle.tera_syntax_tree.specs.View.{optional_of};
 ghost use Rattle.tera_syntax_tokens.specs.Takes.{Takes, input};
 ghost use Rattle.tera_syntax_expressions.specs.Expressions as spec;
-ghost use Rattle.tera_syntax_expressions.specs.Parts.{Nests, deep_of, part_of};
+ghost use Rattle.tera_syntax_expressions.specs.Parts.{Nests, deep_of, part_expr, part_of};
 
 use crate::expressions::Deep;
-use crate::reader::{Part, Reader, larger};
+use crate::reader::{Part, Reader, boxed, larger};
 use std::alloc::Global;
 use tera_syntax_tokens::input::{Tokens, is_word, same};
 use tera_syntax_tokens::refusal::{Reason, Refusal};
 use tera_syntax_tokens::token::Kind;
-use tera_syntax_tree::{Bounds, Expression};
+use tera_syntax_tree::{Bounds, Expression, Indexed};
 
 impl<'s, F: Fn(Global, &mut Tokens<'_, 's>, usize, u8) -> Result<Deep<'s>, Refusal>> Reader<F> {
     /// `x.name`, from the dot on.
@@ -33,7 +33,8 @@ impl<'s, F: Fn(Global, &mut Tokens<'_, 's>, usize, u8) -> Result<Deep<'s>, Refus
         tokens.take();
         let span = tokens.span(start);
         let depth = x.depth;
-        let expression = Expression::attribute(x.expression, name, optional, span);
+        let target = Box::new(self.alloc, x.expression)?;
+        let expression = Expression::attribute(target, name, optional, span);
         self.node(tokens, depth, expression)
     }
 
@@ -111,11 +112,11 @@ impl<'s, F: Fn(Global, &mut Tokens<'_, 's>, usize, u8) -> Result<Deep<'s>, Refus
         optional: bool,
         start: usize,
         x: Deep<'s>,
-        y: Option<Box<Expression<'s>>>,
+        y: Option<Expression<'s>>,
         depth: usize,
     ) -> Result<Deep<'s>, Refusal>
         ensures { Takes deep_of (spec.index_at self.now.limit (spec.expr self.now.below)
-            optional start (deep_of x.entry) (optional_of y.entry) depth (input tokens.old))
+            optional start (deep_of x.entry) (part_expr y.entry) depth (input tokens.old))
             result tokens.new }
     {
         match y {
@@ -125,8 +126,12 @@ impl<'s, F: Fn(Global, &mut Tokens<'_, 's>, usize, u8) -> Result<Deep<'s>, Refus
                 let a = x.depth;
                 let depth = larger(a, depth);
                 let span = tokens.span(start);
-                let expression = Expression::index(x.expression, index, optional, span);
-                self.node(tokens, depth, expression)
+                let parts = Indexed {
+                    target: x.expression,
+                    index,
+                };
+                let parts = Box::new(self.alloc, parts)?;
+                self.node(tokens, depth, Expression::index(parts, optional, span))
             }
         }
     }
@@ -151,9 +156,9 @@ impl<'s, F: Fn(Global, &mut Tokens<'_, 's>, usize, u8) -> Result<Deep<'s>, Refus
         let (a, b, c) = (p.depth, q.depth, r.depth);
         let depth = larger(a, larger(b, c));
         let bounds = Bounds {
-            start: p.expression,
-            end: q.expression,
-            step: r.expression,
+            start: boxed(self.alloc, p.expression)?,
+            end: boxed(self.alloc, q.expression)?,
+            step: boxed(self.alloc, r.expression)?,
         };
         let bounds = Box::new(self.alloc, bounds)?;
         self.slice_made(tokens, optional, start, x, bounds, depth)
@@ -180,7 +185,8 @@ impl<'s, F: Fn(Global, &mut Tokens<'_, 's>, usize, u8) -> Result<Deep<'s>, Refus
         let a = x.depth;
         let depth = larger(a, depth);
         let span = tokens.span(start);
-        let expression = Expression::slice(x.expression, bounds, optional, span);
+        let target = Box::new(self.alloc, x.expression)?;
+        let expression = Expression::slice(target, bounds, optional, span);
         self.node(tokens, depth, expression)
     }
 }

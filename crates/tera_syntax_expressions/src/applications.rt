@@ -37,7 +37,8 @@ impl<'s, F: Fn(Global, &mut Tokens<'_, 's>, usize, u8) -> Result<Deep<'s>, Refus
         let a = x.depth;
         let depth = larger(a, b);
         let span = tokens.span(start);
-        let expression = Expression::filter(x.expression, name, arguments, span);
+        let value = Box::new(self.alloc, x.expression)?;
+        let expression = Expression::filter(value, name, arguments, span);
         self.node(tokens, depth, expression)
     }
 
@@ -60,7 +61,8 @@ impl<'s, F: Fn(Global, &mut Tokens<'_, 's>, usize, u8) -> Result<Deep<'s>, Refus
         tokens.take();
         let y = self.test_by_name(tokens, start, x)?;
         let depth = y.depth;
-        let expression = Expression::not(y.expression, tokens.span(start));
+        let operand = Box::new(self.alloc, y.expression)?;
+        let expression = Expression::not(operand, tokens.span(start));
         self.node(tokens, depth, expression)
     }
 
@@ -85,7 +87,8 @@ impl<'s, F: Fn(Global, &mut Tokens<'_, 's>, usize, u8) -> Result<Deep<'s>, Refus
         let a = x.depth;
         let depth = larger(a, b);
         let span = tokens.span(start);
-        let expression = Expression::test(x.expression, name, arguments, span);
+        let value = Box::new(self.alloc, x.expression)?;
+        let expression = Expression::test(value, name, arguments, span);
         self.node(tokens, depth, expression)
     }
 

@@ -99,7 +99,7 @@ impl<'s, F: Fn(Global, &mut Tokens<'_, 's>, usize, u8) -> Result<Deep<'s>, Refus
             at,
             Argument {
                 name,
-                value: Box::into_inner(x.expression),
+                value: x.expression,
             },
         )?;
         Ok(x.depth)

@@ -60,7 +60,7 @@ impl<'s, F: Fn(Global, &mut Tokens<'_, 's>, usize, u8) -> Result<Deep<'s>, Refus
         let depth = x.depth;
         found.push(Item {
             is_spread,
-            value: Box::into_inner(x.expression),
+            value: x.expression,
         })?;
         let (items, depth) = self.items_behind(tokens, found, depth)?;
         let expression = Expression::array(items, tokens.span(start));
@@ -137,7 +137,7 @@ impl<'s, F: Fn(Global, &mut Tokens<'_, 's>, usize, u8) -> Result<Deep<'s>, Refus
         let x = self.sub(tokens, 0)?;
         found.push(Item {
             is_spread,
-            value: Box::into_inner(x.expression),
+            value: x.expression,
         })?;
         Ok(x.depth)
     }
@@ -210,7 +210,7 @@ impl<'s, F: Fn(Global, &mut Tokens<'_, 's>, usize, u8) -> Result<Deep<'s>, Refus
         };
         found.push(Entry {
             key,
-            value: Box::into_inner(x.expression),
+            value: x.expression,
         })?;
         Ok(x.depth)
     }

@@ -148,7 +148,7 @@ impl<'s, F: Fn(Global, &mut Tokens<'_, 's>, usize, u8) -> Result<Deep<'s>, Refus
             Err(refusal) => return Err(refusal),
         };
         let key = Some(LiteralKey::Text(Quoted::Lent(name)));
-        let value = Box::into_inner(x.expression);
+        let value = x.expression;
         found.push(Entry { key, value })?;
         Ok(x.depth)
     }
@@ -173,7 +173,7 @@ impl<'s, F: Fn(Global, &mut Tokens<'_, 's>, usize, u8) -> Result<Deep<'s>, Refus
             Ok(x) => x,
             Err(refusal) => return Err(refusal),
         };
-        let value = Box::into_inner(x.expression);
+        let value = x.expression;
         found.push(Entry { key: None, value })?;
         Ok(x.depth)
     }
@@ -198,7 +198,7 @@ impl<'s, F: Fn(Global, &mut Tokens<'_, 's>, usize, u8) -> Result<Deep<'s>, Refus
                 tokens.take();
                 let span = tokens.span(start);
                 Ok(Deep {
-                    expression: Box::new(self.alloc, Expression::Text { text, span })?,
+                    expression: Expression::Text { text, span },
                     depth: 1,
                 })
             }

@@ -7,7 +7,7 @@ ghost use Rattle.tera_syntax_expressions.specs.Parts.{Nests, deep_of, names_of, 
 
 use crate::expressions::Deep;
 use crate::headings::{LoopNames, names};
-use crate::reader::{Part, Reader, larger};
+use crate::reader::{Part, Reader, boxed, larger};
 use std::alloc::{AllocError, Global};
 use tera_syntax_tokens::input::{Tokens, same};
 use tera_syntax_tokens::refusal::Refusal;
@@ -75,8 +75,9 @@ impl<'s, F: Fn(Global, &mut Tokens<'_, 's>, usize, u8) -> Result<Deep<'s>, Refus
         let (a, b, c) = (x.depth, target.depth, only.depth);
         let depth = larger(a, larger(b, c));
         let heading = heading(self.alloc, names, target.expression)?;
-        let span = tokens.span(start);
-        let expression = Expression::comprehension(x.expression, heading, only.expression, span);
+        let only = boxed(self.alloc, only.expression)?;
+        let value = Box::new(self.alloc, x.expression)?;
+        let expression = Expression::comprehension(value, heading, only, tokens.span(start));
         self.node(tokens, depth, expression)
     }
 }
@@ -85,16 +86,16 @@ impl<'s, F: Fn(Global, &mut Tokens<'_, 's>, usize, u8) -> Result<Deep<'s>, Refus
 fn heading<'s>(
     alloc: Global,
     names: LoopNames<'s>,
-    target: Box<Expression<'s>>,
+    target: Expression<'s>,
 ) -> Result<Box<Heading<'s>>, AllocError>
     ensures key { IfOk result (λ h. option_copied h.value.key ≡ option_copied names.entry.key) }
     ensures name { IfOk result (λ h. h.value.name.now ≡ names.entry.name.now) }
-    ensures target { IfOk result (λ h. expr_of h.value.target ≡ expr_of target.entry.value) }
+    ensures target { IfOk result (λ h. expr_of h.value.target ≡ expr_of target.entry) }
 {
     let heading = Heading {
         key: names.key,
         name: names.name,
-        target: Box::into_inner(target),
+        target,
     };
     Ok(Box::new(alloc, heading)?)
 }

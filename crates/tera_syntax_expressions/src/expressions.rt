@@ -14,7 +14,7 @@ use tera_syntax_tree::Expression;
 #[derive(Drop)]
 pub struct Deep<'s> {
     /// The expression.
-    pub expression: Box<Expression<'s>>,
+    pub expression: Expression<'s>,
     /// How deep it is: a leaf is 1 deep.
     pub depth: usize,
 }

@@ -13,7 +13,7 @@ use tera_errors::Span;
 use tera_syntax_tokens::input::{Tokens, same};
 use tera_syntax_tokens::refusal::{Reason, Refusal};
 use tera_syntax_tokens::token::Kind;
-use tera_syntax_tree::{BinaryOperator, Expression};
+use tera_syntax_tree::{BinaryOperator, Choice, Expression, Operands};
 
 /// What stands between two operands.
 #[derive(Clone, Copy)]
@@ -38,7 +38,8 @@ impl<'s, F: Fn(Global, &mut Tokens<'_, 's>, usize, u8) -> Result<Deep<'s>, Refus
         tokens.take();
         let x = self.sub(tokens, 8)?;
         let depth = x.depth;
-        let expression = Expression::negate(x.expression, tokens.span(start));
+        let operand = Box::new(self.alloc, x.expression)?;
+        let expression = Expression::negate(operand, tokens.span(start));
         self.node(tokens, depth, expression)
     }
 
@@ -53,7 +54,8 @@ impl<'s, F: Fn(Global, &mut Tokens<'_, 's>, usize, u8) -> Result<Deep<'s>, Refus
         tokens.take();
         let x = self.sub(tokens, 3)?;
         let depth = x.depth;
-        let expression = Expression::not(x.expression, tokens.span(start));
+        let operand = Box::new(self.alloc, x.expression)?;
+        let expression = Expression::not(operand, tokens.span(start));
         self.node(tokens, depth, expression)
     }
 
@@ -76,8 +78,12 @@ impl<'s, F: Fn(Global, &mut Tokens<'_, 's>, usize, u8) -> Result<Deep<'s>, Refus
         let (a, b) = (x.depth, y.depth);
         let depth = larger(a, b);
         let span = tokens.span(start);
-        let expression = make_infix(op, x.expression, y.expression, span);
-        self.node(tokens, depth, expression)
+        let operands = Operands {
+            left: x.expression,
+            right: y.expression,
+        };
+        let operands = Box::new(self.alloc, operands)?;
+        self.node(tokens, depth, make_infix(op, operands, span))
     }
 
     /// The same, for an operator that works on two values.
@@ -115,7 +121,8 @@ impl<'s, F: Fn(Global, &mut Tokens<'_, 's>, usize, u8) -> Result<Deep<'s>, Refus
         }
         let y = self.binary(tokens, 5, BinaryOperator::In, start, x)?;
         let depth = y.depth;
-        let expression = Expression::not(y.expression, tokens.span(start));
+        let operand = Box::new(self.alloc, y.expression)?;
+        let expression = Expression::not(operand, tokens.span(start));
         self.node(tokens, depth, expression)
     }
 
@@ -154,24 +161,25 @@ impl<'s, F: Fn(Global, &mut Tokens<'_, 's>, usize, u8) -> Result<Deep<'s>, Refus
         let (a, b, c) = (x.depth, y.depth, z.depth);
         let depth = larger(a, larger(b, c));
         let span = tokens.span(start);
-        let expression = Expression::ternary(x.expression, y.expression, z.expression, span);
-        self.node(tokens, depth, expression)
+        let choice = Choice {
+            value: x.expression,
+            condition: y.expression,
+            other: z.expression,
+        };
+        let choice = Box::new(self.alloc, choice)?;
+        self.node(tokens, depth, Expression::ternary(choice, span))
     }
 }
 
 /// The form that an operator makes of its operands.
-pub(crate) fn make_infix<'s>(
-    op: Infix,
-    left: Box<Expression<'s>>,
-    right: Box<Expression<'s>>,
-    span: Span,
-) -> Expression<'s>
-    ensures { expr_of result ≡ infix_of op (expr_of left.entry.value) (expr_of right.entry.value)
+pub(crate) fn make_infix<'s>(op: Infix, operands: Box<Operands<'s>>, span: Span) -> Expression<'s>
+    ensures { expr_of result ≡ infix_of op (expr_of operands.entry.value.left)
+        (expr_of operands.entry.value.right)
         span }
 {
     match op {
-        Infix::And => Expression::and(left, right, span),
-        Infix::Or => Expression::or(left, right, span),
-        Infix::Binary(operator) => Expression::binary(operator, left, right, span),
+        Infix::And => Expression::and(operands, span),
+        Infix::Or => Expression::or(operands, span),
+        Infix::Binary(operator) => Expression::binary(operator, operands, span),
     }
 }

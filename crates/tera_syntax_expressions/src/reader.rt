@@ -1,12 +1,12 @@
 // What every form is read with.
-ghost use Rattle.std.specs.Prelude.{◌≡◌, max};
-ghost use Rattle.tera_syntax_tree.specs.View.{expr_of};
+ghost use Rattle.std.specs.Prelude.{◌≡◌, IfOk, max};
+ghost use Rattle.tera_syntax_tree.specs.View.{expr_of, optional_of};
 ghost use Rattle.tera_syntax_tokens.specs.Takes.{Takes, input};
 ghost use Rattle.tera_syntax_expressions.specs.Expressions as spec;
-ghost use Rattle.tera_syntax_expressions.specs.Parts.{Nests, deep_of};
+ghost use Rattle.tera_syntax_expressions.specs.Parts.{Nests, deep_of, part_expr};
 
 use crate::expressions::Deep;
-use std::alloc::Global;
+use std::alloc::{AllocError, Global};
 use tera_syntax_tokens::input::Tokens;
 use tera_syntax_tokens::refusal::{Reason, Refusal};
 use tera_syntax_tree::Expression;
@@ -14,7 +14,7 @@ use tera_syntax_tree::Expression;
 /// A bound of a slice, if it is written, and how deep it is.
 #[derive(Drop)]
 pub(crate) struct Part<'s> {
-    pub(crate) expression: Option<Box<Expression<'s>>>,
+    pub(crate) expression: Option<Expression<'s>>,
     pub(crate) depth: usize,
 }
 
@@ -41,6 +41,7 @@ impl<'s, F: Fn(Global, &mut Tokens<'_, 's>, usize, u8) -> Result<Deep<'s>, Refus
     }
 
     /// A form over parts of this depth.
+    #[inline(always)]
     #[tactic(auto, unfolding(crate::specs::Expressions::node))]
     pub(crate) fn node(
         &self,
@@ -55,9 +56,22 @@ impl<'s, F: Fn(Global, &mut Tokens<'_, 's>, usize, u8) -> Result<Deep<'s>, Refus
             return Err(tokens.refuse(Reason::TooDeep));
         }
         Ok(Deep {
-            expression: Box::new(self.alloc, expression)?,
+            expression,
             depth: depth + 1,
         })
+    }
+}
+
+/// The same part, in a box if it is written.
+pub(crate) fn boxed<'s>(
+    alloc: Global,
+    part: Option<Expression<'s>>,
+) -> Result<Option<Box<Expression<'s>>>, AllocError>
+    ensures { IfOk result (λ b. optional_of b ≡ part_expr part.entry) }
+{
+    match part {
+        None => Ok(None),
+        Some(expression) => Ok(Some(Box::new(alloc, expression)?)),
     }
 }
 

@@ -131,19 +131,19 @@ impl Shown {
             Expression::Not { operand, .. } | Expression::Negate { operand, .. } => {
                 self.expression(operand);
             }
-            Expression::Binary { left, right, .. }
-            | Expression::And { left, right, .. }
-            | Expression::Or { left, right, .. } => {
-                self.expression(left);
-                self.expression(right);
+            Expression::Binary { operands, .. }
+            | Expression::And { operands, .. }
+            | Expression::Or { operands, .. } => {
+                self.expression(&operands.left);
+                self.expression(&operands.right);
             }
             Expression::Attribute { target, name, .. } => {
                 self.expression(target);
                 self.put(name);
             }
-            Expression::Index { target, index, .. } => {
-                self.expression(target);
-                self.expression(index);
+            Expression::Index { parts, .. } => {
+                self.expression(&parts.target);
+                self.expression(&parts.index);
             }
             Expression::Slice { target, bounds, .. } => {
                 self.expression(target);
@@ -151,15 +151,10 @@ impl Shown {
                 self.put_bound(&bounds.end);
                 self.put_bound(&bounds.step);
             }
-            Expression::Ternary {
-                value,
-                condition,
-                other,
-                ..
-            } => {
-                self.expression(value);
-                self.expression(condition);
-                self.expression(other);
+            Expression::Ternary { choice, .. } => {
+                self.expression(&choice.value);
+                self.expression(&choice.condition);
+                self.expression(&choice.other);
             }
             Expression::Array { items, .. } => {
                 for item in items {

@@ -71,8 +71,7 @@ pub enum Expression<'s> {
     },
     /// `target[index]`, or `target?[index]` where it is optional.
     Index {
-        target: Box<Expression<'s>>,
-        index: Box<Expression<'s>>,
+        parts: Box<Indexed<'s>>,
         optional: bool,
         span: Span,
     },
@@ -93,25 +92,20 @@ pub enum Expression<'s> {
     },
     Binary {
         operator: BinaryOperator,
-        left: Box<Expression<'s>>,
-        right: Box<Expression<'s>>,
+        operands: Box<Operands<'s>>,
         span: Span,
     },
     And {
-        left: Box<Expression<'s>>,
-        right: Box<Expression<'s>>,
+        operands: Box<Operands<'s>>,
         span: Span,
     },
     Or {
-        left: Box<Expression<'s>>,
-        right: Box<Expression<'s>>,
+        operands: Box<Operands<'s>>,
         span: Span,
     },
     /// `value if condition else other`
     Ternary {
-        value: Box<Expression<'s>>,
-        condition: Box<Expression<'s>>,
-        other: Box<Expression<'s>>,
+        choice: Box<Choice<'s>>,
         span: Span,
     },
     Array {
@@ -179,8 +173,7 @@ impl<'s> Drop for Expression<'s> {
                 span: _,
             } => {}
             Expression::Index {
-                target: _,
-                index: _,
+                parts: _,
                 optional: _,
                 span: _,
             } => {}
@@ -200,26 +193,18 @@ impl<'s> Drop for Expression<'s> {
             } => {}
             Expression::Binary {
                 operator: _,
-                left: _,
-                right: _,
+                operands: _,
                 span: _,
             } => {}
             Expression::And {
-                left: _,
-                right: _,
+                operands: _,
                 span: _,
             } => {}
             Expression::Or {
-                left: _,
-                right: _,
+                operands: _,
                 span: _,
             } => {}
-            Expression::Ternary {
-                value: _,
-                condition: _,
-                other: _,
-                span: _,
-            } => {}
+            Expression::Ternary { choice: _, span: _ } => {}
             Expression::Array { items: _, span: _ } => {}
             Expression::Map {
                 entries: _,
@@ -259,6 +244,40 @@ impl<'s> Drop for Expression<'s> {
             } => {}
         }
     }
+}
+
+/// What stands on both sides of an operator. They lie together, so that an operator takes one box.
+#[cycle(expression)]
+pub struct Operands<'s> {
+    pub left: Expression<'s>,
+    pub right: Expression<'s>,
+}
+
+// By hand, so that operands that go out of scope are one call.
+impl<'s> Drop for Operands<'s> {
+    #[cycle(dropping)]
+    fn drop(self) {
+        let Operands { left, right } = self;
+        drop(left);
+        drop(right);
+    }
+}
+
+/// What an index is taken of, and the index.
+#[derive(Drop)]
+#[cycle(expression)]
+pub struct Indexed<'s> {
+    pub target: Expression<'s>,
+    pub index: Expression<'s>,
+}
+
+/// Two values, and the condition that chooses the first.
+#[derive(Drop)]
+#[cycle(expression)]
+pub struct Choice<'s> {
+    pub value: Expression<'s>,
+    pub condition: Expression<'s>,
+    pub other: Expression<'s>,
 }
 
 /// An item of an array, or an array whose items are spread into it.

@@ -11,7 +11,8 @@ pub mod quoted;
 pub use component::{ArgumentType, Literal, LiteralEntry, Parameter, Signature};
 pub use delimiters::Delimiters;
 pub use expression::{
-    Argument, BinaryOperator, Bounds, Entry, Expression, Heading, Item, LiteralKey, OwnedKey,
+    Argument, BinaryOperator, Bounds, Choice, Entry, Expression, Heading, Indexed, Item,
+    LiteralKey, Operands, OwnedKey,
 };
 pub use node::{Node, ParserOutput, SectionFilter};
 pub use quoted::Quoted;

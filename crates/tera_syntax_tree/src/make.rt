@@ -4,7 +4,9 @@ ghost use Rattle.tera_syntax_tree.specs.Tree.{Attribute, Index, Not, Negate, Bin
 ghost use Rattle.tera_syntax_tree.specs.View.{expr_of, slice_of, comprehension_of, items_of, entries_of, arguments_of, written_of, literals_of, literal_entries_of, signature_of, filters_of, node_of, nodes_of, for_of};
 
 use crate::component::{Literal, LiteralEntry, Signature};
-use crate::expression::{Argument, BinaryOperator, Bounds, Entry, Expression, Heading, Item};
+use crate::expression::{
+    Argument, BinaryOperator, Bounds, Choice, Entry, Expression, Heading, Indexed, Item, Operands,
+};
 use crate::node::{Node, SectionFilter};
 use tera_errors::Span;
 
@@ -28,18 +30,13 @@ impl<'s> Expression<'s> {
     }
 
     /// `target[index]`, or `target?[index]` where it is optional.
-    pub fn index(
-        target: Box<Expression<'s>>,
-        index: Box<Expression<'s>>,
-        optional: bool,
-        span: Span,
-    ) -> Expression<'s>
-        ensures { expr_of result ≡ Index (expr_of target.entry.value) (expr_of index.entry.value)
+    pub fn index(parts: Box<Indexed<'s>>, optional: bool, span: Span) -> Expression<'s>
+        ensures { expr_of result ≡ Index (expr_of parts.entry.value.target)
+            (expr_of parts.entry.value.index)
             optional span }
     {
         Expression::Index {
-            target,
-            index,
+            parts,
             optional,
             span,
         }
@@ -79,53 +76,45 @@ impl<'s> Expression<'s> {
     /// The operator between two operands.
     pub fn binary(
         operator: BinaryOperator,
-        left: Box<Expression<'s>>,
-        right: Box<Expression<'s>>,
+        operands: Box<Operands<'s>>,
         span: Span,
     ) -> Expression<'s>
-        ensures { expr_of result ≡ Binary operator (expr_of left.entry.value)
-            (expr_of right.entry.value)
+        ensures { expr_of result ≡ Binary operator (expr_of operands.entry.value.left)
+            (expr_of operands.entry.value.right)
             span }
     {
         Expression::Binary {
             operator,
-            left,
-            right,
+            operands,
             span,
         }
     }
 
     /// `left and right`
-    pub fn and(left: Box<Expression<'s>>, right: Box<Expression<'s>>, span: Span) -> Expression<'s>
-        ensures { expr_of result ≡ And (expr_of left.entry.value) (expr_of right.entry.value) span }
+    pub fn and(operands: Box<Operands<'s>>, span: Span) -> Expression<'s>
+        ensures { expr_of result ≡ And (expr_of operands.entry.value.left)
+            (expr_of operands.entry.value.right)
+            span }
     {
-        Expression::And { left, right, span }
+        Expression::And { operands, span }
     }
 
     /// `left or right`
-    pub fn or(left: Box<Expression<'s>>, right: Box<Expression<'s>>, span: Span) -> Expression<'s>
-        ensures { expr_of result ≡ Or (expr_of left.entry.value) (expr_of right.entry.value) span }
+    pub fn or(operands: Box<Operands<'s>>, span: Span) -> Expression<'s>
+        ensures { expr_of result ≡ Or (expr_of operands.entry.value.left)
+            (expr_of operands.entry.value.right)
+            span }
     {
-        Expression::Or { left, right, span }
+        Expression::Or { operands, span }
     }
 
     /// `value if condition else other`
-    pub fn ternary(
-        value: Box<Expression<'s>>,
-        condition: Box<Expression<'s>>,
-        other: Box<Expression<'s>>,
-        span: Span,
-    ) -> Expression<'s>
-        ensures { expr_of result ≡ Ternary (expr_of value.entry.value)
-            (expr_of condition.entry.value)
-            (expr_of other.entry.value) span }
+    pub fn ternary(choice: Box<Choice<'s>>, span: Span) -> Expression<'s>
+        ensures { expr_of result ≡ Ternary (expr_of choice.entry.value.value)
+            (expr_of choice.entry.value.condition)
+            (expr_of choice.entry.value.other) span }
     {
-        Expression::Ternary {
-            value,
-            condition,
-            other,
-            span,
-        }
+        Expression::Ternary { choice, span }
     }
 
     /// `[item, ..]`

@@ -35,6 +35,9 @@ a {{- 1 -}} b => a1b
 {{ {"a": {"b": 1}}.a.b }} => 1
 {{ {1: 'x', true: 'y'} }} => {1: &quot;x&quot;, true: &quot;y&quot;}
 {{ {'a': 1, 'b': 2, 'a': 3}.a }} => 3
+{% set m = {"a": {"b": "<", "c": 0}} %}{{ m.a.b }}{% if m.a.c %}1{% else %}0{% endif %}{% if m.a.b %}1{% endif %}{{ m.a.c + 1 }} => &lt;011
+{% set m = {"a": 1} %}{{ m.a?.b or m?.x?.y or "none" }}{% if m.b %}1{% endif %}{{ m.a }} => none1
+{% for m in [{"a": {"b": 1}}] %}{{ m.a.b }}{{ loop.index }}{% if loop.first %}{{ m.a }}{% endif %}{% endfor %} => 11{&quot;b&quot;: 1}
 {{ {'a': 1, ...{2: 3}} }} => {2: 3, &quot;a&quot;: 1}
 {{ {2: 1, ...{2: 3}} }}{{ {...{2: 3}, 2: 1,} }} => {2: 3}{2: 1}
 {{ 1 2 }} !! syntax

@@ -16,6 +16,9 @@ const CASES: &str = r#"
 {{ hey[0] }} !! 3 6
 {{ hey.other.more }} !! 3 6
 {{ name.other.more }} !! 3 13
+{% set m = {"a": {}} %}{{ m.a.b }} !! 26 31
+{% set m = {"a": {}} %}{{ m.a.b.c }} !! 26 31
+{% set m = {"a": {}} %}{% if m.a.b.c.d %}{% endif %} !! 29 34
 {{ hey[7 // 0] }} !! 12 13
 {{ hey[7 // 0:] }} !! 12 13
 {{ [1][[]] }} !! 7 9

@@ -8,6 +8,9 @@ use Rattle.tera_syntax_tree.specs.declared.expression.Argument.{Argument}
 use Rattle.tera_syntax_tree.specs.declared.expression.Bounds.{Bounds}
 use Rattle.tera_syntax_tree.specs.declared.expression.BinaryOperator.{BinaryOperator}
 use Rattle.tera_syntax_tree.specs.declared.expression.Heading.{Heading}
+use Rattle.tera_syntax_tree.specs.declared.expression.Operands.{Operands}
+use Rattle.tera_syntax_tree.specs.declared.expression.Indexed.{Indexed}
+use Rattle.tera_syntax_tree.specs.declared.expression.Choice.{Choice}
 use Rattle.tera_syntax_tree.specs.declared.expression.Expression.{Expression}
 use Rattle.tera_syntax_tree.specs.declared.expression.Expression.TheVariants as expression
 use Rattle.tera_syntax_tree.specs.View.{comprehension_of, slice_of, optional_of, expr_of, items_of, entries_of, arguments_of}
@@ -80,22 +83,22 @@ pub slice : (e : Expression) (target : Box Expression Global) (bounds : Box Boun
 slice e target bounds optional span x b is v a =
     ap₂ (λ y k. expr_free (expr_of y) ∪ bounds_free k) v a ∙ sym (ap expr_free (ap expr_of is ∙ view_slice target bounds optional span))
 
-pub index : (e : Expression) (a b : Box Expression Global) (optional : Bool) (span : Span) (x y : Expression) → e ≡ expression.Index a b optional span → x ≡ a.value → y ≡ b.value → expr_free (expr_of x) ∪ expr_free (expr_of y) ≡ expr_free (expr_of e)
-index e a b optional span x y is v w =
-    ap₂ (λ s t. expr_free (expr_of s) ∪ expr_free (expr_of t)) v w ∙ sym (ap (λ z. expr_free (expr_of z)) is)
+pub index : (e : Expression) (parts : Box Indexed Global) (optional : Bool) (span : Span) (x y : Indexed) → e ≡ expression.Index parts optional span → x ≡ parts.value → y ≡ parts.value → expr_free (expr_of x.target) ∪ expr_free (expr_of y.index) ≡ expr_free (expr_of e)
+index e parts optional span x y is v w =
+    ap₂ (λ s t. expr_free (expr_of s.target) ∪ expr_free (expr_of t.index)) v w ∙ sym (ap (λ z. expr_free (expr_of z)) is)
 
-pub binary : (e : Expression) (op : BinaryOperator) (a b : Box Expression Global) (span : Span) (x y : Expression) → e ≡ expression.Binary op a b span → x ≡ a.value → y ≡ b.value → expr_free (expr_of x) ∪ expr_free (expr_of y) ≡ expr_free (expr_of e)
-binary e op a b span x y is v w =
-    ap₂ (λ s t. expr_free (expr_of s) ∪ expr_free (expr_of t)) v w ∙ sym (ap (λ z. expr_free (expr_of z)) is)
+pub binary : (e : Expression) (op : BinaryOperator) (operands : Box Operands Global) (span : Span) (x y : Operands) → e ≡ expression.Binary op operands span → x ≡ operands.value → y ≡ operands.value → expr_free (expr_of x.left) ∪ expr_free (expr_of y.right) ≡ expr_free (expr_of e)
+binary e op operands span x y is v w =
+    ap₂ (λ s t. expr_free (expr_of s.left) ∪ expr_free (expr_of t.right)) v w ∙ sym (ap (λ z. expr_free (expr_of z)) is)
 
-pub both : (e : Expression) (a b : Box Expression Global) (span : Span) (x y : Expression) → e ≡ expression.And a b span → x ≡ a.value → y ≡ b.value → expr_free (expr_of x) ∪ expr_free (expr_of y) ≡ expr_free (expr_of e)
-both e a b span x y is v w =
-    ap₂ (λ s t. expr_free (expr_of s) ∪ expr_free (expr_of t)) v w ∙ sym (ap (λ z. expr_free (expr_of z)) is)
+pub both : (e : Expression) (operands : Box Operands Global) (span : Span) (x y : Operands) → e ≡ expression.And operands span → x ≡ operands.value → y ≡ operands.value → expr_free (expr_of x.left) ∪ expr_free (expr_of y.right) ≡ expr_free (expr_of e)
+both e operands span x y is v w =
+    ap₂ (λ s t. expr_free (expr_of s.left) ∪ expr_free (expr_of t.right)) v w ∙ sym (ap (λ z. expr_free (expr_of z)) is)
 
-pub either : (e : Expression) (a b : Box Expression Global) (span : Span) (x y : Expression) → e ≡ expression.Or a b span → x ≡ a.value → y ≡ b.value → expr_free (expr_of x) ∪ expr_free (expr_of y) ≡ expr_free (expr_of e)
-either e a b span x y is v w =
-    ap₂ (λ s t. expr_free (expr_of s) ∪ expr_free (expr_of t)) v w ∙ sym (ap (λ z. expr_free (expr_of z)) is)
+pub either : (e : Expression) (operands : Box Operands Global) (span : Span) (x y : Operands) → e ≡ expression.Or operands span → x ≡ operands.value → y ≡ operands.value → expr_free (expr_of x.left) ∪ expr_free (expr_of y.right) ≡ expr_free (expr_of e)
+either e operands span x y is v w =
+    ap₂ (λ s t. expr_free (expr_of s.left) ∪ expr_free (expr_of t.right)) v w ∙ sym (ap (λ z. expr_free (expr_of z)) is)
 
-pub ternary : (e : Expression) (a b o : Box Expression Global) (span : Span) (x y z : Expression) → e ≡ expression.Ternary a b o span → x ≡ a.value → y ≡ b.value → z ≡ o.value → expr_free (expr_of x) ∪ (expr_free (expr_of y) ∪ expr_free (expr_of z)) ≡ expr_free (expr_of e)
-ternary e a b o span x y z is v w u =
-    ap₂ (λ s t. expr_free (expr_of s) ∪ (expr_free (expr_of t) ∪ expr_free (expr_of z))) v w ∙ ap (λ t. expr_free (expr_of a.value) ∪ (expr_free (expr_of b.value) ∪ expr_free (expr_of t))) u ∙ sym (ap (λ k. expr_free (expr_of k)) is)
+pub ternary : (e : Expression) (choice : Box Choice Global) (span : Span) (x y z : Choice) → e ≡ expression.Ternary choice span → x ≡ choice.value → y ≡ choice.value → z ≡ choice.value → expr_free (expr_of x.value) ∪ (expr_free (expr_of y.condition) ∪ expr_free (expr_of z.other)) ≡ expr_free (expr_of e)
+ternary e choice span x y z is v w u =
+    ap₂ (λ s t. expr_free (expr_of s.value) ∪ (expr_free (expr_of t.condition) ∪ expr_free (expr_of z.other))) v w ∙ ap (λ t. expr_free (expr_of choice.value.value) ∪ (expr_free (expr_of choice.value.condition) ∪ expr_free (expr_of t.other))) u ∙ sym (ap (λ k. expr_free (expr_of k)) is)

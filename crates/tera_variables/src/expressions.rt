@@ -29,9 +29,9 @@ pub fn add_expression(
         | Expression::Text { .. } => Ok(()),
         Expression::Name { name, .. } => add(alloc, name, found),
         Expression::Attribute { target, .. } => add_expression(alloc, target, found),
-        Expression::Index { target, index, .. } => {
-            add_expression(alloc, index, found)?;
-            add_expression(alloc, target, found)
+        Expression::Index { parts, .. } => {
+            add_expression(alloc, &parts.index, found)?;
+            add_expression(alloc, &parts.target, found)
         }
         Expression::Slice { target, bounds, .. } => {
             add_bounds(alloc, bounds, found)?;
@@ -39,27 +39,22 @@ pub fn add_expression(
         }
         Expression::Not { operand, .. } => add_expression(alloc, operand, found),
         Expression::Negate { operand, .. } => add_expression(alloc, operand, found),
-        Expression::Binary { left, right, .. } => {
-            add_expression(alloc, right, found)?;
-            add_expression(alloc, left, found)
+        Expression::Binary { operands, .. } => {
+            add_expression(alloc, &operands.right, found)?;
+            add_expression(alloc, &operands.left, found)
         }
-        Expression::And { left, right, .. } => {
-            add_expression(alloc, right, found)?;
-            add_expression(alloc, left, found)
+        Expression::And { operands, .. } => {
+            add_expression(alloc, &operands.right, found)?;
+            add_expression(alloc, &operands.left, found)
         }
-        Expression::Or { left, right, .. } => {
-            add_expression(alloc, right, found)?;
-            add_expression(alloc, left, found)
+        Expression::Or { operands, .. } => {
+            add_expression(alloc, &operands.right, found)?;
+            add_expression(alloc, &operands.left, found)
         }
-        Expression::Ternary {
-            value,
-            condition,
-            other,
-            ..
-        } => {
-            add_expression(alloc, other, found)?;
-            add_expression(alloc, condition, found)?;
-            add_expression(alloc, value, found)
+        Expression::Ternary { choice, .. } => {
+            add_expression(alloc, &choice.other, found)?;
+            add_expression(alloc, &choice.condition, found)?;
+            add_expression(alloc, &choice.value, found)
         }
         Expression::Array { items, .. } => add_items(alloc, items.as_slice(), found),
         Expression::Map { entries, .. } => add_entries(alloc, entries.as_slice(), found),

@@ -9,19 +9,19 @@ use Rattle.tera_variables.proofs.expressions.+expressions.Goals as goal
 
 pub add_expression-returns-in_ok-add_expression-in-Index-clause-ok : goal.add_expression-returns-in_ok-add_expression-in-Index-clause-ok
 add_expression-returns-in_ok-add_expression-in-Index-clause-ok t c =
-    whole _ _ _ _ _ (index _ c.in-Index.target c.in-Index.index c.in-Index.optional c.in-Index.span _ _ c.in-Index.is c.deref-in-Index-2.ensures c.deref-in-Index.ensures) (two _ _ _ _ _ _ c.in_ok-add_expression-in-Index.ensures.ok c.add_expression-in-Index-2.ensures.ok)
+    whole _ _ _ _ _ (index _ c.in-Index.parts c.in-Index.optional c.in-Index.span _ _ c.in-Index.is c.deref-in-Index-2.ensures c.deref-in-Index.ensures) (two _ _ _ _ _ _ c.in_ok-add_expression-in-Index.ensures.ok c.add_expression-in-Index-2.ensures.ok)
 
 pub add_expression-returns-in_ok-add_expression-in-Binary-clause-ok : goal.add_expression-returns-in_ok-add_expression-in-Binary-clause-ok
 add_expression-returns-in_ok-add_expression-in-Binary-clause-ok t c =
-    whole _ _ _ _ _ (binary _ c.in-Binary.operator c.in-Binary.left c.in-Binary.right c.in-Binary.span _ _ c.in-Binary.is c.deref-in-Binary-2.ensures c.deref-in-Binary.ensures) (two _ _ _ _ _ _ c.in_ok-add_expression-in-Binary.ensures.ok c.add_expression-in-Binary-2.ensures.ok)
+    whole _ _ _ _ _ (binary _ c.in-Binary.operator c.in-Binary.operands c.in-Binary.span _ _ c.in-Binary.is c.deref-in-Binary-2.ensures c.deref-in-Binary.ensures) (two _ _ _ _ _ _ c.in_ok-add_expression-in-Binary.ensures.ok c.add_expression-in-Binary-2.ensures.ok)
 
 pub add_expression-returns-in_ok-add_expression-in-And-clause-ok : goal.add_expression-returns-in_ok-add_expression-in-And-clause-ok
 add_expression-returns-in_ok-add_expression-in-And-clause-ok t c =
-    whole _ _ _ _ _ (both _ c.in-And.left c.in-And.right c.in-And.span _ _ c.in-And.is c.deref-in-And-2.ensures c.deref-in-And.ensures) (two _ _ _ _ _ _ c.in_ok-add_expression-in-And.ensures.ok c.add_expression-in-And-2.ensures.ok)
+    whole _ _ _ _ _ (both _ c.in-And.operands c.in-And.span _ _ c.in-And.is c.deref-in-And-2.ensures c.deref-in-And.ensures) (two _ _ _ _ _ _ c.in_ok-add_expression-in-And.ensures.ok c.add_expression-in-And-2.ensures.ok)
 
 pub add_expression-returns-in_ok-add_expression-in-Or-clause-ok : goal.add_expression-returns-in_ok-add_expression-in-Or-clause-ok
 add_expression-returns-in_ok-add_expression-in-Or-clause-ok t c =
-    whole _ _ _ _ _ (either _ c.in-Or.left c.in-Or.right c.in-Or.span _ _ c.in-Or.is c.deref-in-Or-2.ensures c.deref-in-Or.ensures) (two _ _ _ _ _ _ c.in_ok-add_expression-in-Or.ensures.ok c.add_expression-in-Or-2.ensures.ok)
+    whole _ _ _ _ _ (either _ c.in-Or.operands c.in-Or.span _ _ c.in-Or.is c.deref-in-Or-2.ensures c.deref-in-Or.ensures) (two _ _ _ _ _ _ c.in_ok-add_expression-in-Or.ensures.ok c.add_expression-in-Or-2.ensures.ok)
 
 pub add_expression-returns-in_ok-add_bounds-in-Slice-clause-ok : goal.add_expression-returns-in_ok-add_bounds-in-Slice-clause-ok
 add_expression-returns-in_ok-add_bounds-in-Slice-clause-ok t c =
@@ -29,7 +29,7 @@ add_expression-returns-in_ok-add_bounds-in-Slice-clause-ok t c =
 
 pub add_expression-returns-in_ok-add_expression-in-Ternary-2-clause-ok : goal.add_expression-returns-in_ok-add_expression-in-Ternary-2-clause-ok
 add_expression-returns-in_ok-add_expression-in-Ternary-2-clause-ok t c =
-    whole _ _ _ _ _ (ternary _ c.in-Ternary.value c.in-Ternary.condition c.in-Ternary.other c.in-Ternary.span _ _ _ c.in-Ternary.is c.deref-in-Ternary-3.ensures c.deref-in-Ternary-2.ensures c.deref-in-Ternary.ensures) (two _ _ _ _ _ _ (c.in_ok-add_expression-in-Ternary-2.ensures.ok ∙ union-more _ _ _ _ _ refl c.in_ok-add_expression-in-Ternary.ensures.ok) c.add_expression-in-Ternary-3.ensures.ok)
+    whole _ _ _ _ _ (ternary _ c.in-Ternary.choice c.in-Ternary.span _ _ _ c.in-Ternary.is c.deref-in-Ternary-3.ensures c.deref-in-Ternary-2.ensures c.deref-in-Ternary.ensures) (two _ _ _ _ _ _ (c.in_ok-add_expression-in-Ternary-2.ensures.ok ∙ union-more _ _ _ _ _ refl c.in_ok-add_expression-in-Ternary.ensures.ok) c.add_expression-in-Ternary-3.ensures.ok)
 
 pub add_expression-returns-in-Array-clause-ok : goal.add_expression-returns-in-Array-clause-ok
 add_expression-returns-in-Array-clause-ok t c =

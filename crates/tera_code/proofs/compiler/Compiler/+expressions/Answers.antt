@@ -17,21 +17,21 @@ collection-returns-in_ok-entries-in-Map-clause-ok t c =
 pub branch-returns-in_ok-expression-in-And-2-clause-ok : goal.branch-returns-in_ok-expression-in-And-2-clause-ok
 branch-returns-in_ok-expression-in-And-2-clause-ok t c =
     on_ok_by _ _ _ _ (jump_written _ _ _ _ _ _ _ _ (λ count. instruction.JumpIfFalseOrPop count) c.in_ok-expression-in-And.ensures.ok c.in_ok-place-in-And.ensures.place c.in_ok-place-in-And.ensures.ok c.in_ok-expression-in-And-2.ensures.ok c.behind.ensures
-    ∙ ap₂ (λ x y. lengthened c.args.self.now (expr_code (expr_of x) ++ instruction.JumpIfFalseOrPop (length (expr_code (expr_of y))) ∷ expr_code (expr_of y))) c.deref.ensures c.deref-in-And.ensures
+    ∙ ap₂ (λ x y. lengthened c.args.self.now (expr_code (expr_of x.left) ++ instruction.JumpIfFalseOrPop (length (expr_code (expr_of y.right))) ∷ expr_code (expr_of y.right))) c.deref.ensures c.deref-in-And.ensures
     ∙ ap (λ e. lengthened c.args.self.now (expr_code (expr_of e))) (sym c.in-And.is)) c.fill.ensures.ok
 
 pub branch-returns-in_ok-expression-in-Or-2-clause-ok : goal.branch-returns-in_ok-expression-in-Or-2-clause-ok
 branch-returns-in_ok-expression-in-Or-2-clause-ok t c =
     on_ok_by _ _ _ _ (jump_written _ _ _ _ _ _ _ _ (λ count. instruction.JumpIfTrueOrPop count) c.in_ok-expression-in-Or.ensures.ok c.in_ok-place-in-Or.ensures.place c.in_ok-place-in-Or.ensures.ok c.in_ok-expression-in-Or-2.ensures.ok c.behind-in-Or.ensures
-    ∙ ap₂ (λ x y. lengthened c.args.self.now (expr_code (expr_of x) ++ instruction.JumpIfTrueOrPop (length (expr_code (expr_of y))) ∷ expr_code (expr_of y))) c.deref-in-Or.ensures c.deref-in-Or-2.ensures
+    ∙ ap₂ (λ x y. lengthened c.args.self.now (expr_code (expr_of x.left) ++ instruction.JumpIfTrueOrPop (length (expr_code (expr_of y.right))) ∷ expr_code (expr_of y.right))) c.deref-in-Or.ensures c.deref-in-Or-2.ensures
     ∙ ap (λ e. lengthened c.args.self.now (expr_code (expr_of e))) (sym c.in-Or.is)) c.fill-in-Or.ensures.ok
 
 pub branch-returns-in_ok-expression-in-Ternary-3-clause-ok : goal.branch-returns-in_ok-expression-in-Ternary-3-clause-ok
 branch-returns-in_ok-expression-in-Ternary-3-clause-ok t c =
     on_ok_by _ _ _ _ (choice_written _ _ _ _ _ _ _ _ _ _ _ _ c.in_ok-expression-in-Ternary.ensures.ok c.in_ok-place-in-Ternary.ensures.place c.in_ok-place-in-Ternary.ensures.ok
     c.in_ok-expression-in-Ternary-2.ensures.ok c.in_ok-place-in-Ternary-2.ensures.place c.in_ok-place-in-Ternary-2.ensures.ok c.in_ok-expression-in-Ternary-3.ensures.ok c.behind-in-Ternary.ensures
-    ∙ ap (λ x. lengthened c.args.self.now (choice_code (expr_code (expr_of x)) (expr_code (expr_of c.deref-in-Ternary-2.result.now)) (expr_code (expr_of c.deref-in-Ternary-3.result.now)))) c.deref-in-Ternary.ensures
-    ∙ ap₂ (λ x y. lengthened c.args.self.now (choice_code (expr_code (expr_of c.in-Ternary.condition.value)) (expr_code (expr_of x)) (expr_code (expr_of y)))) c.deref-in-Ternary-2.ensures c.deref-in-Ternary-3.ensures
+    ∙ ap (λ x. lengthened c.args.self.now (choice_code (expr_code (expr_of x.condition)) (expr_code (expr_of c.deref-in-Ternary-2.result.now.value)) (expr_code (expr_of c.deref-in-Ternary-3.result.now.other)))) c.deref-in-Ternary.ensures
+    ∙ ap₂ (λ x y. lengthened c.args.self.now (choice_code (expr_code (expr_of c.in-Ternary.choice.value.condition)) (expr_code (expr_of x.value)) (expr_code (expr_of y.other)))) c.deref-in-Ternary-2.ensures c.deref-in-Ternary-3.ensures
     ∙ ap (λ e. lengthened c.args.self.now (expr_code (expr_of e))) (sym c.in-Ternary.is)) c.fill-in-Ternary.ensures.ok
 
 pub comprehension-returns-in_ok-emit-in-None-clause-ok : goal.comprehension-returns-in_ok-emit-in-None-clause-ok

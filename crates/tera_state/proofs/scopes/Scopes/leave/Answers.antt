@@ -3,7 +3,7 @@ use Rattle.tera_state.specs.Bound.{without_frame}
 use Rattle.tera_state.proofs.Steps.{frames_stay}
 use Rattle.tera_state.proofs.scopes.Scopes.leave.Goals as goal
 
-pub returns-in-Some-clause-around : goal.returns-in-Some-clause-around
-returns-in-Some-clause-around c =
+pub returns-clause-around : goal.returns-clause-around
+returns-clause-around c =
     let bs = c.args.self.now.bindings in
-    sym (frames_stay bs c.clear_frame.new.self (c.in-Some.outer ∷ c.pop.new.self) c.args.self.now.below (sym c.in-Some.ensures) (c.clear_frame.ensures ∙ ap (without_frame bs) c.len.ensures.count))
+    sym (frames_stay bs c.clear_frame.new.self (c.take.result ∷ c.take.new.self) c.args.self.now.below (sym c.take.ensures) (c.clear_frame.ensures ∙ ap (without_frame bs) c.len.ensures.count))

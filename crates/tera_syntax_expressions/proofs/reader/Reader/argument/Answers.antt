@@ -19,7 +19,7 @@ returns-in-None g c =
 
 pub insert-requires : goal.insert-requires
 insert-requires g c =
-    let a : argument.Argument = record { name = c.text-name.result; value = c.into_inner.result } in
+    let a : argument.Argument = record { name = c.text-name.result; value = c.in-Ok-sub.x.expression } in
     let w = placed-at c.as_slice.result.now c.in-Some.at a (sym c.place.ensures ∙ c.in-Some.is) in
     let within = w.0 in
     let len = c.as_slice.ensures.len in
@@ -31,9 +31,9 @@ returns g c =
     let i = input c.args.tokens.now in
     let x = c.in-Ok-sub.x in
     let name = c.text-name.result.now in
-    let a : argument.Argument = record { name = c.text-name.result; value = c.into_inner.result } in
+    let a : argument.Argument = record { name = c.text-name.result; value = c.in-Ok-sub.x.expression } in
     let e : place_of name (arguments_of all) ≡ Some c.in-Some.at = ap (λ l. place_of name (arguments_of l)) (sym c.as_slice.ensures.value) ∙ sym c.place.ensures ∙ c.in-Some.is in
     let w = placed-at all c.in-Some.at a e in
-    let p : put_argument (text i) (expr_of x.expression.value) (arguments_of all) ≡ Some (arguments_of c.insert.new.self.items) = ap (λ t. put_argument t (expr_of x.expression.value) (arguments_of all)) (sym c.text-name.ensures)
-    ∙ ap (λ v. put_argument name (expr_of v) (arguments_of all)) (sym c.into_inner.ensures) ∙ w.1 ∙ ap (λ l. Some (arguments_of l)) (sym c.in_ok-insert.ensures.items) in
+    let p : put_argument (text i) (expr_of x.expression) (arguments_of all) ≡ Some (arguments_of c.insert.new.self.items) = ap (λ t. put_argument t (expr_of x.expression) (arguments_of all)) (sym c.text-name.ensures)
+    ∙ w.1 ∙ ap (λ l. Some (arguments_of l)) (sym c.in_ok-insert.ensures.items) in
     argument_placed c.args.self.now.limit (expr c.args.self.now.below) (arguments_of all) (arguments_of c.insert.new.self.items) i (input c.argument_name.new.tokens) (input c.sub.new.tokens) (deep_of x) c.in-Ok.ensures c.in-Ok-sub.ensures p

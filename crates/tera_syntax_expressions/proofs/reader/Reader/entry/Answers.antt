@@ -1,7 +1,6 @@
 use Rattle.std.proofs.Common.{ap, ◌∙◌, refl}
-use Rattle.tera_syntax_tree.specs.View.{entries_of, literal_option, expr_of}
+use Rattle.tera_syntax_tree.specs.View.{entries_of, literal_option}
 use Rattle.tera_syntax_tokens.specs.Takes.{input}
-use Rattle.tera_syntax_expressions.specs.Expressions.{join_entries, one_entry}
 use Rattle.tera_syntax_expressions.specs.Parts.{deep_of}
 use Rattle.tera_syntax_expressions.proofs.Turns.{entries_of-push}
 use Rattle.tera_syntax_expressions.proofs.reader.Reader.entry.Goals as goal
@@ -14,6 +13,5 @@ returns g c = (
   c.in-Ok.ensures,
   c.in-Ok-sub.ensures,
   refl,
-  ap entries_of c.in_ok-push.ensures.items ∙ entries_of-push c.args.found.now.items _
-      ∙ ap (λ e. join_entries (entries_of c.args.found.now.items) (one_entry (literal_option c.in-Ok.key) (expr_of e))) c.into_inner.ensures,
+  ap entries_of c.in_ok-push.ensures.items ∙ entries_of-push c.args.found.now.items _,
 )

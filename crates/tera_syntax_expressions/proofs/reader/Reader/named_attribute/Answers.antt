@@ -15,6 +15,5 @@ returns g c =
     let x = c.in-Ok-attribute_value.x in
     let j = input c.attribute_value.new.tokens in
     named_read c.args.self.now.limit (expr c.args.self.now.below) found (input c.args.tokens.now) (input c.argument_name.new.tokens) j (deep_of x) c.in-Ok.ensures c.in-Ok-attribute_value.ensures
-    ∙ ap (λ e. Some ((e, x.depth), j)) (ap (λ t. join_entries found (one_entry (Some (TextKey t)) (expr_of x.expression.value))) (sym c.text-name.ensures)
-    ∙ ap (λ v. join_entries found (one_entry (Some (TextKey c.text-name.result.now)) (expr_of v))) (sym c.into_inner-value.ensures)
+    ∙ ap (λ e. Some ((e, x.depth), j)) (ap (λ t. join_entries found (one_entry (Some (TextKey t)) (expr_of x.expression))) (sym c.text-name.ensures)
     ∙ sym (ap entries_of c.in_ok-push.ensures.items ∙ entries_of-push all _))

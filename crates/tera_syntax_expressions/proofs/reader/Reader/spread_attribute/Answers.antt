@@ -1,7 +1,7 @@
-use Rattle.std.proofs.Common.{Some, None, ap, sym, ◌∙◌}
-use Rattle.tera_syntax_tree.specs.View.{entries_of, expr_of}
+use Rattle.std.proofs.Common.{Some, ap, sym, ◌∙◌}
+use Rattle.tera_syntax_tree.specs.View.{entries_of}
 use Rattle.tera_syntax_tokens.specs.Takes.{input}
-use Rattle.tera_syntax_expressions.specs.Expressions.{expr, join_entries, one_entry}
+use Rattle.tera_syntax_expressions.specs.Expressions.{expr}
 use Rattle.tera_syntax_expressions.specs.Parts.{deep_of}
 use Rattle.tera_syntax_expressions.proofs.AttributeRows.{spread_read}
 use Rattle.tera_syntax_expressions.proofs.Turns.{entries_of-push}
@@ -14,5 +14,4 @@ returns g c =
     let x = c.in-Ok-braced.x in
     let j = input c.braced.new.tokens in
     spread_read c.args.self.now.limit (expr c.args.self.now.below) found (input c.args.tokens.now) (input c.expect.new.self) j c.in-Ok.field-0 (deep_of x) c.in-Ok.ensures c.in-Ok-braced.ensures
-    ∙ ap (λ e. Some ((e, x.depth), j)) (ap (λ v. join_entries found (one_entry None (expr_of v))) (sym c.into_inner-value.ensures)
-    ∙ sym (ap entries_of c.in_ok-push.ensures.items ∙ entries_of-push all _))
+    ∙ ap (λ e. Some ((e, x.depth), j)) (sym (ap entries_of c.in_ok-push.ensures.items ∙ entries_of-push all _))

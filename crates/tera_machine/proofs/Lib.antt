@@ -4,6 +4,9 @@ pub mod Taking
 pub mod Still
 pub mod Noting
 pub mod Runs
+pub mod Together
+pub mod Reaching
+pub mod Stretches
 pub mod Took
 pub mod Rejoining
 pub mod Including

@@ -77,10 +77,10 @@ module _ {most : ℕ} {w : World} {place : Place} {code : Code} {c0 : Config} wh
       not_stuck e = λ a. (within_step w place code ip c i Sticks (most - n) g.within e (ap (λ h. act h (ip + 1) i c) (sym same) ∙ a)).2
 
       module _ {n2 : ℕ} (e : slice_get code ip ≡ Some i) (m : n2 ≡ n + 1) where
-        pub went_on : {c2 : Config} {f : declared.Flow} → act here (ip + 1) i c ≡ Goes c2 (flow_of f) → f ≡ flow.On → Progress most w place code c0 n0 (ip + 1) c2 n2
-        went_on {c2} {f} a is =
+        pub goes_on : {c2 : Config} → act here (ip + 1) i c ≡ Goes c2 On → Progress most w place code c0 n0 (ip + 1) c2 n2
+        goes_on {c2} a =
             let at_least = g.counted in
-            let d : act (here_at w place) (ip + 1) i c ≡ Goes c2 On = ap (λ h. act h (ip + 1) i c) (sym same) ∙ a ∙ ap (λ x. Goes c2 (flow_of x)) is in
+            let d : act (here_at w place) (ip + 1) i c ≡ Goes c2 On = ap (λ h. act h (ip + 1) i c) (sym same) ∙ a in
             let x = within_step w place code ip c i (Goes c2 On) (most - n) g.within e d in
             let left : most - n - 1 ≡ most - n2 = omega arith in
             let taken : n2 - n0 ≡ n - n0 + 1 = omega arith in
@@ -90,6 +90,9 @@ module _ {most : ℕ} {w : World} {place : Place} {code : Code} {c0 : Config} wh
               within = record { depth = x.0; within = subst (λ z. Within z (exec w x.0 place code (ip + 1) c2)) left x.2 };
               leads = further w place code 0 c0 (n - n0) 1 (n2 - n0) ip (ip + 1) c c2 g.leads taken (on_leads w place code ip c c2 i e d);
             }
+
+        pub went_on : {c2 : Config} {f : declared.Flow} → act here (ip + 1) i c ≡ Goes c2 (flow_of f) → f ≡ flow.On → Progress most w place code c0 n0 (ip + 1) c2 n2
+        went_on {c2} {f} a is = goes_on (a ∙ ap (λ x. Goes c2 (flow_of x)) is)
 
         -- a place that a run goes to lies within the code, and the run goes on there
         landed : {c2 : Config} (to : ℕ) (d : Did) → ((k : ℕ) → follow (length code) (body_by w (exec w k) place) (exec w k place code) ip d ≡ within_code (length code) (exec w k place code) to c2) → act (here_at w place) (ip + 1) i c ≡ d → (1 ≤ most - n) × (to ≤ length code) × EndsWithin w place code to c2 (most - n - 1)

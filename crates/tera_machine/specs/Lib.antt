@@ -6,6 +6,9 @@ pub mod Loops
 pub mod Captures
 pub mod Act
 pub mod Exec
+pub mod Together
+pub mod Paths
+pub mod Stretch
 pub mod Progress
 pub mod Included
 pub mod Subject

@@ -116,8 +116,16 @@ impl<'c> Configuration<'c> {
     pub(crate) fn write_text<'f>(&mut self, text: &str) -> TeraResult<Flow<'f>>
         ensures { Does (text_written text.now) self.old result self.new }
     {
-        self.texts.append(text)?;
+        self.put_text(text)?;
         Ok(Flow::On)
+    }
+
+    // What puts something out always goes on at the next instruction, so that this hands no flow out.
+    #[inline(always)]
+    pub(crate) fn put_text(&mut self, text: &str) -> TeraResult<()>
+        ensures { Does (text_written text.now) self.old (going_on result) self.new }
+    {
+        self.texts.append(text)
     }
 
     #[inline(never)]
@@ -158,7 +166,7 @@ impl<'c> Configuration<'c> {
         Ok(Flow::On)
     }
 
-    // The value is read where it lies. A flow is not handed out, since that of a text or a value is always the same.
+    // The same for a value, which is read where it lies.
     #[inline(always)]
     pub(crate) fn put_name<O: Objects>(
         &mut self,
@@ -473,7 +481,7 @@ impl<'c> Configuration<'c> {
     }
 }
 
-fn undefined_written(alloc: Global, file: &str, span: Span) -> Error
+pub(crate) fn undefined_written(alloc: Global, file: &str, span: Span) -> Error
     ensures { Tells result (rendering_error (record { file = file.now; span = span })) }
 {
     Error::rendering(

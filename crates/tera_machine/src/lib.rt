@@ -13,6 +13,7 @@ pub mod ended;
 pub mod includes;
 mod loops;
 pub mod machine;
+mod paths;
 pub mod place;
 mod step;
 pub mod texts;

@@ -293,11 +293,12 @@ impl<'t, O: Objects> VirtualMachine<'t, O> {
     {
         let mut at = 0;
         while let Some(instruction) = chunk.get(at, steps) {
-            let next = at + 1;
-            let flow = match configuration.step(self, chunk.file(), next, &instruction) {
+            let mut last = at;
+            let flow = match configuration.perform(self, chunk, &mut last, instruction, steps) {
                 Ok(flow) => flow,
                 Err(error) => return Err(error),
             };
+            let next = last + 1;
             match flow {
                 Flow::On => at = next,
                 Flow::Skip(count) => at = next + count,

@@ -1,0 +1,5 @@
+use Rattle.std.proofs.Common.{◌-◌, length}
+use Rattle.tera_machine.proofs.paths.+attributes.Given as goal
+
+abbrev pub decreases-attributes : goal.decreases-attributes
+decreases-attributes g l = length l.chunk.now.code - l.at.now

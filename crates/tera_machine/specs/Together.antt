@@ -1,0 +1,45 @@
+-- What instructions do that are done together.
+use Rattle.std.specs.Prelude.{◌≡◌, ◌≢◌, ℕ, zero, suc, ◌+◌, Option, Some, None, slice_get}
+use Rattle.tera_meaning.specs.Here.{Here}
+use Rattle.tera_code.specs.declared.instruction.Instruction.{Instruction}
+use Rattle.tera_machine.specs.Config.{Config}
+use Rattle.tera_machine.specs.Flow.{On, Skip, To, Out, Ask}
+use Rattle.tera_machine.specs.Did.{Did, Goes, Faults, Sticks}
+use Rattle.tera_machine.specs.Act.{act, IsSmall}
+use Rattle.tera_machine.specs.Exec.{Code}
+
+-- what the instruction at a place does, where there is one
+abbrev pub done_at : Here → ℕ → Option Instruction → Config → Did
+done_at here ip None c = Sticks
+done_at here ip (Some i) c = act here (ip + 1) i c
+
+-- what comes next does, where the instruction before it goes on at the next one
+abbrev pub onto : (Config → Did) → Did → Did
+onto next (Goes c On) = next c
+onto next (Goes c (Skip n)) = Sticks
+onto next (Goes c (To p n)) = Sticks
+onto next (Goes c Out) = Sticks
+onto next (Goes c (Ask q u)) = Sticks
+onto next (Faults f) = Sticks
+onto next Sticks = Sticks
+
+-- so many instructions from a place on, one behind another; the last of them may do anything
+abbrev pub done : Here → Code → ℕ → ℕ → Config → Did
+done here code zero ip c = Goes c On
+done here code (suc k) ip c = onto (done_at here (ip + k) (slice_get code (ip + k))) (done here code k ip c)
+
+-- all of them went on at the next one
+abbrev pub WentOn : Did → Type 0
+WentOn (Goes c On) = Unit {0}
+WentOn (Goes c (Skip n)) = ⊥
+WentOn (Goes c (To p n)) = ⊥
+WentOn (Goes c Out) = ⊥
+WentOn (Goes c (Ask q u)) = ⊥
+WentOn (Faults f) = ⊥
+WentOn Sticks = ⊥
+
+-- wherever they go on to from a place, the instruction there finds what it needs
+abbrev pub RunsFrom : Here → Code → ℕ → Config → Type 0
+RunsFrom here code ip c =
+    (k : ℕ) (d : Config) (i : Instruction) → done here code k ip c ≡ Goes d On → slice_get code (ip + k) ≡ Some i →
+    (act here (ip + k + 1) i d ≢ Sticks) × IsSmall (act here (ip + k + 1) i d)

@@ -138,8 +138,8 @@ impl Chunk {
         }
     }
 
-    /// How many instructions that at this place passes where the operand that it takes is falsy. It is counted where it is such
-    /// a one.
+    /// How many instructions are passed where the instruction at this place finds a falsy operand, which it takes. Only such
+    /// an instruction is counted.
     #[inline(always)]
     pub fn pop_jump_if_false_at<L: Ledger>(&self, at: usize, steps: &mut Steps<L>) -> Option<usize>
         ensures means { IfSome result (λ skip. slice_get self.now.code at

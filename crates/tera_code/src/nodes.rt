@@ -165,6 +165,7 @@ impl Compiler {
     }
 
     // The map of all that is bound is made first; what any other name stands for is put out where it lies.
+    #[inline(always)]
     fn print_name(&mut self, name: &str, span: Span) -> TeraResult<()>
         ensures ok { OnOk result (self.new ≡ lengthened self.old
             (node_code (tree.Print (tree.Name name.now span)) 0)) }

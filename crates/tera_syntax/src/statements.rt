@@ -42,7 +42,7 @@ fn whole<'s>(
 }
 
 /// The same in a box.
-pub(crate) fn boxed<'s>(
+pub(crate) fn whole_in_box<'s>(
     alloc: Global,
     tokens: &mut Tokens<'_, 's>,
     limit: usize,
@@ -120,7 +120,7 @@ fn statement<'s>(
     match first(tag) {
         Kind::If => {
             let mut ahead = behind(tag, progress.surroundings.in_loop);
-            let condition = boxed(alloc, &mut ahead, progress.room())?;
+            let condition = whole_in_box(alloc, &mut ahead, progress.room())?;
             progress.open(alloc, false, Head::If(condition), tag)
         }
         Kind::For => {
@@ -130,7 +130,7 @@ fn statement<'s>(
         }
         Kind::Elif => {
             let mut ahead = behind(tag, progress.around().in_loop);
-            let condition = boxed(alloc, &mut ahead, progress.room())?;
+            let condition = whole_in_box(alloc, &mut ahead, progress.room())?;
             progress.go_on(alloc, tag)?;
             progress.open(alloc, true, Head::If(condition), tag)
         }
@@ -200,7 +200,7 @@ fn print_value<'s>(
         Becomes (spec.printed 200 s value) result progress.new }
 {
     let mut ahead = Tokens::begin(tag, progress.surroundings.in_loop);
-    let value = boxed(alloc, &mut ahead, progress.room())?;
+    let value = whole_in_box(alloc, &mut ahead, progress.room())?;
     progress.add(Node::Print { value })
 }
 

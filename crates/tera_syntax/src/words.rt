@@ -11,7 +11,7 @@ ghost use Rattle.tera_syntax_tree.specs.View.{node_of, quoted_of};
 use crate::components::define;
 use crate::heads::Head;
 use crate::progress::{Progress, refused};
-use crate::statements::{behind, boxed, pipe, put};
+use crate::statements::{behind, pipe, put, whole_in_box};
 use std::alloc::Global;
 use tera_syntax_tokens::cut::is_alone;
 use tera_syntax_tokens::input::{Tokens, is_word, same};
@@ -40,7 +40,7 @@ fn set<'s>(
     match ahead.kind() {
         Kind::Assign => {
             ahead.take();
-            let value = boxed(alloc, ahead, progress.room())?;
+            let value = whole_in_box(alloc, ahead, progress.room())?;
             put(progress, Node::set(name, value, is_global), tag)
         }
         Kind::End => progress.open(

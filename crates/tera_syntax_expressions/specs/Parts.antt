@@ -63,12 +63,6 @@ TakesEntry meant sub old entries (Ok d) new = (key : Option Key) × (j : Input) 
     × (entries_of entries ≡ join_entries (entries_of old) (one_entry key x.expr))
 TakesEntry meant sub old entries (Err refusal) new = Refuses (and_then meant (λ key. sub)) refusal
 
--- a form is made, unless memory is refused
-abbrev pub Makes : Expr → Result Expression Refusal → Type 0
-Makes meant (Ok x) = expr_of x ≡ meant
-Makes meant (Err (Syntax why span)) = ⊥
-Makes meant (Err OutOfMemory) = Unit {0}
-
 -- how many of the arguments stand before the place of this name; none where one has it
 abbrev pub place_of : Name → Arguments → Option ℕ
 place_of n NoArguments = Some 0

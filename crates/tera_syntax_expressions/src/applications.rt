@@ -61,8 +61,7 @@ impl<'s, F: Fn(Global, &mut Tokens<'_, 's>, usize, u8) -> Result<Deep<'s>, Refus
         tokens.take();
         let y = self.test_by_name(tokens, start, x)?;
         let depth = y.depth;
-        let operand = Box::new(self.alloc, y.expression)?;
-        let expression = Expression::not(operand, tokens.span(start));
+        let expression = Expression::not(self.alloc, y.expression, tokens.span(start))?;
         self.node(tokens, depth, expression)
     }
 

@@ -38,8 +38,7 @@ impl<'s, F: Fn(Global, &mut Tokens<'_, 's>, usize, u8) -> Result<Deep<'s>, Refus
         tokens.take();
         let x = self.sub(tokens, 8)?;
         let depth = x.depth;
-        let operand = Box::new(self.alloc, x.expression)?;
-        let expression = Expression::negate(operand, tokens.span(start));
+        let expression = Expression::negate(self.alloc, x.expression, tokens.span(start))?;
         self.node(tokens, depth, expression)
     }
 
@@ -54,8 +53,7 @@ impl<'s, F: Fn(Global, &mut Tokens<'_, 's>, usize, u8) -> Result<Deep<'s>, Refus
         tokens.take();
         let x = self.sub(tokens, 3)?;
         let depth = x.depth;
-        let operand = Box::new(self.alloc, x.expression)?;
-        let expression = Expression::not(operand, tokens.span(start));
+        let expression = Expression::not(self.alloc, x.expression, tokens.span(start))?;
         self.node(tokens, depth, expression)
     }
 
@@ -121,8 +119,7 @@ impl<'s, F: Fn(Global, &mut Tokens<'_, 's>, usize, u8) -> Result<Deep<'s>, Refus
         }
         let y = self.binary(tokens, 5, BinaryOperator::In, start, x)?;
         let depth = y.depth;
-        let operand = Box::new(self.alloc, y.expression)?;
-        let expression = Expression::not(operand, tokens.span(start));
+        let expression = Expression::not(self.alloc, y.expression, tokens.span(start))?;
         self.node(tokens, depth, expression)
     }
 

@@ -7,4 +7,3 @@ pub mod Cuts
 pub mod Raws
 pub mod Order
 pub mod Stretches
-pub mod Words

@@ -119,14 +119,6 @@ word_kind word =
     if bytes_eq word (codes "for") then k.For else (
     k.Name))))))))))))
 
--- whether a reserved word begins with this byte and is this long
-abbrev pub may_be_reserved : ℕ → ℕ → Bool
-may_be_reserved first size =
-    if size == 2 then first == 105 || first == 111 else (
-    if size == 3 then (first == 97 || first == 102) || first == 110 else (
-    if size == 4 then (((first == 101 || first == 116) || first == 84) || first == 110) || first == 78 else (
-    if size == 5 then first == 102 || first == 70 else false)))
-
 -- a name that is a word with a meaning is of that kind
 abbrev pub named : Kind → Text → Kind
 named k.Name word = word_kind word

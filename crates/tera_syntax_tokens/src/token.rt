@@ -277,49 +277,24 @@ fn measured(text: &[u8]) -> Option<Measure>
     }
 }
 
-/// Whether a reserved word begins so and is this long. Most names are told from them by that.
-#[inline]
-fn may_be_reserved(first: u8, size: usize) -> bool
-    ensures { result ≡ spec.may_be_reserved first size }
-{
-    match size {
-        2 => first == b'i' || first == b'o',
-        3 => first == b'a' || first == b'f' || first == b'n',
-        4 => { first == b'e' || first == b't' || first == b'T' || first == b'n' || first == b'N' }
-        5 => first == b'f' || first == b'F',
-        _ => false,
-    }
-}
-
-/// The kind of a word: those that are reserved have their own.
-fn word_kind(word: &str) -> Kind
-    ensures { result ≡ spec.word_kind word.now }
-{
-    if may_be_reserved(byte_at(word.as_bytes(), 0), word.len()) {
-        found_kind(word)
-    } else {
-        Kind::Name
-    }
-}
-
-/// The same by comparing the word with each reserved one.
+/// The kind of a word: those that are reserved have their own. A word is told by its length, then byte by byte.
 #[tactic(auto, unfolding(crate::specs::Token::word_kind))]
-fn found_kind(word: &str) -> Kind
+fn word_kind(word: &[u8]) -> Kind
     ensures { result ≡ spec.word_kind word.now }
 {
     match word {
-        "true" | "True" => Kind::True,
-        "false" | "False" => Kind::False,
-        "none" | "None" => Kind::Nothing,
-        "and" => Kind::And,
-        "or" => Kind::Or,
-        "not" => Kind::Not,
-        "in" => Kind::In,
-        "is" => Kind::Is,
-        "if" => Kind::If,
-        "elif" => Kind::Elif,
-        "else" => Kind::Else,
-        "for" => Kind::For,
+        [b'i', b'f'] => Kind::If,
+        [b'i', b'n'] => Kind::In,
+        [b'i', b's'] => Kind::Is,
+        [b'o', b'r'] => Kind::Or,
+        [b'a', b'n', b'd'] => Kind::And,
+        [b'f', b'o', b'r'] => Kind::For,
+        [b'n', b'o', b't'] => Kind::Not,
+        [b'e', b'l', b'i', b'f'] => Kind::Elif,
+        [b'e', b'l', b's', b'e'] => Kind::Else,
+        [b't' | b'T', b'r', b'u', b'e'] => Kind::True,
+        [b'n' | b'N', b'o', b'n', b'e'] => Kind::Nothing,
+        [b'f' | b'F', b'a', b'l', b's', b'e'] => Kind::False,
         _ => Kind::Name,
     }
 }
@@ -329,7 +304,7 @@ fn named(kind: Kind, word: &str) -> Kind
     ensures { result ≡ spec.named kind word.now }
 {
     match kind {
-        Kind::Name => word_kind(word),
+        Kind::Name => word_kind(word.as_bytes()),
         kind => kind,
     }
 }

@@ -1,5 +1,5 @@
 // Trees from their parts.
-ghost use Rattle.std.specs.Prelude.{◌≡◌};
+ghost use Rattle.std.specs.Prelude.{◌≡◌, IfOk};
 ghost use Rattle.tera_syntax_tree.specs.Tree.{Attribute, Index, Not, Negate, Binary, And, Or, Ternary, Array, Map, Super, Filter, Test, Call, Component, ArrayLiteral, MapLiteral, If, Set, Capture, FilterSection, Block, ComponentCall, Definition};
 ghost use Rattle.tera_syntax_tree.specs.View.{expr_of, slice_of, comprehension_of, items_of, entries_of, arguments_of, written_of, literals_of, literal_entries_of, signature_of, filters_of, node_of, nodes_of, for_of};
 
@@ -8,6 +8,7 @@ use crate::expression::{
     Argument, BinaryOperator, Bounds, Choice, Entry, Expression, Heading, Indexed, Item, Operands,
 };
 use crate::node::{Node, SectionFilter};
+use std::alloc::{AllocError, Global};
 use tera_errors::Span;
 
 impl<'s> Expression<'s> {
@@ -59,18 +60,28 @@ impl<'s> Expression<'s> {
         }
     }
 
-    /// `not operand`
-    pub fn not(operand: Box<Expression<'s>>, span: Span) -> Expression<'s>
-        ensures { expr_of result ≡ Not (expr_of operand.entry.value) span }
+    /// `not operand`, with the operand in a box.
+    pub fn not(
+        alloc: Global,
+        operand: Expression<'s>,
+        span: Span,
+    ) -> Result<Expression<'s>, AllocError>
+        ensures { IfOk result (λ e. expr_of e ≡ Not (expr_of operand.entry) span) }
     {
-        Expression::Not { operand, span }
+        let operand = Box::new(alloc, operand)?;
+        Ok(Expression::Not { operand, span })
     }
 
-    /// `-operand`
-    pub fn negate(operand: Box<Expression<'s>>, span: Span) -> Expression<'s>
-        ensures { expr_of result ≡ Negate (expr_of operand.entry.value) span }
+    /// `-operand`, with the operand in a box.
+    pub fn negate(
+        alloc: Global,
+        operand: Expression<'s>,
+        span: Span,
+    ) -> Result<Expression<'s>, AllocError>
+        ensures { IfOk result (λ e. expr_of e ≡ Negate (expr_of operand.entry) span) }
     {
-        Expression::Negate { operand, span }
+        let operand = Box::new(alloc, operand)?;
+        Ok(Expression::Negate { operand, span })
     }
 
     /// The operator between two operands.

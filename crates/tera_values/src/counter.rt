@@ -14,22 +14,33 @@ pub enum Counter {
 }
 
 impl Counter {
-    /// What the name counts, if anything.
+    /// What the name counts, if anything. Most names are told from such ones by how they begin.
+    #[inline(always)]
     pub fn named(name: &str) -> Option<Counter>
         ensures { result ≡ counter_of name.now }
     {
-        if name == "__tera_loop_index" {
-            Some(Counter::Index)
-        } else if name == "__tera_loop_index0" {
-            Some(Counter::Index0)
-        } else if name == "__tera_loop_first" {
-            Some(Counter::First)
-        } else if name == "__tera_loop_last" {
-            Some(Counter::Last)
-        } else if name == "__tera_loop_length" {
-            Some(Counter::Length)
-        } else {
-            None
+        match name.as_bytes() {
+            [b'_', b'_', ..] => counted(name),
+            _ => None,
         }
+    }
+}
+
+// The same by comparing the name with each of a loop's names.
+fn counted(name: &str) -> Option<Counter>
+    ensures { result ≡ counter_of name.now }
+{
+    if name == "__tera_loop_index" {
+        Some(Counter::Index)
+    } else if name == "__tera_loop_index0" {
+        Some(Counter::Index0)
+    } else if name == "__tera_loop_first" {
+        Some(Counter::First)
+    } else if name == "__tera_loop_last" {
+        Some(Counter::Last)
+    } else if name == "__tera_loop_length" {
+        Some(Counter::Length)
+    } else {
+        None
     }
 }

@@ -26,11 +26,11 @@ abbrev pub part_of : {C : Type 0} → Name → Bool → EvaluatedOf C → Span �
 part_of file false target span part = cond (is_undefined target.value) (fault_at file target.span) part
 part_of file true target span part = cond (is_missing target.value) (at_span undefined span) part
 
--- whatever the part is: an answer or a fault without it, or none where the part decides
-abbrev pub Decides : Result (Option Evaluated) Refusal → (Outcome → Outcome) → Type 0
-Decides (Ok None) meant = (part : Outcome) → meant part ≡ part
-Decides (Ok (Some answer)) meant = (part : Outcome) → meant part ≡ Ok answer
-Decides (Err e) meant = (part : Outcome) → IsErr (meant part) × Says e (meant part)
+-- whatever the part is: whether the answer is undefined without it, or a fault without it; if neither, the part is the answer
+abbrev pub Decides : Result Bool Refusal → (Span → Outcome → Outcome) → Type 0
+Decides (Ok true) meant = (span : Span) (part : Outcome) → meant span part ≡ at_span undefined span
+Decides (Ok false) meant = (span : Span) (part : Outcome) → meant span part ≡ part
+Decides (Err e) meant = (span : Span) (part : Outcome) → IsErr (meant span part) × Says e (meant span part)
 
 -- the value at a text key of a map, and undefined of anything else
 abbrev pub attribute_of : {C : Type 0} → Name → Bool → EvaluatedOf C → Name → Span → OutcomeOf C

@@ -1,10 +1,7 @@
 // Attributes, items and slices.
-ghost use Rattle.std.specs.Prelude.{◌≡◌, IsTrue, IsSome, IsOk, IsOkAnd, option_copied, unwrap_or};
-ghost use Rattle.tera_errors.specs.Answer.{Gives, Tells};
-ghost use Rattle.tera_errors.specs.Fault.{rendering_error};
+ghost use Rattle.std.specs.Prelude.{◌≡◌, IsTrue, IsOk, IsOkAnd};
+ghost use Rattle.tera_errors.specs.Answer.{Gives};
 ghost use Rattle.tera_values.specs.Access.{IsScalar};
-ghost use Rattle.tera_values.specs.Val.{undefined};
-ghost use Rattle.tera_operators.specs.Operand.{Evaluated};
 ghost use Rattle.tera_operators.specs.Accesses.{is_missing, part_of, Decides, attribute_of, item_of, bound_at, slice_of};
 
 use crate::operand::{LentOperand, Operand};
@@ -13,43 +10,36 @@ use std::alloc::Global;
 use tera_values::{Error, Shape, Span, TeraResult, Value};
 
 /// Undefined or none.
-fn is_missing(value: &Value) -> bool
-    ensures { result ≡ is_missing value.now }
+fn is_missing(target: &LentOperand<'_>) -> bool
+    ensures { result ≡ is_missing target.now.value }
 {
-    match value.shape() {
-        Shape::Undefined => true,
-        Shape::None => true,
-        _ => false,
+    match target.value() {
+        Some(value) => matches!(&value.shape(), Shape::Undefined | Shape::None),
+        None => true,
     }
 }
 
-fn undefined_has_no_parts(alloc: Global, file: &str, span: Span) -> Error
-    ensures { Tells result (rendering_error (record { file = file.now; span = span })) }
-{
-    Error::rendering(alloc, "undefined has no parts", file, span)
-}
-
-/// What any access answers of a target that has no parts: a fault of undefined, or, where the access is optional, undefined
-/// of undefined and none.
+/// Whether any access of this target gives undefined, as it has no parts: undefined and none where the access is optional.
+/// Where it isn't, undefined is a fault.
+#[inline(always)]
 fn without_parts(
     alloc: Global,
     file: &str,
-    target: &Operand,
+    target: &LentOperand<'_>,
     optional: bool,
-    span: Span,
-) -> TeraResult<Option<Operand>>
-    ensures answer { Decides result (part_of file.now optional target.now span) }
+) -> TeraResult<bool>
+    ensures answer { Decides result (part_of file.now optional target.now) }
     ensures ready { IsTrue optional → IsTrue (is_missing target.now.value) →
-        IsOkAnd result IsSome }
+        IsOkAnd result IsTrue }
 {
     if optional {
-        if is_missing(target.value()) {
-            return Ok(Some(Operand::new(Value::undefined(), span)));
-        }
-    } else if target.value().is_undefined() {
-        return Err(undefined_has_no_parts(alloc, file, target.span()));
+        return Ok(is_missing(target));
     }
-    Ok(None)
+    if target.is_undefined() {
+        let text = "undefined has no parts";
+        return Err(Error::rendering(alloc, text, file, target.span()));
+    }
+    Ok(false)
 }
 
 impl<'v> LentOperand<'v> {
@@ -68,42 +58,15 @@ impl<'v> LentOperand<'v> {
         ensures ready { IsOk (attribute_of file.now optional self.now name.now span) →
             IsOk result }
     {
-        match self.value() {
-            Some(value) => attribute_in(alloc, file, value, self.span(), name, optional, span),
-            None => {
-                if optional {
-                    Ok(LentOperand::new(None, span))
-                } else {
-                    Err(undefined_has_no_parts(alloc, file, self.span()))
-                }
-            }
-        }
-    }
-}
-
-// The same of a value at its own span, which is there.
-fn attribute_in<'v>(
-    alloc: Global,
-    file: &str,
-    value: &'v Value,
-    at: Span,
-    name: &str,
-    optional: bool,
-    span: Span,
-) -> TeraResult<LentOperand<'v>>
-    ensures part { let target : Evaluated = record { value = value.now; span = at } in
-        Gives (λ o. o) result (attribute_of file.now optional target name.now span) }
-    ensures ready { let target : Evaluated = record { value = value.now; span = at } in
-        IsOk (attribute_of file.now optional target name.now span) → IsOk result }
-{
-    if optional {
-        if is_missing(value) {
+        if without_parts(alloc, file, self, optional)? {
             return Ok(LentOperand::new(None, span));
         }
-    } else if value.is_undefined() {
-        return Err(undefined_has_no_parts(alloc, file, at));
+        let part = match self.value() {
+            Some(value) => value.get_attr(name),
+            None => None,
+        };
+        Ok(LentOperand::new(part, span))
     }
-    Ok(LentOperand::new(value.get_attr(name), span))
 }
 
 /// The same as an operand of its own, of a target that was evaluated.
@@ -139,8 +102,8 @@ pub fn item(
     ensures ready { IsOkAnd (item_of file.now optional target.now index.now span)
         (λ o. IsScalar o.value) → IsOk result }
 {
-    if let Some(answer) = without_parts(alloc, file, target, optional, span)? {
-        return Ok(answer);
+    if without_parts(alloc, file, &target.lend(), optional)? {
+        return Ok(Operand::new(Value::undefined(), span));
     }
     let answer = target.value().get_item(alloc, index.value());
     operand_or_fault(alloc, file, answer, index.span(), spanning(target, index))
@@ -178,8 +141,8 @@ pub fn slice(
         (slice_of file.now optional target.now start.now end.now step.now span) }
     ensures ready { IsTrue optional → IsTrue (is_missing target.now.value) → IsOk result }
 {
-    if let Some(answer) = without_parts(alloc, file, target, optional, span)? {
-        return Ok(answer);
+    if without_parts(alloc, file, &target.lend(), optional)? {
+        return Ok(Operand::new(Value::undefined(), span));
     }
     let start = bound(alloc, file, start)?;
     let end = bound(alloc, file, end)?;

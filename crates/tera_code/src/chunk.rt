@@ -182,6 +182,15 @@ impl Chunk {
         }
     }
 
+    // Room for so many instructions and bytes of text. Every other instruction has a span, or more than one of them.
+    pub(crate) fn make_room(&mut self, instructions: usize, bytes: usize) -> TeraResult<()>
+        ensures same { self.new ≡ self.old }
+        ensures lacks { IfErr result Lacks }
+    {
+        self.code.reserve(instructions)?;
+        self.tables.make_room(instructions / 2, bytes)
+    }
+
     // Inlined, as is what it stands on: each caller names one form, and no other one is looked for.
     #[inline(always)]
     pub(crate) fn emit(

@@ -65,6 +65,14 @@ impl Compiler {
         self.alloc
     }
 
+    // Room for so many instructions and bytes of text, so that what is written moves less often as it grows.
+    pub(crate) fn make_room(&mut self, instructions: usize, bytes: usize) -> TeraResult<()>
+        ensures same { self.new ≡ self.old }
+        ensures lacks { IfErr result Lacks }
+    {
+        self.chunk.make_room(instructions, bytes)
+    }
+
     #[inline(always)]
     pub(crate) fn emit(&mut self, instruction: Instruction<'_>) -> TeraResult<()>
         ensures ok { OnOk result (self.new ≡ lengthened self.old (instruction.entry ∷ [])) }

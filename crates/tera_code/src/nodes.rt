@@ -23,6 +23,7 @@ impl Compiler {
             (nodes_code (nodes_of nodes.now) 0)) }
         ensures lacks { IfErr result Lacks }
     {
+        self.make_room(nodes.len(), text_size(nodes))?;
         self.nodes(nodes, 0)
     }
 
@@ -192,6 +193,17 @@ impl Compiler {
             }
         }
     }
+}
+
+// How many bytes of text the nodes put out themselves.
+fn text_size(nodes: &[Node]) -> usize {
+    let mut size = 0usize;
+    for node in nodes {
+        if let Node::Content { text, span: _ } = node {
+            size = size.saturating_add(text.len());
+        }
+    }
+    size
 }
 
 /// The code of these nodes, which stand in the text of the template of this name.

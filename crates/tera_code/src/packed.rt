@@ -226,6 +226,16 @@ impl Tables {
         }
     }
 
+    /// Room for so many spans and bytes of text.
+    pub(crate) fn make_room(&mut self, spans: usize, bytes: usize) -> TeraResult<()>
+        ensures same { shelf_of self.new ≡ shelf_of self.old }
+        ensures lacks { IfErr result Lacks }
+    {
+        self.spans.reserve(spans)?;
+        self.pool.reserve(bytes)?;
+        Ok(())
+    }
+
     #[inline(always)]
     pub(crate) fn text(&mut self, text: &str) -> TeraResult<Packed>
         ensures grows { Grows (shelf_of self.old) (shelf_of self.new) }

@@ -82,13 +82,7 @@ impl Chunk {
         ensures count { MatchOption result (steps.new ≡ steps.old)
             (λ _. steps.new ≡ steps.old + 1) }
     {
-        match self.code.get(at) {
-            None => None,
-            Some(packed) => {
-                steps.tick();
-                Some(LentInstruction::new(packed, &self.tables))
-            }
-        }
+        counted(self.lent(at), steps)
     }
 
     /// The attribute that the instruction at this place takes, which is counted where it takes one.
@@ -105,16 +99,7 @@ impl Chunk {
         ensures count { MatchOption result (steps.new ≡ steps.old)
             (λ _. steps.new ≡ steps.old + 1) }
     {
-        match self.code.get(at) {
-            None => None,
-            Some(packed) => match LentInstruction::new(packed, &self.tables).as_attribute() {
-                None => None,
-                Some(attribute) => {
-                    steps.tick();
-                    Some(attribute)
-                }
-            },
-        }
+        counted(self.lent(at)?.as_attribute(), steps)
     }
 
     /// Whether the instruction at this place puts out the topmost operand. It is counted where it does.
@@ -125,16 +110,12 @@ impl Chunk {
             ≡ unwrap_or (option_map is_write_top (slice_get self.now.code at)) false }
         ensures count { steps.new ≡ cond result (steps.old + 1) steps.old }
     {
-        match self.code.get(at) {
-            None => false,
-            Some(packed) => {
-                if LentInstruction::new(packed, &self.tables).is_write_top() {
-                    steps.tick();
-                    true
-                } else {
-                    false
-                }
+        match self.lent(at) {
+            Some(instruction) if instruction.is_write_top() => {
+                steps.tick();
+                true
             }
+            _ => false,
         }
     }
 
@@ -149,18 +130,7 @@ impl Chunk {
         ensures count { MatchOption result (steps.new ≡ steps.old)
             (λ _. steps.new ≡ steps.old + 1) }
     {
-        match self.code.get(at) {
-            None => None,
-            Some(packed) => {
-                match LentInstruction::new(packed, &self.tables).as_pop_jump_if_false() {
-                    None => None,
-                    Some(skip) => {
-                        steps.tick();
-                        Some(skip)
-                    }
-                }
-            }
-        }
+        counted(self.lent(at)?.as_pop_jump_if_false(), steps)
     }
 
     /// How many instructions there are.
@@ -176,9 +146,19 @@ impl Chunk {
         ensures { option_map callee_of result
             ≡ option_and_then called_by (slice_get self.now.code place) }
     {
-        match self.code.get(place) {
+        self.lent(place)?.callee()
+    }
+
+    // The instruction at this place, which is not counted.
+    #[inline(always)]
+    fn lent(&self, at: usize) -> Option<LentInstruction<'_>>
+        ensures found { MatchOption result (slice_get self.now.code at ≡ None)
+            (λ i. slice_get self.now.code at ≡ Some i) }
+        ensures small { IfSome result (λ _. length self.now.code < 2 ^ 64) }
+    {
+        match self.code.get(at) {
             None => None,
-            Some(packed) => LentInstruction::new(packed, &self.tables).callee(),
+            Some(packed) => Some(LentInstruction::new(packed, &self.tables)),
         }
     }
 
@@ -253,4 +233,17 @@ impl Chunk {
         self.code[place] = packed;
         Ok(())
     }
+}
+
+// What an instruction is asked for. It is counted where it is told.
+#[inline(always)]
+fn counted<T: Drop, L: Ledger>(told: Option<T>, steps: &mut Steps<L>) -> Option<T>
+    ensures same { result ≡ told }
+    ensures count { MatchOption result (steps.new ≡ steps.old)
+        (λ _. steps.new ≡ steps.old + 1) }
+{
+    if told.is_some() {
+        steps.tick();
+    }
+    told
 }

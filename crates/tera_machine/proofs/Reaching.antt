@@ -1,6 +1,6 @@
 -- A path is read as its instructions say.
-use Rattle.std.proofs.Common.{◌≡◌, ℕ, suc, ◌+◌, ◌-◌, ◌<◌, ◌≤◌, ◌∷◌, Bool, true, false, Some, None, Ok, Err, refl, sym, ap, ap₂, ◌∙◌, subst, arith}
-use Rattle.std.specs.Prelude.{slice_get, length, if◌then◌else◌}
+use Rattle.std.proofs.Common.{◌≡◌, ℕ, suc, ◌+◌, ◌-◌, ◌∷◌, Bool, true, false, Some, None, Ok, refl, sym, ap, ap₂, ◌∙◌, subst, arith}
+use Rattle.std.specs.Prelude.{slice_get, if◌then◌else◌}
 use Rattle.std.proofs.lemmas.Option.{slice_get_within}
 use Rattle.tera_errors.specs.declared.span.Span.{Span}
 use Rattle.tera_errors.specs.Site as site
@@ -19,10 +19,10 @@ use Rattle.tera_code.specs.declared.instruction.Instruction.{Instruction}
 use Rattle.tera_code.specs.declared.instruction.Instruction.TheVariants as instruction
 use Rattle.tera_machine.specs.Config.{Config}
 use Rattle.tera_machine.specs.Flow.{On}
-use Rattle.tera_machine.specs.Did.{Goes, Faults, holding, outcome, with_text}
-use Rattle.tera_machine.specs.Act.{act, Acted, put_out}
+use Rattle.tera_machine.specs.Did.{Goes, Faults, holding, pushed, outcome, with_text}
+use Rattle.tera_machine.specs.Act.{act, put_out}
 use Rattle.tera_machine.specs.Exec.{Code}
-use Rattle.tera_machine.specs.Together.{done, done_at, WentOn}
+use Rattle.tera_machine.specs.Together.{done, WentOn}
 use Rattle.tera_machine.specs.Paths.{Start, Stands, Reaches, Breaks, start_at}
 use Rattle.tera_machine.proofs.Together.{done_next}
 
@@ -38,13 +38,11 @@ alone_did here code c at n i e =
     subst (λ k. done here code (suc k) at c ≡ act here (at + 1) i c) none
     (done_next here code 0 at c c i refl (subst (λ p. slice_get code p ≡ Some i) same e) ∙ ap (λ p. act here p i c) z)
 
--- a name alone
-pub begins : (here : Here) (code : Code) (c : Config) (at n : ℕ) (name : site.Name) (span : Span) (v : Val) → slice_get code at ≡ Some (instruction.LoadName name span) → look name here.around c.run.vars ≡ v → Reaches (start_at here at n c) code at n (record { value = v; span = span })
-begins here code c at n name span v e l =
+-- a name alone: what it stands for lies on top
+pub begins : {here : Here} {code : Code} {c : Config} {at n : ℕ} {name sought : site.Name} {span : Span} {found : Val} {a : Evaluated} → slice_get code at ≡ Some (instruction.LoadName name span) → sought ≡ name → found ≡ look sought here.around c.run.vars → a ≡ record { value = found; span = span } → Reaches (start_at here at n c) code at n a
+begins {here} {code} {c} {at} {n} {name} {sought} {span} {found} e is l same =
     let none : 0 ≡ n - n = omega arith in
-    let same : at + 0 ≡ at = omega arith in
-    let s = start_at here at n c in
-    let first : done_at here at (slice_get code at) c ≡ Goes (lies s (record { value = v; span = span })) On = ap (λ o. done_at here at o c) e ∙ ap (λ w. Goes (lies s (record { value = w; span = span })) On) l in
+    let stands_for : look name here.around c.run.vars ≡ found = ap (λ x. look x here.around c.run.vars) (sym is) ∙ sym l in
     record {
       stands = record {
         counted = omega arith;
@@ -52,11 +50,10 @@ begins here code c at n name span v e l =
         there = slice_get_within code at _ e;
         before = subst (λ k. WentOn (done here code k at c)) none tt;
       };
-      did = subst (λ k. done here code (suc k) at c ≡ Goes (lies s (record { value = v; span = span })) On) none
-          (subst (λ p. done_at here p (slice_get code p) c ≡ Goes (lies s (record { value = v; span = span })) On) (sym same) first);
+      did = alone_did here code c at n _ e ∙ ap (λ v. pushed v span c) stands_for ∙ ap (λ b. Goes (holding (b ∷ c.operands) c) On) (sym same);
     }
 
-module _ (s : Start) (code : Code) (at n : ℕ) (a : Evaluated) (r : Reaches s code at n a) (i : Instruction) (at2 n2 : ℕ) (e : slice_get code (at + 1) ≡ Some i) (p : at2 ≡ at + 1) (m : n2 ≡ n + 1) where
+module _ {s : Start} {code : Code} {at n : ℕ} {a : Evaluated} (r : Reaches s code at n a) {i : Instruction} {at2 n2 : ℕ} (e : slice_get code (at + 1) ≡ Some i) (p : at2 ≡ at + 1) (m : n2 ≡ n + 1) where
   -- one more, which stands behind
   pub more : Stands s code at2 n2
   more =
@@ -78,21 +75,21 @@ module _ (s : Start) (code : Code) (at n : ℕ) (a : Evaluated) (r : Reaches s c
       (done_next s.here code (suc (n - s.count)) s.at s.config (lies s a) i r.did (subst (λ x. slice_get code x ≡ Some i) q e)
       ∙ ap (λ x. act s.here x i (lies s a)) z)
 
-module _ (s : Start) (code : Code) (at n : ℕ) (a : Evaluated) (r : Reaches s code at n a) (name : site.Name) (optional : Bool) (span : Span) (at2 n2 : ℕ) (e : slice_get code (at + 1) ≡ Some (instruction.LoadAttribute name optional span)) (p : at2 ≡ at + 1) (m : n2 ≡ n + 1) (file file2 name2 : site.Name) (f : s.here.file ≡ file) (f2 : file2 ≡ file) (g2 : name2 ≡ name) where
+module _ {s : Start} {code : Code} {at n : ℕ} {a : Evaluated} (r : Reaches s code at n a) {name : site.Name} {optional : Bool} {span : Span} {at2 n2 : ℕ} (e : slice_get code (at + 1) ≡ Some (instruction.LoadAttribute name optional span)) (p : at2 ≡ at + 1) (m : n2 ≡ n + 1) {file file2 name2 : site.Name} (f : s.here.file ≡ file) (f2 : file2 ≡ file) (g2 : name2 ≡ name) where
   same : attribute_of s.here.file optional a name span ≡ attribute_of file2 optional a name2 span
   same = ap₂ (λ g k. attribute_of g optional a k span) (f ∙ sym f2) (sym g2)
 
   -- an attribute more
-  pub attribute_reached : (b : Evaluated) → attribute_of file2 optional a name2 span ≡ Ok b → Reaches s code at2 n2 b
-  attribute_reached b o = record {
-    stands = more s code at n a r _ at2 n2 e p m;
-    did = more_did s code at n a r _ at2 n2 e p m ∙ ap (λ x. outcome x s.config.operands (lies s a)) (same ∙ o);
+  pub attribute_reached : {b : Evaluated} → attribute_of file2 optional a name2 span ≡ Ok b → Reaches s code at2 n2 b
+  attribute_reached o = record {
+    stands = more r e p m;
+    did = more_did r e p m ∙ ap (λ x. outcome x s.config.operands (lies s a)) (same ∙ o);
   }
 
   -- or its fault
   pub attribute_breaks : (x : Refusal) → Says x (attribute_of file2 optional a name2 span) → Breaks s code n2 x
   attribute_breaks None y = λ c. tt
-  attribute_breaks (Some fault) y = λ c. more_did s code at n a r _ at2 n2 e p m ∙ ap (λ x. outcome x s.config.operands (lies s a)) (same ∙ y)
+  attribute_breaks (Some fault) y = λ c. more_did r e p m ∙ ap (λ x. outcome x s.config.operands (lies s a)) (same ∙ y)
 
 -- an operand that is put out
 pub written : (here : Here) (a : Evaluated) (c : Config) → is_undefined a.value ≡ false → put_out (output here a) c ≡ Goes (with_text (rendered here.autoescape here.engine.escape a.value) c) On

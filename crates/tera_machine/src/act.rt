@@ -4,7 +4,7 @@ ghost use Rattle.tera_errors.specs.Answer.{Tells, Lacks};
 ghost use Rattle.tera_errors.specs.Fault.{rendering_error};
 ghost use Rattle.tera_machine.specs.Config.{config_of};
 ghost use Rattle.tera_machine.specs.Did.{pushed, holding};
-ghost use Rattle.tera_machine.specs.Act.{act, IsReady, IsSmall, Does, going_on, text_written, outcome_put, top_written, name_written, name_loaded, context_loaded, stored, attribute_loaded, item_loaded, sliced, denied, negated, operated, array_made, map_made, handed, component_taken, popped_branch, kept_if_falsy, kept_if_truthy, above_taken};
+ghost use Rattle.tera_machine.specs.Act.{act, IsReady, IsSmall, Does, going_on, text_written, outcome_put, top_written, name_written, name_loaded, context_loaded, stored, attribute_loaded, item_loaded, sliced, denied, negated, operated, array_made, map_made, handed, component_taken, popped_branch, kept_if_falsy, kept_if_truthy, above_taken, topmost};
 ghost use Rattle.tera_machine.specs.Subject.{here_of};
 ghost use Rattle.tera_state.specs.Scopes.{around_of};
 ghost use Rattle.tera_syntax_tree.specs.declared.expression.BinaryOperator.{BinaryOperator as Operator};
@@ -339,6 +339,23 @@ impl<'c> Configuration<'c> {
         self.put(operand)
     }
 
+    // So many operands from the top, the last one first.
+    pub(crate) fn take_topmost(&mut self, count: usize) -> TeraResult<Vec<Operand>>
+        requires { topmost count self.old.operands ≢ None }
+        ensures taken { IfOk result (λ all. topmost count self.old.operands
+            ≡ Some (all.items, self.new.operands)) }
+        ensures rest { config_of self.new
+            ≡ holding self.new.operands (config_of self.old) }
+        ensures stays { self.new.scopes ≡ self.old.scopes }
+        ensures places { self.new.places ≡ self.old.places }
+        ensures lacks { IfErr result Lacks }
+    {
+        if self.operands.len() < count {
+            unreachable!()
+        }
+        self.operands.pop_many(count)
+    }
+
     fn make_array<'f>(
         &mut self,
         alloc: Global,
@@ -350,10 +367,7 @@ impl<'c> Configuration<'c> {
         ensures { Does (array_made file.now spreads.now span) self.old result self.new }
     {
         let spreads = spreads.as_slice();
-        if self.operands.len() < spreads.len() {
-            unreachable!()
-        }
-        let operands = self.operands.pop_many(spreads.len())?;
+        let operands = self.take_topmost(spreads.len())?;
         let operand = tera_operators::array(alloc, file, spreads, operands, span)?;
         self.put(operand)
     }
@@ -369,10 +383,7 @@ impl<'c> Configuration<'c> {
         ensures { Does (map_made file.now keys.now span) self.old result self.new }
     {
         let keys = keys.as_slice();
-        if self.operands.len() < keys.len() {
-            unreachable!()
-        }
-        let operands = self.operands.pop_many(keys.len())?;
+        let operands = self.take_topmost(keys.len())?;
         let operand = tera_operators::map(alloc, file, keys, operands, span)?;
         self.put(operand)
     }
@@ -382,10 +393,7 @@ impl<'c> Configuration<'c> {
         requires { IsReady (above_taken arguments span) self.old }
         ensures { Does (above_taken arguments span) self.old result self.new }
     {
-        if self.operands.len() < arguments {
-            unreachable!()
-        }
-        drop(self.operands.pop_many(arguments)?);
+        drop(self.take_topmost(arguments)?);
         Ok(Flow::Ask(Asked::Above(span)))
     }
 
@@ -424,10 +432,7 @@ impl<'c> Configuration<'c> {
             name.now keys.now has_body span) self.old result self.new }
     {
         let keys = keys.as_slice();
-        if self.operands.len() < keys.len() {
-            unreachable!()
-        }
-        let operands = self.operands.pop_many(keys.len())?;
+        let operands = self.take_topmost(keys.len())?;
         let body = self.handed(machine.alloc, has_body)?;
         let given = tera_operators::entries(machine.alloc, file, keys, operands)?;
         let asked = AskedComponent {

@@ -25,10 +25,7 @@ impl<'c> Configuration<'c> {
     {
         let name = name.as_name().as_str();
         let names = names.as_slice();
-        if self.operands.len() < names.len() {
-            unreachable!()
-        }
-        let operands = self.operands.pop_many(names.len())?;
+        let operands = self.take_topmost(names.len())?;
         let target = self.operands.take();
         let operand = filter(
             machine.alloc,
@@ -61,10 +58,7 @@ impl<'c> Configuration<'c> {
     {
         let name = name.as_name().as_str();
         let names = names.as_slice();
-        if self.operands.len() < names.len() {
-            unreachable!()
-        }
-        let operands = self.operands.pop_many(names.len())?;
+        let operands = self.take_topmost(names.len())?;
         let target = self.operands.take();
         let operand = test(
             machine.alloc,
@@ -97,10 +91,7 @@ impl<'c> Configuration<'c> {
     {
         let name = name.as_name().as_str();
         let names = names.as_slice();
-        if self.operands.len() < names.len() {
-            unreachable!()
-        }
-        let operands = self.operands.pop_many(names.len())?;
+        let operands = self.take_topmost(names.len())?;
         let operand = function(
             machine.alloc,
             file,

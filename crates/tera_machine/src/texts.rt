@@ -139,13 +139,8 @@ impl Texts {
         requires { self.old.below ≢ [] }
         ensures { self.old.below ≡ self.new.now ∷ self.new.below }
     {
-        match self.outer.pop() {
-            Some(outer) => {
-                self.all.truncate(self.start);
-                self.start = outer;
-            }
-            None => unreachable!(),
-        }
+        self.all.truncate(self.start);
+        self.start = self.outer.take();
     }
 
     /// The innermost text ends, and stays behind the one around it.
@@ -153,10 +148,8 @@ impl Texts {
         requires { self.old.below ≢ [] }
         ensures { self.new ≡ joined self.old }
     {
-        match self.outer.pop() {
-            Some(outer) => self.start = outer,
-            None => unreachable!(),
-        }
+        let outer = self.outer.take();
+        self.start = outer;
     }
 
     /// The texts of so many layers are dropped.

@@ -1,4 +1,4 @@
-use Rattle.std.proofs.Common.{◌+◌, arith, refl, Ok, Err, OnOk, IfOk, IfErr, Result, ◌≡◌}
+use Rattle.std.proofs.Common.{◌+◌, arith, refl, Ok, Err, IfOk, IfErr, Result}
 use Rattle.std.proofs.lemmas.Option.{slice_get_within}
 use Rattle.tera_errors.specs.Answer.{Refusal}
 use Rattle.tera_machine.proofs.Reaching.{more, attribute_reached, attribute_breaks}
@@ -18,20 +18,20 @@ attributes-requires g t c κs within =
 
 pub returns-in-Ok-clause-stands : goal.returns-in-Ok-clause-stands
 returns-in-Ok-clause-stands g t c = λ s f r.
-    c.attributes.ensures.stands s f (attribute_reached s c.args.chunk.now.code c.args.at.now c.args.steps.now c.args.reached r _ _ _ _ _ c.in-Some.ensures.means refl c.in-Some.ensures.count _ _ _ f c.file.ensures c.as_str.ensures _ c.in-Ok.ensures.part)
+    c.attributes.ensures.stands s f (attribute_reached r c.in-Some.ensures.means refl c.in-Some.ensures.count f c.file.ensures c.as_str.ensures c.in-Ok.ensures.part)
 
 pub returns-in-Ok-clause-ok : goal.returns-in-Ok-clause-ok
 returns-in-Ok-clause-ok g t c =
-    if_ok c.attributes.result (λ o p s f r. p s f (attribute_reached s c.args.chunk.now.code c.args.at.now c.args.steps.now c.args.reached r _ _ _ _ _ c.in-Some.ensures.means refl c.in-Some.ensures.count _ _ _ f c.file.ensures c.as_str.ensures _ c.in-Ok.ensures.part)) c.attributes.ensures.ok
+    if_ok c.attributes.result (λ o p s f r. p s f (attribute_reached r c.in-Some.ensures.means refl c.in-Some.ensures.count f c.file.ensures c.as_str.ensures c.in-Ok.ensures.part)) c.attributes.ensures.ok
 
 pub returns-in-Ok-clause-err : goal.returns-in-Ok-clause-err
 returns-in-Ok-clause-err g t c =
-    if_err c.attributes.result (λ e p s f r. p s f (attribute_reached s c.args.chunk.now.code c.args.at.now c.args.steps.now c.args.reached r _ _ _ _ _ c.in-Some.ensures.means refl c.in-Some.ensures.count _ _ _ f c.file.ensures c.as_str.ensures _ c.in-Ok.ensures.part)) c.attributes.ensures.err
+    if_err c.attributes.result (λ e p s f r. p s f (attribute_reached r c.in-Some.ensures.means refl c.in-Some.ensures.count f c.file.ensures c.as_str.ensures c.in-Ok.ensures.part)) c.attributes.ensures.err
 
 pub returns-in-Err-clause-stands : goal.returns-in-Err-clause-stands
 returns-in-Err-clause-stands g t c = λ s f r.
-    more s c.args.chunk.now.code c.args.at.now c.args.steps.now c.args.reached r _ _ _ c.in-Some.ensures.means refl c.in-Some.ensures.count
+    more r c.in-Some.ensures.means refl c.in-Some.ensures.count
 
 pub returns-in-Err-clause-err : goal.returns-in-Err-clause-err
 returns-in-Err-clause-err g t c = λ s f r.
-    attribute_breaks s c.args.chunk.now.code c.args.at.now c.args.steps.now c.args.reached r _ _ _ _ _ c.in-Some.ensures.means refl c.in-Some.ensures.count _ _ _ f c.file.ensures c.as_str.ensures c.in-Err.error c.in-Err.ensures.part
+    attribute_breaks r c.in-Some.ensures.means refl c.in-Some.ensures.count f c.file.ensures c.as_str.ensures c.in-Err.error c.in-Err.ensures.part

@@ -66,25 +66,25 @@ pub run_counted-loop-instruction-preserved-in-On : goal.run_counted-loop-instruc
 run_counted-loop-instruction-preserved-in-On g t c =
     let l = last_of c.loop-instruction.invariant.progress (here_is g.O.Objects.engine g.M.Limit.world c.args.self.now _ _ c.args.blocks.now c.loop-instruction.configuration c.args.configuration.now c.requires.engine refl c.loop-instruction.invariant.stays.around) c.in-Some.ensures.count c.perform.ensures.stands.counted c.perform.ensures.stands.place c.perform.ensures.stands.there c.perform.ensures.stands.before in
     record {
-  progress = went_on l.progress refl l.found l.count (l.did ∙ c.in-Ok.ensures.does.0) c.in-On.is;
-  stays = moved c.perform.new.self c.loop-instruction.invariant.stays c.in-Ok.ensures.does.1.0 c.in-Ok.ensures.does.1.1 (last_still l c.in-Ok.ensures.does.0);
-}
+      progress = went_on l.progress refl l.found l.count (l.did ∙ c.in-Ok.ensures.does.0) c.in-On.is;
+      stays = moved c.perform.new.self c.loop-instruction.invariant.stays c.in-Ok.ensures.does.1.0 c.in-Ok.ensures.does.1.1 (last_still l c.in-Ok.ensures.does.0);
+    }
 
 pub run_counted-loop-instruction-preserved-in-Skip : goal.run_counted-loop-instruction-preserved-in-Skip
 run_counted-loop-instruction-preserved-in-Skip g t c =
     let l = last_of c.loop-instruction.invariant.progress (here_is g.O.Objects.engine g.M.Limit.world c.args.self.now _ _ c.args.blocks.now c.loop-instruction.configuration c.args.configuration.now c.requires.engine refl c.loop-instruction.invariant.stays.around) c.in-Some.ensures.count c.perform.ensures.stands.counted c.perform.ensures.stands.place c.perform.ensures.stands.there c.perform.ensures.stands.before in
     record {
-  progress = skipped l.progress refl l.found l.count (l.did ∙ c.in-Ok.ensures.does.0) c.in-Skip.is;
-  stays = moved c.perform.new.self c.loop-instruction.invariant.stays c.in-Ok.ensures.does.1.0 c.in-Ok.ensures.does.1.1 (last_still l c.in-Ok.ensures.does.0);
-}
+      progress = skipped l.progress refl l.found l.count (l.did ∙ c.in-Ok.ensures.does.0) c.in-Skip.is;
+      stays = moved c.perform.new.self c.loop-instruction.invariant.stays c.in-Ok.ensures.does.1.0 c.in-Ok.ensures.does.1.1 (last_still l c.in-Ok.ensures.does.0);
+    }
 
 pub run_counted-loop-instruction-preserved-in-To : goal.run_counted-loop-instruction-preserved-in-To
 run_counted-loop-instruction-preserved-in-To g t c =
     let l = last_of c.loop-instruction.invariant.progress (here_is g.O.Objects.engine g.M.Limit.world c.args.self.now _ _ c.args.blocks.now c.loop-instruction.configuration c.args.configuration.now c.requires.engine refl c.loop-instruction.invariant.stays.around) c.in-Some.ensures.count c.perform.ensures.stands.counted c.perform.ensures.stands.place c.perform.ensures.stands.there c.perform.ensures.stands.before in
     record {
-  progress = went_to l.progress refl l.found l.count (l.did ∙ c.in-Ok.ensures.does.0) c.in-To.is;
-  stays = moved c.perform.new.self c.loop-instruction.invariant.stays c.in-Ok.ensures.does.1.0 c.in-Ok.ensures.does.1.1 (last_still l c.in-Ok.ensures.does.0);
-}
+      progress = went_to l.progress refl l.found l.count (l.did ∙ c.in-Ok.ensures.does.0) c.in-To.is;
+      stays = moved c.perform.new.self c.loop-instruction.invariant.stays c.in-Ok.ensures.does.1.0 c.in-Ok.ensures.does.1.1 (last_still l c.in-Ok.ensures.does.0);
+    }
 
 pub run_counted-returns-clause-ends : goal.run_counted-returns-clause-ends
 run_counted-returns-clause-ends g t c =
@@ -109,9 +109,9 @@ pub run_counted-loop-instruction-preserved-in-Ok-take : goal.run_counted-loop-in
 run_counted-loop-instruction-preserved-in-Ok-take g t c =
     let l = last_of c.loop-instruction.invariant.progress (here_is g.O.Objects.engine g.M.Limit.world c.args.self.now _ _ c.args.blocks.now c.loop-instruction.configuration c.args.configuration.now c.requires.engine refl c.loop-instruction.invariant.stays.around) c.in-Some.ensures.count c.perform.ensures.stands.counted c.perform.ensures.stands.place c.perform.ensures.stands.there c.perform.ensures.stands.before in
     record {
-  progress = came_back (at_ask l.progress refl l.found l.count (l.did ∙ c.in-Ok.ensures.does.0) c.in-Ask.is) _ _ c.in-Ok-take.ensures.counted c.in-Ok-take.ensures.bounded (ends_at (place_same c.args.self.now c.args.chunk.now.file c.args.chunk.now.file refl (moved c.perform.new.self c.loop-instruction.invariant.stays c.in-Ok.ensures.does.1.0 c.in-Ok.ensures.does.1.1 (last_still l c.in-Ok.ensures.does.0))) c.in-Ok-take.ensures.ends);
-  stays = stays_then (moved c.perform.new.self c.loop-instruction.invariant.stays c.in-Ok.ensures.does.1.0 c.in-Ok.ensures.does.1.1 (last_still l c.in-Ok.ensures.does.0)) c.in-Ok-take.ensures.stays;
-}
+      progress = came_back (at_ask l.progress refl l.found l.count (l.did ∙ c.in-Ok.ensures.does.0) c.in-Ask.is) _ _ c.in-Ok-take.ensures.counted c.in-Ok-take.ensures.bounded (ends_at (place_same c.args.self.now c.args.chunk.now.file c.args.chunk.now.file refl (moved c.perform.new.self c.loop-instruction.invariant.stays c.in-Ok.ensures.does.1.0 c.in-Ok.ensures.does.1.1 (last_still l c.in-Ok.ensures.does.0))) c.in-Ok-take.ensures.ends);
+      stays = stays_then (moved c.perform.new.self c.loop-instruction.invariant.stays c.in-Ok.ensures.does.1.0 c.in-Ok.ensures.does.1.1 (last_still l c.in-Ok.ensures.does.0)) c.in-Ok-take.ensures.stays;
+    }
 
 pub run_counted-returns-in-Err-take-clause-bounded : goal.run_counted-returns-in-Err-take-clause-bounded
 run_counted-returns-in-Err-take-clause-bounded g t c =
@@ -137,9 +137,9 @@ pub run_counted-loop-instruction-preserved-in-Ok-include : goal.run_counted-loop
 run_counted-loop-instruction-preserved-in-Ok-include g t c =
     let l = last_of c.loop-instruction.invariant.progress (here_is g.O.Objects.engine g.M.Limit.world c.args.self.now _ _ c.args.blocks.now c.loop-instruction.configuration c.args.configuration.now c.requires.engine refl c.loop-instruction.invariant.stays.around) c.in-Some.ensures.count c.perform.ensures.stands.counted c.perform.ensures.stands.place c.perform.ensures.stands.there c.perform.ensures.stands.before in
     record {
-  progress = came_back (at_request l.progress refl l.found l.count (AnInclude c.in-Include.asked.name.now c.in-Include.asked.span) Written (l.did ∙ c.in-Ok.ensures.does.0) c.in-Include.is refl) _ _ c.in-Ok-include.ensures.counted c.in-Ok-include.ensures.bounded (ends_at (place_same c.args.self.now c.args.chunk.now.file c.args.chunk.now.file refl (moved c.perform.new.self c.loop-instruction.invariant.stays c.in-Ok.ensures.does.1.0 c.in-Ok.ensures.does.1.1 (last_still l c.in-Ok.ensures.does.0))) c.in-Ok-include.ensures.ends);
-  stays = stays_then (moved c.perform.new.self c.loop-instruction.invariant.stays c.in-Ok.ensures.does.1.0 c.in-Ok.ensures.does.1.1 (last_still l c.in-Ok.ensures.does.0)) c.in-Ok-include.ensures.stays;
-}
+      progress = came_back (at_request l.progress refl l.found l.count (AnInclude c.in-Include.asked.name.now c.in-Include.asked.span) Written (l.did ∙ c.in-Ok.ensures.does.0) c.in-Include.is refl) _ _ c.in-Ok-include.ensures.counted c.in-Ok-include.ensures.bounded (ends_at (place_same c.args.self.now c.args.chunk.now.file c.args.chunk.now.file refl (moved c.perform.new.self c.loop-instruction.invariant.stays c.in-Ok.ensures.does.1.0 c.in-Ok.ensures.does.1.1 (last_still l c.in-Ok.ensures.does.0))) c.in-Ok-include.ensures.ends);
+      stays = stays_then (moved c.perform.new.self c.loop-instruction.invariant.stays c.in-Ok.ensures.does.1.0 c.in-Ok.ensures.does.1.1 (last_still l c.in-Ok.ensures.does.0)) c.in-Ok-include.ensures.stays;
+    }
 
 pub run_counted-returns-in-Err-include-clause-bounded : goal.run_counted-returns-in-Err-include-clause-bounded
 run_counted-returns-in-Err-include-clause-bounded g t c =
@@ -165,9 +165,9 @@ pub run_counted-loop-instruction-preserved : goal.run_counted-loop-instruction-p
 run_counted-loop-instruction-preserved g t c =
     let l = last_of c.loop-instruction.invariant.progress (here_is g.O.Objects.engine g.M.Limit.world c.args.self.now _ _ c.args.blocks.now c.loop-instruction.configuration c.args.configuration.now c.requires.engine refl c.loop-instruction.invariant.stays.around) c.in-Some.ensures.count c.perform.ensures.stands.counted c.perform.ensures.stands.place c.perform.ensures.stands.there c.perform.ensures.stands.before in
     record {
-  progress = came_back (at_request l.progress refl l.found l.count (component_request c.into_inner-asked.result) (component_use c.into_inner-asked.result) (l.did ∙ c.in-Ok.ensures.does.0) c.in-Component.is (ap (λ a. Ask (component_request a) (component_use a)) (sym c.into_inner-asked.ensures))) _ _ c.in-Ok-component.ensures.counted c.in-Ok-component.ensures.bounded (ends_at (place_same c.args.self.now c.args.chunk.now.file c.args.chunk.now.file refl (moved c.perform.new.self c.loop-instruction.invariant.stays c.in-Ok.ensures.does.1.0 c.in-Ok.ensures.does.1.1 (last_still l c.in-Ok.ensures.does.0))) c.in-Ok-component.ensures.ends);
-  stays = stays_then (moved c.perform.new.self c.loop-instruction.invariant.stays c.in-Ok.ensures.does.1.0 c.in-Ok.ensures.does.1.1 (last_still l c.in-Ok.ensures.does.0)) c.in-Ok-component.ensures.stays;
-}
+      progress = came_back (at_request l.progress refl l.found l.count (component_request c.into_inner-asked.result) (component_use c.into_inner-asked.result) (l.did ∙ c.in-Ok.ensures.does.0) c.in-Component.is (ap (λ a. Ask (component_request a) (component_use a)) (sym c.into_inner-asked.ensures))) _ _ c.in-Ok-component.ensures.counted c.in-Ok-component.ensures.bounded (ends_at (place_same c.args.self.now c.args.chunk.now.file c.args.chunk.now.file refl (moved c.perform.new.self c.loop-instruction.invariant.stays c.in-Ok.ensures.does.1.0 c.in-Ok.ensures.does.1.1 (last_still l c.in-Ok.ensures.does.0))) c.in-Ok-component.ensures.ends);
+      stays = stays_then (moved c.perform.new.self c.loop-instruction.invariant.stays c.in-Ok.ensures.does.1.0 c.in-Ok.ensures.does.1.1 (last_still l c.in-Ok.ensures.does.0)) c.in-Ok-component.ensures.stays;
+    }
 
 pub run_counted-returns-in-Err-component-clause-bounded : goal.run_counted-returns-in-Err-component-clause-bounded
 run_counted-returns-in-Err-component-clause-bounded g t c =

@@ -1,4 +1,4 @@
-use Rattle.std.proofs.Common.{◌≡◌, List, ℕ, string_bytes, sym, ap, ◌∙◌, subst}
+use Rattle.std.proofs.Common.{List, ℕ, string_bytes, sym, ap, ◌∙◌, subst}
 use Rattle.tera_machine.specs.Layers.{joined, AreStarts, layers_at}
 use Rattle.tera_machine.proofs.Starts.{starts-joined, layers-joined}
 use Rattle.tera_machine.proofs.texts.Texts.join.Goals as goal
@@ -6,10 +6,10 @@ use Rattle.tera_machine.proofs.texts.Texts.join.Goals as goal
 pub invariant_of-self : goal.invariant_of-self
 invariant_of-self c =
     let t = c.self.inside in
-    starts-joined t.start c.in-Some.outer c.pop.new.self (string_bytes t.all) (subst (λ (os : List ℕ). AreStarts t.start os (string_bytes t.all)) c.in-Some.ensures c.self.invariant)
+    starts-joined t.start c.take-outer.result c.take-outer.new.self (string_bytes t.all) (subst (λ (os : List ℕ). AreStarts t.start os (string_bytes t.all)) c.take-outer.ensures c.self.invariant)
 
 pub returns : goal.returns
 returns c =
     let t = c.self.inside in
-    layers-joined t.start c.in-Some.outer c.pop.new.self (string_bytes t.all) (subst (λ (os : List ℕ). AreStarts t.start os (string_bytes t.all)) c.in-Some.ensures c.self.invariant)
-    ∙ ap joined (ap (λ (os : List ℕ). layers_at t.start os (string_bytes t.all)) (sym c.in-Some.ensures) ∙ c.self.view_is)
+    layers-joined t.start c.take-outer.result c.take-outer.new.self (string_bytes t.all) (subst (λ (os : List ℕ). AreStarts t.start os (string_bytes t.all)) c.take-outer.ensures c.self.invariant)
+    ∙ ap joined (ap (λ (os : List ℕ). layers_at t.start os (string_bytes t.all)) (sym c.take-outer.ensures) ∙ c.self.view_is)

@@ -56,6 +56,13 @@ abbrev pub is_write_top : Instruction → Bool
 is_write_top instruction.WriteTop = true
 is_write_top other = false
 
+-- whether it takes an attribute of the topmost operand, puts that out or tests it
+abbrev pub uses_top : Instruction → Bool
+uses_top (instruction.LoadAttribute name optional span) = true
+uses_top instruction.WriteTop = true
+uses_top (instruction.PopJumpIfFalse skip) = true
+uses_top other = false
+
 abbrev pub is_next_turn : Instruction → Bool
 is_next_turn instruction.NextTurn = true
 is_next_turn other = false

@@ -1,7 +1,7 @@
 // The instructions of one body.
 ghost use Rattle.std.specs.Prelude.{◌≡◌, ◌+◌, ◌<◌, ◌^◌, [], ◌∷◌, cond, false, length, slice_get, OnOk, IfErr, IfSome, IsTrue, MatchOption, Some, None, option_map, option_and_then, unwrap_or};
 ghost use Rattle.tera_errors.specs.Answer.{Lacks};
-ghost use Rattle.tera_code.specs.Asked.{loaded_attribute, is_write_top, jump_length_if_false};
+ghost use Rattle.tera_code.specs.Asked.{loaded_attribute, is_write_top, jump_length_if_false, uses_top};
 ghost use Rattle.tera_code.specs.Called.{callee_of, called_by};
 ghost use Rattle.tera_code.specs.Code.{lengthened};
 ghost use Rattle.tera_code.specs.declared.instruction.Instruction.TheVariants as instruction;
@@ -131,6 +131,18 @@ impl Chunk {
             (λ _. steps.new ≡ steps.old + 1) }
     {
         counted(self.lent(at)?.as_pop_jump_if_false(), steps)
+    }
+
+    /// Whether the instruction at this place takes an attribute of the topmost operand, puts that out or tests it. None is handed
+    /// out, so that none is counted.
+    #[inline(always)]
+    pub fn uses_top_at(&self, at: usize) -> bool
+        ensures { result ≡ unwrap_or (option_map uses_top (slice_get self.now.code at)) false }
+    {
+        match self.lent(at) {
+            Some(instruction) => instruction.uses_top(),
+            None => false,
+        }
     }
 
     /// How many instructions there are.

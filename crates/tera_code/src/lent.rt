@@ -5,7 +5,7 @@ ghost use Rattle.tera_code.specs.declared.instruction.Instruction.TheVariants as
 ghost use Rattle.tera_code.specs.Asked.{written_text, written_name, loaded_name, loaded_integer};
 ghost use Rattle.tera_code.specs.Asked.{loaded_attribute, applied_operator, bound_name};
 ghost use Rattle.tera_code.specs.Asked.{jump_length, jump_length_if_false};
-ghost use Rattle.tera_code.specs.Asked.{is_write_top, is_next_turn};
+ghost use Rattle.tera_code.specs.Asked.{is_write_top, is_next_turn, uses_top};
 ghost use Rattle.tera_code.specs.Called.{callee_of, called_by};
 
 use crate::callee::Callee;
@@ -186,6 +186,17 @@ impl<'a> LentInstruction<'a> {
     {
         match *self.packed {
             Packed::WriteTop => true,
+            _ => false,
+        }
+    }
+
+    /// Whether it takes an attribute of the topmost operand, puts that out or tests it.
+    #[inline(always)]
+    pub fn uses_top(&self) -> bool
+        ensures { result ≡ uses_top self.now }
+    {
+        match *self.packed {
+            Packed::LoadAttribute { .. } | Packed::WriteTop | Packed::PopJumpIfFalse(_) => true,
             _ => false,
         }
     }

@@ -6,7 +6,6 @@ pub mod Noting
 pub mod Runs
 pub mod Together
 pub mod Reaching
-pub mod Stretches
 pub mod Took
 pub mod Rejoining
 pub mod Including

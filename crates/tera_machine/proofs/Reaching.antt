@@ -1,9 +1,10 @@
 -- A path is read as its instructions say.
-use Rattle.std.proofs.Common.{◌≡◌, ℕ, suc, ◌+◌, ◌-◌, ◌∷◌, Bool, true, false, Some, None, Ok, refl, sym, ap, ap₂, ◌∙◌, subst, arith}
+use Rattle.std.proofs.Common.{◌≡◌, ℕ, suc, ◌+◌, ◌-◌, ◌∷◌, Bool, true, false, Some, None, Ok, refl, sym, ap, ap₂, ◌∙◌, subst, arith, Result}
 use Rattle.std.specs.Prelude.{slice_get, if◌then◌else◌}
 use Rattle.std.proofs.lemmas.Option.{slice_get_within}
 use Rattle.tera_errors.specs.declared.span.Span.{Span}
 use Rattle.tera_errors.specs.Site as site
+use Rattle.tera_errors.specs.Site.{Name}
 use Rattle.tera_errors.specs.Answer.{Refusal, Says}
 use Rattle.tera_errors.specs.Fault.{rendering_error}
 use Rattle.tera_values.specs.Val.{Val}
@@ -17,10 +18,15 @@ use Rattle.tera_operators.specs.Accesses.{attribute_of}
 use Rattle.tera_meaning.specs.Here.{Here}
 use Rattle.tera_code.specs.declared.instruction.Instruction.{Instruction}
 use Rattle.tera_code.specs.declared.instruction.Instruction.TheVariants as instruction
-use Rattle.tera_machine.specs.Config.{Config}
+use Rattle.tera_objects.specs.Engine.{Engine}
+use Rattle.tera_machine.specs.declared.machine.VirtualMachine.{VirtualMachine}
+use Rattle.tera_machine.specs.declared.configuration.Configuration.{Configuration}
+use Rattle.tera_machine.specs.declared.machine.Flow as declared
+use Rattle.tera_machine.specs.Subject.{here_of}
+use Rattle.tera_machine.specs.Config.{Config, config_of}
 use Rattle.tera_machine.specs.Flow.{On}
 use Rattle.tera_machine.specs.Did.{Goes, Faults, holding, pushed, outcome, with_text}
-use Rattle.tera_machine.specs.Act.{act, put_out}
+use Rattle.tera_machine.specs.Act.{act, Acted, Does, put_out}
 use Rattle.tera_machine.specs.Exec.{Code}
 use Rattle.tera_machine.specs.Together.{done, WentOn}
 use Rattle.tera_machine.specs.Paths.{Start, Stands, Reaches, Breaks, start_at}
@@ -37,6 +43,14 @@ alone_did here code c at n i e =
     let z : at + 0 + 1 ≡ at + 1 = omega arith in
     subst (λ k. done here code (suc k) at c ≡ act here (at + 1) i c) none
     (done_next here code 0 at c c i refl (subst (λ p. slice_get code p ≡ Some i) same e) ∙ ap (λ p. act here p i c) z)
+
+-- and what it does is what all do that are done
+pub alone_does : {O : Type 0} (engine : O → Engine) (m : VirtualMachine O) (file file2 : Name) (c c2 : Configuration) (code : Code) (at n : ℕ) (i : Instruction) (r : Result declared.Flow Refusal) → slice_get code at ≡ Some i → file2 ≡ file → Does (act (here_of engine m file2 c) (at + 1) i) c r c2 → Does (done (here_of engine m file c) code (suc (n - n)) at) c r c2
+alone_does engine m file file2 c c2 code at n i r e f d = (
+  subst (λ x. Acted x r (config_of c2)) (sym (alone_did (here_of engine m file c) code (config_of c) at n i e))
+      (subst (λ name. Acted (act (here_of engine m name c) (at + 1) i (config_of c)) r (config_of c2)) f d.0),
+  d.1,
+)
 
 -- a name alone: what it stands for lies on top
 pub begins : {here : Here} {code : Code} {c : Config} {at n : ℕ} {name sought : site.Name} {span : Span} {found : Val} {a : Evaluated} → slice_get code at ≡ Some (instruction.LoadName name span) → sought ≡ name → found ≡ look sought here.around c.run.vars → a ≡ record { value = found; span = span } → Reaches (start_at here at n c) code at n a

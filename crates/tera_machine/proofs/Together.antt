@@ -1,5 +1,5 @@
 -- Instructions that are done together are done one by one.
-use Rattle.std.proofs.Common.{inl, inr, ◌≡◌, ◌≢◌, ℕ, zero, suc, ◌+◌, ◌-◌, ◌^◌, ◌<◌, ◌≤◌, Option, Some, None, refl, sym, ap, ◌∙◌, subst, arith}
+use Rattle.std.proofs.Common.{inl, inr, ◌≡◌, ◌≢◌, ℕ, zero, suc, ◌+◌, ◌-◌, ◌<◌, ◌≤◌, Option, Some, None, refl, sym, ap, ◌∙◌, subst, arith}
 use Rattle.std.specs.Prelude.{slice_get, length}
 use Rattle.std.proofs.lemmas.Option.{slice_get_cases}
 use Rattle.tera_meaning.specs.Here.{Here}
@@ -11,8 +11,8 @@ use Rattle.tera_machine.specs.Did.{Did, Goes, Faults, Sticks}
 use Rattle.tera_machine.specs.Act.{act}
 use Rattle.tera_machine.specs.Exec.{Code}
 use Rattle.tera_machine.specs.Progress.{Progress}
-use Rattle.tera_machine.specs.Together.{done, done_at, onto, WentOn, RunsFrom}
-use Rattle.tera_machine.proofs.Runs.{goes_on, not_stuck, small}
+use Rattle.tera_machine.specs.Together.{done, done_at, onto, WentOn}
+use Rattle.tera_machine.proofs.Runs.{goes_on}
 use Rattle.tera_machine.proofs.Still.{still}
 
 -- what went on is somewhere
@@ -137,8 +137,3 @@ last_of {most} {w} {place} {code} {c0} {n0} {ip} {n} {n1} {n2} {at} {c} g same m
 pub last_still : {most : ℕ} {w : World} {place : Place} {code : Code} {c0 : Config} {n0 n2 at : ℕ} {c : Config} {d : Did} → Last most w place code c0 n0 at n2 c d → {c2 : Config} {f : Flow} → d ≡ Goes c2 f → c2.run.blocks ≡ c.run.blocks
 last_still {w = w} {place} {at = at} l {c2} {f} e =
     still (here_at w place) (at + 1) l.instruction l.config c2 f (l.did ∙ e) ∙ l.blocks
-
--- where a run stands, what it goes on to finds what it needs
-pub runs_from : {most : ℕ} {w : World} {place : Place} {code : Code} {c0 : Config} {n0 ip n : ℕ} {c : Config} {here : Here} → Progress most w place code c0 n0 ip c n → here ≡ here_at w place → length code < 2 ^ 64 → RunsFrom here code ip c
-runs_from {code = code} {ip = ip} {n} {c} g same l =
-    subst (λ h. RunsFrom h code ip c) (sym same) (λ k d i e s. let g2 = went_through k ip n c d g e in (not_stuck g2 refl s, small g2 refl s l))

@@ -8,7 +8,6 @@ pub mod Act
 pub mod Exec
 pub mod Together
 pub mod Paths
-pub mod Stretch
 pub mod Progress
 pub mod Included
 pub mod Subject

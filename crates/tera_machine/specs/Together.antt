@@ -1,11 +1,11 @@
 -- What instructions do that are done together.
-use Rattle.std.specs.Prelude.{◌≡◌, ◌≢◌, ℕ, zero, suc, ◌+◌, Option, Some, None, slice_get}
+use Rattle.std.specs.Prelude.{ℕ, zero, suc, ◌+◌, Option, Some, None, slice_get}
 use Rattle.tera_meaning.specs.Here.{Here}
 use Rattle.tera_code.specs.declared.instruction.Instruction.{Instruction}
 use Rattle.tera_machine.specs.Config.{Config}
 use Rattle.tera_machine.specs.Flow.{On, Skip, To, Out, Ask}
 use Rattle.tera_machine.specs.Did.{Did, Goes, Faults, Sticks}
-use Rattle.tera_machine.specs.Act.{act, IsSmall}
+use Rattle.tera_machine.specs.Act.{act}
 use Rattle.tera_machine.specs.Exec.{Code}
 
 -- what the instruction at a place does, where there is one
@@ -37,9 +37,3 @@ WentOn (Goes c Out) = ⊥
 WentOn (Goes c (Ask q u)) = ⊥
 WentOn (Faults f) = ⊥
 WentOn Sticks = ⊥
-
--- wherever they go on to from a place, the instruction there finds what it needs
-abbrev pub RunsFrom : Here → Code → ℕ → Config → Type 0
-RunsFrom here code ip c =
-    (k : ℕ) (d : Config) (i : Instruction) → done here code k ip c ≡ Goes d On → slice_get code (ip + k) ≡ Some i →
-    (act here (ip + k + 1) i d ≢ Sticks) × IsSmall (act here (ip + k + 1) i d)

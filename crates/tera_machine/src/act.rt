@@ -116,16 +116,8 @@ impl<'c> Configuration<'c> {
     pub(crate) fn write_text<'f>(&mut self, text: &str) -> TeraResult<Flow<'f>>
         ensures { Does (text_written text.now) self.old result self.new }
     {
-        self.put_text(text)?;
+        self.texts.append(text)?;
         Ok(Flow::On)
-    }
-
-    // What puts something out always goes on at the next instruction, so that this hands no flow out.
-    #[inline(always)]
-    pub(crate) fn put_text(&mut self, text: &str) -> TeraResult<()>
-        ensures { Does (text_written text.now) self.old (going_on result) self.new }
-    {
-        self.texts.append(text)
     }
 
     #[inline(never)]
@@ -166,7 +158,7 @@ impl<'c> Configuration<'c> {
         Ok(Flow::On)
     }
 
-    // The same for a value, which is read where it lies.
+    // The value is read where it lies. A flow is not handed out, since that of a text or a value is always the same.
     #[inline(always)]
     pub(crate) fn put_name<O: Objects>(
         &mut self,

@@ -294,7 +294,7 @@ impl<'t, O: Objects> VirtualMachine<'t, O> {
         let mut at = 0;
         while let Some(instruction) = chunk.get(at, steps) {
             let mut last = at;
-            let flow = match configuration.perform(self, chunk, &mut last, instruction, steps) {
+            let flow = match configuration.perform(self, chunk, &mut last, &instruction, steps) {
                 Ok(flow) => flow,
                 Err(error) => return Err(error),
             };

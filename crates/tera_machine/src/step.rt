@@ -3,64 +3,66 @@ ghost use Rattle.std.specs.Prelude.{◌≡◌, ◌+◌, ◌-◌, ◌≤◌, ◌<
 ghost use Rattle.tera_values.specs.Val.{int};
 ghost use Rattle.tera_machine.specs.Config.{config_of};
 ghost use Rattle.tera_machine.specs.Did.{pushed};
-ghost use Rattle.tera_machine.specs.Act.{act, IsReady, IsSmall, Does, going_on, name_written};
-ghost use Rattle.tera_machine.specs.Together.{done, RunsFrom};
+ghost use Rattle.tera_machine.specs.Act.{act, IsReady, IsSmall, Does, going_on, name_written, name_loaded};
+ghost use Rattle.tera_machine.specs.Together.{done};
 ghost use Rattle.tera_machine.specs.Paths.{Stands, start_at};
 ghost use Rattle.tera_machine.specs.Subject.{here_of};
+ghost use Rattle.tera_state.specs.Scopes.{around_of};
 
 use crate::configuration::Configuration;
 use crate::machine::{Flow, VirtualMachine};
+use std::alloc::Global;
 use std::sync::ledger::Ledger;
 use tera_code::{Chunk, LentInstruction, Steps};
 use tera_objects::Objects;
 use tera_values::{Name, Span, TeraResult, Value};
 
 impl<'c> Configuration<'c> {
-    /// Does the instruction that stands at this place and, while all they do is to put something out, those behind it, up to
-    /// and with the first that does anything else. The place becomes that of the last of them.
+    /// Does the instruction that stands at this place, and what is read together with it. The place becomes that of the last of
+    /// them. What is run most is told apart first, and needs no more of the instruction than its parts: all else stays out of the
+    /// loop, whose frame is small.
+    #[inline(always)]
     pub(crate) fn perform<'f, O: Objects, L: Ledger>(
         &mut self,
         machine: &VirtualMachine<'_, O>,
-        chunk: &'f Chunk,
+        chunk: &Chunk,
         at: &mut usize,
-        first: LentInstruction<'f>,
+        instruction: &LentInstruction<'f>,
         steps: &mut Steps<L>,
     ) -> TeraResult<Flow<'f>>
-        requires there { slice_get chunk.now.code at.old ≡ Some first }
+        requires there { slice_get chunk.now.code at.old ≡ Some instruction.now }
         requires few { length chunk.now.code < 2 ^ 64 }
-        requires runs { RunsFrom (here_of O.engine machine.now chunk.now.file self.old)
-            chunk.now.code at.old (config_of self.old) }
+        requires ready { IsReady (act (here_of O.engine machine.now chunk.now.file self.old)
+            (at.old + 1) instruction.now) self.old }
+        requires small { IsSmall (act (here_of O.engine machine.now chunk.now.file self.old)
+            (at.old + 1) instruction.now (config_of self.old)) }
         ensures stands { Stands (start_at (here_of O.engine machine.now chunk.now.file self.old)
             at.old steps.old (config_of self.old)) chunk.now.code at.new steps.new }
         ensures does { Does (done (here_of O.engine machine.now chunk.now.file self.old)
             chunk.now.code (suc (steps.new - steps.old)) at.old) self.old result self.new }
     {
-        let mut instruction = first;
-        loop {
-            let put = if let Some(text) = instruction.as_text() {
-                self.put_text(text)
-            } else if let Some((name, span)) = instruction.as_written_name() {
-                self.put_named(machine, chunk.file(), name, span)
-            } else {
-                return self.perform_last(machine, chunk, at, &instruction, steps);
-            };
-            match put {
-                Ok(()) => {}
-                Err(error) => return Err(error),
-            }
-            match chunk.get(*at + 1, steps) {
-                Some(next) => {
-                    *at += 1;
-                    instruction = next;
-                }
-                None => return Ok(Flow::On),
-            }
+        if let Some(text) = instruction.as_text() {
+            return self.write_text(text);
         }
+        if let Some((name, span)) = instruction.as_written_name() {
+            return self.write_named(machine, chunk.file(), name, span);
+        }
+        if instruction.is_next_turn() {
+            return self.next_turn();
+        }
+        if let Some(skip) = instruction.as_pop_jump_if_false() {
+            return self.pop_jump_if_false(skip);
+        }
+        if let Some(skip) = instruction.as_jump() {
+            return Ok(Flow::Skip(skip));
+        }
+        self.perform_on(machine, chunk, at, instruction, steps)
     }
 
-    // Does the instruction, and what is read together with it.
+    // The rest of these, whose flow is handed out in memory. It is asked for behind the others, so that no place for it is
+    // made ready in their turns.
     #[inline(always)]
-    fn perform_last<'f, O: Objects, L: Ledger>(
+    fn perform_on<'f, O: Objects, L: Ledger>(
         &mut self,
         machine: &VirtualMachine<'_, O>,
         chunk: &Chunk,
@@ -80,12 +82,15 @@ impl<'c> Configuration<'c> {
             chunk.now.code (suc (steps.new - steps.old)) at.old) self.old result self.new }
     {
         match instruction.as_loaded_name() {
-            Some((name, span)) => self.read(machine, chunk, at, name, span, steps),
+            Some((name, span)) if chunk.uses_top_at(*at + 1) => {
+                self.read(machine, chunk, at, name, span, steps)
+            }
+            Some((name, span)) => self.load_named(machine.alloc, name, span),
             None => self.step(machine, chunk.file(), *at + 1, instruction),
         }
     }
 
-    /// The same as `act`. What is run most is told apart first, and needs no more of the instruction than its parts.
+    /// The same as `act`, for an instruction that is no such one.
     #[inline(always)]
     fn step<'f, O: Objects>(
         &mut self,
@@ -101,15 +106,6 @@ impl<'c> Configuration<'c> {
         ensures { Does (act (here_of O.engine machine.now file.now self.old) next instruction.now)
             self.old result self.new }
     {
-        if instruction.is_next_turn() {
-            return self.next_turn();
-        }
-        if let Some(skip) = instruction.as_pop_jump_if_false() {
-            return self.pop_jump_if_false(skip);
-        }
-        if let Some(skip) = instruction.as_jump() {
-            return Ok(Flow::Skip(skip));
-        }
         if let Some((number, span)) = instruction.as_integer() {
             return self.load_integer(number, span);
         }
@@ -153,6 +149,22 @@ impl<'c> Configuration<'c> {
         self.push(Value::from_int(i128::from(number)), span)
     }
 
+    // What it does always goes on at the next instruction, so that no flow is handed out by the call.
+    #[inline(always)]
+    fn write_named<'f, O: Objects>(
+        &mut self,
+        machine: &VirtualMachine<'_, O>,
+        file: &str,
+        name: &Name,
+        span: Span,
+    ) -> TeraResult<Flow<'f>>
+        ensures { Does (name_written (here_of O.engine machine.now file.now self.old) name.now span)
+            self.old result self.new }
+    {
+        self.put_named(machine, file, name, span)?;
+        Ok(Flow::On)
+    }
+
     #[inline(never)]
     fn put_named<O: Objects>(
         &mut self,
@@ -165,5 +177,14 @@ impl<'c> Configuration<'c> {
             self.old (going_on result) self.new }
     {
         self.put_name(machine, file, &name.sought(), span)
+    }
+
+    // A name that nothing is read with.
+    #[inline(never)]
+    fn load_named<'f>(&mut self, alloc: Global, name: &Name, span: Span) -> TeraResult<Flow<'f>>
+        ensures { Does (name_loaded (around_of self.old.scopes) name.now span)
+            self.old result self.new }
+    {
+        self.load_name(alloc, &name.sought(), span)
     }
 }

@@ -83,6 +83,7 @@ impl<T: Drop> Stack<T> {
         requires { count ≤ length self.old }
         ensures taken { IfOk result (λ all. all.items ≡ reverse (take count self.old)) }
         ensures rest { OnOk result (self.new ≡ drop count self.old) }
+        ensures err { OnErr result (self.new ≡ self.old) }
         ensures lacks { IfErr result Lacks }
     {
         let kept = self.items.len() - count;

@@ -1,5 +1,5 @@
 -- Names that are read from behind, beside those that stand behind them.
-use Rattle.std.proofs.Common.{◌≡◌, Bool, true, false, not, ℕ, ◌+◌, ◌-◌, ◌<◌, ◌≤◌, arith, cond, ◌&&◌, ◌||◌, List, [], ◌∷◌, drop, get_or, length, Option, Some, is_some, refl, sym, ap, ◌∙◌}
+use Rattle.std.proofs.Common.{◌≡◌, Bool, true, false, not, ℕ, ◌+◌, ◌-◌, ◌<◌, ◌≤◌, arith, cond, ◌&&◌, ◌||◌, List, [], ◌∷◌, drop, get_or, length, Option, Some, is_some, IfSome, refl, sym, ap, ◌∙◌, subst}
 use Rattle.std.specs.Cmp.Lexicographic.{nat_list_eq_equiv}
 use Rattle.std.specs.Str.{bytes_eq}
 use Rattle.std.specs.Borrow.{Bor}
@@ -8,6 +8,7 @@ use Rattle.std.proofs.lemmas.List.{drop_more}
 use Rattle.tera_errors.specs.Site.{Name}
 use Rattle.tera_errors.specs.declared.span.Span.{Span}
 use Rattle.tera_syntax_tree.specs.Blocks.{are_distinct, is_among}
+use Rattle.tera_syntax_tree.specs.Inside.{Within}
 use Rattle.tera_syntax.specs.declared.blocks.PlacedName.{PlacedName}
 use Rattle.tera_syntax.specs.View.{names_of}
 
@@ -40,6 +41,15 @@ pub place-more : {A : Type 0} (old new : Name → Option A) (v : A) (n : Name) (
     → ((q : Name) → is_some (old q) ≡ is_among q names) → (q : Name) → is_some (new q) ≡ is_among q (n ∷ names)
 place-more old new v n names put h q =
     ap is_some (put q) ∙ some (bytes_eq n q) v (old q) ∙ ap (λ t. t || is_some (old q)) (flip n q) ∙ ap (λ t. bytes_eq q n || t) (h q)
+
+-- one place more that lies inside
+pub place-within : (size : ℕ) (old new : Name → Option Span) (v : Span) (n : Name) → ((q : Name) → new q ≡ cond (bytes_eq n q) (Some v) (old q)) → Within size v
+    → ((q : Name) → IfSome (old q) (Within size)) → (q : Name) → IfSome (new q) (Within size)
+place-within size old new v n put w h q = subst (λ o. IfSome o (Within size)) (sym (put q)) (go (bytes_eq n q))
+  where
+    go : (t : Bool) → IfSome (cond t (Some v) (old q)) (Within size)
+    go true = w
+    go false = h q
 
 -- one that stands behind is there twice
 pub found-more : (n : Name) (names : List Name) → is_among n names ≡ true → true ≡ not (are_distinct (n ∷ names))

@@ -124,7 +124,7 @@ module _ (limit : ℕ) where
   derived {i = i} {x = x} (alone h) = let d = sound limit i x h in (root d.0, d.1)
   derived {x = x} (below {j = j} r e h) = let d = sound limit j x h in (child r e d.0, d.1)
 
-  spelled_sound : (i : List Piece) (tree : Tree) → spelled limit i ≡ Some tree → DerivesFile tree.parent tree.nodes i × (nodes_depth tree.nodes ≤ limit)
+  pub spelled_sound : (i : List Piece) (tree : Tree) → spelled limit i ≡ Some tree → DerivesFile tree.parent tree.nodes i × (nodes_depth tree.nodes ≤ limit)
   spelled_sound i tree h = derived (says i begun tree h)
 
   once-got : (o : Option Tree) (tree : Tree) → option_and_then once o ≡ Some tree → (o ≡ Some tree) × IsOnce tree

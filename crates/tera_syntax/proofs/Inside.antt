@@ -11,7 +11,8 @@ use Rattle.tera_syntax_tokens.specs.declared.token.Kind.TheVariants as k
 use Rattle.tera_syntax_tokens.specs.Token.{Token}
 use Rattle.tera_syntax_tokens.specs.Input.{Input, begin, kind, start, next, span, is_word}
 use Rattle.tera_syntax_tokens.specs.Cut.{Piece}
-use Rattle.tera_syntax_tokens.proofs.Order.{InOrder, in_order-le, Orderly, Onward, onward_next, onward_then, start_le}
+use Rattle.tera_syntax_tokens.specs.Stretches.{InOrder}
+use Rattle.tera_syntax_tokens.proofs.Order.{in_order-le, Orderly, Onward, onward_next, onward_then, start_le}
 use Rattle.tera_syntax_tokens.proofs.Stretches.{PiecesInside, pieces_inside}
 use Rattle.tera_syntax_expressions.proofs.Calls.{calls_lie}
 use Rattle.tera_syntax_expressions.proofs.Inside.{expr_lies, attributes_lie, filters_lie}

@@ -5,4 +5,5 @@ pub mod Reads
 pub mod Reader
 pub mod File
 pub mod View
+pub mod Places
 pub mod Laws

@@ -1,11 +1,14 @@
 // The names of a tree's blocks and components.
-ghost use Rattle.std.specs.Prelude.{◌≡◌, ◌++◌, OnOk, IfOk, IfErr, is_some, not};
+ghost use Rattle.std.specs.Prelude.{ℕ, ◌≡◌, ◌≤◌, ◌++◌, OnOk, IfOk, IfErr, IfSome, is_some, not};
 ghost use Rattle.tera_syntax.specs.File as spec;
+ghost use Rattle.tera_syntax.specs.Places.{NamesWithin};
 ghost use Rattle.tera_syntax.specs.View.{names_of, node_components, node_names};
 ghost use Rattle.tera_syntax_tokens.specs.Answers.{Answers};
+ghost use Rattle.tera_syntax_tokens.specs.Points.{PointsWithin};
 ghost use Rattle.tera_syntax_tokens.specs.declared.refusal.Refusal.TheVariants.{OutOfMemory};
 ghost use Rattle.tera_syntax_tree.specs.Blocks.{are_distinct, block_names, has_each_block_once};
 ghost use Rattle.tera_syntax_tree.specs.Definitions.{component_names, has_each_component_once};
+ghost use Rattle.tera_syntax_tree.specs.Inside.{Inside, NodeInside, NodesInside, Within};
 ghost use Rattle.tera_syntax_tree.specs.View.{node_of, nodes_of, tree_of};
 
 use std::alloc::Global;
@@ -27,6 +30,9 @@ fn gather<'s>(names: &mut Vec<PlacedName<'s>>, nodes: &[Node<'s>]) -> Result<(),
     ensures ok { let more = block_names (nodes_of nodes.now) in
         OnOk result (names_of names.new.items ≡ names_of names.old.items ++ more) }
     ensures lacks { IfErr result (λ refusal. refusal ≡ OutOfMemory) }
+    ensures points { (size : ℕ) → NodesInside size (nodes_of nodes.now)
+        → NamesWithin size names.old.items
+        → OnOk result (NamesWithin size names.new.items) }
 {
     for node in nodes {
         gather_node(names, node)?;
@@ -39,6 +45,9 @@ fn gather_node<'s>(names: &mut Vec<PlacedName<'s>>, node: &Node<'s>) -> Result<(
     ensures ok { let more = node_names (node_of node.now) in
         OnOk result (names_of names.new.items ≡ names_of names.old.items ++ more) }
     ensures lacks { IfErr result (λ refusal. refusal ≡ OutOfMemory) }
+    ensures points { (size : ℕ) → NodeInside size (node_of node.now)
+        → NamesWithin size names.old.items
+        → OnOk result (NamesWithin size names.new.items) }
 {
     match node {
         Node::If {
@@ -86,6 +95,9 @@ fn gather_components<'s>(names: &mut Vec<PlacedName<'s>>, nodes: &[Node<'s>]) ->
     ensures ok { let more = component_names (nodes_of nodes.now) in
         OnOk result (names_of names.new.items ≡ names_of names.old.items ++ more) }
     ensures lacks { IfErr result (λ refusal. refusal ≡ OutOfMemory) }
+    ensures points { (size : ℕ) → NodesInside size (nodes_of nodes.now)
+        → NamesWithin size names.old.items
+        → OnOk result (NamesWithin size names.new.items) }
 {
     let mut at = 0;
     for node in nodes {
@@ -103,6 +115,8 @@ fn gather_component<'s>(
     ensures ok { let more = node_components (node_of node.now) in
         OnOk result (names_of names.new.items ≡ names_of names.old.items ++ more) }
     ensures lacks { IfErr result (λ refusal. refusal ≡ OutOfMemory) }
+    ensures points { (size : ℕ) → at ≤ size → NamesWithin size names.old.items
+        → OnOk result (NamesWithin size names.new.items) }
 {
     if let Node::Definition { signature, body: _ } = node {
         names.push(PlacedName {
@@ -114,7 +128,9 @@ fn gather_component<'s>(
 }
 
 /// Where a text ends, and before any other node the place that is given.
-fn end_of(node: &Node<'_>, at: usize) -> usize {
+fn end_of(node: &Node<'_>, at: usize) -> usize
+    ensures { (size : ℕ) → NodeInside size (node_of node.now) → at ≤ size → result ≤ size }
+{
     match node {
         Node::Content { text: _, span } => span.end,
         _ => at,
@@ -126,6 +142,8 @@ fn end_of(node: &Node<'_>, at: usize) -> usize {
 fn twice(alloc: Global, names: &[PlacedName<'_>]) -> Result<Option<Span>, Refusal>
     ensures ok { IfOk result (λ found. is_some found ≡ not (are_distinct (names_of names.now))) }
     ensures lacks { IfErr result (λ refusal. refusal ≡ OutOfMemory) }
+    ensures points { (size : ℕ) → NamesWithin size names.now
+        → IfOk result (λ found. IfSome found (Within size)) }
 {
     let mut behind: HashMap<&str, Span> = HashMap::new(alloc);
     let mut found = None;
@@ -144,6 +162,8 @@ fn block_twice(alloc: Global, output: &ParserOutput<'_>) -> Result<Option<Span>,
     ensures ok { let once = has_each_block_once (tree_of output.now).nodes in
         IfOk result (λ found. is_some found ≡ not once) }
     ensures lacks { IfErr result (λ refusal. refusal ≡ OutOfMemory) }
+    ensures points { (size : ℕ) → Inside size (tree_of output.now)
+        → IfOk result (λ found. IfSome found (Within size)) }
 {
     let mut names = Vec::new(alloc);
     gather(&mut names, output.nodes.as_slice())?;
@@ -155,6 +175,8 @@ fn component_twice(alloc: Global, output: &ParserOutput<'_>) -> Result<Option<Sp
     ensures ok { let once = has_each_component_once (tree_of output.now).nodes in
         IfOk result (λ found. is_some found ≡ not once) }
     ensures lacks { IfErr result (λ refusal. refusal ≡ OutOfMemory) }
+    ensures points { (size : ℕ) → Inside size (tree_of output.now)
+        → IfOk result (λ found. IfSome found (Within size)) }
 {
     let mut names = Vec::new(alloc);
     gather_components(&mut names, output.nodes.as_slice())?;
@@ -163,7 +185,10 @@ fn component_twice(alloc: Global, output: &ParserOutput<'_>) -> Result<Option<Sp
 
 /// Refuses a tree where two blocks have one name, or two components.
 fn allow(alloc: Global, output: &ParserOutput<'_>) -> Result<(), Refusal>
-    ensures { let tree = tree_of output.now in Answers (λ done. tree) (spec.once tree) result }
+    ensures value { let tree = tree_of output.now in
+        Answers (λ done. tree) (spec.once tree) result }
+    ensures points { (size : ℕ) → Inside size (tree_of output.now)
+        → IfErr result (PointsWithin size) }
 {
     if let Some(span) = block_twice(alloc, output)? {
         return Err(Refusal::Syntax(Reason::BlockTwice, span));
@@ -176,7 +201,9 @@ fn allow(alloc: Global, output: &ParserOutput<'_>) -> Result<(), Refusal>
 
 /// The tree, where no two of its blocks have one name, and no two of its components.
 pub(crate) fn once<'s>(alloc: Global, output: ParserOutput<'s>) -> Result<ParserOutput<'s>, Refusal>
-    ensures { Answers tree_of (spec.once (tree_of output.entry)) result }
+    ensures value { Answers tree_of (spec.once (tree_of output.entry)) result }
+    ensures points { (size : ℕ) → Inside size (tree_of output.entry)
+        → IfErr result (PointsWithin size) }
 {
     allow(alloc, &output)?;
     Ok(output)

@@ -1,11 +1,14 @@
 // How far the reading of a whole text is: its nodes, and what it extends.
-ghost use Rattle.std.specs.Prelude.{◌≡◌, IfErr, List};
+ghost use Rattle.std.specs.Prelude.{ℕ, ◌≡◌, IfErr, List};
 ghost use Rattle.tera_syntax.specs.File as spec;
 ghost use Rattle.tera_syntax.specs.Grammar.{is_space};
+ghost use Rattle.tera_syntax.specs.Places.{StandsWithin};
 ghost use Rattle.tera_syntax.specs.Reader.{quoted_name};
 ghost use Rattle.tera_syntax.specs.View.{FileBecomes, file_of};
 ghost use Rattle.tera_syntax_tokens.specs.Answers.{Answers, IsSyntax};
 ghost use Rattle.tera_syntax_tokens.specs.Found.{piece_of};
+ghost use Rattle.tera_syntax_tokens.specs.Points.{PointsWithin};
+ghost use Rattle.tera_syntax_tokens.specs.Stretches.{PieceInside};
 ghost use Rattle.tera_syntax_tokens.specs.Token.{tokens_of};
 ghost use Rattle.tera_syntax_tokens.specs.declared.token.Token as token;
 ghost use Rattle.tera_syntax_tree.specs.View.{tree_of};
@@ -78,14 +81,17 @@ impl<'s> File<'s> {
         piece: Piece<'s>,
         tokens: &[Token<'s>],
     ) -> Result<(), Refusal>
-        ensures { let meant = piece_of tokens.now piece.entry in
+        ensures value { let meant = piece_of tokens.now piece.entry in
             FileBecomes (spec.file_step 200 (file_of self.old) meant) result self.new }
+        ensures points { (size : ℕ) → StandsWithin size standing
+            → PieceInside size (piece_of tokens.now piece.entry)
+            → IfErr result (PointsWithin size) }
     {
-        self.progress.tag = standing.whole;
+        self.progress.tag = standing.whole.start;
         match self.take(alloc, piece, tokens) {
             Ok(()) => Ok(()),
             Err(Refusal::Syntax(why, span)) => {
-                Err(Refusal::Syntax(why, standing.pointed(span, tokens)))
+                Err(Refusal::Syntax(why, standing.pointed(piece, span, tokens)))
             }
             Err(Refusal::OutOfMemory) => Err(Refusal::OutOfMemory),
         }

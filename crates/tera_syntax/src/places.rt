@@ -1,10 +1,15 @@
 // Where a refusal points: at the tag, or at what in it is wrong.
-ghost use Rattle.std.specs.Prelude.{◌≡◌, ◌<◌, ◌+◌, ◌^◌, List, length, IfOk, IsTrue};
+ghost use Rattle.std.specs.Prelude.{ℕ, ◌≡◌, ◌<◌, ◌≤◌, ◌+◌, ◌^◌, List, length, IfOk, IfErr, IfSome, IsTrue};
+ghost use Rattle.tera_syntax.specs.Places.{StandsWithin};
 ghost use Rattle.tera_syntax_tokens.specs.Answers.{Answers, Follows};
 ghost use Rattle.tera_syntax_tokens.specs.Cut as spec;
 ghost use Rattle.tera_syntax_tokens.specs.Cut.{Knows};
-ghost use Rattle.tera_syntax_tokens.specs.Found.{found_of};
+ghost use Rattle.tera_syntax_tokens.specs.Found.{found_of, piece_of};
+ghost use Rattle.tera_syntax_tokens.specs.Points.{PointsInto, PointsWithin};
+ghost use Rattle.tera_syntax_tokens.specs.Stretches.{InOrder, PieceInside};
+ghost use Rattle.tera_syntax_tokens.specs.Token.{tokens_of};
 ghost use Rattle.tera_syntax_tree.specs.Delimiters.{accepted, delimiters_of};
+ghost use Rattle.tera_syntax_tree.specs.Inside.{Within};
 
 use tera_errors::Span;
 use tera_syntax_tokens::cut::{Found, Opening, Piece, next_piece};
@@ -22,7 +27,10 @@ pub(crate) struct Standing {
 impl Standing {
     /// Of a piece that begins at this place.
     #[inline(always)]
-    pub fn new(delimiters: &Delimiters, at: usize, found: &Found<'_>) -> Standing {
+    pub fn new(delimiters: &Delimiters, at: usize, found: &Found<'_>) -> Standing
+        ensures { (size : ℕ) → at ≤ found.now.next → found.now.next ≤ size
+            → StandsWithin size result }
+    {
         let size = match found.piece {
             Piece::Variable => delimiters.variable_end.len(),
             Piece::Block => delimiters.block_end.len(),
@@ -41,45 +49,87 @@ impl Standing {
         }
     }
 
-    /// Where a refusal points that the tokens of the tag gave: an empty tag is wrong as a whole, and where no token is
-    /// left the end delimiter stands in the place of what is due.
-    pub fn pointed(&self, span: Span, tokens: &[Token<'_>]) -> Span {
-        if span.start < span.end {
-            span
-        } else if tokens.is_empty() {
-            self.whole
-        } else {
-            self.end
+    /// Where a refusal points that reading the piece gave. The tokens are those of a tag.
+    pub fn pointed(&self, piece: Piece<'_>, span: Span, tokens: &[Token<'_>]) -> Span
+        ensures { (size : ℕ) → StandsWithin size self.now
+            → PieceInside size (piece_of tokens.now piece.entry) → Within size result }
+    {
+        match piece {
+            Piece::Words(_, words) => words,
+            Piece::Comment => self.whole,
+            Piece::Variable => self.in_tag(span, tokens),
+            Piece::Block => self.in_tag(span, tokens),
+        }
+    }
+
+    /// The same in a tag: at the token that starts where the refusal does. An empty tag is wrong as a whole, and where no
+    /// token is left the end delimiter stands in the place of what is due.
+    fn in_tag(&self, span: Span, tokens: &[Token<'_>]) -> Span
+        ensures { (size : ℕ) → StandsWithin size self.now
+            → InOrder size 0 (tokens_of tokens.now) → Within size result }
+    {
+        if tokens.is_empty() {
+            return self.whole;
+        }
+        match token_at(tokens, span.start) {
+            Some(token) => token,
+            None => self.end,
         }
     }
 }
 
+/// Where the token stands that starts at a place, if one does.
+fn token_at(tokens: &[Token<'_>], start: usize) -> Option<Span>
+    ensures { (size from : ℕ) → InOrder size from (tokens_of tokens.now)
+        → IfSome result (Within size) }
+{
+    for token in tokens {
+        if token.span.start == start {
+            return Some(token.span);
+        }
+    }
+    None
+}
+
 /// How many bytes the first character of a text has.
-fn first_size(text: Option<&str>) -> usize {
-    match text {
-        Some(text) => match text.chars().next() {
-            Some(character) => character.len_utf8(),
-            None => 0,
-        },
+fn first_size(text: &str) -> usize
+    ensures { result ≤ length text.now }
+{
+    match text.chars().next() {
+        Some(character) => character.len_utf8(),
         None => 0,
+    }
+}
+
+/// Where the character stands that begins at a byte of a text, which stands at a place: an empty stretch, if none does.
+fn character_at(text: &str, at: usize, i: usize) -> Span
+    requires room { at + length text.now < 2 ^ 64 }
+    requires within { i ≤ length text.now }
+    ensures { Within (at + length text.now) result }
+{
+    let start = at + i;
+    match text.split_at_checked(i) {
+        Some((_, rest)) => Span {
+            start,
+            end: start + first_size(rest),
+        },
+        None => Span { start, end: start },
     }
 }
 
 /// Where a refusal points that the cut gave, in a text that stands at the place: at the start of what has no end, or at the
 /// character that begins no token.
-fn pointed(why: Reason, span: Span, text: &str, at: usize) -> Span {
+fn pointed(why: Reason, span: Span, text: &str, at: usize) -> Span
+    requires room { at + length text.now < 2 ^ 64 }
+    requires points { PointsInto at text.now (Refusal.Syntax why span) }
+    ensures { Within (at + length text.now) result }
+{
     match why {
         Reason::OpenTag | Reason::OpenComment | Reason::OpenRaw => Span {
             start: at,
             end: span.start,
         },
-        Reason::NoToken => {
-            let size = first_size(text.get(span.start.saturating_sub(at)..));
-            Span {
-                start: span.start,
-                end: span.start.saturating_add(size),
-            }
-        }
+        Reason::NoToken => character_at(text, at, span.start - at),
         _ => span,
     }
 }
@@ -104,6 +154,7 @@ pub(crate) fn piece<'a>(
     ensures moves { IfOk result (λ x. at < x.next) }
     ensures known { let d = delimiters_of delimiters.now in
         IfOk result (λ x. Knows d x.rest.now x.opening) }
+    ensures points { IfErr result (PointsWithin (at + length text.now)) }
 {
     match next_piece(tokens, delimiters, text, at, trims, known) {
         Ok(found) => Ok(found),
@@ -111,5 +162,40 @@ pub(crate) fn piece<'a>(
             Err(Refusal::Syntax(why, pointed(why, span, text, at)))
         }
         Err(Refusal::OutOfMemory) => Err(Refusal::OutOfMemory),
+    }
+}
+
+/// A refusal that points at the tag which begins at a place of the source. The tag is cut once more, so that nothing that is
+/// open has to keep where its first tag ends. Where no tag begins there, the end of the source is told of.
+pub(crate) fn refused_at<'a>(
+    tokens: &mut Vec<Token<'a>>,
+    delimiters: &Delimiters,
+    source: &'a str,
+    why: Reason,
+    at: usize,
+) -> Refusal
+    requires usable { IsTrue (accepted (delimiters_of delimiters.now)) }
+    ensures { PointsWithin (length source.now) result }
+{
+    let size = source.len();
+    let end = Span {
+        start: size,
+        end: size,
+    };
+    let Some((_, rest)) = source.split_at_checked(at) else {
+        return Refusal::Syntax(why, end);
+    };
+    if rest.is_empty() {
+        return Refusal::Syntax(why, end);
+    }
+    match piece(tokens, delimiters, rest, at, false, None) {
+        Ok(found) => Refusal::Syntax(
+            why,
+            Span {
+                start: at,
+                end: found.next,
+            },
+        ),
+        Err(refusal) => refusal,
     }
 }

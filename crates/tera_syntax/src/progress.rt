@@ -31,8 +31,8 @@ pub(crate) struct Frame<'s> {
     is_chained: bool,
     /// What it stands in.
     surroundings: Surroundings,
-    /// Its first tag.
-    opened: Span,
+    /// Where its first tag begins.
+    opened: usize,
 }
 
 /// How far the reading is: what is open, and the nodes that were read in it.
@@ -43,8 +43,8 @@ pub(crate) struct Progress<'s> {
     found: Vec<Node<'s>>,
     /// What these nodes stand in.
     pub surroundings: Surroundings,
-    /// The tag that is read.
-    pub tag: Span,
+    /// Where the tag begins that is read.
+    pub tag: usize,
 }
 
 /// A refusal that points at the first token of a tag.
@@ -105,7 +105,7 @@ impl<'s> Progress<'s> {
             frames: Vec::new(alloc),
             found: Vec::new(alloc),
             surroundings: Surroundings::outside(),
-            tag: Span { start: 0, end: 0 },
+            tag: 0,
         }
     }
 
@@ -261,27 +261,27 @@ impl<'s> Progress<'s> {
         Err(refused(tag, Reason::NotOpen))
     }
 
-    /// The first tag of the innermost statement that is open.
-    fn innermost(&self) -> Span {
+    /// Where the first tag begins of the innermost statement that is open.
+    fn innermost(&self) -> usize {
         match self.frames.last() {
             Some(frame) => frame.opened,
             None => self.tag,
         }
     }
 
-    /// The nodes, where the text ends here. It takes no memory.
+    /// The nodes, where the text ends here. It takes no memory. A statement that is open is told of by where its first tag begins.
     pub fn finish(self) -> Result<Vec<Node<'s>>, Refusal>
         ensures value { let meant = spec.finished (progress_of self.entry).frames
             (progress_of self.entry).found in
             Answers (λ nodes. nodes_of nodes.items) meant result }
         ensures told { IfErr result IsSyntax }
     {
-        let opened = self.innermost();
+        let start = self.innermost();
         let Progress { frames, found, .. } = self;
         if frames.is_empty() {
             Ok(found)
         } else {
-            Err(Refusal::Syntax(Reason::NoEnd, opened))
+            Err(Refusal::Syntax(Reason::NoEnd, Span { start, end: start }))
         }
     }
 }

@@ -1,21 +1,44 @@
 // From a template's text to its tree.
-ghost use Rattle.std.specs.Prelude.{IfOk, IsTrue, length};
+ghost use Rattle.std.specs.Prelude.{IfErr, IfOk, IsTrue, length};
 ghost use Rattle.tera_errors.specs.Answer.{GivesOneOf};
 ghost use Rattle.tera_syntax.specs.File as spec;
 ghost use Rattle.tera_syntax.specs.Reads.{Reads, ReadsPlainText};
+ghost use Rattle.tera_syntax.specs.View.{file_of};
 ghost use Rattle.tera_syntax_tokens.specs.Answers.{Answers};
 ghost use Rattle.tera_syntax_tokens.specs.Cut.{pieces};
+ghost use Rattle.tera_syntax_tokens.specs.Points.{PointsWithin};
 ghost use Rattle.tera_syntax_tree.specs.Delimiters.{accepted, delimiters_of};
-ghost use Rattle.tera_syntax_tree.specs.Inside.{Inside, Within};
+ghost use Rattle.tera_syntax_tree.specs.Inside.{Inside};
 ghost use Rattle.tera_syntax_tree.specs.View.{tree_of};
 
 use crate::blocks::once;
 use crate::file::File;
-use crate::places::{Standing, piece};
+use crate::places::{Standing, piece, refused_at};
 use std::alloc::Global;
-use tera_errors::{Error, Span, TeraResult};
+use tera_errors::{Error, TeraResult};
 use tera_syntax_tokens::refusal::Refusal;
+use tera_syntax_tokens::token::Token;
 use tera_syntax_tree::{Delimiters, ParserOutput};
+
+/// The tree that was read, where the text ends here.
+fn ended<'s>(
+    tokens: &mut Vec<Token<'s>>,
+    delimiters: &Delimiters,
+    source: &'s str,
+    file: File<'s>,
+) -> Result<ParserOutput<'s>, Refusal>
+    requires { IsTrue (accepted (delimiters_of delimiters.now)) }
+    ensures value { Answers tree_of (spec.file_finished (file_of file.entry)) result }
+    ensures points { IfErr result (PointsWithin (length source.now)) }
+{
+    match file.finish() {
+        Ok(output) => Ok(output),
+        Err(Refusal::Syntax(why, open)) => {
+            Err(refused_at(tokens, delimiters, source, why, open.start))
+        }
+        Err(Refusal::OutOfMemory) => Err(Refusal::OutOfMemory),
+    }
+}
 
 /// The tree that a text spells, in which two blocks may have one name.
 fn spelled<'s>(
@@ -24,8 +47,9 @@ fn spelled<'s>(
     source: &'s str,
 ) -> Result<ParserOutput<'s>, Refusal>
     requires { IsTrue (accepted (delimiters_of delimiters.now)) }
-    ensures { let all = pieces (delimiters_of delimiters.now) source.now in
+    ensures value { let all = pieces (delimiters_of delimiters.now) source.now in
         Answers tree_of (spec.spelled 200 all) result }
+    ensures points { IfErr result (PointsWithin (length source.now)) }
 {
     let mut file = File::begin(alloc);
     let mut tokens = Vec::new(alloc);
@@ -48,7 +72,7 @@ fn spelled<'s>(
             Err(refusal) => return Err(refusal),
         }
     }
-    file.finish()
+    ended(&mut tokens, delimiters, source, file)
 }
 
 /// The tree of a text.
@@ -58,20 +82,12 @@ fn read<'s>(
     source: &'s str,
 ) -> Result<ParserOutput<'s>, Refusal>
     requires { IsTrue (accepted (delimiters_of delimiters.now)) }
-    ensures { let all = pieces (delimiters_of delimiters.now) source.now in
+    ensures value { let all = pieces (delimiters_of delimiters.now) source.now in
         Answers tree_of (spec.file 200 all) result }
+    ensures points { IfErr result (PointsWithin (length source.now)) }
 {
     let output = spelled(alloc, delimiters, source)?;
     once(alloc, output)
-}
-
-/// The stretch that lies in a text of this size.
-fn clipped(span: Span, size: usize) -> Span
-    ensures { Within size result }
-{
-    let end = if span.end < size { span.end } else { size };
-    let start = if span.start < end { span.start } else { end };
-    Span { start, end }
 }
 
 /// Reads the text of a template. The tree borrows its names and texts from it.
@@ -93,10 +109,7 @@ pub fn parse<'s>(
 {
     match read(alloc, delimiters, source) {
         Ok(output) => Ok(output),
-        Err(Refusal::Syntax(why, span)) => {
-            let span = clipped(span, source.len());
-            Err(Error::syntax(alloc, why.words(), name, span))
-        }
+        Err(Refusal::Syntax(why, span)) => Err(Error::syntax(alloc, why.words(), name, span)),
         Err(Refusal::OutOfMemory) => Err(Error::out_of_memory()),
     }
 }

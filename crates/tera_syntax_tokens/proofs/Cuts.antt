@@ -1,5 +1,5 @@
 -- The steps of the cut of a text.
-use Rattle.std.proofs.Common.{◌≡◌, ℕ, zero, suc, ◌+◌, ◌-◌, ◌<◌, ◌≤◌, [], ◌∷◌, Bool, true, false, ◌==◌, nat_lt, length, take, drop, Option, Some, None, Result, Ok, Err, IfOk, refl, ap, sym, ◌∙◌, arith}
+use Rattle.std.proofs.Common.{◌≡◌, ℕ, zero, suc, ◌+◌, ◌-◌, ◌<◌, ◌≤◌, [], ◌∷◌, Bool, true, false, ◌==◌, nat_lt, length, take, drop, Option, Some, None, Result, Ok, Err, IfOk, IfErr, refl, ap, sym, ◌∙◌, arith}
 use Rattle.std.proofs.lemmas.Bool.Decides.{nat_tests}
 use Rattle.std.specs.List.{ends_with}
 use Rattle.tera_errors.specs.Site.{Text}
@@ -7,6 +7,9 @@ use Rattle.tera_syntax_tokens.specs.Bytes.{begins, place}
 use Rattle.tera_syntax_tokens.specs.Inside.{hyphen}
 use Rattle.tera_syntax_tokens.specs.Cut.{Comment, Broken, Found, comment, piece, cut}
 use Rattle.tera_syntax_tree.specs.Delimiters.{Delims}
+use Rattle.tera_syntax_tokens.specs.Points.{PointsInto}
+use Rattle.tera_syntax_tokens.specs.declared.refusal.Refusal.{Refusal}
+use Rattle.tera_syntax_tokens.specs.declared.refusal.Refusal.TheVariants.{Syntax, OutOfMemory}
 
 lt_no : (a b : ℕ) → b ≤ a → nat_lt a b ≡ false
 lt_no a b h = grind (arith, nat_tests)
@@ -34,6 +37,12 @@ head_positive test b bs e = rw e (omega arith)
 pub place_positive : (test : Text → Bool) (text : Text) → 0 < length text → test text ≡ false → 0 < place test text
 place_positive test [] l e = absurd (omega arith)
 place_positive test (b ∷ bs) l e = head_positive test b bs e
+
+-- what points into the rest of a text points into the text
+pub points_from : {X : Type 0} (r : Result X Refusal) (at next : ℕ) (text rest : Text) → at ≤ next → next + length rest ≤ at + length text → IfErr r (PointsInto next rest) → IfErr r (PointsInto at text)
+points_from (Ok x) at next text rest l m h = tt
+points_from (Err OutOfMemory) at next text rest l m h = tt
+points_from (Err (Syntax why span)) at next text rest l m h = (omega (arith, h.0), h.1, omega (arith, h.2))
 
 pub if_ok : {X E : Type 0} {P Q : X → Type 0} (r : Result X E) → ((x : X) → P x → Q x) → IfOk r P → IfOk r Q
 if_ok (Ok x) f h = f x h

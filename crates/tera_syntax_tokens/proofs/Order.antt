@@ -1,25 +1,29 @@
 -- Tokens stand one behind another, inside the tag.
-use Rattle.std.proofs.Common.{◌≡◌, ℕ, zero, suc, ◌+◌, ◌-◌, ◌≤◌, List, [], ◌∷◌, Bool, true, false, length, drop, take, Option, Some, None, option_map, refl, sym, subst, arith, if◌then◌else◌}
+use Rattle.std.proofs.Common.{◌≡◌, ℕ, zero, suc, ◌+◌, ◌-◌, ◌<◌, ◌≤◌, List, [], ◌∷◌, Bool, true, false, length, drop, get_or, take, Option, Some, None, option_map, refl, sym, subst, arith, if◌then◌else◌}
 use Rattle.std.proofs.lemmas.List.{length-take-le}
 use Rattle.tera_errors.specs.Site.{Text}
 use Rattle.tera_syntax_tokens.specs.declared.inside.Ending.{Ending}
 use Rattle.tera_syntax_tokens.specs.declared.token.Kind.{Kind}
 use Rattle.tera_syntax_tokens.specs.declared.token.Kind.TheVariants as k
 use Rattle.tera_syntax_tokens.specs.declared.token.Measure.{Measure}
-use Rattle.tera_syntax_tokens.specs.Token.{Token, token, measured, next_token, is_blank}
+use Rattle.tera_syntax_tree.specs.Inside.{Within}
+use Rattle.tera_syntax_tokens.specs.declared.token.Token as declared
+use Rattle.tera_syntax_tokens.specs.Token.{Token, token, tokens_of, measured, next_token, is_blank}
 use Rattle.tera_syntax_tokens.specs.Input.{Input, kind, kind_of, start, start_of, next, after}
+use Rattle.tera_syntax_tokens.specs.Stretches.{InOrder}
 use Rattle.tera_syntax_tokens.specs.Inside.{Inside, inside, closing, closing_in, open_after, prefixed, ended, token_then}
 use Rattle.tera_syntax_tokens.proofs.Tokens.{measured_sized, token_size}
 use Rattle.tera_syntax_tokens.proofs.Insides.{closing_found}
 
--- the tokens stand one behind another from a place on, in a text of this size
-abbrev pub InOrder : ℕ → ℕ → List Token → Type 0
-InOrder size from [] = from ≤ size
-InOrder size from (t ∷ ts) = (from ≤ t.span.start) × (t.span.start ≤ t.span.end) × InOrder size t.span.end ts
-
 pub in_order-le : (size from : ℕ) (ts : List Token) → InOrder size from ts → from ≤ size
 in_order-le size from [] h = h
 in_order-le size from (t ∷ ts) h = let l = in_order-le size t.span.end ts h.2 in omega (arith, h.0, h.1, l)
+
+-- each of them is a stretch of the text
+pub token_within : (size from : ℕ) (ts : List declared.Token) (i : ℕ) (blank : declared.Token) → i < length ts → InOrder size from (tokens_of ts) → Within size (get_or ts i blank).span
+token_within size from [] i blank l h = absurd (omega arith)
+token_within size from (t ∷ ts) zero blank l h = (h.1, in_order-le size t.span.end (tokens_of ts) h.2)
+token_within size from (t ∷ ts) (suc i) blank l h = token_within size t.span.end ts i blank (omega arith) h.2
 
 -- from an earlier place on, and in a longer text
 pub in_order-wider : (size more from before : ℕ) (ts : List Token) → size ≤ more → before ≤ from → InOrder size from ts → InOrder more before ts

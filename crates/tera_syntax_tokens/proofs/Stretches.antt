@@ -10,20 +10,20 @@ use lib.Utf8.{scalar, scalars, encodes, encode}
 use Rattle.tera_errors.specs.Site.{Text}
 use Rattle.tera_syntax_tree.specs.Delimiters.{delimiters_of, accepted}
 use Rattle.tera_syntax_tree.specs.declared.delimiters.Delimiters.{Delimiters}
-use Rattle.tera_syntax_tree.specs.Inside.{Within}
 use Rattle.tera_syntax_tokens.specs.Bytes.{begins, place}
 use Rattle.tera_syntax_tokens.specs.Token.{Token}
 use Rattle.tera_syntax_tokens.specs.Inside.{Inside, inside, hyphen}
 use Rattle.tera_syntax_tokens.specs.declared.cut.Tag.{Tag}
 use Rattle.tera_syntax_tokens.specs.declared.cut.Tag.TheVariants as tag
 use Rattle.tera_syntax_tokens.specs.declared.cut.Opening.{Opening}
-use Rattle.tera_syntax_tokens.specs.Cut.{Piece, Words, Comment, Variable, Block, Broken, Found, opening_at, opens, trims_before, start_trimmed, end_trimmed, words, comment, tag_of, start_size, is_alone, of_word, endraw, endraw_of, endraw_by, ends_raw, raw, block, behind, piece_by, piece, piece_then, cut, pieces}
+use Rattle.tera_syntax_tokens.specs.Cut.{Piece, Comment, Variable, Block, Found, opening_at, opens, trims_before, start_trimmed, end_trimmed, words, comment, tag_of, start_size, is_alone, of_word, endraw, endraw_of, endraw_by, ends_raw, raw, block, behind, piece_by, piece, piece_then, cut, pieces}
 use Rattle.tera_syntax_tokens.proofs.Places.{place_le, place_passes, boundary_after, word_fits}
 use Rattle.tera_syntax_tokens.proofs.Insides.{ending_fits, ending_boundary}
 use Rattle.tera_syntax_tokens.proofs.Openings.{start_of, start_fits, start_boundary, start_size_le, start_size_fits, words_boundary, filled}
 use Rattle.tera_syntax_tokens.proofs.Cuts.{place_positive}
 use Rattle.tera_syntax_tokens.proofs.Raws.{raw_boundary}
-use Rattle.tera_syntax_tokens.proofs.Order.{InOrder, in_order-wider, inside_cut}
+use Rattle.tera_syntax_tokens.specs.Stretches.{InOrder, PieceInside}
+use Rattle.tera_syntax_tokens.proofs.Order.{in_order-wider, inside_cut}
 
 -- white space that is dropped makes a text no longer
 and_right : (p q : Bool) → (p && q) ≡ true → q ≡ true
@@ -80,13 +80,6 @@ start_trimmed_le false text u = omega arith
 end_trimmed_le : (q : Bool) (text : Text) → IsUtf8 text → length (end_trimmed q text) ≤ length text
 end_trimmed_le true text u = trim_end_le text u
 end_trimmed_le false text u = omega arith
-
-abbrev pub PieceInside : ℕ → Piece → Type 0
-PieceInside size (Words text span) = Within size span
-PieceInside size Comment = Unit {0}
-PieceInside size (Variable tokens) = InOrder size 0 tokens
-PieceInside size (Block tokens) = InOrder size 0 tokens
-PieceInside size Broken = Unit {0}
 
 abbrev pub PiecesInside : ℕ → List Piece → Type 0
 PiecesInside size [] = Unit {0}
@@ -256,6 +249,11 @@ module _ (d : Delimiters) (usable : IsTrue (accepted (delimiters_of d))) where
       let p = behind_found o.tag (at + n) (drop n text) f (IsUtf8-drop text n u b) h in
       let g = p.reach.forward in
       (found_from at n text f (start_size_fits text o s) p, omega arith)
+
+  -- a piece that is found is a stretch of its text
+  pub piece_inside : (trims : Bool) (at : ℕ) (text : Text) (f : Found) → 0 < length text → IsUtf8 text → piece (delimiters_of d) trims at text ≡ Some f → PieceInside (at + length text) f.piece
+  unfolding piece
+  piece_inside trims at text f some u h = (piece_found trims at text (opening_at (delimiters_of d) text) f some u refl h).0.inside
 
   cut_by : (trims : Bool) (at b : ℕ) (bs : Text) (o : Option Found) → IsUtf8 (b ∷ bs) → piece (delimiters_of d) trims at (b ∷ bs) ≡ o
       → ((trims : Bool) (skip : ℕ) → IsUtf8 (drop skip bs) → PiecesInside (suc at + length bs) (cut (delimiters_of d) trims skip (suc at) bs))

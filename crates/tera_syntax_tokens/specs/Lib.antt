@@ -7,3 +7,5 @@ pub mod Found
 pub mod Input
 pub mod Takes
 pub mod Literal
+pub mod Points
+pub mod Stretches

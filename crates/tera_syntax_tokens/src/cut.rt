@@ -1,5 +1,5 @@
 // The cut of a text into text, comments and tags.
-ghost use Rattle.std.specs.Prelude.{List, ◌≡◌, ◌<◌, ◌≤◌, ◌+◌, ◌-◌, ◌^◌, ◌≢◌, [], length, drop, IfOk, IfSome, IsTrue, Some, None, string_bytes, get_or};
+ghost use Rattle.std.specs.Prelude.{List, ◌≡◌, ◌<◌, ◌≤◌, ◌+◌, ◌-◌, ◌^◌, ◌≢◌, [], length, drop, IfOk, IfErr, IfSome, IsTrue, Some, None, string_bytes, get_or};
 ghost use Rattle.memchr.specs.Find.{is_byte3};
 ghost use Rattle.tera_syntax_tokens.specs.Answers.{Answers, Follows};
 ghost use Rattle.tera_syntax_tokens.specs.Bytes.{place};
@@ -9,6 +9,7 @@ ghost use Rattle.tera_syntax_tree.specs.Delimiters.{accepted, delimiters_of};
 ghost use Rattle.std.specs.Str.{IsCharBoundary};
 ghost use Rattle.tera_syntax_tokens.specs.Found.{found_of, piece_of};
 ghost use Rattle.tera_syntax_tokens.specs.Inside.{inside};
+ghost use Rattle.tera_syntax_tokens.specs.Points.{PointsInto};
 ghost use Rattle.tera_syntax_tokens.specs.Token.{tokens_of};
 ghost use Rattle.tera_syntax_tokens.specs.declared.token.Token.{Token};
 
@@ -270,6 +271,7 @@ fn comment<'a>(end: &str, text: &'a str, at: usize) -> Result<Found<'a>, Refusal
     ensures value { (tokens : List Token) → Answers (found_of tokens)
         (spec.comment end.now at text.now) result }
     ensures rest { IfOk result (λ x. Follows at text.now x.next x.rest.now) }
+    ensures points { IfErr result (PointsInto at text.now) }
     ensures unknown { IfOk result (λ x. x.opening ≡ None) }
 {
     let bytes = text.as_bytes();
@@ -317,6 +319,7 @@ fn block<'a>(
         let meant = spec.block d at text.now (inside d.block_end 0 0 at text.now) in
         Answers (found_of tokens.new.items) meant result }
     ensures rest { IfOk result (λ x. Follows at text.now x.next x.rest.now) }
+    ensures points { IfErr result (PointsInto at text.now) }
     ensures unknown { IfOk result (λ x. x.opening ≡ None) }
 {
     let x = cut_inside(tokens, text, delimiters.block_end.as_str(), at)?;
@@ -345,6 +348,7 @@ fn behind<'a>(
     ensures value { let meant = spec.behind (delimiters_of delimiters.now) tag at text.now in
         Answers (found_of tokens.new.items) meant result }
     ensures rest { IfOk result (λ x. Follows at text.now x.next x.rest.now) }
+    ensures points { IfErr result (PointsInto at text.now) }
     ensures unknown { IfOk result (λ x. x.opening ≡ None) }
 {
     match tag {
@@ -383,6 +387,7 @@ pub fn next_piece<'a>(
     ensures value { let meant = spec.piece (delimiters_of delimiters.now) trims at text.now in
         Answers (found_of tokens.new.items) meant result }
     ensures rest { IfOk result (λ x. Follows at text.now x.next x.rest.now) }
+    ensures points { IfErr result (PointsInto at text.now) }
     ensures moves { IfOk result (λ x. at < x.next) }
     ensures known { let d = delimiters_of delimiters.now in
         IfOk result (λ x. Knows d x.rest.now x.opening) }

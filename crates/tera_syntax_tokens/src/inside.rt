@@ -1,9 +1,10 @@
 // The inside of a tag: its tokens, up to the end delimiter.
-ghost use Rattle.std.specs.Prelude.{◌≡◌, ◌<◌, ◌≤◌, ◌+◌, ◌-◌, ◌^◌, length, drop, get_or, IfOk};
+ghost use Rattle.std.specs.Prelude.{◌≡◌, ◌<◌, ◌≤◌, ◌+◌, ◌-◌, ◌^◌, length, drop, get_or, IfOk, IfErr};
 ghost use Rattle.tera_syntax_tokens.specs.Answers.{Answers, Follows};
 ghost use Rattle.tera_syntax_tokens.specs.Bytes.{begins};
 ghost use Rattle.tera_syntax_tokens.specs.Found.{inside_of};
 ghost use Rattle.tera_syntax_tokens.specs.Inside as spec;
+ghost use Rattle.tera_syntax_tokens.specs.Points.{PointsInto};
 
 use crate::bytes::{after, begins};
 use crate::refusal::{Reason, Refusal};
@@ -94,6 +95,7 @@ pub(crate) fn cut_inside<'a>(
     ensures value { Answers (inside_of tokens.new.items) (spec.inside end.now 0 0 at text.now)
         result }
     ensures rest { IfOk result (λ x. Follows at text.now x.next x.rest.now) }
+    ensures points { IfErr result (PointsInto at text.now) }
 {
     let bytes = text.as_bytes();
     let first = end.as_bytes()[0];

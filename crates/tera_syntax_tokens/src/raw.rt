@@ -1,5 +1,5 @@
 // The text that `raw` keeps: up to the first tag `endraw`, with nothing in it read.
-ghost use Rattle.std.specs.Prelude.{ℕ, List, None, ◌≡◌, ◌<◌, ◌≤◌, ◌+◌, ◌^◌, ◌&&◌, ◌||◌, not, length, drop, get_or, codes, option_map, is_some, true, IfOk, IfSome, IsTrue};
+ghost use Rattle.std.specs.Prelude.{ℕ, List, None, ◌≡◌, ◌<◌, ◌≤◌, ◌+◌, ◌^◌, ◌&&◌, ◌||◌, not, length, drop, get_or, codes, option_map, is_some, true, IfOk, IfErr, IfSome, IsTrue};
 ghost use Rattle.std.specs.Str.{IsCharBoundary, IsUtf8};
 ghost use Rattle.tera_syntax_tokens.specs.Answers.{Answers, Follows};
 ghost use Rattle.tera_syntax_tokens.specs.Bytes as bytes;
@@ -7,6 +7,7 @@ ghost use Rattle.tera_syntax_tokens.specs.Bytes.{place};
 ghost use Rattle.tera_syntax_tokens.specs.Cut as spec;
 ghost use Rattle.tera_syntax_tokens.specs.Found.{end_of, end_from, found_of};
 ghost use Rattle.tera_syntax_tokens.specs.Inside as tag;
+ghost use Rattle.tera_syntax_tokens.specs.Points.{PointsInto};
 ghost use Rattle.tera_syntax_tokens.specs.Token as token;
 ghost use Rattle.tera_syntax_tokens.specs.declared.token.Token.{Token};
 ghost use Rattle.tera_syntax_tree.specs.Delimiters.{accepted, delimiters_of};
@@ -126,6 +127,7 @@ pub(crate) fn raw<'a>(
         trims at text.now in
         Answers (found_of tokens) meant result }
     ensures rest { IfOk result (λ x. Follows at text.now x.next x.rest.now) }
+    ensures points { IfErr result (PointsInto at text.now) }
     ensures unknown { IfOk result (λ x. x.opening ≡ None) }
 {
     let n = next_endraw(delimiters, text.as_bytes());

@@ -11,7 +11,10 @@ use Rattle.tera_syntax_tree.specs.View.{tree_of}
 use Rattle.tera_syntax_tokens.specs.Found.{found_of}
 use Rattle.tera_syntax.specs.File as spec
 use Rattle.tera_syntax.specs.View.{file_of}
+use Rattle.tera_syntax_tokens.specs.Points.{PointsWithin}
+use Rattle.tera_syntax_tokens.specs.Stretches.{PieceInside}
 use Rattle.tera_syntax_tokens.proofs.Cuts.{cut_step, cut_broken, cut_nothing}
+use Rattle.tera_syntax_tokens.proofs.Stretches.{piece_inside}
 use Rattle.tera_syntax_expressions.proofs.Turns.{refused}
 use Rattle.tera_syntax.proofs.Extending.{file_broken}
 use Rattle.tera_syntax.proofs.Rows.{some_bytes}
@@ -20,23 +23,36 @@ use Rattle.tera_syntax.proofs.reader.spelled.Goals as goal
 found_in : (meant : Option Found) (ts us : List Token) (x : found.Found) → ts ≡ us → meant ≡ Some (found_of ts x) → meant ≡ Some (found_of us x)
 found_in meant ts us x e h = h ∙ ap (λ ts. Some (found_of ts x)) e
 
-pub returns-in-Err : goal.returns-in-Err
-returns-in-Err c =
+pub returns-in-Err-clause-value : goal.returns-in-Err-clause-value
+returns-in-Err-clause-value c =
     let l = some_bytes c.loop-rest.rest.now (sym c.is_empty.ensures ∙ c.loop-rest-test.true) in
     refused c.in-Err.refusal (λ n. c.loop-rest.invariant.so_far
     ∙ ap (spec.file_run 200 (file_of c.loop-rest.file)) (cut_broken (delimiters_of c.args.delimiters.now) c.loop-rest.trims c.loop-rest.at c.loop-rest.rest.now l n)
     ∙ file_broken 200 (file_of c.loop-rest.file))
     c.in-Err.ensures.value
 
-pub returns-in-Err-step : goal.returns-in-Err-step
-returns-in-Err-step c =
+pub returns-in-Err-step-clause-value : goal.returns-in-Err-step-clause-value
+returns-in-Err-step-clause-value c =
     let d = delimiters_of c.args.delimiters.now in
     let l = some_bytes c.loop-rest.rest.now (sym c.is_empty.ensures ∙ c.loop-rest-test.true) in
     let s = cut_step d c.loop-rest.trims c.loop-rest.at c.loop-rest.rest.now (found_of c.as_slice.result.now c.in-Ok.piece) l (found_in _ _ _ c.in-Ok.piece (sym c.as_slice.ensures.value) c.in-Ok.ensures.value) c.in-Ok.ensures.moves in
     refused c.in-Err-step.refusal (λ n. c.loop-rest.invariant.so_far
     ∙ ap (spec.file_run 200 (file_of c.loop-rest.file)) s
     ∙ ap (option_and_then (λ t. spec.file_run 200 t (cut d c.in-Ok.piece.trims 0 c.in-Ok.piece.next _))) n)
-    c.in-Err-step.ensures
+    c.in-Err-step.ensures.value
+
+pub returns-in-Err-clause-points : goal.returns-in-Err-clause-points
+returns-in-Err-clause-points c = subst (λ size. PointsWithin size c.in-Err.refusal) c.loop-rest.invariant.place c.in-Err.ensures.points
+
+pub returns-in-Err-step-clause-points : goal.returns-in-Err-step-clause-points
+returns-in-Err-step-clause-points c =
+    let l = some_bytes c.loop-rest.rest.now (sym c.is_empty.ensures ∙ c.loop-rest-test.true) in
+    let f = c.in-Ok.ensures.rest in
+    let found = found_of c.as_slice.result.now c.in-Ok.piece in
+    let inside = piece_inside c.args.delimiters.now c.requires c.loop-rest.trims c.loop-rest.at c.loop-rest.rest.now found l c.loop-rest.invariant.utf8 (found_in _ _ _ c.in-Ok.piece (sym c.as_slice.ensures.value) c.in-Ok.ensures.value) in
+    c.in-Err-step.ensures.points (length c.args.source.now)
+    (c.new-standing.ensures (length c.args.source.now) f.0 (omega (arith, f.1, c.loop-rest.invariant.place)))
+    (subst (λ size. PieceInside size found.piece) c.loop-rest.invariant.place inside)
 
 pub loop-rest-preserved : goal.loop-rest-preserved
 loop-rest-preserved c =
@@ -51,13 +67,13 @@ loop-rest-preserved c =
       known = c.in-Ok.ensures.known;
       so_far = c.loop-rest.invariant.so_far
           ∙ ap (spec.file_run 200 (file_of c.loop-rest.file)) s
-          ∙ ap (option_and_then (λ t. spec.file_run 200 t (cut d c.in-Ok.piece.trims 0 c.in-Ok.piece.next _))) c.in-Ok-step.ensures
+          ∙ ap (option_and_then (λ t. spec.file_run 200 t (cut d c.in-Ok.piece.trims 0 c.in-Ok.piece.next _))) c.in-Ok-step.ensures.value
           ∙ ap (λ text. spec.file_run 200 (file_of c.step.new.self) (cut d c.in-Ok.piece.trims 0 c.in-Ok.piece.next text)) (sym f.2);
     }
 
-pub returns : goal.returns
-returns c =
+pub returns-clause-value : goal.returns-clause-value
+returns-clause-value c =
     let z : length c.loop-rest.rest.now ≡ 0 = (Decides-eqb (length c.loop-rest.rest.now) 0).0 (sym c.is_empty.ensures ∙ c.loop-rest-test.false) in
     let e = c.loop-rest.invariant.so_far
     ∙ ap (spec.file_run 200 (file_of c.loop-rest.file)) (cut_nothing (delimiters_of c.args.delimiters.now) c.loop-rest.trims c.loop-rest.at c.loop-rest.rest.now z) in
-    subst (λ o. Answers tree_of o c.finish.result) (sym e) c.finish.ensures.value
+    subst (λ o. Answers tree_of o c.ended.result) (sym e) c.ended.ensures.value

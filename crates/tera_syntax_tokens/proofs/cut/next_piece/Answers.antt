@@ -2,7 +2,7 @@ use Rattle.std.proofs.Common.{◌≡◌, ◌<◌, ◌+◌, [], ap, Some, None, f
 use Rattle.tera_syntax_tokens.specs.Cut.{opening_at, opens}
 use Rattle.tera_syntax_tree.specs.Delimiters.{delimiters_of}
 use Rattle.tera_syntax_tokens.proofs.Openings.{start_of, start_fits, start_boundary, start_size_le}
-use Rattle.tera_syntax_tokens.proofs.Cuts.{next_of, place_positive, if_ok}
+use Rattle.tera_syntax_tokens.proofs.Cuts.{next_of, place_positive, points_from, if_ok}
 use Rattle.tera_syntax_tokens.proofs.cut.next_piece.Goals as goal
 
 pub start_size-size-requires : goal.start_size-size-requires
@@ -33,3 +33,7 @@ returns-in-Some-clause-moves c =
     let z = c.start_size-size.ensures in
     let more : c.args.at < c.args.at + c.start_size-size.result = omega (arith, s.0, l, z) in
     if_ok c.behind.result (λ x f. omega (arith, more, f.0)) c.behind.ensures.rest
+
+pub returns-in-Some-clause-points : goal.returns-in-Some-clause-points
+returns-in-Some-clause-points c =
+    points_from c.behind.result c.args.at (c.args.at + c.start_size-size.result) c.args.text.now c.split_at.result.1.now (omega arith) (omega (arith, c.split_at.ensures.back_len)) c.behind.ensures.points

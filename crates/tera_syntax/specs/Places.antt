@@ -1,0 +1,13 @@
+-- What stands in a text.
+use Rattle.std.specs.Prelude.{ℕ, List, All}
+use Rattle.tera_syntax_tree.specs.Inside.{Within}
+use Rattle.tera_syntax.specs.declared.blocks.PlacedName.{PlacedName}
+use Rattle.tera_syntax.specs.declared.places.Standing.{Standing}
+
+-- a piece stands in a text of this size, and so does its end delimiter
+abbrev pub StandsWithin : ℕ → Standing → Type 0
+StandsWithin size s = Within size s.whole × Within size s.end
+
+-- names stand in a text of this size
+abbrev pub NamesWithin : ℕ → List PlacedName → Type 0
+NamesWithin size names = All (λ n. Within size n.span) names

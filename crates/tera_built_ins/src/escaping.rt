@@ -21,6 +21,7 @@ pub trait EscapeFn: Drop {
 impl EscapeFn for &dyn EscapeFn {
     ghost escaped = { λ e. (EscapeFn-dyn e.now).escaped e.now.1 };
 
+    #[inline(always)]
     fn escape(&self, input: &str, out: &mut String) -> TeraResult<()> {
         (**self).escape(input, out)
     }
@@ -32,6 +33,7 @@ impl<E: EscapeFn> EscapeFn for Option<E> {
 
     ghost escaped = { escape_or_html E.escaped };
 
+    #[inline(always)]
     fn escape(&self, input: &str, out: &mut String) -> TeraResult<()> {
         match self {
             Some(escape) => escape.escape(input, out),

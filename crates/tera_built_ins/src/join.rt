@@ -104,6 +104,7 @@ fn append_item<E: EscapeFn>(
         let printed = item.printed(*out.allocator())?;
         escaping.escape(printed.as_str(), out)
     } else {
-        item.print_to(out)
+        item.print_to(out)?;
+        Ok(())
     }
 }

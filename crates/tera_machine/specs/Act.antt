@@ -3,8 +3,8 @@ use Rattle.std.specs.Prelude.{◌≡◌, ◌≢◌, ℕ, ◌+◌, ◌<◌, ◌^�
 use Rattle.std.specs.List.{zip}
 use Rattle.tera_errors.specs.declared.span.Span.{Span}
 use Rattle.tera_errors.specs.Site as site
-use Rattle.tera_errors.specs.Site.{Text}
-use Rattle.tera_errors.specs.Fault.{Fault}
+use Rattle.tera_errors.specs.Site.{Site, Text}
+use Rattle.tera_errors.specs.Fault.{Fault, rendering_error}
 use Rattle.tera_errors.specs.Answer.{Refusal}
 use Rattle.tera_syntax_tree.specs.Tree.{Key}
 use Rattle.tera_syntax_tree.specs.declared.expression.BinaryOperator.{BinaryOperator}
@@ -273,7 +273,13 @@ Does does before result after =
     Acted (does (config_of before)) result (config_of after)
     × ((around_of after.scopes ≡ around_of before.scopes) × OnOk result (beneath after ≡ beneath before))
 
--- what goes on at the next instruction, if at all
-abbrev pub going_on : Result (Unit {0}) Refusal → Result declared.Flow Refusal
+-- what goes on at the next instruction, unless memory was refused
+abbrev pub going_on : {E : Type 0} → Result (Unit {0}) E → Result declared.Flow Refusal
 going_on (Ok u) = Ok declared_flow.On
-going_on (Err e) = Err e
+going_on (Err e) = Err None
+
+-- the same of a value, which may be undefined: that is a fault there
+abbrev pub going_on_if : {E : Type 0} → Site → Result Bool E → Result declared.Flow Refusal
+going_on_if site (Ok true) = Ok declared_flow.On
+going_on_if site (Ok false) = Err (Some (rendering_error site))
+going_on_if site (Err e) = Err None

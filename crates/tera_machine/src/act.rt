@@ -1,18 +1,19 @@
 // One instruction, by groups.
-ghost use Rattle.std.specs.Prelude.{◌≡◌, ◌≢◌, Ok, Some, None, ℕ, Bool, IfOk, IfErr};
+ghost use Rattle.std.specs.Prelude.{◌≡◌, ◌≢◌, Ok, Some, None, true, false, IfOk, IfErr};
 ghost use Rattle.tera_errors.specs.Answer.{Tells, Lacks};
+ghost use Rattle.tera_errors.specs.Site.{Site};
 ghost use Rattle.tera_errors.specs.Fault.{rendering_error};
 ghost use Rattle.tera_machine.specs.Config.{config_of};
 ghost use Rattle.tera_machine.specs.Did.{pushed, holding};
-ghost use Rattle.tera_machine.specs.Act.{act, IsReady, IsSmall, Does, going_on, text_written, outcome_put, top_written, name_written, name_loaded, context_loaded, stored, attribute_loaded, item_loaded, sliced, denied, negated, operated, array_made, map_made, handed, component_taken, popped_branch, kept_if_falsy, kept_if_truthy, above_taken, topmost};
+ghost use Rattle.tera_machine.specs.Act.{act, IsReady, IsSmall, Does, going_on, going_on_if, text_written, outcome_put, top_written, name_written, name_loaded, context_loaded, stored, attribute_loaded, item_loaded, sliced, denied, negated, operated, array_made, map_made, handed, component_taken, popped_branch, kept_if_falsy, kept_if_truthy, above_taken, topmost};
 ghost use Rattle.tera_machine.specs.Subject.{here_of};
+ghost use Rattle.tera_machine.specs.declared.machine.Flow.TheVariants as flow;
 ghost use Rattle.tera_state.specs.Scopes.{around_of};
-ghost use Rattle.tera_syntax_tree.specs.declared.expression.BinaryOperator.{BinaryOperator as Operator};
 
 use crate::asked::{Asked, AskedComponent, AskedTemplate};
 use crate::configuration::Configuration;
 use crate::machine::{Flow, VirtualMachine};
-use std::alloc::Global;
+use std::alloc::{AllocError, Global};
 use tera_code::{Instruction, Keys, LentName, Spreads};
 use tera_objects::Objects;
 use tera_operators::Operand;
@@ -38,11 +39,11 @@ impl<'c> Configuration<'c> {
     {
         let alloc = machine.alloc;
         match instruction {
-            Instruction::WriteText(text) => self.write_text(text.as_str()),
+            Instruction::WriteText(text) => going_on(self.write_text(text.as_str())),
             Instruction::WriteTop => self.write_top(machine, file),
             Instruction::WriteName(name, span) => self.write_name(machine, file, name, *span),
             Instruction::LoadConst(constant, span) => self.push(constant.load()?, *span),
-            Instruction::LoadName(name, span) => self.load_name(alloc, name, *span),
+            Instruction::LoadName(name, span) => going_on(self.load_name(alloc, name, *span)),
             Instruction::LoadAttribute {
                 name,
                 optional,
@@ -62,7 +63,9 @@ impl<'c> Configuration<'c> {
             Instruction::JumpIfFalseOrPop(skip) => self.jump_if_false_or_pop(*skip),
             Instruction::JumpIfTrueOrPop(skip) => self.jump_if_true_or_pop(*skip),
             Instruction::LoadContext(span) => self.load_context(alloc, *span),
-            Instruction::Store { name, is_global } => self.store(alloc, name.as_name(), *is_global),
+            Instruction::Store { name, is_global } => {
+                going_on(self.store(alloc, name.as_name(), *is_global))
+            }
             Instruction::StartLoop {
                 key,
                 name,
@@ -113,11 +116,10 @@ impl<'c> Configuration<'c> {
     }
 
     #[inline(always)]
-    pub(crate) fn write_text<'f>(&mut self, text: &str) -> TeraResult<Flow<'f>>
-        ensures { Does (text_written text.now) self.old result self.new }
+    pub(crate) fn write_text(&mut self, text: &str) -> Result<(), AllocError>
+        ensures { Does (text_written text.now) self.old (going_on result) self.new }
     {
-        self.texts.append(text)?;
-        Ok(Flow::On)
+        self.texts.append(text)
     }
 
     #[inline(never)]
@@ -154,25 +156,25 @@ impl<'c> Configuration<'c> {
         ensures { Does (name_written (here_of O.engine machine.now file.now self.old) name.now span)
             self.old result self.new }
     {
-        self.put_name(machine, file, name, span)?;
-        Ok(Flow::On)
+        let is_put = self.put_name(machine, name)?;
+        going_on_if(machine.alloc, file, span, is_put)
     }
 
-    // The value is read where it lies. A flow is not handed out, since that of a text or a value is always the same.
+    // Whether the value was put out, which is read where it lies: what is undefined is not. No flow and no fault are handed
+    // out, so that the answer is small.
     #[inline(always)]
     pub(crate) fn put_name<O: Objects>(
         &mut self,
         machine: &VirtualMachine<'_, O>,
-        file: &str,
         name: &Sought<'_>,
-        span: Span,
-    ) -> TeraResult<()>
-        ensures { Does (name_written (here_of O.engine machine.now file.now self.old) name.now span)
-            self.old (going_on result) self.new }
+    ) -> Result<bool, AllocError>
+        ensures { (site : Site) → Does
+            (name_written (here_of O.engine machine.now site.file self.old) name.now site.span)
+            self.old (going_on_if site result) self.new }
     {
         let found = self.scopes.look(name);
         if found.is_undefined() {
-            return Err(undefined_written(machine.alloc, file, span));
+            return Ok(false);
         }
         match found {
             Found::Kept(value) => {
@@ -184,9 +186,10 @@ impl<'c> Configuration<'c> {
                     .append_found(machine.alloc, machine.objects, machine.autoescape, found)?
             }
         }
-        Ok(())
+        Ok(true)
     }
 
+    #[inline(always)]
     pub(crate) fn put<'f>(&mut self, operand: Operand) -> TeraResult<Flow<'f>>
         ensures { Does (outcome_put (Ok operand)) self.old result self.new }
     {
@@ -201,17 +204,19 @@ impl<'c> Configuration<'c> {
     }
 
     #[inline(always)]
-    pub(crate) fn load_name<'f>(
+    pub(crate) fn load_name(
         &mut self,
         alloc: Global,
         name: &Sought<'_>,
         span: Span,
-    ) -> TeraResult<Flow<'f>>
+    ) -> Result<(), AllocError>
         ensures { Does (name_loaded (around_of self.old.scopes) name.now span)
-            self.old result self.new }
+            self.old (going_on result) self.new }
     {
-        let value = self.scopes.look(name).to_value(alloc)?;
-        self.push(value, span)
+        match self.scopes.look(name).to_value(alloc) {
+            Ok(value) => self.operands.push(Operand::new(value, span)),
+            Err(_) => Err(AllocError),
+        }
     }
 
     fn load_context<'f>(&mut self, alloc: Global, span: Span) -> TeraResult<Flow<'f>>
@@ -223,23 +228,21 @@ impl<'c> Configuration<'c> {
 
     // What is bound is kept in shared form, so that a copy of it is a count.
     #[inline(never)]
-    pub(crate) fn store<'f>(
+    pub(crate) fn store(
         &mut self,
         alloc: Global,
         name: &Name,
         is_global: bool,
-    ) -> TeraResult<Flow<'f>>
+    ) -> Result<(), AllocError>
         requires { IsReady (stored is_global name.now) self.old }
-        ensures { Does (stored is_global name.now) self.old result self.new }
+        ensures { Does (stored is_global name.now) self.old (going_on result) self.new }
     {
         let operand = self.operands.take();
-        let value = operand.into_value().shared(alloc)?;
-        if is_global {
-            self.scopes.set_global(name.share()?, value)?;
-        } else {
-            self.scopes.set(name.share()?, value)?;
+        match (operand.into_value().shared(alloc), name.share()) {
+            (Ok(value), Ok(name)) if is_global => self.scopes.set_global(name, value),
+            (Ok(value), Ok(name)) => self.scopes.set(name, value),
+            _ => Err(AllocError),
         }
-        Ok(Flow::On)
     }
 
     #[inline(never)]
@@ -475,6 +478,34 @@ impl<'c> Configuration<'c> {
         } else {
             Ok(Flow::On)
         }
+    }
+}
+
+// It goes on at the next instruction, unless memory was refused.
+#[inline(always)]
+pub(crate) fn going_on<'f>(done: Result<(), AllocError>) -> TeraResult<Flow<'f>>
+    ensures { result ≡ going_on done }
+{
+    done?;
+    Ok(Flow::On)
+}
+
+// The same where a value was put out, and else a fault: it is undefined.
+#[inline(always)]
+pub(crate) fn going_on_if<'f>(
+    alloc: Global,
+    file: &str,
+    span: Span,
+    is_put: bool,
+) -> TeraResult<Flow<'f>>
+    ensures ok { IfOk result (λ on. is_put ≡ true × on ≡ flow.On) }
+    ensures err { IfErr result (λ e. is_put ≡ false
+        × Tells e (rendering_error (record { file = file.now; span = span }))) }
+{
+    if is_put {
+        Ok(Flow::On)
+    } else {
+        Err(undefined_written(alloc, file, span))
     }
 }
 

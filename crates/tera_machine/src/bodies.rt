@@ -3,9 +3,8 @@ ghost use Rattle.std.specs.Prelude.{◌≡◌, ◌≢◌, [], OnOk, IfOk, IfErr}
 ghost use Rattle.tera_errors.specs.Answer.{Lacks};
 ghost use Rattle.tera_state.specs.Scopes.{coming_of};
 ghost use Rattle.tera_meaning.specs.Lineage.{definers};
-ghost use Rattle.tera_meaning.specs.Run.{begun};
 ghost use Rattle.tera_registry.specs.Templates.{definers_of};
-ghost use Rattle.tera_machine.specs.Config.{Config, config_of, loops_at};
+ghost use Rattle.tera_machine.specs.Config.{config_of, loops_at};
 ghost use Rattle.tera_machine.specs.Exec.{entered};
 ghost use Rattle.tera_machine.specs.Flow.{request_of, use_of};
 ghost use Rattle.tera_machine.specs.Subject.{IsLinked, template_of, place_at};
@@ -94,7 +93,8 @@ impl<'c> Configuration<'c> {
                 self.ended = Ended::joined(&ended, &self.ended);
                 let value = self.texts.value(self.alloc, true)?;
                 self.texts.end();
-                self.operands.push(Operand::new(value, span))
+                self.operands.push(Operand::new(value, span))?;
+                Ok(())
             }
         }
     }

@@ -68,7 +68,8 @@ impl<'c> Configuration<'c> {
         self.scopes.leave();
         let value = self.texts.value(self.alloc, safe)?;
         self.texts.end();
-        self.operands.push(Operand::new(value, span))
+        self.operands.push(Operand::new(value, span))?;
+        Ok(())
     }
 }
 

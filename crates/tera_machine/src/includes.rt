@@ -1,5 +1,5 @@
 // Templates that are included: how the machine enters their bodies, and how it leaves them.
-ghost use Rattle.std.specs.Prelude.{◌≡◌, ◌≢◌, ◌∷◌, [], OnOk, IfOk, IfErr};
+ghost use Rattle.std.specs.Prelude.{◌≡◌, ◌≢◌, [], OnOk, IfOk, IfErr};
 ghost use Rattle.tera_errors.specs.Answer.{Lacks};
 ghost use Rattle.tera_syntax_tree.specs.Blocks.{is_among};
 ghost use Rattle.tera_state.specs.Scope.{in_include};

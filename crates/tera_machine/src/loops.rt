@@ -1,5 +1,5 @@
 // Instructions of loops.
-ghost use Rattle.std.specs.Prelude.{◌≡◌, ◌≢◌, ◌∷◌, [], option_copied};
+ghost use Rattle.std.specs.Prelude.{◌≡◌, ◌≢◌, [], option_copied};
 ghost use Rattle.tera_errors.specs.Answer.{Gives};
 ghost use Rattle.tera_operators.specs.Operand.{placed};
 ghost use Rattle.tera_state.specs.Scope.{Heading, loop_turns};

@@ -1,5 +1,5 @@
 // Names and the attributes behind them, read where they lie.
-ghost use Rattle.std.specs.Prelude.{◌≡◌, ◌+◌, ◌-◌, ◌≤◌, ◌<◌, ◌^◌, Some, suc, length, slice_get, IfOk, IfErr, IfSome, unwrap_or};
+ghost use Rattle.std.specs.Prelude.{◌≡◌, ◌+◌, ◌-◌, ◌<◌, ◌^◌, Some, suc, length, slice_get, IfOk, IfErr, IfSome, unwrap_or};
 ghost use Rattle.tera_code.specs.declared.instruction.Instruction.TheVariants as instruction;
 ghost use Rattle.tera_values.specs.Val.{undefined};
 ghost use Rattle.tera_state.specs.Found.{found_value};

@@ -1,20 +1,23 @@
 // One instruction, as it lies in its chunk.
-ghost use Rattle.std.specs.Prelude.{◌≡◌, ◌+◌, ◌-◌, ◌≤◌, ◌<◌, ◌^◌, Some, suc, length, slice_get};
+ghost use Rattle.std.specs.Prelude.{◌≡◌, ◌+◌, ◌-◌, ◌<◌, ◌^◌, Some, suc, length, slice_get};
+ghost use Rattle.tera_errors.specs.Site.{Site};
 ghost use Rattle.tera_values.specs.Val.{int};
 ghost use Rattle.tera_machine.specs.Config.{config_of};
 ghost use Rattle.tera_machine.specs.Did.{pushed};
-ghost use Rattle.tera_machine.specs.Act.{act, IsReady, IsSmall, Does, going_on, name_written, name_loaded};
+ghost use Rattle.tera_machine.specs.Act.{act, IsReady, IsSmall, Does, going_on, going_on_if, name_written, name_loaded};
 ghost use Rattle.tera_machine.specs.Together.{done};
 ghost use Rattle.tera_machine.specs.Paths.{Stands, start_at};
 ghost use Rattle.tera_machine.specs.Subject.{here_of};
 ghost use Rattle.tera_state.specs.Scopes.{around_of};
 
+use crate::act::{going_on, going_on_if};
 use crate::configuration::Configuration;
 use crate::machine::{Flow, VirtualMachine};
-use std::alloc::Global;
+use std::alloc::{AllocError, Global};
 use std::sync::ledger::Ledger;
 use tera_code::{Chunk, LentInstruction, Steps};
 use tera_objects::Objects;
+use tera_operators::Operand;
 use tera_values::{Name, Span, TeraResult, Value};
 
 impl<'c> Configuration<'c> {
@@ -42,7 +45,7 @@ impl<'c> Configuration<'c> {
             chunk.now.code (suc (steps.new - steps.old)) at.old) self.old result self.new }
     {
         if let Some(text) = instruction.as_text() {
-            return self.write_text(text);
+            return going_on(self.write_text(text));
         }
         if let Some((name, span)) = instruction.as_written_name() {
             return self.write_named(machine, chunk.file(), name, span);
@@ -85,7 +88,7 @@ impl<'c> Configuration<'c> {
             Some((name, span)) if chunk.uses_top_at(*at + 1) => {
                 self.read(machine, chunk, at, name, span, steps)
             }
-            Some((name, span)) => self.load_named(machine.alloc, name, span),
+            Some((name, span)) => going_on(self.load_named(machine.alloc, name, span)),
             None => self.step(machine, chunk.file(), *at + 1, instruction),
         }
     }
@@ -107,7 +110,7 @@ impl<'c> Configuration<'c> {
             self.old result self.new }
     {
         if let Some((number, span)) = instruction.as_integer() {
-            return self.load_integer(number, span);
+            return going_on(self.load_integer(number, span));
         }
         if let Some((operator, span)) = instruction.as_binary() {
             return self.operate(machine.alloc, file, operator, span);
@@ -119,7 +122,7 @@ impl<'c> Configuration<'c> {
             return self.load_attribute(machine.alloc, file, name.as_str(), optional, span);
         }
         if let Some((name, is_global)) = instruction.as_store() {
-            return self.store(machine.alloc, name, is_global);
+            return going_on(self.store(machine.alloc, name, is_global));
         }
         self.act_unpacked(machine, file, next, instruction)
     }
@@ -143,10 +146,11 @@ impl<'c> Configuration<'c> {
     }
 
     #[inline(never)]
-    fn load_integer<'f>(&mut self, number: i64, span: Span) -> TeraResult<Flow<'f>>
-        ensures { Does (pushed (int number) span) self.old result self.new }
+    fn load_integer(&mut self, number: i64, span: Span) -> Result<(), AllocError>
+        ensures { Does (pushed (int number) span) self.old (going_on result) self.new }
     {
-        self.push(Value::from_int(i128::from(number)), span)
+        let value = Value::from_int(i128::from(number));
+        self.operands.push(Operand::new(value, span))
     }
 
     // What it does always goes on at the next instruction, so that no flow is handed out by the call.
@@ -161,29 +165,28 @@ impl<'c> Configuration<'c> {
         ensures { Does (name_written (here_of O.engine machine.now file.now self.old) name.now span)
             self.old result self.new }
     {
-        self.put_named(machine, file, name, span)?;
-        Ok(Flow::On)
+        let is_put = self.put_named(machine, name)?;
+        going_on_if(machine.alloc, file, span, is_put)
     }
 
     #[inline(never)]
     fn put_named<O: Objects>(
         &mut self,
         machine: &VirtualMachine<'_, O>,
-        file: &str,
         name: &Name,
-        span: Span,
-    ) -> TeraResult<()>
-        ensures { Does (name_written (here_of O.engine machine.now file.now self.old) name.now span)
-            self.old (going_on result) self.new }
+    ) -> Result<bool, AllocError>
+        ensures { (site : Site) → Does
+            (name_written (here_of O.engine machine.now site.file self.old) name.now site.span)
+            self.old (going_on_if site result) self.new }
     {
-        self.put_name(machine, file, &name.sought(), span)
+        self.put_name(machine, &name.sought())
     }
 
     // A name that nothing is read with.
     #[inline(never)]
-    fn load_named<'f>(&mut self, alloc: Global, name: &Name, span: Span) -> TeraResult<Flow<'f>>
+    fn load_named(&mut self, alloc: Global, name: &Name, span: Span) -> Result<(), AllocError>
         ensures { Does (name_loaded (around_of self.old.scopes) name.now span)
-            self.old result self.new }
+            self.old (going_on result) self.new }
     {
         self.load_name(alloc, &name.sought(), span)
     }

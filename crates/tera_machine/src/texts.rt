@@ -1,12 +1,12 @@
 // What a rendering puts out, and what is captured of it.
-ghost use Rattle.std.specs.Prelude.{◌≡◌, ◌≢◌, ◌++◌, ◌∷◌, [], Ok, OnOk, IfErr, string_bytes, drop, unwrap_or};
-ghost use Rattle.tera_errors.specs.Answer.{Gives, Lacks};
+ghost use Rattle.std.specs.Prelude.{◌≡◌, ◌≢◌, ◌++◌, ◌∷◌, [], Ok, OnOk, string_bytes, drop, unwrap_or};
+ghost use Rattle.tera_errors.specs.Answer.{Gives};
 ghost use Rattle.tera_values.specs.Val.{text, undefined};
 ghost use Rattle.tera_state.specs.Found.{found_value};
 ghost use Rattle.tera_state.specs.Rendered.{rendered};
 ghost use Rattle.tera_machine.specs.Layers.{around_layers, joined};
 
-use std::alloc::Global;
+use std::alloc::{AllocError, Global};
 use std::marker::Model;
 use tera_objects::Objects;
 use tera_state::{Found, Stack};
@@ -79,9 +79,9 @@ impl Texts {
     }
 
     /// This text at the end.
-    pub fn append(&mut self, text: &str) -> TeraResult<()>
-        ensures ok { OnOk result (self.new ≡ record self.old { now = self.old.now ++ text.now }) }
-        ensures lacks { IfErr result Lacks }
+    #[inline(always)]
+    pub fn append(&mut self, text: &str) -> Result<(), AllocError>
+        ensures { OnOk result (self.new ≡ record self.old { now = self.old.now ++ text.now }) }
     {
         self.all.push_str(text)?;
         Ok(())
@@ -95,11 +95,10 @@ impl Texts {
         objects: &O,
         autoescape: bool,
         value: &Value,
-    ) -> TeraResult<()>
-        ensures ok { OnOk result (self.new ≡ record self.old {
+    ) -> Result<(), AllocError>
+        ensures { OnOk result (self.new ≡ record self.old {
           now = self.old.now ++ rendered autoescape (O.engine objects.now).escape value.now;
         }) }
-        ensures lacks { IfErr result Lacks }
     {
         objects.write(alloc, autoescape, value, &mut self.all)
     }
@@ -112,22 +111,22 @@ impl Texts {
         objects: &O,
         autoescape: bool,
         found: Found<'_>,
-    ) -> TeraResult<()>
-        ensures ok { OnOk result (self.new ≡ record self.old {
+    ) -> Result<(), AllocError>
+        ensures { OnOk result (self.new ≡ record self.old {
           now = self.old.now ++ rendered autoescape (O.engine objects.now).escape
               (unwrap_or (found_value found.entry) undefined);
         }) }
-        ensures lacks { IfErr result Lacks }
     {
-        let value = found.to_value(alloc)?;
-        self.append_value(alloc, objects, autoescape, &value)
+        match found.to_value(alloc) {
+            Ok(value) => self.append_value(alloc, objects, autoescape, &value),
+            Err(_) => Err(AllocError),
+        }
     }
 
     /// A text of its own begins.
-    pub fn begin(&mut self) -> TeraResult<()>
-        ensures ok { OnOk result (self.new
+    pub fn begin(&mut self) -> Result<(), AllocError>
+        ensures { OnOk result (self.new
             ≡ record { now = []; below = self.old.now ∷ self.old.below }) }
-        ensures lacks { IfErr result Lacks }
     {
         self.outer.push(self.start)?;
         self.start = self.all.len();

@@ -1,9 +1,9 @@
 -- Calls with values of bytes.
-use Rattle.std.proofs.Common.{◌≡◌, ◌||◌, is_some, Bool, List, [], ◌∷◌, Option, Some, None, option_map, Result, refl, sym, ap, ap₂, subst, ◌∙◌}
+use Rattle.std.proofs.Common.{◌≡◌, ◌||◌, is_some, Bool, [], ◌∷◌, Option, Some, None, option_map, Result, refl, sym, ap, ap₂, subst, ◌∙◌}
 use Rattle.tera_errors.specs.Fault.{Fault}
 use Rattle.tera_errors.specs.Answer.{Refusal, Gives}
 use Rattle.tera_values.specs.Alphabet.{plain}
-use Rattle.tera_errors.specs.Site.{Name}
+use Rattle.tera_errors.specs.Site.{Name, Text}
 use Rattle.tera_values.specs.Named.{Named, at_name}
 use Rattle.tera_values.specs.Val.{Val}
 use Rattle.tera_built_ins.specs.declared.filter.BuiltInFilter.{BuiltInFilter}
@@ -16,11 +16,12 @@ use Rattle.tera_built_ins.specs.FunctionTable.{function_named, function_in, call
 use Rattle.tera_state.specs.Scope.{Around, Variables}
 use Rattle.tera_state.specs.View.{View, Standing, view_at, filters_left, escaping_in}
 use Rattle.tera_objects.specs.Calling.{answer_of, all_bare, seen_in, filter_called, test_called, function_called, filtered_by, tested_by, called_by}
-use Rattle.tera_objects.specs.Engine.{OwnFilter, OwnTest, OwnFunction, own_or_built_in}
-use Rattle.tera_objects.specs.Kept.{Meanings, each, engine_of}
+use Rattle.tera_objects.specs.Engine.{Engine, OwnFilter, OwnTest, OwnFunction, own_or_built_in}
+use Rattle.tera_objects.specs.Kept.{each}
 use Rattle.tera_objects.specs.Table.{listed}
 use Rattle.tera_objects.specs.declared.over.ObjectsOver.{ObjectsOver}
 use Rattle.tera_objects.proofs.Each.{at-each, is_some-map}
+use Rattle.tera_objects.proofs.Registered.{engine}
 use Rattle.tera_objects.proofs.Taken.{left}
 
 -- values of bytes have no marks
@@ -55,62 +56,67 @@ known-by meaning n here b =
     ∙ ap (λ t. is_some b || t) (ap is_some (at-each meaning n here) ∙ is_some-map meaning (at_name n here))
 
 -- what calls answer where the scopes are these
-module _ {E F T G : Type 0} (m : Meanings E F T G) (o : ObjectsOver E F T G) (around : Around) (variables : Variables) (autoescape : Bool) where
-  -- the view there
+module _ {E F T G : Type 0} (escape : E → Text → Text) (filter : F → OwnFilter) (o : ObjectsOver E F T G) (around : Around) (variables : Variables) (autoescape : Bool) where
+  -- an engine whose escape and filters are those that are kept, which mean this
+  abbrev engine_with : Named OwnTest → Named OwnFunction → Engine
+  engine_with tests functions =
+      engine (escape_or_html escape o.escape) (each filter (listed o.filters.table)) tests functions
+
+  -- the view there, of which tests and functions are no part
   abbrev here : View
-  here = seen_in plain (engine_of m o) around variables autoescape
+  here = seen_in plain (engine_with [] []) around variables autoescape
 
   -- and as it is lent
-  abbrev lent : List Name → View
-  lent taken = view_at around variables autoescape (escape_or_html m.escape o.escape) (filters_left (Some taken))
+  abbrev lent : View
+  lent = view_at around variables autoescape (escape_or_html escape o.escape) (filters_left (Some o.filters.taken.items))
 
-  lent-here : {s : View} {taken : List Name} → s ≡ lent taken → taken ≡ o.filters.taken.items → s ≡ here
-  lent-here same names =
-      same ∙ ap lent names
-      ∙ ap (λ (standing : Standing). view_at around variables autoescape (escape_or_html m.escape o.escape) standing) (left m.filter o.filters.taken.items (listed o.filters.table) o.filters.are_taken)
+  lent-here : {s : View} → s ≡ lent → s ≡ here
+  lent-here same =
+      same
+      ∙ ap (λ (standing : Standing). view_at around variables autoescape (escape_or_html escape o.escape) standing) (left filter o.filters.taken.items (listed o.filters.table) o.filters.are_taken)
 
   module _ (name : Name) (given : Named Val) where
     module _ (v : Val) (result : Result Val Refusal) where
-      pub own-filter : {s : View} {taken : List Name} {f : F} → s ≡ lent taken → taken ≡ o.filters.taken.items → Some f ≡ at_name name (listed o.filters.table)
-          → Gives (λ (a : Val). a) result (answer_of (m.filter f).safe ((m.filter f).meaning v given s)) → Gives (λ (a : Val). a) result (filtered_by plain (engine_of m o) here name v given)
-      own-filter {s} {taken} {f} same names there gives =
+      pub own-filter : {s : View} {f : F} → s ≡ lent → Some f ≡ at_name name (listed o.filters.table)
+          → Gives (λ (a : Val). a) result (answer_of (filter f).safe ((filter f).meaning v given s)) → Gives (λ (a : Val). a) result (filtered_by plain (engine_with [] []) here name v given)
+      own-filter {s} {f} same there gives =
           subst (λ (meant : Result Val Fault). Gives (λ (a : Val). a) result meant)
-          (ap₂ (λ (w : View) (l : Named Val). answer_of (m.filter f).safe ((m.filter f).meaning v l w)) (lent-here same names) (sym (all_bare-plain given))
-          ∙ ap (λ (x : Option OwnFilter). filter_called plain here (own_or_built_in x (filter_named name)) v given) (ap (option_map m.filter) there ∙ sym (at-each m.filter name (listed o.filters.table))))
+          (ap₂ (λ (w : View) (l : Named Val). answer_of (filter f).safe ((filter f).meaning v l w)) (lent-here same) (sym (all_bare-plain given))
+          ∙ ap (λ (x : Option OwnFilter). filter_called plain here (own_or_built_in x (filter_named name)) v given) (ap (option_map filter) there ∙ sym (at-each filter name (listed o.filters.table))))
           gives
 
-      pub no-own-filter : at_name name (listed o.filters.table) ≡ None → Gives (λ (a : Val). a) result (filtered_in plain (escaping_in here) name v given) → Gives (λ (a : Val). a) result (filtered_by plain (engine_of m o) here name v given)
+      pub no-own-filter : at_name name (listed o.filters.table) ≡ None → Gives (λ (a : Val). a) result (filtered_in plain (escaping_in here) name v given) → Gives (λ (a : Val). a) result (filtered_by plain (engine_with [] []) here name v given)
       no-own-filter absent gives =
           subst (λ (meant : Result Val Fault). Gives (λ (a : Val). a) result meant)
-          (sym (ap (λ (x : Option OwnFilter). filter_called plain here (own_or_built_in x (filter_named name)) v given) (at-each m.filter name (listed o.filters.table) ∙ ap (option_map m.filter) absent) ∙ built_in-filter here given v (filter_named name)))
+          (sym (ap (λ (x : Option OwnFilter). filter_called plain here (own_or_built_in x (filter_named name)) v given) (at-each filter name (listed o.filters.table) ∙ ap (option_map filter) absent) ∙ built_in-filter here given v (filter_named name)))
           gives
 
-    module _ (v : Val) (result : Result Bool Refusal) where
-      pub own-test : {s : View} {taken : List Name} {t : T} → s ≡ lent taken → taken ≡ o.filters.taken.items → Some t ≡ at_name name (listed o.tests)
-          → Gives (λ (b : Bool). b) result ((m.test t).meaning v given s) → Gives (λ (b : Bool). b) result (tested_by plain (engine_of m o) here name v given)
-      own-test {s} {taken} {t} same names there gives =
+    module _ (test : T → OwnTest) (v : Val) (result : Result Bool Refusal) where
+      pub own-test : {s : View} {t : T} → s ≡ lent → Some t ≡ at_name name (listed o.tests)
+          → Gives (λ (b : Bool). b) result ((test t).meaning v given s) → Gives (λ (b : Bool). b) result (tested_by plain (engine_with (each test (listed o.tests)) []) here name v given)
+      own-test {s} {t} same there gives =
           subst (λ (meant : Result Bool Fault). Gives (λ (b : Bool). b) result meant)
-          (ap₂ (λ (w : View) (l : Named Val). (m.test t).meaning v l w) (lent-here same names) (sym (all_bare-plain given))
-          ∙ ap (λ (x : Option OwnTest). test_called plain here (own_or_built_in x (test_named name)) v given) (ap (option_map m.test) there ∙ sym (at-each m.test name (listed o.tests))))
+          (ap₂ (λ (w : View) (l : Named Val). (test t).meaning v l w) (lent-here same) (sym (all_bare-plain given))
+          ∙ ap (λ (x : Option OwnTest). test_called plain here (own_or_built_in x (test_named name)) v given) (ap (option_map test) there ∙ sym (at-each test name (listed o.tests))))
           gives
 
-      pub no-own-test : at_name name (listed o.tests) ≡ None → Gives (λ (b : Bool). b) result (tested_in plain name v given) → Gives (λ (b : Bool). b) result (tested_by plain (engine_of m o) here name v given)
+      pub no-own-test : at_name name (listed o.tests) ≡ None → Gives (λ (b : Bool). b) result (tested_in plain name v given) → Gives (λ (b : Bool). b) result (tested_by plain (engine_with (each test (listed o.tests)) []) here name v given)
       no-own-test absent gives =
           subst (λ (meant : Result Bool Fault). Gives (λ (b : Bool). b) result meant)
-          (sym (ap (λ (x : Option OwnTest). test_called plain here (own_or_built_in x (test_named name)) v given) (at-each m.test name (listed o.tests) ∙ ap (option_map m.test) absent) ∙ built_in-test here given v (test_named name)))
+          (sym (ap (λ (x : Option OwnTest). test_called plain here (own_or_built_in x (test_named name)) v given) (at-each test name (listed o.tests) ∙ ap (option_map test) absent) ∙ built_in-test here given v (test_named name)))
           gives
 
-    module _ (result : Result Val Refusal) where
-      pub own-function : {s : View} {taken : List Name} {f : G} → s ≡ lent taken → taken ≡ o.filters.taken.items → Some f ≡ at_name name (listed o.functions)
-          → Gives (λ (a : Val). a) result (answer_of (m.function f).safe ((m.function f).meaning given s)) → Gives (λ (a : Val). a) result (called_by plain (engine_of m o) here name given)
-      own-function {s} {taken} {f} same names there gives =
+    module _ (function : G → OwnFunction) (result : Result Val Refusal) where
+      pub own-function : {s : View} {f : G} → s ≡ lent → Some f ≡ at_name name (listed o.functions)
+          → Gives (λ (a : Val). a) result (answer_of (function f).safe ((function f).meaning given s)) → Gives (λ (a : Val). a) result (called_by plain (engine_with [] (each function (listed o.functions))) here name given)
+      own-function {s} {f} same there gives =
           subst (λ (meant : Result Val Fault). Gives (λ (a : Val). a) result meant)
-          (ap₂ (λ (w : View) (l : Named Val). answer_of (m.function f).safe ((m.function f).meaning l w)) (lent-here same names) (sym (all_bare-plain given))
-          ∙ ap (λ (x : Option OwnFunction). function_called plain here (own_or_built_in x (function_named name)) given) (ap (option_map m.function) there ∙ sym (at-each m.function name (listed o.functions))))
+          (ap₂ (λ (w : View) (l : Named Val). answer_of (function f).safe ((function f).meaning l w)) (lent-here same) (sym (all_bare-plain given))
+          ∙ ap (λ (x : Option OwnFunction). function_called plain here (own_or_built_in x (function_named name)) given) (ap (option_map function) there ∙ sym (at-each function name (listed o.functions))))
           gives
 
-      pub no-own-function : at_name name (listed o.functions) ≡ None → Gives (λ (a : Val). a) result (called_in plain name given) → Gives (λ (a : Val). a) result (called_by plain (engine_of m o) here name given)
+      pub no-own-function : at_name name (listed o.functions) ≡ None → Gives (λ (a : Val). a) result (called_in plain name given) → Gives (λ (a : Val). a) result (called_by plain (engine_with [] (each function (listed o.functions))) here name given)
       no-own-function absent gives =
           subst (λ (meant : Result Val Fault). Gives (λ (a : Val). a) result meant)
-          (sym (ap (λ (x : Option OwnFunction). function_called plain here (own_or_built_in x (function_named name)) given) (at-each m.function name (listed o.functions) ∙ ap (option_map m.function) absent) ∙ built_in-function here given (function_named name)))
+          (sym (ap (λ (x : Option OwnFunction). function_called plain here (own_or_built_in x (function_named name)) given) (at-each function name (listed o.functions) ∙ ap (option_map function) absent) ∙ built_in-function here given (function_named name)))
           gives

@@ -56,11 +56,21 @@ module _ {A : Type 0} (stands : Name → Bool) where
   more-new : (here : Named A) (e : Name × A) → (stands e.0 || is_some (at_name e.0 here)) ≡ false → more stands here e ≡ put e.0 e.1 here
   more-new here e h = rw h refl
 
-  module _ (os old here : Named A) (k : ℕ) (e : Name × A) (rest : Named A) (turn : e ∷ rest ≡ drop k os) (so_far : here ≡ moved stands old (take k os)) where
+  -- some of the others are gone through, and these are left
+  abbrev pub GoneThrough : (os old rest here : Named A) → Type 0
+  GoneThrough os old rest here =
+      (k : ℕ) × (rest ≡ drop k os) × (here ≡ moved stands old (take k os))
+
+  module _ {os old here : Named A} {e : Name × A} {rest : Named A} (so_far : GoneThrough os old (e ∷ rest) here) where
+    step : (new : Named A) → more stands here e ≡ new → GoneThrough os old rest new
+    step new is =
+        let by = moved-step os so_far.0 old e rest so_far.1 in
+        (suc so_far.0, by.0, sym (by.1 ∙ ap (λ m. more stands m e) (sym so_far.2) ∙ is))
+
     -- one that stays away
-    pub step-old : (stands e.0 || is_some (at_name e.0 here)) ≡ true → here ≡ moved stands old (take (suc k) os)
-    step-old there = sym ((moved-step os k old e rest turn).1 ∙ ap (λ m. more stands m e) (sym so_far) ∙ more-old here e there)
+    pub step-old : (stands e.0 || is_some (at_name e.0 here)) ≡ true → GoneThrough os old rest here
+    step-old there = step here (more-old here e there)
 
     -- one that is moved here
-    pub step-new : (new : Named A) → (stands e.0 || is_some (at_name e.0 here)) ≡ false → new ≡ put e.0 e.1 here → new ≡ moved stands old (take (suc k) os)
-    step-new new absent put_in = put_in ∙ sym ((moved-step os k old e rest turn).1 ∙ ap (λ m. more stands m e) (sym so_far) ∙ more-new here e absent)
+    pub step-new : (new : Named A) → (stands e.0 || is_some (at_name e.0 here)) ≡ false → new ≡ put e.0 e.1 here → GoneThrough os old rest new
+    step-new new absent put_in = step new (more-new here e absent ∙ sym put_in)

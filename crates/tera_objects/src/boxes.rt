@@ -1,6 +1,6 @@
 // The caller's boxes, and what they are lent.
-ghost use Rattle.std.specs.Prelude.{◌≡◌, ◌++◌, Some, string_bytes, OnOk, OnErr, IfErr};
-ghost use Rattle.tera_errors.specs.Answer.{Gives, Lacks};
+ghost use Rattle.std.specs.Prelude.{◌≡◌, ◌++◌, Some, string_bytes, OnOk, OnErr};
+ghost use Rattle.tera_errors.specs.Answer.{Gives};
 ghost use Rattle.tera_values.specs.Alphabet.{plain};
 ghost use Rattle.tera_built_ins.specs.Filters.{filtered_in};
 ghost use Rattle.tera_built_ins.specs.TestTable.{tested_in};
@@ -12,24 +12,26 @@ ghost use Rattle.tera_state.specs.Scopes.{around_of, variables_of};
 ghost use Rattle.tera_objects.specs.Calling.{answer_of};
 
 use crate::marked::marked_if;
-use std::alloc::Global;
+use crate::over::CallerObjects;
+use std::alloc::{AllocError, Global};
 use tera_built_ins::{BuiltInFilter, BuiltInFunction, BuiltInTest, EscapeFn, Escaping};
 use tera_state::{Filter, Function, Scopes, State, StateOver, Test, write_value};
-use tera_values::{Error, Kwargs, Name, TeraResult, Value};
+use tera_values::{Error, Kwargs, TeraResult, Value};
 
-/// The state that an object sees: the scopes, the escape, and the built-in filters but those whose names are taken.
+/// The state that an object of these sees: the scopes, the escape, and the built-in filters but those whose names are taken.
 pub(crate) fn lent<'a, 'c>(
-    escape: &'a Option<Box<dyn EscapeFn>>,
-    taken: &'a [Name],
+    objects: &'a CallerObjects,
     scopes: &'a Scopes<'c>,
     autoescape: bool,
 ) -> StateOver<'a, 'c, &'a dyn EscapeFn>
     ensures { view_of (λ e. escaped e.now) result
         ≡ view_at (around_of scopes.now) (variables_of scopes.now) autoescape
-        (escape_or_html (λ b. (⟦<dyn EscapeFn as EscapeFn>⟧ b.vtable).escaped b.value) escape.now)
-        (filters_left (Some taken.now)) }
+        (escape_or_html
+        (λ b. (⟦<dyn EscapeFn as EscapeFn>⟧ b.vtable).escaped b.value) objects.now.escape)
+        (filters_left (Some objects.now.filters.taken.items)) }
 {
-    match escape {
+    let taken = objects.filters.taken.as_slice();
+    match &objects.escape {
         Some(escape) => scopes.state(autoescape, Some(&**escape), Some(taken)),
         None => scopes.state(autoescape, None, Some(taken)),
     }
@@ -54,12 +56,11 @@ pub(crate) fn write_by(
     autoescape: bool,
     value: &Value,
     out: &mut String,
-) -> TeraResult<()>
+) -> Result<(), AllocError>
     ensures ok { OnOk result (string_bytes out.new ≡ string_bytes out.old ++ rendered autoescape
         (escape_or_html (λ b. (⟦<dyn EscapeFn as EscapeFn>⟧ b.vtable).escaped b.value) escape.now)
         value.now) }
     ensures err { OnErr result (string_bytes out.new ≡ string_bytes out.old) }
-    ensures lacks { IfErr result Lacks }
 {
     let lent = lent_escape(escape);
     let escaping = Escaping {

@@ -5,7 +5,7 @@ use crate::boxes::{
 };
 use crate::objects::Objects;
 use crate::over::ObjectsOver;
-use std::alloc::Global;
+use std::alloc::{AllocError, Global};
 use tera_built_ins::EscapeFn;
 use tera_state::{Filter, Function, Scopes, Test};
 use tera_values::{Kwargs, TeraResult, Value};
@@ -34,7 +34,7 @@ impl Objects for ObjectsOver<Box<dyn EscapeFn>, Box<dyn Filter>, Box<dyn Test>, 
         autoescape: bool,
         value: &Value,
         out: &mut String,
-    ) -> TeraResult<()> {
+    ) -> Result<(), AllocError> {
         if value.as_i128().is_some() {
             return value.print_to(out);
         }
@@ -68,12 +68,7 @@ impl Objects for ObjectsOver<Box<dyn EscapeFn>, Box<dyn Filter>, Box<dyn Test>, 
         let Some(filter) = self.filters.table.get(name) else {
             return built_in_answer(&self.escape, alloc, autoescape, name, value, &arguments);
         };
-        let state = lent(
-            &self.escape,
-            self.filters.taken.as_slice(),
-            scopes,
-            autoescape,
-        );
+        let state = lent(self, scopes, autoescape);
         filter_answer(filter, value, arguments, &state)
     }
 
@@ -89,12 +84,7 @@ impl Objects for ObjectsOver<Box<dyn EscapeFn>, Box<dyn Filter>, Box<dyn Test>, 
         let Some(test) = self.tests.get(name) else {
             return built_in_test_answer(alloc, name, value, &arguments);
         };
-        let state = lent(
-            &self.escape,
-            self.filters.taken.as_slice(),
-            scopes,
-            autoescape,
-        );
+        let state = lent(self, scopes, autoescape);
         test_answer(test, value, arguments, &state)
     }
 
@@ -109,12 +99,7 @@ impl Objects for ObjectsOver<Box<dyn EscapeFn>, Box<dyn Filter>, Box<dyn Test>, 
         let Some(function) = self.functions.get(name) else {
             return built_in_function_answer(alloc, name, &arguments);
         };
-        let state = lent(
-            &self.escape,
-            self.filters.taken.as_slice(),
-            scopes,
-            autoescape,
-        );
+        let state = lent(self, scopes, autoescape);
         function_answer(function, arguments, &state)
     }
 }

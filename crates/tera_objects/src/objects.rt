@@ -1,13 +1,13 @@
 // What a rendering asks of an engine's objects.
-ghost use Rattle.std.specs.Prelude.{◌≡◌, ◌++◌, string_bytes, OnOk, OnErr, IfErr};
-ghost use Rattle.tera_errors.specs.Answer.{Gives, Lacks};
+ghost use Rattle.std.specs.Prelude.{◌≡◌, ◌++◌, string_bytes, OnOk, OnErr};
+ghost use Rattle.tera_errors.specs.Answer.{Gives};
 ghost use Rattle.tera_values.specs.Alphabet.{plain};
 ghost use Rattle.tera_state.specs.Rendered.{rendered};
 ghost use Rattle.tera_state.specs.Scopes.{around_of, variables_of};
 ghost use Rattle.tera_objects.specs.Engine.{Engine, has_filter, has_test, has_function};
 ghost use Rattle.tera_objects.specs.Calling.{seen_in, filtered_by, tested_by, called_by};
 
-use std::alloc::Global;
+use std::alloc::{AllocError, Global};
 use tera_state::Scopes;
 use tera_values::{Kwargs, TeraResult, Value};
 
@@ -25,11 +25,10 @@ pub trait Objects: Drop {
         autoescape: bool,
         value: &Value,
         out: &mut String,
-    ) -> TeraResult<()>
+    ) -> Result<(), AllocError>
         ensures ok { OnOk result (string_bytes out.new
             ≡ string_bytes out.old ++ rendered autoescape (engine self.now).escape value.now) }
-        ensures err { OnErr result (string_bytes out.new ≡ string_bytes out.old) }
-        ensures lacks { IfErr result Lacks };
+        ensures err { OnErr result (string_bytes out.new ≡ string_bytes out.old) };
 
     /// Whether the name stands for a filter.
     fn has_filter(&self, name: &str) -> bool

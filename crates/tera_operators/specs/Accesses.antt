@@ -5,7 +5,7 @@ use Rattle.tera_errors.specs.Site.{Name}
 use Rattle.tera_errors.specs.Fault.{Fault}
 use Rattle.tera_errors.specs.Answer.{Refusal, Says}
 use Rattle.tera_values.specs.Alphabet.{Alphabet, plain}
-use Rattle.tera_values.specs.Val.{ValOf, undefined, none, bool, int, text, bytes, array, map}
+use Rattle.tera_values.specs.Val.{ValOf, undefined, none, int}
 use Rattle.tera_values.specs.Access.{attr, is_undefined}
 use Rattle.tera_values.specs.Items.{get_item_in, or_undefined}
 use Rattle.tera_values.specs.Slices.{slice_in}
@@ -14,12 +14,7 @@ use Rattle.tera_operators.specs.Operand.{Evaluated, EvaluatedOf, Outcome, Outcom
 abbrev pub is_missing : {C : Type 0} → ValOf C → Bool
 is_missing undefined = true
 is_missing none = true
-is_missing (bool b) = false
-is_missing (int z) = false
-is_missing (text t s) = false
-is_missing (bytes t) = false
-is_missing (array vs) = false
-is_missing (map es) = false
+is_missing other = false
 
 -- a part of a value that is not undefined; the optional form gives undefined for undefined and none
 abbrev pub part_of : {C : Type 0} → Name → Bool → EvaluatedOf C → Span → OutcomeOf C → OutcomeOf C
@@ -48,12 +43,7 @@ item_in a file optional target index span =
 abbrev pub bound_of : {C : Type 0} → ValOf C → Option (Option ℤ)
 bound_of none = Some None
 bound_of (int z) = Some (Some z)
-bound_of undefined = None
-bound_of (bool b) = None
-bound_of (text t s) = None
-bound_of (bytes t) = None
-bound_of (array vs) = None
-bound_of (map es) = None
+bound_of other = None
 
 abbrev pub bound_at : {C : Type 0} → Name → EvaluatedOf C → Result (Option ℤ) Fault
 bound_at file a = known file (bound_of a.value) a.span

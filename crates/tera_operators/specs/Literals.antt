@@ -5,29 +5,17 @@ use Rattle.tera_errors.specs.declared.span.Span.{Span}
 use Rattle.tera_errors.specs.Site.{Name}
 use Rattle.tera_errors.specs.Fault.{Fault}
 use Rattle.tera_syntax_tree.specs.Tree.{Key, BoolKey, IntKey, TextKey}
-use Rattle.tera_values.specs.Val.{ValOf, KeyVal, kbool, kint, ktext, undefined, none, bool, int, text, bytes, array, map, list_of, vals, entries}
+use Rattle.tera_values.specs.Val.{ValOf, KeyVal, kbool, kint, ktext, array, map, list_of, vals, entries}
 use Rattle.tera_values.specs.Access.{find, insert_pair, pairs}
 use Rattle.tera_operators.specs.Operand.{EvaluatedOf, OutcomeOf, at_span, known, then}
 
 abbrev pub items_of : {C : Type 0} → ValOf C → Option (List (ValOf C))
 items_of (array vs) = Some (list_of vs)
-items_of undefined = None
-items_of none = None
-items_of (bool b) = None
-items_of (int z) = None
-items_of (text t s) = None
-items_of (bytes t) = None
-items_of (map es) = None
+items_of other = None
 
 abbrev pub pairs_of : {C : Type 0} → ValOf C → Option (List (KeyVal × ValOf C))
 pairs_of (map es) = Some (pairs es)
-pairs_of undefined = None
-pairs_of none = None
-pairs_of (bool b) = None
-pairs_of (int z) = None
-pairs_of (text t s) = None
-pairs_of (bytes t) = None
-pairs_of (array vs) = None
+pairs_of other = None
 
 -- an item, or the items of an array that is spread, before those that follow
 abbrev pub item_before : {C : Type 0} → Name → Bool → EvaluatedOf C → List (ValOf C) → Result (List (ValOf C)) Fault

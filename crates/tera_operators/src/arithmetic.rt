@@ -1,9 +1,9 @@
 // Arithmetic, with each fault at its place.
-ghost use Rattle.std.specs.Prelude.{◌≡◌, Result, IsOk};
+ghost use Rattle.std.specs.Prelude.{ℤ, Result, IsOk};
 ghost use Rattle.tera_errors.specs.Fault.{Fault};
 ghost use Rattle.tera_errors.specs.Answer.{Gives};
 ghost use Rattle.tera_values.specs.Val.{Val};
-ghost use Rattle.tera_values.specs.Number.{add, sub, mul, div, floor_div, rem, pow};
+ghost use Rattle.tera_values.specs.Number.{integers, on_integers, unless_zero};
 ghost use Rattle.tera_operators.specs.Operators.{number_at, numbers, divisor_of, combined, calculated, divided, negative_of};
 
 use crate::operand::Operand;
@@ -12,7 +12,6 @@ use std::alloc::Global;
 use tera_values::{Error, TeraResult, Value, number};
 
 /// The number; a fault at the operand where it is none.
-#[inline(always)]
 fn number_at(alloc: Global, file: &str, operand: &Operand) -> TeraResult<i128>
     ensures value { Gives (λ n. n) result (number_at file.now operand.now) }
     ensures ready { IsOk (number_at file.now operand.now) → IsOk result }
@@ -24,7 +23,6 @@ fn number_at(alloc: Global, file: &str, operand: &Operand) -> TeraResult<i128>
 }
 
 /// Both numbers; of two operands that are none the left one is the fault.
-#[inline(always)]
 fn numbers(alloc: Global, file: &str, left: &Operand, right: &Operand) -> TeraResult<(i128, i128)>
     ensures value { Gives (λ p. p) result (numbers file.now left.now right.now) }
     ensures ready { IsOk (numbers file.now left.now right.now) → IsOk result }
@@ -48,7 +46,7 @@ fn divisor(alloc: Global, file: &str, left: &Operand, right: &Operand) -> TeraRe
 
 /// The number, or the fault, at the combined span.
 #[inline(always)]
-fn combined(
+pub(crate) fn combined(
     alloc: Global,
     file: &str,
     answer: TeraResult<Value>,
@@ -63,6 +61,50 @@ fn combined(
     operand_or_fault(alloc, file, answer, span, span)
 }
 
+/// The same of a calculation with two numbers: an operand that is none is the fault before all else. Only where the number was
+/// refused are the operands looked at, since what gives a number was given two.
+#[inline(always)]
+pub(crate) fn calculated(
+    alloc: Global,
+    file: &str,
+    answer: TeraResult<Value>,
+    left: &Operand,
+    right: &Operand,
+) -> TeraResult<Operand>
+    ensures value { (f : ℤ → ℤ → Result Val Fault) →
+        Gives (λ v. v) answer (on_integers f (integers left.now.value right.now.value)) →
+        Gives (λ o. o) result (calculated file.now (λ v w. on_integers f (integers v w))
+        left.now right.now) }
+    ensures ready { IsOk answer → IsOk result }
+{
+    if answer.is_err() {
+        numbers(alloc, file, left, right)?;
+    }
+    combined(alloc, file, answer, left, right)
+}
+
+/// The same of a division, at whose zero divisor the fault is at the right operand.
+#[inline(always)]
+pub(crate) fn divided(
+    alloc: Global,
+    file: &str,
+    answer: TeraResult<Value>,
+    left: &Operand,
+    right: &Operand,
+) -> TeraResult<Operand>
+    ensures value { (f : ℤ → ℤ → Result Val Fault) →
+        let divide : Val → Val → Result Val Fault =
+        λ v w. on_integers (λ a b. unless_zero b (f a b)) (integers v w) in
+        Gives (λ v. v) answer (divide left.now.value right.now.value) →
+        Gives (λ o. o) result (divided file.now divide left.now right.now) }
+    ensures ready { IsOk answer → IsOk result }
+{
+    if answer.is_err() {
+        divisor(alloc, file, left, right)?;
+    }
+    combined(alloc, file, answer, left, right)
+}
+
 /// `-operand`, at the operand's span, as its faults are.
 pub fn negative(alloc: Global, file: &str, operand: &Operand) -> TeraResult<Operand>
     ensures value { Gives (λ o. o) result (negative_of file.now operand.now) }
@@ -70,105 +112,4 @@ pub fn negative(alloc: Global, file: &str, operand: &Operand) -> TeraResult<Oper
 {
     let answer = number::negate(alloc, operand.value());
     operand_or_fault(alloc, file, answer, operand.span(), operand.span())
-}
-
-/// `left + right`; all faults are at the combined span.
-pub(crate) fn add(alloc: Global, file: &str, left: &Operand, right: &Operand) -> TeraResult<Operand>
-    ensures value { Gives (λ o. o) result
-        (combined file.now left.now right.now (add left.now.value right.now.value)) }
-    ensures ready { IsOk (combined file.now left.now right.now (add left.now.value right.now.value))
-        → IsOk result }
-{
-    let answer = number::add(alloc, left.value(), right.value());
-    combined(alloc, file, answer, left, right)
-}
-
-/// `left - right`
-pub(crate) fn subtract(
-    alloc: Global,
-    file: &str,
-    left: &Operand,
-    right: &Operand,
-) -> TeraResult<Operand>
-    ensures value { Gives (λ o. o) result (calculated file.now sub left.now right.now) }
-    ensures ready { IsOk (calculated file.now sub left.now right.now) → IsOk result }
-{
-    numbers(alloc, file, left, right)?;
-    let answer = number::sub(alloc, left.value(), right.value());
-    combined(alloc, file, answer, left, right)
-}
-
-/// `left * right`
-pub(crate) fn multiply(
-    alloc: Global,
-    file: &str,
-    left: &Operand,
-    right: &Operand,
-) -> TeraResult<Operand>
-    ensures value { Gives (λ o. o) result (calculated file.now mul left.now right.now) }
-    ensures ready { IsOk (calculated file.now mul left.now right.now) → IsOk result }
-{
-    numbers(alloc, file, left, right)?;
-    let answer = number::mul(alloc, left.value(), right.value());
-    combined(alloc, file, answer, left, right)
-}
-
-/// `left ** right`
-pub(crate) fn power(
-    alloc: Global,
-    file: &str,
-    left: &Operand,
-    right: &Operand,
-) -> TeraResult<Operand>
-    ensures value { Gives (λ o. o) result (calculated file.now pow left.now right.now) }
-    ensures ready { IsOk (calculated file.now pow left.now right.now) → IsOk result }
-{
-    numbers(alloc, file, left, right)?;
-    let answer = number::pow(alloc, left.value(), right.value());
-    combined(alloc, file, answer, left, right)
-}
-
-/// `left / right`, which is exact.
-pub(crate) fn divide(
-    alloc: Global,
-    file: &str,
-    left: &Operand,
-    right: &Operand,
-) -> TeraResult<Operand>
-    ensures value { Gives (λ o. o) result (divided file.now div left.now right.now) }
-    ensures ready { IsOk (divided file.now div left.now right.now) → IsOk result }
-{
-    divisor(alloc, file, left, right)?;
-    let answer = number::div(alloc, left.value(), right.value());
-    combined(alloc, file, answer, left, right)
-}
-
-/// `left // right`
-pub(crate) fn floor_divide(
-    alloc: Global,
-    file: &str,
-    left: &Operand,
-    right: &Operand,
-) -> TeraResult<Operand>
-    ensures value { Gives (λ o. o) result (divided file.now floor_div left.now right.now) }
-    ensures ready { IsOk (divided file.now floor_div left.now right.now) → IsOk result }
-{
-    divisor(alloc, file, left, right)?;
-    let answer = number::floor_div(alloc, left.value(), right.value());
-    combined(alloc, file, answer, left, right)
-}
-
-/// `left % right`
-pub(crate) fn remainder(
-    alloc: Global,
-    file: &str,
-    left: &Operand,
-    right: &Operand,
-) -> TeraResult<Operand>
-    ensures value { Gives (λ o. o) result (divided file.now rem left.now right.now) }
-    ensures ready { IsOk (divided file.now rem left.now right.now) → IsOk result }
-{
-    divisor(alloc, file, left, right)?;
-    let answer = number::rem(alloc, left.value(), right.value());
-    combined(alloc, file, answer, left, right)
 }

@@ -1,9 +1,8 @@
 // Truth, equality and order.
-ghost use Rattle.std.specs.Prelude.{◌≡◌, not, IsOk};
-ghost use Rattle.std.specs.Ordering.{is_lt, is_gt, is_le, is_ge};
+ghost use Rattle.std.specs.Prelude.{◌≡◌, Bool, IsOk};
 ghost use Rattle.tera_errors.specs.Answer.{Gives};
 ghost use Rattle.tera_values.specs.Val.{bool};
-ghost use Rattle.tera_values.specs.Order.{same, checked_order};
+ghost use Rattle.tera_values.specs.Order.{checked_order};
 ghost use Rattle.tera_operators.specs.Operand.{spanning};
 ghost use Rattle.tera_operators.specs.Operators.{not_of, standing_of, compared};
 
@@ -25,30 +24,10 @@ pub fn not(operand: &Operand) -> Operand
 
 /// A truth value at the combined span.
 #[inline(always)]
-fn truth(flag: bool, left: &Operand, right: &Operand) -> Operand
+pub(crate) fn truth(flag: bool, left: &Operand, right: &Operand) -> Operand
     ensures { result ≡ record { value = bool flag; span = spanning left.now right.now } }
 {
     Operand::new(Value::from_bool(flag), spanning(left, right))
-}
-
-/// `left == right`: whether kind and content are the same, marks aside.
-pub(crate) fn equal(left: &Operand, right: &Operand) -> Operand
-    ensures { result ≡ record {
-      value = bool (same left.now.value right.now.value);
-      span = spanning left.now right.now;
-    } }
-{
-    truth(left.value() == right.value(), left, right)
-}
-
-/// `left != right`
-pub(crate) fn not_equal(left: &Operand, right: &Operand) -> Operand
-    ensures { result ≡ record {
-      value = bool (not (same left.now.value right.now.value));
-      span = spanning left.now right.now;
-    } }
-{
-    truth(left.value() != right.value(), left, right)
 }
 
 /// How the left value stands to the right one; none where the two are not comparable. Two integers are compared in place.
@@ -67,7 +46,12 @@ fn order_of(left: &Value, right: &Value) -> Option<Ordering>
 
 /// How the left operand stands to the right one; a fault at the combined span where the two are not comparable.
 #[inline(always)]
-fn standing(alloc: Global, file: &str, left: &Operand, right: &Operand) -> TeraResult<Ordering>
+pub(crate) fn standing(
+    alloc: Global,
+    file: &str,
+    left: &Operand,
+    right: &Operand,
+) -> TeraResult<Ordering>
     ensures value { Gives (λ o. o) result (standing_of file.now left.now right.now) }
     ensures ready { IsOk (standing_of file.now left.now right.now) → IsOk result }
 {
@@ -82,58 +66,21 @@ fn standing(alloc: Global, file: &str, left: &Operand, right: &Operand) -> TeraR
     }
 }
 
-/// `left < right`
-pub(crate) fn less(
+/// Whether the test holds of how the left operand stands to the right one, at the combined span.
+#[inline(always)]
+pub(crate) fn compared<F: FnOnce(Ordering) -> bool>(
     alloc: Global,
     file: &str,
     left: &Operand,
     right: &Operand,
+    holds: F,
 ) -> TeraResult<Operand>
-    ensures value { Gives (λ o. o) result (compared file.now is_lt left.now right.now) }
-    ensures ready { IsOk (compared file.now is_lt left.now right.now) → IsOk result }
+    requires { F.IsAlwaysCallable holds }
+    ensures value { (test : Ordering → Bool) →
+        ((o : Ordering) (b : Bool) → F.post holds o b → b ≡ test o) →
+        Gives (λ o. o) result (compared file.now test left.now right.now) }
+    ensures ready { IsOk (standing_of file.now left.now right.now) → IsOk result }
 {
     let standing = standing(alloc, file, left, right)?;
-    Ok(truth(standing.is_lt(), left, right))
-}
-
-/// `left > right`
-pub(crate) fn greater(
-    alloc: Global,
-    file: &str,
-    left: &Operand,
-    right: &Operand,
-) -> TeraResult<Operand>
-    ensures value { Gives (λ o. o) result (compared file.now is_gt left.now right.now) }
-    ensures ready { IsOk (compared file.now is_gt left.now right.now) → IsOk result }
-{
-    let standing = standing(alloc, file, left, right)?;
-    Ok(truth(standing.is_gt(), left, right))
-}
-
-/// `left <= right`
-pub(crate) fn less_or_equal(
-    alloc: Global,
-    file: &str,
-    left: &Operand,
-    right: &Operand,
-) -> TeraResult<Operand>
-    ensures value { Gives (λ o. o) result (compared file.now is_le left.now right.now) }
-    ensures ready { IsOk (compared file.now is_le left.now right.now) → IsOk result }
-{
-    let standing = standing(alloc, file, left, right)?;
-    Ok(truth(standing.is_le(), left, right))
-}
-
-/// `left >= right`
-pub(crate) fn greater_or_equal(
-    alloc: Global,
-    file: &str,
-    left: &Operand,
-    right: &Operand,
-) -> TeraResult<Operand>
-    ensures value { Gives (λ o. o) result (compared file.now is_ge left.now right.now) }
-    ensures ready { IsOk (compared file.now is_ge left.now right.now) → IsOk result }
-{
-    let standing = standing(alloc, file, left, right)?;
-    Ok(truth(standing.is_ge(), left, right))
+    Ok(truth(holds(standing), left, right))
 }

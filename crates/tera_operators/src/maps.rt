@@ -4,7 +4,7 @@ ghost use Rattle.std.specs.List.{zip, list_any};
 ghost use Rattle.tera_errors.specs.Answer.{Gives, Lacks};
 ghost use Rattle.tera_syntax_tree.specs.View.{key_of, key_option};
 ghost use Rattle.tera_values.specs.View.{key_view};
-ghost use Rattle.tera_operators.specs.Literals.{key_val, pairs_of, kept, entry_after, from_left, from_right, map_entries, map_of};
+ghost use Rattle.tera_operators.specs.Literals.{key_val, pairs_of, kept, entry_after, from_left, map_entries, map_of};
 
 use crate::listed::Entries;
 use crate::operand::Operand;
@@ -124,25 +124,6 @@ fn put_after(
     }
 }
 
-/// The entries from right to left; a key that is there keeps its value.
-fn from_right(
-    alloc: Global,
-    file: &str,
-    keys: &[Option<OwnedKey>],
-    operands: Vec<Operand>,
-) -> TeraResult<Map>
-    requires { length keys.now ≡ length operands.items }
-    ensures { Gives (λ m. m) result
-        (from_right file.now (zip (map_list key_option keys.now) operands.items)) }
-{
-    let mut all = Map::new(alloc);
-    let mut operands = operands;
-    while let Some(operand) = operands.pop() {
-        put_after(alloc, file, &keys[operands.len()], operand, &mut all)?;
-    }
-    Ok(all)
-}
-
 /// Whether an entry has no key.
 fn has_spread(keys: &[Option<OwnedKey>]) -> bool
     ensures { result ≡ list_any is_none keys.now }
@@ -150,8 +131,8 @@ fn has_spread(keys: &[Option<OwnedKey>]) -> bool
     keys.iter().any(|key| key.is_none())
 }
 
-/// The map of all entries, by whether one of them is spread.
-#[tactic(auto, using(crate::proofs::Keeping::with_spread, crate::proofs::Keeping::without_spread))]
+/// The map of all entries. Where one of them is spread they are put from right to left, and a key that is there keeps its value.
+#[tactic(auto, using(crate::proofs::Keeping::without_spread))]
 fn made(
     alloc: Global,
     file: &str,
@@ -162,11 +143,15 @@ fn made(
     ensures { Gives (λ m. m) result
         (map_entries file.now (zip (map_list key_option keys.now) operands.items)) }
 {
-    if has_spread(keys) {
-        from_right(alloc, file, keys, operands)
-    } else {
-        from_left(alloc, keys, operands)
+    if !has_spread(keys) {
+        return from_left(alloc, keys, operands);
     }
+    let mut all = Map::new(alloc);
+    let mut operands = operands;
+    while let Some(operand) = operands.pop() {
+        put_after(alloc, file, &keys[operands.len()], operand, &mut all)?;
+    }
+    Ok(all)
 }
 
 /// The entries, which lie as they were evaluated. Where one of them is spread, or where they are many, they are a map.

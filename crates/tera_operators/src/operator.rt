@@ -3,13 +3,15 @@ ghost use Rattle.std.specs.Prelude.{◌≢◌, IsOk};
 ghost use Rattle.tera_errors.specs.Answer.{Gives};
 ghost use Rattle.tera_operators.specs.Operators.{binary_of};
 
-use crate::arithmetic::{add, divide, floor_divide, multiply, power, remainder, subtract};
-use crate::compare::{equal, greater, greater_or_equal, less, less_or_equal, not_equal};
+use crate::arithmetic::{calculated, combined, divided};
+use crate::compare::{compared, truth};
 use crate::membership::is_in;
 use crate::operand::Operand;
 use crate::text::concatenate;
 use std::alloc::Global;
+use std::cmp::Ordering;
 use tera_syntax_tree::BinaryOperator;
+use tera_values::number::{add, div, floor_div, mul, pow, rem, sub};
 use tera_values::{Span, TeraResult};
 
 /// What the operator makes of the two operands. The span is that of the expression, which only `in` takes on: others run
@@ -27,21 +29,22 @@ pub fn binary(
     ensures ready { operator ≢ BinaryOperator.Concat →
         IsOk (binary_of file.now operator left.now right.now span) → IsOk result }
 {
+    let (a, b) = (left.value(), right.value());
     match operator {
-        BinaryOperator::Add => add(alloc, file, left, right),
-        BinaryOperator::Subtract => subtract(alloc, file, left, right),
-        BinaryOperator::Multiply => multiply(alloc, file, left, right),
-        BinaryOperator::Divide => divide(alloc, file, left, right),
-        BinaryOperator::FloorDivide => floor_divide(alloc, file, left, right),
-        BinaryOperator::Remainder => remainder(alloc, file, left, right),
-        BinaryOperator::Power => power(alloc, file, left, right),
+        BinaryOperator::Add => combined(alloc, file, add(alloc, a, b), left, right),
+        BinaryOperator::Subtract => calculated(alloc, file, sub(alloc, a, b), left, right),
+        BinaryOperator::Multiply => calculated(alloc, file, mul(alloc, a, b), left, right),
+        BinaryOperator::Power => calculated(alloc, file, pow(alloc, a, b), left, right),
+        BinaryOperator::Divide => divided(alloc, file, div(alloc, a, b), left, right),
+        BinaryOperator::FloorDivide => divided(alloc, file, floor_div(alloc, a, b), left, right),
+        BinaryOperator::Remainder => divided(alloc, file, rem(alloc, a, b), left, right),
         BinaryOperator::Concat => concatenate(alloc, left, right),
-        BinaryOperator::Equal => Ok(equal(left, right)),
-        BinaryOperator::NotEqual => Ok(not_equal(left, right)),
-        BinaryOperator::Less => less(alloc, file, left, right),
-        BinaryOperator::Greater => greater(alloc, file, left, right),
-        BinaryOperator::LessOrEqual => less_or_equal(alloc, file, left, right),
-        BinaryOperator::GreaterOrEqual => greater_or_equal(alloc, file, left, right),
+        BinaryOperator::Equal => Ok(truth(a == b, left, right)),
+        BinaryOperator::NotEqual => Ok(truth(a != b, left, right)),
+        BinaryOperator::Less => compared(alloc, file, left, right, Ordering::is_lt),
+        BinaryOperator::Greater => compared(alloc, file, left, right, Ordering::is_gt),
+        BinaryOperator::LessOrEqual => compared(alloc, file, left, right, Ordering::is_le),
+        BinaryOperator::GreaterOrEqual => compared(alloc, file, left, right, Ordering::is_ge),
         BinaryOperator::In => is_in(alloc, file, left, right, span),
     }
 }

@@ -1,5 +1,5 @@
 // Texts that are joined.
-ghost use Rattle.std.specs.Prelude.{◌≡◌, ◌++◌, false};
+ghost use Rattle.std.specs.Prelude.{◌++◌, false};
 ghost use Rattle.tera_errors.specs.Answer.{Gives};
 ghost use Rattle.tera_values.specs.Val.{text};
 ghost use Rattle.tera_values.specs.Printed.{printed};

@@ -4,7 +4,7 @@ ghost use Rattle.tera_errors.specs.Answer.{Lacks};
 ghost use Rattle.tera_values.specs.Named.{put_all};
 ghost use Rattle.tera_state.specs.Bound.{value_in, with_binding, without, without_frame, place_from, layer_of, is_beyond, end_with, end_without};
 
-use std::alloc::Global;
+use std::alloc::{AllocError, Global};
 use std::marker::Model;
 use tera_values::{Context, Name, Sought, TeraResult, Value};
 
@@ -71,10 +71,15 @@ impl Bindings {
     }
 
     /// Binds the name in the layer, in place of an older binding of it, which takes no memory.
-    pub fn put(&mut self, frame: usize, layer: usize, name: Name, value: Value) -> TeraResult<()>
+    pub fn put(
+        &mut self,
+        frame: usize,
+        layer: usize,
+        name: Name,
+        value: Value,
+    ) -> Result<(), AllocError>
         ensures ok { OnOk result (self.new ≡ with_binding self.old frame layer name value) }
         ensures err { OnErr result (self.new ≡ self.old) }
-        ensures lacks { IfErr result Lacks }
     {
         self.end = end_with(frame, layer, self.end);
         match place(self.items.as_slice(), frame, layer, &name.sought()) {

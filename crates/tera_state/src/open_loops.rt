@@ -1,6 +1,5 @@
 // The open loops of a body.
-ghost use Rattle.std.specs.Prelude.{◌≡◌, ◌≤◌, ◌∷◌, ◌^◌, ◌<◌, [], length, drop, OnOk, IfErr};
-ghost use Rattle.tera_errors.specs.Answer.{Lacks};
+ghost use Rattle.std.specs.Prelude.{◌≡◌, ◌≤◌, ◌∷◌, ◌<◌, [], length, drop, OnOk};
 ghost use Rattle.tera_state.specs.Bound.{layer_of};
 ghost use Rattle.tera_state.specs.Found.{found_value};
 ghost use Rattle.tera_state.specs.Opened.{turn_of, turns_of, InnermostGoesOn};
@@ -11,7 +10,7 @@ use crate::bindings::Bindings;
 use crate::found::Found;
 use crate::loops::ForLoop;
 use crate::stack::Stack;
-use std::alloc::Global;
+use std::alloc::{AllocError, Global};
 use std::marker::Model;
 use tera_values::{Sought, TeraResult};
 
@@ -62,9 +61,8 @@ impl OpenLoops {
     }
 
     /// Opens the loop. Takes memory for the loop around it, if there is one.
-    pub fn push(&mut self, opened: ForLoop) -> TeraResult<()>
+    pub fn push(&mut self, opened: ForLoop) -> Result<(), AllocError>
         ensures ok { OnOk result (self.new ≡ opened ∷ self.old) }
-        ensures lacks { IfErr result Lacks }
     {
         if let Some(around) = self.innermost.replace(opened) {
             self.around.push(around)?;

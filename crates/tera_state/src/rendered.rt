@@ -1,13 +1,12 @@
 // The text that a value is rendered as.
-ghost use Rattle.std.specs.Prelude.{◌≡◌, ◌++◌, string_bytes, OnOk, OnErr, IfErr};
-ghost use Rattle.tera_errors.specs.Answer.{Lacks};
+ghost use Rattle.std.specs.Prelude.{◌≡◌, ◌++◌, string_bytes, OnOk, OnErr};
 ghost use Rattle.tera_values.specs.Printed.{printed};
 ghost use Rattle.tera_built_ins.specs.Escaping.{escaping_of};
 ghost use Rattle.tera_state.specs.Rendered.{written_by};
 
-use std::alloc::Global;
+use std::alloc::{AllocError, Global};
 use tera_built_ins::{EscapeFn, Escaping};
-use tera_values::{TeraResult, Value};
+use tera_values::Value;
 
 /// Puts a value behind a text: its printed text, escaped where texts are escaped and the value is not safe. A text is not
 /// copied on the way. Want of memory leaves the text as it was. What needs no escape is printed without a call.
@@ -17,11 +16,10 @@ pub fn write_value<E: EscapeFn>(
     escaping: Escaping<'_, E>,
     value: &Value,
     out: &mut String,
-) -> TeraResult<()>
+) -> Result<(), AllocError>
     ensures ok { OnOk result (string_bytes out.new ≡ string_bytes out.old
         ++ written_by (escaping_of E.escaped escaping.entry) value.now) }
     ensures err { OnErr result (string_bytes out.new ≡ string_bytes out.old) }
-    ensures lacks { IfErr result Lacks }
 {
     if !escaping.autoescape || value.is_safe() {
         return value.print_to(out);
@@ -35,14 +33,33 @@ fn write_escaped<E: EscapeFn>(
     escaping: Escaping<'_, E>,
     value: &Value,
     out: &mut String,
-) -> TeraResult<()>
+) -> Result<(), AllocError>
     ensures ok { OnOk result (string_bytes out.new ≡ string_bytes out.old
         ++ (escaping_of E.escaped escaping.entry).escape (printed value.now)) }
     ensures err { OnErr result (string_bytes out.new ≡ string_bytes out.old) }
-    ensures lacks { IfErr result Lacks }
 {
     match value.as_str() {
-        Some(text) => escaping.escape.escape(text, out),
-        None => escaping.escape.escape(value.printed(alloc)?.as_str(), out),
+        Some(text) => escaped(escaping, text, out),
+        None => match value.printed(alloc) {
+            Ok(text) => escaped(escaping, text.as_str(), out),
+            Err(_) => Err(AllocError),
+        },
+    }
+}
+
+// The escape of a text, which answers nothing but want of memory.
+#[inline(always)]
+fn escaped<E: EscapeFn>(
+    escaping: Escaping<'_, E>,
+    text: &str,
+    out: &mut String,
+) -> Result<(), AllocError>
+    ensures ok { OnOk result (string_bytes out.new ≡ string_bytes out.old
+        ++ (escaping_of E.escaped escaping.entry).escape text.now) }
+    ensures err { OnErr result (string_bytes out.new ≡ string_bytes out.old) }
+{
+    match escaping.escape.escape(text, out) {
+        Ok(()) => Ok(()),
+        Err(_) => Err(AllocError),
     }
 }

@@ -3,7 +3,6 @@ ghost use Rattle.std.specs.Prelude.{◌≡◌, Ok, ◌≤◌, ◌≢◌, ◌↔�
 ghost use Rattle.tera_errors.specs.Answer.{Gives, Lacks};
 ghost use Rattle.tera_values.specs.Val.{undefined};
 ghost use Rattle.tera_state.specs.Found.{found_value};
-ghost use Rattle.tera_values.specs.Named.{at_name};
 ghost use Rattle.tera_state.specs.Bound.{without_frame};
 ghost use Rattle.tera_state.specs.Lent.{names_of};
 ghost use Rattle.tera_state.specs.Scope.{look, look_implicit, in_variables, set_variable, set_global, open_turn, close_turn, nothing_set, outside, in_include, in_component, put_turns, dump};
@@ -18,7 +17,7 @@ use crate::lent::Lent;
 use crate::loops::ForLoop;
 use crate::open_loops::OpenLoops;
 use crate::stack::Stack;
-use std::alloc::Global;
+use std::alloc::{AllocError, Global};
 use std::mem::replace;
 use tera_values::{Context, Kwargs, Name, Sought, TeraResult, Value};
 
@@ -209,11 +208,10 @@ impl<'c> Scopes<'c> {
     }
 
     /// Binds the name in the innermost turn, or outside of all where no loop is open.
-    pub fn set(&mut self, name: Name, value: Value) -> TeraResult<()>
+    pub fn set(&mut self, name: Name, value: Value) -> Result<(), AllocError>
         ensures ok { OnOk result (variables_of self.new
             ≡ set_variable name value (variables_of self.old)) }
         ensures err { OnErr result (variables_of self.new ≡ variables_of self.old) }
-        ensures lacks { IfErr result Lacks }
         ensures stays { around_of self.new ≡ around_of self.old }
         ensures outer { coming_around self.new ≡ coming_around self.old }
         ensures coming { coming_of self.new ≡ coming_of self.old }
@@ -224,11 +222,10 @@ impl<'c> Scopes<'c> {
     }
 
     /// Binds the name outside of all turns.
-    pub fn set_global(&mut self, name: Name, value: Value) -> TeraResult<()>
+    pub fn set_global(&mut self, name: Name, value: Value) -> Result<(), AllocError>
         ensures ok { OnOk result (variables_of self.new
             ≡ set_global name value (variables_of self.old)) }
         ensures err { OnErr result (variables_of self.new ≡ variables_of self.old) }
-        ensures lacks { IfErr result Lacks }
         ensures stays { around_of self.new ≡ around_of self.old }
         ensures outer { coming_around self.new ≡ coming_around self.old }
         ensures coming { coming_of self.new ≡ coming_of self.old }
@@ -238,11 +235,10 @@ impl<'c> Scopes<'c> {
     }
 
     /// Opens the loop, at the turn where it stands. Takes memory for the loop around it, if there is one.
-    pub fn open_loop(&mut self, opened: ForLoop) -> TeraResult<()>
+    pub fn open_loop(&mut self, opened: ForLoop) -> Result<(), AllocError>
         ensures ok { OnOk result (variables_of self.new
             ≡ open_turn (turn_of [] opened) (variables_of self.old)) }
         ensures coming { OnOk result (coming_of self.new ≡ to_come opened ∷ coming_of self.old) }
-        ensures lacks { IfErr result Lacks }
         ensures stays { around_of self.new ≡ around_of self.old }
         ensures outer { coming_around self.new ≡ coming_around self.old }
     {
@@ -291,37 +287,34 @@ impl<'c> Scopes<'c> {
     }
 
     /// Begins an include, which reads the body that runs.
-    pub fn enter_include(&mut self) -> TeraResult<()>
+    pub fn enter_include(&mut self) -> Result<(), AllocError>
         ensures around { OnOk result (around_of self.new
             ≡ in_include (around_of self.old) (variables_of self.old)) }
         ensures variables { OnOk result (variables_of self.new ≡ nothing_set) }
         ensures coming { OnOk result (coming_of self.new ≡ []) }
         ensures outer { OnOk result (coming_around self.new
             ≡ coming_of self.old ∷ coming_around self.old) }
-        ensures lacks { IfErr result Lacks }
     {
         self.enter(Standing::Included)
     }
 
     /// Begins a component, which reads the arguments alone.
-    pub fn enter_component(&mut self, arguments: Kwargs) -> TeraResult<()>
+    pub fn enter_component(&mut self, arguments: Kwargs) -> Result<(), AllocError>
         ensures around { OnOk result (around_of self.new
             ≡ in_component arguments (around_of self.old) (variables_of self.old)) }
         ensures variables { OnOk result (variables_of self.new ≡ nothing_set) }
         ensures coming { OnOk result (coming_of self.new ≡ []) }
         ensures outer { OnOk result (coming_around self.new
             ≡ coming_of self.old ∷ coming_around self.old) }
-        ensures lacks { IfErr result Lacks }
     {
         self.enter(Standing::Called(arguments))
     }
 
-    fn enter(&mut self, inner: Standing<'c>) -> TeraResult<()>
+    fn enter(&mut self, inner: Standing<'c>) -> Result<(), AllocError>
         ensures frame { OnOk result (self.new.frame ≡ begun inner.entry) }
         ensures below { OnOk result (self.new.below ≡ self.old.frame ∷ self.old.below) }
         ensures bindings { OnOk result (self.new.bindings
             ≡ without_frame self.old.bindings (suc (length self.old.below))) }
-        ensures lacks { IfErr result Lacks }
     {
         let body = Frame {
             standing: inner,

@@ -2,7 +2,7 @@
 ghost use Rattle.std.specs.Prelude.{◌≡◌, ◌≢◌, ◌<◌, ◌≤◌, ◌^◌, [], ◌∷◌, length, reverse, take, drop, slice_get, MatchOption, IfOk, OnOk, OnErr, IfErr, None, Some};
 ghost use Rattle.tera_errors.specs.Answer.{Lacks};
 
-use std::alloc::Global;
+use std::alloc::{AllocError, Global};
 use std::marker::Model;
 use tera_errors::TeraResult;
 
@@ -31,10 +31,9 @@ impl<T: Drop> Stack<T> {
     }
 
     /// One more value on top.
-    pub fn push(&mut self, value: T) -> TeraResult<()>
+    pub fn push(&mut self, value: T) -> Result<(), AllocError>
         ensures ok { OnOk result (self.new ≡ value ∷ self.old) }
         ensures err { OnErr result (self.new ≡ self.old) }
-        ensures lacks { IfErr result Lacks }
     {
         self.items.push(value)?;
         Ok(())

@@ -5,27 +5,25 @@ ghost use Rattle.tera_values_data.specs.Escape.{escape_byte, escape_html, escape
 ghost use Rattle.tera_values_data.specs.Printed.{quoted, quoted_byte, escaped};
 ghost use Rattle.tera_values_data.specs.Growth.{Keeps, IsPlain, IsNever, by_byte, form_or_byte, is_one_of};
 
+use std::alloc::AllocError;
 use std::simd::prelude::*;
 use tera_errors::TeraResult;
 
 /// Appends the text; what was there stays whatever comes.
 #[inline]
-pub(crate) fn append(text: &str, out: &mut String) -> TeraResult<()>
+pub(crate) fn append(text: &str, out: &mut String) -> Result<(), AllocError>
     ensures ok { OnOk result (string_bytes out.new ≡ string_bytes out.old ++ text.now) }
     ensures err { OnErr result (string_bytes out.new ≡ string_bytes out.old) }
     ensures keeps { Keeps (string_bytes out.old) (string_bytes out.new) }
-    ensures lacks { IfErr result Lacks }
 {
-    out.push_str(text)?;
-    Ok(())
+    out.push_str(text)
 }
 
 /// The same of a text that is often empty.
 #[inline]
-fn append_run(run: &str, out: &mut String) -> TeraResult<()>
+fn append_run(run: &str, out: &mut String) -> Result<(), AllocError>
     ensures ok { OnOk result (string_bytes out.new ≡ string_bytes out.old ++ run.now) }
     ensures keeps { Keeps (string_bytes out.old) (string_bytes out.new) }
-    ensures lacks { IfErr result Lacks }
 {
     if run.is_empty() {
         Ok(())
@@ -190,11 +188,10 @@ fn next_of_run<F: Forms>(bytes: &[u8], run: usize, from: usize) -> usize
 }
 
 /// Appends the text, run by run between the bytes that have a form of their own.
-fn append_forms<F: Forms>(text: &str, out: &mut String) -> TeraResult<()>
+fn append_forms<F: Forms>(text: &str, out: &mut String) -> Result<(), AllocError>
     ensures ok { OnOk result (string_bytes out.new ≡ string_bytes out.old
         ++ by_byte F.spelled text.now) }
     ensures keeps { Keeps (string_bytes out.old) (string_bytes out.new) }
-    ensures lacks { IfErr result Lacks }
 {
     let bytes = text.as_bytes();
     let mut start = 0;
@@ -211,10 +208,9 @@ fn append_forms<F: Forms>(text: &str, out: &mut String) -> TeraResult<()>
 }
 
 /// Appends the text between quotes.
-pub(crate) fn append_quoted(text: &str, out: &mut String) -> TeraResult<()>
+pub(crate) fn append_quoted(text: &str, out: &mut String) -> Result<(), AllocError>
     ensures ok { OnOk result (string_bytes out.new ≡ string_bytes out.old ++ quoted text.now) }
     ensures keeps { Keeps (string_bytes out.old) (string_bytes out.new) }
-    ensures lacks { IfErr result Lacks }
 {
     append("\"", out)?;
     append_forms::<Quotes>(text, out)?;
@@ -223,11 +219,10 @@ pub(crate) fn append_quoted(text: &str, out: &mut String) -> TeraResult<()>
 
 /// The same as `append_forms`, but where memory is refused, what was there is there alone.
 #[inline(never)]
-fn append_marked<F: Forms>(text: &str, out: &mut String) -> TeraResult<()>
+fn append_marked<F: Forms>(text: &str, out: &mut String) -> Result<(), AllocError>
     ensures ok { OnOk result (string_bytes out.new ≡ string_bytes out.old
         ++ by_byte F.spelled text.now) }
     ensures err { OnErr result (string_bytes out.new ≡ string_bytes out.old) }
-    ensures lacks { IfErr result Lacks }
 {
     let kept = out.len();
     match append_forms::<F>(text, out) {
@@ -241,11 +236,10 @@ fn append_marked<F: Forms>(text: &str, out: &mut String) -> TeraResult<()>
 
 /// The same, with no more than a copy for a text in which nothing has a form of its own.
 #[inline]
-fn append_escaped<F: Forms>(text: &str, out: &mut String) -> TeraResult<()>
+fn append_escaped<F: Forms>(text: &str, out: &mut String) -> Result<(), AllocError>
     ensures ok { OnOk result (string_bytes out.new ≡ string_bytes out.old
         ++ by_byte F.spelled text.now) }
     ensures err { OnErr result (string_bytes out.new ≡ string_bytes out.old) }
-    ensures lacks { IfErr result Lacks }
 {
     let place = next_form::<F>(text.as_bytes(), 0);
     if place == text.len() {
@@ -257,12 +251,14 @@ fn append_escaped<F: Forms>(text: &str, out: &mut String) -> TeraResult<()>
 
 /// Appends the text with `& < > " '` in their forms for markup, and every other character as it is.
 /// Where memory is refused, what was there is there alone.
+#[inline(always)]
 pub fn escape_html(text: &str, out: &mut String) -> TeraResult<()>
     ensures ok { OnOk result (string_bytes out.new ≡ string_bytes out.old ++ escape_html text.now) }
     ensures err { OnErr result (string_bytes out.new ≡ string_bytes out.old) }
     ensures lacks { IfErr result Lacks }
 {
-    append_escaped::<Markup>(text, out)
+    append_escaped::<Markup>(text, out)?;
+    Ok(())
 }
 
 /// The same for XML, where `'` has another form.
@@ -271,5 +267,6 @@ pub fn escape_xml(text: &str, out: &mut String) -> TeraResult<()>
     ensures err { OnErr result (string_bytes out.new ≡ string_bytes out.old) }
     ensures lacks { IfErr result Lacks }
 {
-    append_escaped::<Xml>(text, out)
+    append_escaped::<Xml>(text, out)?;
+    Ok(())
 }

@@ -13,13 +13,12 @@ use crate::key::Key;
 use crate::shape::Shape;
 use crate::value::{Entry, Value};
 use itoa::Buffer;
-use std::alloc::Global;
+use std::alloc::{AllocError, Global};
 use tera_errors::TeraResult;
 
-fn append_bool(flag: bool, out: &mut String) -> TeraResult<()>
+fn append_bool(flag: bool, out: &mut String) -> Result<(), AllocError>
     ensures ok { OnOk result (string_bytes out.new ≡ string_bytes out.old ++ bool_text flag) }
     ensures keeps { Keeps (string_bytes out.old) (string_bytes out.new) }
-    ensures lacks { IfErr result Lacks }
 {
     if flag {
         append("true", out)
@@ -28,43 +27,39 @@ fn append_bool(flag: bool, out: &mut String) -> TeraResult<()>
     }
 }
 
-fn append_integer(number: i128, out: &mut String) -> TeraResult<()>
+fn append_integer(number: i128, out: &mut String) -> Result<(), AllocError>
     ensures ok { OnOk result (string_bytes out.new ≡ string_bytes out.old
         ++ signed_decimal number) }
     ensures err { OnErr result (string_bytes out.new ≡ string_bytes out.old) }
     ensures keeps { Keeps (string_bytes out.old) (string_bytes out.new) }
-    ensures lacks { IfErr result Lacks }
 {
     let mut buffer = Buffer::new();
     append(buffer.format(number), out)
 }
 
 /// What `String::from_utf8_lossy` makes of the bytes.
-fn append_bytes(content: &[u8], out: &mut String) -> TeraResult<()>
+fn append_bytes(content: &[u8], out: &mut String) -> Result<(), AllocError>
     ensures ok { OnOk result (string_bytes out.new ≡ string_bytes out.old
         ++ utf8_lossy content.now) }
     ensures keeps { Keeps (string_bytes out.old) (string_bytes out.new) }
-    ensures lacks { IfErr result Lacks }
 {
     let text = String::from_utf8_lossy(*out.allocator(), content)?;
     append(text.as_str(), out)
 }
 
-fn append_quoted_bytes(content: &[u8], out: &mut String) -> TeraResult<()>
+fn append_quoted_bytes(content: &[u8], out: &mut String) -> Result<(), AllocError>
     ensures ok { OnOk result (string_bytes out.new ≡ string_bytes out.old
         ++ quoted (utf8_lossy content.now)) }
     ensures keeps { Keeps (string_bytes out.old) (string_bytes out.new) }
-    ensures lacks { IfErr result Lacks }
 {
     let text = String::from_utf8_lossy(*out.allocator(), content)?;
     append_quoted(text.as_str(), out)
 }
 
-fn append_key(key: &Key, out: &mut String) -> TeraResult<()>
+fn append_key(key: &Key, out: &mut String) -> Result<(), AllocError>
     ensures ok { OnOk result (string_bytes out.new ≡ string_bytes out.old
         ++ key_text (key_view key.now)) }
     ensures keeps { Keeps (string_bytes out.old) (string_bytes out.new) }
-    ensures lacks { IfErr result Lacks }
 {
     match key {
         Key::Bool(flag) => append_bool(*flag, out),
@@ -85,10 +80,9 @@ impl Value {
 
     /// Appends the printed text. Where memory is refused, what was there is there alone.
     #[inline(always)]
-    pub fn print_to(&self, out: &mut String) -> TeraResult<()>
+    pub fn print_to(&self, out: &mut String) -> Result<(), AllocError>
         ensures ok { OnOk result (string_bytes out.new ≡ string_bytes out.old ++ printed self.now) }
         ensures err { OnErr result (string_bytes out.new ≡ string_bytes out.old) }
-        ensures lacks { IfErr result Lacks }
     {
         match self.shape() {
             Shape::Int(number) => append_integer(number, out),
@@ -98,10 +92,9 @@ impl Value {
     }
 
     // The same for every kind: what a part wrote before memory was refused is taken off.
-    fn print_all_to(&self, out: &mut String) -> TeraResult<()>
+    fn print_all_to(&self, out: &mut String) -> Result<(), AllocError>
         ensures ok { OnOk result (string_bytes out.new ≡ string_bytes out.old ++ printed self.now) }
         ensures err { OnErr result (string_bytes out.new ≡ string_bytes out.old) }
-        ensures lacks { IfErr result Lacks }
     {
         let kept = out.len();
         match self.append_printed(out) {
@@ -113,10 +106,9 @@ impl Value {
         }
     }
 
-    fn append_printed(&self, out: &mut String) -> TeraResult<()>
+    fn append_printed(&self, out: &mut String) -> Result<(), AllocError>
         ensures ok { OnOk result (string_bytes out.new ≡ string_bytes out.old ++ printed self.now) }
         ensures keeps { Keeps (string_bytes out.old) (string_bytes out.new) }
-        ensures lacks { IfErr result Lacks }
     {
         match self.shape() {
             Shape::Undefined => append("", out),
@@ -130,10 +122,9 @@ impl Value {
 
     /// The form inside an array or a map.
     #[cycle(printing)]
-    fn append_inside(&self, out: &mut String) -> TeraResult<()>
+    fn append_inside(&self, out: &mut String) -> Result<(), AllocError>
         ensures ok { OnOk result (string_bytes out.new ≡ string_bytes out.old ++ inside self.now) }
         ensures keeps { Keeps (string_bytes out.old) (string_bytes out.new) }
-        ensures lacks { IfErr result Lacks }
     {
         match self.shape() {
             Shape::Undefined => append("undefined", out),
@@ -149,11 +140,10 @@ impl Value {
 }
 
 #[cycle(printing)]
-fn append_items(items: &[Value], out: &mut String) -> TeraResult<()>
+fn append_items(items: &[Value], out: &mut String) -> Result<(), AllocError>
     ensures ok { OnOk result (string_bytes out.new ≡ string_bytes out.old
         ++ inside (array (vals items.now))) }
     ensures keeps { Keeps (string_bytes out.old) (string_bytes out.new) }
-    ensures lacks { IfErr result Lacks }
 {
     match items {
         [] => append("[]", out),
@@ -170,11 +160,10 @@ fn append_items(items: &[Value], out: &mut String) -> TeraResult<()>
 }
 
 #[cycle(printing)]
-fn append_entries(all: &[Entry], out: &mut String) -> TeraResult<()>
+fn append_entries(all: &[Entry], out: &mut String) -> Result<(), AllocError>
     ensures ok { OnOk result (string_bytes out.new ≡ string_bytes out.old
         ++ inside (map (entries (entry_views all.now)))) }
     ensures keeps { Keeps (string_bytes out.old) (string_bytes out.new) }
-    ensures lacks { IfErr result Lacks }
 {
     match all {
         [] => append("{}", out),

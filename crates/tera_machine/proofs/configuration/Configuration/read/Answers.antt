@@ -98,7 +98,7 @@ returns-in_ok-append_value-in-Some-value-clause-does g c =
     let e : is_undefined c.in-Ok.reached.value ≡ false = ap is_undefined (sym c.in-Some-value.ensures) ∙ sym c.is_undefined.ensures ∙ kept in (
       more_did (reached g (goal.at.returns-in_ok-append_value-in-Some-value-clause-does g c).In-Ok) (c.if-not-writes_top_at.ensures.means refl) refl (c.if-not-writes_top_at.ensures.count ∙ ap (λ n. n + 1) c.in_default-pop_jump_if_false_at.ensures.count) ∙ written (here_of g.O.Objects.engine c.args.machine.now c.args.chunk.now.file c.args.self.now) c.in-Ok.reached (config_of c.args.self.now) e
           ∙ ap (λ v. Goes (with_text (rendered c.args.machine.now.autoescape (g.O.Objects.engine c.args.machine.now.objects.now).escape v) (config_of c.args.self.now)) On) (sym c.in-Some-value.ensures)
-          ∙ ap (λ t. Goes (config_of (record c.args.self.now { texts = t })) On) (sym c.in_ok-append_value-in-Some-value.ensures.ok),
+          ∙ ap (λ t. Goes (config_of (record c.args.self.now { texts = t })) On) (sym c.in_ok-append_value-in-Some-value.ensures),
       (refl, refl),
     )
 

@@ -8,8 +8,8 @@ invariant_of-self-2 c =
     let t = c.self.inside in
     subst (AreStarts t.start t.outer) (sym c.in_ok-push_str.ensures.bytes) (starts-append t.start t.outer (string_bytes t.all) c.args.text.now c.self.invariant c.utf8.text)
 
-pub returns-clause-ok : goal.returns-clause-ok
-returns-clause-ok c =
+pub returns : goal.returns
+returns c =
     let t = c.self.inside in
     ap (layers_at t.start t.outer) c.in_ok-push_str.ensures.bytes
     ∙ layers-append t.start t.outer (string_bytes t.all) c.args.text.now c.self.invariant

@@ -8,7 +8,7 @@ invariant_of-self g c =
     let t = c.self.inside in
     starts-written c.write.result t.start t.outer (string_bytes t.all) (string_bytes c.write.new.out) _ c.self.invariant (IsUtf8-had (string_bytes t.all) t.all.ok) (IsUtf8-had (string_bytes c.write.new.out) c.write.new.out.ok) c.write.ensures.ok c.write.ensures.err
 
-pub returns-clause-ok : goal.returns-clause-ok
-returns-clause-ok g c =
+pub returns : goal.returns
+returns g c =
     let t = c.self.inside in
     layers-written c.write.result t.start t.outer (string_bytes t.all) (string_bytes c.write.new.out) _ c.args.self.now c.self.invariant c.self.view_is c.write.ensures.ok

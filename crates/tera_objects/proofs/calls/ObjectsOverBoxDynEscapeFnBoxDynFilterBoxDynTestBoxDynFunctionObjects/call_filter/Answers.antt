@@ -5,22 +5,10 @@ use Rattle.tera_objects.proofs.calls.ObjectsOverBoxDynEscapeFnBoxDynFilterBoxDyn
 
 pub returns-in_default : goal.returns-in_default
 returns-in_default g c =
-    no-own-filter (record {
-      escape = λ b. (goal.EscapeFn-dyn g (b.vtable, b.value)).escaped b.value;
-      filter = λ b. record { meaning = (goal.Filter-dyn g (b.vtable, b.value)).meaning b.value; safe = (goal.Filter-dyn g (b.vtable, b.value)).safe b.value };
-      test = λ b. record { meaning = (goal.Test-dyn g (b.vtable, b.value)).meaning b.value };
-      function = λ b. record { meaning = (goal.Function-dyn g (b.vtable, b.value)).meaning b.value; safe = (goal.Function-dyn g (b.vtable, b.value)).safe b.value };
-    })
-    c.args.self.now (around_of c.args.scopes.now) (variables_of c.args.scopes.now) c.args.autoescape c.args.name.now c.args.arguments c.args.value.now
-    _ (sym c.get.ensures ∙ ap option_copied c.in_default.is) c.built_in_answer.ensures
+    no-own-filter _ _ c.args.self.now (around_of c.args.scopes.now) (variables_of c.args.scopes.now) c.args.autoescape c.args.name.now c.args.arguments c.args.value.now _
+    (sym c.get.ensures ∙ ap option_copied c.in_default.is) c.built_in_answer.ensures
 
 pub returns : goal.returns
 returns g c =
-    own-filter (record {
-      escape = λ b. (goal.EscapeFn-dyn g (b.vtable, b.value)).escaped b.value;
-      filter = λ b. record { meaning = (goal.Filter-dyn g (b.vtable, b.value)).meaning b.value; safe = (goal.Filter-dyn g (b.vtable, b.value)).safe b.value };
-      test = λ b. record { meaning = (goal.Test-dyn g (b.vtable, b.value)).meaning b.value };
-      function = λ b. record { meaning = (goal.Function-dyn g (b.vtable, b.value)).meaning b.value; safe = (goal.Function-dyn g (b.vtable, b.value)).safe b.value };
-    })
-    c.args.self.now (around_of c.args.scopes.now) (variables_of c.args.scopes.now) c.args.autoescape c.args.name.now c.args.arguments c.args.value.now
-    _ c.lent-state.ensures c.as_slice.ensures.value (sym (ap option_copied c.in-Some.is) ∙ c.get.ensures) c.filter_answer.ensures
+    own-filter _ _ c.args.self.now (around_of c.args.scopes.now) (variables_of c.args.scopes.now) c.args.autoescape c.args.name.now c.args.arguments c.args.value.now _
+    c.lent-state.ensures (sym (ap option_copied c.in-Some.is) ∙ c.get.ensures) c.filter_answer.ensures

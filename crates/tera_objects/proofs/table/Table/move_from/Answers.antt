@@ -1,8 +1,10 @@
-use Rattle.std.proofs.Common.{◌≡◌, suc, refl, sym, ap, ◌∙◌, ◌∷◌, [], drop, string_bytes, is_some, ◌||◌}
+use Rattle.std.proofs.Common.{◌≡◌, refl, sym, ap, ◌∙◌, ◌∷◌, [], drop, string_bytes, is_some, ◌||◌}
 use Rattle.tera_errors.specs.Site.{Name}
 use Rattle.tera_values.specs.Named.{at_name}
 use Rattle.tera_objects.specs.Table.{listed, moved}
-use Rattle.tera_objects.proofs.Listed.{by_bytes, listed-insert, moved-step, all-moved, step-old, step-new}
+use Rattle.tera_objects.proofs.Listed.{by_bytes, listed-insert, GoneThrough, all-moved, step-old, step-new}
+use Rattle.tera_objects.proofs.table.Table.move_from.Given.{Over}
+use Rattle.tera_objects.proofs.table.Table.move_from.Goals.{After-stands_for}
 use Rattle.tera_objects.proofs.table.Table.move_from.Goals as goal
 
 pub loop-name-init : goal.loop-name-init
@@ -10,37 +12,33 @@ loop-name-init g c =
     let same : c.into_iter-name-iterator.result ≡ c.args.other.entries.entries = c.into_iter-name-iterator.ensures.into_iter_gives.0 in
     (tt, tt, (0, ap by_bytes same, refl))
 
+-- the next of the others
+turn : (g : Over) (c : After-stands_for g) → GoneThrough g.S.Standard.stands (listed c.args.other) (listed c.args.self.now) ((string_bytes c.in-Some.name, c.in-Some.thing) ∷ by_bytes c.next.new.self) (listed c.loop-name.self)
+turn g c =
+    let so_far = c.loop-name.invariant.2 in
+    (so_far.0, ap by_bytes (sym c.in-Some.ensures.steps) ∙ so_far.1, so_far.2)
+
+-- whether its name stands for something
+there : (g : Over) (c : After-stands_for g) → (g.S.Standard.stands (string_bytes c.in-Some.name) || is_some (at_name (string_bytes c.in-Some.name) (listed c.loop-name.self))) ≡ c.stands_for.result
+there g c =
+    ap (λ (n : Name). g.S.Standard.stands n || is_some (at_name n (listed c.loop-name.self))) (sym c.as_str.ensures.value) ∙ sym c.stands_for.ensures
+
 pub loop-name-preserved : goal.loop-name-preserved
 loop-name-preserved g c =
-    let stands = g.S.Standard.stands in
-    let os = listed c.args.other in
-    let here = listed c.loop-name.self in
-    let k = c.loop-name.invariant.2.0 in
-    let turn : (string_bytes c.in-Some.name, c.in-Some.thing) ∷ by_bytes c.next.new.self ≡ drop k os = ap by_bytes (sym c.in-Some.ensures.steps) ∙ c.loop-name.invariant.2.1 in
-    let there = ap (λ (n : Name). stands n || is_some (at_name n here)) (sym c.as_str.ensures.value) ∙ sym c.stands_for.ensures ∙ c.if-not-stands_for.false in
-    (tt, tt, (suc k, (moved-step stands os k (listed c.args.self.now) (string_bytes c.in-Some.name, c.in-Some.thing) (by_bytes c.next.new.self) turn).0, step-old stands os (listed c.args.self.now) here k (string_bytes c.in-Some.name, c.in-Some.thing) (by_bytes c.next.new.self) turn c.loop-name.invariant.2.2 there))
+    let at = (goal.at.loop-name-preserved g c).After-stands_for in
+    (tt, tt, step-old g.S.Standard.stands (turn g at) (there g at ∙ c.if-not-stands_for.false))
 
 pub loop-name-preserved-in_ok-insert : goal.loop-name-preserved-in_ok-insert
 loop-name-preserved-in_ok-insert g c =
-    let stands = g.S.Standard.stands in
-    let os = listed c.args.other in
-    let here = listed c.loop-name.self in
-    let k = c.loop-name.invariant.2.0 in
-    let turn : (string_bytes c.in-Some.name, c.in-Some.thing) ∷ by_bytes c.next.new.self ≡ drop k os = ap by_bytes (sym c.in-Some.ensures.steps) ∙ c.loop-name.invariant.2.1 in
-    let absent = ap (λ (n : Name). stands n || is_some (at_name n here)) (sym c.as_str.ensures.value) ∙ sym c.stands_for.ensures ∙ c.if-not-stands_for.true in
+    let at = (goal.at.loop-name-preserved-in_ok-insert g c).After-stands_for in
     let put_in = ap by_bytes c.in_ok-insert.ensures.entries ∙ listed-insert c.loop-name.self.entries.entries c.in-Some.name c.in-Some.thing in
-    (tt, tt, (suc k, (moved-step stands os k (listed c.args.self.now) (string_bytes c.in-Some.name, c.in-Some.thing) (by_bytes c.next.new.self) turn).0, step-new stands os (listed c.args.self.now) here k (string_bytes c.in-Some.name, c.in-Some.thing) (by_bytes c.next.new.self) turn c.loop-name.invariant.2.2 (by_bytes c.insert.new.self.entries) absent put_in))
+    (tt, tt, step-new g.S.Standard.stands (turn g at) _ (there g at ∙ c.if-not-stands_for.true) put_in)
 
 pub loop-name-preserved-in_ok-insert-2 : goal.loop-name-preserved-in_ok-insert-2
 loop-name-preserved-in_ok-insert-2 g c =
-    let stands = g.S.Standard.stands in
-    let os = listed c.args.other in
-    let here = listed c.loop-name.self in
-    let k = c.loop-name.invariant.2.0 in
-    let turn : (string_bytes c.in-Some.name, c.in-Some.thing) ∷ by_bytes c.next.new.self ≡ drop k os = ap by_bytes (sym c.in-Some.ensures.steps) ∙ c.loop-name.invariant.2.1 in
-    let absent = ap (λ (n : Name). stands n || is_some (at_name n here)) (sym c.as_str.ensures.value) ∙ sym c.stands_for.ensures ∙ c.if-not-stands_for.true in
+    let at = (goal.at.loop-name-preserved-in_ok-insert-2 g c).After-stands_for in
     let put_in = ap by_bytes c.in_ok-insert.ensures.entries ∙ listed-insert c.loop-name.self.entries.entries c.in-Some.name c.in-Some.thing in
-    (tt, tt, (suc k, (moved-step stands os k (listed c.args.self.now) (string_bytes c.in-Some.name, c.in-Some.thing) (by_bytes c.next.new.self) turn).0, step-new stands os (listed c.args.self.now) here k (string_bytes c.in-Some.name, c.in-Some.thing) (by_bytes c.next.new.self) turn c.loop-name.invariant.2.2 (by_bytes c.insert.new.self.entries) absent put_in))
+    (tt, tt, step-new g.S.Standard.stands (turn g at) _ (there g at ∙ c.if-not-stands_for.true) put_in)
 
 pub returns-clause-ok : goal.returns-clause-ok
 returns-clause-ok g c =

@@ -4,7 +4,6 @@ use Rattle.tera_state.proofs.Puts.{bind-new, at_place, bind-at}
 use Rattle.tera_state.proofs.Once.{once-with}
 use Rattle.tera_state.proofs.Ends.{ends-end_with, ends_put, holds_of}
 use Rattle.tera_state.proofs.bindings.Bindings.put.Goals as goal
-use Rattle.tera_state.proofs.bindings.Bindings.put.Goals.{in-Some, in-None+in_ok-push-in-None}
 
 pub index_mut-requires : goal.index_mut-requires
 index_mut-requires c =
@@ -42,13 +41,13 @@ invariant_of-self-in_err-push-in-None c =
     holds_of c.push.new.self.items items c.end_with-self-inside.result (end_with c.args.frame c.args.layer end) c.in_err-push-in-None.ensures.items c.end_with-self-inside.ensures c.self.invariant.0
     (ends-end_with items c.args.frame c.args.layer end c.self.invariant.1)
 
-pub returns-clause-ok : goal.returns-clause-ok
-returns-clause-ok c = elim c.match-place.branch [
-  | in-Some w ↦
-      let h : place_from 0 c.self.inside.items.items c.args.frame c.args.layer c.args.name ≡ Some w.in-Some.at = search rules in
-      let m : w.in-Some.at ≡ 0 + w.in-Some.at = omega arith in
-      w.self-is ∙ bind-at 0 w.in-Some.at c.self.inside.items.items c.args.frame c.args.layer c.args.name c.args.value w.index_mut.result.now (h ∙ ap Some m) w.index_mut.ensures.value ∙ ap (λ bs. with_binding bs c.args.frame c.args.layer c.args.name c.args.value) c.self.view_is
-  | in-None+in_ok-push-in-None w ↦
-      let h : place_from 0 c.self.inside.items.items c.args.frame c.args.layer c.args.name ≡ None = search rules in
-      w.self-is ∙ w.in_ok-push-in-None.ensures.items ∙ bind-new 0 c.self.inside.items.items c.args.frame c.args.layer c.args.name c.args.value h ∙ ap (λ bs. with_binding bs c.args.frame c.args.layer c.args.name c.args.value) c.self.view_is
-]
+pub returns-in-Some-clause-ok : goal.returns-in-Some-clause-ok
+returns-in-Some-clause-ok c =
+    let h : place_from 0 c.self.inside.items.items c.args.frame c.args.layer c.args.name ≡ Some c.in-Some.at = search rules in
+    let m : c.in-Some.at ≡ 0 + c.in-Some.at = omega arith in
+    bind-at 0 c.in-Some.at c.self.inside.items.items c.args.frame c.args.layer c.args.name c.args.value c.index_mut.result.now (h ∙ ap Some m) c.index_mut.ensures.value ∙ ap (λ bs. with_binding bs c.args.frame c.args.layer c.args.name c.args.value) c.self.view_is
+
+pub returns-in_ok-push-in-None-clause-ok : goal.returns-in_ok-push-in-None-clause-ok
+returns-in_ok-push-in-None-clause-ok c =
+    let h : place_from 0 c.self.inside.items.items c.args.frame c.args.layer c.args.name ≡ None = search rules in
+    c.in_ok-push-in-None.ensures.items ∙ bind-new 0 c.self.inside.items.items c.args.frame c.args.layer c.args.name c.args.value h ∙ ap (λ bs. with_binding bs c.args.frame c.args.layer c.args.name c.args.value) c.self.view_is

@@ -1,11 +1,11 @@
 -- Attributes of a component: what is read is derived, and how what is derived is read.
-use Rattle.std.proofs.Common.{◌≡◌, ℕ, zero, suc, ◌≤◌, ◌⊎◌, inl, inr, max, Bool, true, false, ◌||◌, Option, Some, None, if◌then◌else◌, refl, sym, ◌∙◌, ap, subst, arith}
+use Rattle.std.proofs.Common.{◌≡◌, ℕ, zero, suc, ◌+◌, ◌-◌, ◌<◌, ◌≤◌, ◌⊎◌, inl, inr, max, Bool, true, false, ◌||◌, Option, Some, None, if◌then◌else◌, refl, sym, ◌∙◌, ap, subst, arith}
 use Rattle.tera_errors.specs.Site as site
 use Rattle.tera_syntax_tree.specs.Tree.{Expr, Text, Component, Key, TextKey, Entries, NoEntries, MoreEntries}
 use Rattle.tera_syntax_tree.specs.Depth.{depth, entries_depth}
 use Rattle.tera_syntax_tokens.specs.declared.token.Kind.{Kind}
 use Rattle.tera_syntax_tokens.specs.declared.token.Kind.TheVariants as k
-use Rattle.tera_syntax_tokens.specs.Input.{Input, Parser, and_then, same, kind, start, text, next, left, span, expect, is_word}
+use Rattle.tera_syntax_tokens.specs.Input.{Input, Outcome, Parser, and_then, same, kind, start, text, next, left, span, expect, is_word}
 use Rattle.tera_syntax_tokens.specs.Literal.{literal}
 use Rattle.tera_syntax_expressions.specs.Arguments.{argument_name, begins_attribute}
 use Rattle.tera_syntax_expressions.specs.Grammar.{Derives, component, DerivesValue, text_value, braced_value, DerivesAttribute, named_attribute, spread_attribute, DerivesAttributes, no_attributes, more_attributes}
@@ -15,6 +15,7 @@ use Rattle.tera_syntax_expressions.proofs.Steps.{and_then-some, guard, chosen, s
 use Rattle.tera_syntax_expressions.proofs.Rows.{join-no-entries, join-entries}
 use Rattle.tera_syntax_expressions.proofs.Forms.{deep-node, expects}
 use Rattle.tera_syntax_expressions.proofs.ArgumentRows.{Reads, named-got}
+use Rattle.tera_syntax_expressions.proofs.Turns.{one_more}
 
 -- no word is a brace
 word-no-brace : (s : Kind) → is_word s ≡ true → same k.LeftBrace s ≡ false
@@ -53,6 +54,12 @@ module _ (limit : ℕ) (part : ℕ → Parser Deep) where
   pub attributes-more : (n : ℕ) (found : Entries) (d : ℕ) (p : Entries × ℕ) (i a : Input) (y : Option ((Entries × ℕ) × Input)) → begins_attribute (kind i) ≡ true → r.any_attribute limit part found i ≡ Some (p, a)
       → r.attributes_from limit part n p.0 (max d p.1) a ≡ y → r.attributes_from limit part (suc n) found d i ≡ y
   attributes-more n found d p i a y h e q = attributes-next n found d i h ∙ ap (λ o. and_then o (attributes-behind n d)) e ∙ q
+
+  -- a turn of the loop that finds one
+  pub attributes-turn : {meant : Outcome (Entries × ℕ)} (n at : ℕ) (found : Entries) (d : ℕ) (i : Input) → at < n → meant ≡ r.attributes_from limit part (n - at) found d i → begins_attribute (kind i) ≡ true
+      → {o : Outcome (Entries × ℕ)} → r.any_attribute limit part found i ≡ o → meant ≡ and_then o (attributes-behind (n - (at + 1)) d)
+  attributes-turn n at found d i lt turn h e =
+      one_more (λ n. r.attributes_from limit part n found d i) n at lt turn ∙ attributes-next (n - (at + 1)) found d i h ∙ ap (λ o. and_then o (attributes-behind (n - (at + 1)) d)) e
 
   -- an attribute that was read, behind those that were found
   pub named_read : (found : Entries) (i m j : Input) (x : Deep) → argument_name i ≡ Some (text i, m) → r.attribute_value limit part m ≡ Some (x, j)

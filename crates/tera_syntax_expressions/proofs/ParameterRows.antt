@@ -1,19 +1,16 @@
 -- Parameters with commas between: the turns of the loop that reads them.
-use Rattle.std.proofs.Common.{◌≡◌, ℕ, suc, List, true, false, Option, Some, None, refl}
+use Rattle.std.proofs.Common.{◌≡◌, ℕ, suc, ◌+◌, ◌-◌, ◌<◌, List, true, false, Option, Some, None, refl, sym, ap, ◌∙◌}
 use Rattle.tera_errors.specs.Site.{Name}
 use Rattle.tera_syntax_tree.specs.Tree.{Parameter}
 use Rattle.tera_syntax_tokens.specs.declared.token.Kind.TheVariants.{Spread, Comma}
-use Rattle.tera_syntax_tokens.specs.Input.{Input, Parser, and_then, kind, next, same}
+use Rattle.tera_syntax_tokens.specs.Input.{Input, Outcome, Parser, and_then, kind, next, same}
 use Rattle.tera_syntax_expressions.specs.Headings.{name}
 use Rattle.tera_syntax_expressions.specs.Parameters.{with_parameter, rest_name, behind_parameter, parameters_from}
+use Rattle.tera_syntax_expressions.proofs.Turns.{one_more}
 
 pub rest_named : (found : List Parameter) (i j : Input) (n : Name) → name i ≡ Some (n, j) → rest_name found i ≡ Some ((found, Some n), j)
 unfolding rest_name
 rest_named found i j n h = rw h refl
-
-pub rest_unnamed : (found : List Parameter) (i : Input) → name i ≡ None → rest_name found i ≡ None
-unfolding rest_name
-rest_unnamed found i h = rw h refl
 
 module _ (limit : ℕ) where
   abbrev pub parameters_behind : ℕ → List Parameter → Parser (List Parameter × Option Name)
@@ -32,3 +29,19 @@ module _ (limit : ℕ) where
 
   pub parameters_end : (n : ℕ) (found : List Parameter) (j : Input) → same Comma (kind j) ≡ false → parameters_behind n found j ≡ Some ((found, None), j)
   parameters_end n found j h = rw h refl
+
+  -- a turn of the loop: what takes all others, a parameter, the comma behind it, and no comma
+  module _ {meant : Outcome (List Parameter × Option Name)} (n at : ℕ) (found : List Parameter) (i : Input) (lt : at < n) (turn : meant ≡ parameters_from limit (n - at) found i) where
+    pub parameters_last : same Spread (kind i) ≡ true → {a : Input} → a ≡ next i → {o : Outcome Name} → name a ≡ o → meant ≡ and_then o (λ rest. λ j. Some ((found, Some rest), j))
+    unfolding rest_name
+    parameters_last h {a = a} f e = one_more (λ n. parameters_from limit n found i) n at lt turn ∙ parameters_rest (n - (at + 1)) found i h ∙ ap (rest_name found) (sym f) ∙ ap (λ o. and_then o (λ rest. λ j. Some ((found, Some rest), j))) e
+
+    pub parameters_turn : same Spread (kind i) ≡ false → {o : Outcome (List Parameter)} → with_parameter limit found i ≡ o → meant ≡ and_then o (parameters_behind (n - (at + 1)))
+    parameters_turn h e = one_more (λ n. parameters_from limit n found i) n at lt turn ∙ parameters_next (n - (at + 1)) found i h ∙ ap (λ o. and_then o (parameters_behind (n - (at + 1)))) e
+
+    pub parameters_more : same Spread (kind i) ≡ false → {all : List Parameter} {j : Input} → with_parameter limit found i ≡ Some (all, j) → same Comma (kind j) ≡ true → {a : Input} → a ≡ next j
+        → meant ≡ parameters_from limit (n - (at + 1)) all a
+    parameters_more h {all = all} {j = j} e c f = parameters_turn h e ∙ parameters_comma (n - (at + 1)) all j c ∙ ap (parameters_from limit (n - (at + 1)) all) (sym f)
+
+    pub parameters_over : same Spread (kind i) ≡ false → {all : List Parameter} {j : Input} → with_parameter limit found i ≡ Some (all, j) → same Comma (kind j) ≡ false → meant ≡ Some ((all, None), j)
+    parameters_over h {all = all} {j = j} e c = parameters_turn h e ∙ parameters_end (n - (at + 1)) all j c

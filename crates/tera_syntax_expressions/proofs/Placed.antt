@@ -1,18 +1,19 @@
 -- Where an argument is put in a row of them, and the turns of the loop that reads them.
-use Rattle.std.proofs.Common.{◌≡◌, ℕ, suc, ◌+◌, ◌≤◌, max, List, [], ◌∷◌, length, true, false, Option, Some, None, option_map, refl, ◌∙◌, ap, arith, Ordering, Less, Equal, Greater}
+use Rattle.std.proofs.Common.{◌≡◌, ℕ, suc, ◌+◌, ◌-◌, ◌<◌, ◌≤◌, max, List, [], ◌∷◌, length, true, false, Option, Some, None, option_map, refl, sym, ◌∙◌, ap, arith, Ordering, Less, Equal, Greater}
 use Rattle.std.specs.List.{insert}
 use Rattle.std.specs.Ordering.{match_ordering}
 use Rattle.tera_errors.specs.Site.{Name}
 use Rattle.tera_syntax_tree.specs.declared.expression.Argument as argument
 use Rattle.tera_syntax_tree.specs.Tree.{Expr, Arguments, NoArguments, MoreArguments}
 use Rattle.tera_syntax_tree.specs.View.{arguments_of, expr_of}
-use Rattle.tera_syntax_tokens.specs.declared.token.Kind.TheVariants.{RightParenthesis, Comma}
-use Rattle.tera_syntax_tokens.specs.Input.{Input, Outcome, Parser, and_then, kind, text, next, same, expect}
+use Rattle.tera_syntax_tokens.specs.declared.token.Kind.TheVariants.{RightParenthesis}
+use Rattle.tera_syntax_tokens.specs.Input.{Input, Outcome, Parser, and_then, kind, text, next, same}
 use Rattle.tera_syntax_expressions.specs.Arguments.{name_cmp, put_argument, argument_name}
 use Rattle.tera_syntax_expressions.specs.Parts.{place_of}
 use Rattle.tera_syntax_expressions.specs.Expressions as r
 use Rattle.tera_syntax_expressions.specs.Expressions.{Deep}
 use Rattle.tera_syntax_expressions.proofs.ArgumentRows.{named-got}
+use Rattle.tera_syntax_expressions.proofs.Turns.{one_more, Behind, behind_these}
 
 -- the place, where this many others were passed
 abbrev pub from : ℕ → Option ℕ → Option ℕ
@@ -84,22 +85,19 @@ module _ (limit : ℕ) (sub : ℕ → Parser Deep) where
           let n = named-got i p.1 p.0 e in
           ap (λ n. and_then (sub 0 p.1) (λ x. r.placed limit sub (put_argument n x.expr found) x.depth)) n.2 ∙ value (sub 0 p.1)
 
-  pub arguments_end : (n : ℕ) (found : Arguments) (d : ℕ) (i : Input) → same RightParenthesis (kind i) ≡ true → r.arguments_from limit sub (suc n) found d i ≡ Some ((found, d), next i)
+-- A turn of the loop over arguments: what closes, no argument, and an argument with what is behind it
+module _ (limit : ℕ) (sub : ℕ → Parser Deep) {meant : Outcome (Arguments × ℕ)} (n at : ℕ) (found : Arguments) (d : ℕ) (i : Input) (lt : at < n) (turn : meant ≡ r.arguments_from limit sub (n - at) found d i) where
+  abbrev argument_rest : Arguments × ℕ → Parser (Arguments × ℕ)
+  argument_rest = r.behind_argument limit sub (r.arguments_from limit sub (n - (at + 1))) d
+
+  pub arguments_end : same RightParenthesis (kind i) ≡ true → {j : Input} → j ≡ next i → meant ≡ Some ((found, d), j)
   unfolding r.arguments_from
-  arguments_end n found d i h = rw h refl
+  arguments_end h e = one_more (λ n. r.arguments_from limit sub n found d i) n at lt turn ∙ rw h (ap (λ j. Some ((found, d), j)) (sym e))
 
-  abbrev pub rest_of : ℕ → ℕ → Arguments × ℕ → Parser (Arguments × ℕ)
-  rest_of n d p = r.behind_argument limit sub (r.arguments_from limit sub n) d p
-
-  pub arguments_next : (n : ℕ) (found : Arguments) (d : ℕ) (i : Input) → same RightParenthesis (kind i) ≡ false → r.arguments_from limit sub (suc n) found d i ≡ and_then (r.argument limit sub found i) (rest_of n d)
+  pub arguments_next : same RightParenthesis (kind i) ≡ false → {o : Outcome (Arguments × ℕ)} → r.argument limit sub found i ≡ o → meant ≡ and_then o argument_rest
   unfolding r.arguments_from
-  arguments_next n found d i h = rw h refl
+  arguments_next h e = one_more (λ n. r.arguments_from limit sub n found d i) n at lt turn ∙ rw h (ap (λ o. and_then o argument_rest) e)
 
-  pub arguments_comma : (n d : ℕ) (p : Arguments × ℕ) (j : Input) → same Comma (kind j) ≡ true → rest_of n d p j ≡ r.arguments_from limit sub n p.0 (max d p.1) (next j)
-  arguments_comma n d p j h = rw h refl
-
-  abbrev pub arguments_closed : Arguments → ℕ → Unit {0} → Parser (Arguments × ℕ)
-  arguments_closed f m done k = Some ((f, m), k)
-
-  pub arguments_shut : (n d : ℕ) (p : Arguments × ℕ) (j : Input) → same Comma (kind j) ≡ false → rest_of n d p j ≡ and_then (expect RightParenthesis j) (arguments_closed p.0 (max d p.1))
-  arguments_shut n d p j h = rw h refl
+  pub arguments_read : same RightParenthesis (kind i) ≡ false → {all : Arguments} {b : ℕ} {j : Input} → r.argument limit sub found i ≡ Some ((all, b), j) → {most : ℕ} → most ≡ max d b
+      → Behind meant RightParenthesis (λ (p : Arguments × ℕ). r.arguments_from limit sub (n - (at + 1)) p.0 p.1) (all, most) j
+  arguments_read h {j = j} e g = behind_these RightParenthesis (r.arguments_from limit sub (n - (at + 1))) j (arguments_next h e) refl g

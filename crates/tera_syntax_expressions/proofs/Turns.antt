@@ -1,5 +1,5 @@
 -- A recursion on a count of turns, beside a loop that counts up.
-use Rattle.std.proofs.Common.{◌≡◌, ℕ, zero, suc, ◌+◌, ◌-◌, ◌<◌, ◌≤◌, ap, ◌∙◌, arith, refl, sym, Option, Some, None, Bool, max, List, [], ◌∷◌, ◌++◌, true, drop, drop-drop, nat_eq, false, if◌then◌else◌}
+use Rattle.std.proofs.Common.{◌≡◌, ℕ, zero, suc, ◌+◌, ◌-◌, ◌<◌, ◌≤◌, ap, ap₂, ◌∙◌, arith, refl, sym, Option, Some, None, Bool, max, List, [], ◌∷◌, ◌++◌, true, drop, drop-drop, nat_eq, false, if◌then◌else◌}
 use Rattle.std.proofs.lemmas.Grind.{common_steps}
 use Rattle.tera_syntax_tokens.specs.declared.refusal.Refusal.{Refusal}
 use Rattle.tera_syntax_tokens.specs.declared.refusal.Refusal.TheVariants.{Syntax, OutOfMemory}
@@ -9,6 +9,7 @@ use Rattle.tera_syntax_tree.specs.View.{items_of, entries_of, literal_option, ex
 use Rattle.tera_syntax_tree.specs.declared.expression.Item as item
 use Rattle.tera_syntax_tree.specs.declared.expression.Entry as entry
 use Rattle.tera_syntax_tokens.specs.Token.{Token}
+use Rattle.tera_syntax_tokens.specs.declared.token.Kind.{Kind}
 use Rattle.tera_syntax_tokens.specs.declared.token.Kind.TheVariants.{LeftParenthesis, RightParenthesis, RightBracket, RightBrace, Comma, Spread}
 use Rattle.tera_syntax_tokens.specs.Input.{Input, Outcome, Parser, and_then, kind, next, after, same, start, starts, start_of, expect}
 use Rattle.tera_syntax_expressions.specs.Expressions.{Deep, join_items, one_item, join_entries, one_entry, entry_key, entry_rest, entries_from, behind_dots, behind_item, items_from, expr, level, climb, goes_on, gives, operation, floor_in, opened}
@@ -74,36 +75,45 @@ pub items_of-push : (all : List item.Item) (i : item.Item) → items_of (all ++ 
 items_of-push [] i = refl
 items_of-push (j ∷ all) i = ap (MoreItems j.is_spread (expr_of j.value)) (items_of-push all i)
 
-module _ (limit : ℕ) (sub : ℕ → Parser Deep) where
-  pub items_end : (n : ℕ) (found : Items) (d : ℕ) (i : Input) → same RightBracket (kind i) ≡ true → items_from limit sub (suc n) found d i ≡ Some ((found, d), next i)
+-- what a test of a token's kind tells of the next token
+pub tested : (test : Kind → Bool) {at here : Kind} {b v : Bool} → at ≡ here → b ≡ test at → b ≡ v → test here ≡ v
+tested test e t v = ap test (sym e) ∙ sym t ∙ v
+
+-- behind a part stands a comma and more, or what closes
+abbrev pub behind : {S : Type 0} → Kind → (S → Parser S) → S → Parser S
+behind closing more found j = if same Comma (kind j) then more found (next j) else and_then (expect closing j) (λ done. λ a. Some (found, a))
+
+pub record Behind {S : Type 0} (meant : Outcome S) (closing : Kind) (more : S → Parser S) (found : S) (j : Input) : Type 0 where
+  pub is : meant ≡ behind closing more found j
+
+pub behind_these : {A : Type 0} {meant : Outcome (A × ℕ)} (closing : Kind) (more : A → ℕ → Parser (A × ℕ)) (j : Input) {found all : A} {d most : ℕ} → meant ≡ behind closing (λ (p : A × ℕ). more p.0 p.1) (found, d) j
+    → all ≡ found → most ≡ d → Behind meant closing (λ (p : A × ℕ). more p.0 p.1) (all, most) j
+behind_these closing more j e f g = record { is = e ∙ ap₂ (λ found d. behind closing (λ (p : _ × ℕ). more p.0 p.1) (found, d) j) (sym f) (sym g) }
+
+pub goes_on_behind : {S : Type 0} {meant : Outcome S} {closing : Kind} {more : S → Parser S} {found : S} {j a : Input} → Behind meant closing more found j → same Comma (kind j) ≡ true → a ≡ next j
+    → meant ≡ more found a
+goes_on_behind {more = more} {found = found} b h e = b.is ∙ rw h (ap (more found) (sym e))
+
+pub closes_behind : {S : Type 0} {meant : Outcome S} {closing : Kind} {more : S → Parser S} {found : S} {j : Input} {o : Outcome (Unit {0})} → Behind meant closing more found j → same Comma (kind j) ≡ false
+    → expect closing j ≡ o → meant ≡ and_then o (λ done. λ a. Some (found, a))
+closes_behind {found = found} b h e = b.is ∙ rw h (ap (λ o. and_then o (λ done. λ a. Some (found, a))) e)
+
+-- A turn of the loop over items: what closes, no item, and an item with what is behind it
+module _ (limit : ℕ) (sub : ℕ → Parser Deep) {meant : Outcome (Items × ℕ)} (n at : ℕ) (found : Items) (d : ℕ) (i : Input) (lt : at < n) (turn : meant ≡ items_from limit sub (n - at) found d i) where
+  abbrev item_rest : Deep → Parser (Items × ℕ)
+  item_rest x = behind_item limit sub (items_from limit sub (n - (at + 1))) (join_items found (one_item (same Spread (kind i)) x.expr)) (max d x.depth)
+
+  pub items_end : same RightBracket (kind i) ≡ true → {j : Input} → j ≡ next i → meant ≡ Some ((found, d), j)
   unfolding items_from
-  items_end n found d i h = rw h refl
+  items_end h e = one_more (λ n. items_from limit sub n found d i) n at lt turn ∙ rw h (ap (λ j. Some ((found, d), j)) (sym e))
 
-  abbrev pub item_rest : ℕ → Items → ℕ → Bool → Deep → Parser (Items × ℕ)
-  item_rest n found d s x = behind_item limit sub (items_from limit sub n) (join_items found (one_item s x.expr)) (max d x.depth)
-
-  pub items_item : (n : ℕ) (found : Items) (d : ℕ) (i : Input) → same RightBracket (kind i) ≡ false
-      → items_from limit sub (suc n) found d i ≡ and_then (sub 0 (behind_dots i)) (item_rest n found d (same Spread (kind i)))
+  pub items_next : same RightBracket (kind i) ≡ false → {o : Outcome Deep} → sub 0 (behind_dots i) ≡ o → meant ≡ and_then o item_rest
   unfolding items_from
-  items_item n found d i h = rw h refl
+  items_next h e = one_more (λ n. items_from limit sub n found d i) n at lt turn ∙ rw h (ap (λ o. and_then o item_rest) e)
 
-  pub items_none : (n : ℕ) (found : Items) (d : ℕ) (i : Input) → same RightBracket (kind i) ≡ false → sub 0 (behind_dots i) ≡ None → items_from limit sub (suc n) found d i ≡ None
-  items_none n found d i h e = items_item n found d i h ∙ ap (λ o. and_then o (item_rest n found d (same Spread (kind i)))) e
-
-  pub items_some : (n : ℕ) (found : Items) (d : ℕ) (i : Input) (x : Deep) (j : Input) → same RightBracket (kind i) ≡ false → sub 0 (behind_dots i) ≡ Some (x, j)
-      → items_from limit sub (suc n) found d i ≡ item_rest n found d (same Spread (kind i)) x j
-  items_some n found d i x j h e = items_item n found d i h ∙ ap (λ o. and_then o (item_rest n found d (same Spread (kind i)))) e
-
-  pub items_comma : (n : ℕ) (found : Items) (d : ℕ) (s : Bool) (x : Deep) (j : Input) → same Comma (kind j) ≡ true
-      → item_rest n found d s x j ≡ items_from limit sub n (join_items found (one_item s x.expr)) (max d x.depth) (next j)
-  items_comma n found d s x j h = rw h refl
-
-  abbrev pub shut : Items → ℕ → Unit {0} → Parser (Items × ℕ)
-  shut f m done k = Some ((f, m), k)
-
-  pub items_shut : (n : ℕ) (found : Items) (d : ℕ) (s : Bool) (x : Deep) (j : Input) → same Comma (kind j) ≡ false
-      → item_rest n found d s x j ≡ and_then (expect RightBracket j) (shut (join_items found (one_item s x.expr)) (max d x.depth))
-  items_shut n found d s x j h = rw h refl
+  pub items_read : same RightBracket (kind i) ≡ false → {x : Deep} {j : Input} → sub 0 (behind_dots i) ≡ Some (x, j) → {all : Items} → all ≡ join_items found (one_item (same Spread (kind i)) x.expr)
+      → {most : ℕ} → most ≡ max d x.depth → Behind meant RightBracket (λ (p : Items × ℕ). items_from limit sub (n - (at + 1)) p.0 p.1) (all, most) j
+  items_read h {j = j} e f g = behind_these RightBracket (items_from limit sub (n - (at + 1))) j (items_next h e) f g
 
 -- a refusal of a part is one of the whole
 pub refused : {Y Z : Type 0} {part : Option Y} {meant : Option Z} (r : Refusal) → (part ≡ None → meant ≡ None) → Refuses part r → Refuses meant r
@@ -115,37 +125,28 @@ pub entries_of-push : (all : List entry.Entry) (i : entry.Entry) → entries_of 
 entries_of-push [] i = refl
 entries_of-push (j ∷ all) i = ap (MoreEntries (literal_option j.key) (expr_of j.value)) (entries_of-push all i)
 
-module _ (limit : ℕ) (sub : ℕ → Parser Deep) where
-  pub entries_end : (n : ℕ) (found : Entries) (d : ℕ) (i : Input) → same RightBrace (kind i) ≡ true → entries_from limit sub (suc n) found d i ≡ Some ((found, d), next i)
+-- the same of the loop over entries
+module _ (limit : ℕ) (sub : ℕ → Parser Deep) {meant : Outcome (Entries × ℕ)} (n at : ℕ) (found : Entries) (d : ℕ) (i : Input) (lt : at < n) (turn : meant ≡ entries_from limit sub (n - at) found d i) where
+  abbrev behind_key : Option Key → Parser (Entries × ℕ)
+  behind_key key j = and_then (sub 0 j) (entry_rest limit sub (entries_from limit sub (n - (at + 1))) found d key)
+
+  pub entries_end : same RightBrace (kind i) ≡ true → {j : Input} → j ≡ next i → meant ≡ Some ((found, d), j)
   unfolding entries_from
-  entries_end n found d i h = rw h refl
+  entries_end h e = one_more (λ n. entries_from limit sub n found d i) n at lt turn ∙ rw h (ap (λ j. Some ((found, d), j)) (sym e))
 
-  abbrev pub behind_key : ℕ → Entries → ℕ → Option Key → Parser (Entries × ℕ)
-  behind_key n found d key j = and_then (sub 0 j) (entry_rest limit sub (entries_from limit sub n) found d key)
-
-  pub entries_entry : (n : ℕ) (found : Entries) (d : ℕ) (i : Input) → same RightBrace (kind i) ≡ false → entries_from limit sub (suc n) found d i ≡ and_then (entry_key i) (behind_key n found d)
+  entries_next : same RightBrace (kind i) ≡ false → meant ≡ and_then (entry_key i) behind_key
   unfolding entries_from
-  entries_entry n found d i h = rw h refl
+  entries_next h = one_more (λ n. entries_from limit sub n found d i) n at lt turn ∙ rw h refl
 
-  none_by : (n : ℕ) (found : Entries) (d : ℕ) (o : Outcome (Option Key)) → and_then o (λ key. sub 0) ≡ None → and_then o (behind_key n found d) ≡ None
-  none_by n found d None h = refl
-  none_by n found d (Some p) h = ap (λ o. and_then o (entry_rest limit sub (entries_from limit sub n) found d p.0)) h
+  none_by : (o : Outcome (Option Key)) → and_then o (λ key. sub 0) ≡ None → and_then o behind_key ≡ None
+  none_by None h = refl
+  none_by (Some p) h = ap (λ o. and_then o (entry_rest limit sub (entries_from limit sub (n - (at + 1))) found d p.0)) h
 
-  pub entries_none : (n : ℕ) (found : Entries) (d : ℕ) (i : Input) → same RightBrace (kind i) ≡ false → and_then (entry_key i) (λ key. sub 0) ≡ None → entries_from limit sub (suc n) found d i ≡ None
-  entries_none n found d i h e = entries_entry n found d i h ∙ none_by n found d (entry_key i) e
+  pub entries_none : same RightBrace (kind i) ≡ false → and_then (entry_key i) (λ key. sub 0) ≡ None → meant ≡ None
+  entries_none h e = entries_next h ∙ none_by (entry_key i) e
 
-  pub entries_some : (n : ℕ) (found : Entries) (d : ℕ) (i : Input) (key : Option Key) (m : Input) (x : Deep) (j : Input) → same RightBrace (kind i) ≡ false → entry_key i ≡ Some (key, m) → sub 0 m ≡ Some (x, j)
-      → entries_from limit sub (suc n) found d i ≡ entry_rest limit sub (entries_from limit sub n) found d key x j
-  entries_some n found d i key m x j h e f =
-      entries_entry n found d i h ∙ ap (λ o. and_then o (behind_key n found d)) e ∙ ap (λ o. and_then o (entry_rest limit sub (entries_from limit sub n) found d key)) f
-
-  pub entries_comma : (n : ℕ) (found : Entries) (d : ℕ) (key : Option Key) (x : Deep) (j : Input) → same Comma (kind j) ≡ true
-      → entry_rest limit sub (entries_from limit sub n) found d key x j ≡ entries_from limit sub n (join_entries found (one_entry key x.expr)) (max d x.depth) (next j)
-  entries_comma n found d key x j h = rw h refl
-
-  abbrev pub entries_closed : Entries → ℕ → Unit {0} → Parser (Entries × ℕ)
-  entries_closed f m done k = Some ((f, m), k)
-
-  pub entries_shut : (n : ℕ) (found : Entries) (d : ℕ) (key : Option Key) (x : Deep) (j : Input) → same Comma (kind j) ≡ false
-      → entry_rest limit sub (entries_from limit sub n) found d key x j ≡ and_then (expect RightBrace j) (entries_closed (join_entries found (one_entry key x.expr)) (max d x.depth))
-  entries_shut n found d key x j h = rw h refl
+  pub entries_read : same RightBrace (kind i) ≡ false → {key : Option Key} {m : Input} → entry_key i ≡ Some (key, m) → {x : Deep} {j : Input} → sub 0 m ≡ Some (x, j)
+      → {all : Entries} → all ≡ join_entries found (one_entry key x.expr) → {most : ℕ} → most ≡ max d x.depth
+      → Behind meant RightBrace (λ (p : Entries × ℕ). entries_from limit sub (n - (at + 1)) p.0 p.1) (all, most) j
+  entries_read h {key = key} e {j = j} p f g =
+      behind_these RightBrace (entries_from limit sub (n - (at + 1))) j (entries_next h ∙ ap (λ o. and_then o behind_key) e ∙ ap (λ o. and_then o (entry_rest limit sub (entries_from limit sub (n - (at + 1))) found d key)) p) f g

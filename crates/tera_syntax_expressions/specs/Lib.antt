@@ -1,3 +1,4 @@
+pub mod Applications
 pub mod Keys
 pub mod Loops
 pub mod Headings

@@ -4,7 +4,8 @@ ghost use Rattle.tera_syntax_tokens.specs.Takes.{Takes, input};
 ghost use Rattle.tera_syntax_expressions.specs.Expressions as spec;
 ghost use Rattle.tera_syntax_expressions.specs.Parts.{Nests, deep_of, part_expr, part_of};
 
-use crate::expressions::Deep;
+use crate::expressions::{Deep, Read};
+use crate::making::{absent, present};
 use crate::reader::{Part, Reader, boxed, larger};
 use std::alloc::Global;
 use tera_syntax_tokens::input::{Tokens, is_word, same};
@@ -12,7 +13,7 @@ use tera_syntax_tokens::refusal::{Reason, Refusal};
 use tera_syntax_tokens::token::Kind;
 use tera_syntax_tree::{Bounds, Expression, Indexed};
 
-impl<'s, F: Fn(Global, &mut Tokens<'_, 's>, usize, u8) -> Result<Deep<'s>, Refusal>> Reader<F> {
+impl<'s, F: Fn(Global, &mut Tokens<'_, 's>, usize, u8) -> Read<'s>> Reader<F> {
     /// `x.name`, from the dot on.
     #[tactic(auto, unfolding(crate::specs::Expressions::attribute))]
     pub(crate) fn attribute(
@@ -21,7 +22,7 @@ impl<'s, F: Fn(Global, &mut Tokens<'_, 's>, usize, u8) -> Result<Deep<'s>, Refus
         optional: bool,
         start: usize,
         x: Deep<'s>,
-    ) -> Result<Deep<'s>, Refusal>
+    ) -> Read<'s>
         ensures { Takes deep_of (spec.attribute self.now.limit (spec.expr self.now.below)
             optional start (deep_of x.entry) (input tokens.old)) result tokens.new }
     {
@@ -46,7 +47,7 @@ impl<'s, F: Fn(Global, &mut Tokens<'_, 's>, usize, u8) -> Result<Deep<'s>, Refus
         optional: bool,
         start: usize,
         x: Deep<'s>,
-    ) -> Result<Deep<'s>, Refusal>
+    ) -> Read<'s>
         requires { Nests self.now.below (F.pre self.now.expr) (F.post self.now.expr) }
         ensures { Takes deep_of (spec.subscript self.now.limit (spec.expr self.now.below)
             optional start (deep_of x.entry) (input tokens.old)) result tokens.new }
@@ -69,22 +70,13 @@ impl<'s, F: Fn(Global, &mut Tokens<'_, 's>, usize, u8) -> Result<Deep<'s>, Refus
             (input tokens.old)) result tokens.new }
     {
         if same(Kind::Colon, tokens.kind()) {
-            return Ok(Part {
-                expression: None,
-                depth: 0,
-            });
+            return Ok(absent());
         }
         if same(Kind::RightBracket, tokens.kind()) {
-            return Ok(Part {
-                expression: None,
-                depth: 0,
-            });
+            return Ok(absent());
         }
         let x = self.sub(tokens, 0)?;
-        Ok(Part {
-            expression: Some(x.expression),
-            depth: x.depth,
-        })
+        Ok(present(x))
     }
 
     /// The step of a slice, if it is written, and how deep it is.
@@ -98,10 +90,7 @@ impl<'s, F: Fn(Global, &mut Tokens<'_, 's>, usize, u8) -> Result<Deep<'s>, Refus
             tokens.take();
             return self.part(tokens);
         }
-        Ok(Part {
-            expression: None,
-            depth: 0,
-        })
+        Ok(absent())
     }
 
     /// The index that was read, up to its bracket.
@@ -114,7 +103,7 @@ impl<'s, F: Fn(Global, &mut Tokens<'_, 's>, usize, u8) -> Result<Deep<'s>, Refus
         x: Deep<'s>,
         y: Option<Expression<'s>>,
         depth: usize,
-    ) -> Result<Deep<'s>, Refusal>
+    ) -> Read<'s>
         ensures { Takes deep_of (spec.index_at self.now.limit (spec.expr self.now.below)
             optional start (deep_of x.entry) (part_expr y.entry) depth (input tokens.old))
             result tokens.new }
@@ -145,7 +134,7 @@ impl<'s, F: Fn(Global, &mut Tokens<'_, 's>, usize, u8) -> Result<Deep<'s>, Refus
         start: usize,
         x: Deep<'s>,
         p: Part<'s>,
-    ) -> Result<Deep<'s>, Refusal>
+    ) -> Read<'s>
         requires { Nests self.now.below (F.pre self.now.expr) (F.post self.now.expr) }
         ensures { Takes deep_of (spec.slice self.now.limit (spec.expr self.now.below) optional start
             (deep_of x.entry) (part_of p.entry) (input tokens.old)) result tokens.new }
@@ -174,7 +163,7 @@ impl<'s, F: Fn(Global, &mut Tokens<'_, 's>, usize, u8) -> Result<Deep<'s>, Refus
         x: Deep<'s>,
         bounds: Box<Bounds<'s>>,
         depth: usize,
-    ) -> Result<Deep<'s>, Refusal>
+    ) -> Read<'s>
         ensures { let slice = spec.slice_made self.now.limit (spec.expr self.now.below)
             optional start (deep_of x.entry)
             (optional_of bounds.entry.value.start) (optional_of bounds.entry.value.end)

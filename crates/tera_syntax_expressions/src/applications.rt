@@ -6,23 +6,19 @@ ghost use Rattle.tera_syntax_expressions.specs.Arguments as call;
 ghost use Rattle.tera_syntax_expressions.specs.Expressions as spec;
 ghost use Rattle.tera_syntax_expressions.specs.Parts.{Nests, deep_of};
 
-use crate::expressions::Deep;
-use crate::reader::{Reader, larger};
+use crate::expressions::{Deep, Read};
+use crate::making::Application;
+use crate::reader::Reader;
 use std::alloc::Global;
 use tera_syntax_tokens::input::{Tokens, is_word, same};
 use tera_syntax_tokens::refusal::{Reason, Refusal};
 use tera_syntax_tokens::token::Kind;
-use tera_syntax_tree::{Argument, Expression};
+use tera_syntax_tree::Argument;
 
-impl<'s, F: Fn(Global, &mut Tokens<'_, 's>, usize, u8) -> Result<Deep<'s>, Refusal>> Reader<F> {
+impl<'s, F: Fn(Global, &mut Tokens<'_, 's>, usize, u8) -> Read<'s>> Reader<F> {
     /// `x | name`, from the bar on.
-    #[tactic(auto, unfolding(crate::specs::Expressions::filter, crate::specs::Expressions::passed))]
-    pub(crate) fn filter(
-        &self,
-        tokens: &mut Tokens<'_, 's>,
-        start: usize,
-        x: Deep<'s>,
-    ) -> Result<Deep<'s>, Refusal>
+    #[tactic(auto, unfolding(crate::specs::Expressions::filter))]
+    pub(crate) fn filter(&self, tokens: &mut Tokens<'_, 's>, start: usize, x: Deep<'s>) -> Read<'s>
         requires { Nests self.now.below (F.pre self.now.expr) (F.post self.now.expr) }
         ensures { let meant = spec.filter self.now.limit (spec.expr self.now.below) start
             (deep_of x.entry) in Takes deep_of (meant (input tokens.old)) result tokens.new }
@@ -31,25 +27,12 @@ impl<'s, F: Fn(Global, &mut Tokens<'_, 's>, usize, u8) -> Result<Deep<'s>, Refus
         if !is_word(tokens.kind()) {
             return Err(tokens.refuse(Reason::Expected(Kind::Name)));
         }
-        let name = tokens.text();
-        tokens.take();
-        let (arguments, b) = self.given(tokens)?;
-        let a = x.depth;
-        let depth = larger(a, b);
-        let span = tokens.span(start);
-        let value = Box::new(self.alloc, x.expression)?;
-        let expression = Expression::filter(value, name, arguments, span);
-        self.node(tokens, depth, expression)
+        self.passed(tokens, Application::Filter, start, x)
     }
 
     /// `x is name`, or `x is not name`, from `is` on.
     #[tactic(auto, unfolding(crate::specs::Expressions::tested))]
-    pub(crate) fn test(
-        &self,
-        tokens: &mut Tokens<'_, 's>,
-        start: usize,
-        x: Deep<'s>,
-    ) -> Result<Deep<'s>, Refusal>
+    pub(crate) fn test(&self, tokens: &mut Tokens<'_, 's>, start: usize, x: Deep<'s>) -> Read<'s>
         requires { Nests self.now.below (F.pre self.now.expr) (F.post self.now.expr) }
         ensures { let meant = spec.tested self.now.limit (spec.expr self.now.below) start
             (deep_of x.entry) in Takes deep_of (meant (input tokens.old)) result tokens.new }
@@ -60,19 +43,12 @@ impl<'s, F: Fn(Global, &mut Tokens<'_, 's>, usize, u8) -> Result<Deep<'s>, Refus
         }
         tokens.take();
         let y = self.test_by_name(tokens, start, x)?;
-        let depth = y.depth;
-        let expression = Expression::not(self.alloc, y.expression, tokens.span(start))?;
-        self.node(tokens, depth, expression)
+        self.inverse(tokens, start, y)
     }
 
     /// A test, from its name on.
-    #[tactic(auto, unfolding(crate::specs::Expressions::test_by_name, crate::specs::Expressions::passed))]
-    pub(crate) fn test_by_name(
-        &self,
-        tokens: &mut Tokens<'_, 's>,
-        start: usize,
-        x: Deep<'s>,
-    ) -> Result<Deep<'s>, Refusal>
+    #[tactic(auto, unfolding(crate::specs::Expressions::test_by_name))]
+    fn test_by_name(&self, tokens: &mut Tokens<'_, 's>, start: usize, x: Deep<'s>) -> Read<'s>
         requires { Nests self.now.below (F.pre self.now.expr) (F.post self.now.expr) }
         ensures { let meant = spec.test_by_name self.now.limit (spec.expr self.now.below) start
             (deep_of x.entry) in Takes deep_of (meant (input tokens.old)) result tokens.new }
@@ -80,15 +56,7 @@ impl<'s, F: Fn(Global, &mut Tokens<'_, 's>, usize, u8) -> Result<Deep<'s>, Refus
         if !is_test_name(tokens.kind()) {
             return Err(tokens.refuse(Reason::Expected(Kind::Name)));
         }
-        let name = tokens.text();
-        tokens.take();
-        let (arguments, b) = self.given(tokens)?;
-        let a = x.depth;
-        let depth = larger(a, b);
-        let span = tokens.span(start);
-        let value = Box::new(self.alloc, x.expression)?;
-        let expression = Expression::test(value, name, arguments, span);
-        self.node(tokens, depth, expression)
+        self.passed(tokens, Application::Test, start, x)
     }
 
     /// The arguments behind a name, if they are written, and the greatest depth.

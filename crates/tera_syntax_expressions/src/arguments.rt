@@ -8,7 +8,7 @@ ghost use Rattle.tera_syntax_expressions.specs.Arguments as call;
 ghost use Rattle.tera_syntax_expressions.specs.Expressions as spec;
 ghost use Rattle.tera_syntax_expressions.specs.Parts.{Nests, deep_of, place_of};
 
-use crate::expressions::Deep;
+use crate::expressions::{Deep, Read};
 use crate::levels::kinds;
 use crate::reader::{Reader, larger};
 use std::alloc::Global;
@@ -19,10 +19,10 @@ use tera_syntax_tokens::refusal::{Reason, Refusal};
 use tera_syntax_tokens::token::Kind;
 use tera_syntax_tree::{Argument, Expression};
 
-impl<'s, F: Fn(Global, &mut Tokens<'_, 's>, usize, u8) -> Result<Deep<'s>, Refusal>> Reader<F> {
+impl<'s, F: Fn(Global, &mut Tokens<'_, 's>, usize, u8) -> Read<'s>> Reader<F> {
     /// `name(name = x, ..)`
     #[tactic(auto, unfolding(crate::specs::Expressions::call))]
-    pub(crate) fn call(&self, tokens: &mut Tokens<'_, 's>) -> Result<Deep<'s>, Refusal>
+    pub(crate) fn call(&self, tokens: &mut Tokens<'_, 's>) -> Read<'s>
         requires { Nests self.now.below (F.pre self.now.expr) (F.post self.now.expr) }
         ensures { let meant = spec.call self.now.limit (spec.expr self.now.below) in
             Takes deep_of (meant (input tokens.old)) result tokens.new }

@@ -6,7 +6,7 @@ ghost use Rattle.tera_syntax_tokens.specs.Token.{tokens_of};
 ghost use Rattle.tera_syntax_expressions.specs.Expressions as spec;
 ghost use Rattle.tera_syntax_expressions.specs.Parts.{Nests, deep_of};
 
-use crate::expressions::Deep;
+use crate::expressions::{Deep, Read};
 use crate::levels::{begins, gives, goes_on};
 use crate::operators::Infix::{self, Binary};
 use crate::reader::Reader;
@@ -16,10 +16,10 @@ use tera_syntax_tokens::refusal::{Reason, Refusal};
 use tera_syntax_tokens::token::{Kind, Token};
 use tera_syntax_tree::BinaryOperator as Operator;
 
-impl<'s, F: Fn(Global, &mut Tokens<'_, 's>, usize, u8) -> Result<Deep<'s>, Refusal>> Reader<F> {
+impl<'s, F: Fn(Global, &mut Tokens<'_, 's>, usize, u8) -> Read<'s>> Reader<F> {
     /// An expression of this level or above.
     #[tactic(auto, unfolding(crate::specs::Expressions::level, crate::specs::Expressions::level_with))]
-    pub(crate) fn level(&self, tokens: &mut Tokens<'_, 's>, floor: u8) -> Result<Deep<'s>, Refusal>
+    pub(crate) fn level(&self, tokens: &mut Tokens<'_, 's>, floor: u8) -> Read<'s>
         requires { Nests self.now.below (F.pre self.now.expr) (F.post self.now.expr) }
         ensures { Takes deep_of (spec.level self.now.limit (spec.expr self.now.below) floor
             (input tokens.old)) result tokens.new }
@@ -48,7 +48,7 @@ impl<'s, F: Fn(Global, &mut Tokens<'_, 's>, usize, u8) -> Result<Deep<'s>, Refus
         mut have: u8,
         mut start: usize,
         mut x: Deep<'s>,
-    ) -> Result<Deep<'s>, Refusal>
+    ) -> Read<'s>
         requires { Nests self.now.below (F.pre self.now.expr) (F.post self.now.expr) }
         ensures { Takes deep_of (spec.climb self.now.limit (spec.expr self.now.below) turns
             (starts (tokens_of run.now) opens) floor have start (deep_of x.entry)
@@ -77,50 +77,40 @@ impl<'s, F: Fn(Global, &mut Tokens<'_, 's>, usize, u8) -> Result<Deep<'s>, Refus
 
     /// What the next token goes on to.
     #[tactic(auto, unfolding(crate::specs::Expressions::operation, crate::specs::Expressions::applied))]
-    pub(crate) fn operation(
-        &self,
-        tokens: &mut Tokens<'_, 's>,
-        start: usize,
-        x: Deep<'s>,
-    ) -> Result<Deep<'s>, Refusal>
+    fn operation(&self, tokens: &mut Tokens<'_, 's>, start: usize, x: Deep<'s>) -> Read<'s>
         requires { Nests self.now.below (F.pre self.now.expr) (F.post self.now.expr) }
         ensures { Takes deep_of (spec.operation self.now.limit (spec.expr self.now.below) start
             (deep_of x.entry) (input tokens.old)) result tokens.new }
     {
-        match tokens.kind() {
-            Kind::If => self.choice(tokens, start, x),
-            Kind::Not => self.not_in(tokens, start, x),
-            Kind::Is => self.test(tokens, start, x),
-            Kind::Bar => self.filter(tokens, start, x),
-            Kind::Dot => self.attribute(tokens, false, start, x),
-            Kind::OptionalDot => self.attribute(tokens, true, start, x),
-            Kind::LeftBracket => self.subscript(tokens, false, start, x),
-            Kind::OptionalBracket => self.subscript(tokens, true, start, x),
-            Kind::Or => self.infixed(tokens, 2, Infix::Or, start, x),
-            Kind::And => self.infixed(tokens, 3, Infix::And, start, x),
-            Kind::Equal => self.infixed(tokens, 5, Binary(Operator::Equal), start, x),
-            Kind::NotEqual => self.infixed(tokens, 5, Binary(Operator::NotEqual), start, x),
-            Kind::Less => self.infixed(tokens, 5, Binary(Operator::Less), start, x),
-            Kind::Greater => self.infixed(tokens, 5, Binary(Operator::Greater), start, x),
-            Kind::LessOrEqual => self.infixed(tokens, 5, Binary(Operator::LessOrEqual), start, x),
-            Kind::GreaterOrEqual => self.infixed(
-                tokens,
-                5,
-                Binary(Operator::GreaterOrEqual),
-                start,
-                x,
-            ),
-            Kind::In => self.infixed(tokens, 5, Binary(Operator::In), start, x),
-            Kind::Tilde => self.infixed(tokens, 6, Binary(Operator::Concat), start, x),
-            Kind::Plus => self.infixed(tokens, 7, Binary(Operator::Add), start, x),
-            Kind::Minus => self.infixed(tokens, 7, Binary(Operator::Subtract), start, x),
-            Kind::Star => self.infixed(tokens, 8, Binary(Operator::Multiply), start, x),
-            Kind::Slash => self.infixed(tokens, 8, Binary(Operator::Divide), start, x),
-            Kind::FloorSlash => self.infixed(tokens, 8, Binary(Operator::FloorDivide), start, x),
-            Kind::Percent => self.infixed(tokens, 8, Binary(Operator::Remainder), start, x),
-            Kind::Power => self.infixed(tokens, 8, Binary(Operator::Power), start, x),
-            _ => Err(tokens.refuse(Reason::NoOperation)),
-        }
+        let (level, op) = match tokens.kind() {
+            Kind::If => return self.choice(tokens, start, x),
+            Kind::Not => return self.not_in(tokens, start, x),
+            Kind::Is => return self.test(tokens, start, x),
+            Kind::Bar => return self.filter(tokens, start, x),
+            Kind::Dot => return self.attribute(tokens, false, start, x),
+            Kind::OptionalDot => return self.attribute(tokens, true, start, x),
+            Kind::LeftBracket => return self.subscript(tokens, false, start, x),
+            Kind::OptionalBracket => return self.subscript(tokens, true, start, x),
+            Kind::Or => (2, Infix::Or),
+            Kind::And => (3, Infix::And),
+            Kind::Equal => (5, Binary(Operator::Equal)),
+            Kind::NotEqual => (5, Binary(Operator::NotEqual)),
+            Kind::Less => (5, Binary(Operator::Less)),
+            Kind::Greater => (5, Binary(Operator::Greater)),
+            Kind::LessOrEqual => (5, Binary(Operator::LessOrEqual)),
+            Kind::GreaterOrEqual => (5, Binary(Operator::GreaterOrEqual)),
+            Kind::In => (5, Binary(Operator::In)),
+            Kind::Tilde => (6, Binary(Operator::Concat)),
+            Kind::Plus => (7, Binary(Operator::Add)),
+            Kind::Minus => (7, Binary(Operator::Subtract)),
+            Kind::Star => (8, Binary(Operator::Multiply)),
+            Kind::Slash => (8, Binary(Operator::Divide)),
+            Kind::FloorSlash => (8, Binary(Operator::FloorDivide)),
+            Kind::Percent => (8, Binary(Operator::Remainder)),
+            Kind::Power => (8, Binary(Operator::Power)),
+            _ => return Err(tokens.refuse(Reason::NoOperation)),
+        };
+        self.infixed(tokens, level, op, start, x)
     }
 }
 

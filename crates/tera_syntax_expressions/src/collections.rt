@@ -8,7 +8,7 @@ ghost use Rattle.tera_syntax_expressions.specs.Expressions as spec;
 ghost use Rattle.tera_syntax_expressions.specs.Keys.{key_at};
 ghost use Rattle.tera_syntax_expressions.specs.Parts.{TakesItem, TakesEntry, Nests, deep_of};
 
-use crate::expressions::Deep;
+use crate::expressions::{Deep, Read};
 use crate::reader::{Reader, larger};
 use std::alloc::{AllocError, Global};
 use tera_syntax_tokens::input::{Tokens, same};
@@ -17,14 +17,10 @@ use tera_syntax_tokens::refusal::{Reason, Refusal};
 use tera_syntax_tokens::token::Kind;
 use tera_syntax_tree::{Entry, Expression, Item, LiteralKey};
 
-impl<'s, F: Fn(Global, &mut Tokens<'_, 's>, usize, u8) -> Result<Deep<'s>, Refusal>> Reader<F> {
+impl<'s, F: Fn(Global, &mut Tokens<'_, 's>, usize, u8) -> Read<'s>> Reader<F> {
     /// What stands behind a bracket: an array, or a comprehension where `for` follows the first expression.
     #[tactic(auto, unfolding(crate::specs::Expressions::bracketed))]
-    pub(crate) fn bracketed(
-        &self,
-        tokens: &mut Tokens<'_, 's>,
-        start: usize,
-    ) -> Result<Deep<'s>, Refusal>
+    pub(crate) fn bracketed(&self, tokens: &mut Tokens<'_, 's>, start: usize) -> Read<'s>
         requires { Nests self.now.below (F.pre self.now.expr) (F.post self.now.expr) }
         ensures { let meant = spec.bracketed self.now.limit (spec.expr self.now.below) start in
             Takes deep_of (meant (input tokens.old)) result tokens.new }
@@ -51,7 +47,7 @@ impl<'s, F: Fn(Global, &mut Tokens<'_, 's>, usize, u8) -> Result<Deep<'s>, Refus
         start: usize,
         is_spread: bool,
         x: Deep<'s>,
-    ) -> Result<Deep<'s>, Refusal>
+    ) -> Read<'s>
         requires { Nests self.now.below (F.pre self.now.expr) (F.post self.now.expr) }
         ensures { let meant = spec.array self.now.limit (spec.expr self.now.below) start is_spread
             (deep_of x.entry) in Takes deep_of (meant (input tokens.old)) result tokens.new }
@@ -144,7 +140,7 @@ impl<'s, F: Fn(Global, &mut Tokens<'_, 's>, usize, u8) -> Result<Deep<'s>, Refus
 
     /// `{"key": x, ..}`
     #[tactic(auto, unfolding(crate::specs::Expressions::map))]
-    pub(crate) fn map(&self, tokens: &mut Tokens<'_, 's>) -> Result<Deep<'s>, Refusal>
+    pub(crate) fn map(&self, tokens: &mut Tokens<'_, 's>) -> Read<'s>
         requires { Nests self.now.below (F.pre self.now.expr) (F.post self.now.expr) }
         ensures { Takes deep_of (spec.map self.now.limit (spec.expr self.now.below)
             (input tokens.old)) result tokens.new }

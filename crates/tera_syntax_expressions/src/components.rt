@@ -9,7 +9,7 @@ ghost use Rattle.tera_syntax_expressions.specs.Expressions as spec;
 ghost use Rattle.tera_syntax_expressions.specs.Parts.{Nests, deep_of};
 
 use crate::arguments::argument_name;
-use crate::expressions::{Deep, expr};
+use crate::expressions::{Deep, Read, expr};
 use crate::reader::{Reader, larger};
 use std::alloc::Global;
 use tera_syntax_tokens::input::{Tokens, is_word, same};
@@ -41,10 +41,10 @@ pub fn attributes<'s>(
     Ok((found, depth))
 }
 
-impl<'s, F: Fn(Global, &mut Tokens<'_, 's>, usize, u8) -> Result<Deep<'s>, Refusal>> Reader<F> {
+impl<'s, F: Fn(Global, &mut Tokens<'_, 's>, usize, u8) -> Read<'s>> Reader<F> {
     /// `<name attributes/>`
     #[tactic(auto, unfolding(crate::specs::Expressions::component))]
-    pub(crate) fn component(&self, tokens: &mut Tokens<'_, 's>) -> Result<Deep<'s>, Refusal>
+    pub(crate) fn component(&self, tokens: &mut Tokens<'_, 's>) -> Read<'s>
         requires { Nests self.now.below (F.pre self.now.expr) (F.post self.now.expr) }
         ensures { let meant = spec.component self.now.limit (spec.expr self.now.below) in
             Takes deep_of (meant (input tokens.old)) result tokens.new }
@@ -69,7 +69,7 @@ impl<'s, F: Fn(Global, &mut Tokens<'_, 's>, usize, u8) -> Result<Deep<'s>, Refus
         name: &'s str,
         attributes: Vec<Entry<'s>>,
         depth: usize,
-    ) -> Result<Deep<'s>, Refusal>
+    ) -> Read<'s>
         ensures { let all = entries_of attributes.entry.items in
             let reader = spec.component_of self.now.limit (spec.expr self.now.below) in
             let meant = reader start name.now all depth in
@@ -180,7 +180,7 @@ impl<'s, F: Fn(Global, &mut Tokens<'_, 's>, usize, u8) -> Result<Deep<'s>, Refus
 
     /// The value of an attribute: a text, or an expression in braces.
     #[tactic(auto, unfolding(crate::specs::Expressions::attribute_value))]
-    pub(crate) fn attribute_value(&self, tokens: &mut Tokens<'_, 's>) -> Result<Deep<'s>, Refusal>
+    pub(crate) fn attribute_value(&self, tokens: &mut Tokens<'_, 's>) -> Read<'s>
         requires { Nests self.now.below (F.pre self.now.expr) (F.post self.now.expr) }
         ensures { let meant = spec.attribute_value self.now.limit (spec.expr self.now.below) in
             Takes deep_of (meant (input tokens.old)) result tokens.new }
@@ -208,7 +208,7 @@ impl<'s, F: Fn(Global, &mut Tokens<'_, 's>, usize, u8) -> Result<Deep<'s>, Refus
 
     /// An expression that a brace closes.
     #[tactic(auto, unfolding(crate::specs::Expressions::braced))]
-    pub(crate) fn braced(&self, tokens: &mut Tokens<'_, 's>) -> Result<Deep<'s>, Refusal>
+    pub(crate) fn braced(&self, tokens: &mut Tokens<'_, 's>) -> Read<'s>
         requires { Nests self.now.below (F.pre self.now.expr) (F.post self.now.expr) }
         ensures { let meant = spec.braced self.now.limit (spec.expr self.now.below) in
             Takes deep_of (meant (input tokens.old)) result tokens.new }

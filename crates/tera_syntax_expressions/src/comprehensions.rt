@@ -5,8 +5,9 @@ ghost use Rattle.tera_syntax_tokens.specs.Takes.{Takes, input};
 ghost use Rattle.tera_syntax_expressions.specs.Expressions as spec;
 ghost use Rattle.tera_syntax_expressions.specs.Parts.{Nests, deep_of, names_of, part_of};
 
-use crate::expressions::Deep;
+use crate::expressions::{Deep, Read};
 use crate::headings::{LoopNames, names};
+use crate::making::{absent, present};
 use crate::reader::{Part, Reader, boxed, larger};
 use std::alloc::{AllocError, Global};
 use tera_syntax_tokens::input::{Tokens, same};
@@ -14,7 +15,7 @@ use tera_syntax_tokens::refusal::Refusal;
 use tera_syntax_tokens::token::Kind;
 use tera_syntax_tree::{Expression, Heading};
 
-impl<'s, F: Fn(Global, &mut Tokens<'_, 's>, usize, u8) -> Result<Deep<'s>, Refusal>> Reader<F> {
+impl<'s, F: Fn(Global, &mut Tokens<'_, 's>, usize, u8) -> Read<'s>> Reader<F> {
     /// `[x for name in y]`, from `for` on.
     #[tactic(auto, unfolding(crate::specs::Expressions::comprehension))]
     pub(crate) fn comprehension(
@@ -22,7 +23,7 @@ impl<'s, F: Fn(Global, &mut Tokens<'_, 's>, usize, u8) -> Result<Deep<'s>, Refus
         tokens: &mut Tokens<'_, 's>,
         start: usize,
         x: Deep<'s>,
-    ) -> Result<Deep<'s>, Refusal>
+    ) -> Read<'s>
         requires { Nests self.now.below (F.pre self.now.expr) (F.post self.now.expr) }
         ensures { let meant = spec.comprehension self.now.limit (spec.expr self.now.below) start
             (deep_of x.entry) in Takes deep_of (meant (input tokens.old)) result tokens.new }
@@ -42,17 +43,11 @@ impl<'s, F: Fn(Global, &mut Tokens<'_, 's>, usize, u8) -> Result<Deep<'s>, Refus
             Takes part_of (meant (input tokens.old)) result tokens.new }
     {
         if !same(Kind::If, tokens.kind()) {
-            return Ok(Part {
-                expression: None,
-                depth: 0,
-            });
+            return Ok(absent());
         }
         tokens.take();
         let x = self.sub(tokens, 1)?;
-        Ok(Part {
-            expression: Some(x.expression),
-            depth: x.depth,
-        })
+        Ok(present(x))
     }
 
     /// A comprehension whose parts were read, up to its bracket.
@@ -65,7 +60,7 @@ impl<'s, F: Fn(Global, &mut Tokens<'_, 's>, usize, u8) -> Result<Deep<'s>, Refus
         names: LoopNames<'s>,
         target: Deep<'s>,
         only: Part<'s>,
-    ) -> Result<Deep<'s>, Refusal>
+    ) -> Read<'s>
         ensures { let meant = spec.comprehension_made self.now.limit (spec.expr self.now.below)
             start (deep_of x.entry) (names_of names.entry)
             (deep_of target.entry) (part_of only.entry) in

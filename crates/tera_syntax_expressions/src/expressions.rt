@@ -19,6 +19,9 @@ pub struct Deep<'s> {
     pub depth: usize,
 }
 
+/// What reading an expression gives.
+pub(crate) type Read<'s> = Result<Deep<'s>, Refusal>;
+
 /// An expression of this level or above, no deeper than `limit`.
 pub fn expr<'s>(
     alloc: Global,

@@ -6,7 +6,7 @@ ghost use Rattle.tera_syntax_tokens.specs.Takes.{Takes, input};
 ghost use Rattle.tera_syntax_expressions.specs.Expressions as spec;
 ghost use Rattle.tera_syntax_expressions.specs.Parts.{Nests};
 
-use crate::expressions::{Deep, expr};
+use crate::expressions::{Deep, Read, expr};
 use crate::reader::{Reader, larger};
 use std::alloc::Global;
 use tera_syntax_tokens::input::{Tokens, is_word, same};
@@ -36,7 +36,7 @@ pub fn filters<'s>(
     reader.filters(tokens)
 }
 
-impl<'s, F: Fn(Global, &mut Tokens<'_, 's>, usize, u8) -> Result<Deep<'s>, Refusal>> Reader<F> {
+impl<'s, F: Fn(Global, &mut Tokens<'_, 's>, usize, u8) -> Read<'s>> Reader<F> {
     /// Filters with bars between, and the greatest depth.
     #[tactic(auto, unfolding(crate::specs::Expressions::filters_from))]
     pub(crate) fn filters(

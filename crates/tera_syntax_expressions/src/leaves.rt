@@ -8,7 +8,7 @@ ghost use Rattle.std.specs.Prelude.{◌≡◌, option_map};
 ghost use Rattle.tera_syntax_expressions.specs.Parts.{Nests, deep_of};
 
 use crate::arguments::is_call;
-use crate::expressions::Deep;
+use crate::expressions::{Deep, Read};
 use crate::reader::Reader;
 use std::alloc::Global;
 use tera_syntax_tokens::input::{Tokens, same};
@@ -17,10 +17,10 @@ use tera_syntax_tokens::refusal::{Reason, Refusal};
 use tera_syntax_tokens::token::Kind;
 use tera_syntax_tree::Expression;
 
-impl<'s, F: Fn(Global, &mut Tokens<'_, 's>, usize, u8) -> Result<Deep<'s>, Refusal>> Reader<F> {
+impl<'s, F: Fn(Global, &mut Tokens<'_, 's>, usize, u8) -> Read<'s>> Reader<F> {
     /// What stands before the first operator.
     #[tactic(auto, unfolding(crate::specs::Expressions::head))]
-    pub(crate) fn head(&self, tokens: &mut Tokens<'_, 's>) -> Result<Deep<'s>, Refusal>
+    pub(crate) fn head(&self, tokens: &mut Tokens<'_, 's>) -> Read<'s>
         requires { Nests self.now.below (F.pre self.now.expr) (F.post self.now.expr) }
         ensures { Takes deep_of (spec.head self.now.limit (spec.expr self.now.below)
             (input tokens.old)) result tokens.new }
@@ -52,7 +52,7 @@ impl<'s, F: Fn(Global, &mut Tokens<'_, 's>, usize, u8) -> Result<Deep<'s>, Refus
 
     /// A name or an integer, and what else may begin an expression.
     #[tactic(auto, unfolding(crate::specs::Expressions::head))]
-    pub(crate) fn leaf(&self, tokens: &mut Tokens<'_, 's>) -> Result<Deep<'s>, Refusal>
+    pub(crate) fn leaf(&self, tokens: &mut Tokens<'_, 's>) -> Read<'s>
         requires { Nests self.now.below (F.pre self.now.expr) (F.post self.now.expr) }
         ensures { Takes deep_of (spec.head self.now.limit (spec.expr self.now.below)
             (input tokens.old)) result tokens.new }
@@ -66,7 +66,7 @@ impl<'s, F: Fn(Global, &mut Tokens<'_, 's>, usize, u8) -> Result<Deep<'s>, Refus
 
     /// An integer.
     #[inline(always)]
-    pub(crate) fn int(&self, tokens: &mut Tokens<'_, 's>) -> Result<Deep<'s>, Refusal>
+    pub(crate) fn int(&self, tokens: &mut Tokens<'_, 's>) -> Read<'s>
         ensures { Takes deep_of (spec.head_by self.now.limit (spec.expr self.now.below) Kind.Int
             (input tokens.old)) result tokens.new }
     {
@@ -82,7 +82,7 @@ impl<'s, F: Fn(Global, &mut Tokens<'_, 's>, usize, u8) -> Result<Deep<'s>, Refus
     }
 
     /// A text in quotes.
-    pub(crate) fn text(&self, tokens: &mut Tokens<'_, 's>) -> Result<Deep<'s>, Refusal>
+    pub(crate) fn text(&self, tokens: &mut Tokens<'_, 's>) -> Read<'s>
         ensures { Takes deep_of (spec.head_by self.now.limit (spec.expr self.now.below) Kind.Text
             (input tokens.old)) result tokens.new }
     {
@@ -99,7 +99,7 @@ impl<'s, F: Fn(Global, &mut Tokens<'_, 's>, usize, u8) -> Result<Deep<'s>, Refus
 
     /// A name, or a call.
     #[inline(always)]
-    pub(crate) fn name(&self, tokens: &mut Tokens<'_, 's>) -> Result<Deep<'s>, Refusal>
+    pub(crate) fn name(&self, tokens: &mut Tokens<'_, 's>) -> Read<'s>
         requires { Nests self.now.below (F.pre self.now.expr) (F.post self.now.expr) }
         ensures { Takes deep_of (spec.head_by self.now.limit (spec.expr self.now.below) Kind.Name
             (input tokens.old)) result tokens.new }
@@ -122,11 +122,7 @@ impl<'s, F: Fn(Global, &mut Tokens<'_, 's>, usize, u8) -> Result<Deep<'s>, Refus
     }
 
     /// `true` or `false`.
-    pub(crate) fn constant(
-        &self,
-        tokens: &mut Tokens<'_, 's>,
-        value: bool,
-    ) -> Result<Deep<'s>, Refusal>
+    pub(crate) fn constant(&self, tokens: &mut Tokens<'_, 's>, value: bool) -> Read<'s>
         ensures { Takes deep_of (spec.node self.now.limit 0
             (Boolean value (span (start (input tokens.old)) (next (input tokens.old))))
             (next (input tokens.old))) result tokens.new }

@@ -8,33 +8,8 @@ ghost use Rattle.tera_syntax_expressions.specs.Expressions as spec;
 use tera_syntax_tokens::input::{Tokens, same};
 use tera_syntax_tokens::token::Kind;
 
-/// The least level of an expression before this token that goes on with it, and 12 where none does.
-#[tactic(auto, unfolding(crate::specs::Expressions::needs))]
-pub(crate) fn needs(kind: Kind) -> u8
-    ensures { result ≡ spec.needs kind }
-{
-    match kind {
-        Kind::If | Kind::Or => 1,
-        Kind::And => 2,
-        Kind::Not
-        | Kind::Equal
-        | Kind::NotEqual
-        | Kind::Less
-        | Kind::Greater
-        | Kind::LessOrEqual
-        | Kind::GreaterOrEqual
-        | Kind::In
-        | Kind::Is => 4,
-        Kind::Tilde => 5,
-        Kind::Plus | Kind::Minus => 6,
-        Kind::Star | Kind::Slash | Kind::FloorSlash | Kind::Percent => 7,
-        Kind::Power | Kind::Bar => 10,
-        Kind::Dot | Kind::OptionalDot | Kind::LeftBracket | Kind::OptionalBracket => 11,
-        _ => 12,
-    }
-}
-
-/// The level of what this token goes on to.
+/// The level of what an expression goes on to with this token, and 12 where none does.
+#[inline(always)]
 #[tactic(auto, unfolding(crate::specs::Expressions::gives))]
 pub(crate) fn gives(kind: Kind) -> u8
     ensures { result ≡ spec.gives kind }
@@ -59,6 +34,19 @@ pub(crate) fn gives(kind: Kind) -> u8
         Kind::Bar => 10,
         Kind::Dot | Kind::OptionalDot | Kind::LeftBracket | Kind::OptionalBracket => 11,
         _ => 12,
+    }
+}
+
+/// The least level of an expression before this token that goes on with it.
+#[inline(always)]
+#[tactic(auto, unfolding(crate::specs::Expressions::needs))]
+pub(crate) fn needs(kind: Kind) -> u8
+    ensures { result ≡ spec.needs kind }
+{
+    match kind {
+        Kind::If => 1,
+        Kind::Power => 10,
+        _ => gives(kind),
     }
 }
 

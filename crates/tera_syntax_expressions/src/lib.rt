@@ -18,6 +18,7 @@ pub mod headings;
 mod leaves;
 mod levels;
 mod literals;
+mod making;
 mod operators;
 /// Signatures of components.
 pub mod parameters;

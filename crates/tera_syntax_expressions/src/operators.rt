@@ -6,7 +6,7 @@ ghost use Rattle.tera_syntax_tokens.specs.Takes.{Takes, input};
 ghost use Rattle.tera_syntax_expressions.specs.Expressions as spec;
 ghost use Rattle.tera_syntax_expressions.specs.Parts.{Nests, deep_of, infix_of};
 
-use crate::expressions::Deep;
+use crate::expressions::{Deep, Read};
 use crate::reader::{Reader, larger};
 use std::alloc::Global;
 use tera_errors::Span;
@@ -26,10 +26,10 @@ pub(crate) enum Infix {
     Binary(BinaryOperator),
 }
 
-impl<'s, F: Fn(Global, &mut Tokens<'_, 's>, usize, u8) -> Result<Deep<'s>, Refusal>> Reader<F> {
+impl<'s, F: Fn(Global, &mut Tokens<'_, 's>, usize, u8) -> Read<'s>> Reader<F> {
     /// `-x`
     #[tactic(auto, unfolding(crate::specs::Expressions::prefixed))]
-    pub(crate) fn negated(&self, tokens: &mut Tokens<'_, 's>) -> Result<Deep<'s>, Refusal>
+    pub(crate) fn negated(&self, tokens: &mut Tokens<'_, 's>) -> Read<'s>
         requires { Nests self.now.below (F.pre self.now.expr) (F.post self.now.expr) }
         ensures { Takes deep_of (spec.prefixed self.now.limit (spec.expr self.now.below) 8 Negate
             (input tokens.old)) result tokens.new }
@@ -44,7 +44,7 @@ impl<'s, F: Fn(Global, &mut Tokens<'_, 's>, usize, u8) -> Result<Deep<'s>, Refus
 
     /// `not x`
     #[tactic(auto, unfolding(crate::specs::Expressions::prefixed))]
-    pub(crate) fn inverted(&self, tokens: &mut Tokens<'_, 's>) -> Result<Deep<'s>, Refusal>
+    pub(crate) fn inverted(&self, tokens: &mut Tokens<'_, 's>) -> Read<'s>
         requires { Nests self.now.below (F.pre self.now.expr) (F.post self.now.expr) }
         ensures { Takes deep_of (spec.prefixed self.now.limit (spec.expr self.now.below) 3 Not
             (input tokens.old)) result tokens.new }
@@ -52,9 +52,7 @@ impl<'s, F: Fn(Global, &mut Tokens<'_, 's>, usize, u8) -> Result<Deep<'s>, Refus
         let start = tokens.start();
         tokens.take();
         let x = self.sub(tokens, 3)?;
-        let depth = x.depth;
-        let expression = Expression::not(self.alloc, x.expression, tokens.span(start))?;
-        self.node(tokens, depth, expression)
+        self.inverse(tokens, start, x)
     }
 
     /// An operator and what stands behind it, of this level or above.
@@ -66,7 +64,7 @@ impl<'s, F: Fn(Global, &mut Tokens<'_, 's>, usize, u8) -> Result<Deep<'s>, Refus
         op: Infix,
         start: usize,
         x: Deep<'s>,
-    ) -> Result<Deep<'s>, Refusal>
+    ) -> Read<'s>
         requires { Nests self.now.below (F.pre self.now.expr) (F.post self.now.expr) }
         ensures { Takes deep_of (spec.infixed self.now.limit (spec.expr self.now.below) level
             (infix_of op) start (deep_of x.entry) (input tokens.old)) result tokens.new }
@@ -84,31 +82,9 @@ impl<'s, F: Fn(Global, &mut Tokens<'_, 's>, usize, u8) -> Result<Deep<'s>, Refus
         self.node(tokens, depth, make_infix(op, operands, span))
     }
 
-    /// The same, for an operator that works on two values.
-    #[tactic(auto, unfolding(crate::specs::Expressions::applied))]
-    pub(crate) fn binary(
-        &self,
-        tokens: &mut Tokens<'_, 's>,
-        level: u8,
-        operator: BinaryOperator,
-        start: usize,
-        x: Deep<'s>,
-    ) -> Result<Deep<'s>, Refusal>
-        requires { Nests self.now.below (F.pre self.now.expr) (F.post self.now.expr) }
-        ensures { Takes deep_of (spec.applied self.now.limit (spec.expr self.now.below)
-            level operator start (deep_of x.entry) (input tokens.old)) result tokens.new }
-    {
-        self.infixed(tokens, level, Infix::Binary(operator), start, x)
-    }
-
     /// `x not in y`
-    #[tactic(auto, unfolding(crate::specs::Expressions::not_in))]
-    pub(crate) fn not_in(
-        &self,
-        tokens: &mut Tokens<'_, 's>,
-        start: usize,
-        x: Deep<'s>,
-    ) -> Result<Deep<'s>, Refusal>
+    #[tactic(auto, unfolding(crate::specs::Expressions::not_in, crate::specs::Expressions::applied))]
+    pub(crate) fn not_in(&self, tokens: &mut Tokens<'_, 's>, start: usize, x: Deep<'s>) -> Read<'s>
         requires { Nests self.now.below (F.pre self.now.expr) (F.post self.now.expr) }
         ensures { Takes deep_of (spec.not_in self.now.limit (spec.expr self.now.below) start
             (deep_of x.entry) (input tokens.old)) result tokens.new }
@@ -117,20 +93,13 @@ impl<'s, F: Fn(Global, &mut Tokens<'_, 's>, usize, u8) -> Result<Deep<'s>, Refus
         if !same(Kind::In, tokens.kind()) {
             return Err(tokens.refuse(Reason::Expected(Kind::In)));
         }
-        let y = self.binary(tokens, 5, BinaryOperator::In, start, x)?;
-        let depth = y.depth;
-        let expression = Expression::not(self.alloc, y.expression, tokens.span(start))?;
-        self.node(tokens, depth, expression)
+        let y = self.infixed(tokens, 5, Infix::Binary(BinaryOperator::In), start, x)?;
+        self.inverse(tokens, start, y)
     }
 
     /// `x if y else z`, from `if` on.
     #[tactic(auto, unfolding(crate::specs::Expressions::choice))]
-    pub(crate) fn choice(
-        &self,
-        tokens: &mut Tokens<'_, 's>,
-        start: usize,
-        x: Deep<'s>,
-    ) -> Result<Deep<'s>, Refusal>
+    pub(crate) fn choice(&self, tokens: &mut Tokens<'_, 's>, start: usize, x: Deep<'s>) -> Read<'s>
         requires { Nests self.now.below (F.pre self.now.expr) (F.post self.now.expr) }
         ensures { Takes deep_of (spec.choice self.now.limit (spec.expr self.now.below) start
             (deep_of x.entry) (input tokens.old)) result tokens.new }
@@ -149,7 +118,7 @@ impl<'s, F: Fn(Global, &mut Tokens<'_, 's>, usize, u8) -> Result<Deep<'s>, Refus
         start: usize,
         x: Deep<'s>,
         y: Deep<'s>,
-    ) -> Result<Deep<'s>, Refusal>
+    ) -> Read<'s>
         requires { Nests self.now.below (F.pre self.now.expr) (F.post self.now.expr) }
         ensures { Takes deep_of (spec.other self.now.limit (spec.expr self.now.below) start
             (deep_of x.entry) (deep_of y.entry) (input tokens.old)) result tokens.new }

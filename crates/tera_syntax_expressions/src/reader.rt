@@ -5,7 +5,7 @@ ghost use Rattle.tera_syntax_tokens.specs.Takes.{Takes, input};
 ghost use Rattle.tera_syntax_expressions.specs.Expressions as spec;
 ghost use Rattle.tera_syntax_expressions.specs.Parts.{Nests, deep_of, part_expr};
 
-use crate::expressions::Deep;
+use crate::expressions::{Deep, Read};
 use std::alloc::{AllocError, Global};
 use tera_syntax_tokens::input::Tokens;
 use tera_syntax_tokens::refusal::{Reason, Refusal};
@@ -30,9 +30,9 @@ pub(crate) struct Reader<F> {
     pub(crate) expr: F,
 }
 
-impl<'s, F: Fn(Global, &mut Tokens<'_, 's>, usize, u8) -> Result<Deep<'s>, Refusal>> Reader<F> {
+impl<'s, F: Fn(Global, &mut Tokens<'_, 's>, usize, u8) -> Read<'s>> Reader<F> {
     /// A part, of this level or above.
-    pub(crate) fn sub(&self, tokens: &mut Tokens<'_, 's>, floor: u8) -> Result<Deep<'s>, Refusal>
+    pub(crate) fn sub(&self, tokens: &mut Tokens<'_, 's>, floor: u8) -> Read<'s>
         requires { Nests self.now.below (F.pre self.now.expr) (F.post self.now.expr) }
         ensures { Takes deep_of (spec.expr self.now.below floor (input tokens.old))
             result tokens.new }
@@ -48,7 +48,7 @@ impl<'s, F: Fn(Global, &mut Tokens<'_, 's>, usize, u8) -> Result<Deep<'s>, Refus
         tokens: &mut Tokens<'_, 's>,
         depth: usize,
         expression: Expression<'s>,
-    ) -> Result<Deep<'s>, Refusal>
+    ) -> Read<'s>
         ensures { Takes deep_of (spec.node self.now.limit depth (expr_of expression.entry)
             (input tokens.old)) result tokens.new }
     {

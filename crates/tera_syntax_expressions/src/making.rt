@@ -1,0 +1,105 @@
+// Forms that more than one rule makes.
+ghost use Rattle.std.specs.Prelude.{◌≡◌};
+ghost use Rattle.tera_syntax_tree.specs.Tree.{Absent, Not, Present};
+ghost use Rattle.tera_syntax_tree.specs.View.{arguments_of, expr_of};
+ghost use Rattle.tera_syntax_tokens.specs.Input.{span};
+ghost use Rattle.tera_syntax_tokens.specs.Takes.{Takes, input};
+ghost use Rattle.tera_syntax_expressions.specs.Applications.{application_of};
+ghost use Rattle.tera_syntax_expressions.specs.Expressions as spec;
+ghost use Rattle.tera_syntax_expressions.specs.Parts.{Nests, deep_of, part_of};
+
+use crate::expressions::{Deep, Read};
+use crate::reader::{Part, Reader, larger};
+use std::alloc::Global;
+use tera_errors::Span;
+use tera_syntax_tokens::input::Tokens;
+use tera_syntax_tokens::refusal::Refusal;
+use tera_syntax_tree::{Argument, Expression};
+
+/// What a name behind a value makes of it.
+#[derive(Clone, Copy)]
+pub(crate) enum Application {
+    /// `x | name`
+    Filter,
+    /// `x is name`
+    Test,
+}
+
+impl<'s, F: Fn(Global, &mut Tokens<'_, 's>, usize, u8) -> Read<'s>> Reader<F> {
+    /// What was read, inverted.
+    #[inline(always)]
+    pub(crate) fn inverse(&self, tokens: &mut Tokens<'_, 's>, start: usize, x: Deep<'s>) -> Read<'s>
+        ensures { let i = input tokens.old in let whole = deep_of x.entry in
+            Takes deep_of (spec.node self.now.limit whole.depth (Not whole.expr (span start i)) i)
+            result tokens.new }
+    {
+        let depth = x.depth;
+        let expression = Expression::not(self.alloc, x.expression, tokens.span(start))?;
+        self.node(tokens, depth, expression)
+    }
+
+    /// What a name and arguments make of a value, from the name on.
+    #[inline(always)]
+    #[tactic(auto, unfolding(crate::specs::Expressions::passed))]
+    pub(crate) fn passed(
+        &self,
+        tokens: &mut Tokens<'_, 's>,
+        form: Application,
+        start: usize,
+        x: Deep<'s>,
+    ) -> Read<'s>
+        requires { Nests self.now.below (F.pre self.now.expr) (F.post self.now.expr) }
+        ensures { let meant = spec.passed self.now.limit (spec.expr self.now.below)
+            (application_of form) start (deep_of x.entry) in
+            Takes deep_of (meant (input tokens.old)) result tokens.new }
+    {
+        let name = tokens.text();
+        tokens.take();
+        let (arguments, b) = self.given(tokens)?;
+        let a = x.depth;
+        let depth = larger(a, b);
+        let value = Box::new(self.alloc, x.expression)?;
+        let expression = make_application(form, value, name, arguments, tokens.span(start));
+        self.node(tokens, depth, expression)
+    }
+}
+
+/// The form that a name and arguments make of a value.
+#[inline(always)]
+fn make_application<'s>(
+    form: Application,
+    value: Box<Expression<'s>>,
+    name: &'s str,
+    arguments: Vec<Argument<'s>>,
+    span: Span,
+) -> Expression<'s>
+    ensures { let all = arguments_of arguments.entry.items in
+        expr_of result ≡ application_of form (expr_of value.entry.value) name.now all span }
+{
+    match form {
+        Application::Filter => Expression::filter(value, name, arguments, span),
+        Application::Test => Expression::test(value, name, arguments, span),
+    }
+}
+
+/// A part that is not written.
+#[inline(always)]
+pub(crate) fn absent<'s>() -> Part<'s>
+    ensures { part_of result ≡ (Absent, 0) }
+{
+    Part {
+        expression: None,
+        depth: 0,
+    }
+}
+
+/// A part that is.
+#[inline(always)]
+pub(crate) fn present<'s>(x: Deep<'s>) -> Part<'s>
+    ensures { part_of result ≡ (Present (expr_of x.entry.expression), x.entry.depth) }
+{
+    Part {
+        expression: Some(x.expression),
+        depth: x.depth,
+    }
+}

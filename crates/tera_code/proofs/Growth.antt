@@ -22,7 +22,7 @@ use Rattle.tera_code.specs.Packed.{Shelf, Longer, Grows, Packs, Within, unpacked
 use Rattle.tera_code.specs.Listing.{Listing}
 use Rattle.tera_code.specs.Code.{lengthened}
 use Rattle.tera_code.specs.Places.{filled}
-use Rattle.tera_code.proofs.Written.{fine, same_ok, keys_of-append}
+use Rattle.tera_code.proofs.Written.{keys_of-append}
 
 pub boundary_stays : (bs ds : List ℕ) (i : ℕ) → IsUtf8 bs → IsUtf8 (bs ++ ds) → IsCharBoundary bs i → IsCharBoundary (bs ++ ds) i
 boundary_stays bs ds i u v b =
@@ -51,12 +51,12 @@ text_there bs ds cs i j u v e g h =
     )
 
 -- one key more is copied
-pub copies_more : (ks js : List (Option OwnedKey)) (k e : Option OwnedKey) (before rest : List (Option OwnedKey)) (all : List (Option Key)) → js ≡ ks ++ k ∷ [] → fine (key_option e) ≡ fine (key_option k) → before ≡ e ∷ rest → keys_of ks ++ keys_of before ≡ all → keys_of js ++ keys_of rest ≡ all
+pub copies_more : (ks js : List (Option OwnedKey)) (k e : Option OwnedKey) (before rest : List (Option OwnedKey)) (all : List (Option Key)) → js ≡ ks ++ k ∷ [] → key_option k ≡ key_option e → before ≡ e ∷ rest → keys_of ks ++ keys_of before ≡ all → keys_of js ++ keys_of rest ≡ all
 copies_more ks js k e before rest all h same b is =
     ap (λ x. keys_of x ++ keys_of rest) h
     ∙ ap (λ x. x ++ keys_of rest) (keys_of-append ks k)
     ∙ append_assoc (keys_of ks) (key_option k ∷ []) (keys_of rest)
-    ∙ ap (λ x. keys_of ks ++ x ∷ keys_of rest) (sym (same_ok _ _ same))
+    ∙ ap (λ x. keys_of ks ++ x ∷ keys_of rest) (same)
     ∙ ap (λ x. keys_of ks ++ keys_of x) (sym b)
     ∙ is
 

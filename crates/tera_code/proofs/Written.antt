@@ -1,8 +1,7 @@
 -- Forms whose parts stand in a Vec.
 use Rattle.std.proofs.Common.{◌≡◌, ℕ, suc, Bool, false, Bor, length, List, [], ◌∷◌, ◌++◌, Vec, Box, Global, Result, Ok, Err, OnOk, Option, None, Some, refl, sym, ap, ap₂, ◌∙◌, append_assoc}
+use Rattle.std.specs.declared.alloc.AllocError.{AllocError}
 use Rattle.tera_errors.specs.declared.span.Span.{Span}
-use Rattle.tera_errors.specs.Fault.{Fault}
-use Rattle.tera_errors.specs.Answer.{Refusal}
 use Rattle.tera_syntax_tree.specs.declared.expression.Item.{Item}
 use Rattle.tera_syntax_tree.specs.declared.expression.Entry.{Entry}
 use Rattle.tera_syntax_tree.specs.declared.expression.Argument.{Argument}
@@ -33,28 +32,21 @@ pub keys_of-append : (ks : List (Option OwnedKey)) (k : Option OwnedKey) → key
 keys_of-append [] k = refl
 keys_of-append (j ∷ ks) k = ap (λ all. key_option j ∷ all) (keys_of-append ks k)
 
--- an answer that is no fault
-abbrev pub fine : {A : Type 0} → A → Result A Fault
-fine a = Ok a
-
-pub same_ok : {A : Type 0} (a b : A) → fine a ≡ fine b → a ≡ b
-same_ok a b e = cc
-
 -- one key more is copied
-pub keys_more : (ks js : List (Option OwnedKey)) (k : Option OwnedKey) (e : Entry) (before rest : List Entry) (all : List (Option Key)) → js ≡ ks ++ k ∷ [] → fine (literal_option e.key) ≡ fine (key_option k) → before ≡ e ∷ rest → keys_of ks ++ keys_in (entries_of before) ≡ all → keys_of js ++ keys_in (entries_of rest) ≡ all
+pub keys_more : (ks js : List (Option OwnedKey)) (k : Option OwnedKey) (e : Entry) (before rest : List Entry) (all : List (Option Key)) → js ≡ ks ++ k ∷ [] → key_option k ≡ literal_option e.key → before ≡ e ∷ rest → keys_of ks ++ keys_in (entries_of before) ≡ all → keys_of js ++ keys_in (entries_of rest) ≡ all
 keys_more ks js k e before rest all h same b is =
     ap (λ x. keys_of x ++ keys_in (entries_of rest)) h
     ∙ ap (λ x. x ++ keys_in (entries_of rest)) (keys_of-append ks k)
     ∙ append_assoc (keys_of ks) (key_option k ∷ []) (keys_in (entries_of rest))
-    ∙ ap (λ x. keys_of ks ++ x ∷ keys_in (entries_of rest)) (sym (same_ok _ _ same))
+    ∙ ap (λ x. keys_of ks ++ x ∷ keys_in (entries_of rest)) (same)
     ∙ ap (λ x. keys_of ks ++ keys_in (entries_of x)) (sym b)
     ∙ is
 
-pub on_ok_by : {X : Type 0} (r : Result (Unit {0}) Refusal) (x y z : X) → y ≡ z → OnOk r (x ≡ y) → OnOk r (x ≡ z)
+pub on_ok_by : {X : Type 0} (r : Result (Unit {0}) AllocError) (x y z : X) → y ≡ z → OnOk r (x ≡ y) → OnOk r (x ≡ z)
 on_ok_by (Ok a) x y z e h = h ∙ e
 on_ok_by (Err b) x y z e h = tt
 
-pub array_written : (l m n : Listing) (e : Expression) (items : Vec Item Global) (span : Span) (xs ys : List Item) (r : Result (Unit {0}) Refusal) → e ≡ expression.Array items span → xs ≡ items.items → ys ≡ items.items → m ≡ lengthened l (items_code (items_of xs)) → OnOk r (n ≡ lengthened m (instruction.MakeArray (spreads_of (items_of ys)) span ∷ [])) → OnOk r (n ≡ lengthened l (expr_code (expr_of e)))
+pub array_written : (l m n : Listing) (e : Expression) (items : Vec Item Global) (span : Span) (xs ys : List Item) (r : Result (Unit {0}) AllocError) → e ≡ expression.Array items span → xs ≡ items.items → ys ≡ items.items → m ≡ lengthened l (items_code (items_of xs)) → OnOk r (n ≡ lengthened m (instruction.MakeArray (spreads_of (items_of ys)) span ∷ [])) → OnOk r (n ≡ lengthened l (expr_code (expr_of e)))
 array_written l m n e items span xs ys r is a b h =
     let make = λ (y : List Item). instruction.MakeArray (spreads_of (items_of y)) span ∷ [] in
     on_ok_by r n _ _ (ap₂ (λ k y. lengthened k (make y)) h b
@@ -63,7 +55,7 @@ array_written l m n e items span xs ys r is a b h =
     ∙ ap (λ t. lengthened l (expr_code t)) (sym (view_array items span))
     ∙ ap (λ t. lengthened l (expr_code (expr_of t))) (sym is))
 
-pub map_written : (l m n : Listing) (e : Expression) (entries : Vec Entry Global) (span : Span) (xs ys : List Entry) (r : Result (Unit {0}) Refusal) → e ≡ expression.Map entries span → xs ≡ entries.items → ys ≡ entries.items → m ≡ lengthened l (entries_code (entries_of xs)) → OnOk r (n ≡ lengthened m (instruction.MakeMap (keys_in (entries_of ys)) span ∷ [])) → OnOk r (n ≡ lengthened l (expr_code (expr_of e)))
+pub map_written : (l m n : Listing) (e : Expression) (entries : Vec Entry Global) (span : Span) (xs ys : List Entry) (r : Result (Unit {0}) AllocError) → e ≡ expression.Map entries span → xs ≡ entries.items → ys ≡ entries.items → m ≡ lengthened l (entries_code (entries_of xs)) → OnOk r (n ≡ lengthened m (instruction.MakeMap (keys_in (entries_of ys)) span ∷ [])) → OnOk r (n ≡ lengthened l (expr_code (expr_of e)))
 map_written l m n e entries span xs ys r is a b h =
     let make = λ (y : List Entry). instruction.MakeMap (keys_in (entries_of y)) span ∷ [] in
     on_ok_by r n _ _ (ap₂ (λ k y. lengthened k (make y)) h b
@@ -80,7 +72,7 @@ pub boxed_written : (l m : Listing) (x y : Expression) → m ≡ lengthened l (e
 boxed_written l m x y h e = h ∙ ap (λ e. lengthened l (expr_code (expr_of e))) e
 
 -- arguments are written, and what takes them
-pub super_written : (l m n : Listing) (e : Expression) (arguments : Vec Argument Global) (span : Span) (xs ys : List Argument) (count : ℕ) (r : Result (Unit {0}) Refusal) → e ≡ expression.Super arguments span → xs ≡ arguments.items → ys ≡ arguments.items → count ≡ length ys
+pub super_written : (l m n : Listing) (e : Expression) (arguments : Vec Argument Global) (span : Span) (xs ys : List Argument) (count : ℕ) (r : Result (Unit {0}) AllocError) → e ≡ expression.Super arguments span → xs ≡ arguments.items → ys ≡ arguments.items → count ≡ length ys
     → m ≡ lengthened l (arguments_code (arguments_of xs)) → OnOk r (n ≡ lengthened m (instruction.TakeAbove count span ∷ [])) → OnOk r (n ≡ lengthened l (expr_code (expr_of e)))
 super_written l m n e arguments span xs ys count r is a b long h =
     let args = arguments_of arguments.items in
@@ -99,7 +91,7 @@ applied l m n value xs take g h =
     ∙ ap (λ k. lengthened k (arguments_code (arguments_of xs) ++ last)) g
     ∙ lengthened-lengthened l (expr_code (expr_of value)) (arguments_code (arguments_of xs) ++ last)
 
-pub filter_written : (l m n o : Listing) (e x : Expression) (value : Box Expression Global) (name : Bor (List ℕ)) (arguments : Vec Argument Global) (span : Span) (xs ys : List Argument) (r : Result (Unit {0}) Refusal) → e ≡ expression.Filter value name arguments span → m ≡ lengthened l (expr_code (expr_of x)) → x ≡ value.value → xs ≡ arguments.items → ys ≡ arguments.items
+pub filter_written : (l m n o : Listing) (e x : Expression) (value : Box Expression Global) (name : Bor (List ℕ)) (arguments : Vec Argument Global) (span : Span) (xs ys : List Argument) (r : Result (Unit {0}) AllocError) → e ≡ expression.Filter value name arguments span → m ≡ lengthened l (expr_code (expr_of x)) → x ≡ value.value → xs ≡ arguments.items → ys ≡ arguments.items
     → n ≡ lengthened m (arguments_code (arguments_of xs)) → OnOk r (o ≡ lengthened n (instruction.ApplyFilter name.now (argument_names (arguments_of ys)) span ∷ [])) → OnOk r (o ≡ lengthened l (expr_code (expr_of e)))
 filter_written l m n o e x value name arguments span xs ys r is g v a b h =
     on_ok_by r o _ _ (ap (λ y. lengthened n (instruction.ApplyFilter name.now (argument_names (arguments_of y)) span ∷ [])) b
@@ -107,7 +99,7 @@ filter_written l m n o e x value name arguments span xs ys r is g v a b h =
     ∙ ap (λ t. lengthened l (expr_code t)) (sym (view_filter value name arguments span))
     ∙ ap (λ t. lengthened l (expr_code (expr_of t))) (sym is))
 
-pub test_written : (l m n o : Listing) (e x : Expression) (value : Box Expression Global) (name : Bor (List ℕ)) (arguments : Vec Argument Global) (span : Span) (xs ys : List Argument) (r : Result (Unit {0}) Refusal) → e ≡ expression.Test value name arguments span → m ≡ lengthened l (expr_code (expr_of x)) → x ≡ value.value → xs ≡ arguments.items → ys ≡ arguments.items
+pub test_written : (l m n o : Listing) (e x : Expression) (value : Box Expression Global) (name : Bor (List ℕ)) (arguments : Vec Argument Global) (span : Span) (xs ys : List Argument) (r : Result (Unit {0}) AllocError) → e ≡ expression.Test value name arguments span → m ≡ lengthened l (expr_code (expr_of x)) → x ≡ value.value → xs ≡ arguments.items → ys ≡ arguments.items
     → n ≡ lengthened m (arguments_code (arguments_of xs)) → OnOk r (o ≡ lengthened n (instruction.ApplyTest name.now (argument_names (arguments_of ys)) span ∷ [])) → OnOk r (o ≡ lengthened l (expr_code (expr_of e)))
 test_written l m n o e x value name arguments span xs ys r is g v a b h =
     on_ok_by r o _ _ (ap (λ y. lengthened n (instruction.ApplyTest name.now (argument_names (arguments_of y)) span ∷ [])) b
@@ -115,7 +107,7 @@ test_written l m n o e x value name arguments span xs ys r is g v a b h =
     ∙ ap (λ t. lengthened l (expr_code t)) (sym (view_test value name arguments span))
     ∙ ap (λ t. lengthened l (expr_code (expr_of t))) (sym is))
 
-pub call_written : (l m n : Listing) (e : Expression) (name : Bor (List ℕ)) (arguments : Vec Argument Global) (span : Span) (xs ys : List Argument) (r : Result (Unit {0}) Refusal) → e ≡ expression.Call name arguments span → xs ≡ arguments.items → ys ≡ arguments.items
+pub call_written : (l m n : Listing) (e : Expression) (name : Bor (List ℕ)) (arguments : Vec Argument Global) (span : Span) (xs ys : List Argument) (r : Result (Unit {0}) AllocError) → e ≡ expression.Call name arguments span → xs ≡ arguments.items → ys ≡ arguments.items
     → m ≡ lengthened l (arguments_code (arguments_of xs)) → OnOk r (n ≡ lengthened m (instruction.CallFunction name.now (argument_names (arguments_of ys)) span ∷ [])) → OnOk r (n ≡ lengthened l (expr_code (expr_of e)))
 call_written l m n e name arguments span xs ys r is a b h =
     let call = λ (y : List Argument). instruction.CallFunction name.now (argument_names (arguments_of y)) span ∷ [] in
@@ -125,7 +117,7 @@ call_written l m n e name arguments span xs ys r is a b h =
     ∙ ap (λ t. lengthened l (expr_code (expr_of t))) (sym is))
 
 -- attributes are written, and what takes them
-pub component_written : (l m n : Listing) (e : Expression) (name : Bor (List ℕ)) (attributes : Vec Entry Global) (span : Span) (xs ys : List Entry) (r : Result (Unit {0}) Refusal) → e ≡ expression.Component name attributes span → xs ≡ attributes.items → ys ≡ attributes.items
+pub component_written : (l m n : Listing) (e : Expression) (name : Bor (List ℕ)) (attributes : Vec Entry Global) (span : Span) (xs ys : List Entry) (r : Result (Unit {0}) AllocError) → e ≡ expression.Component name attributes span → xs ≡ attributes.items → ys ≡ attributes.items
     → m ≡ lengthened l (entries_code (entries_of xs)) → OnOk r (n ≡ lengthened m (instruction.TakeComponent name.now (keys_in (entries_of ys)) false span ∷ [])) → OnOk r (n ≡ lengthened l (expr_code (expr_of e)))
 component_written l m n e name attributes span xs ys r is a b h =
     let take = λ (y : List Entry). instruction.TakeComponent name.now (keys_in (entries_of y)) false span ∷ [] in
@@ -134,7 +126,7 @@ component_written l m n e name attributes span xs ys r is a b h =
     ∙ ap (λ t. lengthened l (expr_code t)) (sym (view_component name attributes span))
     ∙ ap (λ t. lengthened l (expr_code (expr_of t))) (sym is))
 
-pub if_written : (l m : Listing) (node : Node) (drops : ℕ) (condition : Box Expression Global) (body other : Vec Node Global) (e : Expression) (xs ys : List Node) (r : Result (Unit {0}) Refusal) → node ≡ variant.If condition body other → e ≡ condition.value → xs ≡ body.items → ys ≡ other.items
+pub if_written : (l m : Listing) (node : Node) (drops : ℕ) (condition : Box Expression Global) (body other : Vec Node Global) (e : Expression) (xs ys : List Node) (r : Result (Unit {0}) AllocError) → node ≡ variant.If condition body other → e ≡ condition.value → xs ≡ body.items → ys ≡ other.items
     → OnOk r (m ≡ lengthened l (node_code (If (expr_of e) (nodes_of xs) (nodes_of ys)) drops)) → OnOk r (m ≡ lengthened l (node_code (node_of node) drops))
 if_written l m node drops condition body other e xs ys r is c a b h =
     on_ok_by r m _ _ (ap (λ x. lengthened l (node_code (If (expr_of x) (nodes_of xs) (nodes_of ys)) drops)) c
@@ -142,7 +134,7 @@ if_written l m node drops condition body other e xs ys r is c a b h =
     ∙ ap (λ t. lengthened l (node_code t drops)) (sym (view_if condition body other))
     ∙ ap (λ t. lengthened l (node_code (node_of t) drops)) (sym is)) h
 
-pub for_written : (l m : Listing) (node : Node) (drops : ℕ) (heading : Box Heading Global) (body other : Vec Node Global) (h : Heading) (xs ys : List Node) (r : Result (Unit {0}) Refusal) → node ≡ variant.For heading body other → h ≡ heading.value → xs ≡ body.items → ys ≡ other.items
+pub for_written : (l m : Listing) (node : Node) (drops : ℕ) (heading : Box Heading Global) (body other : Vec Node Global) (h : Heading) (xs ys : List Node) (r : Result (Unit {0}) AllocError) → node ≡ variant.For heading body other → h ≡ heading.value → xs ≡ body.items → ys ≡ other.items
     → OnOk r (m ≡ lengthened l (node_code (for_of h xs ys) drops)) → OnOk r (m ≡ lengthened l (node_code (node_of node) drops))
 for_written l m node drops heading body other h xs ys r is c a b w =
     on_ok_by r m _ _ (ap (λ x. lengthened l (node_code (for_of x xs ys) drops)) c
@@ -151,7 +143,7 @@ for_written l m node drops heading body other h xs ys r is c a b w =
     ∙ ap (λ t. lengthened l (node_code (node_of t) drops)) (sym is)) w
 
 -- the text of a section is written, and what takes it
-pub capture_written : (l m n : Listing) (node : Node) (drops : ℕ) (name : Bor (List ℕ)) (filters : Vec SectionFilter Global) (body : Vec Node Global) (is_global : Bool) (fs : List SectionFilter) (xs : List Node) (r : Result (Unit {0}) Refusal) → node ≡ variant.Capture name filters body is_global → fs ≡ filters.items → xs ≡ body.items
+pub capture_written : (l m n : Listing) (node : Node) (drops : ℕ) (name : Bor (List ℕ)) (filters : Vec SectionFilter Global) (body : Vec Node Global) (is_global : Bool) (fs : List SectionFilter) (xs : List Node) (r : Result (Unit {0}) AllocError) → node ≡ variant.Capture name filters body is_global → fs ≡ filters.items → xs ≡ body.items
     → m ≡ lengthened l (section_code (filters_of fs) (nodes_code (nodes_of xs) (suc drops))) → OnOk r (n ≡ lengthened m (instruction.Store name.now is_global ∷ [])) → OnOk r (n ≡ lengthened l (node_code (node_of node) drops))
 capture_written l m n node drops name filters body is_global fs xs r is a b h =
     let section = λ (y : List SectionFilter) (z : List Node). section_code (filters_of y) (nodes_code (nodes_of z) (suc drops)) in
@@ -161,7 +153,7 @@ capture_written l m n node drops name filters body is_global fs xs r is a b h =
     ∙ ap (λ t. lengthened l (node_code t drops)) (sym (view_capture name filters body is_global))
     ∙ ap (λ t. lengthened l (node_code (node_of t) drops)) (sym is))
 
-pub section_written : (l m n : Listing) (node : Node) (drops : ℕ) (filters : Vec SectionFilter Global) (body : Vec Node Global) (fs : List SectionFilter) (xs : List Node) (r : Result (Unit {0}) Refusal) → node ≡ variant.FilterSection filters body → fs ≡ filters.items → xs ≡ body.items
+pub section_written : (l m n : Listing) (node : Node) (drops : ℕ) (filters : Vec SectionFilter Global) (body : Vec Node Global) (fs : List SectionFilter) (xs : List Node) (r : Result (Unit {0}) AllocError) → node ≡ variant.FilterSection filters body → fs ≡ filters.items → xs ≡ body.items
     → m ≡ lengthened l (section_code (filters_of fs) (nodes_code (nodes_of xs) (suc drops))) → OnOk r (n ≡ lengthened m (instruction.WriteTop ∷ [])) → OnOk r (n ≡ lengthened l (node_code (node_of node) drops))
 section_written l m n node drops filters body fs xs r is a b h =
     let section = λ (y : List SectionFilter) (z : List Node). section_code (filters_of y) (nodes_code (nodes_of z) (suc drops)) in
@@ -171,7 +163,7 @@ section_written l m n node drops filters body fs xs r is a b h =
     ∙ ap (λ t. lengthened l (node_code (node_of t) drops)) (sym is))
 
 -- the text of a body is written, and the component that is handed it
-pub component_call_written : (l m n : Listing) (node : Node) (drops : ℕ) (name : Bor (List ℕ)) (attributes : Vec Entry Global) (body : Vec Node Global) (span : Span) (es : List Entry) (xs : List Node) (r : Result (Unit {0}) Refusal) → node ≡ variant.ComponentCall name attributes body span → es ≡ attributes.items → xs ≡ body.items
+pub component_call_written : (l m n : Listing) (node : Node) (drops : ℕ) (name : Bor (List ℕ)) (attributes : Vec Entry Global) (body : Vec Node Global) (span : Span) (es : List Entry) (xs : List Node) (r : Result (Unit {0}) AllocError) → node ≡ variant.ComponentCall name attributes body span → es ≡ attributes.items → xs ≡ body.items
     → m ≡ lengthened l (captured_code (nodes_code (nodes_of xs) (suc drops)) span) → OnOk r (n ≡ lengthened m (handed_code name.now (entries_of es) span)) → OnOk r (n ≡ lengthened l (node_code (node_of node) drops))
 component_call_written l m n node drops name attributes body span es xs r is a b h =
     let text = λ (z : List Node). captured_code (nodes_code (nodes_of z) (suc drops)) span in

@@ -1,15 +1,15 @@
 // The blocks of a template, each with code of its own.
-ghost use Rattle.std.specs.Prelude.{◌≡◌, ◌++◌, [], ◌∷◌, map, OnOk, IfOk, IfErr};
-ghost use Rattle.tera_errors.specs.Answer.{Lacks};
+ghost use Rattle.std.specs.Prelude.{◌≡◌, ◌++◌, [], ◌∷◌, map, OnOk, IfOk};
 ghost use Rattle.tera_code.specs.Blocks.{block_of, block_listing, block_listings};
 ghost use Rattle.tera_syntax_tree.specs.Blocks.{blocks, node_blocks};
 ghost use Rattle.tera_syntax_tree.specs.View.{node_of, nodes_of};
 
 use crate::chunk::Chunk;
+use crate::memory::lacking;
 use crate::nodes::compiled;
-use std::alloc::Global;
+use std::alloc::{AllocError, Global};
 use tera_syntax_tree::Node;
-use tera_values::{Name, TeraResult};
+use tera_values::Name;
 
 /// A block of a template: its name, and the code of its body.
 #[derive(Drop)]
@@ -20,10 +20,9 @@ pub struct Block {
 
 /// The blocks of the nodes, which stand in the text of the template of this name, in the order of the text; those inside
 /// others too.
-pub fn blocks(alloc: Global, file: &str, nodes: &[Node]) -> TeraResult<Vec<Block>>
+pub fn blocks(alloc: Global, file: &str, nodes: &[Node]) -> Result<Vec<Block>, AllocError>
     ensures ok { IfOk result
         (λ v. map block_of v.items ≡ block_listings file.now (blocks (nodes_of nodes.now))) }
-    ensures lacks { IfErr result Lacks }
 {
     let mut found = Vec::new(alloc);
     add_all(alloc, nodes, file, &mut found)?;
@@ -32,10 +31,14 @@ pub fn blocks(alloc: Global, file: &str, nodes: &[Node]) -> TeraResult<Vec<Block
 
 // Puts the blocks of the nodes behind those that were found.
 #[cycle(blocks)]
-fn add_all(alloc: Global, nodes: &[Node], file: &str, found: &mut Vec<Block>) -> TeraResult<()>
+fn add_all(
+    alloc: Global,
+    nodes: &[Node],
+    file: &str,
+    found: &mut Vec<Block>,
+) -> Result<(), AllocError>
     ensures ok { OnOk result (map block_of found.new.items
         ≡ map block_of found.old.items ++ block_listings file.now (blocks (nodes_of nodes.now))) }
-    ensures lacks { IfErr result Lacks }
 {
     for node in nodes {
         add(alloc, node, file, found)?;
@@ -45,11 +48,10 @@ fn add_all(alloc: Global, nodes: &[Node], file: &str, found: &mut Vec<Block>) ->
 
 // Puts the blocks of the node behind those that were found.
 #[cycle(blocks)]
-fn add(alloc: Global, node: &Node, file: &str, found: &mut Vec<Block>) -> TeraResult<()>
-    ensures ok { OnOk result (map block_of found.new.items
+fn add(alloc: Global, node: &Node, file: &str, found: &mut Vec<Block>) -> Result<(), AllocError>
+    ensures { OnOk result (map block_of found.new.items
         ≡ map block_of found.old.items ++ block_listings file.now
         (node_blocks (node_of node.now))) }
-    ensures lacks { IfErr result Lacks }
 {
     match node {
         Node::If { body, other, .. } => {
@@ -87,23 +89,21 @@ fn put(
     file: &str,
     name: &str,
     found: &mut Vec<Block>,
-) -> TeraResult<()>
+) -> Result<(), AllocError>
     ensures ok { OnOk result (map block_of found.new.items
         ≡ map block_of found.old.items
         ++ block_listings file.now ((name.now, nodes_of body.now) ∷ [])) }
-    ensures lacks { IfErr result Lacks }
 {
     found.push(made(alloc, body, file, name)?)?;
     Ok(())
 }
 
-fn made(alloc: Global, body: &[Node], file: &str, name: &str) -> TeraResult<Block>
+fn made(alloc: Global, body: &[Node], file: &str, name: &str) -> Result<Block, AllocError>
     ensures ok { IfOk result (λ b. block_of b
         ≡ block_listing file.now (name.now, nodes_of body.now)) }
-    ensures lacks { IfErr result Lacks }
 {
     Ok(Block {
-        name: Name::new(alloc, name)?,
+        name: lacking(Name::new(alloc, name))?,
         code: compiled(alloc, file, body)?,
     })
 }

@@ -1,6 +1,5 @@
 // Filters, tests, functions, `super` and components, which are given by name what they are made of.
-ghost use Rattle.std.specs.Prelude.{◌≡◌, [], ◌∷◌, Ok, OnOk, IfErr};
-ghost use Rattle.tera_errors.specs.Answer.{Gives, Lacks};
+ghost use Rattle.std.specs.Prelude.{◌≡◌, [], ◌∷◌, OnOk, IfOk};
 ghost use Rattle.tera_code.specs.declared.instruction.Instruction.TheVariants as instruction;
 ghost use Rattle.tera_code.specs.Code.{expr_code, arguments_code, argument_names, filters_code, keys_in, lengthened};
 ghost use Rattle.tera_code.specs.Group.{group, Request};
@@ -10,19 +9,19 @@ ghost use Rattle.tera_syntax_tree.specs.View.{expr_of, entries_of, arguments_of,
 use crate::compiler::Compiler;
 use crate::content::{Keys, LentName, Names};
 use crate::instruction::Instruction;
+use crate::memory::lacking;
 use crate::parts::keys;
-use std::alloc::Global;
+use std::alloc::{AllocError, Global};
 use tera_syntax_tree::{Argument, Entry, Expression, SectionFilter};
-use tera_values::{Name, Span, TeraResult};
+use tera_values::{Name, Span};
 
 impl Compiler {
     // What is made elsewhere of what it is given by name.
     #[cycle(expressions)]
-    pub(crate) fn request(&mut self, expression: &Expression) -> TeraResult<()>
+    pub(crate) fn request(&mut self, expression: &Expression) -> Result<(), AllocError>
         requires { group (expr_of expression.now) ≡ Request }
-        ensures ok { OnOk result
+        ensures { OnOk result
             (self.new ≡ lengthened self.old (expr_code (expr_of expression.now))) }
-        ensures lacks { IfErr result Lacks }
     {
         match expression {
             Expression::Super { arguments, span } => {
@@ -74,10 +73,9 @@ impl Compiler {
     }
 
     #[cycle(expressions)]
-    fn arguments(&mut self, arguments: &[Argument]) -> TeraResult<()>
+    fn arguments(&mut self, arguments: &[Argument]) -> Result<(), AllocError>
         ensures ok { OnOk result (self.new
             ≡ lengthened self.old (arguments_code (arguments_of arguments.now))) }
-        ensures lacks { IfErr result Lacks }
     {
         for argument in arguments {
             self.expression(&argument.value)?;
@@ -86,10 +84,9 @@ impl Compiler {
     }
 
     // Each filter takes what is on top of the operands, and puts its answer there.
-    pub(crate) fn filters(&mut self, filters: &[SectionFilter]) -> TeraResult<()>
+    pub(crate) fn filters(&mut self, filters: &[SectionFilter]) -> Result<(), AllocError>
         ensures ok { OnOk result (self.new
             ≡ lengthened self.old (filters_code (filters_of filters.now))) }
-        ensures lacks { IfErr result Lacks }
     {
         for filter in filters {
             self.filter(filter)?;
@@ -97,23 +94,26 @@ impl Compiler {
         Ok(())
     }
 
-    fn filter(&mut self, filter: &SectionFilter) -> TeraResult<()>
+    fn filter(&mut self, filter: &SectionFilter) -> Result<(), AllocError>
         ensures ok { OnOk result (self.new ≡ lengthened self.old (filters_code (MoreFilters
             filter.now.name.now (arguments_of filter.now.arguments.items)
             filter.now.span NoFilters))) }
-        ensures lacks { IfErr result Lacks }
     {
         let arguments = filter.arguments.as_slice();
         self.arguments(arguments)?;
         self.apply_filter(filter.name, arguments, filter.span)
     }
 
-    fn apply_filter(&mut self, name: &str, arguments: &[Argument], span: Span) -> TeraResult<()>
+    fn apply_filter(
+        &mut self,
+        name: &str,
+        arguments: &[Argument],
+        span: Span,
+    ) -> Result<(), AllocError>
         ensures ok { OnOk result (self.new ≡ lengthened self.old (instruction.ApplyFilter
             name.now (argument_names (arguments_of arguments.now)) span ∷ [])) }
-        ensures lacks { IfErr result Lacks }
     {
-        let name = Name::new(self.alloc(), name)?;
+        let name = lacking(Name::new(self.alloc(), name))?;
         let names = argument_names(self.alloc(), arguments)?;
         self.emit(Instruction::ApplyFilter {
             name: LentName::new(&name),
@@ -122,12 +122,16 @@ impl Compiler {
         })
     }
 
-    fn apply_test(&mut self, name: &str, arguments: &[Argument], span: Span) -> TeraResult<()>
+    fn apply_test(
+        &mut self,
+        name: &str,
+        arguments: &[Argument],
+        span: Span,
+    ) -> Result<(), AllocError>
         ensures ok { OnOk result (self.new ≡ lengthened self.old (instruction.ApplyTest
             name.now (argument_names (arguments_of arguments.now)) span ∷ [])) }
-        ensures lacks { IfErr result Lacks }
     {
-        let name = Name::new(self.alloc(), name)?;
+        let name = lacking(Name::new(self.alloc(), name))?;
         let names = argument_names(self.alloc(), arguments)?;
         self.emit(Instruction::ApplyTest {
             name: LentName::new(&name),
@@ -136,12 +140,16 @@ impl Compiler {
         })
     }
 
-    fn call_function(&mut self, name: &str, arguments: &[Argument], span: Span) -> TeraResult<()>
+    fn call_function(
+        &mut self,
+        name: &str,
+        arguments: &[Argument],
+        span: Span,
+    ) -> Result<(), AllocError>
         ensures ok { OnOk result (self.new ≡ lengthened self.old (instruction.CallFunction
             name.now (argument_names (arguments_of arguments.now)) span ∷ [])) }
-        ensures lacks { IfErr result Lacks }
     {
-        let name = Name::new(self.alloc(), name)?;
+        let name = lacking(Name::new(self.alloc(), name))?;
         let names = argument_names(self.alloc(), arguments)?;
         self.emit(Instruction::CallFunction {
             name: LentName::new(&name),
@@ -156,12 +164,11 @@ impl Compiler {
         attributes: &[Entry],
         has_body: bool,
         span: Span,
-    ) -> TeraResult<()>
+    ) -> Result<(), AllocError>
         ensures ok { OnOk result (self.new ≡ lengthened self.old (instruction.TakeComponent
             name.now (keys_in (entries_of attributes.now)) has_body span ∷ [])) }
-        ensures lacks { IfErr result Lacks }
     {
-        let name = Name::new(self.alloc(), name)?;
+        let name = lacking(Name::new(self.alloc(), name))?;
         let keys = keys(self.alloc(), attributes)?;
         self.emit(Instruction::TakeComponent {
             name: LentName::new(&name),
@@ -172,13 +179,13 @@ impl Compiler {
     }
 }
 
-fn argument_names(alloc: Global, arguments: &[Argument]) -> TeraResult<Vec<Name>>
-    ensures { Gives (λ names. names.items) result
-        (Ok (argument_names (arguments_of arguments.now))) }
+fn argument_names(alloc: Global, arguments: &[Argument]) -> Result<Vec<Name>, AllocError>
+    ensures { IfOk result (λ names. names.items
+        ≡ argument_names (arguments_of arguments.now)) }
 {
     let mut names = Vec::new(alloc);
     for argument in arguments {
-        names.push(Name::new(alloc, argument.name)?)?;
+        names.push(lacking(Name::new(alloc, argument.name))?)?;
     }
     Ok(names)
 }

@@ -1,6 +1,5 @@
 // Names that are bound, and texts that are captured for them.
-ghost use Rattle.std.specs.Prelude.{◌≡◌, [], ◌∷◌, suc, true, OnOk, IfOk, IfErr};
-ghost use Rattle.tera_errors.specs.Answer.{Lacks};
+ghost use Rattle.std.specs.Prelude.{◌≡◌, [], ◌∷◌, suc, true, OnOk, IfOk};
 ghost use Rattle.tera_code.specs.declared.instruction.Instruction.TheVariants as instruction;
 ghost use Rattle.tera_code.specs.Code.{node_code, nodes_code, section_code, captured_code, lengthened};
 ghost use Rattle.tera_code.specs.Group.{captures_body};
@@ -10,17 +9,21 @@ ghost use Rattle.tera_syntax_tree.specs.View.{expr_of, filters_of, node_of, node
 use crate::compiler::Compiler;
 use crate::content::LentName;
 use crate::instruction::Instruction;
-use std::alloc::Global;
-use tera_errors::Error;
+use crate::memory::lacking;
+use std::alloc::{AllocError, Global};
 use tera_syntax_tree::{Expression, Node, SectionFilter};
-use tera_values::{Name, Span, TeraResult};
+use tera_values::{Name, Span};
 
 impl Compiler {
     // The value becomes that of the name.
-    pub(crate) fn set(&mut self, name: &str, value: &Expression, is_global: bool) -> TeraResult<()>
+    pub(crate) fn set(
+        &mut self,
+        name: &str,
+        value: &Expression,
+        is_global: bool,
+    ) -> Result<(), AllocError>
         ensures ok { OnOk result (self.new ≡ lengthened self.old
             (node_code (Set name.now (expr_of value.now) is_global) 0)) }
-        ensures lacks { IfErr result Lacks }
     {
         self.expression(value)?;
         self.store(name, is_global)
@@ -28,11 +31,10 @@ impl Compiler {
 
     // What begins with a capture of its body.
     #[cycle(nodes)]
-    pub(crate) fn capturing(&mut self, node: &Node, drops: usize) -> TeraResult<()>
+    pub(crate) fn capturing(&mut self, node: &Node, drops: usize) -> Result<(), AllocError>
         requires { captures_body (node_of node.now) ≡ true }
-        ensures ok { OnOk result (self.new ≡ lengthened self.old
+        ensures { OnOk result (self.new ≡ lengthened self.old
             (node_code (node_of node.now) drops)) }
-        ensures lacks { IfErr result Lacks }
     {
         match node {
             Node::Capture {
@@ -68,11 +70,10 @@ impl Compiler {
         filters: &Vec<SectionFilter>,
         body: &Vec<Node>,
         drops: usize,
-    ) -> TeraResult<()>
+    ) -> Result<(), AllocError>
         ensures ok { OnOk result (self.new ≡ lengthened self.old
             (section_code (filters_of filters.now.items)
             (nodes_code (nodes_of body.now.items) (suc drops)))) }
-        ensures lacks { IfErr result Lacks }
     {
         let filters = filters.as_slice();
         self.captured(body, first_span(filters), drops)?;
@@ -81,11 +82,15 @@ impl Compiler {
 
     // The text that the body puts out, on top of the operands.
     #[cycle(nodes)]
-    pub(crate) fn captured(&mut self, body: &Vec<Node>, span: Span, drops: usize) -> TeraResult<()>
+    pub(crate) fn captured(
+        &mut self,
+        body: &Vec<Node>,
+        span: Span,
+        drops: usize,
+    ) -> Result<(), AllocError>
         ensures ok { OnOk result (self.new
             ≡ lengthened self.old (captured_code
             (nodes_code (nodes_of body.now.items) (suc drops)) span)) }
-        ensures lacks { IfErr result Lacks }
     {
         self.emit(Instruction::StartCapture)?;
         self.body(body, one_more(drops)?)?;
@@ -93,12 +98,11 @@ impl Compiler {
     }
 
     // The operand on top becomes the value of the name.
-    pub(crate) fn store(&mut self, name: &str, is_global: bool) -> TeraResult<()>
+    pub(crate) fn store(&mut self, name: &str, is_global: bool) -> Result<(), AllocError>
         ensures ok { OnOk result (self.new ≡ lengthened self.old
             (instruction.Store name.now is_global ∷ [])) }
-        ensures lacks { IfErr result Lacks }
     {
-        let name = Name::new(self.alloc(), name)?;
+        let name = lacking(Name::new(self.alloc(), name))?;
         self.emit(Instruction::Store {
             name: LentName::new(&name),
             is_global,
@@ -106,13 +110,12 @@ impl Compiler {
     }
 }
 
-fn one_more(drops: usize) -> TeraResult<usize>
+fn one_more(drops: usize) -> Result<usize, AllocError>
     ensures ok { IfOk result (λ n. n ≡ suc drops) }
-    ensures lacks { IfErr result Lacks }
 {
     match drops.checked_add(1) {
         Some(drops) => Ok(drops),
-        None => Err(Error::out_of_memory()),
+        None => Err(AllocError),
     }
 }
 

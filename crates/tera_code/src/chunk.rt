@@ -1,6 +1,5 @@
 // The instructions of one body.
-ghost use Rattle.std.specs.Prelude.{◌≡◌, ◌+◌, ◌<◌, ◌^◌, [], ◌∷◌, cond, false, length, slice_get, OnOk, IfErr, IfSome, IsTrue, MatchOption, Some, None, option_map, option_and_then, unwrap_or};
-ghost use Rattle.tera_errors.specs.Answer.{Lacks};
+ghost use Rattle.std.specs.Prelude.{◌≡◌, ◌+◌, ◌<◌, ◌^◌, [], ◌∷◌, cond, false, length, slice_get, OnOk, IfSome, IsTrue, MatchOption, Some, None, option_map, option_and_then, unwrap_or};
 ghost use Rattle.tera_code.specs.Asked.{loaded_attribute, is_write_top, jump_length_if_false, uses_top};
 ghost use Rattle.tera_code.specs.Called.{callee_of, called_by};
 ghost use Rattle.tera_code.specs.Code.{lengthened};
@@ -14,10 +13,10 @@ use crate::lent::LentInstruction;
 use crate::packed::{Packed, Tables};
 use crate::reference::Reference;
 use crate::steps::Steps;
-use std::alloc::Global;
+use std::alloc::{AllocError, Global};
 use std::marker::Model;
 use std::sync::ledger::Ledger;
-use tera_values::{Name, Sought, Span, TeraResult};
+use tera_values::{Name, Sought, Span};
 
 /// The instructions of a body, and the name of the template in whose text it stands.
 #[derive(Drop)]
@@ -175,9 +174,8 @@ impl Chunk {
     }
 
     // Room for so many instructions and bytes of text. Every other instruction has a span, or more than one of them.
-    pub(crate) fn make_room(&mut self, instructions: usize, bytes: usize) -> TeraResult<()>
+    pub(crate) fn make_room(&mut self, instructions: usize, bytes: usize) -> Result<(), AllocError>
         ensures same { self.new ≡ self.old }
-        ensures lacks { IfErr result Lacks }
     {
         self.code.reserve(instructions)?;
         self.tables.make_room(instructions / 2, bytes)
@@ -190,9 +188,8 @@ impl Chunk {
         alloc: Global,
         seen: &mut [u32; 64],
         instruction: Instruction<'_>,
-    ) -> TeraResult<()>
-        ensures ok { OnOk result (self.new ≡ lengthened self.old (instruction.entry ∷ [])) }
-        ensures lacks { IfErr result Lacks }
+    ) -> Result<(), AllocError>
+        ensures { OnOk result (self.new ≡ lengthened self.old (instruction.entry ∷ [])) }
     {
         let packed = self.tables.pack(alloc, seen, instruction)?;
         self.code.push(packed)?;
@@ -201,10 +198,9 @@ impl Chunk {
 
     // The same for a text that is put out, which is most of a template: no other form is looked for.
     #[inline(always)]
-    pub(crate) fn emit_text(&mut self, text: &str) -> TeraResult<()>
-        ensures ok { OnOk result
+    pub(crate) fn emit_text(&mut self, text: &str) -> Result<(), AllocError>
+        ensures { OnOk result
             (self.new ≡ lengthened self.old (instruction.WriteText text.now ∷ [])) }
-        ensures lacks { IfErr result Lacks }
     {
         let packed = self.tables.text(text)?;
         self.code.push(packed)?;
@@ -219,10 +215,9 @@ impl Chunk {
         seen: &mut [u32; 64],
         name: &Sought<'_>,
         span: Span,
-    ) -> TeraResult<()>
-        ensures ok { OnOk result
+    ) -> Result<(), AllocError>
+        ensures { OnOk result
             (self.new ≡ lengthened self.old (instruction.WriteName name.now span ∷ [])) }
-        ensures lacks { IfErr result Lacks }
     {
         let packed = self.tables.written_name(alloc, seen, name, span)?;
         self.code.push(packed)?;
@@ -236,10 +231,9 @@ impl Chunk {
         seen: &mut [u32; 64],
         place: usize,
         instruction: Instruction<'_>,
-    ) -> TeraResult<()>
+    ) -> Result<(), AllocError>
         requires { place < length self.old.code }
-        ensures ok { OnOk result (self.new ≡ filled place instruction.entry self.old) }
-        ensures lacks { IfErr result Lacks }
+        ensures { OnOk result (self.new ≡ filled place instruction.entry self.old) }
     {
         let packed = self.tables.pack(alloc, seen, instruction)?;
         self.code[place] = packed;

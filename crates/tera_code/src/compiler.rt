@@ -1,6 +1,5 @@
 // From trees to instructions.
-ghost use Rattle.std.specs.Prelude.{◌≡◌, ◌<◌, [], ◌∷◌, Ok, OnOk, IfOk, IfErr, length};
-ghost use Rattle.tera_errors.specs.Answer.{Gives, Lacks};
+ghost use Rattle.std.specs.Prelude.{◌≡◌, ◌<◌, [], ◌∷◌, OnOk, IfOk, length};
 ghost use Rattle.tera_values.specs.Val as val;
 ghost use Rattle.tera_code.specs.declared.instruction.Instruction.TheVariants as instruction;
 ghost use Rattle.tera_code.specs.Code.{lengthened};
@@ -9,9 +8,10 @@ ghost use Rattle.tera_code.specs.Places.{filled, behind};
 use crate::chunk::Chunk;
 use crate::constant::Constant;
 use crate::instruction::Instruction;
-use std::alloc::Global;
+use crate::memory::lacking;
+use std::alloc::{AllocError, Global};
 use std::marker::Model;
-use tera_values::{Name, Sought, Span, TeraResult, Value};
+use tera_values::{Name, Sought, Span, Value};
 
 /// Writes the instructions of one body. A contract sees those that are written so far.
 #[derive(Drop)]
@@ -38,10 +38,10 @@ impl Compiler {
     ghost use Rattle.tera_code.specs.Listing.{Listing};
 
     /// A compiler of a body in the text of the template of this name.
-    pub fn new(alloc: Global, file: &str) -> TeraResult<Compiler>
-        ensures { Gives (λ c. c) result (Ok (record { file = file.now; code = [] })) }
+    pub fn new(alloc: Global, file: &str) -> Result<Compiler, AllocError>
+        ensures { IfOk result (λ c. c ≡ record { file = file.now; code = [] }) }
     {
-        let file = Name::new(alloc, file)?;
+        let file = lacking(Name::new(alloc, file))?;
         Ok(Compiler {
             alloc,
             chunk: Chunk::new(alloc, file),
@@ -66,35 +66,31 @@ impl Compiler {
     }
 
     // Room for so many instructions and bytes of text, so that what is written moves less often as it grows.
-    pub(crate) fn make_room(&mut self, instructions: usize, bytes: usize) -> TeraResult<()>
+    pub(crate) fn make_room(&mut self, instructions: usize, bytes: usize) -> Result<(), AllocError>
         ensures same { self.new ≡ self.old }
-        ensures lacks { IfErr result Lacks }
     {
         self.chunk.make_room(instructions, bytes)
     }
 
     #[inline(always)]
-    pub(crate) fn emit(&mut self, instruction: Instruction<'_>) -> TeraResult<()>
+    pub(crate) fn emit(&mut self, instruction: Instruction<'_>) -> Result<(), AllocError>
         ensures ok { OnOk result (self.new ≡ lengthened self.old (instruction.entry ∷ [])) }
-        ensures lacks { IfErr result Lacks }
     {
         self.chunk.emit(self.alloc, &mut self.seen, instruction)
     }
 
     #[inline(always)]
-    pub(crate) fn emit_text(&mut self, text: &str) -> TeraResult<()>
+    pub(crate) fn emit_text(&mut self, text: &str) -> Result<(), AllocError>
         ensures ok { OnOk result
             (self.new ≡ lengthened self.old (instruction.WriteText text.now ∷ [])) }
-        ensures lacks { IfErr result Lacks }
     {
         self.chunk.emit_text(text)
     }
 
     #[inline(always)]
-    pub(crate) fn emit_name(&mut self, name: &str, span: Span) -> TeraResult<()>
+    pub(crate) fn emit_name(&mut self, name: &str, span: Span) -> Result<(), AllocError>
         ensures ok { OnOk result
             (self.new ≡ lengthened self.old (instruction.WriteName name.now span ∷ [])) }
-        ensures lacks { IfErr result Lacks }
     {
         self.chunk
             .emit_name(self.alloc, &mut self.seen, &Sought::new(name), span)
@@ -102,10 +98,9 @@ impl Compiler {
 
     // Keeps a place for a jump, whose length is known once what it passes is written.
     #[inline(always)]
-    pub(crate) fn keep_place(&mut self) -> TeraResult<usize>
+    pub(crate) fn keep_place(&mut self) -> Result<usize, AllocError>
         ensures place { IfOk result (λ place. place ≡ length self.old.code) }
         ensures ok { OnOk result (self.new ≡ lengthened self.old (instruction.Jump 0 ∷ [])) }
-        ensures lacks { IfErr result Lacks }
     {
         let place = self.chunk.len();
         self.emit(Instruction::Jump(0))?;
@@ -122,28 +117,29 @@ impl Compiler {
 
     // Puts the instruction at the place that was kept for it.
     #[inline(always)]
-    pub(crate) fn fill(&mut self, place: usize, instruction: Instruction<'_>) -> TeraResult<()>
+    pub(crate) fn fill(
+        &mut self,
+        place: usize,
+        instruction: Instruction<'_>,
+    ) -> Result<(), AllocError>
         requires { place < length self.old.code }
         ensures ok { OnOk result (self.new ≡ filled place instruction.entry self.old) }
-        ensures lacks { IfErr result Lacks }
     {
         self.chunk
             .fill(self.alloc, &mut self.seen, place, instruction)
     }
 
     #[inline(always)]
-    pub(crate) fn constant(&mut self, constant: Constant<'_>, span: Span) -> TeraResult<()>
+    pub(crate) fn constant(&mut self, constant: Constant<'_>, span: Span) -> Result<(), AllocError>
         ensures ok { OnOk result (self.new ≡ lengthened self.old
             (instruction.LoadConst constant.entry span ∷ [])) }
-        ensures lacks { IfErr result Lacks }
     {
         self.emit(Instruction::LoadConst(constant, span))
     }
 
-    pub(crate) fn integer(&mut self, number: i128, span: Span) -> TeraResult<()>
+    pub(crate) fn integer(&mut self, number: i128, span: Span) -> Result<(), AllocError>
         ensures ok { OnOk result (self.new ≡ lengthened self.old
             (instruction.LoadConst (val.int number) span ∷ [])) }
-        ensures lacks { IfErr result Lacks }
     {
         match i64::try_from(number) {
             Ok(number) => self.constant(Constant::from_int(number), span),

@@ -1,6 +1,5 @@
 // Expressions.
-ghost use Rattle.std.specs.Prelude.{◌≡◌, OnOk, IfErr};
-ghost use Rattle.tera_errors.specs.Answer.{Lacks};
+ghost use Rattle.std.specs.Prelude.{◌≡◌, OnOk};
 ghost use Rattle.tera_code.specs.Code.{expr_code, bound_code, items_code, entries_code, lengthened};
 ghost use Rattle.tera_code.specs.Group.{group, Access, Operation, Branch, Collection, Loop, Request};
 ghost use Rattle.tera_syntax_tree.specs.View.{expr_of, optional_of, items_of, entries_of};
@@ -8,16 +7,15 @@ ghost use Rattle.tera_syntax_tree.specs.View.{expr_of, optional_of, items_of, en
 use crate::compiler::Compiler;
 use crate::constant::Constant;
 use crate::instruction::Instruction;
-use std::alloc::Global;
+use std::alloc::{AllocError, Global};
 use tera_syntax_tree::{Entry, Expression, Item};
-use tera_values::{Span, TeraResult};
+use tera_values::Span;
 
 impl Compiler {
     #[cycle(expressions)]
-    pub(crate) fn expression(&mut self, expression: &Expression) -> TeraResult<()>
+    pub(crate) fn expression(&mut self, expression: &Expression) -> Result<(), AllocError>
         ensures ok { OnOk result (self.new ≡ lengthened self.old
             (expr_code (expr_of expression.now))) }
-        ensures lacks { IfErr result Lacks }
     {
         match expression {
             Expression::None { span } => self.constant(Constant::none(), *span),
@@ -46,11 +44,10 @@ impl Compiler {
 
     // A part of a value.
     #[cycle(expressions)]
-    fn access(&mut self, expression: &Expression) -> TeraResult<()>
+    fn access(&mut self, expression: &Expression) -> Result<(), AllocError>
         requires { group (expr_of expression.now) ≡ Access }
         ensures ok { OnOk result (self.new ≡ lengthened self.old
             (expr_code (expr_of expression.now))) }
-        ensures lacks { IfErr result Lacks }
     {
         match expression {
             Expression::Attribute {
@@ -95,11 +92,10 @@ impl Compiler {
 
     // What evaluates all its operands.
     #[cycle(expressions)]
-    fn operation(&mut self, expression: &Expression) -> TeraResult<()>
+    fn operation(&mut self, expression: &Expression) -> Result<(), AllocError>
         requires { group (expr_of expression.now) ≡ Operation }
         ensures ok { OnOk result (self.new ≡ lengthened self.old
             (expr_code (expr_of expression.now))) }
-        ensures lacks { IfErr result Lacks }
     {
         match expression {
             Expression::Not { operand, .. } => {
@@ -125,11 +121,10 @@ impl Compiler {
 
     // What may leave a part out: that part is passed by a jump.
     #[cycle(expressions)]
-    fn branch(&mut self, expression: &Expression) -> TeraResult<()>
+    fn branch(&mut self, expression: &Expression) -> Result<(), AllocError>
         requires { group (expr_of expression.now) ≡ Branch }
-        ensures ok { OnOk result (self.new ≡ lengthened self.old
+        ensures { OnOk result (self.new ≡ lengthened self.old
             (expr_code (expr_of expression.now))) }
-        ensures lacks { IfErr result Lacks }
     {
         match expression {
             Expression::And { operands, .. } => {
@@ -158,11 +153,10 @@ impl Compiler {
 
     // What is written out item by item.
     #[cycle(expressions)]
-    fn collection(&mut self, expression: &Expression) -> TeraResult<()>
+    fn collection(&mut self, expression: &Expression) -> Result<(), AllocError>
         requires { group (expr_of expression.now) ≡ Collection }
-        ensures ok { OnOk result (self.new ≡ lengthened self.old
+        ensures { OnOk result (self.new ≡ lengthened self.old
             (expr_code (expr_of expression.now))) }
-        ensures lacks { IfErr result Lacks }
     {
         match expression {
             Expression::Array { items, span } => {
@@ -178,10 +172,9 @@ impl Compiler {
     }
 
     #[cycle(expressions)]
-    fn bound(&mut self, bound: &Option<Box<Expression>>) -> TeraResult<()>
+    fn bound(&mut self, bound: &Option<Box<Expression>>) -> Result<(), AllocError>
         ensures ok { OnOk result (self.new ≡ lengthened self.old
             (bound_code (optional_of bound.now))) }
-        ensures lacks { IfErr result Lacks }
     {
         match bound {
             None => self.constant(Constant::none(), Span { start: 0, end: 0 }),
@@ -190,10 +183,9 @@ impl Compiler {
     }
 
     #[cycle(expressions)]
-    fn items(&mut self, items: &[Item]) -> TeraResult<()>
+    fn items(&mut self, items: &[Item]) -> Result<(), AllocError>
         ensures ok { OnOk result (self.new ≡ lengthened self.old
             (items_code (items_of items.now))) }
-        ensures lacks { IfErr result Lacks }
     {
         for item in items {
             self.expression(&item.value)?;
@@ -202,10 +194,9 @@ impl Compiler {
     }
 
     #[cycle(expressions)]
-    pub(crate) fn entries(&mut self, entries: &[Entry]) -> TeraResult<()>
+    pub(crate) fn entries(&mut self, entries: &[Entry]) -> Result<(), AllocError>
         ensures ok { OnOk result (self.new ≡ lengthened self.old
             (entries_code (entries_of entries.now))) }
-        ensures lacks { IfErr result Lacks }
     {
         for entry in entries {
             self.expression(&entry.value)?;

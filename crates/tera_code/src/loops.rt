@@ -1,6 +1,5 @@
 // Loops and comprehensions.
-ghost use Rattle.std.specs.Prelude.{◌≡◌, ◌<◌, ◌∷◌, [], Ok, OnOk, IfErr, length, option_copied, true, false};
-ghost use Rattle.tera_errors.specs.Answer.{Gives, Lacks};
+ghost use Rattle.std.specs.Prelude.{◌≡◌, ◌<◌, ◌∷◌, [], OnOk, IfOk, length, option_copied, true, false};
 ghost use Rattle.tera_code.specs.declared.instruction.Instruction.TheVariants as instruction;
 ghost use Rattle.tera_code.specs.Code.{expr_code, lengthened};
 ghost use Rattle.tera_code.specs.Group.{group, Loop};
@@ -10,18 +9,18 @@ ghost use Rattle.tera_syntax_tree.specs.View.{expr_of};
 use crate::compiler::Compiler;
 use crate::content::{LentName, Spreads};
 use crate::instruction::Instruction;
-use std::alloc::Global;
+use crate::memory::lacking;
+use std::alloc::{AllocError, Global};
 use tera_syntax_tree::{Expression, Heading};
-use tera_values::{Name, Span, TeraResult};
+use tera_values::{Name, Span};
 
 impl Compiler {
     // An array of what is kept in the turns of a loop.
     #[cycle(expressions)]
-    pub(crate) fn comprehension(&mut self, expression: &Expression) -> TeraResult<()>
+    pub(crate) fn comprehension(&mut self, expression: &Expression) -> Result<(), AllocError>
         requires { group (expr_of expression.now) ≡ Loop }
-        ensures ok { OnOk result (self.new ≡ lengthened self.old
+        ensures { OnOk result (self.new ≡ lengthened self.old
             (expr_code (expr_of expression.now))) }
-        ensures lacks { IfErr result Lacks }
     {
         match expression {
             Expression::Comprehension {
@@ -52,11 +51,15 @@ impl Compiler {
         }
     }
 
-    fn end_comprehension(&mut self, start: usize, heading: &Heading, span: Span) -> TeraResult<()>
+    fn end_comprehension(
+        &mut self,
+        start: usize,
+        heading: &Heading,
+        span: Span,
+    ) -> Result<(), AllocError>
         requires { start < length self.old.code }
         ensures ok { OnOk result (self.new ≡ lengthened (looped start heading.now false self.old)
             (instruction.EndComprehension span ∷ instruction.MakeArray [] span ∷ [])) }
-        ensures lacks { IfErr result Lacks }
     {
         self.end_turns(start, heading, false)?;
         self.emit(Instruction::EndComprehension(span))?;
@@ -69,13 +72,12 @@ impl Compiler {
         start: usize,
         heading: &Heading,
         counts: bool,
-    ) -> TeraResult<()>
+    ) -> Result<(), AllocError>
         requires { start < length self.old.code }
         ensures ok { OnOk result (self.new ≡ looped start heading.now counts self.old) }
-        ensures lacks { IfErr result Lacks }
     {
         let key = key_name(self.alloc(), &heading.key)?;
-        let name = Name::new(self.alloc(), heading.name)?;
+        let name = lacking(Name::new(self.alloc(), heading.name))?;
         let size = self.behind(start);
         self.fill(
             start,
@@ -90,11 +92,11 @@ impl Compiler {
     }
 }
 
-fn key_name(alloc: Global, key: &Option<&str>) -> TeraResult<Option<Name>>
-    ensures { Gives (λ k. k) result (Ok (option_copied key.now)) }
+fn key_name(alloc: Global, key: &Option<&str>) -> Result<Option<Name>, AllocError>
+    ensures { IfOk result (λ k. k ≡ option_copied key.now) }
 {
     match key {
         None => Ok(None),
-        Some(key) => Ok(Some(Name::new(alloc, key)?)),
+        Some(key) => Ok(Some(lacking(Name::new(alloc, key))?)),
     }
 }

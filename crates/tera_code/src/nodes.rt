@@ -1,6 +1,5 @@
 // Nodes.
-ghost use Rattle.std.specs.Prelude.{◌≡◌, [], ◌∷◌, true, OnOk, IfOk, IfErr};
-ghost use Rattle.tera_errors.specs.Answer.{Lacks};
+ghost use Rattle.std.specs.Prelude.{◌≡◌, [], ◌∷◌, true, OnOk, IfOk};
 ghost use Rattle.tera_code.specs.declared.instruction.Instruction.TheVariants as instruction;
 ghost use Rattle.tera_code.specs.Code.{handed_code, node_code, nodes_code, listing_of, lengthened};
 ghost use Rattle.tera_code.specs.Group.{has_other_body};
@@ -11,36 +10,34 @@ use crate::chunk::Chunk;
 use crate::compiler::Compiler;
 use crate::content::LentName;
 use crate::instruction::Instruction;
+use crate::memory::lacking;
 use crate::parts::is_context;
-use std::alloc::Global;
+use std::alloc::{AllocError, Global};
 use tera_syntax_tree::{Entry, Expression, Node};
-use tera_values::{Name, Span, TeraResult};
+use tera_values::{Name, Span};
 
 impl Compiler {
     /// The instructions of the nodes, one after another, behind those that are there. After a refusal some may be missing.
-    pub fn compile(&mut self, nodes: &[Node]) -> TeraResult<()>
+    pub fn compile(&mut self, nodes: &[Node]) -> Result<(), AllocError>
         ensures ok { OnOk result (self.new ≡ lengthened self.old
             (nodes_code (nodes_of nodes.now) 0)) }
-        ensures lacks { IfErr result Lacks }
     {
         self.make_room(nodes.len(), text_size(nodes))?;
         self.nodes(nodes, 0)
     }
 
     /// The instructions of the node, behind those that are there. After a refusal some may be missing.
-    pub fn compile_node(&mut self, node: &Node) -> TeraResult<()>
+    pub fn compile_node(&mut self, node: &Node) -> Result<(), AllocError>
         ensures ok { OnOk result (self.new ≡ lengthened self.old (node_code (node_of node.now) 0)) }
-        ensures lacks { IfErr result Lacks }
     {
         self.node(node, 0)
     }
 
     // Nodes inside so many captures of the innermost loop.
     #[cycle(nodes)]
-    pub(crate) fn nodes(&mut self, nodes: &[Node], drops: usize) -> TeraResult<()>
+    pub(crate) fn nodes(&mut self, nodes: &[Node], drops: usize) -> Result<(), AllocError>
         ensures ok { OnOk result (self.new ≡ lengthened self.old
             (nodes_code (nodes_of nodes.now) drops)) }
-        ensures lacks { IfErr result Lacks }
     {
         for node in nodes {
             self.node(node, drops)?;
@@ -51,19 +48,17 @@ impl Compiler {
     // The nodes of a body inside so many captures of the innermost loop. It is lent whole, since a slice of it is checked in no time
     // only where no other part of its node is at hand.
     #[cycle(nodes)]
-    pub(crate) fn body(&mut self, body: &Vec<Node>, drops: usize) -> TeraResult<()>
+    pub(crate) fn body(&mut self, body: &Vec<Node>, drops: usize) -> Result<(), AllocError>
         ensures ok { OnOk result (self.new ≡ lengthened self.old
             (nodes_code (nodes_of body.now.items) drops)) }
-        ensures lacks { IfErr result Lacks }
     {
         self.nodes(body.as_slice(), drops)
     }
 
     #[cycle(nodes)]
-    fn node(&mut self, node: &Node, drops: usize) -> TeraResult<()>
+    fn node(&mut self, node: &Node, drops: usize) -> Result<(), AllocError>
         ensures ok { OnOk result (self.new ≡ lengthened self.old
             (node_code (node_of node.now) drops)) }
-        ensures lacks { IfErr result Lacks }
     {
         match node {
             Node::Content { text, span: _ } => self.emit_text(text),
@@ -92,11 +87,10 @@ impl Compiler {
 
     // What has another body, for where the first one doesn't run.
     #[cycle(nodes)]
-    fn branching(&mut self, node: &Node, drops: usize) -> TeraResult<()>
+    fn branching(&mut self, node: &Node, drops: usize) -> Result<(), AllocError>
         requires { has_other_body (node_of node.now) ≡ true }
-        ensures ok { OnOk result (self.new ≡ lengthened self.old
+        ensures { OnOk result (self.new ≡ lengthened self.old
             (node_code (node_of node.now) drops)) }
-        ensures lacks { IfErr result Lacks }
     {
         match node {
             Node::If {
@@ -129,12 +123,11 @@ impl Compiler {
     }
 
     // The block is put out as the template that is rendered has it: its body is compiled by itself.
-    fn block(&mut self, name: &str, span: Span) -> TeraResult<()>
+    fn block(&mut self, name: &str, span: Span) -> Result<(), AllocError>
         ensures ok { OnOk result
             (self.new ≡ lengthened self.old (instruction.TakeBlock name.now span ∷ [])) }
-        ensures lacks { IfErr result Lacks }
     {
-        let name = Name::new(self.alloc(), name)?;
+        let name = lacking(Name::new(self.alloc(), name))?;
         self.emit(Instruction::TakeBlock {
             name: LentName::new(&name),
             span,
@@ -142,10 +135,14 @@ impl Compiler {
     }
 
     // The component is handed the text on top of the operands; what it makes of that and of its attributes is put out.
-    pub(crate) fn hand(&mut self, name: &str, attributes: &[Entry], span: Span) -> TeraResult<()>
+    pub(crate) fn hand(
+        &mut self,
+        name: &str,
+        attributes: &[Entry],
+        span: Span,
+    ) -> Result<(), AllocError>
         ensures ok { OnOk result (self.new
             ≡ lengthened self.old (handed_code name.now (entries_of attributes.now) span)) }
-        ensures lacks { IfErr result Lacks }
     {
         self.entries(attributes)?;
         self.take_component(name, attributes, true, span)?;
@@ -153,12 +150,11 @@ impl Compiler {
     }
 
     // What the name resolves to is found where the template is rendered.
-    fn include(&mut self, name: &str, span: Span) -> TeraResult<()>
+    fn include(&mut self, name: &str, span: Span) -> Result<(), AllocError>
         ensures ok { OnOk result
             (self.new ≡ lengthened self.old (instruction.TakeInclude name.now span ∷ [])) }
-        ensures lacks { IfErr result Lacks }
     {
-        let name = Name::new(self.alloc(), name)?;
+        let name = lacking(Name::new(self.alloc(), name))?;
         self.emit(Instruction::TakeInclude {
             name: LentName::new(&name),
             span,
@@ -167,10 +163,9 @@ impl Compiler {
 
     // The map of all that is bound is made first; what any other name stands for is put out where it lies.
     #[inline(always)]
-    fn print_name(&mut self, name: &str, span: Span) -> TeraResult<()>
+    fn print_name(&mut self, name: &str, span: Span) -> Result<(), AllocError>
         ensures ok { OnOk result (self.new ≡ lengthened self.old
             (node_code (tree.Print (tree.Name name.now span)) 0)) }
-        ensures lacks { IfErr result Lacks }
     {
         if is_context(name) {
             self.load(name, span)?;
@@ -180,10 +175,9 @@ impl Compiler {
         }
     }
 
-    fn print(&mut self, value: &Expression) -> TeraResult<()>
+    fn print(&mut self, value: &Expression) -> Result<(), AllocError>
         ensures ok { OnOk result (self.new ≡ lengthened self.old
             (node_code (tree.Print (expr_of value.now)) 0)) }
-        ensures lacks { IfErr result Lacks }
     {
         match value {
             Expression::Name { name, span } => self.print_name(name, *span),
@@ -207,9 +201,8 @@ fn text_size(nodes: &[Node]) -> usize {
 }
 
 /// The code of these nodes, which stand in the text of the template of this name.
-pub fn compiled(alloc: Global, file: &str, nodes: &[Node]) -> TeraResult<Chunk>
+pub fn compiled(alloc: Global, file: &str, nodes: &[Node]) -> Result<Chunk, AllocError>
     ensures ok { IfOk result (λ c. c ≡ listing_of file.now (nodes_of nodes.now)) }
-    ensures lacks { IfErr result Lacks }
 {
     let mut compiler = Compiler::new(alloc, file)?;
     compiler.compile(nodes)?;

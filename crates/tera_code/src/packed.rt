@@ -1,7 +1,6 @@
 // How a body's instructions are kept: small ones in a row, and beside them what they name by number.
-ghost use Rattle.std.specs.Prelude.{◌≡◌, ◌<◌, ◌≤◌, ◌-◌, ◌^◌, Ok, OnOk, IfOk, IfErr, length, take, drop, string_bytes};
+ghost use Rattle.std.specs.Prelude.{◌≡◌, ◌<◌, ◌≤◌, ◌-◌, ◌^◌, IfOk, length, take, drop, string_bytes};
 ghost use Rattle.std.specs.Str.{IsCharBoundary};
-ghost use Rattle.tera_errors.specs.Answer.{Gives, Lacks};
 ghost use Rattle.tera_code.specs.Packed.{Grows, Longer, IsAt, Packs, Within, shelf_of, span_at, name_at, unpacked};
 ghost use Rattle.tera_syntax_tree.specs.View.{keys_of};
 ghost use Rattle.tera_code.specs.declared.instruction.Instruction.TheVariants as instruction;
@@ -9,12 +8,12 @@ ghost use Rattle.tera_code.specs.declared.instruction.Instruction.TheVariants as
 use crate::constant::{Constant, Kept, small_integer};
 use crate::content::{Keys, LentName, Names, Spreads};
 use crate::instruction::Instruction;
+use crate::memory::lacking;
 use crate::parts::copied;
 use crate::reference::Reference;
-use std::alloc::Global;
-use tera_errors::Error;
+use std::alloc::{AllocError, Global};
 use tera_syntax_tree::{BinaryOperator, OwnedKey};
-use tera_values::{Name, Sought, Span, TeraResult, Value};
+use tera_values::{Name, Sought, Span, Value};
 
 /// An instruction that names by number what it needs.
 #[derive(Clone, Copy)]
@@ -166,21 +165,19 @@ pub(crate) struct Tables {
 }
 
 /// A number that instructions hold. More than they can hold is want of memory.
-fn small(number: usize) -> TeraResult<u32>
+fn small(number: usize) -> Result<u32, AllocError>
     ensures ok { IfOk result (λ n. n ≡ number) }
-    ensures lacks { IfErr result Lacks }
 {
     match u32::try_from(number) {
         Ok(number) => Ok(number),
-        Err(_) => Err(Error::out_of_memory()),
+        Err(_) => Err(AllocError),
     }
 }
 
 /// Puts the item behind the others, and tells its place.
-fn number<T: Drop>(items: &mut Vec<T>, item: T) -> TeraResult<u32>
+fn number<T: Drop>(items: &mut Vec<T>, item: T) -> Result<u32, AllocError>
     ensures grows { Longer items.old.items items.new.items }
     ensures ok { IfOk result (λ n. IsAt items.new.items n item) }
-    ensures lacks { IfErr result Lacks }
 {
     let place = small(items.len())?;
     items.push(item)?;
@@ -193,10 +190,9 @@ fn name_number(
     names: &mut Vec<Name>,
     seen: &mut [u32; 64],
     name: &Sought<'_>,
-) -> TeraResult<u32>
+) -> Result<u32, AllocError>
     ensures grows { Longer names.old.items names.new.items }
     ensures ok { IfOk result (λ n. IsAt names.new.items n name.now) }
-    ensures lacks { IfErr result Lacks }
 {
     let slot = (name.hash() % 64) as usize;
     let place = seen[slot];
@@ -205,7 +201,7 @@ fn name_number(
             return Ok(place);
         }
     }
-    let place = number(names, Name::from_sought(alloc, name)?)?;
+    let place = number(names, lacking(Name::from_sought(alloc, name))?)?;
     seen[slot] = place;
     Ok(place)
 }
@@ -227,9 +223,8 @@ impl Tables {
     }
 
     /// Room for so many spans and bytes of text.
-    pub(crate) fn make_room(&mut self, spans: usize, bytes: usize) -> TeraResult<()>
+    pub(crate) fn make_room(&mut self, spans: usize, bytes: usize) -> Result<(), AllocError>
         ensures same { shelf_of self.new ≡ shelf_of self.old }
-        ensures lacks { IfErr result Lacks }
     {
         self.spans.reserve(spans)?;
         self.pool.reserve(bytes)?;
@@ -237,11 +232,10 @@ impl Tables {
     }
 
     #[inline(always)]
-    pub(crate) fn text(&mut self, text: &str) -> TeraResult<Packed>
+    pub(crate) fn text(&mut self, text: &str) -> Result<Packed, AllocError>
         ensures grows { Grows (shelf_of self.old) (shelf_of self.new) }
         ensures ok { IfOk result (λ p. Packs (shelf_of self.new) p
             (instruction.WriteText text.now)) }
-        ensures lacks { IfErr result Lacks }
     {
         let start = small(self.pool.len())?;
         self.pool.push_str(text)?;
@@ -250,11 +244,10 @@ impl Tables {
     }
 
     #[inline(always)]
-    fn constant(&mut self, constant: &Constant<'_>, span: Span) -> TeraResult<Packed>
+    fn constant(&mut self, constant: &Constant<'_>, span: Span) -> Result<Packed, AllocError>
         ensures grows { Grows (shelf_of self.old) (shelf_of self.new) }
         ensures ok { IfOk result (λ p. Packs (shelf_of self.new) p
             (instruction.LoadConst constant.now span)) }
-        ensures lacks { IfErr result Lacks }
     {
         let span = number(&mut self.spans, span)?;
         match constant.kept {
@@ -264,7 +257,7 @@ impl Tables {
             Kept::Shared(value) => match small_integer(value) {
                 Some(number) => Ok(Packed::LoadInt { span, number }),
                 None => {
-                    let value = value.try_clone()?;
+                    let value = lacking(value.try_clone())?;
                     let constant = number(&mut self.constants, value)?;
                     Ok(Packed::LoadConst { constant, span })
                 }
@@ -281,11 +274,10 @@ impl Tables {
         seen: &mut [u32; 64],
         name: &Sought<'_>,
         span: Span,
-    ) -> TeraResult<(u32, u32)>
+    ) -> Result<(u32, u32), AllocError>
         ensures grows { Grows (shelf_of self.old) (shelf_of self.new) }
         ensures name { IfOk result (λ p. IsAt (shelf_of self.new).names p.0 name.now) }
         ensures span { IfOk result (λ p. IsAt (shelf_of self.new).spans p.1 span) }
-        ensures lacks { IfErr result Lacks }
     {
         let name = name_number(alloc, &mut self.names, seen, name)?;
         let span = number(&mut self.spans, span)?;
@@ -299,21 +291,24 @@ impl Tables {
         seen: &mut [u32; 64],
         name: &Sought<'_>,
         span: Span,
-    ) -> TeraResult<Packed>
+    ) -> Result<Packed, AllocError>
         ensures grows { Grows (shelf_of self.old) (shelf_of self.new) }
         ensures ok { IfOk result
             (λ p. Packs (shelf_of self.new) p (instruction.WriteName name.now span)) }
-        ensures lacks { IfErr result Lacks }
     {
         let (name, span) = self.name_and_span(alloc, seen, name, span)?;
         Ok(Packed::WriteName { name, span })
     }
 
-    fn make_array(&mut self, alloc: Global, spreads: &Spreads<'_>, span: Span) -> TeraResult<Packed>
+    fn make_array(
+        &mut self,
+        alloc: Global,
+        spreads: &Spreads<'_>,
+        span: Span,
+    ) -> Result<Packed, AllocError>
         ensures grows { Grows (shelf_of self.old) (shelf_of self.new) }
         ensures ok { IfOk result (λ p. Packs (shelf_of self.new) p
             (instruction.MakeArray spreads.now span)) }
-        ensures lacks { IfErr result Lacks }
     {
         let mut flags = Vec::new(alloc);
         flags.extend_from_slice(spreads.as_slice())?;
@@ -322,11 +317,10 @@ impl Tables {
         Ok(Packed::MakeArray { spreads, span })
     }
 
-    fn make_map(&mut self, alloc: Global, keys: &Keys<'_>, span: Span) -> TeraResult<Packed>
+    fn make_map(&mut self, alloc: Global, keys: &Keys<'_>, span: Span) -> Result<Packed, AllocError>
         ensures grows { Grows (shelf_of self.old) (shelf_of self.new) }
         ensures ok { IfOk result (λ p. Packs (shelf_of self.new) p
             (instruction.MakeMap keys.now span)) }
-        ensures lacks { IfErr result Lacks }
     {
         let keys = copies(alloc, keys.as_slice())?;
         let keys = number(&mut self.keys, keys)?;
@@ -334,45 +328,41 @@ impl Tables {
         Ok(Packed::MakeMap { keys, span })
     }
 
-    fn store(&mut self, name: &LentName<'_>, is_global: bool) -> TeraResult<Packed>
+    fn store(&mut self, name: &LentName<'_>, is_global: bool) -> Result<Packed, AllocError>
         ensures grows { Grows (shelf_of self.old) (shelf_of self.new) }
         ensures ok { IfOk result (λ p. Packs (shelf_of self.new) p
             (instruction.Store name.now is_global)) }
-        ensures lacks { IfErr result Lacks }
     {
-        let name = number(&mut self.names, name.share()?)?;
+        let name = number(&mut self.names, lacking(name.share())?)?;
         Ok(Packed::Store { name, is_global })
     }
 
-    fn take_block(&mut self, name: &LentName<'_>, span: Span) -> TeraResult<Packed>
+    fn take_block(&mut self, name: &LentName<'_>, span: Span) -> Result<Packed, AllocError>
         ensures grows { Grows (shelf_of self.old) (shelf_of self.new) }
         ensures ok { IfOk result (λ p. Packs (shelf_of self.new) p
             (instruction.TakeBlock name.now span)) }
-        ensures lacks { IfErr result Lacks }
     {
-        let name = number(&mut self.names, name.share()?)?;
+        let name = number(&mut self.names, lacking(name.share())?)?;
         let span = number(&mut self.spans, span)?;
         Ok(Packed::TakeBlock { name, span })
     }
 
     /// Puts what is taken and stands elsewhere beside the others, and tells its place.
-    fn add_reference(&mut self, name: &LentName<'_>, is_component: bool) -> TeraResult<u32>
+    fn add_reference(&mut self, name: &LentName<'_>, is_component: bool) -> Result<u32, AllocError>
         ensures grows { Grows (shelf_of self.old) (shelf_of self.new) }
         ensures ok { IfOk result (λ n. IsAt (shelf_of self.new).references n name.now) }
-        ensures lacks { IfErr result Lacks }
     {
         let reference = Reference {
-            name: name.share()?,
+            name: lacking(name.share())?,
             is_component,
         };
         number(&mut self.references, reference)
     }
 
-    fn take_include(&mut self, name: &LentName<'_>, span: Span) -> TeraResult<Packed>
+    fn take_include(&mut self, name: &LentName<'_>, span: Span) -> Result<Packed, AllocError>
         ensures grows { Grows (shelf_of self.old) (shelf_of self.new) }
         ensures ok { IfOk result
             (λ p. Packs (shelf_of self.new) p (instruction.TakeInclude name.now span)) }
-        ensures lacks { IfErr result Lacks }
     {
         let reference = self.add_reference(name, false)?;
         let span = number(&mut self.spans, span)?;
@@ -386,11 +376,10 @@ impl Tables {
         keys: &Keys<'_>,
         has_body: bool,
         span: Span,
-    ) -> TeraResult<Packed>
+    ) -> Result<Packed, AllocError>
         ensures grows { Grows (shelf_of self.old) (shelf_of self.new) }
         ensures ok { IfOk result (λ p. Packs (shelf_of self.new) p
             (instruction.TakeComponent name.now keys.now has_body span)) }
-        ensures lacks { IfErr result Lacks }
     {
         let reference = self.add_reference(name, true)?;
         let keys = copies(alloc, keys.as_slice())?;
@@ -410,15 +399,14 @@ impl Tables {
         name: &LentName<'_>,
         counts: bool,
         size: usize,
-    ) -> TeraResult<Packed>
+    ) -> Result<Packed, AllocError>
         ensures grows { Grows (shelf_of self.old) (shelf_of self.new) }
         ensures ok { IfOk result (λ p. Packs (shelf_of self.new) p
             (instruction.StartLoop key.now name.now counts size)) }
-        ensures lacks { IfErr result Lacks }
     {
         let names = LoopNames {
-            key: LentName::share_option(key)?,
-            name: name.share()?,
+            key: lacking(LentName::share_option(key))?,
+            name: lacking(name.share())?,
         };
         let names = number(&mut self.loops, names)?;
         Ok(Packed::StartLoop {
@@ -435,15 +423,14 @@ impl Tables {
         name: &LentName<'_>,
         arguments: &Names<'_>,
         span: Span,
-    ) -> TeraResult<(u32, u32)>
+    ) -> Result<(u32, u32), AllocError>
         ensures grows { Grows (shelf_of self.old) (shelf_of self.new) }
         ensures call { IfOk result
             (λ p. IsAt (shelf_of self.new).calls p.0 (name.now, arguments.now)) }
         ensures span { IfOk result (λ p. IsAt (shelf_of self.new).spans p.1 span) }
-        ensures lacks { IfErr result Lacks }
     {
         let names = CallNames {
-            name: name.share()?,
+            name: lacking(name.share())?,
             arguments: shares(alloc, arguments.as_slice())?,
         };
         let call = number(&mut self.calls, names)?;
@@ -459,10 +446,9 @@ impl Tables {
         alloc: Global,
         seen: &mut [u32; 64],
         instruction: Instruction<'_>,
-    ) -> TeraResult<Packed>
+    ) -> Result<Packed, AllocError>
         ensures grows { Grows (shelf_of self.old) (shelf_of self.new) }
         ensures ok { IfOk result (λ p. Packs (shelf_of self.new) p instruction.entry) }
-        ensures lacks { IfErr result Lacks }
     {
         match instruction {
             Instruction::WriteText(text) => self.text(text.as_str()),
@@ -571,8 +557,8 @@ impl Tables {
     }
 }
 
-fn copies(alloc: Global, keys: &[Option<OwnedKey>]) -> TeraResult<Vec<Option<OwnedKey>>>
-    ensures { Gives (λ k. keys_of k.items) result (Ok (keys_of keys.now)) }
+fn copies(alloc: Global, keys: &[Option<OwnedKey>]) -> Result<Vec<Option<OwnedKey>>, AllocError>
+    ensures { IfOk result (λ k. keys_of k.items ≡ keys_of keys.now) }
 {
     let mut all = Vec::new(alloc);
     for key in keys {
@@ -582,12 +568,12 @@ fn copies(alloc: Global, keys: &[Option<OwnedKey>]) -> TeraResult<Vec<Option<Own
 }
 
 // The names once more: counts, and no copies of their texts.
-fn shares(alloc: Global, names: &[Name]) -> TeraResult<Vec<Name>>
-    ensures { Gives (λ all. all.items) result (Ok names.now) }
+fn shares(alloc: Global, names: &[Name]) -> Result<Vec<Name>, AllocError>
+    ensures { IfOk result (λ all. all.items ≡ names.now) }
 {
     let mut all = Vec::new(alloc);
     for name in names {
-        all.push(name.share()?)?;
+        all.push(lacking(name.share())?)?;
     }
     Ok(all)
 }

@@ -1,6 +1,5 @@
 // Instructions of single forms.
-ghost use Rattle.std.specs.Prelude.{◌≡◌, ◌<◌, [], ◌∷◌, ◌++◌, Ok, OnOk, IfOk, IfErr, length, false};
-ghost use Rattle.tera_errors.specs.Answer.{Gives, Lacks};
+ghost use Rattle.std.specs.Prelude.{◌≡◌, ◌<◌, [], ◌∷◌, ◌++◌, OnOk, IfOk, length, false};
 ghost use Rattle.tera_values.specs.Val as val;
 ghost use Rattle.tera_code.specs.declared.instruction.Instruction.TheVariants as instruction;
 ghost use Rattle.tera_code.specs.Code.{lengthened, is_context, name_code, spreads_of, keys_in};
@@ -12,23 +11,23 @@ use crate::compiler::Compiler;
 use crate::constant::Constant;
 use crate::content::{Keys, Spreads, Text};
 use crate::instruction::Instruction;
-use std::alloc::Global;
+use crate::memory::lacking;
+use std::alloc::{AllocError, Global};
 use tera_syntax_tree::{Entry, Item, LiteralKey, OwnedKey};
-use tera_values::{Sought, Span, TeraResult, Value};
+use tera_values::{Sought, Span, Value};
 
 impl Compiler {
-    pub(crate) fn text(&mut self, text: &str, span: Span) -> TeraResult<()>
+    pub(crate) fn text(&mut self, text: &str, span: Span) -> Result<(), AllocError>
         ensures ok { OnOk result (self.new ≡ lengthened self.old
             (instruction.LoadConst (val.text text.now false) span ∷ [])) }
-        ensures lacks { IfErr result Lacks }
     {
-        let value = Value::string(self.alloc(), text)?.shared(self.alloc())?;
+        let value = lacking(Value::string(self.alloc(), text))?;
+        let value = lacking(value.shared(self.alloc()))?;
         self.constant(Constant::shared(&value), span)
     }
 
-    pub(crate) fn load(&mut self, name: &str, span: Span) -> TeraResult<()>
+    pub(crate) fn load(&mut self, name: &str, span: Span) -> Result<(), AllocError>
         ensures ok { OnOk result (self.new ≡ lengthened self.old (name_code name.now span)) }
-        ensures lacks { IfErr result Lacks }
     {
         if is_context(name) {
             self.emit(Instruction::LoadContext(span))
@@ -37,10 +36,14 @@ impl Compiler {
         }
     }
 
-    pub(crate) fn attribute(&mut self, name: &str, optional: bool, span: Span) -> TeraResult<()>
+    pub(crate) fn attribute(
+        &mut self,
+        name: &str,
+        optional: bool,
+        span: Span,
+    ) -> Result<(), AllocError>
         ensures ok { OnOk result (self.new ≡ lengthened self.old
             (instruction.LoadAttribute name.now optional span ∷ [])) }
-        ensures lacks { IfErr result Lacks }
     {
         self.emit(Instruction::LoadAttribute {
             name: Text::new(name),
@@ -50,30 +53,27 @@ impl Compiler {
     }
 
     // The first of two parts ends, which starts behind the place; the place that was kept behind it.
-    pub(crate) fn divide(&mut self, place: usize) -> TeraResult<usize>
+    pub(crate) fn divide(&mut self, place: usize) -> Result<usize, AllocError>
         requires { place < length self.old.code }
         ensures place { IfOk result (λ next. next ≡ length self.old.code) }
         ensures ok { OnOk result (self.new ≡ divided place self.old) }
-        ensures lacks { IfErr result Lacks }
     {
         let next = self.keep_place()?;
         self.fill(place, Instruction::PopJumpIfFalse(self.behind(place)))?;
         Ok(next)
     }
 
-    pub(crate) fn make_array(&mut self, items: &[Item], span: Span) -> TeraResult<()>
+    pub(crate) fn make_array(&mut self, items: &[Item], span: Span) -> Result<(), AllocError>
         ensures ok { OnOk result (self.new ≡ lengthened self.old
             (instruction.MakeArray (spreads_of (items_of items.now)) span ∷ [])) }
-        ensures lacks { IfErr result Lacks }
     {
         let spreads = spreads(self.alloc(), items)?;
         self.emit(Instruction::MakeArray(Spreads::new(spreads.as_slice()), span))
     }
 
-    pub(crate) fn make_map(&mut self, entries: &[Entry], span: Span) -> TeraResult<()>
+    pub(crate) fn make_map(&mut self, entries: &[Entry], span: Span) -> Result<(), AllocError>
         ensures ok { OnOk result (self.new ≡ lengthened self.old
             (instruction.MakeMap (keys_in (entries_of entries.now)) span ∷ [])) }
-        ensures lacks { IfErr result Lacks }
     {
         let keys = keys(self.alloc(), entries)?;
         self.emit(Instruction::MakeMap(Keys::new(keys.as_slice()), span))
@@ -87,8 +87,8 @@ pub(crate) fn is_context(name: &str) -> bool
     name == "__tera_context"
 }
 
-fn spreads(alloc: Global, items: &[Item]) -> TeraResult<Vec<bool>>
-    ensures { Gives (λ s. s.items) result (Ok (spreads_of (items_of items.now))) }
+fn spreads(alloc: Global, items: &[Item]) -> Result<Vec<bool>, AllocError>
+    ensures { IfOk result (λ s. s.items ≡ spreads_of (items_of items.now)) }
 {
     let mut flags = Vec::new(alloc);
     for item in items {
@@ -97,8 +97,8 @@ fn spreads(alloc: Global, items: &[Item]) -> TeraResult<Vec<bool>>
     Ok(flags)
 }
 
-pub(crate) fn keys(alloc: Global, entries: &[Entry]) -> TeraResult<Vec<Option<OwnedKey>>>
-    ensures { Gives (λ k. keys_of k.items) result (Ok (keys_in (entries_of entries.now))) }
+pub(crate) fn keys(alloc: Global, entries: &[Entry]) -> Result<Vec<Option<OwnedKey>>, AllocError>
+    ensures { IfOk result (λ k. keys_of k.items ≡ keys_in (entries_of entries.now)) }
 {
     let mut keys = Vec::new(alloc);
     for entry in entries {
@@ -108,8 +108,8 @@ pub(crate) fn keys(alloc: Global, entries: &[Entry]) -> TeraResult<Vec<Option<Ow
 }
 
 // The key with a text of its own.
-fn owned(alloc: Global, key: &Option<LiteralKey<'_>>) -> TeraResult<Option<OwnedKey>>
-    ensures { Gives key_option result (Ok (literal_option key.now)) }
+fn owned(alloc: Global, key: &Option<LiteralKey<'_>>) -> Result<Option<OwnedKey>, AllocError>
+    ensures { IfOk result (λ k. key_option k ≡ literal_option key.now) }
 {
     match key {
         None => Ok(None),
@@ -122,8 +122,8 @@ fn owned(alloc: Global, key: &Option<LiteralKey<'_>>) -> TeraResult<Option<Owned
     }
 }
 
-pub(crate) fn copied(alloc: Global, key: &Option<OwnedKey>) -> TeraResult<Option<OwnedKey>>
-    ensures { Gives key_option result (Ok (key_option key.now)) }
+pub(crate) fn copied(alloc: Global, key: &Option<OwnedKey>) -> Result<Option<OwnedKey>, AllocError>
+    ensures { IfOk result (λ k. key_option k ≡ key_option key.now) }
 {
     match key {
         None => Ok(None),

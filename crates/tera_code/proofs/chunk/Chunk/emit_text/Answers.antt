@@ -17,7 +17,7 @@ pub invariant_of-self-2 : goal.invariant_of-self-2
 invariant_of-self-2 c =
     all_grow _ _ (IsUtf8-string_bytes c.self.inside.tables.pool) (IsUtf8-string_bytes c.text.new.self.pool) c.in_ok-packed.ensures.grows c.self.inside.code.items _ _ (instruction.WriteText c.args.text.now) c.self.invariant c.in_ok-packed.ensures.ok c.in_ok-push.ensures.items
 
-pub returns-clause-ok : goal.returns-clause-ok
-returns-clause-ok c =
+pub returns : goal.returns
+returns c =
     chunk_grows _ _ (IsUtf8-string_bytes c.self.inside.tables.pool) (IsUtf8-string_bytes c.text.new.self.pool) c.in_ok-packed.ensures.grows c.self.inside.code.items _ _ (instruction.WriteText c.args.text.now) c.self.invariant c.in_ok-packed.ensures.ok c.in_ok-push.ensures.items c.self.inside.file
     ∙ ap (λ l. lengthened l ((instruction.WriteText c.args.text.now) ∷ [])) c.self.view_is

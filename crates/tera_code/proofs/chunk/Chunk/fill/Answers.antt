@@ -12,7 +12,7 @@ pub invariant_of-self-2 : goal.invariant_of-self-2
 invariant_of-self-2 c =
     all_filled _ _ (IsUtf8-string_bytes c.self.inside.tables.pool) (IsUtf8-string_bytes c.pack.new.self.pool) c.in_ok-packed.ensures.grows c.self.inside.code.items _ c.args.place _ c.args.instruction c.self.invariant c.in_ok-packed.ensures.ok refl
 
-pub returns-clause-ok : goal.returns-clause-ok
-returns-clause-ok c =
+pub returns : goal.returns
+returns c =
     chunk_filled _ _ (IsUtf8-string_bytes c.self.inside.tables.pool) (IsUtf8-string_bytes c.pack.new.self.pool) c.in_ok-packed.ensures.grows c.self.inside.code.items _ c.args.place _ c.args.instruction c.self.invariant c.in_ok-packed.ensures.ok refl c.self.inside.file
     ∙ ap (filled c.args.place c.args.instruction) c.self.view_is

@@ -24,6 +24,13 @@ use Rattle.tera_meaning.specs.Rendering.{has_a_block, text_of, one_off_text, ren
 use Rattle.tera_marks.specs.Origin.{Traces}
 use Rattle.tera_marks.proofs.Traced.{markup_is_traced}
 
+-- an answer that is no fault
+abbrev pub fine : {A : Type 0} → A → Result A Fault
+fine a = Ok a
+
+pub same_ok : {A : Type 0} (a b : A) → fine a ≡ fine b → a ≡ b
+same_ok a b e = cc
+
 -- what a body means where nothing was written or set yet
 pub begins-means : (about : Subject) (c : Configuration) (v : Variables) → config_of c ≡ starting (begun v) → v ≡ nothing_set → meant_from about c ≡ meant about (begun nothing_set)
 begins-means about c v starts empty = ap (λ x. meant about x.run) starts ∙ ap (λ w. meant about (begun w)) empty

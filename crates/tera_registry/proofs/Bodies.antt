@@ -1,7 +1,12 @@
 -- What is found in one body and then in another.
-use Rattle.std.proofs.Common.{◌≡◌, Bool, true, false, ◌||◌, List, ◌++◌, sym, ap, ◌∙◌, append_assoc}
+use Rattle.std.proofs.Common.{◌≡◌, Bool, true, false, ◌||◌, List, ◌++◌, sym, ap, ◌∙◌, append_assoc, Result, Ok, Err, OnOk}
 use Rattle.std.specs.List.{list_any}
 use Rattle.std.proofs.lemmas.List.Folds.{list_any-append}
+
+-- what holds where all went well is told by what is the same
+pub on_ok_by : {X E : Type 0} (r : Result (Unit {0}) E) (x y z : X) → y ≡ z → OnOk r (x ≡ y) → OnOk r (x ≡ z)
+on_ok_by (Ok a) x y z e h = h ∙ e
+on_ok_by (Err b) x y z e h = tt
 
 -- some are found, and others are to come
 pub append-more : {X : Type 0} (old mid some others whole : List X) → whole ≡ some ++ others → mid ≡ old ++ some → mid ++ others ≡ old ++ whole

@@ -1,7 +1,6 @@
 use Rattle.std.proofs.Common.{◌++◌, sym, ap}
 use Rattle.tera_syntax_tree.specs.Includes.{node_includes}
-use Rattle.tera_code.proofs.Written.{on_ok_by}
-use Rattle.tera_registry.proofs.Bodies.{append-more}
+use Rattle.tera_registry.proofs.Bodies.{append-more, on_ok_by}
 use Rattle.tera_variables.proofs.Bodies.{node_if, node_for, node_capture, node_section, node_block, node_call, node_definition}
 use Rattle.tera_registry.proofs.includes.+names.Goals as goal
 

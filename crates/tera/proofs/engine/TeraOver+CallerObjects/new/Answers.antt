@@ -1,5 +1,5 @@
 use Rattle.std.proofs.Common.{Ok, ap, map, sym, string_bytes, ◌∙◌}
-use Rattle.tera_code.proofs.Written.{same_ok}
+use Rattle.tera.proofs.Renders.{same_ok}
 use Rattle.tera.proofs.Registered.{is-new}
 use Rattle.tera.proofs.engine.TeraOver+CallerObjects.new.Goals as goal
 

@@ -2,8 +2,8 @@ use Rattle.std.proofs.Common.{Global, Result, sym, ap, ◌∙◌, subst, string_
 use Rattle.tera_errors.specs.Site.{Text, Name}
 use Rattle.tera_errors.specs.Fault.{Fault}
 use Rattle.tera_errors.specs.Answer.{Gives}
-use Rattle.tera_code.proofs.Written.{same_ok}
 use Rattle.tera.specs.Registry.{registry_of, subject_of_file, block_meant}
+use Rattle.tera.proofs.Renders.{same_ok}
 use Rattle.tera.proofs.ByName.{code-found, block-missing, block-found, renders-block, no_block, no_template}
 use Rattle.tera.proofs.engine.TeraOver.render_block.Goals as goal
 

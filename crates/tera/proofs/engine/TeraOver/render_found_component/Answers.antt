@@ -3,9 +3,9 @@ use Rattle.tera_errors.specs.Site.{Text}
 use Rattle.tera_errors.specs.Fault.{Fault}
 use Rattle.tera_errors.specs.Answer.{Gives}
 use Rattle.tera_state.specs.Scopes.{around_of, variables_of}
-use Rattle.tera_code.proofs.Written.{same_ok}
 use Rattle.tera.specs.Lent.{lent_text}
 use Rattle.tera.specs.Registry.{registry_of}
+use Rattle.tera.proofs.Renders.{same_ok}
 use Rattle.tera.proofs.ByComponent.{component-unfit, component-runs}
 use Rattle.tera.proofs.engine.TeraOver.render_found_component.Goals as goal
 

@@ -1,5 +1,5 @@
 // What a built-in is given, as it is read.
-ghost use Rattle.std.specs.Prelude.{◌≡◌, ◌+◌, ◌^◌, option_map, false};
+ghost use Rattle.std.specs.Prelude.{◌+◌, ◌^◌, option_map, false};
 ghost use Rattle.tera_errors.specs.Answer.{Gives};
 ghost use Rattle.tera_values.specs.Alphabet.{plain};
 ghost use Rattle.tera_built_ins.specs.Arguments as spec;

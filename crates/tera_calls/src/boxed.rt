@@ -1,5 +1,5 @@
 // The calls that register, at what a caller boxes.
-ghost use Rattle.std.specs.Prelude.{◌≡◌, Ok};
+ghost use Rattle.std.specs.Prelude.{Ok};
 ghost use Rattle.tera.specs.Configuring.{Configures};
 ghost use Rattle.tera.specs.Registering.{with_engine, MovesFrom};
 ghost use Rattle.tera.specs.Registry.{registry_of};

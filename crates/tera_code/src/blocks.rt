@@ -5,9 +5,9 @@ ghost use Rattle.tera_syntax_tree.specs.Blocks.{blocks, node_blocks};
 ghost use Rattle.tera_syntax_tree.specs.View.{node_of, nodes_of};
 
 use crate::chunk::Chunk;
-use crate::memory::lacking;
 use crate::nodes::compiled;
 use std::alloc::{AllocError, Global};
+use tera_errors::lacking;
 use tera_syntax_tree::Node;
 use tera_values::Name;
 

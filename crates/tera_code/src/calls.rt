@@ -9,9 +9,9 @@ ghost use Rattle.tera_syntax_tree.specs.View.{expr_of, entries_of, arguments_of,
 use crate::compiler::Compiler;
 use crate::content::{Keys, LentName, Names};
 use crate::instruction::Instruction;
-use crate::memory::lacking;
 use crate::parts::keys;
 use std::alloc::{AllocError, Global};
+use tera_errors::lacking;
 use tera_syntax_tree::{Argument, Entry, Expression, SectionFilter};
 use tera_values::{Name, Span};
 

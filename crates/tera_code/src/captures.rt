@@ -9,8 +9,8 @@ ghost use Rattle.tera_syntax_tree.specs.View.{expr_of, filters_of, node_of, node
 use crate::compiler::Compiler;
 use crate::content::LentName;
 use crate::instruction::Instruction;
-use crate::memory::lacking;
 use std::alloc::{AllocError, Global};
+use tera_errors::lacking;
 use tera_syntax_tree::{Expression, Node, SectionFilter};
 use tera_values::{Name, Span};
 

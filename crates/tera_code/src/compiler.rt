@@ -8,9 +8,9 @@ ghost use Rattle.tera_code.specs.Places.{filled, behind};
 use crate::chunk::Chunk;
 use crate::constant::Constant;
 use crate::instruction::Instruction;
-use crate::memory::lacking;
 use std::alloc::{AllocError, Global};
 use std::marker::Model;
+use tera_errors::lacking;
 use tera_values::{Name, Sought, Span, Value};
 
 /// Writes the instructions of one body. A contract sees those that are written so far.

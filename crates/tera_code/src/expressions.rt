@@ -1,7 +1,7 @@
 // Expressions.
 ghost use Rattle.std.specs.Prelude.{◌≡◌, OnOk};
 ghost use Rattle.tera_code.specs.Code.{expr_code, bound_code, items_code, entries_code, lengthened};
-ghost use Rattle.tera_code.specs.Group.{group, Access, Operation, Branch, Collection, Loop, Request};
+ghost use Rattle.tera_code.specs.Group.{group, Access, Operation, Branch, Collection};
 ghost use Rattle.tera_syntax_tree.specs.View.{expr_of, optional_of, items_of, entries_of};
 
 use crate::compiler::Compiler;

@@ -14,7 +14,6 @@ pub mod instruction;
 pub mod laws;
 pub mod lent;
 mod loops;
-mod memory;
 mod nodes;
 mod packed;
 mod parts;

@@ -1,5 +1,5 @@
 // Loops and comprehensions.
-ghost use Rattle.std.specs.Prelude.{◌≡◌, ◌<◌, ◌∷◌, [], OnOk, IfOk, length, option_copied, true, false};
+ghost use Rattle.std.specs.Prelude.{◌≡◌, ◌<◌, ◌∷◌, [], OnOk, IfOk, length, option_copied, false};
 ghost use Rattle.tera_code.specs.declared.instruction.Instruction.TheVariants as instruction;
 ghost use Rattle.tera_code.specs.Code.{expr_code, lengthened};
 ghost use Rattle.tera_code.specs.Group.{group, Loop};
@@ -9,8 +9,8 @@ ghost use Rattle.tera_syntax_tree.specs.View.{expr_of};
 use crate::compiler::Compiler;
 use crate::content::{LentName, Spreads};
 use crate::instruction::Instruction;
-use crate::memory::lacking;
 use std::alloc::{AllocError, Global};
+use tera_errors::lacking;
 use tera_syntax_tree::{Expression, Heading};
 use tera_values::{Name, Span};
 

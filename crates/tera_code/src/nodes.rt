@@ -10,9 +10,9 @@ use crate::chunk::Chunk;
 use crate::compiler::Compiler;
 use crate::content::LentName;
 use crate::instruction::Instruction;
-use crate::memory::lacking;
 use crate::parts::is_context;
 use std::alloc::{AllocError, Global};
+use tera_errors::lacking;
 use tera_syntax_tree::{Entry, Expression, Node};
 use tera_values::{Name, Span};
 

@@ -1,17 +1,16 @@
 // How a body's instructions are kept: small ones in a row, and beside them what they name by number.
-ghost use Rattle.std.specs.Prelude.{◌≡◌, ◌<◌, ◌≤◌, ◌-◌, ◌^◌, IfOk, length, take, drop, string_bytes};
-ghost use Rattle.std.specs.Str.{IsCharBoundary};
-ghost use Rattle.tera_code.specs.Packed.{Grows, Longer, IsAt, Packs, Within, shelf_of, span_at, name_at, unpacked};
+ghost use Rattle.std.specs.Prelude.{◌≡◌, ◌<◌, ◌-◌, IfOk};
+ghost use Rattle.tera_code.specs.Packed.{Grows, Longer, IsAt, Packs, shelf_of};
 ghost use Rattle.tera_syntax_tree.specs.View.{keys_of};
 ghost use Rattle.tera_code.specs.declared.instruction.Instruction.TheVariants as instruction;
 
 use crate::constant::{Constant, Kept, small_integer};
 use crate::content::{Keys, LentName, Names, Spreads};
 use crate::instruction::Instruction;
-use crate::memory::lacking;
 use crate::parts::copied;
 use crate::reference::Reference;
 use std::alloc::{AllocError, Global};
+use tera_errors::lacking;
 use tera_syntax_tree::{BinaryOperator, OwnedKey};
 use tera_values::{Name, Sought, Span, Value};
 

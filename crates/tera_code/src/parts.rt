@@ -1,18 +1,18 @@
 // Instructions of single forms.
-ghost use Rattle.std.specs.Prelude.{◌≡◌, ◌<◌, [], ◌∷◌, ◌++◌, OnOk, IfOk, length, false};
+ghost use Rattle.std.specs.Prelude.{◌≡◌, ◌<◌, [], ◌∷◌, OnOk, IfOk, length, false};
 ghost use Rattle.tera_values.specs.Val as val;
 ghost use Rattle.tera_code.specs.declared.instruction.Instruction.TheVariants as instruction;
 ghost use Rattle.tera_code.specs.Code.{lengthened, is_context, name_code, spreads_of, keys_in};
 ghost use Rattle.tera_code.specs.Places.{divided};
 ghost use Rattle.tera_syntax_tree.specs.View.{keys_of};
-ghost use Rattle.tera_syntax_tree.specs.View.{items_of, entries_of, key_option, key_of, literal_option, literal_of, quoted_of};
+ghost use Rattle.tera_syntax_tree.specs.View.{items_of, entries_of, key_option, literal_option};
 
 use crate::compiler::Compiler;
 use crate::constant::Constant;
 use crate::content::{Keys, Spreads, Text};
 use crate::instruction::Instruction;
-use crate::memory::lacking;
 use std::alloc::{AllocError, Global};
+use tera_errors::lacking;
 use tera_syntax_tree::{Entry, Item, LiteralKey, OwnedKey};
 use tera_values::{Sought, Span, Value};
 

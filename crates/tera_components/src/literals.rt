@@ -1,5 +1,5 @@
 // Values that are written out, as values.
-ghost use Rattle.std.specs.Prelude.{◌≡◌, [], Ok, map as map_list};
+ghost use Rattle.std.specs.Prelude.{[], Ok, map as map_list};
 ghost use Rattle.tera_errors.specs.Answer.{Gives};
 ghost use Rattle.tera_syntax_tree.specs.View.{written_of, literal_of, literal_entries_of};
 ghost use Rattle.tera_values.specs.Alphabet.{plain};

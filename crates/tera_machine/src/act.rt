@@ -15,6 +15,7 @@ use crate::configuration::Configuration;
 use crate::machine::{Flow, VirtualMachine};
 use std::alloc::{AllocError, Global};
 use tera_code::{Instruction, Keys, LentName, Spreads};
+use tera_errors::lacking;
 use tera_objects::Objects;
 use tera_operators::Operand;
 use tera_state::Found;
@@ -176,14 +177,17 @@ impl<'c> Configuration<'c> {
         if found.is_undefined() {
             return Ok(false);
         }
+        let (alloc, autoescape) = (machine.alloc, machine.autoescape);
         match found {
             Found::Kept(value) => {
                 self.texts
-                    .append_value(machine.alloc, machine.objects, machine.autoescape, value)?
+                    .append_value(alloc, machine.objects, autoescape, value)?
             }
             found => {
-                self.texts
-                    .append_found(machine.alloc, machine.objects, machine.autoescape, found)?
+                let put = self
+                    .texts
+                    .append_found(alloc, machine.objects, autoescape, found);
+                lacking(put)?
             }
         }
         Ok(true)

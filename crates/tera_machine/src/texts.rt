@@ -1,6 +1,6 @@
 // What a rendering puts out, and what is captured of it.
-ghost use Rattle.std.specs.Prelude.{◌≡◌, ◌≢◌, ◌++◌, ◌∷◌, [], Ok, OnOk, string_bytes, drop, unwrap_or};
-ghost use Rattle.tera_errors.specs.Answer.{Gives};
+ghost use Rattle.std.specs.Prelude.{◌≡◌, ◌≢◌, ◌++◌, ◌∷◌, [], Ok, OnOk, IfErr, string_bytes, drop, unwrap_or};
+ghost use Rattle.tera_errors.specs.Answer.{Gives, Lacks};
 ghost use Rattle.tera_values.specs.Val.{text, undefined};
 ghost use Rattle.tera_state.specs.Found.{found_value};
 ghost use Rattle.tera_state.specs.Rendered.{rendered};
@@ -111,16 +111,16 @@ impl Texts {
         objects: &O,
         autoescape: bool,
         found: Found<'_>,
-    ) -> Result<(), AllocError>
-        ensures { OnOk result (self.new ≡ record self.old {
+    ) -> TeraResult<()>
+        ensures ok { OnOk result (self.new ≡ record self.old {
           now = self.old.now ++ rendered autoescape (O.engine objects.now).escape
               (unwrap_or (found_value found.entry) undefined);
         }) }
+        ensures lacks { IfErr result Lacks }
     {
-        match found.to_value(alloc) {
-            Ok(value) => self.append_value(alloc, objects, autoescape, &value),
-            Err(_) => Err(AllocError),
-        }
+        let value = found.to_value(alloc)?;
+        self.append_value(alloc, objects, autoescape, &value)?;
+        Ok(())
     }
 
     /// A text of its own begins.

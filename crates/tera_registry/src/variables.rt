@@ -5,7 +5,7 @@ ghost use Rattle.std.specs.String.{string_cmp};
 ghost use Rattle.tera_errors.specs.Answer.{Lacks};
 ghost use Rattle.tera_meaning.specs.Accepted.{includes_of};
 ghost use Rattle.tera_meaning.specs.Lineage.{ancestors};
-ghost use Rattle.tera_meaning.specs.Registry.{Entry, Registry};
+ghost use Rattle.tera_meaning.specs.Registry.{Entry};
 ghost use Rattle.tera_meaning.specs.Variables.{given, if_given, given_in, variables};
 ghost use Rattle.tera_variables.specs.Free.{only, ◌∪◌};
 ghost use Rattle.tera_variables.specs.Sets.{names_in};

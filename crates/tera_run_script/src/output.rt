@@ -1,5 +1,4 @@
 // Whole texts to an output.
-ghost use Rattle.std.specs.Prelude.{◌≡◌};
 ghost use Rattle.std.specs.List.{flat_map};
 ghost use Rattle.tera_run_script.specs.Device.{Writes};
 

@@ -1,10 +1,9 @@
 // Each component by itself.
-ghost use Rattle.std.specs.Prelude.{◌≡◌, ◌++◌, Ok, IfErr, IfOk, OnOk, string_bytes, codes, map, is_some, true};
+ghost use Rattle.std.specs.Prelude.{◌≡◌, Ok, IfErr, IfOk, string_bytes, map, true};
 ghost use Rattle.tera.specs.Lent.{texts_of};
 ghost use Rattle.tera.specs.Registry.{registry_of, info_at};
 ghost use Rattle.tera.specs.Answer.{Gives, GivesOneOf, Lacks};
 ghost use Rattle.tera_run_script.specs.Preview.{arguments_for, shown, Previews};
-ghost use Rattle.tera_run_script.specs.Reply.{fault_line};
 
 use crate::entries::entries;
 use crate::reply::push_fault;

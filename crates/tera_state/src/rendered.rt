@@ -6,6 +6,7 @@ ghost use Rattle.tera_state.specs.Rendered.{written_by};
 
 use std::alloc::{AllocError, Global};
 use tera_built_ins::{EscapeFn, Escaping};
+use tera_errors::lacking;
 use tera_values::Value;
 
 /// Puts a value behind a text: its printed text, escaped where texts are escaped and the value is not safe. A text is not
@@ -39,27 +40,10 @@ fn write_escaped<E: EscapeFn>(
     ensures err { OnErr result (string_bytes out.new ≡ string_bytes out.old) }
 {
     match value.as_str() {
-        Some(text) => escaped(escaping, text, out),
-        None => match value.printed(alloc) {
-            Ok(text) => escaped(escaping, text.as_str(), out),
-            Err(_) => Err(AllocError),
-        },
-    }
-}
-
-// The escape of a text, which answers nothing but want of memory.
-#[inline(always)]
-fn escaped<E: EscapeFn>(
-    escaping: Escaping<'_, E>,
-    text: &str,
-    out: &mut String,
-) -> Result<(), AllocError>
-    ensures ok { OnOk result (string_bytes out.new ≡ string_bytes out.old
-        ++ (escaping_of E.escaped escaping.entry).escape text.now) }
-    ensures err { OnErr result (string_bytes out.new ≡ string_bytes out.old) }
-{
-    match escaping.escape.escape(text, out) {
-        Ok(()) => Ok(()),
-        Err(_) => Err(AllocError),
+        Some(text) => lacking(escaping.escape.escape(text, out)),
+        None => {
+            let text = lacking(value.printed(alloc))?;
+            lacking(escaping.escape.escape(text.as_str(), out))
+        }
     }
 }

@@ -1,5 +1,5 @@
 // Where a refusal points: at the tag, or at what in it is wrong.
-ghost use Rattle.std.specs.Prelude.{ℕ, ◌≡◌, ◌<◌, ◌≤◌, ◌+◌, ◌^◌, List, length, IfOk, IfErr, IfSome, IsTrue};
+ghost use Rattle.std.specs.Prelude.{ℕ, ◌<◌, ◌≤◌, ◌+◌, ◌^◌, length, IfOk, IfErr, IfSome, IsTrue};
 ghost use Rattle.tera_syntax.specs.Places.{StandsWithin};
 ghost use Rattle.tera_syntax_tokens.specs.Answers.{Answers, Follows};
 ghost use Rattle.tera_syntax_tokens.specs.Cut as spec;

@@ -1,5 +1,5 @@
 // What is open while a text is read, and the nodes that were read.
-ghost use Rattle.std.specs.Prelude.{◌≡◌, ◌-◌, suc, length, true, Some, IfErr, option_map};
+ghost use Rattle.std.specs.Prelude.{◌≡◌, ◌-◌, true, Some, IfErr, option_map};
 ghost use Rattle.tera_syntax.specs.Heads as heads;
 ghost use Rattle.tera_syntax.specs.Reader as spec;
 ghost use Rattle.tera_syntax.specs.View.{Becomes, body_of, frame_of, head_of, progress_of};

@@ -1,5 +1,5 @@
 // Statements that begin with a word which is not reserved, and ends.
-ghost use Rattle.std.specs.Prelude.{◌≡◌, IfOk, List, get_or, option_and_then};
+ghost use Rattle.std.specs.Prelude.{◌≡◌, IfOk, get_or, option_and_then};
 ghost use Rattle.tera_syntax.specs.Reader as spec;
 ghost use Rattle.tera_syntax.specs.View.{Becomes, progress_of};
 ghost use Rattle.tera_syntax_tokens.specs.Answers.{Answers};

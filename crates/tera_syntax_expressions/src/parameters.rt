@@ -1,5 +1,5 @@
 // Signatures of components.
-ghost use Rattle.std.specs.Prelude.{◌≡◌, [], map, option_copied, IfOk, IfErr};
+ghost use Rattle.std.specs.Prelude.{◌≡◌, [], map, IfOk, IfErr};
 ghost use Rattle.tera_syntax_tree.specs.Definitions.{has_fit_parameters};
 ghost use Rattle.tera_syntax_tree.specs.View.{parameter_of, signature_of, written_option};
 ghost use Rattle.tera_syntax_tokens.specs.Input.{left};

@@ -1,5 +1,5 @@
 //! Readings of small texts.
-ghost use Rattle.std.specs.Prelude.{IsTrue, IfSome, OnOk};
+ghost use Rattle.std.specs.Prelude.{IsTrue, IfSome};
 ghost use Rattle.tera_syntax_tree.specs.Delimiters.{accepted, delimiters_of};
 
 use crate::applications::{APPLICATION_NESTS, APPLICATIONS, UNREAD_APPLICATIONS};

@@ -1,5 +1,5 @@
 // The cut of a text into text, comments and tags.
-ghost use Rattle.std.specs.Prelude.{List, ◌≡◌, ◌<◌, ◌≤◌, ◌+◌, ◌-◌, ◌^◌, ◌≢◌, [], length, drop, IfOk, IfErr, IfSome, IsTrue, Some, None, string_bytes, get_or};
+ghost use Rattle.std.specs.Prelude.{List, ◌≡◌, ◌<◌, ◌≤◌, ◌+◌, ◌-◌, ◌^◌, [], length, drop, IfOk, IfErr, IfSome, IsTrue, Some, None, get_or};
 ghost use Rattle.memchr.specs.Find.{is_byte3};
 ghost use Rattle.tera_syntax_tokens.specs.Answers.{Answers, Follows};
 ghost use Rattle.tera_syntax_tokens.specs.Bytes.{place};

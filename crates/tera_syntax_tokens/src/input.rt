@@ -1,5 +1,5 @@
 // A place among the tokens of a tag.
-ghost use Rattle.std.specs.Prelude.{◌≡◌, length, drop};
+ghost use Rattle.std.specs.Prelude.{◌≡◌, drop};
 ghost use Rattle.tera_syntax_tokens.specs.Answers.{IsSyntax};
 ghost use Rattle.tera_syntax_tokens.specs.Input as spec;
 ghost use Rattle.tera_syntax_tokens.specs.Takes.{Takes, input};

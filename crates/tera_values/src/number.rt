@@ -1,7 +1,7 @@
 // Arithmetic. What is not an integer is refused, and so is what no `i128` holds: a `Message` each time.
-ghost use Rattle.std.specs.Prelude.{◌≡◌, pos, ◌≤ℤ◌, pos, ◌+ℤ◌, Option, IsOk};
+ghost use Rattle.std.specs.Prelude.{◌≡◌, pos, ◌≤ℤ◌, pos, Option, IsOk};
 ghost use Rattle.tera_errors.specs.Answer.{Gives};
-ghost use Rattle.tera_values.specs.Number.{within, told, integers, sum, difference, product, quotient, remainder, exact_quotient, power, add, sub, mul, div, floor_div, rem, pow, negate};
+ghost use Rattle.tera_values.specs.Number.{told, integers, sum, difference, product, quotient, remainder, exact_quotient, power, add, sub, mul, div, floor_div, rem, pow, negate};
 
 use std::alloc::Global;
 use tera_errors::{Error, TeraResult};

@@ -1,5 +1,5 @@
 // What is asked of a value as a whole.
-ghost use Rattle.std.specs.Prelude.{◌≡◌, Ok, ℕ, List, length, option_copied, IsOk};
+ghost use Rattle.std.specs.Prelude.{◌≡◌, Ok, length, option_copied, IsOk};
 ghost use Rattle.std.specs.Str.{chars};
 ghost use Rattle.tera_errors.specs.Answer.{Gives};
 ghost use Rattle.tera_values_data.specs.View.{key_view};

@@ -1,5 +1,5 @@
 // Items, characters, bytes and values at an index.
-ghost use Rattle.std.specs.Prelude.{◌≡◌, ℕ, Ok, length, option_copied, slice_get, IsOk, IsOkAnd};
+ghost use Rattle.std.specs.Prelude.{◌≡◌, Ok, length, slice_get, IsOk, IsOkAnd};
 ghost use Rattle.std.specs.Str.{chars};
 ghost use Rattle.tera_errors.specs.Answer.{Gives};
 ghost use Rattle.tera_values_data.specs.View.{wanted_view};

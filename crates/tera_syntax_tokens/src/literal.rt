@@ -142,7 +142,8 @@ fn between<'s>(alloc: Global, text: &'s str) -> Result<Quoted<'s>, AllocError>
     if plain_len(text.as_bytes()) == text.len() {
         return Ok(Quoted::Lent(text));
     }
-    Ok(Quoted::Made(unescape(alloc, text)?))
+    let made = unescape(alloc, text)?;
+    Ok(Quoted::Made(Box::new(alloc, made)?))
 }
 
 /// What a quoted text stands for; none where the text is not quoted. It takes memory only for a text with a backslash.

@@ -1,13 +1,16 @@
 -- Views of what holds a Vec, by the Vec's items.
-use Rattle.std.proofs.Common.{◌≡◌, Vec, Box, Bool, Bor, Global, option_copied, refl, ap, ap₂, ◌∙◌}
+use Rattle.std.proofs.Common.{◌≡◌, Vec, Box, Bool, Bor, Global, option_copied, refl, sym, ap, ap₂, ◌∙◌}
 use mathlib.Core.Former.{Count}
 use Rattle.tera_errors.specs.Site.{Text}
 use Rattle.tera_errors.specs.declared.span.Span.{Span}
 use Rattle.tera_syntax_tree.specs.declared.expression.Heading.{Heading}
+use Rattle.tera_syntax_tree.specs.declared.expression.Applied.{Applied, Applied', out-Applied}
+use Rattle.tera_syntax_tree.specs.declared.expression.Called.{Called, Called', out-Called}
+use Rattle.tera_syntax_tree.specs.declared.expression.ComponentTag.{ComponentTag, ComponentTag', out-ComponentTag}
 use Rattle.tera_syntax_tree.specs.declared.expression.Item as item
 use Rattle.tera_syntax_tree.specs.declared.expression.Entry as entry
 use Rattle.tera_syntax_tree.specs.declared.expression.Argument as argument
-use Rattle.tera_syntax_tree.specs.declared.expression.Expression.{Expression, Row_of-Item, end_of-Item, more_of-Item, items-the_row-Item, items_hidden-the_row-Item-0, Row_of-Entry, end_of-Entry, more_of-Entry, items-the_row-Entry, items_hidden-the_row-Entry-1, Row_of-Argument, end_of-Argument, more_of-Argument, items-the_row-Argument, items_hidden-the_row-Argument-2}
+use Rattle.tera_syntax_tree.specs.declared.expression.Expression.{Expression, Row_of-Item, end_of-Item, more_of-Item, items-the_row-Item, items_hidden-the_row-Item-0, Row_of-Entry, end_of-Entry, more_of-Entry, items-the_row-Entry, items_hidden-the_row-Entry-1, Row_of-Argument, end_of-Argument, more_of-Argument, items-the_row-Argument, items_hidden-the_row-Argument-2, items_shown-the_row-Argument-2, items_shown-the_row-Entry-1}
 use Rattle.tera_syntax_tree.specs.declared.expression.Expression.TheVariants as expression
 use Rattle.tera_syntax_tree.specs.declared.component.Literal.{Row_of-Literal, end_of-Literal, more_of-Literal, items-the_row-Literal, items_hidden-the_row-Literal-0, Row_of-LiteralEntry, end_of-LiteralEntry, more_of-LiteralEntry, items-the_row-LiteralEntry, items_hidden-the_row-LiteralEntry-1}
 use Rattle.tera_syntax_tree.specs.declared.component.Literal as declared_literal
@@ -19,7 +22,7 @@ use Rattle.tera_syntax_tree.specs.declared.node.Node as declared
 use Rattle.tera_syntax_tree.specs.declared.node.SectionFilter.{SectionFilter}
 use Rattle.tera_syntax_tree.specs.declared.node.Node.TheVariants as variant
 use Rattle.tera_syntax_tree.specs.Tree.{Array, Map, Super, Filter, Test, Call, Component, ArrayLiteral, MapLiteral, MoreLiterals, MoreLiteralEntries, MoreItems, MoreEntries, MoreArguments, If, Capture, FilterSection, For, Block, ComponentCall, Definition, MoreNodes}
-use Rattle.tera_syntax_tree.specs.View.{literal_of, literal_option, expr_of, row_items, items_of, row_entries, entries_of, row_arguments, arguments_of, written_of, row_literals, literals_of, row_literal_entries, literal_entries_of, signature_of, filters_of, node_of, row_nodes, nodes_of, for_of}
+use Rattle.tera_syntax_tree.specs.View.{literal_of, literal_option, expr_of, row_items, items_of, row_entries, entries_of, row_arguments, arguments_of, written_of, row_literals, literals_of, row_literal_entries, literal_entries_of, applied_of, called_of, tag_of, signature_of, filters_of, node_of, row_nodes, nodes_of, for_of}
 
 pub items_row : (m : _) (row : Row_of-Item m) → row_items row ≡ items_of (items-the_row-Item m row)
 items_row m end_of-Item = refl
@@ -59,14 +62,14 @@ items_in _ = (_, end_of-Item)
 
 abbrev entries_in : Expression → (n : Count) × Row_of-Entry n
 entries_in (expression.Map' _ row _) = (_, row)
-entries_in (expression.Component' _ _ row _) = (_, row)
+entries_in (expression.Component' _ (ComponentTag' _ _ row) _) = (_, row)
 entries_in _ = (_, end_of-Entry)
 
 abbrev arguments_in : Expression → (n : Count) × Row_of-Argument n
 arguments_in (expression.Super' _ row _) = (_, row)
-arguments_in (expression.Filter' _ _ _ _ row _) = (_, row)
-arguments_in (expression.Test' _ _ _ _ row _) = (_, row)
-arguments_in (expression.Call' _ _ row _) = (_, row)
+arguments_in (expression.Filter' _ (Applied' _ _ _ row) _) = (_, row)
+arguments_in (expression.Test' _ (Applied' _ _ _ row) _) = (_, row)
+arguments_in (expression.Call' _ (Called' _ _ row) _) = (_, row)
 arguments_in _ = (_, end_of-Argument)
 
 abbrev body_in : declared.Node → (n : Count) × Row_of-Node n
@@ -105,19 +108,37 @@ view_super all span =
 arguments_are : (r : (n : Count) × Row_of-Argument n) (all : Vec argument.Argument Global) → items-the_row-Argument r.0 r.1 ≡ all.items → row_arguments r.1 ≡ arguments_of all.items
 arguments_are r all e = arguments_row r.0 r.1 ∙ ap arguments_of e
 
-pub view_filter : (v : Box Expression Global) (n : Bor Text) (all : Vec argument.Argument Global) (span : Span) → expr_of (expression.Filter v n all span) ≡ Filter (expr_of v.value) n.now (arguments_of all.items) span
-view_filter v n all span = ap (λ x. Filter (expr_of v.value) n.now x span) (arguments_are (arguments_in (expression.Filter v n all span)) all (items_hidden-the_row-Argument-2 all))
+pub view_filter : (a : Box Applied Global) (span : Span) → expr_of (expression.Filter a span) ≡ applied_of Filter a.value span
+unfolding out-Applied denote.Hole.Carrier.out
+view_filter a span =
+    by_parts a.ptr a.alloc a.value
+  where
+    by_parts : (p : _) (al : Global) (x : Applied) → expr_of (expression.Filter (record { ptr = p; alloc = al; value = x }) span) ≡ applied_of Filter x span
+    by_parts p al (Applied' e t m all) = ap (λ y. Filter (expr_of e) t.now y span) (arguments_row _ all ∙ ap arguments_of (sym (items_shown-the_row-Argument-2 m all)))
 
-pub view_test : (v : Box Expression Global) (n : Bor Text) (all : Vec argument.Argument Global) (span : Span) → expr_of (expression.Test v n all span) ≡ Test (expr_of v.value) n.now (arguments_of all.items) span
-view_test v n all span = ap (λ x. Test (expr_of v.value) n.now x span) (arguments_are (arguments_in (expression.Test v n all span)) all (items_hidden-the_row-Argument-2 all))
+pub view_test : (a : Box Applied Global) (span : Span) → expr_of (expression.Test a span) ≡ applied_of Test a.value span
+unfolding out-Applied denote.Hole.Carrier.out
+view_test a span =
+    by_parts a.ptr a.alloc a.value
+  where
+    by_parts : (p : _) (al : Global) (x : Applied) → expr_of (expression.Test (record { ptr = p; alloc = al; value = x }) span) ≡ applied_of Test x span
+    by_parts p al (Applied' e t m all) = ap (λ y. Test (expr_of e) t.now y span) (arguments_row _ all ∙ ap arguments_of (sym (items_shown-the_row-Argument-2 m all)))
 
-pub view_call : (n : Bor Text) (all : Vec argument.Argument Global) (span : Span) → expr_of (expression.Call n all span) ≡ Call n.now (arguments_of all.items) span
-view_call n all span = ap (λ x. Call n.now x span) (arguments_are (arguments_in (expression.Call n all span)) all (items_hidden-the_row-Argument-2 all))
+pub view_call : (c : Box Called Global) (span : Span) → expr_of (expression.Call c span) ≡ called_of c.value span
+unfolding out-Called denote.Hole.Carrier.out
+view_call c span =
+    by_parts c.ptr c.alloc c.value
+  where
+    by_parts : (p : _) (al : Global) (x : Called) → expr_of (expression.Call (record { ptr = p; alloc = al; value = x }) span) ≡ called_of x span
+    by_parts p al (Called' t m all) = ap (λ y. Call t.now y span) (arguments_row _ all ∙ ap arguments_of (sym (items_shown-the_row-Argument-2 m all)))
 
-pub view_component : (n : Bor Text) (all : Vec entry.Entry Global) (span : Span) → expr_of (expression.Component n all span) ≡ Component n.now (entries_of all.items) span
-view_component n all span =
-    let r = entries_in (expression.Component n all span) in
-    ap (λ x. Component n.now x span) (entries_row r.0 r.1 ∙ ap entries_of (items_hidden-the_row-Entry-1 all))
+pub view_component : (t : Box ComponentTag Global) (span : Span) → expr_of (expression.Component t span) ≡ tag_of t.value span
+unfolding out-ComponentTag denote.Hole.Carrier.out
+view_component t span =
+    by_parts t.ptr t.alloc t.value
+  where
+    by_parts : (p : _) (al : Global) (x : ComponentTag) → expr_of (expression.Component (record { ptr = p; alloc = al; value = x }) span) ≡ tag_of x span
+    by_parts p al (ComponentTag' n m all) = ap (λ y. Component n.now y span) (entries_row _ all ∙ ap entries_of (sym (items_shown-the_row-Entry-1 m all)))
 
 pub view_block : (t : Bor Text) (body : Vec declared.Node Global) (span : Span) → node_of (variant.Block t body span) ≡ Block t.now (nodes_of body.items) span
 view_block t body span = ap (λ x. Block t.now x span) (nodes_is (body_in (variant.Block t body span)) body (items_hidden-the_row-Node-0 body))

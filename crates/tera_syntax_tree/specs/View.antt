@@ -1,12 +1,16 @@
 -- The plain data that a tree in memory stands for.
 use Rattle.std.specs.Prelude.{List, [], ◌∷◌, Bool, Option, Some, None, string_bytes, option_copied, Box, map as map_list}
 use Rattle.std.specs.Global.{Global}
-use Rattle.tera_syntax_tree.specs.declared.expression.Expression.{Expression, Row_of-Item, end_of-Item, more_of-Item, Row_of-Entry, end_of-Entry, more_of-Entry, Row_of-Argument, end_of-Argument, more_of-Argument, Held-Expression-Comprehension-2, Expression-Comprehension-2-None', Some'}
+use Rattle.tera_syntax_tree.specs.declared.expression.Expression.{Expression, Row_of-Item, end_of-Item, more_of-Item, Row_of-Entry, end_of-Entry, more_of-Entry, Row_of-Argument, end_of-Argument, more_of-Argument, Held-Bounds-start, Bounds-start-None', Some'}
 use Rattle.tera_syntax_tree.specs.declared.expression.Expression.TheVariants as expression
 use Rattle.tera_errors.specs.Site as site
 use Rattle.tera_errors.specs.declared.span.Span.{Span}
 use Rattle.tera_syntax_tree.specs.declared.expression.Bounds.{Bounds}
 use Rattle.tera_syntax_tree.specs.declared.expression.Heading.{Heading}
+use Rattle.tera_syntax_tree.specs.declared.expression.Collected.{Collected}
+use Rattle.tera_syntax_tree.specs.declared.expression.Applied.{Applied, Applied', out-Applied}
+use Rattle.tera_syntax_tree.specs.declared.expression.Called.{Called, Called', out-Called}
+use Rattle.tera_syntax_tree.specs.declared.expression.ComponentTag.{ComponentTag, ComponentTag', out-ComponentTag}
 use Rattle.tera_syntax_tree.specs.declared.expression.LiteralKey.{LiteralKey}
 use Rattle.tera_syntax_tree.specs.declared.expression.LiteralKey.TheVariants as key
 use Rattle.tera_syntax_tree.specs.declared.expression.OwnedKey.{OwnedKey}
@@ -31,7 +35,7 @@ use Rattle.tera_syntax_tree.specs.Tree.{Key, BoolKey, IntKey, TextKey, Expr, Not
 
 abbrev pub quoted_of : Quoted → site.Text
 quoted_of (quoted.Lent t) = t.now
-quoted_of (quoted.Made t) = string_bytes t
+quoted_of (quoted.Made t) = string_bytes t.value
 
 abbrev pub quoted_option : Option Quoted → Option site.Text
 quoted_option None = None
@@ -65,9 +69,9 @@ abbrev mutual
   expr_of (expression.Int z span) = Integer z span
   expr_of (expression.Text t span) = Text (quoted_of t) span
   expr_of (expression.Name t span) = Name t.now span
-  expr_of (expression.Attribute' p e t optional span) = Attribute (expr_of e) t.now optional span
-  expr_of (expression.Index' p a b optional span) = Index (expr_of a) (expr_of b) optional span
-  expr_of (expression.Slice' p e q a b c optional span) = Slice (expr_of e) (held_of a) (held_of b) (held_of c) optional span
+  expr_of (expression.Attribute' optional p e t span) = Attribute (expr_of e) t.now optional span
+  expr_of (expression.Index' optional p a b span) = Index (expr_of a) (expr_of b) optional span
+  expr_of (expression.Slice' optional p e q a b c span) = Slice (expr_of e) (held_of a) (held_of b) (held_of c) optional span
   expr_of (expression.Not' p e span) = Not (expr_of e) span
   expr_of (expression.Negate' p e span) = Negate (expr_of e) span
   expr_of (expression.Binary' op p a b span) = Binary op (expr_of a) (expr_of b) span
@@ -76,15 +80,15 @@ abbrev mutual
   expr_of (expression.Ternary' p v c o span) = Ternary (expr_of v) (expr_of c) (expr_of o) span
   expr_of (expression.Array' m all span) = Array (row_items all) span
   expr_of (expression.Map' m all span) = Map (row_entries all) span
-  expr_of (expression.Comprehension' p v q key n e c span) = Comprehension (expr_of v) (option_copied key) n.now (expr_of e) (held_of c) span
+  expr_of (expression.Comprehension' p v key n e c span) = Comprehension (expr_of v) (option_copied key) n.now (expr_of e) (held_of c) span
   expr_of (expression.Super' m all span) = Super (row_arguments all) span
-  expr_of (expression.Filter' p e t m all span) = Filter (expr_of e) t.now (row_arguments all) span
-  expr_of (expression.Test' p e t m all span) = Test (expr_of e) t.now (row_arguments all) span
-  expr_of (expression.Call' t m all span) = Call t.now (row_arguments all) span
-  expr_of (expression.Component' t m all span) = Component t.now (row_entries all) span
+  expr_of (expression.Filter' p (Applied' e t m all) span) = Filter (expr_of e) t.now (row_arguments all) span
+  expr_of (expression.Test' p (Applied' e t m all) span) = Test (expr_of e) t.now (row_arguments all) span
+  expr_of (expression.Call' p (Called' t m all) span) = Call t.now (row_arguments all) span
+  expr_of (expression.Component' p (ComponentTag' t m all) span) = Component t.now (row_entries all) span
 
-  pub held_of : Held-Expression-Comprehension-2 → Optional
-  held_of Expression-Comprehension-2-None' = Absent
+  pub held_of : Held-Bounds-start → Optional
+  held_of Bounds-start-None' = Absent
   held_of (Some' p e) = Present (expr_of e)
 
   pub row_items : {m : _} → Row_of-Item m → Items
@@ -103,9 +107,9 @@ abbrev pub optional_of : Option (Box Expression Global) → Optional
 optional_of None = Absent
 optional_of (Some b) = Present (expr_of b.value)
 
--- what a comprehension keeps, with this heading
-abbrev pub comprehension_of : Expression → Heading → Option (Box Expression Global) → Span → Expr
-comprehension_of v h c span = Comprehension (expr_of v) (option_copied h.key) h.name.now (expr_of h.target) (optional_of c) span
+-- a comprehension of these parts
+abbrev pub comprehension_of : Collected → Span → Expr
+comprehension_of c span = Comprehension (expr_of c.value) (option_copied c.heading.key) c.heading.name.now (expr_of c.heading.target) (optional_of c.condition) span
 
 -- a slice of these bounds
 abbrev pub slice_of : Expression → Bounds → Bool → Span → Expr
@@ -122,6 +126,18 @@ entries_of (a ∷ rest) = MoreEntries (literal_option a.key) (expr_of a.value) (
 abbrev pub arguments_of : List argument.Argument → Arguments
 arguments_of [] = NoArguments
 arguments_of (a ∷ rest) = MoreArguments a.name.now (expr_of a.value) (arguments_of rest)
+
+-- a filter or a test of these parts
+abbrev pub applied_of : (Expr → site.Name → Arguments → Span → Expr) → Applied → Span → Expr
+applied_of form a span = let parts = out-Applied a in form (expr_of parts.value) parts.name.now (arguments_of parts.arguments.items) span
+
+-- a call of these parts
+abbrev pub called_of : Called → Span → Expr
+called_of c span = let parts = out-Called c in Call parts.name.now (arguments_of parts.arguments.items) span
+
+-- a component that this tag calls
+abbrev pub tag_of : ComponentTag → Span → Expr
+tag_of t span = let parts = out-ComponentTag t in Component parts.name.now (entries_of parts.attributes.items) span
 
 abbrev pub filters_of : List SectionFilter → Filters
 filters_of [] = NoFilters

@@ -40,6 +40,7 @@ pub enum OwnedKey {
 }
 
 /// An expression. Its span runs from the first token's start to the last one's end; parentheses around it are no part of it.
+/// It takes 48 bytes: larger parts have a box of their own, and a flag stands first, beside what tells the forms apart.
 #[cycle(expression)]
 pub enum Expression<'s> {
     None {
@@ -64,22 +65,22 @@ pub enum Expression<'s> {
     },
     /// `target.name`, or `target?.name` where it is optional.
     Attribute {
+        optional: bool,
         target: Box<Expression<'s>>,
         name: &'s str,
-        optional: bool,
         span: Span,
     },
     /// `target[index]`, or `target?[index]` where it is optional.
     Index {
-        parts: Box<Indexed<'s>>,
         optional: bool,
+        parts: Box<Indexed<'s>>,
         span: Span,
     },
     /// `target[start:end:step]`, or the same with `?[` where it is optional.
     Slice {
+        optional: bool,
         target: Box<Expression<'s>>,
         bounds: Box<Bounds<'s>>,
-        optional: bool,
         span: Span,
     },
     Not {
@@ -118,9 +119,7 @@ pub enum Expression<'s> {
     },
     /// `[value for name in target if condition]`
     Comprehension {
-        value: Box<Expression<'s>>,
-        heading: Box<Heading<'s>>,
-        condition: Option<Box<Expression<'s>>>,
+        collected: Box<Collected<'s>>,
         span: Span,
     },
     /// `super(name = value, ..)`: what the next template above makes of the block.
@@ -130,28 +129,22 @@ pub enum Expression<'s> {
     },
     /// `value | name(name = value, ..)`
     Filter {
-        value: Box<Expression<'s>>,
-        name: &'s str,
-        arguments: Vec<Argument<'s>>,
+        applied: Box<Applied<'s>>,
         span: Span,
     },
     /// `value is name(name = value, ..)`
     Test {
-        value: Box<Expression<'s>>,
-        name: &'s str,
-        arguments: Vec<Argument<'s>>,
+        applied: Box<Applied<'s>>,
         span: Span,
     },
     /// `name(name = value, ..)`: a function, by any other name than `super`.
     Call {
-        name: &'s str,
-        arguments: Vec<Argument<'s>>,
+        called: Box<Called<'s>>,
         span: Span,
     },
     /// `<name key={value} {...map}/>`: a component. Its attributes are entries at text keys, in the order of the text.
     Component {
-        name: &'s str,
-        attributes: Vec<Entry<'s>>,
+        tag: Box<ComponentTag<'s>>,
         span: Span,
     },
 }
@@ -167,20 +160,20 @@ impl<'s> Drop for Expression<'s> {
             Expression::Text { text: _, span: _ } => {}
             Expression::Name { name: _, span: _ } => {}
             Expression::Attribute {
+                optional: _,
                 target: _,
                 name: _,
-                optional: _,
                 span: _,
             } => {}
             Expression::Index {
-                parts: _,
                 optional: _,
+                parts: _,
                 span: _,
             } => {}
             Expression::Slice {
+                optional: _,
                 target: _,
                 bounds: _,
-                optional: _,
                 span: _,
             } => {}
             Expression::Not {
@@ -211,9 +204,7 @@ impl<'s> Drop for Expression<'s> {
                 span: _,
             } => {}
             Expression::Comprehension {
-                value: _,
-                heading: _,
-                condition: _,
+                collected: _,
                 span: _,
             } => {}
             Expression::Super {
@@ -221,27 +212,15 @@ impl<'s> Drop for Expression<'s> {
                 span: _,
             } => {}
             Expression::Filter {
-                value: _,
-                name: _,
-                arguments: _,
+                applied: _,
                 span: _,
             } => {}
             Expression::Test {
-                value: _,
-                name: _,
-                arguments: _,
+                applied: _,
                 span: _,
             } => {}
-            Expression::Call {
-                name: _,
-                arguments: _,
-                span: _,
-            } => {}
-            Expression::Component {
-                name: _,
-                attributes: _,
-                span: _,
-            } => {}
+            Expression::Call { called: _, span: _ } => {}
+            Expression::Component { tag: _, span: _ } => {}
         }
     }
 }
@@ -302,6 +281,40 @@ pub struct Entry<'s> {
 pub struct Argument<'s> {
     pub name: &'s str,
     pub value: Expression<'s>,
+}
+
+/// A value, and what is applied to it by name: a filter or a test.
+#[derive(Drop)]
+#[cycle(expression)]
+pub struct Applied<'s> {
+    pub value: Expression<'s>,
+    pub name: &'s str,
+    pub arguments: Vec<Argument<'s>>,
+}
+
+/// A function that is called, by its name.
+#[derive(Drop)]
+#[cycle(expression)]
+pub struct Called<'s> {
+    pub name: &'s str,
+    pub arguments: Vec<Argument<'s>>,
+}
+
+/// The tag that calls a component.
+#[derive(Drop)]
+#[cycle(expression)]
+pub struct ComponentTag<'s> {
+    pub name: &'s str,
+    pub attributes: Vec<Entry<'s>>,
+}
+
+/// What a comprehension keeps of what it goes over, where there is a condition only as that says.
+#[derive(Drop)]
+#[cycle(expression)]
+pub struct Collected<'s> {
+    pub value: Expression<'s>,
+    pub heading: Heading<'s>,
+    pub condition: Option<Box<Expression<'s>>>,
 }
 
 /// The bounds of a slice, as far as they are written.

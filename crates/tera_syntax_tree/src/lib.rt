@@ -11,8 +11,8 @@ pub mod quoted;
 pub use component::{ArgumentType, Literal, LiteralEntry, Parameter, Signature};
 pub use delimiters::Delimiters;
 pub use expression::{
-    Argument, BinaryOperator, Bounds, Choice, Entry, Expression, Heading, Indexed, Item,
-    LiteralKey, Operands, OwnedKey,
+    Applied, Argument, BinaryOperator, Bounds, Called, Choice, Collected, ComponentTag, Entry,
+    Expression, Heading, Indexed, Item, LiteralKey, Operands, OwnedKey,
 };
 pub use node::{Node, ParserOutput, SectionFilter};
 pub use quoted::Quoted;

@@ -1,11 +1,12 @@
 // Trees from their parts.
 ghost use Rattle.std.specs.Prelude.{◌≡◌, IfOk};
 ghost use Rattle.tera_syntax_tree.specs.Tree.{Attribute, Index, Not, Negate, Binary, And, Or, Ternary, Array, Map, Super, Filter, Test, Call, Component, ArrayLiteral, MapLiteral, If, Set, Capture, FilterSection, Block, ComponentCall, Definition};
-ghost use Rattle.tera_syntax_tree.specs.View.{expr_of, slice_of, comprehension_of, items_of, entries_of, arguments_of, written_of, literals_of, literal_entries_of, signature_of, filters_of, node_of, nodes_of, for_of};
+ghost use Rattle.tera_syntax_tree.specs.View.{applied_of, called_of, tag_of, expr_of, slice_of, comprehension_of, items_of, entries_of, arguments_of, written_of, literals_of, literal_entries_of, signature_of, filters_of, node_of, nodes_of, for_of};
 
 use crate::component::{Literal, LiteralEntry, Signature};
 use crate::expression::{
-    Argument, BinaryOperator, Bounds, Choice, Entry, Expression, Heading, Indexed, Item, Operands,
+    Applied, Argument, BinaryOperator, Bounds, Called, Choice, Collected, ComponentTag, Entry,
+    Expression, Heading, Indexed, Item, Operands,
 };
 use crate::node::{Node, SectionFilter};
 use std::alloc::{AllocError, Global};
@@ -23,9 +24,9 @@ impl<'s> Expression<'s> {
             optional span }
     {
         Expression::Attribute {
+            optional,
             target,
             name,
-            optional,
             span,
         }
     }
@@ -37,8 +38,8 @@ impl<'s> Expression<'s> {
             optional span }
     {
         Expression::Index {
-            parts,
             optional,
+            parts,
             span,
         }
     }
@@ -53,9 +54,9 @@ impl<'s> Expression<'s> {
         ensures { expr_of result ≡ slice_of target.entry.value bounds.entry.value optional span }
     {
         Expression::Slice {
+            optional,
             target,
             bounds,
-            optional,
             span,
         }
     }
@@ -143,21 +144,10 @@ impl<'s> Expression<'s> {
     }
 
     /// `[value for heading if condition]`
-    pub fn comprehension(
-        value: Box<Expression<'s>>,
-        heading: Box<Heading<'s>>,
-        condition: Option<Box<Expression<'s>>>,
-        span: Span,
-    ) -> Expression<'s>
-        ensures { expr_of result
-            ≡ comprehension_of value.entry.value heading.entry.value condition.entry span }
+    pub fn comprehension(collected: Box<Collected<'s>>, span: Span) -> Expression<'s>
+        ensures { expr_of result ≡ comprehension_of collected.entry.value span }
     {
-        Expression::Comprehension {
-            value,
-            heading,
-            condition,
-            span,
-        }
+        Expression::Comprehension { collected, span }
     }
 
     /// `super(name = value, ..)`
@@ -168,61 +158,31 @@ impl<'s> Expression<'s> {
     }
 
     /// `value | name(name = value, ..)`
-    pub fn filter(
-        value: Box<Expression<'s>>,
-        name: &'s str,
-        arguments: Vec<Argument<'s>>,
-        span: Span,
-    ) -> Expression<'s>
-        ensures { expr_of result ≡ Filter (expr_of value.entry.value) name.now
-            (arguments_of arguments.entry.items) span }
+    pub fn filter(applied: Box<Applied<'s>>, span: Span) -> Expression<'s>
+        ensures { expr_of result ≡ applied_of Filter applied.entry.value span }
     {
-        Expression::Filter {
-            value,
-            name,
-            arguments,
-            span,
-        }
+        Expression::Filter { applied, span }
     }
 
     /// `value is name(name = value, ..)`
-    pub fn test(
-        value: Box<Expression<'s>>,
-        name: &'s str,
-        arguments: Vec<Argument<'s>>,
-        span: Span,
-    ) -> Expression<'s>
-        ensures { expr_of result ≡ Test (expr_of value.entry.value) name.now
-            (arguments_of arguments.entry.items) span }
+    pub fn test(applied: Box<Applied<'s>>, span: Span) -> Expression<'s>
+        ensures { expr_of result ≡ applied_of Test applied.entry.value span }
     {
-        Expression::Test {
-            value,
-            name,
-            arguments,
-            span,
-        }
+        Expression::Test { applied, span }
     }
 
     /// `name(name = value, ..)`
-    pub fn call(name: &'s str, arguments: Vec<Argument<'s>>, span: Span) -> Expression<'s>
-        ensures { expr_of result ≡ Call name.now (arguments_of arguments.entry.items) span }
+    pub fn call(called: Box<Called<'s>>, span: Span) -> Expression<'s>
+        ensures { expr_of result ≡ called_of called.entry.value span }
     {
-        Expression::Call {
-            name,
-            arguments,
-            span,
-        }
+        Expression::Call { called, span }
     }
 
     /// `<name attributes/>`
-    pub fn component(name: &'s str, attributes: Vec<Entry<'s>>, span: Span) -> Expression<'s>
-        ensures { expr_of result ≡ Component name.now (entries_of attributes.entry.items) span }
+    pub fn component(tag: Box<ComponentTag<'s>>, span: Span) -> Expression<'s>
+        ensures { expr_of result ≡ tag_of tag.entry.value span }
     {
-        Expression::Component {
-            name,
-            attributes,
-            span,
-        }
+        Expression::Component { tag, span }
     }
 }
 

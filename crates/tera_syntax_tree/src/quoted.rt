@@ -7,8 +7,8 @@ ghost use Rattle.tera_syntax_tree.specs.View.{quoted_of};
 pub enum Quoted<'s> {
     /// It stands so in the source.
     Lent(&'s str),
-    /// Made of one with escapes.
-    Made(String),
+    /// Made of one with escapes. Few are, so that it has a box of its own and others are small.
+    Made(Box<String>),
 }
 
 impl<'s> Quoted<'s> {

@@ -2,4 +2,4 @@ use Rattle.tera_syntax_tree.proofs.Views.{view_component}
 use Rattle.tera_syntax_tree.proofs.expression.Expression.component.Goals as goal
 
 pub returns : goal.returns
-returns c = view_component c.args.name c.args.attributes c.args.span
+returns c = view_component c.args.tag c.args.span

@@ -2,4 +2,4 @@ use Rattle.tera_syntax_tree.proofs.Views.{view_test}
 use Rattle.tera_syntax_tree.proofs.expression.Expression.test.Goals as goal
 
 pub returns : goal.returns
-returns c = view_test c.args.value c.args.name c.args.arguments c.args.span
+returns c = view_test c.args.applied c.args.span

@@ -226,11 +226,24 @@ module _ (limit : ℕ) (sub : ℕ → Parser Deep) where
   tested from x = λ i. if same k.Not (kind (next i)) then (test_by_name from x >>= (λ y. λ j. node limit y.depth (Not y.expr (span from j)) j)) (next (next i))
       else test_by_name from x (next i)
 
+  -- what stands behind an operand and is no sign between two
+  abbrev pub suffixed_by : ℕ → Deep → Kind → Parser Deep
+  suffixed_by from x k.If = choice from x
+  suffixed_by from x k.Not = not_in from x
+  suffixed_by from x k.Is = tested from x
+  suffixed_by from x k.Bar = filter from x
+  suffixed_by from x k.Dot = attribute false from x
+  suffixed_by from x k.OptionalDot = attribute true from x
+  suffixed_by from x k.LeftBracket = subscript false from x
+  suffixed_by from x k.OptionalBracket = subscript true from x
+  suffixed_by from x _ = refuse
+
+  unfoldable pub suffixed : ℕ → Deep → Parser Deep
+  suffixed from x = λ i. suffixed_by from x (kind i) i
+
   abbrev pub operation_by : ℕ → Deep → Kind → Parser Deep
-  operation_by from x k.If = choice from x
   operation_by from x k.Or = infixed 2 Or from x
   operation_by from x k.And = infixed 3 And from x
-  operation_by from x k.Not = not_in from x
   operation_by from x k.Equal = applied 5 binary.Equal from x
   operation_by from x k.NotEqual = applied 5 binary.NotEqual from x
   operation_by from x k.Less = applied 5 binary.Less from x
@@ -238,7 +251,6 @@ module _ (limit : ℕ) (sub : ℕ → Parser Deep) where
   operation_by from x k.LessOrEqual = applied 5 binary.LessOrEqual from x
   operation_by from x k.GreaterOrEqual = applied 5 binary.GreaterOrEqual from x
   operation_by from x k.In = applied 5 binary.In from x
-  operation_by from x k.Is = tested from x
   operation_by from x k.Tilde = applied 6 binary.Concat from x
   operation_by from x k.Plus = applied 7 binary.Add from x
   operation_by from x k.Minus = applied 7 binary.Subtract from x
@@ -247,12 +259,7 @@ module _ (limit : ℕ) (sub : ℕ → Parser Deep) where
   operation_by from x k.FloorSlash = applied 8 binary.FloorDivide from x
   operation_by from x k.Percent = applied 8 binary.Remainder from x
   operation_by from x k.Power = applied 8 binary.Power from x
-  operation_by from x k.Bar = filter from x
-  operation_by from x k.Dot = attribute false from x
-  operation_by from x k.OptionalDot = attribute true from x
-  operation_by from x k.LeftBracket = subscript false from x
-  operation_by from x k.OptionalBracket = subscript true from x
-  operation_by from x _ = refuse
+  operation_by from x kind = suffixed_by from x kind
 
   unfoldable pub operation : ℕ → Deep → Parser Deep
   operation from x = λ i. operation_by from x (kind i) i

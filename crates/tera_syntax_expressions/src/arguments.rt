@@ -1,5 +1,5 @@
 // Calls and their arguments.
-ghost use Rattle.std.specs.Prelude.{◌≡◌};
+ghost use Rattle.std.specs.Prelude.{◌≡◌, IfOk};
 ghost use Rattle.tera_syntax_tree.specs.Tree.{NoArguments};
 ghost use Rattle.tera_syntax_tree.specs.View.{arguments_of, expr_of};
 ghost use Rattle.tera_syntax_tokens.specs.Input.{left, text};
@@ -11,13 +11,13 @@ ghost use Rattle.tera_syntax_expressions.specs.Parts.{Nests, deep_of, place_of};
 use crate::expressions::{Deep, Read};
 use crate::levels::kinds;
 use crate::reader::{Reader, larger};
-use std::alloc::Global;
+use std::alloc::{AllocError, Global};
 use std::cmp::Ordering;
 use tera_errors::Span;
 use tera_syntax_tokens::input::{Tokens, is_word, same};
 use tera_syntax_tokens::refusal::{Reason, Refusal};
 use tera_syntax_tokens::token::Kind;
-use tera_syntax_tree::{Argument, Expression};
+use tera_syntax_tree::{Argument, Called, Expression};
 
 impl<'s, F: Fn(Global, &mut Tokens<'_, 's>, usize, u8) -> Read<'s>> Reader<F> {
     /// `name(name = x, ..)`
@@ -32,7 +32,7 @@ impl<'s, F: Fn(Global, &mut Tokens<'_, 's>, usize, u8) -> Read<'s>> Reader<F> {
         tokens.take();
         tokens.take();
         let (arguments, depth) = self.arguments(tokens)?;
-        let expression = make_call(name, arguments, tokens.span(start));
+        let expression = make_call(self.alloc, name, arguments, tokens.span(start))?;
         self.node(tokens, depth, expression)
     }
 
@@ -145,13 +145,18 @@ pub(crate) fn is_call(tokens: &Tokens<'_, '_>) -> bool
 
 /// The form of a call by this name.
 #[tactic(auto, unfolding(crate::specs::Arguments::call_form))]
-fn make_call<'s>(name: &'s str, arguments: Vec<Argument<'s>>, span: Span) -> Expression<'s>
+fn make_call<'s>(
+    alloc: Global,
+    name: &'s str,
+    arguments: Vec<Argument<'s>>,
+    span: Span,
+) -> Result<Expression<'s>, AllocError>
     ensures { let all = arguments_of arguments.entry.items in
-        expr_of result ≡ call.call_form name.now all span }
+        IfOk result (λ e. expr_of e ≡ call.call_form name.now all span) }
 {
     if name == "super" {
-        Expression::above(arguments, span)
-    } else {
-        Expression::call(name, arguments, span)
+        return Ok(Expression::above(arguments, span));
     }
+    let called = Box::new(alloc, Called { name, arguments })?;
+    Ok(Expression::call(called, span))
 }

@@ -76,21 +76,13 @@ impl<'s, F: Fn(Global, &mut Tokens<'_, 's>, usize, u8) -> Read<'s>> Reader<F> {
     }
 
     /// What the next token goes on to.
-    #[tactic(auto, unfolding(crate::specs::Expressions::operation, crate::specs::Expressions::applied))]
+    #[tactic(auto, unfolding(crate::specs::Expressions::operation, crate::specs::Expressions::applied, crate::specs::Expressions::suffixed))]
     fn operation(&self, tokens: &mut Tokens<'_, 's>, start: usize, x: Deep<'s>) -> Read<'s>
         requires { Nests self.now.below (F.pre self.now.expr) (F.post self.now.expr) }
         ensures { Takes deep_of (spec.operation self.now.limit (spec.expr self.now.below) start
             (deep_of x.entry) (input tokens.old)) result tokens.new }
     {
         let (level, op) = match tokens.kind() {
-            Kind::If => return self.choice(tokens, start, x),
-            Kind::Not => return self.not_in(tokens, start, x),
-            Kind::Is => return self.test(tokens, start, x),
-            Kind::Bar => return self.filter(tokens, start, x),
-            Kind::Dot => return self.attribute(tokens, false, start, x),
-            Kind::OptionalDot => return self.attribute(tokens, true, start, x),
-            Kind::LeftBracket => return self.subscript(tokens, false, start, x),
-            Kind::OptionalBracket => return self.subscript(tokens, true, start, x),
             Kind::Or => (2, Infix::Or),
             Kind::And => (3, Infix::And),
             Kind::Equal => (5, Binary(Operator::Equal)),
@@ -108,9 +100,31 @@ impl<'s, F: Fn(Global, &mut Tokens<'_, 's>, usize, u8) -> Read<'s>> Reader<F> {
             Kind::FloorSlash => (8, Binary(Operator::FloorDivide)),
             Kind::Percent => (8, Binary(Operator::Remainder)),
             Kind::Power => (8, Binary(Operator::Power)),
-            _ => return Err(tokens.refuse(Reason::NoOperation)),
+            _ => return self.suffixed(tokens, start, x),
         };
         self.infixed(tokens, level, op, start, x)
+    }
+
+    /// What stands behind an operand and is no sign between two. It has a function of its own, so that no room for its
+    /// answers is made ready at each sign.
+    #[inline(never)]
+    #[tactic(auto, unfolding(crate::specs::Expressions::suffixed))]
+    fn suffixed(&self, tokens: &mut Tokens<'_, 's>, start: usize, x: Deep<'s>) -> Read<'s>
+        requires { Nests self.now.below (F.pre self.now.expr) (F.post self.now.expr) }
+        ensures { Takes deep_of (spec.suffixed self.now.limit (spec.expr self.now.below) start
+            (deep_of x.entry) (input tokens.old)) result tokens.new }
+    {
+        match tokens.kind() {
+            Kind::If => self.choice(tokens, start, x),
+            Kind::Not => self.not_in(tokens, start, x),
+            Kind::Is => self.test(tokens, start, x),
+            Kind::Bar => self.filter(tokens, start, x),
+            Kind::Dot => self.attribute(tokens, false, start, x),
+            Kind::OptionalDot => self.attribute(tokens, true, start, x),
+            Kind::LeftBracket => self.subscript(tokens, false, start, x),
+            Kind::OptionalBracket => self.subscript(tokens, true, start, x),
+            _ => Err(tokens.refuse(Reason::NoOperation)),
+        }
     }
 }
 

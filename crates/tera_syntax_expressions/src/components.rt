@@ -16,7 +16,7 @@ use tera_syntax_tokens::input::{Tokens, is_word, same};
 use tera_syntax_tokens::literal::literal;
 use tera_syntax_tokens::refusal::{Reason, Refusal};
 use tera_syntax_tokens::token::Kind;
-use tera_syntax_tree::{Entry, Expression, LiteralKey, Quoted};
+use tera_syntax_tree::{ComponentTag, Entry, Expression, LiteralKey, Quoted};
 
 /// Attributes up to where none begins, no deeper than `limit`, and the greatest depth.
 #[tactic(auto, unfolding(crate::specs::Expressions::attributes))]
@@ -76,8 +76,12 @@ impl<'s, F: Fn(Global, &mut Tokens<'_, 's>, usize, u8) -> Read<'s>> Reader<F> {
             Takes deep_of (meant (input tokens.old)) result tokens.new }
     {
         tokens.expect(Kind::TagEnd)?;
-        let expression = Expression::component(name, attributes, tokens.span(start));
-        self.node(tokens, depth, expression)
+        let tag = Box::new(self.alloc, ComponentTag { name, attributes })?;
+        self.node(
+            tokens,
+            depth,
+            Expression::component(tag, tokens.span(start)),
+        )
     }
 
     /// Attributes up to where none begins, and the greatest depth.

@@ -1,5 +1,5 @@
 // Comprehensions.
-ghost use Rattle.std.specs.Prelude.{◌≡◌, IfOk, option_copied};
+ghost use Rattle.std.specs.Prelude.{◌≡◌, option_copied};
 ghost use Rattle.tera_syntax_tree.specs.View.{expr_of};
 ghost use Rattle.tera_syntax_tokens.specs.Takes.{Takes, input};
 ghost use Rattle.tera_syntax_expressions.specs.Expressions as spec;
@@ -9,11 +9,11 @@ use crate::expressions::{Deep, Read};
 use crate::headings::{LoopNames, names};
 use crate::making::{absent, present};
 use crate::reader::{Part, Reader, boxed, larger};
-use std::alloc::{AllocError, Global};
+use std::alloc::Global;
 use tera_syntax_tokens::input::{Tokens, same};
 use tera_syntax_tokens::refusal::Refusal;
 use tera_syntax_tokens::token::Kind;
-use tera_syntax_tree::{Expression, Heading};
+use tera_syntax_tree::{Collected, Expression, Heading};
 
 impl<'s, F: Fn(Global, &mut Tokens<'_, 's>, usize, u8) -> Read<'s>> Reader<F> {
     /// `[x for name in y]`, from `for` on.
@@ -69,28 +69,29 @@ impl<'s, F: Fn(Global, &mut Tokens<'_, 's>, usize, u8) -> Read<'s>> Reader<F> {
         tokens.expect(Kind::RightBracket)?;
         let (a, b, c) = (x.depth, target.depth, only.depth);
         let depth = larger(a, larger(b, c));
-        let heading = heading(self.alloc, names, target.expression)?;
-        let only = boxed(self.alloc, only.expression)?;
-        let value = Box::new(self.alloc, x.expression)?;
-        let expression = Expression::comprehension(value, heading, only, tokens.span(start));
-        self.node(tokens, depth, expression)
+        let collected = Collected {
+            value: x.expression,
+            heading: heading(names, target.expression),
+            condition: boxed(self.alloc, only.expression)?,
+        };
+        let collected = Box::new(self.alloc, collected)?;
+        self.node(
+            tokens,
+            depth,
+            Expression::comprehension(collected, tokens.span(start)),
+        )
     }
 }
 
 /// The names of a loop and what it goes over, in one.
-fn heading<'s>(
-    alloc: Global,
-    names: LoopNames<'s>,
-    target: Expression<'s>,
-) -> Result<Box<Heading<'s>>, AllocError>
-    ensures key { IfOk result (λ h. option_copied h.value.key ≡ option_copied names.entry.key) }
-    ensures name { IfOk result (λ h. h.value.name.now ≡ names.entry.name.now) }
-    ensures target { IfOk result (λ h. expr_of h.value.target ≡ expr_of target.entry) }
+fn heading<'s>(names: LoopNames<'s>, target: Expression<'s>) -> Heading<'s>
+    ensures key { option_copied result.key ≡ option_copied names.entry.key }
+    ensures name { result.name.now ≡ names.entry.name.now }
+    ensures target { expr_of result.target ≡ expr_of target.entry }
 {
-    let heading = Heading {
+    Heading {
         key: names.key,
         name: names.name,
         target,
-    };
-    Ok(Box::new(alloc, heading)?)
+    }
 }

@@ -1,7 +1,7 @@
 // Forms that more than one rule makes.
 ghost use Rattle.std.specs.Prelude.{◌≡◌};
 ghost use Rattle.tera_syntax_tree.specs.Tree.{Absent, Not, Present};
-ghost use Rattle.tera_syntax_tree.specs.View.{arguments_of, expr_of};
+ghost use Rattle.tera_syntax_tree.specs.View.{applied_of, expr_of};
 ghost use Rattle.tera_syntax_tokens.specs.Input.{span};
 ghost use Rattle.tera_syntax_tokens.specs.Takes.{Takes, input};
 ghost use Rattle.tera_syntax_expressions.specs.Applications.{application_of};
@@ -14,7 +14,7 @@ use std::alloc::Global;
 use tera_errors::Span;
 use tera_syntax_tokens::input::Tokens;
 use tera_syntax_tokens::refusal::Refusal;
-use tera_syntax_tree::{Argument, Expression};
+use tera_syntax_tree::{Applied, Expression};
 
 /// What a name behind a value makes of it.
 #[derive(Clone, Copy)]
@@ -58,27 +58,28 @@ impl<'s, F: Fn(Global, &mut Tokens<'_, 's>, usize, u8) -> Read<'s>> Reader<F> {
         let (arguments, b) = self.given(tokens)?;
         let a = x.depth;
         let depth = larger(a, b);
-        let value = Box::new(self.alloc, x.expression)?;
-        let expression = make_application(form, value, name, arguments, tokens.span(start));
-        self.node(tokens, depth, expression)
+        let applied = Applied {
+            value: x.expression,
+            name,
+            arguments,
+        };
+        let applied = Box::new(self.alloc, applied)?;
+        self.node(
+            tokens,
+            depth,
+            make_application(form, applied, tokens.span(start)),
+        )
     }
 }
 
 /// The form that a name and arguments make of a value.
 #[inline(always)]
-fn make_application<'s>(
-    form: Application,
-    value: Box<Expression<'s>>,
-    name: &'s str,
-    arguments: Vec<Argument<'s>>,
-    span: Span,
-) -> Expression<'s>
-    ensures { let all = arguments_of arguments.entry.items in
-        expr_of result ≡ application_of form (expr_of value.entry.value) name.now all span }
+fn make_application<'s>(form: Application, applied: Box<Applied<'s>>, span: Span) -> Expression<'s>
+    ensures { expr_of result ≡ applied_of (application_of form) applied.entry.value span }
 {
     match form {
-        Application::Filter => Expression::filter(value, name, arguments, span),
-        Application::Test => Expression::test(value, name, arguments, span),
+        Application::Filter => Expression::filter(applied, span),
+        Application::Test => Expression::test(applied, span),
     }
 }
 

@@ -1,5 +1,5 @@
 -- Expressions with parts that are lent.
-use Rattle.std.proofs.Common.{◌≡◌, ℕ, suc, ◌+◌, ◌<◌, Bor, Bool, List, [], ◌∷◌, length, drop, get_or, Vec, Box, Global, Option, Some, None, option_copied, Result, OnOk, refl, sym, ap, ap₂, ◌∙◌, add-one, drop-cons}
+use Rattle.std.proofs.Common.{◌≡◌, ℕ, suc, ◌+◌, ◌<◌, Bool, List, ◌∷◌, length, drop, get_or, Vec, Box, Global, Option, Some, None, Result, OnOk, refl, sym, ap, ap₂, ◌∙◌, add-one, drop-cons}
 use Rattle.tera_errors.specs.declared.span.Span.{Span}
 use Rattle.tera_errors.specs.Answer.{Refusal}
 use Rattle.tera_syntax_tree.specs.declared.expression.Item.{Item}
@@ -17,7 +17,7 @@ use Rattle.tera_syntax_tree.specs.declared.expression.Indexed.{Indexed}
 use Rattle.tera_syntax_tree.specs.declared.expression.Choice.{Choice}
 use Rattle.tera_syntax_tree.specs.declared.expression.Expression.{Expression}
 use Rattle.tera_syntax_tree.specs.declared.expression.Expression.TheVariants as expression
-use Rattle.tera_syntax_tree.specs.View.{comprehension_of, slice_of, optional_of, expr_of, items_of, entries_of, arguments_of}
+use Rattle.tera_syntax_tree.specs.View.{comprehension_of, slice_of, expr_of, items_of, entries_of, arguments_of}
 use Rattle.tera_syntax_tree.proofs.Views.{view_array, view_map, view_super, view_filter, view_test, view_call, view_component}
 use Rattle.tera_variables.specs.Free.{Names, expr_free, items_free, entries_free, arguments_free, ◌∪◌}
 use Rattle.tera_variables.specs.Sets.{applied_free, collected_free, bounds_free}

@@ -1,11 +1,15 @@
 -- Expressions with parts that are lent.
-use Rattle.std.proofs.Common.{◌≡◌, ℕ, suc, ◌+◌, ◌<◌, Bor, Bool, List, [], ◌∷◌, length, drop, get_or, Vec, Box, Global, Option, Some, None, option_copied, Result, OnOk, refl, sym, ap, ap₂, ◌∙◌, add-one, drop-cons}
+use Rattle.std.proofs.Common.{◌≡◌, ℕ, suc, ◌+◌, ◌<◌, Bool, List, ◌∷◌, length, drop, get_or, Vec, Box, Global, Option, Some, None, Result, OnOk, refl, sym, ap, ap₂, ◌∙◌, add-one, drop-cons}
 use Rattle.tera_errors.specs.declared.span.Span.{Span}
 use Rattle.tera_errors.specs.Answer.{Refusal}
 use Rattle.tera_syntax_tree.specs.declared.expression.Item.{Item}
 use Rattle.tera_syntax_tree.specs.declared.expression.Entry.{Entry}
 use Rattle.tera_syntax_tree.specs.declared.expression.Argument.{Argument}
+use Rattle.tera_syntax_tree.specs.declared.expression.Applied.{Applied}
 use Rattle.tera_syntax_tree.specs.declared.expression.Bounds.{Bounds}
+use Rattle.tera_syntax_tree.specs.declared.expression.Called.{Called, out-Called}
+use Rattle.tera_syntax_tree.specs.declared.expression.Collected.{Collected}
+use Rattle.tera_syntax_tree.specs.declared.expression.ComponentTag.{ComponentTag, out-ComponentTag}
 use Rattle.tera_syntax_tree.specs.declared.expression.BinaryOperator.{BinaryOperator}
 use Rattle.tera_syntax_tree.specs.declared.expression.Heading.{Heading}
 use Rattle.tera_syntax_tree.specs.declared.expression.Operands.{Operands}
@@ -13,10 +17,10 @@ use Rattle.tera_syntax_tree.specs.declared.expression.Indexed.{Indexed}
 use Rattle.tera_syntax_tree.specs.declared.expression.Choice.{Choice}
 use Rattle.tera_syntax_tree.specs.declared.expression.Expression.{Expression}
 use Rattle.tera_syntax_tree.specs.declared.expression.Expression.TheVariants as expression
-use Rattle.tera_syntax_tree.specs.View.{comprehension_of, slice_of, optional_of, expr_of, items_of, entries_of, arguments_of}
+use Rattle.tera_syntax_tree.specs.View.{comprehension_of, slice_of, expr_of, items_of, entries_of, arguments_of}
 use Rattle.tera_syntax_tree.proofs.Views.{view_array, view_map, view_super, view_filter, view_test, view_call, view_component}
-use Rattle.tera_variables.specs.Free.{Names, expr_free, optional_free, items_free, entries_free, arguments_free, loop_names, ◌∪◌, ◌∖◌}
-use Rattle.tera_variables.specs.Sets.{bounds_free}
+use Rattle.tera_variables.specs.Free.{Names, expr_free, items_free, entries_free, arguments_free, ◌∪◌}
+use Rattle.tera_variables.specs.Sets.{applied_free, collected_free, bounds_free}
 use Rattle.tera_variables.proofs.Unions.{ok-then}
 
 pub drop-here : {A : Type 0} (xs : List A) (i : ℕ) (x : A) → i < length xs → x ≡ get_or xs i x → drop i xs ≡ x ∷ drop (i + 1) xs
@@ -39,37 +43,39 @@ pub super : (e : Expression) (arguments : Vec Argument Global) (span : Span) (xs
 super e arguments span xs is a =
     ap (λ x. arguments_free (arguments_of x)) a ∙ sym (ap expr_free (ap expr_of is ∙ view_super arguments span))
 
-pub call : (e : Expression) (name : Bor (List ℕ)) (arguments : Vec Argument Global) (span : Span) (xs : List Argument) → e ≡ expression.Call name arguments span → xs ≡ arguments.items → arguments_free (arguments_of xs) ≡ expr_free (expr_of e)
-call e name arguments span xs is a =
-    ap (λ x. arguments_free (arguments_of x)) a ∙ sym (ap expr_free (ap expr_of is ∙ view_call name arguments span))
+pub call : (e : Expression) (called : Box Called Global) (span : Span) (xs : List Argument) → e ≡ expression.Call called span → xs ≡ (out-Called called.value).arguments.items → arguments_free (arguments_of xs) ≡ expr_free (expr_of e)
+call e called span xs is a =
+    ap (λ x. arguments_free (arguments_of x)) a ∙ sym (ap expr_free (ap expr_of is ∙ view_call called span))
 
-pub component : (e : Expression) (name : Bor (List ℕ)) (attributes : Vec Entry Global) (span : Span) (xs : List Entry) → e ≡ expression.Component name attributes span → xs ≡ attributes.items → entries_free (entries_of xs) ≡ expr_free (expr_of e)
-component e name attributes span xs is a =
-    ap (λ x. entries_free (entries_of x)) a ∙ sym (ap expr_free (ap expr_of is ∙ view_component name attributes span))
+pub component : (e : Expression) (tag : Box ComponentTag Global) (span : Span) (xs : List Entry) → e ≡ expression.Component tag span → xs ≡ (out-ComponentTag tag.value).attributes.items → entries_free (entries_of xs) ≡ expr_free (expr_of e)
+component e tag span xs is a =
+    ap (λ x. entries_free (entries_of x)) a ∙ sym (ap expr_free (ap expr_of is ∙ view_component tag span))
 
-pub filter : (e : Expression) (value : Box Expression Global) (name : Bor (List ℕ)) (arguments : Vec Argument Global) (span : Span) (x : Expression) (xs : List Argument) → e ≡ expression.Filter value name arguments span → x ≡ value.value → xs ≡ arguments.items → expr_free (expr_of x) ∪ arguments_free (arguments_of xs) ≡ expr_free (expr_of e)
-filter e value name arguments span x xs is v a =
-    ap₂ (λ y ys. expr_free (expr_of y) ∪ arguments_free (arguments_of ys)) v a ∙ sym (ap expr_free (ap expr_of is ∙ view_filter value name arguments span))
+pub filter : (e : Expression) (applied : Box Applied Global) (span : Span) (x : Applied) → e ≡ expression.Filter applied span → x ≡ applied.value → applied_free x ≡ expr_free (expr_of e)
+filter e applied span x is v =
+    ap applied_free v ∙ sym (ap expr_free (ap expr_of is ∙ view_filter applied span))
 
-pub test : (e : Expression) (value : Box Expression Global) (name : Bor (List ℕ)) (arguments : Vec Argument Global) (span : Span) (x : Expression) (xs : List Argument) → e ≡ expression.Test value name arguments span → x ≡ value.value → xs ≡ arguments.items → expr_free (expr_of x) ∪ arguments_free (arguments_of xs) ≡ expr_free (expr_of e)
-test e value name arguments span x xs is v a =
-    ap₂ (λ y ys. expr_free (expr_of y) ∪ arguments_free (arguments_of ys)) v a ∙ sym (ap expr_free (ap expr_of is ∙ view_test value name arguments span))
+pub test : (e : Expression) (applied : Box Applied Global) (span : Span) (x : Applied) → e ≡ expression.Test applied span → x ≡ applied.value → applied_free x ≡ expr_free (expr_of e)
+test e applied span x is v =
+    ap applied_free v ∙ sym (ap expr_free (ap expr_of is ∙ view_test applied span))
 
-view_comprehension : (value : Box Expression Global) (heading : Box Heading Global) (condition : Option (Box Expression Global)) (span : Span) → expr_of (expression.Comprehension value heading condition span) ≡ comprehension_of value.value heading.value condition span
-view_comprehension value heading None span = refl
-view_comprehension value heading (Some b) span = refl
+view_comprehension : (collected : Box Collected Global) (span : Span) → expr_of (expression.Comprehension collected span) ≡ comprehension_of collected.value span
+view_comprehension collected span =
+    by_condition collected.ptr collected.alloc collected.value.value collected.value.heading collected.value.condition
+  where
+    by_condition : (p : _) (al : Global) (v : Expression) (h : Heading) (c : Option (Box Expression Global)) → expr_of (expression.Comprehension (record { ptr = p; alloc = al; value = record { value = v; heading = h; condition = c } }) span) ≡ comprehension_of (record { value = v; heading = h; condition = c }) span
+    by_condition p al v h None = refl
+    by_condition p al v h (Some b) = refl
 
-pub comprehension : (e : Expression) (value : Box Expression Global) (heading : Box Heading Global) (condition : Option (Box Expression Global)) (span : Span) (x : Expression) (h k : Heading) → e ≡ expression.Comprehension value heading condition span → x ≡ value.value → h ≡ heading.value → k ≡ heading.value → ((expr_free (expr_of x) ∪ optional_free (optional_of condition)) ∖ loop_names (option_copied k.key) k.name.now) ∪ expr_free (expr_of h.target) ≡ expr_free (expr_of e)
-comprehension e value heading condition span x h k is v a b =
-    ap₂ (λ y z. ((expr_free (expr_of y) ∪ optional_free (optional_of condition)) ∖ loop_names (option_copied z.key) z.name.now) ∪ expr_free (expr_of h.target)) v b
-    ∙ ap (λ z. ((expr_free (expr_of value.value) ∪ optional_free (optional_of condition)) ∖ loop_names (option_copied heading.value.key) heading.value.name.now) ∪ expr_free (expr_of z.target)) a
-    ∙ sym (ap expr_free (ap expr_of is ∙ view_comprehension value heading condition span))
+pub comprehension : (e : Expression) (collected : Box Collected Global) (span : Span) (x : Collected) → e ≡ expression.Comprehension collected span → x ≡ collected.value → collected_free x ≡ expr_free (expr_of e)
+comprehension e collected span x is v =
+    ap collected_free v ∙ sym (ap expr_free (ap expr_of is ∙ view_comprehension collected span))
 
-view_slice : (target : Box Expression Global) (bounds : Box Bounds Global) (optional : Bool) (span : Span) → expr_of (expression.Slice target bounds optional span) ≡ slice_of target.value bounds.value optional span
-view_slice target bounds optional span =
+view_slice : (optional : Bool) (target : Box Expression Global) (bounds : Box Bounds Global) (span : Span) → expr_of (expression.Slice optional target bounds span) ≡ slice_of target.value bounds.value optional span
+view_slice optional target bounds span =
     by_bounds bounds.ptr bounds.alloc bounds.value.start bounds.value.end bounds.value.step
   where
-    by_bounds : (p : _) (al : Global) (s e t : Option (Box Expression Global)) → expr_of (expression.Slice target (record { ptr = p; alloc = al; value = record { start = s; end = e; step = t } }) optional span) ≡ slice_of target.value (record { start = s; end = e; step = t }) optional span
+    by_bounds : (p : _) (al : Global) (s e t : Option (Box Expression Global)) → expr_of (expression.Slice optional target (record { ptr = p; alloc = al; value = record { start = s; end = e; step = t } }) span) ≡ slice_of target.value (record { start = s; end = e; step = t }) optional span
     by_bounds p al None None None = refl
     by_bounds p al None None (Some t) = refl
     by_bounds p al None (Some e) None = refl
@@ -79,12 +85,12 @@ view_slice target bounds optional span =
     by_bounds p al (Some s) (Some e) None = refl
     by_bounds p al (Some s) (Some e) (Some t) = refl
 
-pub slice : (e : Expression) (target : Box Expression Global) (bounds : Box Bounds Global) (optional : Bool) (span : Span) (x : Expression) (b : Bounds) → e ≡ expression.Slice target bounds optional span → x ≡ target.value → b ≡ bounds.value → expr_free (expr_of x) ∪ bounds_free b ≡ expr_free (expr_of e)
-slice e target bounds optional span x b is v a =
-    ap₂ (λ y k. expr_free (expr_of y) ∪ bounds_free k) v a ∙ sym (ap expr_free (ap expr_of is ∙ view_slice target bounds optional span))
+pub slice : (e : Expression) (optional : Bool) (target : Box Expression Global) (bounds : Box Bounds Global) (span : Span) (x : Expression) (b : Bounds) → e ≡ expression.Slice optional target bounds span → x ≡ target.value → b ≡ bounds.value → expr_free (expr_of x) ∪ bounds_free b ≡ expr_free (expr_of e)
+slice e optional target bounds span x b is v a =
+    ap₂ (λ y k. expr_free (expr_of y) ∪ bounds_free k) v a ∙ sym (ap expr_free (ap expr_of is ∙ view_slice optional target bounds span))
 
-pub index : (e : Expression) (parts : Box Indexed Global) (optional : Bool) (span : Span) (x y : Indexed) → e ≡ expression.Index parts optional span → x ≡ parts.value → y ≡ parts.value → expr_free (expr_of x.target) ∪ expr_free (expr_of y.index) ≡ expr_free (expr_of e)
-index e parts optional span x y is v w =
+pub index : (e : Expression) (optional : Bool) (parts : Box Indexed Global) (span : Span) (x y : Indexed) → e ≡ expression.Index optional parts span → x ≡ parts.value → y ≡ parts.value → expr_free (expr_of x.target) ∪ expr_free (expr_of y.index) ≡ expr_free (expr_of e)
+index e optional parts span x y is v w =
     ap₂ (λ s t. expr_free (expr_of s.target) ∪ expr_free (expr_of t.index)) v w ∙ sym (ap (λ z. expr_free (expr_of z)) is)
 
 pub binary : (e : Expression) (op : BinaryOperator) (operands : Box Operands Global) (span : Span) (x y : Operands) → e ≡ expression.Binary op operands span → x ≡ operands.value → y ≡ operands.value → expr_free (expr_of x.left) ∪ expr_free (expr_of y.right) ≡ expr_free (expr_of e)

@@ -1,5 +1,5 @@
 -- Nodes in a row, and statements with bodies: what is free before them.
-use Rattle.std.proofs.Common.{◌≡◌, ℕ, ◌+◌, ◌<◌, Bool, true, false, not, ◌&&◌, ◌||◌, Bor, List, [], ◌∷◌, length, drop, get_or, Vec, Box, Global, Result, OnOk, refl, sym, ap, ◌∙◌}
+use Rattle.std.proofs.Common.{◌≡◌, ℕ, ◌+◌, ◌<◌, Bool, true, false, not, ◌&&◌, ◌||◌, List, length, drop, get_or, Result, OnOk, refl, sym, ap, ◌∙◌}
 use mathlib.Core.Path.{fun_ext}
 use Rattle.tera_errors.specs.Answer.{Refusal}
 use Rattle.tera_errors.specs.Site.{Name}

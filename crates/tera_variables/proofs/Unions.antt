@@ -1,5 +1,5 @@
 -- Sets of names: unions, differences, and sets as they are kept.
-use Rattle.std.proofs.Common.{◌≡◌, ℕ, Bool, true, false, not, ◌&&◌, ◌||◌, Bor, List, [], ◌∷◌, cond, Option, Some, None, Result, Ok, Err, OnOk, String, Global, option_copied, refl, sym, ap, ◌∙◌, string_bytes}
+use Rattle.std.proofs.Common.{◌≡◌, ℕ, Bool, true, false, not, ◌&&◌, ◌||◌, Bor, List, [], ◌∷◌, cond, Option, Some, Result, Ok, Err, OnOk, String, Global, option_copied, refl, sym, ap, ◌∙◌, string_bytes}
 use mathlib.Core.Path.{fun_ext}
 use Rattle.std.specs.BTreeSet.{BTreeSet, UpdatesBy}
 use Rattle.std.specs.BTreeMap.{is_at}
@@ -8,7 +8,6 @@ use Rattle.std.specs.Cmp.Lexicographic.{slice_cmp, bytes_decides, nat_list_eq_eq
 use Rattle.std.specs.Ordering.{nat_cmp, is_eq}
 use Rattle.std.specs.Str.{bytes_eq}
 use Rattle.std.specs.String.{string_cmp}
-use Rattle.std.proofs.lemmas.Bool.{cases_Bool}
 use Rattle.std.proofs.lemmas.Map.Text.{btree_set_updates_text, is_eq-slice_cmp}
 use Rattle.tera_errors.specs.Site.{Name}
 use Rattle.tera_errors.specs.Answer.{Refusal}

@@ -1,14 +1,25 @@
 -- Names that are kept, as a set.
-use Rattle.std.specs.Prelude.{String, false}
+use Rattle.std.specs.Prelude.{String, false, option_copied}
 use Rattle.std.specs.declared.alloc.Global.{Global}
 use Rattle.std.specs.BTreeSet.{BTreeSet, contains_text}
+use Rattle.tera_syntax_tree.specs.declared.expression.Applied.{Applied, out-Applied}
 use Rattle.tera_syntax_tree.specs.declared.expression.Bounds.{Bounds}
+use Rattle.tera_syntax_tree.specs.declared.expression.Collected.{Collected}
 use Rattle.tera_syntax_tree.specs.Tree.{Node, Nodes}
-use Rattle.tera_syntax_tree.specs.View.{optional_of}
-use Rattle.tera_variables.specs.Free.{Names, optional_free, node_free, free, node_binds, binds, ◌∪◌, ◌∖◌}
+use Rattle.tera_syntax_tree.specs.View.{expr_of, optional_of, arguments_of}
+use Rattle.tera_variables.specs.Free.{Names, loop_names, expr_free, optional_free, arguments_free, node_free, free, node_binds, binds, ◌∪◌, ◌∖◌}
 
 abbrev pub names_in : BTreeSet (String Global) → Names
 names_in = contains_text
+
+-- those of the parts of a filter or a test
+abbrev pub applied_free : Applied → Names
+applied_free a = let parts = out-Applied a in expr_free (expr_of parts.value) ∪ arguments_free (arguments_of parts.arguments.items)
+
+-- those of the parts of a comprehension
+abbrev pub collected_free : Collected → Names
+collected_free c =
+    ((expr_free (expr_of c.value) ∪ optional_free (optional_of c.condition)) ∖ loop_names (option_copied c.heading.key) c.heading.name.now) ∪ expr_free (expr_of c.heading.target)
 
 -- those of the bounds of a slice
 abbrev pub bounds_free : Bounds → Names

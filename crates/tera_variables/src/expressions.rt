@@ -3,13 +3,15 @@ ghost use Rattle.std.specs.Prelude.{◌≡◌, OnOk, IfErr};
 ghost use Rattle.tera_errors.specs.Answer.{Lacks};
 ghost use Rattle.tera_syntax_tree.specs.View.{expr_of, optional_of, items_of, entries_of, arguments_of, filters_of};
 ghost use Rattle.tera_variables.specs.Free.{expr_free, optional_free, items_free, entries_free, arguments_free, filters_free, ◌∪◌};
-ghost use Rattle.tera_variables.specs.Sets.{names_in, bounds_free};
+ghost use Rattle.tera_variables.specs.Sets.{names_in, applied_free, collected_free, bounds_free};
 
 use crate::sets::{add, join, remove_loop_names};
 use std::alloc::Global;
 use std::collections::BTreeSet;
 use tera_errors::TeraResult;
-use tera_syntax_tree::{Argument, Bounds, Entry, Expression, Item, SectionFilter};
+use tera_syntax_tree::{
+    Applied, Argument, Bounds, Collected, Entry, Expression, Item, SectionFilter,
+};
 
 /// Puts those of an expression among those that were found.
 #[cycle(expressions)]
@@ -58,41 +60,42 @@ pub fn add_expression(
         }
         Expression::Array { items, .. } => add_items(alloc, items.as_slice(), found),
         Expression::Map { entries, .. } => add_entries(alloc, entries.as_slice(), found),
-        Expression::Comprehension {
-            value,
-            heading,
-            condition,
-            ..
-        } => {
-            add_expression(alloc, &heading.target, found)?;
-            let mut inside = BTreeSet::new(alloc);
-            add_optional(alloc, condition, &mut inside)?;
-            add_expression(alloc, value, &mut inside)?;
-            remove_loop_names(heading, &mut inside);
-            join(inside, found)
-        }
+        Expression::Comprehension { collected, .. } => add_collected(alloc, collected, found),
         Expression::Super { arguments, .. } => add_arguments(alloc, arguments.as_slice(), found),
-        Expression::Filter {
-            value,
-            arguments,
-            ..
-        } => {
-            add_arguments(alloc, arguments.as_slice(), found)?;
-            add_expression(alloc, value, found)
-        }
-        Expression::Test {
-            value,
-            arguments,
-            ..
-        } => {
-            add_arguments(alloc, arguments.as_slice(), found)?;
-            add_expression(alloc, value, found)
-        }
-        Expression::Call { arguments, .. } => add_arguments(alloc, arguments.as_slice(), found),
-        Expression::Component { attributes, .. } => {
-            add_entries(alloc, attributes.as_slice(), found)
-        }
+        Expression::Filter { applied, .. } => add_applied(alloc, applied, found),
+        Expression::Test { applied, .. } => add_applied(alloc, applied, found),
+        Expression::Call { called, .. } => add_arguments(alloc, called.arguments.as_slice(), found),
+        Expression::Component { tag, .. } => add_entries(alloc, tag.attributes.as_slice(), found),
     }
+}
+
+// Puts those of a comprehension among those that were found.
+#[cycle(expressions)]
+fn add_collected(
+    alloc: Global,
+    collected: &Collected,
+    found: &mut BTreeSet<String>,
+) -> TeraResult<()>
+    ensures ok { OnOk result
+        (names_in found.new ≡ collected_free collected.now ∪ names_in found.old) }
+    ensures lacks { IfErr result Lacks }
+{
+    add_expression(alloc, &collected.heading.target, found)?;
+    let mut inside = BTreeSet::new(alloc);
+    add_optional(alloc, &collected.condition, &mut inside)?;
+    add_expression(alloc, &collected.value, &mut inside)?;
+    remove_loop_names(&collected.heading, &mut inside);
+    join(inside, found)
+}
+
+// Puts those of a filter or a test among those that were found.
+#[cycle(expressions)]
+fn add_applied(alloc: Global, applied: &Applied, found: &mut BTreeSet<String>) -> TeraResult<()>
+    ensures ok { OnOk result (names_in found.new ≡ applied_free applied.now ∪ names_in found.old) }
+    ensures lacks { IfErr result Lacks }
+{
+    add_arguments(alloc, applied.arguments.as_slice(), found)?;
+    add_expression(alloc, &applied.value, found)
 }
 
 // Puts those of the bounds of a slice among those that were found.

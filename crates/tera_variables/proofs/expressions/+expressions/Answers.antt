@@ -1,4 +1,6 @@
 use Rattle.std.proofs.Common.{◌∙◌, ap, refl, sym, arith}
+use Rattle.tera_syntax_tree.specs.declared.expression.Called.{out-Called}
+use Rattle.tera_syntax_tree.specs.declared.expression.ComponentTag.{out-ComponentTag}
 use Rattle.tera_syntax_tree.specs.View.{items_of, entries_of, arguments_of}
 use Rattle.std.proofs.lemmas.List.{drop_all}
 use Rattle.tera_variables.specs.Free.{items_free, entries_free, arguments_free, ◌∪◌}
@@ -9,7 +11,7 @@ use Rattle.tera_variables.proofs.expressions.+expressions.Goals as goal
 
 pub add_expression-returns-in_ok-add_expression-in-Index-clause-ok : goal.add_expression-returns-in_ok-add_expression-in-Index-clause-ok
 add_expression-returns-in_ok-add_expression-in-Index-clause-ok t c =
-    whole _ _ _ _ _ (index _ c.in-Index.parts c.in-Index.optional c.in-Index.span _ _ c.in-Index.is c.deref-in-Index-2.ensures c.deref-in-Index.ensures) (two _ _ _ _ _ _ c.in_ok-add_expression-in-Index.ensures.ok c.add_expression-in-Index-2.ensures.ok)
+    whole _ _ _ _ _ (index _ c.in-Index.optional c.in-Index.parts c.in-Index.span _ _ c.in-Index.is c.deref-in-Index-2.ensures c.deref-in-Index.ensures) (two _ _ _ _ _ _ c.in_ok-add_expression-in-Index.ensures.ok c.add_expression-in-Index-2.ensures.ok)
 
 pub add_expression-returns-in_ok-add_expression-in-Binary-clause-ok : goal.add_expression-returns-in_ok-add_expression-in-Binary-clause-ok
 add_expression-returns-in_ok-add_expression-in-Binary-clause-ok t c =
@@ -25,7 +27,7 @@ add_expression-returns-in_ok-add_expression-in-Or-clause-ok t c =
 
 pub add_expression-returns-in_ok-add_bounds-in-Slice-clause-ok : goal.add_expression-returns-in_ok-add_bounds-in-Slice-clause-ok
 add_expression-returns-in_ok-add_bounds-in-Slice-clause-ok t c =
-    whole _ _ _ _ _ (slice _ c.in-Slice.target c.in-Slice.bounds c.in-Slice.optional c.in-Slice.span _ _ c.in-Slice.is c.deref-in-Slice-2.ensures c.deref-in-Slice.ensures) (two _ _ _ _ _ _ c.in_ok-add_bounds-in-Slice.ensures.ok c.add_expression-in-Slice.ensures.ok)
+    whole _ _ _ _ _ (slice _ c.in-Slice.optional c.in-Slice.target c.in-Slice.bounds c.in-Slice.span _ _ c.in-Slice.is c.deref-in-Slice-2.ensures c.deref-in-Slice.ensures) (two _ _ _ _ _ _ c.in_ok-add_bounds-in-Slice.ensures.ok c.add_expression-in-Slice.ensures.ok)
 
 pub add_expression-returns-in_ok-add_expression-in-Ternary-2-clause-ok : goal.add_expression-returns-in_ok-add_expression-in-Ternary-2-clause-ok
 add_expression-returns-in_ok-add_expression-in-Ternary-2-clause-ok t c =
@@ -39,29 +41,37 @@ pub add_expression-returns-in-Map-clause-ok : goal.add_expression-returns-in-Map
 add_expression-returns-in-Map-clause-ok t c =
     whole _ _ _ _ _ (map _ c.in-Map.entries c.in-Map.span _ c.in-Map.is c.as_slice-in-Map.ensures.value) c.add_entries.ensures.ok
 
-pub add_expression-returns-in_ok-add_expression-in-Comprehension-2-clause-ok : goal.add_expression-returns-in_ok-add_expression-in-Comprehension-2-clause-ok
-add_expression-returns-in_ok-add_expression-in-Comprehension-2-clause-ok t c =
-    whole _ _ _ _ _ (comprehension _ c.in-Comprehension.value c.in-Comprehension.heading c.in-Comprehension.condition c.in-Comprehension.span _ _ _ c.in-Comprehension.is c.deref-in-Comprehension-2.ensures c.deref-in-Comprehension.ensures c.deref-in-Comprehension-3.ensures) (comprehended _ _ _ _ _ _ _ _ _ _ _ _ c.in_ok-add_expression-in-Comprehension.ensures.ok (empty _ c.new-inside.ensures.empty) c.in_ok-add_optional-in-Comprehension.ensures.ok c.in_ok-add_expression-in-Comprehension-2.ensures.ok c.remove_loop_names.ensures c.join.ensures.ok)
+pub add_expression-returns-in-Comprehension-clause-ok : goal.add_expression-returns-in-Comprehension-clause-ok
+add_expression-returns-in-Comprehension-clause-ok t c =
+    whole _ _ _ _ _ (comprehension _ c.in-Comprehension.collected c.in-Comprehension.span _ c.in-Comprehension.is c.deref-in-Comprehension.ensures) c.add_collected.ensures.ok
 
 pub add_expression-returns-in-Super-clause-ok : goal.add_expression-returns-in-Super-clause-ok
 add_expression-returns-in-Super-clause-ok t c =
     whole _ _ _ _ _ (super _ c.in-Super.arguments c.in-Super.span _ c.in-Super.is c.as_slice-in-Super.ensures.value) c.add_arguments.ensures.ok
 
-pub add_expression-returns-in_ok-add_arguments-in-Filter-clause-ok : goal.add_expression-returns-in_ok-add_arguments-in-Filter-clause-ok
-add_expression-returns-in_ok-add_arguments-in-Filter-clause-ok t c =
-    whole _ _ _ _ _ (filter _ c.in-Filter.value c.in-Filter.name c.in-Filter.arguments c.in-Filter.span _ _ c.in-Filter.is c.deref-in-Filter.ensures c.as_slice-in-Filter.ensures.value) (two _ _ _ _ _ _ c.in_ok-add_arguments-in-Filter.ensures.ok c.add_expression-in-Filter.ensures.ok)
+pub add_expression-returns-in-Filter-clause-ok : goal.add_expression-returns-in-Filter-clause-ok
+add_expression-returns-in-Filter-clause-ok t c =
+    whole _ _ _ _ _ (filter _ c.in-Filter.applied c.in-Filter.span _ c.in-Filter.is c.deref-in-Filter.ensures) c.add_applied.ensures.ok
 
-pub add_expression-returns-in_ok-add_arguments-in-Test-clause-ok : goal.add_expression-returns-in_ok-add_arguments-in-Test-clause-ok
-add_expression-returns-in_ok-add_arguments-in-Test-clause-ok t c =
-    whole _ _ _ _ _ (test _ c.in-Test.value c.in-Test.name c.in-Test.arguments c.in-Test.span _ _ c.in-Test.is c.deref-in-Test.ensures c.as_slice-in-Test.ensures.value) (two _ _ _ _ _ _ c.in_ok-add_arguments-in-Test.ensures.ok c.add_expression-in-Test.ensures.ok)
+pub add_expression-returns-in-Test-clause-ok : goal.add_expression-returns-in-Test-clause-ok
+add_expression-returns-in-Test-clause-ok t c =
+    whole _ _ _ _ _ (test _ c.in-Test.applied c.in-Test.span _ c.in-Test.is c.deref-in-Test.ensures) c.add_applied-in-Test.ensures.ok
 
 pub add_expression-returns-in-Call-clause-ok : goal.add_expression-returns-in-Call-clause-ok
 add_expression-returns-in-Call-clause-ok t c =
-    whole _ _ _ _ _ (call _ c.in-Call.name c.in-Call.arguments c.in-Call.span _ c.in-Call.is c.as_slice-in-Call.ensures.value) c.add_arguments-in-Call.ensures.ok
+    whole _ _ _ _ _ (call _ c.in-Call.called c.in-Call.span _ c.in-Call.is (c.as_slice-in-Call.ensures.value ∙ ap (λ x. (out-Called x).arguments.items) c.deref-in-Call.ensures)) c.add_arguments-in-Call.ensures.ok
 
 pub add_expression-returns-in-Component-clause-ok : goal.add_expression-returns-in-Component-clause-ok
 add_expression-returns-in-Component-clause-ok t c =
-    whole _ _ _ _ _ (component _ c.in-Component.name c.in-Component.attributes c.in-Component.span _ c.in-Component.is c.as_slice-in-Component.ensures.value) c.add_entries-in-Component.ensures.ok
+    whole _ _ _ _ _ (component _ c.in-Component.tag c.in-Component.span _ c.in-Component.is (c.as_slice-in-Component.ensures.value ∙ ap (λ x. (out-ComponentTag x).attributes.items) c.deref-in-Component.ensures)) c.add_entries-in-Component.ensures.ok
+
+pub add_collected-returns-clause-ok : goal.add_collected-returns-clause-ok
+add_collected-returns-clause-ok t c =
+    comprehended _ _ _ _ _ _ _ _ _ _ _ _ c.in_ok-add_expression.ensures.ok (empty _ c.new-inside.ensures.empty) c.in_ok-add_optional.ensures.ok c.in_ok-add_expression-2.ensures.ok c.remove_loop_names.ensures c.join.ensures.ok
+
+pub add_applied-returns-clause-ok : goal.add_applied-returns-clause-ok
+add_applied-returns-clause-ok t c =
+    two _ _ _ _ _ _ (c.in_ok-add_arguments.ensures.ok ∙ ap (λ xs. arguments_free (arguments_of xs) ∪ names_in c.args.found.now) c.as_slice.ensures.value) c.add_expression.ensures.ok
 
 pub add_items-loop-item-preserved : goal.add_items-loop-item-preserved
 add_items-loop-item-preserved t c =

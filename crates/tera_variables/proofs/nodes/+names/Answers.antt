@@ -1,7 +1,7 @@
-use Rattle.std.proofs.Common.{◌≡◌, ◌∙◌, ◌+◌, ◌-◌, ap, sym, refl, length, drop, arith}
+use Rattle.std.proofs.Common.{◌≡◌, ◌∙◌, ◌+◌, ◌-◌, ap, sym, drop, arith}
 use Rattle.tera_syntax_tree.specs.Tree.{If, Set, Capture, FilterSection, ComponentCall}
 use Rattle.tera_syntax_tree.specs.View.{node_of, nodes_of, expr_of, filters_of, entries_of, for_of}
-use Rattle.tera_variables.specs.Sets.{names_in, before, before_all}
+use Rattle.tera_variables.specs.Sets.{names_in, before_all}
 use Rattle.tera_variables.proofs.Unions.{two, empty}
 use Rattle.tera_variables.proofs.Bodies.{node_if, node_for, node_capture, node_section, node_block, node_call}
 use Rattle.tera_variables.proofs.Rows.{one-before, whole-node, choice, set-before, capture-before, loop-before}

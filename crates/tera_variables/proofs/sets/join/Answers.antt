@@ -1,4 +1,4 @@
-use Rattle.std.proofs.Common.{◌≡◌, sym, ap, ◌∙◌, string_bytes}
+use Rattle.std.proofs.Common.{sym, ap, ◌∙◌, string_bytes}
 use Rattle.tera_variables.specs.Free.{◌∪◌}
 use Rattle.tera_variables.specs.Sets.{names_in}
 use Rattle.tera_variables.proofs.Unions.{those, added, one-more}

@@ -1,9 +1,11 @@
 -- Views of what holds a Vec, by the Vec's items.
-use Rattle.std.proofs.Common.{◌≡◌, Vec, Box, Bool, Bor, Global, option_copied, refl, sym, ap, ap₂, ◌∙◌}
+use Rattle.std.proofs.Common.{◌≡◌, Vec, Box, Bool, Bor, Global, Option, None, Some, option_copied, refl, sym, ap, ap₂, ◌∙◌}
 use mathlib.Core.Former.{Count}
 use Rattle.tera_errors.specs.Site.{Text}
 use Rattle.tera_errors.specs.declared.span.Span.{Span}
 use Rattle.tera_syntax_tree.specs.declared.expression.Heading.{Heading}
+use Rattle.tera_syntax_tree.specs.declared.expression.Bounds.{Bounds}
+use Rattle.tera_syntax_tree.specs.declared.expression.Collected.{Collected}
 use Rattle.tera_syntax_tree.specs.declared.expression.Applied.{Applied, Applied', out-Applied}
 use Rattle.tera_syntax_tree.specs.declared.expression.Called.{Called, Called', out-Called}
 use Rattle.tera_syntax_tree.specs.declared.expression.ComponentTag.{ComponentTag, ComponentTag', out-ComponentTag}
@@ -22,7 +24,7 @@ use Rattle.tera_syntax_tree.specs.declared.node.Node as declared
 use Rattle.tera_syntax_tree.specs.declared.node.SectionFilter.{SectionFilter}
 use Rattle.tera_syntax_tree.specs.declared.node.Node.TheVariants as variant
 use Rattle.tera_syntax_tree.specs.Tree.{Array, Map, Super, Filter, Test, Call, Component, ArrayLiteral, MapLiteral, MoreLiterals, MoreLiteralEntries, MoreItems, MoreEntries, MoreArguments, If, Capture, FilterSection, For, Block, ComponentCall, Definition, MoreNodes}
-use Rattle.tera_syntax_tree.specs.View.{literal_of, literal_option, expr_of, row_items, items_of, row_entries, entries_of, row_arguments, arguments_of, written_of, row_literals, literals_of, row_literal_entries, literal_entries_of, applied_of, called_of, tag_of, signature_of, filters_of, node_of, row_nodes, nodes_of, for_of}
+use Rattle.tera_syntax_tree.specs.View.{literal_of, literal_option, expr_of, row_items, items_of, row_entries, entries_of, row_arguments, arguments_of, written_of, row_literals, literals_of, row_literal_entries, literal_entries_of, applied_of, called_of, tag_of, comprehension_of, slice_of, signature_of, filters_of, node_of, row_nodes, nodes_of, for_of}
 
 pub items_row : (m : _) (row : Row_of-Item m) → row_items row ≡ items_of (items-the_row-Item m row)
 items_row m end_of-Item = refl
@@ -139,6 +141,28 @@ view_component t span =
   where
     by_parts : (p : _) (al : Global) (x : ComponentTag) → expr_of (expression.Component (record { ptr = p; alloc = al; value = x }) span) ≡ tag_of x span
     by_parts p al (ComponentTag' n m all) = ap (λ y. Component n.now y span) (entries_row _ all ∙ ap entries_of (sym (items_shown-the_row-Entry-1 m all)))
+
+pub view_comprehension : (c : Box Collected Global) (span : Span) → expr_of (expression.Comprehension c span) ≡ comprehension_of c.value span
+view_comprehension c span =
+    by_condition c.ptr c.alloc c.value.value c.value.heading c.value.condition
+  where
+    by_condition : (p : _) (al : Global) (v : Expression) (h : Heading) (o : Option (Box Expression Global)) → let made : Collected = record { value = v; heading = h; condition = o } in expr_of (expression.Comprehension (record { ptr = p; alloc = al; value = made }) span) ≡ comprehension_of made span
+    by_condition p al v h None = refl
+    by_condition p al v h (Some c) = refl
+
+pub view_slice : (optional : Bool) (target : Box Expression Global) (bounds : Box Bounds Global) (span : Span) → expr_of (expression.Slice optional target bounds span) ≡ slice_of target.value bounds.value optional span
+view_slice optional target bounds span =
+    by_bounds bounds.ptr bounds.alloc bounds.value.start bounds.value.end bounds.value.step
+  where
+    by_bounds : (p : _) (al : Global) (s e t : Option (Box Expression Global)) → let made : Bounds = record { start = s; end = e; step = t } in expr_of (expression.Slice optional target (record { ptr = p; alloc = al; value = made }) span) ≡ slice_of target.value made optional span
+    by_bounds p al None None None = refl
+    by_bounds p al None None (Some t) = refl
+    by_bounds p al None (Some e) None = refl
+    by_bounds p al None (Some e) (Some t) = refl
+    by_bounds p al (Some s) None None = refl
+    by_bounds p al (Some s) None (Some t) = refl
+    by_bounds p al (Some s) (Some e) None = refl
+    by_bounds p al (Some s) (Some e) (Some t) = refl
 
 pub view_block : (t : Bor Text) (body : Vec declared.Node Global) (span : Span) → node_of (variant.Block t body span) ≡ Block t.now (nodes_of body.items) span
 view_block t body span = ap (λ x. Block t.now x span) (nodes_is (body_in (variant.Block t body span)) body (items_hidden-the_row-Node-0 body))

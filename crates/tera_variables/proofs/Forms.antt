@@ -18,7 +18,7 @@ use Rattle.tera_syntax_tree.specs.declared.expression.Choice.{Choice}
 use Rattle.tera_syntax_tree.specs.declared.expression.Expression.{Expression}
 use Rattle.tera_syntax_tree.specs.declared.expression.Expression.TheVariants as expression
 use Rattle.tera_syntax_tree.specs.View.{comprehension_of, slice_of, expr_of, items_of, entries_of, arguments_of}
-use Rattle.tera_syntax_tree.proofs.Views.{view_array, view_map, view_super, view_filter, view_test, view_call, view_component}
+use Rattle.tera_syntax_tree.proofs.Views.{view_array, view_map, view_super, view_filter, view_test, view_call, view_component, view_comprehension, view_slice}
 use Rattle.tera_variables.specs.Free.{Names, expr_free, items_free, entries_free, arguments_free, ◌∪◌}
 use Rattle.tera_variables.specs.Sets.{applied_free, collected_free, bounds_free}
 use Rattle.tera_variables.proofs.Unions.{ok-then}
@@ -59,31 +59,9 @@ pub test : (e : Expression) (applied : Box Applied Global) (span : Span) (x : Ap
 test e applied span x is v =
     ap applied_free v ∙ sym (ap expr_free (ap expr_of is ∙ view_test applied span))
 
-view_comprehension : (collected : Box Collected Global) (span : Span) → expr_of (expression.Comprehension collected span) ≡ comprehension_of collected.value span
-view_comprehension collected span =
-    by_condition collected.ptr collected.alloc collected.value.value collected.value.heading collected.value.condition
-  where
-    by_condition : (p : _) (al : Global) (v : Expression) (h : Heading) (c : Option (Box Expression Global)) → expr_of (expression.Comprehension (record { ptr = p; alloc = al; value = record { value = v; heading = h; condition = c } }) span) ≡ comprehension_of (record { value = v; heading = h; condition = c }) span
-    by_condition p al v h None = refl
-    by_condition p al v h (Some b) = refl
-
 pub comprehension : (e : Expression) (collected : Box Collected Global) (span : Span) (x : Collected) → e ≡ expression.Comprehension collected span → x ≡ collected.value → collected_free x ≡ expr_free (expr_of e)
 comprehension e collected span x is v =
     ap collected_free v ∙ sym (ap expr_free (ap expr_of is ∙ view_comprehension collected span))
-
-view_slice : (optional : Bool) (target : Box Expression Global) (bounds : Box Bounds Global) (span : Span) → expr_of (expression.Slice optional target bounds span) ≡ slice_of target.value bounds.value optional span
-view_slice optional target bounds span =
-    by_bounds bounds.ptr bounds.alloc bounds.value.start bounds.value.end bounds.value.step
-  where
-    by_bounds : (p : _) (al : Global) (s e t : Option (Box Expression Global)) → expr_of (expression.Slice optional target (record { ptr = p; alloc = al; value = record { start = s; end = e; step = t } }) span) ≡ slice_of target.value (record { start = s; end = e; step = t }) optional span
-    by_bounds p al None None None = refl
-    by_bounds p al None None (Some t) = refl
-    by_bounds p al None (Some e) None = refl
-    by_bounds p al None (Some e) (Some t) = refl
-    by_bounds p al (Some s) None None = refl
-    by_bounds p al (Some s) None (Some t) = refl
-    by_bounds p al (Some s) (Some e) None = refl
-    by_bounds p al (Some s) (Some e) (Some t) = refl
 
 pub slice : (e : Expression) (optional : Bool) (target : Box Expression Global) (bounds : Box Bounds Global) (span : Span) (x : Expression) (b : Bounds) → e ≡ expression.Slice optional target bounds span → x ≡ target.value → b ≡ bounds.value → expr_free (expr_of x) ∪ bounds_free b ≡ expr_free (expr_of e)
 slice e optional target bounds span x b is v a =

@@ -7,22 +7,28 @@ use Rattle.tera_syntax_tree.specs.declared.expression.Entry.{Entry}
 use Rattle.tera_syntax_tree.specs.declared.expression.Argument.{Argument}
 use Rattle.tera_syntax_tree.specs.declared.expression.OwnedKey.{OwnedKey}
 use Rattle.tera_syntax_tree.specs.declared.expression.Heading.{Heading}
+use Rattle.tera_syntax_tree.specs.declared.expression.Bounds.{Bounds}
 use Rattle.tera_syntax_tree.specs.declared.expression.Expression.{Expression}
 use Rattle.tera_syntax_tree.specs.declared.expression.Expression.TheVariants as expression
 use Rattle.tera_syntax_tree.specs.declared.node.Node.{Node}
 use Rattle.tera_syntax_tree.specs.declared.node.SectionFilter.{SectionFilter}
 use Rattle.tera_syntax_tree.specs.declared.node.Node.TheVariants as variant
-use Rattle.tera_syntax_tree.specs.Tree.{Key, Arguments, If}
-use Rattle.tera_syntax_tree.specs.View.{key_option, literal_option, comprehension_of, optional_of, expr_of, items_of, entries_of, arguments_of, filters_of, node_of, nodes_of, for_of}
-use Rattle.tera_syntax_tree.proofs.Views.{view_array, view_map, view_super, view_filter, view_test, view_call, view_component, view_if, view_capture, view_section, view_component_call, view_for}
+use Rattle.tera_syntax_tree.specs.Tree.{Expr, Key, Arguments, If}
+use Rattle.tera_syntax_tree.specs.View.{key_option, literal_option, slice_of, optional_of, expr_of, items_of, entries_of, arguments_of, filters_of, node_of, nodes_of, for_of}
+use Rattle.tera_syntax_tree.proofs.Views.{view_slice, view_if, view_capture, view_section, view_component_call, view_for}
 use Rattle.tera_code.specs.declared.instruction.Instruction.{Instruction}
 use Rattle.tera_code.specs.declared.instruction.Instruction.TheVariants as instruction
 use Rattle.tera_code.specs.Listing.{Listing}
 use Rattle.tera_syntax_tree.specs.View.{keys_of}
-use Rattle.tera_code.specs.Code.{expr_code, items_code, entries_code, arguments_code, arguments_length, argument_names, section_code, captured_code, handed_code, node_code, nodes_code, turn_code, spreads_of, keys_in, lengthened}
+use Rattle.tera_code.specs.Code.{Code, expr_code, bound_code, arguments_code, arguments_length, argument_names, section_code, captured_code, handed_code, node_code, nodes_code, turn_code, spreads_of, keys_in, lengthened}
 use Rattle.tera_code.specs.Places.{filled, behind, looped}
 use Rattle.tera_code.proofs.Lengthened.{lengthened-lengthened}
 use Rattle.tera_code.proofs.Filled.{keep_written, comprehension_written}
+
+-- the bounds of a slice, and what takes it
+abbrev bounds_code : Bounds → Bool → Span → Code
+bounds_code b optional span =
+    bound_code (optional_of b.start) ++ (bound_code (optional_of b.end) ++ (bound_code (optional_of b.step) ++ instruction.Slice optional span ∷ []))
 
 pub length_keys : (ks : List (Option OwnedKey)) → length (keys_of ks) ≡ length ks
 length_keys [] = refl
@@ -46,85 +52,36 @@ pub on_ok_by : {X : Type 0} (r : Result (Unit {0}) AllocError) (x y z : X) → y
 on_ok_by (Ok a) x y z e h = h ∙ e
 on_ok_by (Err b) x y z e h = tt
 
-pub array_written : (l m n : Listing) (e : Expression) (items : Vec Item Global) (span : Span) (xs ys : List Item) (r : Result (Unit {0}) AllocError) → e ≡ expression.Array items span → xs ≡ items.items → ys ≡ items.items → m ≡ lengthened l (items_code (items_of xs)) → OnOk r (n ≡ lengthened m (instruction.MakeArray (spreads_of (items_of ys)) span ∷ [])) → OnOk r (n ≡ lengthened l (expr_code (expr_of e)))
-array_written l m n e items span xs ys r is a b h =
-    let make = λ (y : List Item). instruction.MakeArray (spreads_of (items_of y)) span ∷ [] in
-    on_ok_by r n _ _ (ap₂ (λ k y. lengthened k (make y)) h b
-    ∙ lengthened-lengthened l (items_code (items_of xs)) (make items.items)
-    ∙ ap (λ x. lengthened l (items_code (items_of x) ++ make items.items)) a
-    ∙ ap (λ t. lengthened l (expr_code t)) (sym (view_array items span))
-    ∙ ap (λ t. lengthened l (expr_code (expr_of t))) (sym is))
-
-pub map_written : (l m n : Listing) (e : Expression) (entries : Vec Entry Global) (span : Span) (xs ys : List Entry) (r : Result (Unit {0}) AllocError) → e ≡ expression.Map entries span → xs ≡ entries.items → ys ≡ entries.items → m ≡ lengthened l (entries_code (entries_of xs)) → OnOk r (n ≡ lengthened m (instruction.MakeMap (keys_in (entries_of ys)) span ∷ [])) → OnOk r (n ≡ lengthened l (expr_code (expr_of e)))
-map_written l m n e entries span xs ys r is a b h =
-    let make = λ (y : List Entry). instruction.MakeMap (keys_in (entries_of y)) span ∷ [] in
-    on_ok_by r n _ _ (ap₂ (λ k y. lengthened k (make y)) h b
-    ∙ lengthened-lengthened l (entries_code (entries_of xs)) (make entries.items)
-    ∙ ap (λ x. lengthened l (entries_code (entries_of x) ++ make entries.items)) a
-    ∙ ap (λ t. lengthened l (expr_code t)) (sym (view_map entries span))
-    ∙ ap (λ t. lengthened l (expr_code (expr_of t))) (sym is))
-
-arguments_counted : (xs : List Argument) → length xs ≡ arguments_length (arguments_of xs)
+pub arguments_counted : (xs : List Argument) → length xs ≡ arguments_length (arguments_of xs)
 arguments_counted [] = refl
 arguments_counted (x ∷ xs) = ap (λ n. suc n) (arguments_counted xs)
+
+-- the code of what is seen of an expression is that of the expression
+pub seen : (l o : Listing) (e : Expression) (x : Expr) (r : Result (Unit {0}) AllocError) → x ≡ expr_of e → OnOk r (o ≡ lengthened l (expr_code x)) → OnOk r (o ≡ lengthened l (expr_code (expr_of e)))
+seen l o e x r is h = on_ok_by r o _ _ (ap (λ t. lengthened l (expr_code t)) is) h
 
 pub boxed_written : (l m : Listing) (x y : Expression) → m ≡ lengthened l (expr_code (expr_of x)) → x ≡ y → m ≡ lengthened l (expr_code (expr_of y))
 boxed_written l m x y h e = h ∙ ap (λ e. lengthened l (expr_code (expr_of e))) e
 
--- arguments are written, and what takes them
-pub super_written : (l m n : Listing) (e : Expression) (arguments : Vec Argument Global) (span : Span) (xs ys : List Argument) (count : ℕ) (r : Result (Unit {0}) AllocError) → e ≡ expression.Super arguments span → xs ≡ arguments.items → ys ≡ arguments.items → count ≡ length ys
-    → m ≡ lengthened l (arguments_code (arguments_of xs)) → OnOk r (n ≡ lengthened m (instruction.TakeAbove count span ∷ [])) → OnOk r (n ≡ lengthened l (expr_code (expr_of e)))
-super_written l m n e arguments span xs ys count r is a b long h =
-    let args = arguments_of arguments.items in
-    on_ok_by r n _ _ (ap₂ (λ k size. lengthened k (instruction.TakeAbove size span ∷ [])) (h ∙ ap (λ x. lengthened l (arguments_code (arguments_of x))) a) (long ∙ ap length b ∙ arguments_counted arguments.items)
-    ∙ lengthened-lengthened l (arguments_code args) (instruction.TakeAbove (arguments_length args) span ∷ [])
-    ∙ ap (λ t. lengthened l (expr_code t)) (sym (view_super arguments span))
-    ∙ ap (λ t. lengthened l (expr_code (expr_of t))) (sym is))
+-- a slice is written behind what it is taken of
+pub slice_written : (l m n : Listing) (e : Expression) (optional : Bool) (target : Box Expression Global) (bounds : Box Bounds Global) (span : Span) (x : Expression) (b : Bounds) (r : Result (Unit {0}) AllocError) → e ≡ expression.Slice optional target bounds span → x ≡ target.value → b ≡ bounds.value → m ≡ lengthened l (expr_code (expr_of x))
+    → OnOk r (n ≡ lengthened m (bounds_code b optional span)) → OnOk r (n ≡ lengthened l (expr_code (expr_of e)))
+slice_written l m n e optional target bounds span x b r is v w g h =
+    seen l n e (slice_of x b optional span) r (ap₂ (λ y k. slice_of y k optional span) v w ∙ sym (ap expr_of is ∙ view_slice optional target bounds span))
+    (on_ok_by r n _ _ (ap (λ k. lengthened k (bounds_code b optional span)) g ∙ lengthened-lengthened l (expr_code (expr_of x)) (bounds_code b optional span)) h)
+
+-- parts are written, and what takes them
+pub taken_written : {A : Type 0} (l m n : Listing) (xs ys zs : A) (text : A → Code) (take : A → Instruction) (r : Result (Unit {0}) AllocError) → xs ≡ zs → ys ≡ zs → m ≡ lengthened l (text xs)
+    → OnOk r (n ≡ lengthened m (take ys ∷ [])) → OnOk r (n ≡ lengthened l (text zs ++ take zs ∷ []))
+taken_written l m n xs ys zs text take r a b h w =
+    on_ok_by r n _ _ (ap₂ (λ k y. lengthened k (take y ∷ [])) (h ∙ ap (λ x. lengthened l (text x)) a) b ∙ lengthened-lengthened l (text zs) (take zs ∷ [])) w
 
 -- a value, arguments and what takes both
-applied : (l m n : Listing) (value : Expression) (xs : List Argument) (take : Arguments → Instruction) → m ≡ lengthened l (expr_code (expr_of value)) → n ≡ lengthened m (arguments_code (arguments_of xs))
-    → lengthened n (take (arguments_of xs) ∷ []) ≡ lengthened l (expr_code (expr_of value) ++ (arguments_code (arguments_of xs) ++ take (arguments_of xs) ∷ []))
-applied l m n value xs take g h =
-    let last = take (arguments_of xs) ∷ [] in
-    ap (λ k. lengthened k last) h
-    ∙ lengthened-lengthened m (arguments_code (arguments_of xs)) last
-    ∙ ap (λ k. lengthened k (arguments_code (arguments_of xs) ++ last)) g
-    ∙ lengthened-lengthened l (expr_code (expr_of value)) (arguments_code (arguments_of xs) ++ last)
-
-pub filter_written : (l m n o : Listing) (e x : Expression) (value : Box Expression Global) (name : Bor (List ℕ)) (arguments : Vec Argument Global) (span : Span) (xs ys : List Argument) (r : Result (Unit {0}) AllocError) → e ≡ expression.Filter value name arguments span → m ≡ lengthened l (expr_code (expr_of x)) → x ≡ value.value → xs ≡ arguments.items → ys ≡ arguments.items
-    → n ≡ lengthened m (arguments_code (arguments_of xs)) → OnOk r (o ≡ lengthened n (instruction.ApplyFilter name.now (argument_names (arguments_of ys)) span ∷ [])) → OnOk r (o ≡ lengthened l (expr_code (expr_of e)))
-filter_written l m n o e x value name arguments span xs ys r is g v a b h =
-    on_ok_by r o _ _ (ap (λ y. lengthened n (instruction.ApplyFilter name.now (argument_names (arguments_of y)) span ∷ [])) b
-    ∙ applied l m n value.value arguments.items (λ all. instruction.ApplyFilter name.now (argument_names all) span) (boxed_written l m x value.value g v) (h ∙ ap (λ y. lengthened m (arguments_code (arguments_of y))) a)
-    ∙ ap (λ t. lengthened l (expr_code t)) (sym (view_filter value name arguments span))
-    ∙ ap (λ t. lengthened l (expr_code (expr_of t))) (sym is))
-
-pub test_written : (l m n o : Listing) (e x : Expression) (value : Box Expression Global) (name : Bor (List ℕ)) (arguments : Vec Argument Global) (span : Span) (xs ys : List Argument) (r : Result (Unit {0}) AllocError) → e ≡ expression.Test value name arguments span → m ≡ lengthened l (expr_code (expr_of x)) → x ≡ value.value → xs ≡ arguments.items → ys ≡ arguments.items
-    → n ≡ lengthened m (arguments_code (arguments_of xs)) → OnOk r (o ≡ lengthened n (instruction.ApplyTest name.now (argument_names (arguments_of ys)) span ∷ [])) → OnOk r (o ≡ lengthened l (expr_code (expr_of e)))
-test_written l m n o e x value name arguments span xs ys r is g v a b h =
-    on_ok_by r o _ _ (ap (λ y. lengthened n (instruction.ApplyTest name.now (argument_names (arguments_of y)) span ∷ [])) b
-    ∙ applied l m n value.value arguments.items (λ all. instruction.ApplyTest name.now (argument_names all) span) (boxed_written l m x value.value g v) (h ∙ ap (λ y. lengthened m (arguments_code (arguments_of y))) a)
-    ∙ ap (λ t. lengthened l (expr_code t)) (sym (view_test value name arguments span))
-    ∙ ap (λ t. lengthened l (expr_code (expr_of t))) (sym is))
-
-pub call_written : (l m n : Listing) (e : Expression) (name : Bor (List ℕ)) (arguments : Vec Argument Global) (span : Span) (xs ys : List Argument) (r : Result (Unit {0}) AllocError) → e ≡ expression.Call name arguments span → xs ≡ arguments.items → ys ≡ arguments.items
-    → m ≡ lengthened l (arguments_code (arguments_of xs)) → OnOk r (n ≡ lengthened m (instruction.CallFunction name.now (argument_names (arguments_of ys)) span ∷ [])) → OnOk r (n ≡ lengthened l (expr_code (expr_of e)))
-call_written l m n e name arguments span xs ys r is a b h =
-    let call = λ (y : List Argument). instruction.CallFunction name.now (argument_names (arguments_of y)) span ∷ [] in
-    on_ok_by r n _ _ (ap₂ (λ k y. lengthened k (call y)) (h ∙ ap (λ x. lengthened l (arguments_code (arguments_of x))) a) b
-    ∙ lengthened-lengthened l (arguments_code (arguments_of arguments.items)) (call arguments.items)
-    ∙ ap (λ t. lengthened l (expr_code t)) (sym (view_call name arguments span))
-    ∙ ap (λ t. lengthened l (expr_code (expr_of t))) (sym is))
-
--- attributes are written, and what takes them
-pub component_written : (l m n : Listing) (e : Expression) (name : Bor (List ℕ)) (attributes : Vec Entry Global) (span : Span) (xs ys : List Entry) (r : Result (Unit {0}) AllocError) → e ≡ expression.Component name attributes span → xs ≡ attributes.items → ys ≡ attributes.items
-    → m ≡ lengthened l (entries_code (entries_of xs)) → OnOk r (n ≡ lengthened m (instruction.TakeComponent name.now (keys_in (entries_of ys)) false span ∷ [])) → OnOk r (n ≡ lengthened l (expr_code (expr_of e)))
-component_written l m n e name attributes span xs ys r is a b h =
-    let take = λ (y : List Entry). instruction.TakeComponent name.now (keys_in (entries_of y)) false span ∷ [] in
-    on_ok_by r n _ _ (ap₂ (λ k y. lengthened k (take y)) (h ∙ ap (λ x. lengthened l (entries_code (entries_of x))) a) b
-    ∙ lengthened-lengthened l (entries_code (entries_of attributes.items)) (take attributes.items)
-    ∙ ap (λ t. lengthened l (expr_code t)) (sym (view_component name attributes span))
-    ∙ ap (λ t. lengthened l (expr_code (expr_of t))) (sym is))
+pub applied_written : (l m n o : Listing) (value : Code) (xs ys zs : List Argument) (take : Arguments → Instruction) (r : Result (Unit {0}) AllocError) → xs ≡ zs → ys ≡ zs → m ≡ lengthened l value → n ≡ lengthened m (arguments_code (arguments_of xs))
+    → OnOk r (o ≡ lengthened n (take (arguments_of ys) ∷ [])) → OnOk r (o ≡ lengthened l (value ++ (arguments_code (arguments_of zs) ++ take (arguments_of zs) ∷ [])))
+applied_written l m n o value xs ys zs take r a b g h w =
+    let last = arguments_code (arguments_of zs) ++ take (arguments_of zs) ∷ [] in
+    on_ok_by r o _ _ (ap (λ k. lengthened k last) g ∙ lengthened-lengthened l value last) (taken_written m n o xs ys zs (λ x. arguments_code (arguments_of x)) (λ y. take (arguments_of y)) r a b h w)
 
 pub if_written : (l m : Listing) (node : Node) (drops : ℕ) (condition : Box Expression Global) (body other : Vec Node Global) (e : Expression) (xs ys : List Node) (r : Result (Unit {0}) AllocError) → node ≡ variant.If condition body other → e ≡ condition.value → xs ≡ body.items → ys ≡ other.items
     → OnOk r (m ≡ lengthened l (node_code (If (expr_of e) (nodes_of xs) (nodes_of ys)) drops)) → OnOk r (m ≡ lengthened l (node_code (node_of node) drops))
@@ -173,10 +130,6 @@ component_call_written l m n node drops name attributes body span es xs r is a b
     ∙ ap (λ t. lengthened l (node_code t drops)) (sym (view_component_call name attributes body span))
     ∙ ap (λ t. lengthened l (node_code (node_of t) drops)) (sym is))
 
-view_comprehension : (value : Box Expression Global) (heading : Box Heading Global) (condition : Option (Box Expression Global)) (span : Span) → expr_of (expression.Comprehension value heading condition span) ≡ comprehension_of value.value heading.value condition span
-view_comprehension value heading None span = refl
-view_comprehension value heading (Some b) span = refl
-
 -- the turn of a comprehension without a condition
 pub kept : (l m n : Listing) (condition : Option (Box Expression Global)) (x value : Expression) → condition ≡ None → m ≡ lengthened l (expr_code (expr_of x)) → x ≡ value → n ≡ lengthened m (instruction.Keep ∷ [])
     → n ≡ lengthened l (turn_code (optional_of condition) (expr_code (expr_of value)))
@@ -194,12 +147,3 @@ kept_if l m n o p q condition b x y value place count is h e at g w d k c put =
     put
     ∙ keep_written l m n o p (expr_code (expr_of b.value)) (expr_code (expr_of value)) place count (boxed_written l m x b.value h e) at g (boxed_written n o y value w d) k c
     ∙ ap (λ z. lengthened l (turn_code (optional_of z) (expr_code (expr_of value)))) (sym is)
-
-pub comprehended : (l m n o : Listing) (e : Expression) (value : Box Expression Global) (heading : Box Heading Global) (condition : Option (Box Expression Global)) (span : Span) (place : ℕ) (x y : Heading) → e ≡ expression.Comprehension value heading condition span
-    → m ≡ lengthened l (expr_code (expr_of x.target)) → x ≡ heading.value → place ≡ length m.code → n ≡ lengthened m (instruction.Jump 0 ∷ []) → o ≡ lengthened n (turn_code (optional_of condition) (expr_code (expr_of value.value))) → y ≡ heading.value
-    → lengthened (looped place y false o) (instruction.EndComprehension span ∷ instruction.MakeArray [] span ∷ []) ≡ lengthened l (expr_code (expr_of e))
-comprehended l m n o e value heading condition span place x y is h a at g w b =
-    ap (λ z. lengthened (looped place z false o) (instruction.EndComprehension span ∷ instruction.MakeArray [] span ∷ [])) b
-    ∙ comprehension_written l m n o _ _ place heading.value span (boxed_written l m x.target heading.value.target h (ap (λ (z : Heading). z.target) a)) at g w
-    ∙ ap (λ t. lengthened l (expr_code t)) (sym (view_comprehension value heading condition span))
-    ∙ ap (λ t. lengthened l (expr_code (expr_of t))) (sym is)

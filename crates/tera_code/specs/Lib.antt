@@ -3,7 +3,8 @@ pub mod Packed
 pub mod Listing
 pub mod Code
 pub mod Places
-pub mod Group
+pub mod Kinds
 pub mod Blocks
 pub mod Asked
 pub mod Called
+pub mod Callee

@@ -1,10 +1,10 @@
 // Filters, tests, functions, `super` and components, which are given by name what they are made of.
 ghost use Rattle.std.specs.Prelude.{◌≡◌, [], ◌∷◌, OnOk, IfOk};
 ghost use Rattle.tera_code.specs.declared.instruction.Instruction.TheVariants as instruction;
+ghost use Rattle.tera_code.specs.Callee.{call_of};
 ghost use Rattle.tera_code.specs.Code.{expr_code, arguments_code, argument_names, filters_code, keys_in, lengthened};
-ghost use Rattle.tera_code.specs.Group.{group, Request};
-ghost use Rattle.tera_syntax_tree.specs.Tree.{MoreFilters, NoFilters};
-ghost use Rattle.tera_syntax_tree.specs.View.{expr_of, entries_of, arguments_of, filters_of};
+ghost use Rattle.tera_syntax_tree.specs.Tree.{Super, Filter, Test, MoreFilters, NoFilters};
+ghost use Rattle.tera_syntax_tree.specs.View.{applied_of, called_of, tag_of, entries_of, arguments_of, filters_of};
 
 use crate::compiler::Compiler;
 use crate::content::{Keys, LentName, Names};
@@ -12,64 +12,90 @@ use crate::instruction::Instruction;
 use crate::parts::keys;
 use std::alloc::{AllocError, Global};
 use tera_errors::lacking;
-use tera_syntax_tree::{Argument, Entry, Expression, SectionFilter};
+use tera_syntax_tree::{Applied, Argument, Called, ComponentTag, Entry, SectionFilter};
 use tera_values::{Name, Span};
 
+/// What is called by its name with arguments by theirs.
+#[derive(Clone, Copy)]
+enum Callee {
+    /// `value | name`
+    Filter,
+    /// `value is name`
+    Test,
+    /// `name(..)`
+    Function,
+}
+
 impl Compiler {
-    // What is made elsewhere of what it is given by name.
+    // `super`
     #[cycle(expressions)]
-    pub(crate) fn request(&mut self, expression: &Expression) -> Result<(), AllocError>
-        requires { group (expr_of expression.now) ≡ Request }
-        ensures { OnOk result
-            (self.new ≡ lengthened self.old (expr_code (expr_of expression.now))) }
+    #[inline(never)]
+    pub(crate) fn above(&mut self, arguments: &[Argument], span: Span) -> Result<(), AllocError>
+        ensures ok { OnOk result (self.new ≡ lengthened self.old
+            (expr_code (Super (arguments_of arguments.now) span))) }
     {
-        match expression {
-            Expression::Super { arguments, span } => {
-                let arguments = arguments.as_slice();
-                self.arguments(arguments)?;
-                self.emit(Instruction::TakeAbove {
-                    arguments: arguments.len(),
-                    span: *span,
-                })
-            }
-            Expression::Filter {
-                value,
-                name,
-                arguments,
-                span,
-            } => {
-                self.expression(value)?;
-                self.arguments(arguments.as_slice())?;
-                self.apply_filter(name, arguments.as_slice(), *span)
-            }
-            Expression::Test {
-                value,
-                name,
-                arguments,
-                span,
-            } => {
-                self.expression(value)?;
-                self.arguments(arguments.as_slice())?;
-                self.apply_test(name, arguments.as_slice(), *span)
-            }
-            Expression::Call {
-                name,
-                arguments,
-                span,
-            } => {
-                self.arguments(arguments.as_slice())?;
-                self.call_function(name, arguments.as_slice(), *span)
-            }
-            Expression::Component {
-                name,
-                attributes,
-                span,
-            } => {
-                self.entries(attributes.as_slice())?;
-                self.take_component(name, attributes.as_slice(), false, *span)
-            }
-            _ => unreachable!(),
-        }
+        self.arguments(arguments)?;
+        self.emit(Instruction::TakeAbove {
+            arguments: arguments.len(),
+            span,
+        })
+    }
+
+    #[cycle(expressions)]
+    #[inline(never)]
+    pub(crate) fn filtered(&mut self, applied: &Applied, span: Span) -> Result<(), AllocError>
+        ensures ok { OnOk result (self.new ≡ lengthened self.old
+            (expr_code (applied_of Filter applied.now span))) }
+    {
+        self.expression(&applied.value)?;
+        self.arguments(applied.arguments.as_slice())?;
+        self.call(
+            Callee::Filter,
+            applied.name,
+            applied.arguments.as_slice(),
+            span,
+        )
+    }
+
+    #[cycle(expressions)]
+    #[inline(never)]
+    pub(crate) fn tested(&mut self, applied: &Applied, span: Span) -> Result<(), AllocError>
+        ensures ok { OnOk result (self.new ≡ lengthened self.old
+            (expr_code (applied_of Test applied.now span))) }
+    {
+        self.expression(&applied.value)?;
+        self.arguments(applied.arguments.as_slice())?;
+        self.call(
+            Callee::Test,
+            applied.name,
+            applied.arguments.as_slice(),
+            span,
+        )
+    }
+
+    #[cycle(expressions)]
+    #[inline(never)]
+    pub(crate) fn called(&mut self, called: &Called, span: Span) -> Result<(), AllocError>
+        ensures ok { OnOk result (self.new ≡ lengthened self.old
+            (expr_code (called_of called.now span))) }
+    {
+        self.arguments(called.arguments.as_slice())?;
+        self.call(
+            Callee::Function,
+            called.name,
+            called.arguments.as_slice(),
+            span,
+        )
+    }
+
+    #[cycle(expressions)]
+    #[inline(never)]
+    pub(crate) fn tag(&mut self, tag: &ComponentTag, span: Span) -> Result<(), AllocError>
+        ensures ok { OnOk result (self.new ≡ lengthened self.old
+            (expr_code (tag_of tag.now span))) }
+    {
+        self.entries(tag.attributes.as_slice())?;
+        self.take_component(tag.name, tag.attributes.as_slice(), false, span)
     }
 
     #[cycle(expressions)]
@@ -101,60 +127,40 @@ impl Compiler {
     {
         let arguments = filter.arguments.as_slice();
         self.arguments(arguments)?;
-        self.apply_filter(filter.name, arguments, filter.span)
+        self.call(Callee::Filter, filter.name, arguments, filter.span)
     }
 
-    fn apply_filter(
+    // What calls by this name, with the names of the arguments.
+    fn call(
         &mut self,
+        callee: Callee,
         name: &str,
         arguments: &[Argument],
         span: Span,
     ) -> Result<(), AllocError>
-        ensures ok { OnOk result (self.new ≡ lengthened self.old (instruction.ApplyFilter
+        ensures ok { OnOk result (self.new ≡ lengthened self.old (call_of callee
             name.now (argument_names (arguments_of arguments.now)) span ∷ [])) }
     {
         let name = lacking(Name::new(self.alloc(), name))?;
         let names = argument_names(self.alloc(), arguments)?;
-        self.emit(Instruction::ApplyFilter {
-            name: LentName::new(&name),
-            arguments: Names::new(names.as_slice()),
-            span,
-        })
-    }
-
-    fn apply_test(
-        &mut self,
-        name: &str,
-        arguments: &[Argument],
-        span: Span,
-    ) -> Result<(), AllocError>
-        ensures ok { OnOk result (self.new ≡ lengthened self.old (instruction.ApplyTest
-            name.now (argument_names (arguments_of arguments.now)) span ∷ [])) }
-    {
-        let name = lacking(Name::new(self.alloc(), name))?;
-        let names = argument_names(self.alloc(), arguments)?;
-        self.emit(Instruction::ApplyTest {
-            name: LentName::new(&name),
-            arguments: Names::new(names.as_slice()),
-            span,
-        })
-    }
-
-    fn call_function(
-        &mut self,
-        name: &str,
-        arguments: &[Argument],
-        span: Span,
-    ) -> Result<(), AllocError>
-        ensures ok { OnOk result (self.new ≡ lengthened self.old (instruction.CallFunction
-            name.now (argument_names (arguments_of arguments.now)) span ∷ [])) }
-    {
-        let name = lacking(Name::new(self.alloc(), name))?;
-        let names = argument_names(self.alloc(), arguments)?;
-        self.emit(Instruction::CallFunction {
-            name: LentName::new(&name),
-            arguments: Names::new(names.as_slice()),
-            span,
+        let name = LentName::new(&name);
+        let arguments = Names::new(names.as_slice());
+        self.emit(match callee {
+            Callee::Filter => Instruction::ApplyFilter {
+                name,
+                arguments,
+                span,
+            },
+            Callee::Test => Instruction::ApplyTest {
+                name,
+                arguments,
+                span,
+            },
+            Callee::Function => Instruction::CallFunction {
+                name,
+                arguments,
+                span,
+            },
         })
     }
 

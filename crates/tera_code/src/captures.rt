@@ -2,7 +2,7 @@
 ghost use Rattle.std.specs.Prelude.{◌≡◌, [], ◌∷◌, suc, true, OnOk, IfOk};
 ghost use Rattle.tera_code.specs.declared.instruction.Instruction.TheVariants as instruction;
 ghost use Rattle.tera_code.specs.Code.{node_code, nodes_code, section_code, captured_code, lengthened};
-ghost use Rattle.tera_code.specs.Group.{captures_body};
+ghost use Rattle.tera_code.specs.Kinds.{captures_body};
 ghost use Rattle.tera_syntax_tree.specs.Tree.{Set, first_span};
 ghost use Rattle.tera_syntax_tree.specs.View.{expr_of, filters_of, node_of, nodes_of};
 

@@ -1,17 +1,21 @@
 // Expressions.
-ghost use Rattle.std.specs.Prelude.{◌≡◌, OnOk};
+ghost use Rattle.std.specs.Prelude.{◌≡◌, ◌∷◌, [], ◌++◌, OnOk};
+ghost use Rattle.tera_code.specs.declared.instruction.Instruction.TheVariants as instruction;
 ghost use Rattle.tera_code.specs.Code.{expr_code, bound_code, items_code, entries_code, lengthened};
-ghost use Rattle.tera_code.specs.Group.{group, Access, Operation, Branch, Collection};
+ghost use Rattle.tera_syntax_tree.specs.Tree.{Index, Not, Negate, Binary, And, Or, Ternary, Array, Map};
 ghost use Rattle.tera_syntax_tree.specs.View.{expr_of, optional_of, items_of, entries_of};
 
 use crate::compiler::Compiler;
 use crate::constant::Constant;
 use crate::instruction::Instruction;
 use std::alloc::{AllocError, Global};
-use tera_syntax_tree::{Entry, Expression, Item};
+use tera_syntax_tree::{
+    BinaryOperator, Bounds, Choice, Entry, Expression, Indexed, Item, Operands,
+};
 use tera_values::Span;
 
 impl Compiler {
+    // Each form with parts has a function of its own, so that what one needs is not made ready for all.
     #[cycle(expressions)]
     pub(crate) fn expression(&mut self, expression: &Expression) -> Result<(), AllocError>
         ensures ok { OnOk result (self.new ≡ lengthened self.old
@@ -23,152 +27,170 @@ impl Compiler {
             Expression::Int { value, span } => self.integer(*value, *span),
             Expression::Text { text, span } => self.text(text.as_str(), *span),
             Expression::Name { name, span } => self.load(name, *span),
-            Expression::Attribute { .. } | Expression::Index { .. } | Expression::Slice { .. } => {
-                self.access(expression)
-            }
-            Expression::Not { .. } | Expression::Negate { .. } | Expression::Binary { .. } => {
-                self.operation(expression)
-            }
-            Expression::And { .. } | Expression::Or { .. } | Expression::Ternary { .. } => {
-                self.branch(expression)
-            }
-            Expression::Array { .. } | Expression::Map { .. } => self.collection(expression),
-            Expression::Comprehension { .. } => self.comprehension(expression),
-            Expression::Super { .. }
-            | Expression::Filter { .. }
-            | Expression::Test { .. }
-            | Expression::Call { .. }
-            | Expression::Component { .. } => self.request(expression),
-        }
-    }
-
-    // A part of a value.
-    #[cycle(expressions)]
-    fn access(&mut self, expression: &Expression) -> Result<(), AllocError>
-        requires { group (expr_of expression.now) ≡ Access }
-        ensures ok { OnOk result (self.new ≡ lengthened self.old
-            (expr_code (expr_of expression.now))) }
-    {
-        match expression {
             Expression::Attribute {
+                optional,
                 target,
                 name,
-                optional,
                 span,
             } => {
                 self.expression(target)?;
                 self.attribute(name, *optional, *span)
             }
             Expression::Index {
-                parts,
                 optional,
+                parts,
                 span,
-            } => {
-                self.expression(&parts.target)?;
-                self.expression(&parts.index)?;
-                self.emit(Instruction::LoadItem {
-                    optional: *optional,
-                    span: *span,
-                })
-            }
+            } => self.index(parts, *optional, *span),
             Expression::Slice {
+                optional,
                 target,
                 bounds,
-                optional,
                 span,
             } => {
                 self.expression(target)?;
-                self.bound(&bounds.start)?;
-                self.bound(&bounds.end)?;
-                self.bound(&bounds.step)?;
-                self.emit(Instruction::Slice {
-                    optional: *optional,
-                    span: *span,
-                })
+                self.slice(bounds, *optional, *span)
             }
-            _ => unreachable!(),
-        }
-    }
-
-    // What evaluates all its operands.
-    #[cycle(expressions)]
-    fn operation(&mut self, expression: &Expression) -> Result<(), AllocError>
-        requires { group (expr_of expression.now) ≡ Operation }
-        ensures ok { OnOk result (self.new ≡ lengthened self.old
-            (expr_code (expr_of expression.now))) }
-    {
-        match expression {
-            Expression::Not { operand, .. } => {
-                self.expression(operand)?;
-                self.emit(Instruction::Not)
-            }
-            Expression::Negate { operand, .. } => {
-                self.expression(operand)?;
-                self.emit(Instruction::Negate)
-            }
+            Expression::Not { operand, .. } => self.not(operand),
+            Expression::Negate { operand, .. } => self.negate(operand),
             Expression::Binary {
                 operator,
                 operands,
                 span,
-            } => {
-                self.expression(&operands.left)?;
-                self.expression(&operands.right)?;
-                self.emit(Instruction::Binary(*operator, *span))
-            }
-            _ => unreachable!(),
+            } => self.binary(*operator, operands, *span),
+            Expression::And { operands, .. } => self.and(operands),
+            Expression::Or { operands, .. } => self.or(operands),
+            Expression::Ternary { choice, .. } => self.ternary(choice),
+            Expression::Array { items, span } => self.array(items.as_slice(), *span),
+            Expression::Map { entries, span } => self.map(entries.as_slice(), *span),
+            Expression::Comprehension { collected, span } => self.comprehension(collected, *span),
+            Expression::Super { arguments, span } => self.above(arguments.as_slice(), *span),
+            Expression::Filter { applied, span } => self.filtered(applied, *span),
+            Expression::Test { applied, span } => self.tested(applied, *span),
+            Expression::Call { called, span } => self.called(called, *span),
+            Expression::Component { tag, span } => self.tag(tag, *span),
         }
     }
 
-    // What may leave a part out: that part is passed by a jump.
     #[cycle(expressions)]
-    fn branch(&mut self, expression: &Expression) -> Result<(), AllocError>
-        requires { group (expr_of expression.now) ≡ Branch }
-        ensures { OnOk result (self.new ≡ lengthened self.old
-            (expr_code (expr_of expression.now))) }
+    #[inline(never)]
+    fn index(&mut self, parts: &Indexed, optional: bool, span: Span) -> Result<(), AllocError>
+        ensures ok { OnOk result (self.new ≡ lengthened self.old (expr_code
+            (Index (expr_of parts.now.target) (expr_of parts.now.index) optional span))) }
     {
-        match expression {
-            Expression::And { operands, .. } => {
-                self.expression(&operands.left)?;
-                let place = self.keep_place()?;
-                self.expression(&operands.right)?;
-                self.fill(place, Instruction::JumpIfFalseOrPop(self.behind(place)))
-            }
-            Expression::Or { operands, .. } => {
-                self.expression(&operands.left)?;
-                let place = self.keep_place()?;
-                self.expression(&operands.right)?;
-                self.fill(place, Instruction::JumpIfTrueOrPop(self.behind(place)))
-            }
-            Expression::Ternary { choice, .. } => {
-                self.expression(&choice.condition)?;
-                let place = self.keep_place()?;
-                self.expression(&choice.value)?;
-                let place = self.divide(place)?;
-                self.expression(&choice.other)?;
-                self.fill(place, Instruction::Jump(self.behind(place)))
-            }
-            _ => unreachable!(),
-        }
+        self.expression(&parts.target)?;
+        self.expression(&parts.index)?;
+        self.emit(Instruction::LoadItem { optional, span })
     }
 
-    // What is written out item by item.
     #[cycle(expressions)]
-    fn collection(&mut self, expression: &Expression) -> Result<(), AllocError>
-        requires { group (expr_of expression.now) ≡ Collection }
-        ensures { OnOk result (self.new ≡ lengthened self.old
-            (expr_code (expr_of expression.now))) }
+    #[inline(never)]
+    fn slice(&mut self, bounds: &Bounds, optional: bool, span: Span) -> Result<(), AllocError>
+        ensures ok { OnOk result (self.new ≡ lengthened self.old
+            (bound_code (optional_of bounds.now.start) ++ (bound_code (optional_of bounds.now.end)
+            ++ (bound_code (optional_of bounds.now.step)
+            ++ instruction.Slice optional span ∷ [])))) }
     {
-        match expression {
-            Expression::Array { items, span } => {
-                self.items(items.as_slice())?;
-                self.make_array(items.as_slice(), *span)
-            }
-            Expression::Map { entries, span } => {
-                self.entries(entries.as_slice())?;
-                self.make_map(entries.as_slice(), *span)
-            }
-            _ => unreachable!(),
-        }
+        self.bound(&bounds.start)?;
+        self.bound(&bounds.end)?;
+        self.bound(&bounds.step)?;
+        self.emit(Instruction::Slice { optional, span })
+    }
+
+    #[cycle(expressions)]
+    #[inline(never)]
+    fn not(&mut self, operand: &Expression) -> Result<(), AllocError>
+        ensures ok { (span : Span) → OnOk result (self.new ≡ lengthened self.old
+            (expr_code (Not (expr_of operand.now) span))) }
+    {
+        self.expression(operand)?;
+        self.emit(Instruction::Not)
+    }
+
+    #[cycle(expressions)]
+    #[inline(never)]
+    fn negate(&mut self, operand: &Expression) -> Result<(), AllocError>
+        ensures ok { (span : Span) → OnOk result (self.new ≡ lengthened self.old
+            (expr_code (Negate (expr_of operand.now) span))) }
+    {
+        self.expression(operand)?;
+        self.emit(Instruction::Negate)
+    }
+
+    #[cycle(expressions)]
+    #[inline(never)]
+    fn binary(
+        &mut self,
+        operator: BinaryOperator,
+        operands: &Operands,
+        span: Span,
+    ) -> Result<(), AllocError>
+        ensures ok { OnOk result (self.new ≡ lengthened self.old (expr_code
+            (Binary operator (expr_of operands.now.left) (expr_of operands.now.right) span))) }
+    {
+        self.expression(&operands.left)?;
+        self.expression(&operands.right)?;
+        self.emit(Instruction::Binary(operator, span))
+    }
+
+    // The right operand is passed by a jump where the left one decides.
+    #[cycle(expressions)]
+    #[inline(never)]
+    fn and(&mut self, operands: &Operands) -> Result<(), AllocError>
+        ensures ok { (span : Span) → OnOk result (self.new ≡ lengthened self.old (expr_code
+            (And (expr_of operands.now.left) (expr_of operands.now.right) span))) }
+    {
+        self.expression(&operands.left)?;
+        let place = self.keep_place()?;
+        self.expression(&operands.right)?;
+        self.fill(place, Instruction::JumpIfFalseOrPop(self.behind(place)))
+    }
+
+    #[cycle(expressions)]
+    #[inline(never)]
+    fn or(&mut self, operands: &Operands) -> Result<(), AllocError>
+        ensures ok { (span : Span) → OnOk result (self.new ≡ lengthened self.old (expr_code
+            (Or (expr_of operands.now.left) (expr_of operands.now.right) span))) }
+    {
+        self.expression(&operands.left)?;
+        let place = self.keep_place()?;
+        self.expression(&operands.right)?;
+        self.fill(place, Instruction::JumpIfTrueOrPop(self.behind(place)))
+    }
+
+    // The value that is not chosen is passed by a jump.
+    #[cycle(expressions)]
+    #[inline(never)]
+    fn ternary(&mut self, choice: &Choice) -> Result<(), AllocError>
+        ensures ok { (span : Span) → OnOk result (self.new ≡ lengthened self.old (expr_code
+            (Ternary (expr_of choice.now.value) (expr_of choice.now.condition)
+            (expr_of choice.now.other) span))) }
+    {
+        self.expression(&choice.condition)?;
+        let place = self.keep_place()?;
+        self.expression(&choice.value)?;
+        let place = self.divide(place)?;
+        self.expression(&choice.other)?;
+        self.fill(place, Instruction::Jump(self.behind(place)))
+    }
+
+    #[cycle(expressions)]
+    #[inline(never)]
+    fn array(&mut self, items: &[Item], span: Span) -> Result<(), AllocError>
+        ensures ok { OnOk result (self.new ≡ lengthened self.old
+            (expr_code (Array (items_of items.now) span))) }
+    {
+        self.items(items)?;
+        self.make_array(items, span)
+    }
+
+    #[cycle(expressions)]
+    #[inline(never)]
+    fn map(&mut self, entries: &[Entry], span: Span) -> Result<(), AllocError>
+        ensures ok { OnOk result (self.new ≡ lengthened self.old
+            (expr_code (Map (entries_of entries.now) span))) }
+    {
+        self.entries(entries)?;
+        self.make_map(entries, span)
     }
 
     #[cycle(expressions)]

@@ -1,53 +1,55 @@
 // Loops and comprehensions.
 ghost use Rattle.std.specs.Prelude.{◌≡◌, ◌<◌, ◌∷◌, [], OnOk, IfOk, length, option_copied, false};
 ghost use Rattle.tera_code.specs.declared.instruction.Instruction.TheVariants as instruction;
-ghost use Rattle.tera_code.specs.Code.{expr_code, lengthened};
-ghost use Rattle.tera_code.specs.Group.{group, Loop};
+ghost use Rattle.tera_code.specs.Code.{expr_code, turn_code, lengthened};
 ghost use Rattle.tera_code.specs.Places.{looped};
-ghost use Rattle.tera_syntax_tree.specs.View.{expr_of};
+ghost use Rattle.tera_syntax_tree.specs.View.{comprehension_of, expr_of, optional_of};
 
 use crate::compiler::Compiler;
 use crate::content::{LentName, Spreads};
 use crate::instruction::Instruction;
 use std::alloc::{AllocError, Global};
 use tera_errors::lacking;
-use tera_syntax_tree::{Expression, Heading};
+use tera_syntax_tree::{Collected, Heading};
 use tera_values::{Name, Span};
 
 impl Compiler {
     // An array of what is kept in the turns of a loop.
     #[cycle(expressions)]
-    pub(crate) fn comprehension(&mut self, expression: &Expression) -> Result<(), AllocError>
-        requires { group (expr_of expression.now) ≡ Loop }
-        ensures { OnOk result (self.new ≡ lengthened self.old
-            (expr_code (expr_of expression.now))) }
+    #[inline(never)]
+    pub(crate) fn comprehension(
+        &mut self,
+        collected: &Collected,
+        span: Span,
+    ) -> Result<(), AllocError>
+        ensures ok { OnOk result (self.new ≡ lengthened self.old
+            (expr_code (comprehension_of collected.now span))) }
     {
-        match expression {
-            Expression::Comprehension {
-                value,
-                heading,
-                condition,
-                span,
-            } => {
-                self.expression(&heading.target)?;
-                let start = self.keep_place()?;
-                match condition {
-                    None => {
-                        self.expression(value)?;
-                        self.emit(Instruction::Keep)?;
-                        self.end_comprehension(start, heading, *span)
-                    }
-                    Some(condition) => {
-                        self.expression(condition)?;
-                        let place = self.keep_place()?;
-                        self.expression(value)?;
-                        self.emit(Instruction::Keep)?;
-                        self.fill(place, Instruction::PopJumpIfFalse(self.behind(place)))?;
-                        self.end_comprehension(start, heading, *span)
-                    }
-                }
+        let heading = &collected.heading;
+        self.expression(&heading.target)?;
+        let start = self.keep_place()?;
+        self.turn(collected)?;
+        self.end_comprehension(start, heading, span)
+    }
+
+    // What a turn keeps: the value, where there is no condition or that is truthy.
+    #[cycle(expressions)]
+    fn turn(&mut self, collected: &Collected) -> Result<(), AllocError>
+        ensures ok { OnOk result (self.new ≡ lengthened self.old (turn_code
+            (optional_of collected.now.condition) (expr_code (expr_of collected.now.value)))) }
+    {
+        match &collected.condition {
+            None => {
+                self.expression(&collected.value)?;
+                self.emit(Instruction::Keep)
             }
-            _ => unreachable!(),
+            Some(condition) => {
+                self.expression(condition)?;
+                let place = self.keep_place()?;
+                self.expression(&collected.value)?;
+                self.emit(Instruction::Keep)?;
+                self.fill(place, Instruction::PopJumpIfFalse(self.behind(place)))
+            }
         }
     }
 

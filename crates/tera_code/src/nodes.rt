@@ -2,7 +2,7 @@
 ghost use Rattle.std.specs.Prelude.{◌≡◌, [], ◌∷◌, true, OnOk, IfOk};
 ghost use Rattle.tera_code.specs.declared.instruction.Instruction.TheVariants as instruction;
 ghost use Rattle.tera_code.specs.Code.{handed_code, node_code, nodes_code, listing_of, lengthened};
-ghost use Rattle.tera_code.specs.Group.{has_other_body};
+ghost use Rattle.tera_code.specs.Kinds.{has_other_body};
 ghost use Rattle.tera_syntax_tree.specs.Tree as tree;
 ghost use Rattle.tera_syntax_tree.specs.View.{expr_of, entries_of, node_of, nodes_of};
 

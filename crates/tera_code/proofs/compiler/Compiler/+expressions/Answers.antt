@@ -1,70 +1,115 @@
-use Rattle.std.proofs.Common.{refl, ◌∙◌, ◌∷◌, ◌++◌, length, ap, ap₂, sym}
-use Rattle.tera_syntax_tree.specs.View.{expr_of}
+use Rattle.std.proofs.Common.{false, refl, ◌∙◌, ◌∷◌, [], ◌++◌, length, ap, ap₂, sym}
+use Rattle.tera_syntax_tree.specs.declared.expression.Applied.{out-Applied}
+use Rattle.tera_syntax_tree.specs.declared.expression.Called.{out-Called}
+use Rattle.tera_syntax_tree.specs.declared.expression.Choice.{Choice}
+use Rattle.tera_syntax_tree.specs.declared.expression.ComponentTag.{out-ComponentTag}
+use Rattle.tera_syntax_tree.specs.declared.expression.Indexed.{Indexed}
+use Rattle.tera_syntax_tree.specs.declared.expression.Operands.{Operands}
+use Rattle.tera_syntax_tree.specs.Tree.{Index, Not, Negate, Binary, And, Or, Ternary, Array, Map, Super, Filter, Test}
+use Rattle.tera_syntax_tree.specs.View.{applied_of, called_of, comprehension_of, tag_of, expr_of, items_of, entries_of, arguments_of}
+use Rattle.tera_syntax_tree.proofs.Views.{view_array, view_map, view_super, view_filter, view_test, view_call, view_component, view_comprehension}
 use Rattle.tera_code.specs.declared.instruction.Instruction.TheVariants as instruction
-use Rattle.tera_code.specs.Code.{expr_code, choice_code, lengthened}
-use Rattle.tera_code.proofs.Filled.{jump_written, choice_written}
-use Rattle.tera_code.proofs.Written.{array_written, map_written, super_written, filter_written, test_written, call_written, component_written, on_ok_by, kept, kept_if, comprehended}
+use Rattle.tera_code.specs.Code.{arguments_code, argument_names, entries_code, keys_in, lengthened}
+use Rattle.tera_code.proofs.Filled.{jump_written, choice_written, comprehension_written}
+use Rattle.tera_code.proofs.Written.{applied_written, arguments_counted, kept, kept_if, on_ok_by, seen, slice_written, taken_written}
 use Rattle.tera_code.proofs.compiler.Compiler.+expressions.Goals as goal
 
-pub collection-returns-in_ok-items-in-Array : goal.collection-returns-in_ok-items-in-Array
-collection-returns-in_ok-items-in-Array t c =
-    array_written _ _ _ _ c.in-Array.items c.in-Array.span _ _ _ c.in-Array.is c.as_slice.ensures.value c.as_slice-in-Array.ensures.value c.in_ok-items-in-Array.ensures.ok c.make_array.ensures.ok
+pub expression-returns-in-Not : goal.expression-returns-in-Not
+expression-returns-in-Not t c =
+    record { ok = seen _ _ _ _ _ (ap (λ x. Not (expr_of x) c.in-Not.span) c.deref-in-Not.ensures ∙ sym (ap expr_of c.in-Not.is)) (c.not.ensures.ok c.in-Not.span) }
 
-pub collection-returns-in_ok-entries-in-Map : goal.collection-returns-in_ok-entries-in-Map
-collection-returns-in_ok-entries-in-Map t c =
-    map_written _ _ _ _ c.in-Map.entries c.in-Map.span _ _ _ c.in-Map.is c.as_slice-in-Map.ensures.value c.as_slice-in-Map-2.ensures.value c.in_ok-entries-in-Map.ensures.ok c.make_map.ensures.ok
+pub expression-returns-in-Negate : goal.expression-returns-in-Negate
+expression-returns-in-Negate t c =
+    record { ok = seen _ _ _ _ _ (ap (λ x. Negate (expr_of x) c.in-Negate.span) c.deref-in-Negate.ensures ∙ sym (ap expr_of c.in-Negate.is)) (c.negate.ensures.ok c.in-Negate.span) }
 
-pub branch-returns-in_ok-expression-in-And-2 : goal.branch-returns-in_ok-expression-in-And-2
-branch-returns-in_ok-expression-in-And-2 t c =
-    on_ok_by _ _ _ _ (jump_written _ _ _ _ _ _ _ _ (λ count. instruction.JumpIfFalseOrPop count) c.in_ok-expression-in-And.ensures.ok c.in_ok-place-in-And.ensures.place c.in_ok-place-in-And.ensures.ok c.in_ok-expression-in-And-2.ensures.ok c.behind.ensures
-    ∙ ap₂ (λ x y. lengthened c.args.self.now (expr_code (expr_of x.left) ++ instruction.JumpIfFalseOrPop (length (expr_code (expr_of y.right))) ∷ expr_code (expr_of y.right))) c.deref.ensures c.deref-in-And.ensures
-    ∙ ap (λ e. lengthened c.args.self.now (expr_code (expr_of e))) (sym c.in-And.is)) c.fill.ensures.ok
+pub expression-returns-in-And : goal.expression-returns-in-And
+expression-returns-in-And t c =
+    record { ok = seen _ _ _ _ _ (ap (λ (x : Operands). And (expr_of x.left) (expr_of x.right) c.in-And.span) c.deref-in-And.ensures ∙ sym (ap expr_of c.in-And.is)) (c.and.ensures.ok c.in-And.span) }
 
-pub branch-returns-in_ok-expression-in-Or-2 : goal.branch-returns-in_ok-expression-in-Or-2
-branch-returns-in_ok-expression-in-Or-2 t c =
-    on_ok_by _ _ _ _ (jump_written _ _ _ _ _ _ _ _ (λ count. instruction.JumpIfTrueOrPop count) c.in_ok-expression-in-Or.ensures.ok c.in_ok-place-in-Or.ensures.place c.in_ok-place-in-Or.ensures.ok c.in_ok-expression-in-Or-2.ensures.ok c.behind-in-Or.ensures
-    ∙ ap₂ (λ x y. lengthened c.args.self.now (expr_code (expr_of x.left) ++ instruction.JumpIfTrueOrPop (length (expr_code (expr_of y.right))) ∷ expr_code (expr_of y.right))) c.deref-in-Or.ensures c.deref-in-Or-2.ensures
-    ∙ ap (λ e. lengthened c.args.self.now (expr_code (expr_of e))) (sym c.in-Or.is)) c.fill-in-Or.ensures.ok
+pub expression-returns-in-Or : goal.expression-returns-in-Or
+expression-returns-in-Or t c =
+    record { ok = seen _ _ _ _ _ (ap (λ (x : Operands). Or (expr_of x.left) (expr_of x.right) c.in-Or.span) c.deref-in-Or.ensures ∙ sym (ap expr_of c.in-Or.is)) (c.or.ensures.ok c.in-Or.span) }
 
-pub branch-returns-in_ok-expression-in-Ternary-3 : goal.branch-returns-in_ok-expression-in-Ternary-3
-branch-returns-in_ok-expression-in-Ternary-3 t c =
-    on_ok_by _ _ _ _ (choice_written _ _ _ _ _ _ _ _ _ _ _ _ c.in_ok-expression-in-Ternary.ensures.ok c.in_ok-place-in-Ternary.ensures.place c.in_ok-place-in-Ternary.ensures.ok
-    c.in_ok-expression-in-Ternary-2.ensures.ok c.in_ok-place-in-Ternary-2.ensures.place c.in_ok-place-in-Ternary-2.ensures.ok c.in_ok-expression-in-Ternary-3.ensures.ok c.behind-in-Ternary.ensures
-    ∙ ap (λ x. lengthened c.args.self.now (choice_code (expr_code (expr_of x.condition)) (expr_code (expr_of c.deref-in-Ternary-2.result.now.value)) (expr_code (expr_of c.deref-in-Ternary-3.result.now.other)))) c.deref-in-Ternary.ensures
-    ∙ ap₂ (λ x y. lengthened c.args.self.now (choice_code (expr_code (expr_of c.in-Ternary.choice.value.condition)) (expr_code (expr_of x.value)) (expr_code (expr_of y.other)))) c.deref-in-Ternary-2.ensures c.deref-in-Ternary-3.ensures
-    ∙ ap (λ e. lengthened c.args.self.now (expr_code (expr_of e))) (sym c.in-Ternary.is)) c.fill-in-Ternary.ensures.ok
+pub expression-returns-in-Ternary : goal.expression-returns-in-Ternary
+expression-returns-in-Ternary t c =
+    record { ok = seen _ _ _ _ _ (ap (λ (x : Choice). Ternary (expr_of x.value) (expr_of x.condition) (expr_of x.other) c.in-Ternary.span) c.deref-in-Ternary.ensures ∙ sym (ap expr_of c.in-Ternary.is)) (c.ternary.ensures.ok c.in-Ternary.span) }
 
-pub comprehension-returns-in_ok-emit-in-None : goal.comprehension-returns-in_ok-emit-in-None
-comprehension-returns-in_ok-emit-in-None t c =
-    on_ok_by _ _ _ _ (comprehended _ _ _ _ _ c.in-Comprehension.value c.in-Comprehension.heading c.in-Comprehension.condition c.in-Comprehension.span _ _ _ c.in-Comprehension.is c.in_ok-expression-in-Comprehension.ensures.ok
-    c.deref.ensures c.in_ok-start-in-Comprehension.ensures.place c.in_ok-start-in-Comprehension.ensures.ok (kept _ _ _ _ _ _ c.in-None.is c.in_ok-expression-in-None.ensures.ok c.deref-in-None.ensures c.in_ok-emit-in-None.ensures.ok)
-    c.deref-in-None-2.ensures) c.end_comprehension.ensures.ok
+pub expression-returns-in_ok-expression-in-Slice : goal.expression-returns-in_ok-expression-in-Slice
+expression-returns-in_ok-expression-in-Slice t c =
+    record { ok = slice_written _ _ _ _ c.in-Slice.optional c.in-Slice.target c.in-Slice.bounds c.in-Slice.span _ _ _ c.in-Slice.is c.deref-in-Slice.ensures c.deref-in-Slice-2.ensures c.in_ok-expression-in-Slice.ensures.ok c.slice.ensures.ok }
 
-pub comprehension-returns-in_ok-fill-in-Some : goal.comprehension-returns-in_ok-fill-in-Some
-comprehension-returns-in_ok-fill-in-Some t c =
-    on_ok_by _ _ _ _ (comprehended _ _ _ _ _ c.in-Comprehension.value c.in-Comprehension.heading c.in-Comprehension.condition c.in-Comprehension.span _ _ _ c.in-Comprehension.is c.in_ok-expression-in-Comprehension.ensures.ok
-    c.deref.ensures c.in_ok-start-in-Comprehension.ensures.place c.in_ok-start-in-Comprehension.ensures.ok (kept_if _ _ _ _ _ _ _ c.in-Some.condition _ _ _ _ _ c.in-Some.is c.in_ok-expression-in-Some.ensures.ok c.deref-in-Some.ensures
-    c.in_ok-place-in-Some.ensures.place c.in_ok-place-in-Some.ensures.ok c.in_ok-expression-in-Some-2.ensures.ok c.deref-in-Some-2.ensures c.in_ok-emit-in-Some.ensures.ok c.behind.ensures c.in_ok-fill-in-Some.ensures.ok)
-    c.deref-in-Some-3.ensures) c.end_comprehension-in-Some.ensures.ok
+pub expression-returns-in-Array : goal.expression-returns-in-Array
+expression-returns-in-Array t c =
+    record { ok = seen _ _ _ _ _ (ap (λ xs. Array (items_of xs) c.in-Array.span) c.as_slice.ensures.value ∙ sym (ap expr_of c.in-Array.is ∙ view_array c.in-Array.items c.in-Array.span)) c.array.ensures.ok }
 
-pub request-returns-in_ok-arguments-in-Super : goal.request-returns-in_ok-arguments-in-Super
-request-returns-in_ok-arguments-in-Super t c =
-    super_written _ _ _ _ c.in-Super.arguments c.in-Super.span _ _ _ _ c.in-Super.is c.as_slice-arguments.ensures.value c.as_slice-arguments.ensures.value refl c.in_ok-arguments-in-Super.ensures.ok c.emit.ensures.ok
+pub expression-returns-in-Map : goal.expression-returns-in-Map
+expression-returns-in-Map t c =
+    record { ok = seen _ _ _ _ _ (ap (λ xs. Map (entries_of xs) c.in-Map.span) c.as_slice-in-Map.ensures.value ∙ sym (ap expr_of c.in-Map.is ∙ view_map c.in-Map.entries c.in-Map.span)) c.map.ensures.ok }
 
-pub request-returns-in_ok-arguments-in-Filter : goal.request-returns-in_ok-arguments-in-Filter
-request-returns-in_ok-arguments-in-Filter t c =
-    filter_written _ _ _ _ _ _ c.in-Filter.value c.in-Filter.name c.in-Filter.arguments c.in-Filter.span _ _ _ c.in-Filter.is c.in_ok-expression-in-Filter.ensures.ok c.deref.ensures
-    c.as_slice.ensures.value c.as_slice-in-Filter.ensures.value c.in_ok-arguments-in-Filter.ensures.ok c.apply_filter.ensures.ok
+pub expression-returns-in-Super : goal.expression-returns-in-Super
+expression-returns-in-Super t c =
+    record { ok = seen _ _ _ _ _ (ap (λ xs. Super (arguments_of xs) c.in-Super.span) c.as_slice-in-Super.ensures.value ∙ sym (ap expr_of c.in-Super.is ∙ view_super c.in-Super.arguments c.in-Super.span)) c.above.ensures.ok }
 
-pub request-returns-in_ok-arguments-in-Test : goal.request-returns-in_ok-arguments-in-Test
-request-returns-in_ok-arguments-in-Test t c =
-    test_written _ _ _ _ _ _ c.in-Test.value c.in-Test.name c.in-Test.arguments c.in-Test.span _ _ _ c.in-Test.is c.in_ok-expression-in-Test.ensures.ok c.deref-in-Test.ensures
-    c.as_slice-in-Test.ensures.value c.as_slice-in-Test-2.ensures.value c.in_ok-arguments-in-Test.ensures.ok c.apply_test.ensures.ok
+pub expression-returns-in-Comprehension : goal.expression-returns-in-Comprehension
+expression-returns-in-Comprehension t c =
+    record { ok = seen _ _ _ _ _ (ap (λ x. comprehension_of x c.in-Comprehension.span) c.deref-in-Comprehension.ensures ∙ sym (ap expr_of c.in-Comprehension.is ∙ view_comprehension c.in-Comprehension.collected c.in-Comprehension.span)) c.comprehension.ensures.ok }
 
-pub request-returns-in_ok-arguments-in-Call : goal.request-returns-in_ok-arguments-in-Call
-request-returns-in_ok-arguments-in-Call t c =
-    call_written _ _ _ _ c.in-Call.name c.in-Call.arguments c.in-Call.span _ _ _ c.in-Call.is c.as_slice-in-Call.ensures.value c.as_slice-in-Call-2.ensures.value c.in_ok-arguments-in-Call.ensures.ok c.call_function.ensures.ok
+pub expression-returns-in-Filter : goal.expression-returns-in-Filter
+expression-returns-in-Filter t c =
+    record { ok = seen _ _ _ _ _ (ap (λ x. applied_of Filter x c.in-Filter.span) c.deref-in-Filter.ensures ∙ sym (ap expr_of c.in-Filter.is ∙ view_filter c.in-Filter.applied c.in-Filter.span)) c.filtered.ensures.ok }
 
-pub request-returns-in_ok-entries-in-Component : goal.request-returns-in_ok-entries-in-Component
-request-returns-in_ok-entries-in-Component t c =
-    component_written _ _ _ _ c.in-Component.name c.in-Component.attributes c.in-Component.span _ _ _ c.in-Component.is c.as_slice-in-Component.ensures.value c.as_slice-in-Component-2.ensures.value c.in_ok-entries-in-Component.ensures.ok c.take_component.ensures.ok
+pub expression-returns-in-Test : goal.expression-returns-in-Test
+expression-returns-in-Test t c =
+    record { ok = seen _ _ _ _ _ (ap (λ x. applied_of Test x c.in-Test.span) c.deref-in-Test.ensures ∙ sym (ap expr_of c.in-Test.is ∙ view_test c.in-Test.applied c.in-Test.span)) c.tested.ensures.ok }
+
+pub expression-returns-in-Call : goal.expression-returns-in-Call
+expression-returns-in-Call t c =
+    record { ok = seen _ _ _ _ _ (ap (λ x. called_of x c.in-Call.span) c.deref-in-Call.ensures ∙ sym (ap expr_of c.in-Call.is ∙ view_call c.in-Call.called c.in-Call.span)) c.called.ensures.ok }
+
+pub expression-returns-in-Component : goal.expression-returns-in-Component
+expression-returns-in-Component t c =
+    record { ok = seen _ _ _ _ _ (ap (λ x. tag_of x c.in-Component.span) c.deref-in-Component.ensures ∙ sym (ap expr_of c.in-Component.is ∙ view_component c.in-Component.tag c.in-Component.span)) c.tag.ensures.ok }
+
+pub and-returns : goal.and-returns
+and-returns t c =
+    record { ok = λ span. on_ok_by _ _ _ _ (jump_written _ _ _ _ _ _ _ _ (λ count. instruction.JumpIfFalseOrPop count) c.in_ok-expression.ensures.ok c.in_ok-place.ensures.place c.in_ok-place.ensures.ok c.in_ok-expression-2.ensures.ok c.behind.ensures) c.fill.ensures.ok }
+
+pub or-returns : goal.or-returns
+or-returns t c =
+    record { ok = λ span. on_ok_by _ _ _ _ (jump_written _ _ _ _ _ _ _ _ (λ count. instruction.JumpIfTrueOrPop count) c.in_ok-expression.ensures.ok c.in_ok-place.ensures.place c.in_ok-place.ensures.ok c.in_ok-expression-2.ensures.ok c.behind.ensures) c.fill.ensures.ok }
+
+pub ternary-returns : goal.ternary-returns
+ternary-returns t c =
+    record { ok = λ span. on_ok_by _ _ _ _ (choice_written _ _ _ _ _ _ _ _ _ _ _ _ c.in_ok-expression.ensures.ok c.in_ok-place.ensures.place c.in_ok-place.ensures.ok c.in_ok-expression-2.ensures.ok c.in_ok-place-2.ensures.place c.in_ok-place-2.ensures.ok c.in_ok-expression-3.ensures.ok c.behind.ensures) c.fill.ensures.ok }
+
+pub comprehension-returns : goal.comprehension-returns
+comprehension-returns t c =
+    record { ok = on_ok_by _ _ _ _ (comprehension_written _ _ _ _ _ _ _ c.args.collected.now.heading c.args.span c.in_ok-expression.ensures.ok c.in_ok-start.ensures.place c.in_ok-start.ensures.ok c.in_ok-turn.ensures.ok) c.end_comprehension.ensures.ok }
+
+pub turn-returns-in_ok-expression-in-None : goal.turn-returns-in_ok-expression-in-None
+turn-returns-in_ok-expression-in-None t c =
+    record { ok = on_ok_by _ _ _ _ (kept _ _ _ _ c.args.collected.now.value c.args.collected.now.value c.in-None.is c.in_ok-expression-in-None.ensures.ok refl refl) c.emit.ensures.ok }
+
+pub turn-returns-in_ok-emit-in-Some : goal.turn-returns-in_ok-emit-in-Some
+turn-returns-in_ok-emit-in-Some t c =
+    record { ok = on_ok_by _ _ _ _ (kept_if _ _ _ _ _ _ _ c.in-Some.condition _ c.args.collected.now.value c.args.collected.now.value _ _ c.in-Some.is c.in_ok-expression-in-Some.ensures.ok c.deref.ensures c.in_ok-place-in-Some.ensures.place c.in_ok-place-in-Some.ensures.ok c.in_ok-expression-in-Some-2.ensures.ok refl c.in_ok-emit-in-Some.ensures.ok c.behind.ensures refl) c.fill.ensures.ok }
+
+pub above-returns : goal.above-returns
+above-returns t c =
+    record { ok = on_ok_by _ _ _ _ (ap (λ count. lengthened c.args.self.now (arguments_code (arguments_of c.args.arguments.now) ++ instruction.TakeAbove count c.args.span ∷ [])) (arguments_counted c.args.arguments.now)) (taken_written _ _ _ _ _ c.args.arguments.now (λ x. arguments_code (arguments_of x)) (λ y. instruction.TakeAbove (length y) c.args.span) _ refl refl c.in_ok-arguments.ensures.ok c.emit.ensures.ok) }
+
+pub filtered-returns : goal.filtered-returns
+filtered-returns t c =
+    record { ok = applied_written _ _ _ _ _ _ _ (out-Applied c.args.applied.now).arguments.items (λ all. instruction.ApplyFilter (out-Applied c.args.applied.now).name.now (argument_names all) c.args.span) _ c.as_slice.ensures.value c.as_slice-2.ensures.value c.in_ok-expression.ensures.ok c.in_ok-arguments.ensures.ok c.call.ensures.ok }
+
+pub tested-returns : goal.tested-returns
+tested-returns t c =
+    record { ok = applied_written _ _ _ _ _ _ _ (out-Applied c.args.applied.now).arguments.items (λ all. instruction.ApplyTest (out-Applied c.args.applied.now).name.now (argument_names all) c.args.span) _ c.as_slice.ensures.value c.as_slice-2.ensures.value c.in_ok-expression.ensures.ok c.in_ok-arguments.ensures.ok c.call.ensures.ok }
+
+pub called-returns : goal.called-returns
+called-returns t c =
+    record { ok = taken_written _ _ _ _ _ (out-Called c.args.called.now).arguments.items (λ x. arguments_code (arguments_of x)) (λ y. instruction.CallFunction (out-Called c.args.called.now).name.now (argument_names (arguments_of y)) c.args.span) _ c.as_slice.ensures.value c.as_slice-2.ensures.value c.in_ok-arguments.ensures.ok c.call.ensures.ok }
+
+pub tag-returns : goal.tag-returns
+tag-returns t c =
+    record { ok = taken_written _ _ _ _ _ (out-ComponentTag c.args.tag.now).attributes.items (λ x. entries_code (entries_of x)) (λ y. instruction.TakeComponent (out-ComponentTag c.args.tag.now).name.now (keys_in (entries_of y)) false c.args.span) _ c.as_slice.ensures.value c.as_slice-2.ensures.value c.in_ok-entries.ensures.ok c.take_component.ensures.ok }

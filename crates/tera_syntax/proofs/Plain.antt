@@ -5,7 +5,7 @@ use Rattle.tera_errors.specs.Site.{Text, Name}
 use Rattle.tera_errors.specs.Fault.{Fault}
 use Rattle.tera_errors.specs.Answer.{Refusal, Tells, SaysOneOf}
 use Rattle.tera_errors.specs.declared.span.Span.{Span}
-use Rattle.tera_syntax_tokens.specs.Answers.{Refuses}
+use Rattle.tera_syntax_tokens.specs.Answers.{IsSyntax, Refuses}
 use Rattle.tera_syntax_tokens.specs.declared.refusal.Refusal as reader
 use Rattle.tera_syntax_tokens.specs.declared.refusal.Refusal.TheVariants.{Syntax, OutOfMemory}
 use Rattle.tera_syntax_tokens.specs.Bytes.{place}
@@ -28,10 +28,12 @@ says_one (Some fault) told Meant e m = let P : Fault → Type 0 = λ f. Meant (E
 pub refused_by : {Y : Type 0} (meant : Option Y) (why : _) (at : Span) (r : reader.Refusal) → r ≡ Syntax why at → Refuses meant r → meant ≡ None
 refused_by meant why at r e h = let P : reader.Refusal → Type 0 = Refuses meant in subst P e h
 
--- where nothing is meant, any refusal will do
-pub refused_any : {Y : Type 0} (meant : Option Y) (r : reader.Refusal) → meant ≡ None → Refuses meant r
-refused_any meant (Syntax why at) e = e
-refused_any meant OutOfMemory e = tt
+-- what is refused for one reason may be refused for another, and for want of memory at any time
+pub refused_too : {Y : Type 0} (meant : Option Y) (r s : reader.Refusal) → (IsSyntax s → IsSyntax r) → Refuses meant r → Refuses meant s
+refused_too meant (Syntax why at) (Syntax other place) h e = e
+refused_too meant OutOfMemory (Syntax other place) h e = absurd (h tt)
+refused_too meant (Syntax why at) OutOfMemory h e = tt
+refused_too meant OutOfMemory OutOfMemory h e = tt
 
 pub spells_none : (name : Name) (d : Delims) (text : Text) → file 200 (pieces d text) ≡ None → SpellsNone name d text
 spells_none name d text h tree flat spells = let e = file_complete 200 tree spells (omega arith) flat.0 (flat.2, flat.4) in absurd (cc)

@@ -1,18 +1,15 @@
 // Where a refusal points: at the tag, or at what in it is wrong.
-ghost use Rattle.std.specs.Prelude.{ℕ, ◌<◌, ◌≤◌, ◌+◌, ◌^◌, length, IfOk, IfErr, IfSome, IsTrue};
+ghost use Rattle.std.specs.Prelude.{ℕ, ◌<◌, ◌≤◌, ◌+◌, ◌^◌, length, IfSome};
 ghost use Rattle.tera_syntax.specs.Places.{StandsWithin};
-ghost use Rattle.tera_syntax_tokens.specs.Answers.{Answers, Follows};
-ghost use Rattle.tera_syntax_tokens.specs.Cut as spec;
-ghost use Rattle.tera_syntax_tokens.specs.Cut.{Knows};
-ghost use Rattle.tera_syntax_tokens.specs.Found.{found_of, piece_of};
+ghost use Rattle.tera_syntax_tokens.specs.Answers.{IsSyntax};
+ghost use Rattle.tera_syntax_tokens.specs.Found.{piece_of};
 ghost use Rattle.tera_syntax_tokens.specs.Points.{PointsInto, PointsWithin};
 ghost use Rattle.tera_syntax_tokens.specs.Stretches.{InOrder, PieceInside};
 ghost use Rattle.tera_syntax_tokens.specs.Token.{tokens_of};
-ghost use Rattle.tera_syntax_tree.specs.Delimiters.{accepted, delimiters_of};
 ghost use Rattle.tera_syntax_tree.specs.Inside.{Within};
 
 use tera_errors::Span;
-use tera_syntax_tokens::cut::{Found, Opening, Piece, next_piece};
+use tera_syntax_tokens::cut::{Found, Piece};
 use tera_syntax_tokens::refusal::{Reason, Refusal};
 use tera_syntax_tokens::token::Token;
 use tera_syntax_tree::Delimiters;
@@ -117,85 +114,38 @@ fn character_at(text: &str, at: usize, i: usize) -> Span
     }
 }
 
-/// Where a refusal points that the cut gave, in a text that stands at the place: at the start of what has no end, or at the
+/// A refusal that the cut of a text gave, which stands at the place: it points at the start of what has no end, or at the
 /// character that begins no token.
-fn pointed(why: Reason, span: Span, text: &str, at: usize) -> Span
+pub(crate) fn pointed(refusal: Refusal, text: &str, at: usize) -> Refusal
     requires room { at + length text.now < 2 ^ 64 }
-    requires points { PointsInto at text.now (Refusal.Syntax why span) }
-    ensures { Within (at + length text.now) result }
+    requires points { PointsInto at text.now refusal }
+    ensures same { IsSyntax result → IsSyntax refusal }
+    ensures points { PointsWithin (at + length text.now) result }
 {
-    match why {
+    let Refusal::Syntax(why, span) = refusal else {
+        return Refusal::OutOfMemory;
+    };
+    let place = match why {
         Reason::OpenTag | Reason::OpenComment | Reason::OpenRaw => Span {
             start: at,
             end: span.start,
         },
         Reason::NoToken => character_at(text, at, span.start - at),
         _ => span,
-    }
+    };
+    Refusal::Syntax(why, place)
 }
 
-/// The same as `next_piece`, with a refusal that points at what is wrong.
-#[inline(always)]
-pub(crate) fn piece<'a>(
-    tokens: &mut Vec<Token<'a>>,
-    delimiters: &Delimiters,
-    text: &'a str,
-    at: usize,
-    trims: bool,
-    known: Option<Opening>,
-) -> Result<Found<'a>, Refusal>
-    requires room { at + length text.now < 2 ^ 64 }
-    requires some { 0 < length text.now }
-    requires usable { IsTrue (accepted (delimiters_of delimiters.now)) }
-    requires known { Knows (delimiters_of delimiters.now) text.now known }
-    ensures value { let meant = spec.piece (delimiters_of delimiters.now) trims at text.now in
-        Answers (found_of tokens.new.items) meant result }
-    ensures rest { IfOk result (λ x. Follows at text.now x.next x.rest.now) }
-    ensures moves { IfOk result (λ x. at < x.next) }
-    ensures known { let d = delimiters_of delimiters.now in
-        IfOk result (λ x. Knows d x.rest.now x.opening) }
-    ensures points { IfErr result (PointsWithin (at + length text.now)) }
+/// Where a tag stands that was read, in a text of this size: the end of the text, if no tag can stand there.
+pub(crate) fn within(size: usize, tag: Span) -> Span
+    ensures { Within size result }
 {
-    match next_piece(tokens, delimiters, text, at, trims, known) {
-        Ok(found) => Ok(found),
-        Err(Refusal::Syntax(why, span)) => {
-            Err(Refusal::Syntax(why, pointed(why, span, text, at)))
+    if tag.start <= tag.end && tag.end <= size {
+        tag
+    } else {
+        Span {
+            start: size,
+            end: size,
         }
-        Err(Refusal::OutOfMemory) => Err(Refusal::OutOfMemory),
-    }
-}
-
-/// A refusal that points at the tag which begins at a place of the source. The tag is cut once more, so that nothing that is
-/// open has to keep where its first tag ends. Where no tag begins there, the end of the source is told of.
-pub(crate) fn refused_at<'a>(
-    tokens: &mut Vec<Token<'a>>,
-    delimiters: &Delimiters,
-    source: &'a str,
-    why: Reason,
-    at: usize,
-) -> Refusal
-    requires usable { IsTrue (accepted (delimiters_of delimiters.now)) }
-    ensures { PointsWithin (length source.now) result }
-{
-    let size = source.len();
-    let end = Span {
-        start: size,
-        end: size,
-    };
-    let Some((_, rest)) = source.split_at_checked(at) else {
-        return Refusal::Syntax(why, end);
-    };
-    if rest.is_empty() {
-        return Refusal::Syntax(why, end);
-    }
-    match piece(tokens, delimiters, rest, at, false, None) {
-        Ok(found) => Refusal::Syntax(
-            why,
-            Span {
-                start: at,
-                end: found.next,
-            },
-        ),
-        Err(refusal) => refusal,
     }
 }

@@ -3,7 +3,6 @@ ghost use Rattle.std.specs.Prelude.{IfErr, IfOk, IsTrue, length};
 ghost use Rattle.tera_errors.specs.Answer.{GivesOneOf};
 ghost use Rattle.tera_syntax.specs.File as spec;
 ghost use Rattle.tera_syntax.specs.Reads.{Reads, ReadsPlainText};
-ghost use Rattle.tera_syntax.specs.View.{file_of};
 ghost use Rattle.tera_syntax_tokens.specs.Answers.{Answers};
 ghost use Rattle.tera_syntax_tokens.specs.Cut.{pieces};
 ghost use Rattle.tera_syntax_tokens.specs.Points.{PointsWithin};
@@ -13,32 +12,12 @@ ghost use Rattle.tera_syntax_tree.specs.View.{tree_of};
 
 use crate::blocks::once;
 use crate::file::File;
-use crate::places::{Standing, piece, refused_at};
+use crate::places::{Standing, pointed};
 use std::alloc::Global;
 use tera_errors::{Error, TeraResult};
+use tera_syntax_tokens::cut::next_piece;
 use tera_syntax_tokens::refusal::Refusal;
-use tera_syntax_tokens::token::Token;
 use tera_syntax_tree::{Delimiters, ParserOutput};
-
-/// The tree that was read, where the text ends here.
-fn ended<'s>(
-    tokens: &mut Vec<Token<'s>>,
-    delimiters: &Delimiters,
-    source: &'s str,
-    file: File<'s>,
-) -> Result<ParserOutput<'s>, Refusal>
-    requires { IsTrue (accepted (delimiters_of delimiters.now)) }
-    ensures value { Answers tree_of (spec.file_finished (file_of file.entry)) result }
-    ensures points { IfErr result (PointsWithin (length source.now)) }
-{
-    match file.finish() {
-        Ok(output) => Ok(output),
-        Err(Refusal::Syntax(why, open)) => {
-            Err(refused_at(tokens, delimiters, source, why, open.start))
-        }
-        Err(Refusal::OutOfMemory) => Err(Refusal::OutOfMemory),
-    }
-}
 
 /// The tree that a text spells, in which two blocks may have one name.
 fn spelled<'s>(
@@ -58,9 +37,9 @@ fn spelled<'s>(
     let mut trims = false;
     let mut opening = None;
     while !rest.is_empty() {
-        let piece = match piece(&mut tokens, delimiters, rest, at, trims, opening) {
+        let piece = match next_piece(&mut tokens, delimiters, rest, at, trims, opening) {
             Ok(piece) => piece,
-            Err(refusal) => return Err(refusal),
+            Err(refusal) => return Err(pointed(refusal, rest, at)),
         };
         let standing = Standing::new(delimiters, at, &piece);
         rest = piece.rest;
@@ -72,7 +51,7 @@ fn spelled<'s>(
             Err(refusal) => return Err(refusal),
         }
     }
-    ended(&mut tokens, delimiters, source, file)
+    file.finish(source.len())
 }
 
 /// The tree of a text.

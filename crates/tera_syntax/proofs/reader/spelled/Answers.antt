@@ -17,6 +17,7 @@ use Rattle.tera_syntax_tokens.proofs.Cuts.{cut_step, cut_broken, cut_nothing}
 use Rattle.tera_syntax_tokens.proofs.Stretches.{piece_inside}
 use Rattle.tera_syntax_expressions.proofs.Turns.{refused}
 use Rattle.tera_syntax.proofs.Extending.{file_broken}
+use Rattle.tera_syntax.proofs.Plain.{refused_too}
 use Rattle.tera_syntax.proofs.Rows.{some_bytes}
 use Rattle.tera_syntax.proofs.reader.spelled.Goals as goal
 
@@ -26,10 +27,10 @@ found_in meant ts us x e h = h ∙ ap (λ ts. Some (found_of ts x)) e
 pub returns-in-Err-clause-value : goal.returns-in-Err-clause-value
 returns-in-Err-clause-value c =
     let l = some_bytes c.loop-rest.rest.now (sym c.is_empty.ensures ∙ c.loop-rest-test.true) in
-    refused c.in-Err.refusal (λ n. c.loop-rest.invariant.so_far
+    refused_too _ c.in-Err.refusal c.pointed.result c.pointed.ensures.same (refused c.in-Err.refusal (λ n. c.loop-rest.invariant.so_far
     ∙ ap (spec.file_run 200 (file_of c.loop-rest.file)) (cut_broken (delimiters_of c.args.delimiters.now) c.loop-rest.trims c.loop-rest.at c.loop-rest.rest.now l n)
     ∙ file_broken 200 (file_of c.loop-rest.file))
-    c.in-Err.ensures.value
+    c.in-Err.ensures.value)
 
 pub returns-in-Err-step-clause-value : goal.returns-in-Err-step-clause-value
 returns-in-Err-step-clause-value c =
@@ -42,7 +43,7 @@ returns-in-Err-step-clause-value c =
     c.in-Err-step.ensures.value
 
 pub returns-in-Err-clause-points : goal.returns-in-Err-clause-points
-returns-in-Err-clause-points c = subst (λ size. PointsWithin size c.in-Err.refusal) c.loop-rest.invariant.place c.in-Err.ensures.points
+returns-in-Err-clause-points c = subst (λ size. PointsWithin size c.pointed.result) c.loop-rest.invariant.place c.pointed.ensures.points
 
 pub returns-in-Err-step-clause-points : goal.returns-in-Err-step-clause-points
 returns-in-Err-step-clause-points c =
@@ -76,4 +77,4 @@ returns-clause-value c =
     let z : length c.loop-rest.rest.now ≡ 0 = (Decides-eqb (length c.loop-rest.rest.now) 0).0 (sym c.is_empty.ensures ∙ c.loop-rest-test.false) in
     let e = c.loop-rest.invariant.so_far
     ∙ ap (spec.file_run 200 (file_of c.loop-rest.file)) (cut_nothing (delimiters_of c.args.delimiters.now) c.loop-rest.trims c.loop-rest.at c.loop-rest.rest.now z) in
-    subst (λ o. Answers tree_of o c.ended.result) (sym e) c.ended.ensures.value
+    subst (λ o. Answers tree_of o c.finish.result) (sym e) c.finish.ensures.value

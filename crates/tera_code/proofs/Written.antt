@@ -1,8 +1,7 @@
 -- Forms whose parts stand in a Vec.
-use Rattle.std.proofs.Common.{◌≡◌, ℕ, suc, Bool, false, Bor, length, List, [], ◌∷◌, ◌++◌, Vec, Box, Global, Result, Ok, Err, OnOk, Option, None, Some, refl, sym, ap, ap₂, ◌∙◌, append_assoc}
+use Rattle.std.proofs.Common.{◌≡◌, ℕ, suc, Bool, Bor, length, List, [], ◌∷◌, ◌++◌, Vec, Box, Global, Result, Ok, Err, OnOk, Option, None, Some, refl, sym, ap, ap₂, ◌∙◌, append_assoc}
 use Rattle.std.specs.declared.alloc.AllocError.{AllocError}
 use Rattle.tera_errors.specs.declared.span.Span.{Span}
-use Rattle.tera_syntax_tree.specs.declared.expression.Item.{Item}
 use Rattle.tera_syntax_tree.specs.declared.expression.Entry.{Entry}
 use Rattle.tera_syntax_tree.specs.declared.expression.Argument.{Argument}
 use Rattle.tera_syntax_tree.specs.declared.expression.OwnedKey.{OwnedKey}
@@ -14,16 +13,16 @@ use Rattle.tera_syntax_tree.specs.declared.node.Node.{Node}
 use Rattle.tera_syntax_tree.specs.declared.node.SectionFilter.{SectionFilter}
 use Rattle.tera_syntax_tree.specs.declared.node.Node.TheVariants as variant
 use Rattle.tera_syntax_tree.specs.Tree.{Expr, Key, Arguments, If}
-use Rattle.tera_syntax_tree.specs.View.{key_option, literal_option, slice_of, optional_of, expr_of, items_of, entries_of, arguments_of, filters_of, node_of, nodes_of, for_of}
+use Rattle.tera_syntax_tree.specs.View.{key_option, literal_option, slice_of, optional_of, expr_of, entries_of, arguments_of, filters_of, node_of, nodes_of, for_of}
 use Rattle.tera_syntax_tree.proofs.Views.{view_slice, view_if, view_capture, view_section, view_component_call, view_for}
 use Rattle.tera_code.specs.declared.instruction.Instruction.{Instruction}
 use Rattle.tera_code.specs.declared.instruction.Instruction.TheVariants as instruction
 use Rattle.tera_code.specs.Listing.{Listing}
 use Rattle.tera_syntax_tree.specs.View.{keys_of}
-use Rattle.tera_code.specs.Code.{Code, expr_code, bound_code, arguments_code, arguments_length, argument_names, section_code, captured_code, handed_code, node_code, nodes_code, turn_code, spreads_of, keys_in, lengthened}
-use Rattle.tera_code.specs.Places.{filled, behind, looped}
+use Rattle.tera_code.specs.Code.{Code, expr_code, bound_code, arguments_code, arguments_length, section_code, captured_code, handed_code, node_code, nodes_code, turn_code, keys_in, lengthened}
+use Rattle.tera_code.specs.Places.{filled, behind}
 use Rattle.tera_code.proofs.Lengthened.{lengthened-lengthened}
-use Rattle.tera_code.proofs.Filled.{keep_written, comprehension_written}
+use Rattle.tera_code.proofs.Filled.{keep_written}
 
 -- the bounds of a slice, and what takes it
 abbrev bounds_code : Bounds → Bool → Span → Code

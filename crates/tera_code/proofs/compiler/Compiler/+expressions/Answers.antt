@@ -1,11 +1,10 @@
-use Rattle.std.proofs.Common.{false, refl, ◌∙◌, ◌∷◌, [], ◌++◌, length, ap, ap₂, sym}
+use Rattle.std.proofs.Common.{false, refl, ◌∙◌, ◌∷◌, [], ◌++◌, length, ap, sym}
 use Rattle.tera_syntax_tree.specs.declared.expression.Applied.{out-Applied}
 use Rattle.tera_syntax_tree.specs.declared.expression.Called.{out-Called}
 use Rattle.tera_syntax_tree.specs.declared.expression.Choice.{Choice}
 use Rattle.tera_syntax_tree.specs.declared.expression.ComponentTag.{out-ComponentTag}
-use Rattle.tera_syntax_tree.specs.declared.expression.Indexed.{Indexed}
 use Rattle.tera_syntax_tree.specs.declared.expression.Operands.{Operands}
-use Rattle.tera_syntax_tree.specs.Tree.{Index, Not, Negate, Binary, And, Or, Ternary, Array, Map, Super, Filter, Test}
+use Rattle.tera_syntax_tree.specs.Tree.{Not, Negate, And, Or, Ternary, Array, Map, Super, Filter, Test}
 use Rattle.tera_syntax_tree.specs.View.{applied_of, called_of, comprehension_of, tag_of, expr_of, items_of, entries_of, arguments_of}
 use Rattle.tera_syntax_tree.proofs.Views.{view_array, view_map, view_super, view_filter, view_test, view_call, view_component, view_comprehension}
 use Rattle.tera_code.specs.declared.instruction.Instruction.TheVariants as instruction

@@ -42,6 +42,16 @@ abbrev pub bound_name : Instruction → Option (site.Name × Bool)
 bound_name (instruction.Store name is_global) = Some (name, is_global)
 bound_name other = None
 
+-- the loop that it opens: the names of keys and values, whether turns are counted, and the size of the body
+abbrev pub started_loop : Instruction → Option (Option site.Name × site.Name × Bool × ℕ)
+started_loop (instruction.StartLoop key name counts size) = Some (key, name, counts, size)
+started_loop other = None
+
+-- how many instructions it passes where a loop ends
+abbrev pub ended_loop : Instruction → Option ℕ
+ended_loop (instruction.EndLoop skip) = Some skip
+ended_loop other = None
+
 -- how many instructions it passes, in any case
 abbrev pub jump_length : Instruction → Option ℕ
 jump_length (instruction.Jump skip) = Some skip

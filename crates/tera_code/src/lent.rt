@@ -4,12 +4,12 @@ ghost use Rattle.tera_values.specs.Val as val;
 ghost use Rattle.tera_code.specs.declared.instruction.Instruction.TheVariants as instruction;
 ghost use Rattle.tera_code.specs.Asked.{written_text, written_name, loaded_name, loaded_integer};
 ghost use Rattle.tera_code.specs.Asked.{loaded_attribute, applied_operator, bound_name};
-ghost use Rattle.tera_code.specs.Asked.{jump_length, jump_length_if_false};
+ghost use Rattle.tera_code.specs.Asked.{started_loop, ended_loop, jump_length, jump_length_if_false};
 ghost use Rattle.tera_code.specs.Asked.{is_write_top, is_next_turn, uses_top};
 ghost use Rattle.tera_code.specs.Called.{callee_of, called_by};
 
 use crate::callee::Callee;
-use crate::content::Text;
+use crate::content::{LentName, Text};
 use crate::instruction::Instruction;
 use crate::packed::{Packed, Tables};
 use std::marker::Model;
@@ -150,6 +150,38 @@ impl<'a> LentInstruction<'a> {
     {
         match *self.packed {
             Packed::Store { name, is_global } => Some((self.tables.whole_name(name), is_global)),
+            _ => None,
+        }
+    }
+
+    /// The loop that it opens: the names of keys, if there is one, and of values, whether turns are counted, and how many
+    /// instructions its body has.
+    #[inline(always)]
+    pub fn as_start_loop(&self) -> Option<(Option<LentName<'a>>, LentName<'a>, bool, usize)>
+        ensures means { IfSome result (λ p. self.now ≡ instruction.StartLoop p.0 p.1 p.2 p.3) }
+        ensures exact { option_map (λ p. (p.0, p.1, p.2, p.3)) result ≡ started_loop self.now }
+    {
+        match *self.packed {
+            Packed::StartLoop {
+                counts,
+                names,
+                size,
+            } => {
+                let (key, name) = self.tables.loop_names(names);
+                Some((key, name, counts, size))
+            }
+            _ => None,
+        }
+    }
+
+    /// How many instructions it passes where a loop ends.
+    #[inline(always)]
+    pub fn as_end_loop(&self) -> Option<usize>
+        ensures means { IfSome result (λ skip. self.now ≡ instruction.EndLoop skip) }
+        ensures exact { result ≡ ended_loop self.now }
+    {
+        match *self.packed {
+            Packed::EndLoop(skip) => Some(skip),
             _ => None,
         }
     }

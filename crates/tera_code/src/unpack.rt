@@ -1,7 +1,7 @@
 // What packed instructions mean.
 ghost use Rattle.std.specs.Prelude.{◌≡◌, ◌<◌, ◌≤◌, ◌-◌, length, take, drop, string_bytes};
 ghost use Rattle.std.specs.Str.{IsCharBoundary};
-ghost use Rattle.tera_code.specs.Packed.{Within, shelf_of, span_at, name_at, call_at, reference_at, unpacked};
+ghost use Rattle.tera_code.specs.Packed.{Within, shelf_of, span_at, name_at, call_at, loop_at, reference_at, unpacked};
 
 use crate::constant::Constant;
 use crate::content::{Keys, LentName, Names, Spreads, Text};
@@ -63,6 +63,19 @@ impl Tables {
         ensures { result ≡ reference_at (shelf_of self.now) number }
     {
         LentName::numbered(&self.references[number as usize].name, number as usize)
+    }
+
+    /// What a loop calls the keys, if it does, and the values of its items.
+    pub(crate) fn loop_names(&self, number: u32) -> (Option<LentName<'_>>, LentName<'_>)
+        requires { number < length self.now.loops.items }
+        ensures key { result.0 ≡ (loop_at (shelf_of self.now) number).key }
+        ensures name { result.1 ≡ (loop_at (shelf_of self.now) number).name }
+    {
+        let names = &self.loops[number as usize];
+        (
+            LentName::from_option(&names.key),
+            LentName::new(&names.name),
+        )
     }
 
     fn argument_names(&self, number: u32) -> Names<'_>
@@ -147,10 +160,10 @@ impl Tables {
                 names,
                 size,
             } => {
-                let names = &self.loops[names as usize];
+                let (key, name) = self.loop_names(names);
                 Instruction::StartLoop {
-                    key: LentName::from_option(&names.key),
-                    name: LentName::new(&names.name),
+                    key,
+                    name,
                     counts,
                     size,
                 }

@@ -127,6 +127,7 @@ impl<'c> Configuration<'c> {
         self.act_unpacked(machine, file, next, instruction)
     }
 
+    // What is left: the two ends of a loop, of which a table has one in each row, and then what is unpacked whole.
     #[inline(never)]
     fn act_unpacked<'f, O: Objects>(
         &mut self,
@@ -142,6 +143,12 @@ impl<'c> Configuration<'c> {
         ensures { Does (act (here_of O.engine machine.now file.now self.old) next instruction.now)
             self.old result self.new }
     {
+        if let Some((key, name, counts, size)) = instruction.as_start_loop() {
+            return self.start_loop(machine, file, next, &key, &name, counts, size);
+        }
+        if let Some(skip) = instruction.as_end_loop() {
+            return self.end_loop(skip);
+        }
         self.act(machine, file, next, &instruction.unpack())
     }
 

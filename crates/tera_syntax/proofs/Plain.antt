@@ -28,6 +28,11 @@ says_one (Some fault) told Meant e m = let P : Fault → Type 0 = λ f. Meant (E
 pub refused_by : {Y : Type 0} (meant : Option Y) (why : _) (at : Span) (r : reader.Refusal) → r ≡ Syntax why at → Refuses meant r → meant ≡ None
 refused_by meant why at r e h = let P : reader.Refusal → Type 0 = Refuses meant in subst P e h
 
+-- where nothing is meant, any refusal will do
+pub refused_any : {Y : Type 0} (meant : Option Y) (r : reader.Refusal) → meant ≡ None → Refuses meant r
+refused_any meant (Syntax why at) e = e
+refused_any meant OutOfMemory e = tt
+
 -- what is refused for one reason may be refused for another, and for want of memory at any time
 pub refused_too : {Y : Type 0} (meant : Option Y) (r s : reader.Refusal) → (IsSyntax s → IsSyntax r) → Refuses meant r → Refuses meant s
 refused_too meant (Syntax why at) (Syntax other place) h e = e

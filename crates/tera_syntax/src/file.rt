@@ -87,7 +87,7 @@ impl<'s> File<'s> {
             → PieceInside size (piece_of tokens.now piece.entry)
             → IfErr result (PointsWithin size) }
     {
-        self.progress.tag = standing.whole;
+        self.progress.tag = standing.whole.start;
         match self.take(alloc, piece, tokens) {
             Ok(()) => Ok(()),
             Err(Refusal::Syntax(why, span)) => {
@@ -129,18 +129,17 @@ impl<'s> File<'s> {
         step(&mut self.progress, alloc, piece, tokens)
     }
 
-    /// The tree, where the text ends here, which has this size. It takes no memory.
-    pub fn finish(self, size: usize) -> Result<ParserOutput<'s>, Refusal>
+    /// The tree, where the text ends here. It takes no memory.
+    pub fn finish(self) -> Result<ParserOutput<'s>, Refusal>
         ensures value { Answers tree_of (spec.file_finished (file_of self.entry)) result }
         ensures told { IfErr result IsSyntax }
-        ensures points { IfErr result (PointsWithin size) }
     {
         let File {
             parent,
             progress,
             ..
         } = self;
-        match progress.finish(size) {
+        match progress.finish() {
             Ok(nodes) => Ok(ParserOutput { parent, nodes }),
             Err(refusal) => Err(refusal),
         }

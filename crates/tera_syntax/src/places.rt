@@ -1,15 +1,16 @@
 // Where a refusal points: at the tag, or at what in it is wrong.
-ghost use Rattle.std.specs.Prelude.{ℕ, ◌<◌, ◌≤◌, ◌+◌, ◌^◌, length, IfSome};
+ghost use Rattle.std.specs.Prelude.{ℕ, ◌<◌, ◌≤◌, ◌+◌, ◌^◌, length, IfSome, IsTrue};
 ghost use Rattle.tera_syntax.specs.Places.{StandsWithin};
 ghost use Rattle.tera_syntax_tokens.specs.Answers.{IsSyntax};
 ghost use Rattle.tera_syntax_tokens.specs.Found.{piece_of};
 ghost use Rattle.tera_syntax_tokens.specs.Points.{PointsInto, PointsWithin};
 ghost use Rattle.tera_syntax_tokens.specs.Stretches.{InOrder, PieceInside};
 ghost use Rattle.tera_syntax_tokens.specs.Token.{tokens_of};
+ghost use Rattle.tera_syntax_tree.specs.Delimiters.{accepted, delimiters_of};
 ghost use Rattle.tera_syntax_tree.specs.Inside.{Within};
 
 use tera_errors::Span;
-use tera_syntax_tokens::cut::{Found, Piece};
+use tera_syntax_tokens::cut::{Found, Piece, block_end};
 use tera_syntax_tokens::refusal::{Reason, Refusal};
 use tera_syntax_tokens::token::Token;
 use tera_syntax_tree::Delimiters;
@@ -136,16 +137,29 @@ pub(crate) fn pointed(refusal: Refusal, text: &str, at: usize) -> Refusal
     Refusal::Syntax(why, place)
 }
 
-/// Where a tag stands that was read, in a text of this size: the end of the text, if no tag can stand there.
-pub(crate) fn within(size: usize, tag: Span) -> Span
-    ensures { Within size result }
+/// A refusal that points at the tag of a block which begins at a place of the source. The tag is cut once more, so that nothing
+/// that is open has to keep where its first tag ends. Where no such tag begins there, the end of the source is told of.
+pub(crate) fn refused_at<'a>(
+    tokens: &mut Vec<Token<'a>>,
+    delimiters: &Delimiters,
+    source: &'a str,
+    why: Reason,
+    start: usize,
+) -> Refusal
+    requires usable { IsTrue (accepted (delimiters_of delimiters.now)) }
+    ensures { PointsWithin (length source.now) result }
 {
-    if tag.start <= tag.end && tag.end <= size {
-        tag
-    } else {
-        Span {
-            start: size,
-            end: size,
-        }
+    let size = source.len();
+    let nowhere = Span {
+        start: size,
+        end: size,
+    };
+    let Some((_, rest)) = source.split_at_checked(start) else {
+        return Refusal::Syntax(why, nowhere);
+    };
+    match block_end(tokens, delimiters, rest, start) {
+        Ok(Some(end)) => Refusal::Syntax(why, Span { start, end }),
+        Ok(None) => Refusal::Syntax(why, nowhere),
+        Err(refusal) => refusal,
     }
 }

@@ -4,12 +4,10 @@ ghost use Rattle.tera_syntax.specs.Heads as heads;
 ghost use Rattle.tera_syntax.specs.Reader as spec;
 ghost use Rattle.tera_syntax.specs.View.{Becomes, body_of, frame_of, head_of, progress_of};
 ghost use Rattle.tera_syntax_tokens.specs.Answers.{Answers, IsSyntax};
-ghost use Rattle.tera_syntax_tokens.specs.Points.{PointsWithin};
 ghost use Rattle.tera_syntax_tokens.specs.Token.{tokens_of};
 ghost use Rattle.tera_syntax_tree.specs.View.{node_of, nodes_of};
 
 use crate::heads::{Head, Surroundings, is_extends};
-use crate::places::within;
 use std::alloc::Global;
 use std::mem::replace;
 use tera_errors::Span;
@@ -33,8 +31,8 @@ pub(crate) struct Frame<'s> {
     is_chained: bool,
     /// What it stands in.
     surroundings: Surroundings,
-    /// Its first tag.
-    opened: Span,
+    /// Where its first tag begins.
+    opened: usize,
 }
 
 /// How far the reading is: what is open, and the nodes that were read in it.
@@ -45,8 +43,8 @@ pub(crate) struct Progress<'s> {
     found: Vec<Node<'s>>,
     /// What these nodes stand in.
     pub surroundings: Surroundings,
-    /// The tag that is read.
-    pub tag: Span,
+    /// Where the tag begins that is read.
+    pub tag: usize,
 }
 
 /// A refusal that points at the first token of a tag.
@@ -107,7 +105,7 @@ impl<'s> Progress<'s> {
             frames: Vec::new(alloc),
             found: Vec::new(alloc),
             surroundings: Surroundings::outside(),
-            tag: Span { start: 0, end: 0 },
+            tag: 0,
         }
     }
 
@@ -263,29 +261,27 @@ impl<'s> Progress<'s> {
         Err(refused(tag, Reason::NotOpen))
     }
 
-    /// The first tag of the innermost statement that is open.
-    fn innermost(&self) -> Span {
+    /// Where the first tag begins of the innermost statement that is open.
+    fn innermost(&self) -> usize {
         match self.frames.last() {
             Some(frame) => frame.opened,
             None => self.tag,
         }
     }
 
-    /// The nodes, where the text ends here, which has this size. It takes no memory. A statement that is open is told of at
-    /// its first tag.
-    pub fn finish(self, size: usize) -> Result<Vec<Node<'s>>, Refusal>
+    /// The nodes, where the text ends here. It takes no memory. A statement that is open is told of by where its first tag begins.
+    pub fn finish(self) -> Result<Vec<Node<'s>>, Refusal>
         ensures value { let meant = spec.finished (progress_of self.entry).frames
             (progress_of self.entry).found in
             Answers (λ nodes. nodes_of nodes.items) meant result }
         ensures told { IfErr result IsSyntax }
-        ensures points { IfErr result (PointsWithin size) }
     {
-        let opened = self.innermost();
+        let start = self.innermost();
         let Progress { frames, found, .. } = self;
         if frames.is_empty() {
             Ok(found)
         } else {
-            Err(Refusal::Syntax(Reason::NoEnd, within(size, opened)))
+            Err(Refusal::Syntax(Reason::NoEnd, Span { start, end: start }))
         }
     }
 }

@@ -3,6 +3,7 @@ ghost use Rattle.std.specs.Prelude.{IfErr, IfOk, IsTrue, length};
 ghost use Rattle.tera_errors.specs.Answer.{GivesOneOf};
 ghost use Rattle.tera_syntax.specs.File as spec;
 ghost use Rattle.tera_syntax.specs.Reads.{Reads, ReadsPlainText};
+ghost use Rattle.tera_syntax.specs.View.{file_of};
 ghost use Rattle.tera_syntax_tokens.specs.Answers.{Answers};
 ghost use Rattle.tera_syntax_tokens.specs.Cut.{pieces};
 ghost use Rattle.tera_syntax_tokens.specs.Points.{PointsWithin};
@@ -12,12 +13,33 @@ ghost use Rattle.tera_syntax_tree.specs.View.{tree_of};
 
 use crate::blocks::once;
 use crate::file::File;
-use crate::places::{Standing, pointed};
+use crate::places::{Standing, pointed, refused_at};
 use std::alloc::Global;
 use tera_errors::{Error, TeraResult};
 use tera_syntax_tokens::cut::next_piece;
 use tera_syntax_tokens::refusal::Refusal;
+use tera_syntax_tokens::token::Token;
 use tera_syntax_tree::{Delimiters, ParserOutput};
+
+/// The tree that was read, where the text ends here.
+fn ended<'s>(
+    tokens: &mut Vec<Token<'s>>,
+    delimiters: &Delimiters,
+    source: &'s str,
+    file: File<'s>,
+) -> Result<ParserOutput<'s>, Refusal>
+    requires { IsTrue (accepted (delimiters_of delimiters.now)) }
+    ensures value { Answers tree_of (spec.file_finished (file_of file.entry)) result }
+    ensures points { IfErr result (PointsWithin (length source.now)) }
+{
+    match file.finish() {
+        Ok(output) => Ok(output),
+        Err(Refusal::Syntax(why, open)) => {
+            Err(refused_at(tokens, delimiters, source, why, open.start))
+        }
+        Err(Refusal::OutOfMemory) => Err(Refusal::OutOfMemory),
+    }
+}
 
 /// The tree that a text spells, in which two blocks may have one name.
 fn spelled<'s>(
@@ -51,7 +73,7 @@ fn spelled<'s>(
             Err(refusal) => return Err(refusal),
         }
     }
-    file.finish(source.len())
+    ended(&mut tokens, delimiters, source, file)
 }
 
 /// The tree of a text.

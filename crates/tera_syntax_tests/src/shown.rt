@@ -168,26 +168,50 @@ impl Shown {
                     self.expression(&entry.value);
                 }
             }
-            Expression::Comprehension { collected, .. } => {
-                self.expression(&collected.value);
+            Expression::Comprehension {
+                value,
+                heading,
+                condition,
+                ..
+            } => {
+                self.expression(value);
                 self.put(" for ");
-                self.heading(&collected.heading);
+                self.heading(heading);
                 self.put(" if ");
-                self.put_bound(&collected.condition);
+                self.put_bound(condition);
             }
             Expression::Super { arguments, .. } => self.arguments(arguments),
-            Expression::Filter { applied, .. } | Expression::Test { applied, .. } => {
-                self.expression(&applied.value);
-                self.put(applied.name);
-                self.arguments(&applied.arguments);
+            Expression::Filter {
+                value,
+                name,
+                arguments,
+                ..
             }
-            Expression::Call { called, .. } => {
-                self.put(called.name);
-                self.arguments(&called.arguments);
+            | Expression::Test {
+                value,
+                name,
+                arguments,
+                ..
+            } => {
+                self.expression(value);
+                self.put(name);
+                self.arguments(arguments);
             }
-            Expression::Component { tag, .. } => {
-                self.put(tag.name);
-                self.attributes(&tag.attributes);
+            Expression::Call {
+                name,
+                arguments,
+                ..
+            } => {
+                self.put(name);
+                self.arguments(arguments);
+            }
+            Expression::Component {
+                name,
+                attributes,
+                ..
+            } => {
+                self.put(name);
+                self.attributes(attributes);
             }
             _ => {}
         }

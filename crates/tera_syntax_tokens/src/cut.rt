@@ -11,6 +11,7 @@ ghost use Rattle.tera_syntax_tokens.specs.Found.{found_of, piece_of};
 ghost use Rattle.tera_syntax_tokens.specs.Inside.{inside};
 ghost use Rattle.tera_syntax_tokens.specs.Points.{PointsInto};
 ghost use Rattle.tera_syntax_tokens.specs.Token.{tokens_of};
+ghost use Rattle.tera_syntax_tokens.specs.declared.refusal.Refusal.TheVariants.{OutOfMemory};
 ghost use Rattle.tera_syntax_tokens.specs.declared.token.Token.{Token};
 
 use crate::bytes::{after, before, begins, place as place_of, place_of_byte};
@@ -399,5 +400,30 @@ pub fn next_piece<'a>(
             let (_, inner) = text.split_at(size);
             behind(tokens, delimiters, opening.tag, inner, at + size)
         }
+    }
+}
+
+/// The place behind the block tag that begins a text, which stands at the place `at` of the source; none where no such tag does.
+pub fn block_end<'a>(
+    tokens: &mut Vec<Token<'a>>,
+    delimiters: &Delimiters,
+    text: &'a str,
+    at: usize,
+) -> Result<Option<usize>, Refusal>
+    requires room { at + length text.now < 2 ^ 64 }
+    requires usable { IsTrue (accepted (delimiters_of delimiters.now)) }
+    ensures order { IfOk result (λ end. IfSome end (λ next. at ≤ next)) }
+    ensures within { IfOk result (λ end. IfSome end (λ next. next ≤ at + length text.now)) }
+    ensures lacks { IfErr result (λ r. r ≡ OutOfMemory) }
+{
+    let Some(opening) = opening_at(delimiters, text.as_bytes()) else {
+        return Ok(None);
+    };
+    let size = start_size(opening, text.as_bytes());
+    let (_, inner) = text.split_at(size);
+    match cut_inside(tokens, inner, delimiters.block_end.as_str(), at + size) {
+        Ok(inside) => Ok(Some(inside.next)),
+        Err(Refusal::Syntax(_, _)) => Ok(None),
+        Err(Refusal::OutOfMemory) => Err(Refusal::OutOfMemory),
     }
 }

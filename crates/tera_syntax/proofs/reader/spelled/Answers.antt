@@ -77,4 +77,4 @@ returns-clause-value c =
     let z : length c.loop-rest.rest.now ≡ 0 = (Decides-eqb (length c.loop-rest.rest.now) 0).0 (sym c.is_empty.ensures ∙ c.loop-rest-test.false) in
     let e = c.loop-rest.invariant.so_far
     ∙ ap (spec.file_run 200 (file_of c.loop-rest.file)) (cut_nothing (delimiters_of c.args.delimiters.now) c.loop-rest.trims c.loop-rest.at c.loop-rest.rest.now z) in
-    subst (λ o. Answers tree_of o c.finish.result) (sym e) c.finish.ensures.value
+    subst (λ o. Answers tree_of o c.ended.result) (sym e) c.ended.ensures.value

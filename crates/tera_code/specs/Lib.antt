@@ -7,4 +7,4 @@ pub mod Kinds
 pub mod Blocks
 pub mod Asked
 pub mod Called
-pub mod Callee
+pub mod Calls

@@ -1,10 +1,10 @@
 // Filters, tests, functions, `super` and components, which are given by name what they are made of.
 ghost use Rattle.std.specs.Prelude.{◌≡◌, [], ◌∷◌, OnOk, IfOk};
 ghost use Rattle.tera_code.specs.declared.instruction.Instruction.TheVariants as instruction;
-ghost use Rattle.tera_code.specs.Callee.{call_of};
+ghost use Rattle.tera_code.specs.Calls.{applied_code, call_of};
 ghost use Rattle.tera_code.specs.Code.{expr_code, arguments_code, argument_names, filters_code, keys_in, lengthened};
-ghost use Rattle.tera_syntax_tree.specs.Tree.{Super, Filter, Test, MoreFilters, NoFilters};
-ghost use Rattle.tera_syntax_tree.specs.View.{applied_of, called_of, tag_of, entries_of, arguments_of, filters_of};
+ghost use Rattle.tera_syntax_tree.specs.Tree.{Super, MoreFilters, NoFilters};
+ghost use Rattle.tera_syntax_tree.specs.View.{called_of, tag_of, entries_of, arguments_of, filters_of};
 
 use crate::compiler::Compiler;
 use crate::content::{Keys, LentName, Names};
@@ -15,9 +15,9 @@ use tera_errors::lacking;
 use tera_syntax_tree::{Applied, Argument, Called, ComponentTag, Entry, SectionFilter};
 use tera_values::{Name, Span};
 
-/// What is called by its name with arguments by theirs.
+/// What an instruction that calls by name calls.
 #[derive(Clone, Copy)]
-enum Callee {
+pub(crate) enum CallKind {
     /// `value | name`
     Filter,
     /// `value is name`
@@ -41,36 +41,21 @@ impl Compiler {
         })
     }
 
+    // A value, and what a filter or a test makes of it.
     #[cycle(expressions)]
     #[inline(never)]
-    pub(crate) fn filtered(&mut self, applied: &Applied, span: Span) -> Result<(), AllocError>
+    pub(crate) fn applied(
+        &mut self,
+        kind: CallKind,
+        applied: &Applied,
+        span: Span,
+    ) -> Result<(), AllocError>
         ensures ok { OnOk result (self.new ≡ lengthened self.old
-            (expr_code (applied_of Filter applied.now span))) }
+            (applied_code kind applied.now span)) }
     {
         self.expression(&applied.value)?;
         self.arguments(applied.arguments.as_slice())?;
-        self.call(
-            Callee::Filter,
-            applied.name,
-            applied.arguments.as_slice(),
-            span,
-        )
-    }
-
-    #[cycle(expressions)]
-    #[inline(never)]
-    pub(crate) fn tested(&mut self, applied: &Applied, span: Span) -> Result<(), AllocError>
-        ensures ok { OnOk result (self.new ≡ lengthened self.old
-            (expr_code (applied_of Test applied.now span))) }
-    {
-        self.expression(&applied.value)?;
-        self.arguments(applied.arguments.as_slice())?;
-        self.call(
-            Callee::Test,
-            applied.name,
-            applied.arguments.as_slice(),
-            span,
-        )
+        self.call(kind, applied.name, applied.arguments.as_slice(), span)
     }
 
     #[cycle(expressions)]
@@ -81,7 +66,7 @@ impl Compiler {
     {
         self.arguments(called.arguments.as_slice())?;
         self.call(
-            Callee::Function,
+            CallKind::Function,
             called.name,
             called.arguments.as_slice(),
             span,
@@ -127,36 +112,36 @@ impl Compiler {
     {
         let arguments = filter.arguments.as_slice();
         self.arguments(arguments)?;
-        self.call(Callee::Filter, filter.name, arguments, filter.span)
+        self.call(CallKind::Filter, filter.name, arguments, filter.span)
     }
 
     // What calls by this name, with the names of the arguments.
     fn call(
         &mut self,
-        callee: Callee,
+        kind: CallKind,
         name: &str,
         arguments: &[Argument],
         span: Span,
     ) -> Result<(), AllocError>
-        ensures ok { OnOk result (self.new ≡ lengthened self.old (call_of callee
+        ensures ok { OnOk result (self.new ≡ lengthened self.old (call_of kind
             name.now (argument_names (arguments_of arguments.now)) span ∷ [])) }
     {
         let name = lacking(Name::new(self.alloc(), name))?;
         let names = argument_names(self.alloc(), arguments)?;
         let name = LentName::new(&name);
         let arguments = Names::new(names.as_slice());
-        self.emit(match callee {
-            Callee::Filter => Instruction::ApplyFilter {
+        self.emit(match kind {
+            CallKind::Filter => Instruction::ApplyFilter {
                 name,
                 arguments,
                 span,
             },
-            Callee::Test => Instruction::ApplyTest {
+            CallKind::Test => Instruction::ApplyTest {
                 name,
                 arguments,
                 span,
             },
-            Callee::Function => Instruction::CallFunction {
+            CallKind::Function => Instruction::CallFunction {
                 name,
                 arguments,
                 span,

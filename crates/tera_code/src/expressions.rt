@@ -5,6 +5,7 @@ ghost use Rattle.tera_code.specs.Code.{expr_code, bound_code, items_code, entrie
 ghost use Rattle.tera_syntax_tree.specs.Tree.{Index, Not, Negate, Binary, And, Or, Ternary, Array, Map};
 ghost use Rattle.tera_syntax_tree.specs.View.{expr_of, optional_of, items_of, entries_of};
 
+use crate::calls::CallKind;
 use crate::compiler::Compiler;
 use crate::constant::Constant;
 use crate::instruction::Instruction;
@@ -64,8 +65,8 @@ impl Compiler {
             Expression::Map { entries, span } => self.map(entries.as_slice(), *span),
             Expression::Comprehension { collected, span } => self.comprehension(collected, *span),
             Expression::Super { arguments, span } => self.above(arguments.as_slice(), *span),
-            Expression::Filter { applied, span } => self.filtered(applied, *span),
-            Expression::Test { applied, span } => self.tested(applied, *span),
+            Expression::Filter { applied, span } => self.applied(CallKind::Filter, applied, *span),
+            Expression::Test { applied, span } => self.applied(CallKind::Test, applied, *span),
             Expression::Call { called, span } => self.called(called, *span),
             Expression::Component { tag, span } => self.tag(tag, *span),
         }

@@ -8,6 +8,7 @@ use Rattle.tera_syntax_tree.specs.Tree.{Not, Negate, And, Or, Ternary, Array, Ma
 use Rattle.tera_syntax_tree.specs.View.{applied_of, called_of, comprehension_of, tag_of, expr_of, items_of, entries_of, arguments_of}
 use Rattle.tera_syntax_tree.proofs.Views.{view_array, view_map, view_super, view_filter, view_test, view_call, view_component, view_comprehension}
 use Rattle.tera_code.specs.declared.instruction.Instruction.TheVariants as instruction
+use Rattle.tera_code.specs.Calls.{call_of}
 use Rattle.tera_code.specs.Code.{arguments_code, argument_names, entries_code, keys_in, lengthened}
 use Rattle.tera_code.proofs.Filled.{jump_written, choice_written, comprehension_written}
 use Rattle.tera_code.proofs.Written.{applied_written, arguments_counted, kept, kept_if, on_ok_by, seen, slice_written, taken_written}
@@ -55,11 +56,11 @@ expression-returns-in-Comprehension t c =
 
 pub expression-returns-in-Filter : goal.expression-returns-in-Filter
 expression-returns-in-Filter t c =
-    record { ok = seen _ _ _ _ _ (ap (λ x. applied_of Filter x c.in-Filter.span) c.deref-in-Filter.ensures ∙ sym (ap expr_of c.in-Filter.is ∙ view_filter c.in-Filter.applied c.in-Filter.span)) c.filtered.ensures.ok }
+    record { ok = seen _ _ _ _ _ (ap (λ x. applied_of Filter x c.in-Filter.span) c.deref-in-Filter.ensures ∙ sym (ap expr_of c.in-Filter.is ∙ view_filter c.in-Filter.applied c.in-Filter.span)) c.applied.ensures.ok }
 
 pub expression-returns-in-Test : goal.expression-returns-in-Test
 expression-returns-in-Test t c =
-    record { ok = seen _ _ _ _ _ (ap (λ x. applied_of Test x c.in-Test.span) c.deref-in-Test.ensures ∙ sym (ap expr_of c.in-Test.is ∙ view_test c.in-Test.applied c.in-Test.span)) c.tested.ensures.ok }
+    record { ok = seen _ _ _ _ _ (ap (λ x. applied_of Test x c.in-Test.span) c.deref-in-Test.ensures ∙ sym (ap expr_of c.in-Test.is ∙ view_test c.in-Test.applied c.in-Test.span)) c.applied-in-Test.ensures.ok }
 
 pub expression-returns-in-Call : goal.expression-returns-in-Call
 expression-returns-in-Call t c =
@@ -97,13 +98,9 @@ pub above-returns : goal.above-returns
 above-returns t c =
     record { ok = on_ok_by _ _ _ _ (ap (λ count. lengthened c.args.self.now (arguments_code (arguments_of c.args.arguments.now) ++ instruction.TakeAbove count c.args.span ∷ [])) (arguments_counted c.args.arguments.now)) (taken_written _ _ _ _ _ c.args.arguments.now (λ x. arguments_code (arguments_of x)) (λ y. instruction.TakeAbove (length y) c.args.span) _ refl refl c.in_ok-arguments.ensures.ok c.emit.ensures.ok) }
 
-pub filtered-returns : goal.filtered-returns
-filtered-returns t c =
-    record { ok = applied_written _ _ _ _ _ _ _ (out-Applied c.args.applied.now).arguments.items (λ all. instruction.ApplyFilter (out-Applied c.args.applied.now).name.now (argument_names all) c.args.span) _ c.as_slice.ensures.value c.as_slice-2.ensures.value c.in_ok-expression.ensures.ok c.in_ok-arguments.ensures.ok c.call.ensures.ok }
-
-pub tested-returns : goal.tested-returns
-tested-returns t c =
-    record { ok = applied_written _ _ _ _ _ _ _ (out-Applied c.args.applied.now).arguments.items (λ all. instruction.ApplyTest (out-Applied c.args.applied.now).name.now (argument_names all) c.args.span) _ c.as_slice.ensures.value c.as_slice-2.ensures.value c.in_ok-expression.ensures.ok c.in_ok-arguments.ensures.ok c.call.ensures.ok }
+pub applied-returns : goal.applied-returns
+applied-returns t c =
+    record { ok = applied_written _ _ _ _ _ _ _ (out-Applied c.args.applied.now).arguments.items (λ all. call_of c.args.kind (out-Applied c.args.applied.now).name.now (argument_names all) c.args.span) _ c.as_slice.ensures.value c.as_slice-2.ensures.value c.in_ok-expression.ensures.ok c.in_ok-arguments.ensures.ok c.call.ensures.ok }
 
 pub called-returns : goal.called-returns
 called-returns t c =

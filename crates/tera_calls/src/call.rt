@@ -1,5 +1,5 @@
 // Calls that configure an engine and add to it, one after another.
-ghost use Rattle.std.specs.Prelude.{◌≡◌, ◌<◌, ◌≤◌, ◌+◌, ◌++◌, ◌∷◌, [], Ok, IfOk, IfErr, OnErr, vec_len, vec_capacity};
+ghost use Rattle.std.specs.Prelude.{◌≡◌, Ok, IfOk, IfErr, OnErr};
 ghost use Rattle.tera.specs.Configuring.{Configures};
 ghost use Rattle.tera.specs.Registry.{registry_of};
 ghost use Rattle.tera_calls.specs.Calls.{Ends, Leads, with_global};
@@ -142,22 +142,9 @@ pub fn make_calls(
     let mut answers = Vec::with_capacity(alloc, calls.len())?;
     for call in calls {
         let answer = make_call(engine, call);
-        append(&mut answers, answer);
+        answers.push_reserved(answer);
     }
     Ok(answers)
-}
-
-// Appends an answer, for which there is room.
-fn append(answers: &mut Vec<TeraResult<()>>, answer: TeraResult<()>)
-    requires { vec_len answers.old < vec_capacity answers.old }
-    ensures items { answers.new.items ≡ answers.old.items ++ answer ∷ [] }
-    ensures len { vec_len answers.new ≡ vec_len answers.old + 1 }
-    ensures capacity { vec_capacity answers.old ≤ vec_capacity answers.new }
-{
-    match answers.push(answer) {
-        Ok(()) => {}
-        Err(_) => unreachable!(),
-    }
 }
 
 fn insert_global<O: Objects>(engine: &mut TeraOver<O>, name: &str, value: Value) -> TeraResult<()>

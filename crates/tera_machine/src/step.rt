@@ -59,6 +59,9 @@ impl<'c> Configuration<'c> {
         if let Some(skip) = instruction.as_jump() {
             return Ok(Flow::Skip(skip));
         }
+        if let Some((number, span)) = instruction.as_integer() {
+            return going_on(self.load_integer(number, span));
+        }
         self.perform_on(machine, chunk, at, instruction, steps)
     }
 
@@ -109,9 +112,6 @@ impl<'c> Configuration<'c> {
         ensures { Does (act (here_of O.engine machine.now file.now self.old) next instruction.now)
             self.old result self.new }
     {
-        if let Some((number, span)) = instruction.as_integer() {
-            return going_on(self.load_integer(number, span));
-        }
         if let Some((operator, span)) = instruction.as_binary() {
             return self.operate(machine.alloc, file, operator, span);
         }

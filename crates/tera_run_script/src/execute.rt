@@ -1,5 +1,5 @@
 // Commands on an engine.
-ghost use Rattle.std.specs.Prelude.{◌≡◌, None, string_bytes, IfOk, IfErr, OnOk, OnErr, ◌<◌, ◌≤◌, ◌+◌, ◌++◌, ◌∷◌, [], vec_len, vec_capacity};
+ghost use Rattle.std.specs.Prelude.{◌≡◌, None, string_bytes, IfOk, IfErr, OnOk, OnErr, ◌++◌, ◌∷◌, []};
 ghost use Rattle.tera.specs.Lent.{texts_of};
 ghost use Rattle.tera.specs.Registry.{registry_of};
 ghost use Rattle.tera.specs.Rendering.{ComponentByName};
@@ -47,22 +47,9 @@ pub fn run_commands<O: Objects>(
     };
     for command in commands {
         let reply = reply_to(alloc, engine, &mut session, command);
-        append(&mut replies, reply);
+        replies.push_reserved(reply);
     }
     Ok(replies)
-}
-
-/// Appends a reply, for which there is room.
-fn append(replies: &mut Vec<Reply>, reply: Reply)
-    requires { vec_len replies.old < vec_capacity replies.old }
-    ensures items { replies.new.items ≡ replies.old.items ++ reply ∷ [] }
-    ensures len { vec_len replies.new ≡ vec_len replies.old + 1 }
-    ensures capacity { vec_capacity replies.old ≤ vec_capacity replies.new }
-{
-    match replies.push(reply) {
-        Ok(()) => {}
-        Err(_) => unreachable!(),
-    }
 }
 
 fn reply_to<'a, O: Objects>(

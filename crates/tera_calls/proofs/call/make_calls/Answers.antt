@@ -9,6 +9,6 @@ loop-call-preserved g c =
     record {
       whole = append_assoc done (call ∷ []) _ ∙ ap (λ l. done ++ l) (sym c.in-Some.ensures.steps.0) ∙ c.loop-call.invariant.whole;
       size = omega (arith, c.in-Some.ensures.steps.1, ap length c.in-Some.ensures.steps.0, c.loop-call.invariant.size);
-      made = Made-more _ _ _ _ _ _ _ _ _ c.loop-call.invariant.made c.append.ensures.items c.make_call-answer.ensures;
-      room = omega (arith, c.append.ensures.len, c.append.ensures.capacity, c.in-Some.ensures.steps.1, c.loop-call.invariant.room);
+      made = Made-more _ _ _ _ _ _ _ _ _ c.loop-call.invariant.made c.push_reserved.ensures.items c.make_call-answer.ensures;
+      room = omega (arith, c.push_reserved.ensures.len, c.push_reserved.ensures.capacity, c.in-Some.ensures.steps.1, c.loop-call.invariant.room);
     }

@@ -168,50 +168,26 @@ impl Shown {
                     self.expression(&entry.value);
                 }
             }
-            Expression::Comprehension {
-                value,
-                heading,
-                condition,
-                ..
-            } => {
-                self.expression(value);
+            Expression::Comprehension { collected, .. } => {
+                self.expression(&collected.value);
                 self.put(" for ");
-                self.heading(heading);
+                self.heading(&collected.heading);
                 self.put(" if ");
-                self.put_bound(condition);
+                self.put_bound(&collected.condition);
             }
             Expression::Super { arguments, .. } => self.arguments(arguments),
-            Expression::Filter {
-                value,
-                name,
-                arguments,
-                ..
+            Expression::Filter { applied, .. } | Expression::Test { applied, .. } => {
+                self.expression(&applied.value);
+                self.put(applied.name);
+                self.arguments(&applied.arguments);
             }
-            | Expression::Test {
-                value,
-                name,
-                arguments,
-                ..
-            } => {
-                self.expression(value);
-                self.put(name);
-                self.arguments(arguments);
+            Expression::Call { called, .. } => {
+                self.put(called.name);
+                self.arguments(&called.arguments);
             }
-            Expression::Call {
-                name,
-                arguments,
-                ..
-            } => {
-                self.put(name);
-                self.arguments(arguments);
-            }
-            Expression::Component {
-                name,
-                attributes,
-                ..
-            } => {
-                self.put(name);
-                self.attributes(attributes);
+            Expression::Component { tag, .. } => {
+                self.put(tag.name);
+                self.attributes(&tag.attributes);
             }
             _ => {}
         }

@@ -200,7 +200,7 @@ fn print_value<'s>(
         Becomes (spec.printed 200 s value) result progress.new }
 {
     let mut ahead = Tokens::begin(tag, progress.surroundings.in_loop);
-    let value = whole_in_box(alloc, &mut ahead, progress.room())?;
+    let value = whole(alloc, &mut ahead, progress.room())?;
     progress.add(Node::Print { value })
 }
 

@@ -16,7 +16,7 @@ use Rattle.tera_syntax_expressions.proofs.Turning.{stay}
 
 -- this operand, at this level, before this token
 abbrev pub alone : ℕ → Kind → Kind → Bool
-alone floor a b = (((same k.Name a || same k.Int a) && nat_le floor 11) && not (goes_on floor 11 b)) && not (same k.LeftParenthesis b)
+alone floor a b = ((((same k.Name a || same k.Int a) || same k.Text a) && nat_le floor 11) && not (goes_on floor 11 b)) && not (same k.LeftParenthesis b)
 
 all_three : (p q r s : Bool) → (((p || q) && r) && not s) ≡ true → ((p ≡ true) ⊎ (q ≡ true)) × (r ≡ true) × (s ≡ false)
 all_three true q true false h = (inl refl, refl, refl)
@@ -26,6 +26,10 @@ all_three true q false s h = absurd (cc)
 all_three false true true true h = absurd (cc)
 all_three false true false s h = absurd (cc)
 all_three false false r s h = absurd (cc)
+
+one_of : (p q : Bool) → (p || q) ≡ true → (p ≡ true) ⊎ (q ≡ true)
+one_of true q h = inl refl
+one_of false q h = inr h
 
 not_open : (n : ℕ) (os : List ℕ) (i : Input) → same k.LeftParenthesis (kind i) ≡ false → opened n os i ≡ Some (os, i)
 unfolding opened
@@ -59,13 +63,17 @@ module _ (limit : ℕ) (sub : ℕ → Parser Deep) where
   unfolding node
   node_stays d e i x j h = let g = steps.guard (nat_lt d limit) (Some (record { expr = e; depth = d + 1 }, i)) (x, j) h in sym (steps.some-pair _ (x, j) g.1).1
 
-  int_by : (o : Option Expr) (i : Input) (x : Deep) (j : Input) → leaf limit sub o i ≡ Some (x, j) → j ≡ i
-  int_by None i x j h = absurd (cc)
-  int_by (Some e) i x j h = node_stays 0 e i x j h
+  leaf_stays : (o : Option Expr) (i : Input) (x : Deep) (j : Input) → leaf limit sub o i ≡ Some (x, j) → j ≡ i
+  leaf_stays None i x j h = absurd (cc)
+  leaf_stays (Some e) i x j h = node_stays 0 e i x j h
 
   int_stays : (i : Input) (x : Deep) (j : Input) → kind i ≡ k.Int → head limit sub i ≡ Some (x, j) → j ≡ next i
   unfolding head
-  int_stays i x j e h = int_by _ (next i) x j (sym (ap (λ s. head_by limit sub s i) e) ∙ h)
+  int_stays i x j e h = leaf_stays _ (next i) x j (sym (ap (λ s. head_by limit sub s i) e) ∙ h)
+
+  text_stays : (i : Input) (x : Deep) (j : Input) → kind i ≡ k.Text → head limit sub i ≡ Some (x, j) → j ≡ next i
+  unfolding head
+  text_stays i x j e h = leaf_stays _ (next i) x j (sym (ap (λ s. head_by limit sub s i) e) ∙ h)
 
   named : (i : Input) → loop_name i ≡ None → is_call i ≡ false → name_by limit sub (loop_name i) i ≡ node limit 0 (Name (text i) (span (start i) (next i))) (next i)
   named i l n = rw (l, n) refl
@@ -84,25 +92,37 @@ module _ (limit : ℕ) (sub : ℕ → Parser Deep) where
 
   pub stands : (floor : ℕ) (i : Input) → alone floor (kind i) (kind (next i)) ≡ true → level limit sub floor i ≡ head limit sub i
   unfolding begins
-  stands floor i h = steps.either t.0 by_name by_int
+  stands floor i h = steps.either t.0 (λ s. steps.either (one_of (same k.Name (kind i)) (same k.Int (kind i)) s) by_name by_int) by_text
     where
-      u : ((((same k.Name (kind i) || same k.Int (kind i)) && nat_le floor 11) && not (goes_on floor 11 (kind (next i)))) ≡ true) × (same k.LeftParenthesis (kind (next i)) ≡ false)
-      u = steps.both (((same k.Name (kind i) || same k.Int (kind i)) && nat_le floor 11) && not (goes_on floor 11 (kind (next i)))) (same k.LeftParenthesis (kind (next i))) h
+      is_leaf : Bool
+      is_leaf = (same k.Name (kind i) || same k.Int (kind i)) || same k.Text (kind i)
 
-      t : ((same k.Name (kind i) ≡ true) ⊎ (same k.Int (kind i) ≡ true)) × (nat_le floor 11 ≡ true) × (goes_on floor 11 (kind (next i)) ≡ false)
-      t = all_three (same k.Name (kind i)) (same k.Int (kind i)) (nat_le floor 11) (goes_on floor 11 (kind (next i))) u.0
+      u : (((is_leaf && nat_le floor 11) && not (goes_on floor 11 (kind (next i)))) ≡ true) × (same k.LeftParenthesis (kind (next i)) ≡ false)
+      u = steps.both ((is_leaf && nat_le floor 11) && not (goes_on floor 11 (kind (next i)))) (same k.LeftParenthesis (kind (next i))) h
+
+      t : (((same k.Name (kind i) || same k.Int (kind i)) ≡ true) ⊎ (same k.Text (kind i) ≡ true)) × (nat_le floor 11 ≡ true) × (goes_on floor 11 (kind (next i)) ≡ false)
+      t = all_three (same k.Name (kind i) || same k.Int (kind i)) (same k.Text (kind i)) (nat_le floor 11) (goes_on floor 11 (kind (next i))) u.0
 
       le : floor ≤ 11
       le = let q = t.1 in grind (arith, common_steps, q)
 
+      -- it begins at the highest level, and what is read is one token
+      by_kind : (s : Kind) → kind i ≡ s → (k.LeftParenthesis ≡ s → ⊥) → (s ≡ k.End → ⊥) → begins s ≡ 11
+          → ((x : Deep) (j : Input) → head limit sub i ≡ Some (x, j) → j ≡ next i) → level limit sub floor i ≡ head limit sub i
+      by_kind s e p n b f =
+          level_by floor (left (next i)) i (steps.differ k.LeftParenthesis s (kind i) e p) (ap begins e ∙ b) le (next-left s i e n) t.2 f
+
       by_name : same k.Name (kind i) ≡ true → level limit sub floor i ≡ head limit sub i
       by_name s =
           let e = steps.same-is k.Name (kind i) s in
-          level_by floor (left (next i)) i (steps.differ k.LeftParenthesis k.Name (kind i) e (λ q. cc)) (ap begins e) le (next-left k.Name i e (λ q. cc)) t.2
-          (λ x j. name_stays i x j e (no_loop i (no_dot floor (kind (next i)) le t.2)) (no-call i u.1))
+          by_kind k.Name e (λ q. cc) (λ q. cc) refl (λ x j. name_stays i x j e (no_loop i (no_dot floor (kind (next i)) le t.2)) (no-call i u.1))
 
       by_int : same k.Int (kind i) ≡ true → level limit sub floor i ≡ head limit sub i
       by_int s =
           let e = steps.same-is k.Int (kind i) s in
-          level_by floor (left (next i)) i (steps.differ k.LeftParenthesis k.Int (kind i) e (λ q. cc)) (ap begins e) le (next-left k.Int i e (λ q. cc)) t.2
-          (λ x j. int_stays i x j e)
+          by_kind k.Int e (λ q. cc) (λ q. cc) refl (λ x j. int_stays i x j e)
+
+      by_text : same k.Text (kind i) ≡ true → level limit sub floor i ≡ head limit sub i
+      by_text s =
+          let e = steps.same-is k.Text (kind i) s in
+          by_kind k.Text e (λ q. cc) (λ q. cc) refl (λ x j. text_stays i x j e)

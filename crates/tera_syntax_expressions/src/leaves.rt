@@ -50,7 +50,7 @@ impl<'s, F: Fn(Global, &mut Tokens<'_, 's>, usize, u8) -> Read<'s>> Reader<F> {
         }
     }
 
-    /// A name or an integer, and what else may begin an expression.
+    /// A name, an integer or a text, and what else may begin an expression.
     #[tactic(auto, unfolding(crate::specs::Expressions::head))]
     pub(crate) fn leaf(&self, tokens: &mut Tokens<'_, 's>) -> Read<'s>
         requires { Nests self.now.below (F.pre self.now.expr) (F.post self.now.expr) }
@@ -60,6 +60,7 @@ impl<'s, F: Fn(Global, &mut Tokens<'_, 's>, usize, u8) -> Read<'s>> Reader<F> {
         match tokens.kind() {
             Kind::Name => self.name(tokens),
             Kind::Int => self.int(tokens),
+            Kind::Text => self.text(tokens),
             _ => self.head(tokens),
         }
     }

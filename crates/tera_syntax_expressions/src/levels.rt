@@ -84,21 +84,22 @@ pub(crate) fn kinds(tokens: &Tokens<'_, '_>) -> (Kind, Kind)
     }
 }
 
-/// Whether the first of two tokens is a name or an integer, and the second neither goes on with it to this level nor
+/// Whether the first of two tokens is a name, an integer or a text, and the second neither goes on with it to this level nor
 /// opens the arguments of a call.
 fn is_alone(floor: u8, first: Kind, second: Kind) -> bool
-    ensures { let is_leaf = spec_same Kind.Name first || spec_same Kind.Int first in
+    ensures { let is_leaf = (spec_same Kind.Name first || spec_same Kind.Int first)
+        || spec_same Kind.Text first in
         let goes_on = spec.goes_on floor 11 second in
         let is_called = spec_same Kind.LeftParenthesis second in
         result ≡ (((is_leaf && nat_le floor 11) && not goes_on) && not is_called) }
 {
-    (same(Kind::Name, first) || same(Kind::Int, first))
+    (same(Kind::Name, first) || same(Kind::Int, first) || same(Kind::Text, first))
         && floor <= 11
         && !goes_on(floor, 11, second)
         && !same(Kind::LeftParenthesis, second)
 }
 
-/// Whether the next operand is a name or an integer, and nothing goes on with it to this level. Most are.
+/// Whether the next operand is a name, an integer or a text, and nothing goes on with it to this level. Most are.
 #[inline]
 pub(crate) fn stands_alone(tokens: &Tokens<'_, '_>, floor: u8) -> bool
     ensures { let here = input tokens.now in

@@ -181,7 +181,7 @@ signature_of s = record { name = s.name.now; parameters = map_list parameter_of 
 abbrev mutual
   pub node_of : declared.Node → Node
   node_of (variant.Content t span) = Content t.now span
-  node_of (variant.Print e) = Print (expr_of e.value)
+  node_of (variant.Print e) = Print (expr_of e)
   node_of (variant.PrintName t span) = Print (Name t.now span)
   node_of (variant.If' c m body n other) = If (expr_of c.value) (row_nodes body) (row_nodes other)
   node_of (variant.Set t e is_global) = Set t.now (expr_of e.value) is_global

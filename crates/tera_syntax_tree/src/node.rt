@@ -13,7 +13,7 @@ pub enum Node<'s> {
     },
     /// `{{ value }}`
     Print {
-        value: Box<Expression<'s>>,
+        value: Expression<'s>,
     },
     /// `{{ name }}`, which is read and kept without a box. The span is that of the name.
     PrintName {

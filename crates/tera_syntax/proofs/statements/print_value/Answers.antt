@@ -12,6 +12,6 @@ pub returns : goal.returns
 returns c =
     let s = progress_of c.args.progress.now in
     let i = begin c.args.progress.now.surroundings.in_loop (tokens_of c.args.tag.now) in
-    let x = expr_of c.in_ok-value.value.value in
+    let x = expr_of c.in_ok-value.value in
     let h : whole (room 200 s) i ≡ Some x = sym (ap₂ whole c.room.ensures c.begin-ahead.ensures) ∙ c.in_ok-value.ensures in
     subst (λ o. Becomes o c.add.result c.add.new.self) (sym (ap (printed 200 s) h ∙ put_read 200 s i x (Print x) h)) c.add.ensures

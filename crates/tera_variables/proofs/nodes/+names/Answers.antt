@@ -9,7 +9,7 @@ use Rattle.tera_variables.proofs.nodes.+names.Goals as goal
 
 pub add-returns-in_ok-add_all-in-If-2-clause-ok : goal.add-returns-in_ok-add_all-in-If-2-clause-ok
 add-returns-in_ok-add_all-in-If-2-clause-ok t c =
-    whole-node _ (If (expr_of c.deref-in-If.result.now) (nodes_of c.as_slice-in-If.result.now) (nodes_of c.as_slice.result.now)) _ _ _ (node_if _ c.in-If.condition c.in-If.body c.in-If.other _ _ c.in-If.is c.as_slice-in-If.ensures.value c.as_slice.ensures.value ∙ ap (λ y. If (expr_of y) (nodes_of c.as_slice-in-If.result.now) (nodes_of c.as_slice.result.now)) (sym c.deref-in-If.ensures)) (choice _ _ (nodes_of c.as_slice-in-If.result.now) (nodes_of c.as_slice.result.now) _ _ _ _ c.in_ok-add_all-in-If.ensures.ok c.in_ok-add_all-in-If-2.ensures.ok c.add_expression-in-If.ensures.ok)
+    whole-node _ (If (expr_of c.deref.result.now) (nodes_of c.as_slice-in-If.result.now) (nodes_of c.as_slice.result.now)) _ _ _ (node_if _ c.in-If.condition c.in-If.body c.in-If.other _ _ c.in-If.is c.as_slice-in-If.ensures.value c.as_slice.ensures.value ∙ ap (λ y. If (expr_of y) (nodes_of c.as_slice-in-If.result.now) (nodes_of c.as_slice.result.now)) (sym c.deref.ensures)) (choice _ _ (nodes_of c.as_slice-in-If.result.now) (nodes_of c.as_slice.result.now) _ _ _ _ c.in_ok-add_all-in-If.ensures.ok c.in_ok-add_all-in-If-2.ensures.ok c.add_expression-in-If.ensures.ok)
 
 pub add-returns-in-Set-clause-ok : goal.add-returns-in-Set-clause-ok
 add-returns-in-Set-clause-ok t c =

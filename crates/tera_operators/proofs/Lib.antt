@@ -2,3 +2,4 @@ pub mod Views
 pub mod Keeping
 pub mod Spreading
 pub mod Listing
+pub mod Undefined

@@ -1,5 +1,5 @@
 -- What operators give.
-use Rattle.std.specs.Prelude.{ℤ, pos, Bool, false, cond, not, ◌++◌, Result, Ok}
+use Rattle.std.specs.Prelude.{ℤ, pos, Bool, true, false, cond, not, ◌++◌, Result, Ok}
 use Rattle.std.specs.declared.cmp.Ordering.{Ordering}
 use Rattle.std.specs.Ordering.{int_eq, is_lt, is_gt, is_le, is_ge}
 use Rattle.tera_errors.specs.declared.span.Span.{Span}
@@ -74,6 +74,16 @@ module _ {C : Type 0} (alphabet : Alphabet C) where
   binary_in file op.LessOrEqual a b span = compared_in file is_le a b
   binary_in file op.GreaterOrEqual a b span = compared_in file is_ge a b
   binary_in file op.In a b span = contained_in file a b span
+
+-- whether an operator tells if its operands are the same, or how they stand in order
+abbrev pub is_comparison : BinaryOperator → Bool
+is_comparison op.Equal = true
+is_comparison op.NotEqual = true
+is_comparison op.Less = true
+is_comparison op.Greater = true
+is_comparison op.LessOrEqual = true
+is_comparison op.GreaterOrEqual = true
+is_comparison other = false
 
 -- of texts of bytes
 abbrev pub negative_of : Name → Evaluated → Outcome

@@ -1,15 +1,16 @@
 // Truth, equality and order.
-ghost use Rattle.std.specs.Prelude.{◌≡◌, Bool, IsOk};
+ghost use Rattle.std.specs.Prelude.{◌≡◌, Bool, IsOk, IsTrue};
+ghost use Rattle.tera_errors.specs.declared.span.Span.{Span};
 ghost use Rattle.tera_errors.specs.Answer.{Gives};
 ghost use Rattle.tera_values.specs.Val.{bool};
-ghost use Rattle.tera_values.specs.Order.{checked_order};
+ghost use Rattle.tera_values.specs.Order.{checked_order, same};
 ghost use Rattle.tera_operators.specs.Operand.{spanning};
-ghost use Rattle.tera_operators.specs.Operators.{not_of, standing_of, compared};
+ghost use Rattle.tera_operators.specs.Operators.{not_of, standing_of, compared, is_comparison, binary_of};
 
-use crate::operand::Operand;
-use crate::place::spanning;
+use crate::operand::{LentOperand, Operand};
 use std::alloc::Global;
 use std::cmp::Ordering;
+use tera_syntax_tree::BinaryOperator;
 use tera_values::{Error, Shape, TeraResult, Value};
 
 /// `not operand`: a truth value, at the operand's span.
@@ -22,12 +23,87 @@ pub fn not(operand: &Operand) -> Operand
     )
 }
 
+/// Whether an operator compares: it tells whether its operands are the same, or how they stand in order.
+#[inline(always)]
+pub fn is_comparison(operator: BinaryOperator) -> bool
+    ensures { result ≡ is_comparison operator }
+{
+    match operator {
+        BinaryOperator::Equal
+        | BinaryOperator::NotEqual
+        | BinaryOperator::Less
+        | BinaryOperator::Greater
+        | BinaryOperator::LessOrEqual
+        | BinaryOperator::GreaterOrEqual => true,
+        _ => false,
+    }
+}
+
+impl<'v> LentOperand<'v> {
+    /// What an operator that compares makes of this operand and of one on its right: a truth value at the combined span. Nothing
+    /// is copied, and no answer but a fault takes memory.
+    #[inline(always)]
+    pub fn compare(
+        &self,
+        alloc: Global,
+        file: &str,
+        operator: BinaryOperator,
+        right: &LentOperand<'_>,
+    ) -> TeraResult<Operand>
+        requires { IsTrue (is_comparison operator) }
+        ensures value { (span : Span) →
+            Gives (λ o. o) result (binary_of file.now operator self.now right.now span) }
+        ensures ready { (span : Span) →
+            IsOk (binary_of file.now operator self.now right.now span) → IsOk result }
+    {
+        match operator {
+            BinaryOperator::Equal => Ok(truth(self.is_same(right), self, right)),
+            BinaryOperator::NotEqual => Ok(truth(!self.is_same(right), self, right)),
+            BinaryOperator::Less => compared(alloc, file, self, right, Ordering::is_lt),
+            BinaryOperator::Greater => compared(alloc, file, self, right, Ordering::is_gt),
+            BinaryOperator::LessOrEqual => compared(alloc, file, self, right, Ordering::is_le),
+            BinaryOperator::GreaterOrEqual => compared(alloc, file, self, right, Ordering::is_ge),
+            _ => unreachable!(),
+        }
+    }
+
+    // Whether the two values are the same, as what is undefined is with nothing else.
+    #[inline(always)]
+    #[tactic(auto, using(crate::proofs::Undefined::undefined_is_same, crate::proofs::Undefined::same_undefined))]
+    fn is_same(&self, right: &LentOperand<'_>) -> bool
+        ensures { result ≡ same self.now.value right.now.value }
+    {
+        match self.value() {
+            None => right.is_undefined(),
+            Some(left) => match right.value() {
+                None => left.is_undefined(),
+                Some(right) => left == right,
+            },
+        }
+    }
+
+    // How the value stands to the right one; none where the two are not comparable, as what is undefined never is.
+    #[inline(always)]
+    #[tactic(auto, using(crate::proofs::Undefined::undefined_stands, crate::proofs::Undefined::stands_undefined))]
+    fn order(&self, right: &LentOperand<'_>) -> Option<Ordering>
+        ensures { result ≡ checked_order self.now.value right.now.value }
+    {
+        match self.value() {
+            None => None,
+            Some(left) => match right.value() {
+                None => None,
+                Some(right) => order_of(left, right),
+            },
+        }
+    }
+}
+
 /// A truth value at the combined span.
 #[inline(always)]
-pub(crate) fn truth(flag: bool, left: &Operand, right: &Operand) -> Operand
+fn truth(flag: bool, left: &LentOperand<'_>, right: &LentOperand<'_>) -> Operand
     ensures { result ≡ record { value = bool flag; span = spanning left.now right.now } }
 {
-    Operand::new(Value::from_bool(flag), spanning(left, right))
+    Operand::new(Value::from_bool(flag), left.span_to(right))
 }
 
 /// How the left value stands to the right one; none where the two are not comparable. Two integers are compared in place.
@@ -46,33 +122,33 @@ fn order_of(left: &Value, right: &Value) -> Option<Ordering>
 
 /// How the left operand stands to the right one; a fault at the combined span where the two are not comparable.
 #[inline(always)]
-pub(crate) fn standing(
+fn standing(
     alloc: Global,
     file: &str,
-    left: &Operand,
-    right: &Operand,
+    left: &LentOperand<'_>,
+    right: &LentOperand<'_>,
 ) -> TeraResult<Ordering>
     ensures value { Gives (λ o. o) result (standing_of file.now left.now right.now) }
     ensures ready { IsOk (standing_of file.now left.now right.now) → IsOk result }
 {
-    match order_of(left.value(), right.value()) {
+    match left.order(right) {
         Some(standing) => Ok(standing),
         None => Err(Error::rendering(
             alloc,
             "the operands are not comparable",
             file,
-            spanning(left, right),
+            left.span_to(right),
         )),
     }
 }
 
 /// Whether the test holds of how the left operand stands to the right one, at the combined span.
 #[inline(always)]
-pub(crate) fn compared<F: FnOnce(Ordering) -> bool>(
+fn compared<F: FnOnce(Ordering) -> bool>(
     alloc: Global,
     file: &str,
-    left: &Operand,
-    right: &Operand,
+    left: &LentOperand<'_>,
+    right: &LentOperand<'_>,
     holds: F,
 ) -> TeraResult<Operand>
     requires { F.IsAlwaysCallable holds }

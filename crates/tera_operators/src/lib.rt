@@ -18,7 +18,7 @@ pub use access::{attribute, item, slice};
 pub use arithmetic::negative;
 pub use arrays::array;
 pub use calls::{arguments, operand_or_call_fault};
-pub use compare::not;
+pub use compare::{is_comparison, not};
 pub use listed::Entries;
 pub use maps::{entries, map};
 pub use operand::{LentOperand, Operand};

@@ -3,7 +3,7 @@ ghost use Rattle.std.specs.Prelude.{◌≡◌, Ok, IsOk, option_copied, unwrap_o
 ghost use Rattle.tera_errors.specs.Answer.{Gives};
 ghost use Rattle.tera_values.specs.Access.{IsScalar, is_undefined, truthy};
 ghost use Rattle.tera_values.specs.Val.{undefined};
-ghost use Rattle.tera_operators.specs.Operand.{Evaluated};
+ghost use Rattle.tera_operators.specs.Operand.{Evaluated, spanning};
 
 use std::marker::Model;
 use tera_values::{Span, TeraResult, Value};
@@ -117,6 +117,17 @@ impl<'v> LentOperand<'v> {
         ensures { result ≡ self.now.span }
     {
         self.span
+    }
+
+    /// From its start to the end of one on its right.
+    #[inline(always)]
+    pub(crate) fn span_to(&self, right: &LentOperand<'_>) -> Span
+        ensures { result ≡ spanning self.now right.now }
+    {
+        Span {
+            start: self.span.start,
+            end: right.span.end,
+        }
     }
 
     /// Whether it is undefined.

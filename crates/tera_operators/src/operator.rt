@@ -4,12 +4,10 @@ ghost use Rattle.tera_errors.specs.Answer.{Gives};
 ghost use Rattle.tera_operators.specs.Operators.{binary_of};
 
 use crate::arithmetic::{calculated, combined, divided};
-use crate::compare::{compared, truth};
 use crate::membership::is_in;
 use crate::operand::Operand;
 use crate::text::concatenate;
 use std::alloc::Global;
-use std::cmp::Ordering;
 use tera_syntax_tree::BinaryOperator;
 use tera_values::number::{add, div, floor_div, mul, pow, rem, sub};
 use tera_values::{Span, TeraResult};
@@ -39,12 +37,14 @@ pub fn binary(
         BinaryOperator::FloorDivide => divided(alloc, file, floor_div(alloc, a, b), left, right),
         BinaryOperator::Remainder => divided(alloc, file, rem(alloc, a, b), left, right),
         BinaryOperator::Concat => concatenate(alloc, left, right),
-        BinaryOperator::Equal => Ok(truth(a == b, left, right)),
-        BinaryOperator::NotEqual => Ok(truth(a != b, left, right)),
-        BinaryOperator::Less => compared(alloc, file, left, right, Ordering::is_lt),
-        BinaryOperator::Greater => compared(alloc, file, left, right, Ordering::is_gt),
-        BinaryOperator::LessOrEqual => compared(alloc, file, left, right, Ordering::is_le),
-        BinaryOperator::GreaterOrEqual => compared(alloc, file, left, right, Ordering::is_ge),
+        BinaryOperator::Equal
+        | BinaryOperator::NotEqual
+        | BinaryOperator::Less
+        | BinaryOperator::Greater
+        | BinaryOperator::LessOrEqual
+        | BinaryOperator::GreaterOrEqual => {
+            left.lend().compare(alloc, file, operator, &right.lend())
+        }
         BinaryOperator::In => is_in(alloc, file, left, right, span),
     }
 }

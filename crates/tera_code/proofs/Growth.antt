@@ -29,7 +29,7 @@ boundary_stays bs ds i u v b =
     let long : i ≤ length (bs ++ ds) = omega (arith, length-append bs ds, b.0) in
     IsCharBoundary-from_take (bs ++ ds) i v long (subst IsUtf8 (sym (take-append-le i bs ds b.0)) (IsUtf8-take bs i u b))
 
-pub slice_stays : (bs ds : List ℕ) (i j : ℕ) → i ≤ j → j ≤ length bs → take (j - i) (drop i (bs ++ ds)) ≡ take (j - i) (drop i bs)
+pub slice_stays : {X : Type 0} (bs ds : List X) (i j : ℕ) → i ≤ j → j ≤ length bs → take (j - i) (drop i (bs ++ ds)) ≡ take (j - i) (drop i bs)
 slice_stays bs ds i j l m =
     let k : i ≤ length bs = omega (arith, l, m) in
     let n : j - i ≤ length (drop i bs) = omega (arith, length-drop i bs, l, m) in
@@ -64,11 +64,14 @@ boundary_longer : (bs cs : Text) (i : ℕ) → IsUtf8 bs → IsUtf8 cs → Longe
 boundary_longer bs cs i u v g b =
     subst (λ x. IsCharBoundary x i) (sym g) (boundary_stays bs (drop (length bs) cs) i u (subst IsUtf8 g v) b)
 
-slice_longer : (bs cs : Text) (i j : ℕ) → Longer bs cs → i ≤ j → j ≤ length bs → take (j - i) (drop i cs) ≡ take (j - i) (drop i bs)
+slice_longer : {X : Type 0} (bs cs : List X) (i j : ℕ) → Longer bs cs → i ≤ j → j ≤ length bs → take (j - i) (drop i cs) ≡ take (j - i) (drop i bs)
 slice_longer bs cs i j g l m = ap (λ x. take (j - i) (drop i x)) g ∙ slice_stays bs (drop (length bs) cs) i j l m
 
 below_longer : {X : Type 0} (xs ys : List X) (n : ℕ) → Longer xs ys → n < length xs → n < length ys
 below_longer xs ys n g l = omega (arith, ap length g, length-append xs (drop (length xs) ys), l)
+
+to_longer : {X : Type 0} (xs ys : List X) (n : ℕ) → Longer xs ys → n ≤ length xs → n ≤ length ys
+to_longer xs ys n g l = omega (arith, ap length g, length-append xs (drop (length xs) ys), l)
 
 at_longer : {X : Type 0} (xs ys : List X) (n : ℕ) (d : X) → Longer xs ys → n < length xs → get_or ys n d ≡ get_or xs n d
 at_longer xs ys n d g l = ap (λ z. get_or z n d) g ∙ get_or_append_left xs (drop (length xs) ys) d n l
@@ -118,7 +121,7 @@ module _ (s t : Shelf) (u : IsUtf8 s.pool) (v : IsUtf8 t.pool) (g : Grows s t) w
   within_stays packed.Not w = tt
   within_stays packed.Negate w = tt
   within_stays (packed.Binary operator span) w = below_span span w
-  within_stays (packed.MakeArray spreads span) w = (below_longer s.spreads t.spreads spreads g.1.1.1.0 w.0, below_span span w.1)
+  within_stays (packed.MakeArray start end span) w = (w.0, to_longer s.spreads t.spreads end g.1.1.1.0 w.1, below_span span w.2)
   within_stays (packed.MakeMap keys span) w = (below_longer s.keys t.keys keys g.1.1.1.1.0 w.0, below_span span w.1)
   within_stays (packed.Store name is_global) w = below_name name w
   within_stays (packed.StartLoop counts names size) w = below_longer s.loops t.loops names g.1.1.1.1.1.1.0 w
@@ -159,7 +162,7 @@ module _ (s t : Shelf) (u : IsUtf8 s.pool) (v : IsUtf8 t.pool) (g : Grows s t) w
   unpacked_stays packed.Not w = refl
   unpacked_stays packed.Negate w = refl
   unpacked_stays (packed.Binary operator span) w = ap (λ y. instruction.Binary operator y) (span_same span w)
-  unpacked_stays (packed.MakeArray spreads span) w = ap₂ (λ x y. instruction.MakeArray x y) (at_longer s.spreads t.spreads spreads _ g.1.1.1.0 w.0) (span_same span w.1)
+  unpacked_stays (packed.MakeArray start end span) w = ap₂ (λ x y. instruction.MakeArray x y) (slice_longer s.spreads t.spreads start end g.1.1.1.0 w.0 w.1) (span_same span w.2)
   unpacked_stays (packed.MakeMap keys span) w = ap₂ (λ x y. instruction.MakeMap x y) (at_longer s.keys t.keys keys _ g.1.1.1.1.0 w.0) (span_same span w.1)
   unpacked_stays (packed.Store name is_global) w = ap (λ x. instruction.Store x is_global) (name_same name w)
   unpacked_stays (packed.StartLoop counts names size) w =

@@ -1,9 +1,12 @@
 -- What an instruction tells where it is asked for its parts; none where it is another one.
-use Rattle.std.specs.Prelude.{ℕ, ℤ, Bool, true, false, Option, Some, None, option_map}
+use Rattle.std.specs.Prelude.{◌≡◌, ℕ, ℤ, ◌+◌, Bool, true, false, ◌||◌, cond, IsTrue, List, Option, Some, None, is_some, option_map, option_and_then, slice_get, unwrap_or}
 use Rattle.tera_errors.specs.Site as site
 use Rattle.tera_errors.specs.declared.span.Span.{Span}
 use Rattle.tera_syntax_tree.specs.declared.expression.BinaryOperator.{BinaryOperator}
+use Rattle.tera_values.specs.Val.{Val}
+use Rattle.tera_operators.specs.Operators.{is_comparison}
 use Rattle.tera_code.specs.Constant.{small_integer}
+use Rattle.tera_code.specs.declared.comparison.Comparison.{Comparison}
 use Rattle.tera_code.specs.declared.instruction.Instruction.{Instruction}
 use Rattle.tera_code.specs.declared.instruction.Instruction.TheVariants as instruction
 
@@ -26,6 +29,11 @@ loaded_name other = None
 abbrev pub loaded_integer : Instruction → Option (ℤ × Span)
 loaded_integer (instruction.LoadConst value span) = option_map (λ z. (z, span)) (small_integer value)
 loaded_integer other = None
+
+-- the constant that it puts on top of the operands
+abbrev pub loaded_constant : Instruction → Option (Val × Span)
+loaded_constant (instruction.LoadConst value span) = Some (value, span)
+loaded_constant other = None
 
 -- the attribute that it takes, and whether it may be missing
 abbrev pub loaded_attribute : Instruction → Option (site.Name × Bool × Span)
@@ -72,6 +80,27 @@ uses_top (instruction.LoadAttribute name optional span) = true
 uses_top instruction.WriteTop = true
 uses_top (instruction.PopJumpIfFalse skip) = true
 uses_top other = false
+
+-- the two instructions at a place compare the topmost operand with a constant
+pub record Compares (code : List Instruction) (at : ℕ) (c : Comparison) : Type 0 where
+  pub loads : slice_get code at ≡ Some (instruction.LoadConst c.constant c.constant_span)
+  pub applies : slice_get code (at + 1) ≡ Some (instruction.Binary c.operator c.span)
+  pub compares : IsTrue (is_comparison c.operator)
+
+-- a constant, and an operator behind it that compares
+abbrev pub comparison_of : Val × Span → BinaryOperator × Span → Option Comparison
+comparison_of c o =
+    cond (is_comparison o.0) (Some (record { constant = c.0; constant_span = c.1; operator = o.0; span = o.1 })) None
+
+-- the comparison that the two instructions at a place make, if they do
+abbrev pub comparison_at : List Instruction → ℕ → Option Comparison
+comparison_at code at =
+    option_and_then (λ c. option_and_then (comparison_of c) (option_and_then applied_operator (slice_get code (at + 1)))) (option_and_then loaded_constant (slice_get code at))
+
+-- whether the topmost operand is used up at a place, by the instruction there or by such a comparison
+abbrev pub uses_top_at : List Instruction → ℕ → Bool
+uses_top_at code at =
+    unwrap_or (option_map uses_top (slice_get code at)) false || is_some (comparison_at code at)
 
 abbrev pub is_next_turn : Instruction → Bool
 is_next_turn instruction.NextTurn = true

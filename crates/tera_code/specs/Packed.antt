@@ -20,7 +20,7 @@ pub record Shelf : Type 0 where
   pub pool : Text
   pub names : List Text
   pub constants : List Val
-  pub spreads : List (List Bool)
+  pub spreads : List Bool
   pub keys : List (List (Option Key))
   pub spans : List Span
   pub loops : List LoopNames
@@ -35,7 +35,7 @@ shelf_of t =
       pool = string_bytes t.pool;
       names = t.names.items;
       constants = t.constants.items;
-      spreads = map (λ v. v.items) t.spreads.items;
+      spreads = t.spreads.items;
       keys = map (λ v. keys_of v.items) t.keys.items;
       spans = t.spans.items;
       loops = t.loops.items;
@@ -75,7 +75,7 @@ unpacked s (packed.Slice optional span) = instruction.Slice optional (span_at s 
 unpacked s packed.Not = instruction.Not
 unpacked s packed.Negate = instruction.Negate
 unpacked s (packed.Binary operator span) = instruction.Binary operator (span_at s span)
-unpacked s (packed.MakeArray spreads span) = instruction.MakeArray (get_or s.spreads spreads []) (span_at s span)
+unpacked s (packed.MakeArray start end span) = instruction.MakeArray (take (end - start) (drop start s.spreads)) (span_at s span)
 unpacked s (packed.MakeMap keys span) = instruction.MakeMap (get_or s.keys keys []) (span_at s span)
 unpacked s (packed.Store name is_global) = instruction.Store (name_at s name) is_global
 unpacked s (packed.StartLoop counts names size) = instruction.StartLoop (loop_at s names).key (loop_at s names).name counts size
@@ -119,7 +119,7 @@ Within s (packed.Slice optional span) = span < length s.spans
 Within s packed.Not = Unit {0}
 Within s packed.Negate = Unit {0}
 Within s (packed.Binary operator span) = span < length s.spans
-Within s (packed.MakeArray spreads span) = (spreads < length s.spreads) × (span < length s.spans)
+Within s (packed.MakeArray start end span) = (start ≤ end) × (end ≤ length s.spreads) × (span < length s.spans)
 Within s (packed.MakeMap keys span) = (keys < length s.keys) × (span < length s.spans)
 Within s (packed.Store name is_global) = name < length s.names
 Within s (packed.StartLoop counts names size) = names < length s.loops

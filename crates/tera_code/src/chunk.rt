@@ -1,21 +1,24 @@
 // The instructions of one body.
 ghost use Rattle.std.specs.Prelude.{◌≡◌, ◌+◌, ◌<◌, ◌^◌, [], ◌∷◌, cond, false, length, slice_get, OnOk, IfSome, IsTrue, MatchOption, Some, None, option_map, option_and_then, unwrap_or};
-ghost use Rattle.tera_code.specs.Asked.{loaded_attribute, is_write_top, jump_length_if_false, uses_top};
+ghost use Rattle.tera_code.specs.Asked.{loaded_attribute, is_write_top, jump_length_if_false, Compares, comparison_at, uses_top_at};
 ghost use Rattle.tera_code.specs.Called.{callee_of, called_by};
 ghost use Rattle.tera_code.specs.Code.{lengthened};
 ghost use Rattle.tera_code.specs.declared.instruction.Instruction.TheVariants as instruction;
 ghost use Rattle.tera_code.specs.Places.{filled};
 
 use crate::callee::Callee;
+use crate::comparison::Comparison;
 use crate::content::Text;
 use crate::instruction::Instruction;
 use crate::lent::LentInstruction;
 use crate::packed::{Packed, Tables};
 use crate::reference::Reference;
+use crate::room::Room;
 use crate::steps::Steps;
 use std::alloc::{AllocError, Global};
 use std::marker::Model;
 use std::sync::ledger::Ledger;
+use tera_operators::is_comparison;
 use tera_values::{Name, Sought, Span};
 
 /// The instructions of a body, and the name of the template in whose text it stands.
@@ -132,16 +135,54 @@ impl Chunk {
         counted(self.lent(at)?.as_pop_jump_if_false(), steps)
     }
 
-    /// Whether the instruction at this place takes an attribute of the topmost operand, puts that out or tests it. None is handed
-    /// out, so that none is counted.
+    /// The comparison of the topmost operand with a constant that the two instructions at this place make, which are counted where
+    /// they make one.
+    #[inline(always)]
+    pub fn comparison_at<L: Ledger>(
+        &self,
+        at: usize,
+        steps: &mut Steps<L>,
+    ) -> Option<Comparison<'_>>
+        ensures means { IfSome result (Compares self.now.code at) }
+        ensures exact { result ≡ comparison_at self.now.code at }
+        ensures count { MatchOption result (steps.new ≡ steps.old)
+            (λ _. steps.new ≡ steps.old + 2) }
+    {
+        let comparison = self.comparison(at)?;
+        steps.tick();
+        steps.tick();
+        Some(comparison)
+    }
+
+    /// Whether the topmost operand is used up at this place: the instruction there takes an attribute of it, puts it out or tests
+    /// it, or it is compared with a constant. No instruction is handed out, so that none is counted.
     #[inline(always)]
     pub fn uses_top_at(&self, at: usize) -> bool
-        ensures { result ≡ unwrap_or (option_map uses_top (slice_get self.now.code at)) false }
+        ensures { result ≡ uses_top_at self.now.code at }
     {
         match self.lent(at) {
-            Some(instruction) => instruction.uses_top(),
+            Some(instruction) => instruction.uses_top() || self.comparison(at).is_some(),
             None => false,
         }
+    }
+
+    // The comparison that the two instructions at this place make, which are not counted.
+    #[inline(always)]
+    fn comparison(&self, at: usize) -> Option<Comparison<'_>>
+        ensures means { IfSome result (Compares self.now.code at) }
+        ensures exact { result ≡ comparison_at self.now.code at }
+    {
+        let (constant, constant_span) = self.lent(at)?.as_constant()?;
+        let (operator, span) = self.lent(at + 1)?.as_binary()?;
+        if !is_comparison(operator) {
+            return None;
+        }
+        Some(Comparison {
+            constant,
+            constant_span,
+            operator,
+            span,
+        })
     }
 
     /// How many instructions there are.
@@ -173,12 +214,11 @@ impl Chunk {
         }
     }
 
-    // Room for so many instructions and bytes of text. Every other instruction has a span, or more than one of them.
-    pub(crate) fn make_room(&mut self, instructions: usize, bytes: usize) -> Result<(), AllocError>
+    pub(crate) fn make_room(&mut self, room: Room) -> Result<(), AllocError>
         ensures same { self.new ≡ self.old }
     {
-        self.code.reserve(instructions)?;
-        self.tables.make_room(instructions / 2, bytes)
+        self.code.reserve(room.instructions)?;
+        self.tables.make_room(room.spans, room.bytes)
     }
 
     // Inlined, as is what it stands on: each caller names one form, and no other one is looked for.

@@ -2,15 +2,20 @@
 ghost use Rattle.std.specs.Prelude.{◌≡◌, ◌<◌, [], ◌∷◌, OnOk, IfOk, length};
 ghost use Rattle.tera_values.specs.Val as val;
 ghost use Rattle.tera_code.specs.declared.instruction.Instruction.TheVariants as instruction;
-ghost use Rattle.tera_code.specs.Code.{lengthened};
+ghost use Rattle.tera_code.specs.Code.{lengthened, spreads_of};
+ghost use Rattle.tera_syntax_tree.specs.View.{items_of};
 ghost use Rattle.tera_code.specs.Places.{filled, behind};
 
 use crate::chunk::Chunk;
 use crate::constant::Constant;
+use crate::content::Spreads;
 use crate::instruction::Instruction;
+use crate::parts::note_spreads;
+use crate::room::Room;
 use std::alloc::{AllocError, Global};
 use std::marker::Model;
 use tera_errors::lacking;
+use tera_syntax_tree::Item;
 use tera_values::{Name, Sought, Span, Value};
 
 /// Writes the instructions of one body. A contract sees those that are written so far.
@@ -20,6 +25,8 @@ pub struct Compiler {
     chunk: Chunk,
     // where names of a kind were found last
     seen: [u32; 64],
+    // which items of the last array are spread: one room for all arrays
+    spreads: Vec<bool>,
 }
 
 impl Model for Compiler {
@@ -46,6 +53,7 @@ impl Compiler {
             alloc,
             chunk: Chunk::new(alloc, file),
             seen: [0; 64],
+            spreads: Vec::new(alloc),
         })
     }
 
@@ -57,6 +65,7 @@ impl Compiler {
             alloc: _,
             chunk,
             seen: _,
+            spreads: _,
         } = self;
         chunk
     }
@@ -65,11 +74,11 @@ impl Compiler {
         self.alloc
     }
 
-    // Room for so many instructions and bytes of text, so that what is written moves less often as it grows.
-    pub(crate) fn make_room(&mut self, instructions: usize, bytes: usize) -> Result<(), AllocError>
+    // So that what is written moves less often as it grows.
+    pub(crate) fn make_room(&mut self, room: Room) -> Result<(), AllocError>
         ensures same { self.new ≡ self.old }
     {
-        self.chunk.make_room(instructions, bytes)
+        self.chunk.make_room(room)
     }
 
     #[inline(always)]
@@ -94,6 +103,20 @@ impl Compiler {
     {
         self.chunk
             .emit_name(self.alloc, &mut self.seen, &Sought::new(name), span)
+    }
+
+    // The array of these items, which are loaded already.
+    pub(crate) fn make_array(&mut self, items: &[Item], span: Span) -> Result<(), AllocError>
+        ensures ok { OnOk result (self.new ≡ lengthened self.old
+            (instruction.MakeArray (spreads_of (items_of items.now)) span ∷ [])) }
+    {
+        note_spreads(&mut self.spreads, items)?;
+        let spreads = Spreads::new(self.spreads.as_slice());
+        self.chunk.emit(
+            self.alloc,
+            &mut self.seen,
+            Instruction::MakeArray(spreads, span),
+        )
     }
 
     // Keeps a place for a jump, whose length is known once what it passes is written.

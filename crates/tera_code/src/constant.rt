@@ -1,5 +1,5 @@
 // Values that are written out.
-ghost use Rattle.std.specs.Prelude.{◌≡◌, Ok, IsOk};
+ghost use Rattle.std.specs.Prelude.{◌≡◌, Ok, IsOk, IfSome, IfNone};
 ghost use Rattle.tera_errors.specs.Answer.{Gives};
 ghost use Rattle.tera_values.specs.Access.{IsScalar};
 ghost use Rattle.tera_values.specs.Val as val;
@@ -81,6 +81,18 @@ impl<'a> Constant<'a> {
     {
         Constant {
             kept: Kept::Shared(value),
+        }
+    }
+
+    /// The value where it lies beside the code; none where it stands in the instruction itself, so that it takes no memory.
+    #[inline(always)]
+    pub fn lent(&self) -> Option<&'a Value>
+        ensures value { IfSome result (λ value. value.now ≡ self.now) }
+        ensures small { IfNone result (IsScalar self.now) }
+    {
+        match self.kept {
+            Kept::Shared(value) => Some(value),
+            _ => None,
         }
     }
 

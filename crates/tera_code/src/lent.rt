@@ -3,12 +3,13 @@ ghost use Rattle.std.specs.Prelude.{◌≡◌, IfSome, IsTrue, option_map};
 ghost use Rattle.tera_values.specs.Val as val;
 ghost use Rattle.tera_code.specs.declared.instruction.Instruction.TheVariants as instruction;
 ghost use Rattle.tera_code.specs.Asked.{written_text, written_name, loaded_name, loaded_integer};
-ghost use Rattle.tera_code.specs.Asked.{loaded_attribute, applied_operator, bound_name};
+ghost use Rattle.tera_code.specs.Asked.{loaded_constant, loaded_attribute, applied_operator, bound_name};
 ghost use Rattle.tera_code.specs.Asked.{started_loop, ended_loop, jump_length, jump_length_if_false};
 ghost use Rattle.tera_code.specs.Asked.{is_write_top, is_next_turn, uses_top};
 ghost use Rattle.tera_code.specs.Called.{callee_of, called_by};
 
 use crate::callee::Callee;
+use crate::constant::Constant;
 use crate::content::{LentName, Text};
 use crate::instruction::Instruction;
 use crate::packed::{Packed, Tables};
@@ -106,6 +107,28 @@ impl<'a> LentInstruction<'a> {
         match *self.packed {
             Packed::LoadInt { span, number } => Some((number, self.tables.span(span))),
             Packed::LoadConst { .. } => None,
+            _ => None,
+        }
+    }
+
+    /// The constant that it puts on top of the operands.
+    #[inline(always)]
+    pub fn as_constant(&self) -> Option<(Constant<'a>, Span)>
+        ensures means { IfSome result (λ p. self.now ≡ instruction.LoadConst p.0 p.1) }
+        ensures exact { option_map (λ p. (p.0, p.1)) result ≡ loaded_constant self.now }
+    {
+        match *self.packed {
+            Packed::LoadNone { span } => Some((Constant::none(), self.tables.span(span))),
+            Packed::LoadBool { flag, span } => {
+                Some((Constant::from_bool(flag), self.tables.span(span)))
+            }
+            Packed::LoadInt { span, number } => {
+                Some((Constant::from_int(number), self.tables.span(span)))
+            }
+            Packed::LoadConst { constant, span } => {
+                let value = &self.tables.constants[constant as usize];
+                Some((Constant::shared(value), self.tables.span(span)))
+            }
             _ => None,
         }
     }

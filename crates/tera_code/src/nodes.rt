@@ -11,6 +11,7 @@ use crate::compiler::Compiler;
 use crate::content::LentName;
 use crate::instruction::Instruction;
 use crate::parts::is_context;
+use crate::room::Room;
 use std::alloc::{AllocError, Global};
 use tera_errors::lacking;
 use tera_syntax_tree::{Entry, Expression, Node};
@@ -22,7 +23,7 @@ impl Compiler {
         ensures ok { OnOk result (self.new ≡ lengthened self.old
             (nodes_code (nodes_of nodes.now) 0)) }
     {
-        self.make_room(nodes.len(), text_size(nodes))?;
+        self.make_room(Room::of(nodes))?;
         self.nodes(nodes, 0)
     }
 
@@ -187,17 +188,6 @@ impl Compiler {
             }
         }
     }
-}
-
-// How many bytes of text the nodes put out themselves.
-fn text_size(nodes: &[Node]) -> usize {
-    let mut size = 0usize;
-    for node in nodes {
-        if let Node::Content { text, span: _ } = node {
-            size = size.saturating_add(text.len());
-        }
-    }
-    size
 }
 
 /// The code of these nodes, which stand in the text of the template of this name.

@@ -68,7 +68,8 @@ pub(crate) enum Packed {
         span: u32,
     },
     MakeArray {
-        spreads: u32,
+        start: u32,
+        end: u32,
         span: u32,
     },
     MakeMap {
@@ -155,7 +156,8 @@ pub(crate) struct Tables {
     pub(crate) pool: String,
     pub(crate) names: Vec<Name>,
     pub(crate) constants: Vec<Value>,
-    pub(crate) spreads: Vec<Vec<bool>>,
+    // which items are spread, of one array behind the other
+    pub(crate) spreads: Vec<bool>,
     pub(crate) keys: Vec<Vec<Option<OwnedKey>>>,
     pub(crate) spans: Vec<Span>,
     pub(crate) loops: Vec<LoopNames>,
@@ -299,21 +301,16 @@ impl Tables {
         Ok(Packed::WriteName { name, span })
     }
 
-    fn make_array(
-        &mut self,
-        alloc: Global,
-        spreads: &Spreads<'_>,
-        span: Span,
-    ) -> Result<Packed, AllocError>
+    fn make_array(&mut self, spreads: &Spreads<'_>, span: Span) -> Result<Packed, AllocError>
         ensures grows { Grows (shelf_of self.old) (shelf_of self.new) }
         ensures ok { IfOk result (λ p. Packs (shelf_of self.new) p
             (instruction.MakeArray spreads.now span)) }
     {
-        let mut flags = Vec::new(alloc);
-        flags.extend_from_slice(spreads.as_slice())?;
-        let spreads = number(&mut self.spreads, flags)?;
+        let start = small(self.spreads.len())?;
+        self.spreads.extend_from_slice(spreads.as_slice())?;
+        let end = small(self.spreads.len())?;
         let span = number(&mut self.spans, span)?;
-        Ok(Packed::MakeArray { spreads, span })
+        Ok(Packed::MakeArray { start, end, span })
     }
 
     fn make_map(&mut self, alloc: Global, keys: &Keys<'_>, span: Span) -> Result<Packed, AllocError>
@@ -489,7 +486,7 @@ impl Tables {
                 let span = number(&mut self.spans, span)?;
                 Ok(Packed::Binary { operator, span })
             }
-            Instruction::MakeArray(spreads, span) => self.make_array(alloc, &spreads, span),
+            Instruction::MakeArray(spreads, span) => self.make_array(&spreads, span),
             Instruction::MakeMap(keys, span) => self.make_map(alloc, &keys, span),
             Instruction::Store { name, is_global } => self.store(&name, is_global),
             Instruction::StartLoop {

@@ -9,7 +9,7 @@ ghost use Rattle.tera_syntax_tree.specs.View.{items_of, entries_of, key_option, 
 
 use crate::compiler::Compiler;
 use crate::constant::Constant;
-use crate::content::{Keys, Spreads, Text};
+use crate::content::{Keys, Text};
 use crate::instruction::Instruction;
 use std::alloc::{AllocError, Global};
 use tera_errors::lacking;
@@ -63,14 +63,6 @@ impl Compiler {
         Ok(next)
     }
 
-    pub(crate) fn make_array(&mut self, items: &[Item], span: Span) -> Result<(), AllocError>
-        ensures ok { OnOk result (self.new ≡ lengthened self.old
-            (instruction.MakeArray (spreads_of (items_of items.now)) span ∷ [])) }
-    {
-        let spreads = spreads(self.alloc(), items)?;
-        self.emit(Instruction::MakeArray(Spreads::new(spreads.as_slice()), span))
-    }
-
     pub(crate) fn make_map(&mut self, entries: &[Entry], span: Span) -> Result<(), AllocError>
         ensures ok { OnOk result (self.new ≡ lengthened self.old
             (instruction.MakeMap (keys_in (entries_of entries.now)) span ∷ [])) }
@@ -87,14 +79,15 @@ pub(crate) fn is_context(name: &str) -> bool
     name == "__tera_context"
 }
 
-fn spreads(alloc: Global, items: &[Item]) -> Result<Vec<bool>, AllocError>
-    ensures { IfOk result (λ s. s.items ≡ spreads_of (items_of items.now)) }
+// Which of the items are spread.
+pub(crate) fn note_spreads(flags: &mut Vec<bool>, items: &[Item]) -> Result<(), AllocError>
+    ensures { OnOk result (flags.new.items ≡ spreads_of (items_of items.now)) }
 {
-    let mut flags = Vec::new(alloc);
+    flags.clear();
     for item in items {
         flags.push(item.is_spread)?;
     }
-    Ok(flags)
+    Ok(())
 }
 
 pub(crate) fn keys(alloc: Global, entries: &[Entry]) -> Result<Vec<Option<OwnedKey>>, AllocError>

@@ -143,9 +143,9 @@ impl Tables {
             Packed::Not => Instruction::Not,
             Packed::Negate => Instruction::Negate,
             Packed::Binary { operator, span } => Instruction::Binary(operator, self.span(span)),
-            Packed::MakeArray { spreads, span } => {
-                let spreads = &self.spreads[spreads as usize];
-                Instruction::MakeArray(Spreads::new(spreads.as_slice()), self.span(span))
+            Packed::MakeArray { start, end, span } => {
+                let spreads = &self.spreads[start as usize..end as usize];
+                Instruction::MakeArray(Spreads::new(spreads), self.span(span))
             }
             Packed::MakeMap { keys, span } => {
                 let keys = &self.keys[keys as usize];

@@ -1,0 +1,14 @@
+// Comparisons with a constant.
+use crate::constant::Constant;
+use tera_syntax_tree::BinaryOperator;
+use tera_values::Span;
+
+/// What the topmost operand is compared with, and how. The constant is its right operand.
+#[derive(Drop)]
+pub struct Comparison<'a> {
+    pub constant: Constant<'a>,
+    /// Where the constant stands.
+    pub constant_span: Span,
+    pub operator: BinaryOperator,
+    pub span: Span,
+}

@@ -16,6 +16,8 @@ use Rattle.tera_state.specs.Scope.{look}
 use Rattle.tera_operators.specs.Operand.{Evaluated}
 use Rattle.tera_operators.specs.Accesses.{attribute_of}
 use Rattle.tera_meaning.specs.Here.{Here}
+use Rattle.tera_code.specs.Asked.{Compares}
+use Rattle.tera_code.specs.declared.comparison.Comparison.{Comparison}
 use Rattle.tera_code.specs.declared.instruction.Instruction.{Instruction}
 use Rattle.tera_code.specs.declared.instruction.Instruction.TheVariants as instruction
 use Rattle.tera_objects.specs.Engine.{Engine}
@@ -29,11 +31,8 @@ use Rattle.tera_machine.specs.Did.{Goes, Faults, holding, pushed, outcome, with_
 use Rattle.tera_machine.specs.Act.{act, Acted, Does, put_out}
 use Rattle.tera_machine.specs.Exec.{Code}
 use Rattle.tera_machine.specs.Together.{done, WentOn}
-use Rattle.tera_machine.specs.Paths.{Start, Stands, Reaches, Breaks, start_at}
+use Rattle.tera_machine.specs.Paths.{Start, Stands, Comes, Reaches, Breaks, start_at, topped, constant_of, truth_of}
 use Rattle.tera_machine.proofs.Together.{done_next}
-
-abbrev lies : Start → Evaluated → Config
-lies s a = holding (a ∷ s.config.operands) s.config
 
 -- an instruction alone
 pub alone_did : (here : Here) (code : Code) (c : Config) (at n : ℕ) (i : Instruction) → slice_get code at ≡ Some i → done here code (suc (n - n)) at c ≡ act here (at + 1) i c
@@ -67,7 +66,7 @@ begins {here} {code} {c} {at} {n} {name} {sought} {span} {found} e is l same =
       did = alone_did here code c at n _ e ∙ ap (λ v. pushed v span c) stands_for ∙ ap (λ b. Goes (holding (b ∷ c.operands) c) On) (sym same);
     }
 
-module _ {s : Start} {code : Code} {at n : ℕ} {a : Evaluated} (r : Reaches s code at n a) {i : Instruction} {at2 n2 : ℕ} (e : slice_get code (at + 1) ≡ Some i) (p : at2 ≡ at + 1) (m : n2 ≡ n + 1) where
+module _ {s : Start} {code : Code} {at n : ℕ} {c : Config} (r : Comes s code at n c) {i : Instruction} {at2 n2 : ℕ} (e : slice_get code (at + 1) ≡ Some i) (p : at2 ≡ at + 1) (m : n2 ≡ n + 1) where
   -- one more, which stands behind
   pub more : Stands s code at2 n2
   more =
@@ -80,14 +79,14 @@ module _ {s : Start} {code : Code} {at n : ℕ} {a : Evaluated} (r : Reaches s c
       }
 
   -- what it does
-  pub more_did : done s.here code (suc (n2 - s.count)) s.at s.config ≡ act s.here (at2 + 1) i (lies s a)
+  pub more_did : done s.here code (suc (n2 - s.count)) s.at s.config ≡ act s.here (at2 + 1) i c
   more_did =
       let k : suc (n - s.count) ≡ n2 - s.count = omega (arith, r.stands.counted, m) in
       let q : at + 1 ≡ s.at + suc (n - s.count) = omega (arith, r.stands.place) in
       let z : s.at + suc (n - s.count) + 1 ≡ at2 + 1 = omega (arith, r.stands.place, p) in
-      subst (λ j. done s.here code (suc j) s.at s.config ≡ act s.here (at2 + 1) i (lies s a)) k
-      (done_next s.here code (suc (n - s.count)) s.at s.config (lies s a) i r.did (subst (λ x. slice_get code x ≡ Some i) q e)
-      ∙ ap (λ x. act s.here x i (lies s a)) z)
+      subst (λ j. done s.here code (suc j) s.at s.config ≡ act s.here (at2 + 1) i c) k
+      (done_next s.here code (suc (n - s.count)) s.at s.config c i r.did (subst (λ x. slice_get code x ≡ Some i) q e)
+      ∙ ap (λ x. act s.here x i c) z)
 
 module _ {s : Start} {code : Code} {at n : ℕ} {a : Evaluated} (r : Reaches s code at n a) {name : site.Name} {optional : Bool} {span : Span} {at2 n2 : ℕ} (e : slice_get code (at + 1) ≡ Some (instruction.LoadAttribute name optional span)) (p : at2 ≡ at + 1) (m : n2 ≡ n + 1) {file file2 name2 : site.Name} (f : s.here.file ≡ file) (f2 : file2 ≡ file) (g2 : name2 ≡ name) where
   same : attribute_of s.here.file optional a name span ≡ attribute_of file2 optional a name2 span
@@ -97,13 +96,52 @@ module _ {s : Start} {code : Code} {at n : ℕ} {a : Evaluated} (r : Reaches s c
   pub attribute_reached : {b : Evaluated} → attribute_of file2 optional a name2 span ≡ Ok b → Reaches s code at2 n2 b
   attribute_reached o = record {
     stands = more r e p m;
-    did = more_did r e p m ∙ ap (λ x. outcome x s.config.operands (lies s a)) (same ∙ o);
+    did = more_did r e p m ∙ ap (λ x. outcome x s.config.operands (topped a s.config)) (same ∙ o);
   }
 
   -- or its fault
   pub attribute_breaks : (x : Refusal) → Says x (attribute_of file2 optional a name2 span) → Breaks s code n2 x
   attribute_breaks None y = λ c. tt
-  attribute_breaks (Some fault) y = λ c. more_did r e p m ∙ ap (λ x. outcome x s.config.operands (lies s a)) (same ∙ y)
+  attribute_breaks (Some fault) y = λ c. more_did r e p m ∙ ap (λ x. outcome x s.config.operands (topped a s.config)) (same ∙ y)
+
+module _ {s : Start} {code : Code} {at n : ℕ} {c : Config} (r : Comes s code at n c) {comparison : Comparison} {at2 n2 : ℕ} (e : Compares code (at + 1) comparison) (p : at2 ≡ at + 2) (m : n2 ≡ n + 2) where
+  -- a constant lies on top
+  on_top : Comes s code (at + 1) (n + 1) (topped (constant_of comparison) c)
+  on_top = record { stands = more r e.loads refl refl; did = more_did r e.loads refl refl }
+
+  -- and the comparison with it stands behind
+  pub two_more : Stands s code at2 n2
+  two_more =
+      let q : at2 ≡ at + 1 + 1 = omega (arith, p) in
+      let k : n2 ≡ n + 1 + 1 = omega (arith, m) in
+      more on_top e.applies q k
+
+  -- what it does
+  pub two_more_did : done s.here code (suc (n2 - s.count)) s.at s.config ≡ act s.here (at2 + 1) (instruction.Binary comparison.operator comparison.span) (topped (constant_of comparison) c)
+  two_more_did =
+      let q : at2 ≡ at + 1 + 1 = omega (arith, p) in
+      let k : n2 ≡ n + 1 + 1 = omega (arith, m) in
+      more_did on_top e.applies q k
+
+module _ {s : Start} {code : Code} {at n : ℕ} {a : Evaluated} (c : Config) (r : Comes s code at n (topped a c)) {comparison : Comparison} {at2 n2 : ℕ} (e : Compares code (at + 1) comparison) (p : at2 ≡ at + 2) (m : n2 ≡ n + 2) {file : site.Name} (f : file ≡ s.here.file) where
+  abbrev both : Config
+  both = topped (constant_of comparison) (topped a c)
+
+  compared_did : done s.here code (suc (n2 - s.count)) s.at s.config ≡ outcome (truth_of file a comparison) c.operands both
+  compared_did =
+      two_more_did r e p m ∙ ap (λ g. outcome (truth_of g a comparison) c.operands both) (sym f)
+
+  -- its truth value
+  pub compared_comes : {b : Evaluated} → truth_of file a comparison ≡ Ok b → Comes s code at2 n2 (topped b c)
+  compared_comes o = record {
+    stands = two_more r e p m;
+    did = compared_did ∙ ap (λ x. outcome x c.operands both) o;
+  }
+
+  -- or its fault
+  pub compared_breaks : (x : Refusal) → Says x (truth_of file a comparison) → Breaks s code n2 x
+  compared_breaks None y = λ c. tt
+  compared_breaks (Some fault) y = λ d. compared_did ∙ ap (λ x. outcome x c.operands both) y
 
 -- an operand that is put out
 pub written : (here : Here) (a : Evaluated) (c : Config) → is_undefined a.value ≡ false → put_out (output here a) c ≡ Goes (with_text (rendered here.autoescape here.engine.escape a.value) c) On

@@ -1,7 +1,10 @@
 -- How far the reading of a path has come.
 use Rattle.std.specs.Prelude.{◌≡◌, ℕ, suc, ◌+◌, ◌-◌, ◌<◌, ◌≤◌, ◌∷◌, length, Result, Ok, Err}
+use Rattle.tera_errors.specs.Site.{Name}
 use Rattle.tera_errors.specs.Answer.{Refusal}
-use Rattle.tera_operators.specs.Operand.{Evaluated}
+use Rattle.tera_operators.specs.Operand.{Evaluated, Outcome}
+use Rattle.tera_operators.specs.Operators.{binary_of}
+use Rattle.tera_code.specs.declared.comparison.Comparison.{Comparison}
 use Rattle.tera_meaning.specs.Here.{Here}
 use Rattle.tera_machine.specs.Config.{Config}
 use Rattle.tera_machine.specs.Flow.{On}
@@ -27,11 +30,27 @@ pub record Stands (s : Start) (code : Code) (at n : ℕ) : Type 0 where
   pub there : at < length code
   pub before : WentOn (done s.here code (n - s.count) s.at s.config)
 
--- and all that they did is that this operand lies on top
-pub record Reaches (s : Start) (code : Code) (at n : ℕ) (a : Evaluated) : Type 0 where
+-- and that one went on too, with this configuration
+pub record Comes (s : Start) (code : Code) (at n : ℕ) (c : Config) : Type 0 where
   pub stands : Stands s code at n
-  pub did : done s.here code (suc (n - s.count)) s.at s.config ≡ Goes (holding (a ∷ s.config.operands) s.config) On
+  pub did : done s.here code (suc (n - s.count)) s.at s.config ≡ Goes c On
+
+-- with this operand on top
+abbrev pub topped : Evaluated → Config → Config
+topped a c = holding (a ∷ c.operands) c
+
+-- and all that they did is that this operand lies on top
+abbrev pub Reaches : Start → Code → ℕ → ℕ → Evaluated → Type 0
+Reaches s code at n a = Comes s code at n (topped a s.config)
 
 -- and the last one did not go on, for this reason
 abbrev pub Breaks : Start → Code → ℕ → Refusal → Type 0
 Breaks s code n e = (c : Config) → Acted (done s.here code (suc (n - s.count)) s.at s.config) (Err e) c
+
+-- the constant with which an operand is compared
+abbrev pub constant_of : Comparison → Evaluated
+constant_of c = record { value = c.constant; span = c.constant_span }
+
+-- what the comparison makes of the operand on its left
+abbrev pub truth_of : Name → Evaluated → Comparison → Outcome
+truth_of file a c = binary_of file c.operator a (constant_of c) c.span

@@ -1,22 +1,29 @@
 // Names and the attributes behind them, read where they lie.
-ghost use Rattle.std.specs.Prelude.{◌≡◌, ◌+◌, ◌-◌, ◌<◌, ◌^◌, Some, suc, length, slice_get, IfOk, IfErr, IfSome, unwrap_or};
+ghost use Rattle.std.specs.Prelude.{◌≡◌, ◌+◌, ◌-◌, ◌<◌, ◌^◌, Some, suc, length, slice_get, IfOk, IfErr, IfSome, IfNone, IsTrue, unwrap_or};
+ghost use Rattle.tera_errors.specs.Answer.{Gives};
 ghost use Rattle.tera_code.specs.declared.instruction.Instruction.TheVariants as instruction;
 ghost use Rattle.tera_values.specs.Val.{undefined};
+ghost use Rattle.tera_operators.specs.Operators.{is_comparison};
 ghost use Rattle.tera_state.specs.Found.{found_value};
-ghost use Rattle.tera_machine.specs.Config.{config_of};
-ghost use Rattle.tera_machine.specs.Act.{Does};
+ghost use Rattle.tera_meaning.specs.Meaning.{output};
+ghost use Rattle.tera_machine.specs.declared.configuration.Configuration.{Configuration as Whole};
+ghost use Rattle.tera_machine.specs.Config.{Config, config_of};
+ghost use Rattle.tera_machine.specs.Flow.{flow_of};
+ghost use Rattle.tera_machine.specs.Did.{Goes};
+ghost use Rattle.tera_machine.specs.Act.{Acted, Does, put_out};
 ghost use Rattle.tera_machine.specs.Subject.{here_of};
 ghost use Rattle.tera_machine.specs.Together.{done};
-ghost use Rattle.tera_machine.specs.Paths.{Start, Stands, Reaches, Breaks, start_at};
+ghost use Rattle.tera_machine.specs.Paths.{Start, Stands, Comes, Reaches, Breaks, start_at, topped, truth_of};
 
 use crate::act::undefined_written;
 use crate::configuration::Configuration;
 use crate::machine::{Flow, VirtualMachine};
+use crate::texts::Texts;
 use std::alloc::Global;
 use std::sync::ledger::Ledger;
-use tera_code::{Chunk, Steps};
+use tera_code::{Chunk, Comparison, Steps};
 use tera_objects::Objects;
-use tera_operators::LentOperand;
+use tera_operators::{LentOperand, Operand};
 use tera_state::Found;
 use tera_values::{Name, Span, TeraResult};
 
@@ -68,9 +75,81 @@ fn attributes<'v, L: Ledger>(
     }
 }
 
+/// Where it goes on if the instruction behind a place tests the topmost operand, which is this one. The place becomes that of this
+/// instruction.
+#[inline(always)]
+fn tested<'f, L: Ledger>(
+    chunk: &Chunk,
+    at: &mut usize,
+    top: &LentOperand<'_>,
+    steps: &mut Steps<L>,
+) -> Option<Flow<'f>>
+    requires few { length chunk.now.code < 2 ^ 64 }
+    requires there { at.old < length chunk.now.code }
+    ensures stands { IfSome result (λ _. (s : Start) (c : Config) →
+        Comes s chunk.now.code at.old steps.old c →
+        Stands s chunk.now.code at.new steps.new) }
+    ensures goes { IfSome result (λ flow. (s : Start) (c : Config) →
+        Comes s chunk.now.code at.old steps.old (topped top.now c) →
+        done s.here chunk.now.code (suc (steps.new - s.count)) s.at s.config
+        ≡ Goes c (flow_of flow)) }
+    ensures stays { IfNone result ((at.new ≡ at.old) × (steps.new ≡ steps.old)) }
+{
+    let skip = chunk.pop_jump_if_false_at(*at + 1, steps)?;
+    *at += 1;
+    if top.is_truthy() {
+        Some(Flow::On)
+    } else {
+        Some(Flow::Skip(skip))
+    }
+}
+
+/// Puts out an operand that lies elsewhere; what is undefined is a fault.
+#[inline(always)]
+fn put_out<'f, O: Objects>(
+    texts: &mut Texts,
+    machine: &VirtualMachine<'_, O>,
+    file: &str,
+    operand: &LentOperand<'_>,
+) -> TeraResult<Flow<'f>>
+    ensures { (c : Whole) → c.texts ≡ texts.old → Acted
+        (put_out (output (here_of O.engine machine.now file.now c) operand.now) (config_of c))
+        result (config_of (record c { texts = texts.new })) }
+{
+    match operand.value() {
+        Some(value) if !value.is_undefined() => {
+            texts.append_value(machine.alloc, machine.objects, machine.autoescape, value)?;
+            Ok(Flow::On)
+        }
+        _ => Err(undefined_written(machine.alloc, file, operand.span())),
+    }
+}
+
+/// What a comparison with a constant makes of the operand on its left. The constant is read where it lies, too.
+#[inline(always)]
+fn compared(
+    alloc: Global,
+    file: &str,
+    left: &LentOperand<'_>,
+    comparison: &Comparison<'_>,
+) -> TeraResult<Operand>
+    requires { IsTrue (is_comparison comparison.now.operator) }
+    ensures { Gives (λ o. o) result (truth_of file.now left.now comparison.now) }
+{
+    let (constant, span) = (&comparison.constant, comparison.constant_span);
+    if let Some(value) = constant.lent() {
+        let right = LentOperand::new(Some(value), span);
+        return left.compare(alloc, file, comparison.operator, &right);
+    }
+    let value = constant.load()?;
+    let right = LentOperand::new(Some(&value), span);
+    left.compare(alloc, file, comparison.operator, &right)
+}
+
 impl<'c> Configuration<'c> {
     /// Does the instruction that loads a name, those behind it that take attributes, and one that puts the last of them out or
-    /// tests it. Nothing is copied or pushed on the way, and only what is not used up at once is put on the operands.
+    /// tests it, or those that compare it with a constant and test that. Nothing is copied or pushed on the way, and only what is
+    /// not used up at once is put on the operands.
     #[inline(never)]
     pub(crate) fn read<'f, O: Objects, L: Ledger>(
         &mut self,
@@ -92,32 +171,82 @@ impl<'c> Configuration<'c> {
         let alloc = machine.alloc;
         let found = self.scopes.look(&name.sought());
         let Some(first) = lent(&found, span) else {
-            let value = found.to_value(alloc)?;
-            return self.push(value, span);
+            let operand = Operand::new(found.to_value(alloc)?, span);
+            return self.use_up(alloc, chunk, at, operand, steps);
         };
         let reached = match attributes(alloc, chunk, at, first, steps) {
             Ok(reached) => reached,
             Err(error) => return Err(error),
         };
-        if let Some(skip) = chunk.pop_jump_if_false_at(*at + 1, steps) {
-            *at += 1;
-            if reached.is_truthy() {
-                return Ok(Flow::On);
-            }
-            return Ok(Flow::Skip(skip));
+        if let Some(flow) = tested(chunk, at, &reached, steps) {
+            return Ok(flow);
         }
-        if !chunk.writes_top_at(*at + 1, steps) {
+        if chunk.writes_top_at(*at + 1, steps) {
+            *at += 1;
+            return put_out(&mut self.texts, machine, chunk.file(), &reached);
+        }
+        let Some(comparison) = chunk.comparison_at(*at + 1, steps) else {
             let operand = reached.to_operand()?;
             return self.put(operand);
+        };
+        *at += 2;
+        match compared(alloc, chunk.file(), &reached, &comparison) {
+            Ok(truth) => self.test_or_put(chunk, at, truth, steps),
+            Err(error) => Err(error),
         }
-        *at += 1;
-        match reached.value() {
-            Some(value) if !value.is_undefined() => {
-                self.texts
-                    .append_value(alloc, machine.objects, machine.autoescape, value)?;
-                Ok(Flow::On)
-            }
-            _ => Err(undefined_written(alloc, chunk.file(), reached.span())),
+    }
+
+    /// The same with an operand of its own that was read.
+    fn use_up<'f, L: Ledger>(
+        &mut self,
+        alloc: Global,
+        chunk: &Chunk,
+        at: &mut usize,
+        operand: Operand,
+        steps: &mut Steps<L>,
+    ) -> TeraResult<Flow<'f>>
+        requires few { length chunk.now.code < 2 ^ 64 }
+        requires there { at.old < length chunk.now.code }
+        ensures stands { (s : Start) → s.here.file ≡ chunk.now.file →
+            Comes s chunk.now.code at.old steps.old (topped operand (config_of self.old)) →
+            Stands s chunk.now.code at.new steps.new }
+        ensures does { (s : Start) → s.here.file ≡ chunk.now.file →
+            Comes s chunk.now.code at.old steps.old (topped operand (config_of self.old)) →
+            Does (λ _. done s.here chunk.now.code (suc (steps.new - s.count)) s.at s.config)
+            self.old result self.new }
+    {
+        let Some(comparison) = chunk.comparison_at(*at + 1, steps) else {
+            return self.test_or_put(chunk, at, operand, steps);
+        };
+        *at += 2;
+        match compared(alloc, chunk.file(), &operand.lend(), &comparison) {
+            Ok(truth) => self.test_or_put(chunk, at, truth, steps),
+            Err(error) => Err(error),
         }
+    }
+
+    /// Tests an operand where the instruction behind a place does so, and else puts it on top of the others. The place becomes that
+    /// of the last instruction that is done.
+    #[inline(always)]
+    fn test_or_put<'f, L: Ledger>(
+        &mut self,
+        chunk: &Chunk,
+        at: &mut usize,
+        operand: Operand,
+        steps: &mut Steps<L>,
+    ) -> TeraResult<Flow<'f>>
+        requires few { length chunk.now.code < 2 ^ 64 }
+        requires there { at.old < length chunk.now.code }
+        ensures stands { (s : Start) (c : Config) → Comes s chunk.now.code at.old steps.old c →
+            Stands s chunk.now.code at.new steps.new }
+        ensures does { (s : Start) →
+            Comes s chunk.now.code at.old steps.old (topped operand (config_of self.old)) →
+            Does (λ _. done s.here chunk.now.code (suc (steps.new - s.count)) s.at s.config)
+            self.old result self.new }
+    {
+        if let Some(flow) = tested(chunk, at, &operand.lend(), steps) {
+            return Ok(flow);
+        }
+        self.put(operand)
     }
 }

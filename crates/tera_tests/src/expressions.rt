@@ -13,6 +13,8 @@ const CASES: &str = r#"
 a {{-1}} => a1
 a {{- 1 -}} b => a1b
 {{ hey or 1 }} => 1
+{{ hey == none }}{{ hey != 1 }} => falsetrue
+{% set m = {"a": 3} %}{{ m.a >= 3 }}{{ m.b == 3 }}{% if m.a < 3 %}a{% else %}b{% endif %} => truefalseb
 {{ 0 and hey.other }} => 0
 {{ 2 and 3 }} => 3
 {{ -7 // 2 }} {{ -7 % 2 }} => -4 1

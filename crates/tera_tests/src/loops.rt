@@ -28,6 +28,8 @@ const CASES: &str = r#"
 {% for x in [] %}{{ loop.index }}:{{ x }}{% if not loop.last %}, {% endif %}{% else %}none{% endfor %} => none
 {% for x in [7, 8] %}{{ loop.index0 }}{{ loop.first }}{{ loop.last }}{{ loop.length }};{% endfor %} => 0truefalse2;1falsetrue2;
 {% for x in [1] %}{% if 1 %}{{ loop.index + 1 }}{% endif %}{% endfor %} => 2
+{% for x in [1, 2] %}{% if loop.index == 2 %}b{% else %}a{% endif %}{% endfor %} => ab
+{% for x in [1, 2] %}{{ loop.index0 > 0 }}{% endfor %} => falsetrue
 {% for x in [1, 2] %}{% for x in [3, 4] %}{{ x }}{% endfor %}{{ x }}{% endfor %} => 341342
 {% for x in [1, 2] %}{% for y in [1] %}{{ loop.length }}{% endfor %}{{ loop.length }}{% endfor %} => 1212
 {% for x in [[1, 2], [3]] %}{% for y in x %}{{ y }}{% endfor %};{% endfor %} => 12;3;

@@ -1,0 +1,12 @@
+use Rattle.std.proofs.Common.{ap, refl, sym, ◌∙◌}
+use Rattle.tera_machine.specs.Act.{branched}
+use Rattle.tera_machine.proofs.Reaching.{more, more_did}
+use Rattle.tera_machine.proofs.paths.tested.Goals as goal
+
+pub returns-then-is_truthy-clause-goes : goal.returns-then-is_truthy-clause-goes
+returns-then-is_truthy-clause-goes g c = λ s c' r.
+    more_did r c.in_ok-skip.ensures.means refl c.in_ok-skip.ensures.count ∙ ap (λ b. branched b c' c.in_ok-skip.skip c') (sym c.is_truthy.ensures ∙ c.if-is_truthy.true)
+
+pub returns-else-is_truthy-clause-goes : goal.returns-else-is_truthy-clause-goes
+returns-else-is_truthy-clause-goes g c = λ s c' r.
+    more_did r c.in_ok-skip.ensures.means refl c.in_ok-skip.ensures.count ∙ ap (λ b. branched b c' c.in_ok-skip.skip c') (sym c.is_truthy.ensures ∙ c.if-is_truthy.false)

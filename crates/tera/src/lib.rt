@@ -19,8 +19,10 @@ pub use tera_state::{
 };
 pub use tera_syntax::parse;
 pub use tera_syntax_tree::{
-    BinaryOperator, Bounds, Choice, Delimiters, Entry, Expression, Heading, Indexed, Item,
-    LiteralKey, Node, Operands, ParserOutput, Quoted,
+    Applied, Argument, ArgumentType, BinaryOperator, Bounds, Called, Captured, Choice, Collected,
+    ComponentTag, Delimiters, Entry, Expression, Heading, Indexed, Item, Literal, LiteralEntry,
+    LiteralKey, Node, Operands, OwnedKey, Parameter, ParserOutput, Quoted, SectionFilter,
+    Signature, Sliced,
 };
 pub use tera_values::{
     ArgFromValue, Context, Error, ErrorKind, Key, Kwargs, Map, ReportError, Span, TeraResult,

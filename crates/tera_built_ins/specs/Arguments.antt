@@ -3,7 +3,7 @@ use Rattle.std.specs.Prelude.{ℕ, ℤ, pos, negsuc, Bool, cond, nat_lt, List, O
 use Rattle.tera_errors.specs.Site.{Name}
 use Rattle.tera_errors.specs.Fault.{Fault, invalid_argument, missing_argument}
 use Rattle.tera_values.specs.Alphabet.{Alphabet}
-use Rattle.tera_values.specs.Val.{ValOf, KeyVal, undefined, none, bool, int, text, bytes, array, map, list_of}
+use Rattle.tera_values.specs.Val.{ValOf, KeyVal, bool, int, text, array, map, list_of}
 use Rattle.tera_values.specs.Access.{pairs}
 use Rattle.tera_values.specs.Named.{Named, at_name}
 
@@ -30,13 +30,7 @@ module _ {C : Type 0} where
   -- a text, and no other kind
   abbrev pub as_text : ValOf C → Result (GivenOf C) Fault
   as_text (text t s) = Ok (record { text = t; safe = s })
-  as_text undefined = Err invalid_argument
-  as_text none = Err invalid_argument
-  as_text (bool b) = Err invalid_argument
-  as_text (int z) = Err invalid_argument
-  as_text (bytes t) = Err invalid_argument
-  as_text (array vs) = Err invalid_argument
-  as_text (map es) = Err invalid_argument
+  as_text v = Err invalid_argument
 
   -- the bytes of a text
   abbrev pub as_bytes : Alphabet C → ValOf C → Result (List ℕ) Fault
@@ -44,43 +38,19 @@ module _ {C : Type 0} where
 
   abbrev pub as_array : ValOf C → Result (List (ValOf C)) Fault
   as_array (array vs) = Ok (list_of vs)
-  as_array undefined = Err invalid_argument
-  as_array none = Err invalid_argument
-  as_array (bool b) = Err invalid_argument
-  as_array (int z) = Err invalid_argument
-  as_array (text t s) = Err invalid_argument
-  as_array (bytes t) = Err invalid_argument
-  as_array (map es) = Err invalid_argument
+  as_array v = Err invalid_argument
 
   abbrev pub as_map : ValOf C → Result (List (KeyVal × ValOf C)) Fault
   as_map (map es) = Ok (pairs es)
-  as_map undefined = Err invalid_argument
-  as_map none = Err invalid_argument
-  as_map (bool b) = Err invalid_argument
-  as_map (int z) = Err invalid_argument
-  as_map (text t s) = Err invalid_argument
-  as_map (bytes t) = Err invalid_argument
-  as_map (array vs) = Err invalid_argument
+  as_map v = Err invalid_argument
 
   abbrev pub as_integer : ValOf C → Result ℤ Fault
   as_integer (int z) = Ok z
-  as_integer undefined = Err invalid_argument
-  as_integer none = Err invalid_argument
-  as_integer (bool b) = Err invalid_argument
-  as_integer (text t s) = Err invalid_argument
-  as_integer (bytes t) = Err invalid_argument
-  as_integer (array vs) = Err invalid_argument
-  as_integer (map es) = Err invalid_argument
+  as_integer v = Err invalid_argument
 
   abbrev pub as_bool : ValOf C → Result Bool Fault
   as_bool (bool b) = Ok b
-  as_bool undefined = Err invalid_argument
-  as_bool none = Err invalid_argument
-  as_bool (int z) = Err invalid_argument
-  as_bool (text t s) = Err invalid_argument
-  as_bool (bytes t) = Err invalid_argument
-  as_bool (array vs) = Err invalid_argument
-  as_bool (map es) = Err invalid_argument
+  as_bool v = Err invalid_argument
 
   -- such an integer, and no other value
   abbrev pub as_natural : ℕ → ValOf C → Result ℕ Fault

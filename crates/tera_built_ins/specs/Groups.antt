@@ -9,7 +9,8 @@ use Rattle.tera_values.specs.Access.{key_eq, key_of}
 use Rattle.tera_values.specs.Named.{Named}
 use Rattle.tera_built_ins.specs.Arguments.{◌▸◌, as_array, as_text, needed, some_of}
 use Rattle.tera_built_ins.specs.Attributes.{all_of, attribute_of}
-use Rattle.tera_built_ins.specs.Sorting.{firsts, is_none}
+use Rattle.tera_built_ins.specs.Sorting.{firsts}
+use Rattle.tera_built_ins.specs.Tests.{is_none}
 
 module _ {A : Type 0} where
   -- those at a key, in their order

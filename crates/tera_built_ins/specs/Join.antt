@@ -3,7 +3,7 @@ use Rattle.std.specs.Prelude.{Bool, false, if◌then◌else◌, not, ◌&&◌, �
 use Rattle.std.specs.List.{list_any, join_by}
 use Rattle.tera_errors.specs.Fault.{Fault}
 use Rattle.tera_values.specs.Alphabet.{Alphabet}
-use Rattle.tera_values.specs.Val.{ValOf, undefined, none, bool, int, text, bytes, array, map}
+use Rattle.tera_values.specs.Val.{ValOf, text}
 use Rattle.tera_values.specs.Access.{is_undefined, is_safe}
 use Rattle.tera_values.specs.Named.{Named}
 use Rattle.tera_values.specs.Printed.{printed_of}
@@ -14,13 +14,7 @@ use Rattle.tera_built_ins.specs.Parts.{part, given_safe}
 module _ {C : Type 0} where
   abbrev pub is_safe_text : ValOf C → Bool
   is_safe_text (text t s) = s
-  is_safe_text undefined = false
-  is_safe_text none = false
-  is_safe_text (bool b) = false
-  is_safe_text (int z) = false
-  is_safe_text (bytes t) = false
-  is_safe_text (array vs) = false
-  is_safe_text (map es) = false
+  is_safe_text v = false
 
 module _ {C : Type 0} (alphabet : Alphabet C) (view : Escaping) where
   -- an item as it is printed: into a safe answer its escape, unless it is safe itself or undefined

@@ -7,9 +7,13 @@ use Rattle.tera_values.specs.Access.{find}
 use Rattle.tera_values.specs.Named.{Named}
 use Rattle.tera_built_ins.specs.Arguments.{◌▸◌, as_map, as_text, as_any, needed, optional}
 
+-- what is made of each entry, in the order of the map
+abbrev pub each_of : {C : Type 0} → (KeyVal × ValOf C → ValOf C) → ValOf C → Result (ValOf C) Fault
+each_of make v = as_map v ▸ λ es. Ok (array (vals (each make es)))
+
 -- the values, in the order of the map
 abbrev pub values_of : {C : Type 0} → ValOf C → Result (ValOf C) Fault
-values_of v = as_map v ▸ λ es. Ok (array (vals (each (λ e. e.1) es)))
+values_of = each_of (λ e. e.1)
 
 -- the value, or else what stands in for it
 abbrev pub or_else : {C : Type 0} → Option (ValOf C) → Option (ValOf C) → Result (ValOf C) Fault
@@ -30,11 +34,11 @@ module _ {C : Type 0} (alphabet : Alphabet C) where
 
   -- the keys, in the order of the map
   abbrev pub keys_of : ValOf C → Result (ValOf C) Fault
-  keys_of v = as_map v ▸ λ es. Ok (array (vals (each (λ e. key_value e.0) es)))
+  keys_of = each_of (λ e. key_value e.0)
 
   -- each key with its value, in the order of the map
   abbrev pub pairs_of : ValOf C → Result (ValOf C) Fault
-  pairs_of v = as_map v ▸ λ es. Ok (array (vals (each pair_of es)))
+  pairs_of = each_of pair_of
 
   -- the value at a text key, or else the default
   abbrev pub get_of : ValOf C → Named (ValOf C) → Result (ValOf C) Fault

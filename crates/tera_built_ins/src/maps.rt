@@ -1,75 +1,56 @@
 // Filters of maps.
-ghost use Rattle.std.specs.Prelude.{map as each, Ok};
+ghost use Rattle.std.specs.Prelude.{Ok};
 ghost use Rattle.tera_errors.specs.Answer.{Gives};
 ghost use Rattle.tera_values.specs.Alphabet.{plain};
+ghost use Rattle.tera_values.specs.Val.{Val, KeyVal};
 ghost use Rattle.tera_values.specs.View.{key_view};
-ghost use Rattle.tera_built_ins.specs.Maps.{key_value, pair_of, values_of, keys_of, pairs_of, get_of};
+ghost use Rattle.tera_built_ins.specs.Maps.{each_of, pair_of, values_of, keys_of, pairs_of, get_of};
 
 use crate::arguments::{as_map, needed_text};
 use std::alloc::Global;
-use tera_values::{Error, Key, Kwargs, Map, TeraResult, Value};
+use tera_values::{Error, Key, Kwargs, TeraResult, Value};
 
 /// The values of a map, in its order.
 pub fn values(alloc: Global, value: &Value) -> TeraResult<Value>
     ensures { Gives (λ v. v) result (values_of value.now) }
 {
-    let all = as_map(value)?;
-    Ok(Value::array(map_values(alloc, all)?))
-}
-
-fn map_values(alloc: Global, all: &Map) -> TeraResult<Vec<Value>>
-    ensures { Gives (λ v. v.items) result (Ok (each (λ e. e.1) all.now)) }
-{
-    let mut items = Vec::new(alloc);
-    for place in 0..all.len() {
-        match all.entry_at(place) {
-            Some((_key, item)) => items.push(item.try_clone()?)?,
-            None => unreachable!(),
-        }
-    }
-    Ok(items)
+    each_of(alloc, value, |_key, item| item.try_clone())
 }
 
 /// The keys of a map, in its order; a text key is an unmarked text.
 pub fn keys(alloc: Global, value: &Value) -> TeraResult<Value>
     ensures { Gives (λ v. v) result (keys_of plain value.now) }
 {
-    let all = as_map(value)?;
-    Ok(Value::array(map_keys(alloc, all)?))
-}
-
-fn map_keys(alloc: Global, all: &Map) -> TeraResult<Vec<Value>>
-    ensures { Gives (λ v. v.items) result (Ok (each (λ e. key_value plain e.0) all.now)) }
-{
-    let mut items = Vec::new(alloc);
-    for place in 0..all.len() {
-        match all.entry_at(place) {
-            Some((key, _item)) => items.push(Value::from_key(alloc, key)?)?,
-            None => unreachable!(),
-        }
-    }
-    Ok(items)
+    each_of(alloc, value, |key, _item| Value::from_key(alloc, key))
 }
 
 /// Each key of a map with its value, as an array of two, in its order.
 pub fn pairs(alloc: Global, value: &Value) -> TeraResult<Value>
     ensures { Gives (λ v. v) result (pairs_of plain value.now) }
 {
-    let all = as_map(value)?;
-    Ok(Value::array(map_pairs(alloc, all)?))
+    each_of(alloc, value, |key, item| pair(alloc, key, item))
 }
 
-fn map_pairs(alloc: Global, all: &Map) -> TeraResult<Vec<Value>>
-    ensures { Gives (λ v. v.items) result (Ok (each (pair_of plain) all.now)) }
+// An array of what is made of each entry of a map, in its order.
+fn each_of<F: Fn(&Key, &Value) -> TeraResult<Value>>(
+    alloc: Global,
+    value: &Value,
+    make: F,
+) -> TeraResult<Value>
+    requires { F.IsAlwaysCallable make }
+    ensures { (meant : KeyVal × Val → Val) →
+        ((key : _) (item : _) (answer : _) → F.post make key item answer →
+        Gives (λ v. v) answer (Ok (meant (key_view key.now, item.now)))) →
+        Gives (λ v. v) result (each_of meant value.now) }
 {
+    let all = as_map(value)?;
     let mut items = Vec::new(alloc);
     for place in 0..all.len() {
-        match all.entry_at(place) {
-            Some((key, item)) => items.push(pair(alloc, key, item)?)?,
-            None => unreachable!(),
+        if let Some((key, item)) = all.entry_at(place) {
+            items.push(make(key, item)?)?;
         }
     }
-    Ok(items)
+    Ok(Value::array(items))
 }
 
 fn pair(alloc: Global, key: &Key, item: &Value) -> TeraResult<Value>

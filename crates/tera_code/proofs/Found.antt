@@ -5,9 +5,10 @@ use Rattle.tera_errors.specs.Site as site
 use Rattle.tera_errors.specs.declared.span.Span.{Span}
 use Rattle.tera_syntax_tree.specs.declared.expression.Heading.{Heading}
 use Rattle.tera_syntax_tree.specs.declared.expression.Expression.{Expression}
-use Rattle.tera_syntax_tree.specs.declared.expression.Entry.{Entry}
+use Rattle.tera_syntax_tree.specs.declared.expression.ComponentTag.{ComponentTag}
 use Rattle.tera_syntax_tree.specs.declared.component.Signature.{Signature}
 use Rattle.tera_syntax_tree.specs.declared.node.Node.{Node}
+use Rattle.tera_syntax_tree.specs.declared.node.Captured.{Captured}
 use Rattle.tera_syntax_tree.specs.declared.node.SectionFilter.{SectionFilter}
 use Rattle.tera_syntax_tree.specs.declared.node.Node.TheVariants as variant
 use Rattle.tera_syntax_tree.specs.Tree as tree
@@ -57,10 +58,10 @@ blocks_for node heading body other xs ys is a b =
     ∙ ap node_blocks (sym (view_for heading body other))
     ∙ ap (λ n. node_blocks (node_of n)) (sym is)
 
-pub blocks_capture : (node : Node) (name : Bor (List ℕ)) (filters : Vec SectionFilter Global) (body : Vec Node Global) (is_global : Bool) (xs : List Node) → node ≡ variant.Capture name filters body is_global → xs ≡ body.items → blocks (nodes_of xs) ≡ node_blocks (node_of node)
-blocks_capture node name filters body is_global xs is a =
+pub blocks_capture : (node : Node) (is_global : Bool) (c : Box Captured Global) (body : Vec Node Global) (xs : List Node) → node ≡ variant.Capture is_global c body → xs ≡ body.items → blocks (nodes_of xs) ≡ node_blocks (node_of node)
+blocks_capture node is_global c body xs is a =
     ap (λ x. blocks (nodes_of x)) a
-    ∙ ap node_blocks (sym (view_capture name filters body is_global))
+    ∙ ap node_blocks (sym (view_capture is_global c body))
     ∙ ap (λ n. node_blocks (node_of n)) (sym is)
 
 pub blocks_section : (node : Node) (filters : Vec SectionFilter Global) (body : Vec Node Global) (xs : List Node) → node ≡ variant.FilterSection filters body → xs ≡ body.items → blocks (nodes_of xs) ≡ node_blocks (node_of node)
@@ -69,10 +70,10 @@ blocks_section node filters body xs is a =
     ∙ ap node_blocks (sym (view_section filters body))
     ∙ ap (λ n. node_blocks (node_of n)) (sym is)
 
-pub blocks_component_call : (node : Node) (name : Bor (List ℕ)) (attributes : Vec Entry Global) (body : Vec Node Global) (span : Span) (xs : List Node) → node ≡ variant.ComponentCall name attributes body span → xs ≡ body.items → blocks (nodes_of xs) ≡ node_blocks (node_of node)
-blocks_component_call node name attributes body span xs is a =
+pub blocks_component_call : (node : Node) (tag : Box ComponentTag Global) (body : Vec Node Global) (span : Span) (xs : List Node) → node ≡ variant.ComponentCall tag body span → xs ≡ body.items → blocks (nodes_of xs) ≡ node_blocks (node_of node)
+blocks_component_call node tag body span xs is a =
     ap (λ x. blocks (nodes_of x)) a
-    ∙ ap node_blocks (sym (view_component_call name attributes body span))
+    ∙ ap node_blocks (sym (view_component_call tag body span))
     ∙ ap (λ n. node_blocks (node_of n)) (sym is)
 
 pub blocks_definition : (node : Node) (signature : Box Signature Global) (body : Vec Node Global) (xs : List Node) → node ≡ variant.Definition signature body → xs ≡ body.items → blocks (nodes_of xs) ≡ node_blocks (node_of node)

@@ -60,6 +60,13 @@ copies_more ks js k e before rest all h same b is =
     ∙ ap (λ x. keys_of ks ++ keys_of x) (sym b)
     ∙ is
 
+-- these, and then still others
+pub longer_more : {X : Type 0} (xs ys zs ds : List X) → Longer xs ys → zs ≡ ys ++ ds → Longer xs zs
+longer_more xs ys zs ds g e =
+    let more = drop (length xs) ys ++ ds in
+    let is : zs ≡ xs ++ more = e ∙ ap (λ k. k ++ ds) g ∙ append_assoc xs (drop (length xs) ys) ds in
+    is ∙ ap (λ k. xs ++ k) (sym (ap (drop (length xs)) is ∙ drop-append_seam xs more))
+
 boundary_longer : (bs cs : Text) (i : ℕ) → IsUtf8 bs → IsUtf8 cs → Longer bs cs → IsCharBoundary bs i → IsCharBoundary cs i
 boundary_longer bs cs i u v g b =
     subst (λ x. IsCharBoundary x i) (sym g) (boundary_stays bs (drop (length bs) cs) i u (subst IsUtf8 g v) b)

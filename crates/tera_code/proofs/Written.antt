@@ -7,9 +7,12 @@ use Rattle.tera_syntax_tree.specs.declared.expression.Argument.{Argument}
 use Rattle.tera_syntax_tree.specs.declared.expression.OwnedKey.{OwnedKey}
 use Rattle.tera_syntax_tree.specs.declared.expression.Heading.{Heading}
 use Rattle.tera_syntax_tree.specs.declared.expression.Bounds.{Bounds}
+use Rattle.tera_syntax_tree.specs.declared.expression.ComponentTag.{ComponentTag, out-ComponentTag}
+use Rattle.tera_syntax_tree.specs.declared.expression.Sliced.{Sliced}
 use Rattle.tera_syntax_tree.specs.declared.expression.Expression.{Expression}
 use Rattle.tera_syntax_tree.specs.declared.expression.Expression.TheVariants as expression
 use Rattle.tera_syntax_tree.specs.declared.node.Node.{Node}
+use Rattle.tera_syntax_tree.specs.declared.node.Captured.{Captured}
 use Rattle.tera_syntax_tree.specs.declared.node.SectionFilter.{SectionFilter}
 use Rattle.tera_syntax_tree.specs.declared.node.Node.TheVariants as variant
 use Rattle.tera_syntax_tree.specs.Tree.{Expr, Key, Arguments, If}
@@ -63,11 +66,12 @@ pub boxed_written : (l m : Listing) (x y : Expression) → m ≡ lengthened l (e
 boxed_written l m x y h e = h ∙ ap (λ e. lengthened l (expr_code (expr_of e))) e
 
 -- a slice is written behind what it is taken of
-pub slice_written : (l m n : Listing) (e : Expression) (optional : Bool) (target : Box Expression Global) (bounds : Box Bounds Global) (span : Span) (x : Expression) (b : Bounds) (r : Result (Unit {0}) AllocError) → e ≡ expression.Slice optional target bounds span → x ≡ target.value → b ≡ bounds.value → m ≡ lengthened l (expr_code (expr_of x))
-    → OnOk r (n ≡ lengthened m (bounds_code b optional span)) → OnOk r (n ≡ lengthened l (expr_code (expr_of e)))
-slice_written l m n e optional target bounds span x b r is v w g h =
-    seen l n e (slice_of x b optional span) r (ap₂ (λ y k. slice_of y k optional span) v w ∙ sym (ap expr_of is ∙ view_slice optional target bounds span))
-    (on_ok_by r n _ _ (ap (λ k. lengthened k (bounds_code b optional span)) g ∙ lengthened-lengthened l (expr_code (expr_of x)) (bounds_code b optional span)) h)
+pub slice_written : (l m n : Listing) (e : Expression) (optional : Bool) (sliced : Box Sliced Global) (span : Span) (x y : Sliced) (r : Result (Unit {0}) AllocError) → e ≡ expression.Slice optional sliced span → x ≡ sliced.value → y ≡ sliced.value → m ≡ lengthened l (expr_code (expr_of x.target))
+    → OnOk r (n ≡ lengthened m (bounds_code y.bounds optional span)) → OnOk r (n ≡ lengthened l (expr_code (expr_of e)))
+slice_written l m n e optional sliced span x y r is v w g h =
+    let bounds : Sliced → Code = λ s. bounds_code s.bounds optional span in
+    seen l n e (slice_of sliced.value optional span) r (sym (ap expr_of is ∙ view_slice optional sliced span))
+    (on_ok_by r n _ _ (ap₂ (λ k s. lengthened k (bounds s)) (g ∙ ap (λ s. lengthened l (expr_code (expr_of s.target))) v) w ∙ lengthened-lengthened l (expr_code (expr_of sliced.value.target)) (bounds sliced.value)) h)
 
 -- parts are written, and what takes them
 pub taken_written : {A : Type 0} (l m n : Listing) (xs ys zs : A) (text : A → Code) (take : A → Instruction) (r : Result (Unit {0}) AllocError) → xs ≡ zs → ys ≡ zs → m ≡ lengthened l (text xs)
@@ -99,14 +103,14 @@ for_written l m node drops heading body other h xs ys r is c a b w =
     ∙ ap (λ t. lengthened l (node_code (node_of t) drops)) (sym is)) w
 
 -- the text of a section is written, and what takes it
-pub capture_written : (l m n : Listing) (node : Node) (drops : ℕ) (name : Bor (List ℕ)) (filters : Vec SectionFilter Global) (body : Vec Node Global) (is_global : Bool) (fs : List SectionFilter) (xs : List Node) (r : Result (Unit {0}) AllocError) → node ≡ variant.Capture name filters body is_global → fs ≡ filters.items → xs ≡ body.items
-    → m ≡ lengthened l (section_code (filters_of fs) (nodes_code (nodes_of xs) (suc drops))) → OnOk r (n ≡ lengthened m (instruction.Store name.now is_global ∷ [])) → OnOk r (n ≡ lengthened l (node_code (node_of node) drops))
-capture_written l m n node drops name filters body is_global fs xs r is a b h =
-    let section = λ (y : List SectionFilter) (z : List Node). section_code (filters_of y) (nodes_code (nodes_of z) (suc drops)) in
-    let store = instruction.Store name.now is_global ∷ [] in
-    on_ok_by r n _ _ (ap (λ k. lengthened k store) (h ∙ ap₂ (λ y z. lengthened l (section y z)) a b)
-    ∙ lengthened-lengthened l (section filters.items body.items) store
-    ∙ ap (λ t. lengthened l (node_code t drops)) (sym (view_capture name filters body is_global))
+pub capture_written : (l m n : Listing) (node : Node) (drops : ℕ) (is_global : Bool) (c : Box Captured Global) (body : Vec Node Global) (k : Captured) (r : Result (Unit {0}) AllocError) → node ≡ variant.Capture is_global c body → k ≡ c.value
+    → m ≡ lengthened l (section_code (filters_of k.filters.items) (nodes_code (nodes_of body.items) (suc drops))) → OnOk r (n ≡ lengthened m (instruction.Store k.name.now is_global ∷ [])) → OnOk r (n ≡ lengthened l (node_code (node_of node) drops))
+capture_written l m n node drops is_global c body k r is v h =
+    let section : Captured → Code = λ y. section_code (filters_of y.filters.items) (nodes_code (nodes_of body.items) (suc drops)) in
+    let store : Captured → Code = λ y. instruction.Store y.name.now is_global ∷ [] in
+    on_ok_by r n _ _ (ap₂ (λ m y. lengthened m (store y)) (h ∙ ap (λ y. lengthened l (section y)) v) v
+    ∙ lengthened-lengthened l (section c.value) (store c.value)
+    ∙ ap (λ t. lengthened l (node_code t drops)) (sym (view_capture is_global c body))
     ∙ ap (λ t. lengthened l (node_code (node_of t) drops)) (sym is))
 
 pub section_written : (l m n : Listing) (node : Node) (drops : ℕ) (filters : Vec SectionFilter Global) (body : Vec Node Global) (fs : List SectionFilter) (xs : List Node) (r : Result (Unit {0}) AllocError) → node ≡ variant.FilterSection filters body → fs ≡ filters.items → xs ≡ body.items
@@ -119,14 +123,16 @@ section_written l m n node drops filters body fs xs r is a b h =
     ∙ ap (λ t. lengthened l (node_code (node_of t) drops)) (sym is))
 
 -- the text of a body is written, and the component that is handed it
-pub component_call_written : (l m n : Listing) (node : Node) (drops : ℕ) (name : Bor (List ℕ)) (attributes : Vec Entry Global) (body : Vec Node Global) (span : Span) (es : List Entry) (xs : List Node) (r : Result (Unit {0}) AllocError) → node ≡ variant.ComponentCall name attributes body span → es ≡ attributes.items → xs ≡ body.items
-    → m ≡ lengthened l (captured_code (nodes_code (nodes_of xs) (suc drops)) span) → OnOk r (n ≡ lengthened m (handed_code name.now (entries_of es) span)) → OnOk r (n ≡ lengthened l (node_code (node_of node) drops))
-component_call_written l m n node drops name attributes body span es xs r is a b h =
-    let text = λ (z : List Node). captured_code (nodes_code (nodes_of z) (suc drops)) span in
-    let hand = λ (y : List Entry). handed_code name.now (entries_of y) span in
-    on_ok_by r n _ _ (ap₂ (λ k y. lengthened k (hand y)) (h ∙ ap (λ z. lengthened l (text z)) b) a
-    ∙ lengthened-lengthened l (text body.items) (hand attributes.items)
-    ∙ ap (λ t. lengthened l (node_code t drops)) (sym (view_component_call name attributes body span))
+pub component_call_written : (l m n : Listing) (node : Node) (drops : ℕ) (tag : Box ComponentTag Global) (body : Vec Node Global) (span : Span) (k : ComponentTag) (es : List Entry) (r : Result (Unit {0}) AllocError) → node ≡ variant.ComponentCall tag body span → k ≡ tag.value → es ≡ (out-ComponentTag k).attributes.items
+    → m ≡ lengthened l (captured_code (nodes_code (nodes_of body.items) (suc drops)) span) → OnOk r (n ≡ lengthened m (handed_code (out-ComponentTag k).name.now (entries_of es) span)) → OnOk r (n ≡ lengthened l (node_code (node_of node) drops))
+component_call_written l m n node drops tag body span k es r is v a h =
+    let text = captured_code (nodes_code (nodes_of body.items) (suc drops)) span in
+    let hand : ComponentTag → List Entry → Code = λ t y. handed_code (out-ComponentTag t).name.now (entries_of y) span in
+    let whole : ComponentTag → Code = λ t. hand t (out-ComponentTag t).attributes.items in
+    on_ok_by r n _ _ (ap₂ (λ m y. lengthened m (hand k y)) h a
+    ∙ lengthened-lengthened l text (whole k)
+    ∙ ap (λ t. lengthened l (text ++ whole t)) v
+    ∙ ap (λ t. lengthened l (node_code t drops)) (sym (view_component_call tag body span))
     ∙ ap (λ t. lengthened l (node_code (node_of t) drops)) (sym is))
 
 -- the turn of a comprehension without a condition

@@ -58,6 +58,13 @@ call_at s i = get_or s.calls i ([], [])
 abbrev pub reference_at : Shelf → ℕ → Text
 reference_at s i = get_or s.references i []
 
+-- the constant that it loads, where it loads one
+abbrev pub constant_of : Shelf → Packed → Val
+constant_of s (packed.LoadBool flag span) = val.bool flag
+constant_of s (packed.LoadInt span number) = val.int number
+constant_of s (packed.LoadConst constant span) = get_or s.constants constant val.none
+constant_of s other = val.none
+
 -- the instruction that is meant
 abbrev pub unpacked : Shelf → Packed → Instruction
 unpacked s (packed.WriteText start end) = instruction.WriteText (take (end - start) (drop start s.pool))

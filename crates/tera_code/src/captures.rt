@@ -11,7 +11,7 @@ use crate::content::LentName;
 use crate::instruction::Instruction;
 use std::alloc::{AllocError, Global};
 use tera_errors::lacking;
-use tera_syntax_tree::{Expression, Node, SectionFilter};
+use tera_syntax_tree::{Captured, ComponentTag, Expression, Node, SectionFilter};
 use tera_values::{Name, Span};
 
 impl Compiler {
@@ -38,26 +38,22 @@ impl Compiler {
     {
         match node {
             Node::Capture {
-                name,
-                filters,
-                body,
                 is_global,
+                captured,
+                body,
             } => {
-                self.section(filters, body, drops)?;
-                self.store(name, *is_global)
+                let captured: &Captured = captured;
+                self.section(&captured.filters, body, drops)?;
+                self.store(captured.name, *is_global)
             }
             Node::FilterSection { filters, body } => {
                 self.section(filters, body, drops)?;
                 self.emit(Instruction::WriteTop)
             }
-            Node::ComponentCall {
-                name,
-                attributes,
-                body,
-                span,
-            } => {
+            Node::ComponentCall { tag, body, span } => {
+                let tag: &ComponentTag = tag;
                 self.captured(body, *span, drops)?;
-                self.hand(name, attributes.as_slice(), *span)
+                self.hand(tag.name, tag.attributes.as_slice(), *span)
             }
             _ => unreachable!(),
         }

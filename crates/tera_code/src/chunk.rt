@@ -2,9 +2,10 @@
 ghost use Rattle.std.specs.Prelude.{◌≡◌, ◌+◌, ◌<◌, ◌^◌, [], ◌∷◌, cond, false, length, slice_get, OnOk, IfSome, IsTrue, MatchOption, Some, None, option_map, option_and_then, unwrap_or};
 ghost use Rattle.tera_code.specs.Asked.{loaded_attribute, is_write_top, jump_length_if_false, Compares, comparison_at, uses_top_at};
 ghost use Rattle.tera_code.specs.Called.{callee_of, called_by};
-ghost use Rattle.tera_code.specs.Code.{lengthened};
+ghost use Rattle.tera_code.specs.Code.{lengthened, spreads_of};
 ghost use Rattle.tera_code.specs.declared.instruction.Instruction.TheVariants as instruction;
 ghost use Rattle.tera_code.specs.Places.{filled};
+ghost use Rattle.tera_syntax_tree.specs.View.{items_of};
 
 use crate::callee::Callee;
 use crate::comparison::Comparison;
@@ -19,6 +20,7 @@ use std::alloc::{AllocError, Global};
 use std::marker::Model;
 use std::sync::ledger::Ledger;
 use tera_operators::is_comparison;
+use tera_syntax_tree::Item;
 use tera_values::{Name, Sought, Span};
 
 /// The instructions of a body, and the name of the template in whose text it stands.
@@ -260,6 +262,16 @@ impl Chunk {
             (self.new ≡ lengthened self.old (instruction.WriteName name.now span ∷ [])) }
     {
         let packed = self.tables.written_name(alloc, seen, name, span)?;
+        self.code.push(packed)?;
+        Ok(())
+    }
+
+    // The same for an array of these items, whose flags are noted where they stay.
+    pub(crate) fn emit_array(&mut self, items: &[Item], span: Span) -> Result<(), AllocError>
+        ensures { OnOk result (self.new ≡ lengthened self.old
+            (instruction.MakeArray (spreads_of (items_of items.now)) span ∷ [])) }
+    {
+        let packed = self.tables.array_of(items, span)?;
         self.code.push(packed)?;
         Ok(())
     }

@@ -8,9 +8,7 @@ ghost use Rattle.tera_code.specs.Places.{filled, behind};
 
 use crate::chunk::Chunk;
 use crate::constant::Constant;
-use crate::content::Spreads;
 use crate::instruction::Instruction;
-use crate::parts::note_spreads;
 use crate::room::Room;
 use std::alloc::{AllocError, Global};
 use std::marker::Model;
@@ -25,8 +23,6 @@ pub struct Compiler {
     chunk: Chunk,
     // where names of a kind were found last
     seen: [u32; 64],
-    // which items of the last array are spread: one room for all arrays
-    spreads: Vec<bool>,
 }
 
 impl Model for Compiler {
@@ -53,7 +49,6 @@ impl Compiler {
             alloc,
             chunk: Chunk::new(alloc, file),
             seen: [0; 64],
-            spreads: Vec::new(alloc),
         })
     }
 
@@ -65,7 +60,6 @@ impl Compiler {
             alloc: _,
             chunk,
             seen: _,
-            spreads: _,
         } = self;
         chunk
     }
@@ -106,17 +100,12 @@ impl Compiler {
     }
 
     // The array of these items, which are loaded already.
+    #[inline(always)]
     pub(crate) fn make_array(&mut self, items: &[Item], span: Span) -> Result<(), AllocError>
         ensures ok { OnOk result (self.new ≡ lengthened self.old
             (instruction.MakeArray (spreads_of (items_of items.now)) span ∷ [])) }
     {
-        note_spreads(&mut self.spreads, items)?;
-        let spreads = Spreads::new(self.spreads.as_slice());
-        self.chunk.emit(
-            self.alloc,
-            &mut self.seen,
-            Instruction::MakeArray(spreads, span),
-        )
+        self.chunk.emit_array(items, span)
     }
 
     // Keeps a place for a jump, whose length is known once what it passes is written.

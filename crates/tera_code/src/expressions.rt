@@ -44,12 +44,11 @@ impl Compiler {
             } => self.index(parts, *optional, *span),
             Expression::Slice {
                 optional,
-                target,
-                bounds,
+                sliced,
                 span,
             } => {
-                self.expression(target)?;
-                self.slice(bounds, *optional, *span)
+                self.expression(&sliced.target)?;
+                self.slice(&sliced.bounds, *optional, *span)
             }
             Expression::Not { operand, .. } => self.not(operand),
             Expression::Negate { operand, .. } => self.negate(operand),

@@ -118,17 +118,13 @@ impl<'a> LentInstruction<'a> {
         ensures exact { option_map (λ p. (p.0, p.1)) result ≡ loaded_constant self.now }
     {
         match *self.packed {
-            Packed::LoadNone { span } => Some((Constant::none(), self.tables.span(span))),
-            Packed::LoadBool { flag, span } => {
-                Some((Constant::from_bool(flag), self.tables.span(span)))
-            }
-            Packed::LoadInt { span, number } => {
-                Some((Constant::from_int(number), self.tables.span(span)))
-            }
-            Packed::LoadConst { constant, span } => {
-                let value = &self.tables.constants[constant as usize];
-                Some((Constant::shared(value), self.tables.span(span)))
-            }
+            Packed::LoadNone { span }
+            | Packed::LoadBool { span, .. }
+            | Packed::LoadInt { span, .. }
+            | Packed::LoadConst { span, .. } => Some((
+                self.tables.constant_of(*self.packed),
+                self.tables.span(span),
+            )),
             _ => None,
         }
     }

@@ -1,17 +1,18 @@
 // How a body's instructions are kept: small ones in a row, and beside them what they name by number.
 ghost use Rattle.std.specs.Prelude.{◌≡◌, ◌<◌, ◌-◌, IfOk};
+ghost use Rattle.tera_code.specs.Code.{spreads_of};
 ghost use Rattle.tera_code.specs.Packed.{Grows, Longer, IsAt, Packs, shelf_of};
-ghost use Rattle.tera_syntax_tree.specs.View.{keys_of};
+ghost use Rattle.tera_syntax_tree.specs.View.{items_of, keys_of};
 ghost use Rattle.tera_code.specs.declared.instruction.Instruction.TheVariants as instruction;
 
 use crate::constant::{Constant, Kept, small_integer};
 use crate::content::{Keys, LentName, Names, Spreads};
 use crate::instruction::Instruction;
-use crate::parts::copied;
+use crate::parts::{add_spreads, copied};
 use crate::reference::Reference;
 use std::alloc::{AllocError, Global};
 use tera_errors::lacking;
-use tera_syntax_tree::{BinaryOperator, OwnedKey};
+use tera_syntax_tree::{BinaryOperator, Item, OwnedKey};
 use tera_values::{Name, Sought, Span, Value};
 
 /// An instruction that names by number what it needs.
@@ -308,6 +309,19 @@ impl Tables {
     {
         let start = small(self.spreads.len())?;
         self.spreads.extend_from_slice(spreads.as_slice())?;
+        let end = small(self.spreads.len())?;
+        let span = number(&mut self.spans, span)?;
+        Ok(Packed::MakeArray { start, end, span })
+    }
+
+    /// The same for an array of these items, of which the flags stand in the pool alone.
+    pub(crate) fn array_of(&mut self, items: &[Item], span: Span) -> Result<Packed, AllocError>
+        ensures grows { Grows (shelf_of self.old) (shelf_of self.new) }
+        ensures ok { IfOk result (λ p. Packs (shelf_of self.new) p
+            (instruction.MakeArray (spreads_of (items_of items.now)) span)) }
+    {
+        let start = small(self.spreads.len())?;
+        add_spreads(&mut self.spreads, items)?;
         let end = small(self.spreads.len())?;
         let span = number(&mut self.spans, span)?;
         Ok(Packed::MakeArray { start, end, span })

@@ -1,11 +1,11 @@
 // Instructions of single forms.
-ghost use Rattle.std.specs.Prelude.{◌≡◌, ◌<◌, [], ◌∷◌, OnOk, IfOk, length, false};
+ghost use Rattle.std.specs.Prelude.{◌≡◌, ◌<◌, [], ◌∷◌, ◌++◌, OnOk, IfOk, length, false};
 ghost use Rattle.tera_values.specs.Val as val;
 ghost use Rattle.tera_code.specs.declared.instruction.Instruction.TheVariants as instruction;
 ghost use Rattle.tera_code.specs.Code.{lengthened, is_context, name_code, spreads_of, keys_in};
+ghost use Rattle.tera_code.specs.Packed.{Longer};
 ghost use Rattle.tera_code.specs.Places.{divided};
-ghost use Rattle.tera_syntax_tree.specs.View.{keys_of};
-ghost use Rattle.tera_syntax_tree.specs.View.{items_of, entries_of, key_option, literal_option};
+ghost use Rattle.tera_syntax_tree.specs.View.{items_of, entries_of, keys_of, key_option, literal_option};
 
 use crate::compiler::Compiler;
 use crate::constant::Constant;
@@ -79,11 +79,12 @@ pub(crate) fn is_context(name: &str) -> bool
     name == "__tera_context"
 }
 
-// Which of the items are spread.
-pub(crate) fn note_spreads(flags: &mut Vec<bool>, items: &[Item]) -> Result<(), AllocError>
-    ensures { OnOk result (flags.new.items ≡ spreads_of (items_of items.now)) }
+// Puts behind the flags which of the items are spread.
+pub(crate) fn add_spreads(flags: &mut Vec<bool>, items: &[Item]) -> Result<(), AllocError>
+    ensures grows { Longer flags.old.items flags.new.items }
+    ensures ok { OnOk result
+        (flags.new.items ≡ flags.old.items ++ spreads_of (items_of items.now)) }
 {
-    flags.clear();
     for item in items {
         flags.push(item.is_spread)?;
     }

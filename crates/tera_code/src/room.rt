@@ -22,21 +22,22 @@ impl Room {
         room
     }
 
+    // Most nodes are text or a name, which take no further call.
     #[cycle(nodes)]
     fn add_nodes(&mut self, nodes: &[Node]) {
         for node in nodes {
-            self.add_node(node);
+            match node {
+                Node::Content { text, .. } => self.add_text(text),
+                Node::PrintName { .. } => self.add(1),
+                _ => self.add_tag(node),
+            }
         }
     }
 
-    // What a body is compiled to counts with it; a block is compiled by itself.
+    // A node that is neither. What a body is compiled to counts with it; a block is compiled by itself.
     #[cycle(nodes)]
-    fn add_node(&mut self, node: &Node) {
+    fn add_tag(&mut self, node: &Node) {
         match node {
-            Node::Content { text, span: _ } => {
-                self.bytes = self.bytes.saturating_add(text.len());
-                self.instructions = self.instructions.saturating_add(1);
-            }
             Node::Print { value } => self.add(size_of(value)),
             Node::If {
                 condition,
@@ -56,9 +57,9 @@ impl Room {
                 self.add_body(body);
                 self.add_body(other);
             }
-            Node::Capture { body, .. }
-            | Node::FilterSection { body, .. }
-            | Node::ComponentCall { body, .. } => self.add_body(body),
+            Node::Capture { body, .. } => self.add_body(body),
+            Node::FilterSection { body, .. } => self.add_body(body),
+            Node::ComponentCall { body, .. } => self.add_body(body),
             _ => self.add(1),
         }
     }
@@ -67,6 +68,11 @@ impl Room {
     #[cycle(nodes)]
     fn add_body(&mut self, body: &Vec<Node>) {
         self.add_nodes(body.as_slice())
+    }
+
+    fn add_text(&mut self, text: &str) {
+        self.bytes = self.bytes.saturating_add(text.len());
+        self.instructions = self.instructions.saturating_add(1);
     }
 
     // So many instructions, each with a span.

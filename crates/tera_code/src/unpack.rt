@@ -1,7 +1,7 @@
 // What packed instructions mean.
 ghost use Rattle.std.specs.Prelude.{◌≡◌, ◌<◌, ◌≤◌, ◌-◌, length, take, drop, string_bytes};
 ghost use Rattle.std.specs.Str.{IsCharBoundary};
-ghost use Rattle.tera_code.specs.Packed.{Within, shelf_of, span_at, name_at, call_at, loop_at, reference_at, unpacked};
+ghost use Rattle.tera_code.specs.Packed.{Within, shelf_of, span_at, name_at, call_at, loop_at, reference_at, constant_of, unpacked};
 
 use crate::constant::Constant;
 use crate::content::{Keys, LentName, Names, Spreads, Text};
@@ -78,6 +78,22 @@ impl Tables {
         )
     }
 
+    /// The constant that it loads, where it loads one.
+    #[inline(always)]
+    pub(crate) fn constant_of(&self, packed: Packed) -> Constant<'_>
+        requires { Within (shelf_of self.now) packed }
+        ensures { result ≡ constant_of (shelf_of self.now) packed }
+    {
+        match packed {
+            Packed::LoadBool { flag, .. } => Constant::from_bool(flag),
+            Packed::LoadInt { number, .. } => Constant::from_int(number),
+            Packed::LoadConst { constant, .. } => {
+                Constant::shared(&self.constants[constant as usize])
+            }
+            _ => Constant::none(),
+        }
+    }
+
     fn argument_names(&self, number: u32) -> Names<'_>
         requires { number < length self.now.calls.items }
         ensures { result ≡ (call_at (shelf_of self.now) number).1 }
@@ -108,16 +124,11 @@ impl Tables {
             Packed::WriteName { name, span } => {
                 Instruction::WriteName(self.name(name), self.span(span))
             }
-            Packed::LoadNone { span } => Instruction::LoadConst(Constant::none(), self.span(span)),
-            Packed::LoadBool { flag, span } => {
-                Instruction::LoadConst(Constant::from_bool(flag), self.span(span))
-            }
-            Packed::LoadInt { span, number } => {
-                Instruction::LoadConst(Constant::from_int(number), self.span(span))
-            }
-            Packed::LoadConst { constant, span } => {
-                let value = &self.constants[constant as usize];
-                Instruction::LoadConst(Constant::shared(value), self.span(span))
+            Packed::LoadNone { span }
+            | Packed::LoadBool { span, .. }
+            | Packed::LoadInt { span, .. }
+            | Packed::LoadConst { span, .. } => {
+                Instruction::LoadConst(self.constant_of(packed), self.span(span))
             }
             Packed::LoadName { name, span } => {
                 Instruction::LoadName(self.name(name), self.span(span))

@@ -2,7 +2,7 @@
 use Rattle.std.proofs.Common.{◌≡◌, ℕ, take, ap, ◌∙◌, Result, Ok, Err, OnOk, OnErr, Bool}
 use Rattle.tera_errors.specs.Site.{Name, Text}
 use Rattle.tera_values.specs.Named.{Named, put}
-use Rattle.tera_objects.specs.Engine.{Engine, OwnFilter, OwnTest, OwnFunction, with_filter, with_test, with_function}
+use Rattle.tera_objects.specs.Engine.{Engine, OwnFilter, OwnTest, OwnFunction}
 use Rattle.tera_objects.specs.Kept.{each}
 use Rattle.tera_objects.specs.Table.{moved}
 use Rattle.tera_objects.proofs.Each.{each-put, each-take, each-moved}
@@ -20,23 +20,18 @@ pub where_err : {T E P : Type 0} (r : Result T E) → P → OnErr r P
 where_err (Ok x) p = tt
 where_err (Err e) p = p
 
--- an engine of these, and one of others in place of one kind
+-- an engine of these, and the same engine of what is the same
 abbrev pub engine : (Text → Text) → Named OwnFilter → Named OwnTest → Named OwnFunction → Engine
 engine escape filters tests functions =
     record { escape = escape; filters = filters; tests = tests; functions = functions }
 
-module _ {F : Type 0} (escape : Text → Text) (filters : Named OwnFilter) (tests : Named OwnTest) (functions : Named OwnFunction) where
-  pub filter-put : (meaning : F → OwnFilter) (n : Name) (f : F) (old new : Named F) → new ≡ put n f old
-      → engine escape (each meaning new) tests functions ≡ with_filter n (meaning f) (engine escape (each meaning old) tests functions)
-  filter-put meaning n f old new h = ap (λ l. engine escape l tests functions) (ap (each meaning) h ∙ each-put meaning n f old)
+pub same-engine : {escape : Text → Text} {filters filters' : Named OwnFilter} {tests tests' : Named OwnTest} {functions functions' : Named OwnFunction}
+    → filters ≡ filters' → tests ≡ tests' → functions ≡ functions' → engine escape filters tests functions ≡ engine escape filters' tests' functions'
+same-engine {escape} f t g = λ i. engine escape (f i) (t i) (g i)
 
-  pub test-put : (meaning : F → OwnTest) (n : Name) (f : F) (old new : Named F) → new ≡ put n f old
-      → engine escape filters (each meaning new) functions ≡ with_test n (meaning f) (engine escape filters (each meaning old) functions)
-  test-put meaning n f old new h = ap (λ l. engine escape filters l functions) (ap (each meaning) h ∙ each-put meaning n f old)
-
-  pub function-put : (meaning : F → OwnFunction) (n : Name) (f : F) (old new : Named F) → new ≡ put n f old
-      → engine escape filters tests (each meaning new) ≡ with_function n (meaning f) (engine escape filters tests (each meaning old))
-  function-put meaning n f old new h = ap (λ l. engine escape filters tests l) (ap (each meaning) h ∙ each-put meaning n f old)
+-- what was put means what is put of the meaning
+pub one-put : {F O : Type 0} (meaning : F → O) (n : Name) (f : F) (old new : Named F) → new ≡ put n f old → each meaning new ≡ put n (meaning f) (each meaning old)
+one-put meaning n f old new h = ap (each meaning) h ∙ each-put meaning n f old
 
 -- what was moved means what is moved of the meanings
 module _ {F O : Type 0} (meaning : F → O) (stands : Name → Bool) (old others new : Named F) where

@@ -2,7 +2,7 @@
 use Rattle.std.specs.Prelude.{ℕ, pos, true, false, List, map, Option, Some, None}
 use Rattle.unicode_segmentation.specs.Grapheme.{graphemes}
 use Rattle.tera_values.specs.Alphabet.{Alphabet, plain, made}
-use Rattle.tera_values.specs.Val.{Val, ValOf, undefined, none, bool, int, text, bytes, array, map as map_of, list_of}
+use Rattle.tera_values.specs.Val.{Val, ValOf, int, text, bytes, array, map as map_of, list_of}
 use Rattle.tera_values.specs.Access.{pairs}
 use Rattle.tera_state.specs.Found.{key_as_value_in}
 
@@ -26,10 +26,7 @@ items_in a (array vs) = Some (unkeyed (list_of vs))
 items_in a (map_of es) = Some (map (λ e. (Some (key_as_value_in a e.0), e.1)) (pairs es))
 items_in a (text t safe) = Some (unkeyed (clusters_in a t))
 items_in a (bytes t) = Some (unkeyed (map (λ b. int (pos b)) t))
-items_in a undefined = None
-items_in a none = None
-items_in a (bool b) = None
-items_in a (int z) = None
+items_in a v = None
 
 abbrev pub items : Val → Option (List Item)
 items = items_in plain

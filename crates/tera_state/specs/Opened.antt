@@ -1,6 +1,6 @@
 -- What an open loop stands for.
 use Rattle.std.specs.Prelude.{◌≡◌, ℕ, suc, pos, Bool, true, false, cond, List, [], ◌∷◌, Option, Some, None, Result, Ok, Err, length, drop, slice_get, map, not, ◌&&◌}
-use Rattle.tera_values.specs.Val.{Val, undefined, none, bool, int, text, bytes, array, map as map_of, list_of}
+use Rattle.tera_values.specs.Val.{Val, int, bytes, array, map as map_of, list_of}
 use Rattle.tera_values.specs.Access.{pairs}
 use Rattle.tera_state.specs.Found.{key_as_value}
 use Rattle.tera_errors.specs.Fault.{Fault, message}
@@ -22,11 +22,7 @@ abbrev pub walked : Val → List Item
 walked (array vs) = unkeyed (list_of vs)
 walked (map_of es) = map (λ e. (Some (key_as_value e.0), e.1)) (pairs es)
 walked (bytes t) = unkeyed (map (λ b. int (pos b)) t)
-walked (text t safe) = []
-walked undefined = []
-walked none = []
-walked (bool b) = []
-walked (int z) = []
+walked v = []
 
 abbrev pub items_of : ForLoop → List Item
 items_of l = walked l.items

@@ -3,7 +3,7 @@ use Rattle.std.specs.Prelude.{ℕ, suc, ◌+◌, ◌&&◌, not, pos, Bool, true,
 use Rattle.std.specs.Option.{option_or, is_some}
 use Rattle.tera_errors.specs.Fault.{Fault, message}
 use Rattle.tera_errors.specs.Site.{Name}
-use Rattle.tera_values.specs.Val.{ValOf, undefined, none, int, bool, text, bytes, array, map as map_of, entries}
+use Rattle.tera_values.specs.Val.{ValOf, undefined, int, bool, map as map_of, entries}
 use Rattle.tera_values.specs.Access.{is_undefined}
 use Rattle.tera_values.specs.Alphabet.{Alphabet, plain}
 use Rattle.tera_values.specs.Named.{Named, at_name, put_all, text_keys}
@@ -164,13 +164,7 @@ turns_from h size index (i ∷ is) = turn h size index i ∷ turns_from h size (
 
 abbrev pub is_map : {C : Type 0} → ValOf C → Bool
 is_map (map_of es) = true
-is_map undefined = false
-is_map none = false
-is_map (bool b) = false
-is_map (int z) = false
-is_map (text t safe) = false
-is_map (bytes t) = false
-is_map (array vs) = false
+is_map v = false
 
 -- the turns of a loop over the items, which with a key must be those of a map
 abbrev pub turns_over : {C : Type 0} → Heading → Option (List (ItemOf C)) → Result (List (TurnOf C)) Fault

@@ -98,7 +98,7 @@ impl<'c> Lent<'c> {
     {
         match self.lender {
             Lender::Nobody => None,
-            Lender::Context(context) => context.get(name.as_str()),
+            Lender::Context(context) => context.look(name),
             Lender::Arguments(arguments) => arguments.look(name),
         }
     }

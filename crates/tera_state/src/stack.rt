@@ -54,10 +54,7 @@ impl<T: Drop> Stack<T> {
         requires { self.old ≢ [] }
         ensures { self.old ≡ result ∷ self.new }
     {
-        match self.items.pop() {
-            Some(value) => value,
-            None => unreachable!(),
-        }
+        self.items.pop().unwrap()
     }
 
     /// How many values there are.

@@ -47,10 +47,7 @@ impl StringInput {
     pub fn as_str(&self) -> &str
         ensures { Some result.now ≡ text_of self.now }
     {
-        match self.value.as_str() {
-            Some(content) => content,
-            None => unreachable!(),
-        }
+        self.value.as_str().unwrap()
     }
 
     /// Whether the text is marked safe.

@@ -5,7 +5,7 @@ use Rattle.std.specs.Prelude.{option_map, option_and_then, codes}
 use Rattle.tera_syntax_tokens.specs.declared.token.Kind.TheVariants as k
 use Rattle.tera_syntax_tokens.specs.Token.{Token}
 use Rattle.tera_syntax_tokens.specs.Cut.{Piece}
-use Rattle.tera_syntax_tree.specs.Tree.{Content, Print, If, Set, Capture, FilterSection, For, Block, Include, ComponentCall, Definition, Break, Continue, Node, Nodes, NoNodes}
+use Rattle.tera_syntax_tree.specs.Tree.{Content, Print, Break, Node, Nodes, NoNodes}
 use Rattle.tera_syntax_tree.specs.Depth.{depth, entries_depth, filters_depth, parameters_depth, node_depth, nodes_depth}
 use Rattle.tera_syntax.specs.declared.heads.Surroundings.{Surroundings}
 use Rattle.tera_syntax.specs.Heads.{Head, IfHead, ForHead, SetHead, SectionHead, BlockHead, CallHead, DefinitionHead, outside, nested, make, head_depth, splits, chains, inside, ends}
@@ -29,19 +29,8 @@ halved before head is_chained q body = record { before = before; head = head; bo
 -- How deep the parts of a statement are
 
 pub node-some : (n : Node) → 0 < node_depth n
-node-some (Content t s) = omega arith
-node-some (Print e) = omega arith
-node-some (If c b o) = omega arith
-node-some (Set n e g) = omega arith
-node-some (Capture n fs b g) = omega arith
-node-some (FilterSection fs b) = omega arith
-node-some (For k n e b o) = omega arith
-node-some (Block n b s) = omega arith
-node-some (Include n s) = omega arith
-node-some (ComponentCall n es b s) = omega arith
-node-some (Definition s b) = omega arith
 node-some Break = omega arith
-node-some Continue = omega arith
+node-some _ = omega arith
 
 two-fit : (c b m : ℕ) → suc (max c b) ≤ suc m → (c ≤ m) × (b ≤ m)
 two-fit c b m le = (omega arith, omega arith)
@@ -64,20 +53,11 @@ head-fits (DefinitionHead s) b o m le = two-fit (parameters_depth s.parameters) 
 other-fits : (h : Head) (b o : Nodes) (m : ℕ) → splits h ≡ true → node_depth (make h b o) ≤ suc m → nodes_depth o ≤ m
 other-fits (IfHead c) b o m q le = third-fits (depth c) (nodes_depth b) (nodes_depth o) m le
 other-fits (ForHead k n e) b o m q le = third-fits (depth e) (nodes_depth b) (nodes_depth o) m le
-other-fits (SetHead n fs g) b o m q le = absurd (cc)
-other-fits (SectionHead fs) b o m q le = absurd (cc)
-other-fits (BlockHead n s) b o m q le = absurd (cc)
-other-fits (CallHead n es s) b o m q le = absurd (cc)
-other-fits (DefinitionHead s) b o m q le = absurd (cc)
+other-fits _ b o m q le = absurd (cc)
 
 chains-split : (h : Head) → chains h ≡ true → splits h ≡ true
 chains-split (IfHead c) q = refl
-chains-split (ForHead k n e) q = refl
-chains-split (SetHead n fs g) q = absurd (cc)
-chains-split (SectionHead fs) q = absurd (cc)
-chains-split (BlockHead n s) q = absurd (cc)
-chains-split (CallHead n es s) q = absurd (cc)
-chains-split (DefinitionHead s) q = absurd (cc)
+chains-split _ q = absurd (cc)
 
 rest-fits : {q : Surroundings} {h : Head} {o : Nodes} {i j : List Piece} → DerivesRest q h o i j → (b : Nodes) (m : ℕ) → node_depth (make h b o) ≤ suc m → nodes_depth o ≤ m
 rest-fits (ended e) b m le = omega arith

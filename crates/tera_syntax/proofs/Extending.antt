@@ -18,7 +18,7 @@ use Rattle.tera_syntax.specs.Heads.{outside, first, is_extends}
 use Rattle.tera_syntax.specs.Grammar.{Begins, Extends, is_space, Front, nothing, space, remark, DerivesFile, root, child}
 use Rattle.tera_syntax.specs.Reader.{Progress, begun, quoted_name, join, one, has_room, step, taken, room, statement, finished, run, nodes}
 use Rattle.tera_syntax.specs.File.{File, extending, is_front_piece, kept, file_run, spelled, once, file}
-use Rattle.tera_syntax.proofs.OneTag.{quotes-got, quotes-is, extends_read}
+use Rattle.tera_syntax.proofs.OneTag.{both, quotes-got, quotes-is, extends_read}
 use Rattle.tera_syntax.proofs.Complete.{at, put-read, complete_nodes}
 use Rattle.tera_syntax.proofs.Sound.{sound}
 use Rattle.tera_syntax.proofs.Placed.{derived_placed, derived_defined}
@@ -34,10 +34,6 @@ abbrev pub IsOnce : Tree → Type 0
 IsOnce tree = IsTrue (has_each_block_once tree.nodes) × IsTrue (has_each_component_once tree.nodes)
 
 -- The tag
-
-both : (a b : Bool) → (a && b) ≡ true → (a ≡ true) × (b ≡ true)
-both true b h = (refl, h)
-both false b h = absurd (cc)
 
 begins : (tokens : List Token) → is_extends tokens ≡ true → Begins (codes "extends") tokens
 begins tokens e =

@@ -1,83 +1,76 @@
--- The names of a tree's blocks and components, one behind another.
-use Rattle.std.proofs.Common.{◌≡◌, List, [], ◌∷◌, ◌++◌, map, Vec, Box, Bor, Bool, Global, Result, Ok, Err, OnOk, ap, ap₂, sym, ◌∙◌}
-use Rattle.std.proofs.lemmas.List.{append_assoc, map-append}
+-- What a node's bodies say of the node: the names of its blocks, and that all in it lies inside.
+use Rattle.std.proofs.Common.{◌≡◌, ℕ, ◌+◌, ◌<◌, List, ◌∷◌, ◌++◌, map, length, drop, get_or, Vec, Box, Bor, Bool, Global, Result, Ok, Err, ◌⊎◌, inl, inr, refl, ap, sym, ◌∙◌, subst}
+use Rattle.std.proofs.lemmas.List.{append_assoc, drop_more, map-append}
 use Rattle.tera_errors.specs.Site.{Name, Text}
 use Rattle.tera_errors.specs.declared.span.Span.{Span}
 use Rattle.tera_syntax_tokens.specs.declared.refusal.Refusal.{Refusal}
 use Rattle.tera_syntax_tree.specs.declared.expression.Expression.{Expression}
 use Rattle.tera_syntax_tree.specs.declared.component.Signature.{Signature}
-use Rattle.tera_syntax_tree.specs.declared.expression.Entry.{Entry}
+use Rattle.tera_syntax_tree.specs.declared.expression.ComponentTag.{ComponentTag}
 use Rattle.tera_syntax_tree.specs.declared.expression.Heading.{Heading}
 use Rattle.tera_syntax_tree.specs.declared.node.Node as declared
+use Rattle.tera_syntax_tree.specs.declared.node.Captured.{Captured}
 use Rattle.tera_syntax_tree.specs.declared.node.SectionFilter.{SectionFilter}
 use Rattle.tera_syntax_tree.specs.declared.node.Node.TheVariants as variant
-use Rattle.tera_syntax_tree.specs.Tree.{Nodes}
+use Rattle.tera_syntax_tree.specs.Tree.{Node}
 use Rattle.tera_syntax_tree.specs.Blocks.{blocks, block_names}
+use Rattle.tera_syntax_tree.specs.Inside.{Within, NodeInside, NodesInside}
 use Rattle.tera_syntax_tree.specs.View.{node_of, nodes_of}
 use Rattle.tera_syntax_tree.proofs.Views.{view_if, view_for, view_capture, view_section, view_block, view_component_call, view_definition}
 use Rattle.tera_syntax.specs.declared.blocks.PlacedName.{PlacedName}
-use Rattle.tera_syntax.specs.View.{names_of, node_names}
+use Rattle.tera_syntax.specs.View.{Gathers, names_of, node_names}
 
--- a body of a node, and the other
-names_both : (body other : Nodes) → map (λ b. b.0) (blocks body ++ blocks other) ≡ block_names body ++ block_names other
-names_both body other = map-append (λ b. b.0) (blocks body) (blocks other)
+-- the next node, and those behind it
+pub next_inside : (size : ℕ) (nodes : List declared.Node) (i : ℕ) (n : declared.Node) → i < length nodes → n ≡ get_or nodes i n → NodesInside size (nodes_of (drop i nodes)) → NodeInside size (node_of n) × NodesInside size (nodes_of (drop (i + 1) nodes))
+next_inside size nodes i n l e h =
+    let p = subst (λ ns. NodesInside size (nodes_of ns)) (drop_more nodes i n l) h in
+    (subst (λ m. NodeInside size (node_of m)) (sym e) p.0, p.1)
 
-behind_two : (old middle new a b : List Name) → middle ≡ old ++ a → new ≡ middle ++ b → new ≡ old ++ (a ++ b)
-behind_two old middle new a b m n = n ∙ ap (λ x. x ++ b) m ∙ append_assoc old a b
+-- names that are gathered behind what was gathered before
+pub gathered_behind : (result : Result (Unit {0}) Refusal) (old middle new : List PlacedName) (a b : List Name) → names_of middle ≡ names_of old ++ a → Gathers b middle result new → Gathers (a ++ b) old result new
+gathered_behind (Ok done) old middle new a b m h = h ∙ ap (λ x. x ++ b) m ∙ append_assoc (names_of old) a b
+gathered_behind (Err refusal) old middle new a b m h = h
 
-on_ok : {A : Type 0} (r : Result A Refusal) {P Q : Type 0} → (P → Q) → OnOk r P → OnOk r Q
-on_ok (Ok a) f h = f h
-on_ok (Err e) f h = tt
+-- the names of a node's blocks are these, and this lies inside where the node does
+abbrev pub Holds : declared.Node → List Name → (ℕ → Type 0) → Type 0
+Holds node names Parts = (node_names (node_of node) ≡ names) × ((size : ℕ) → NodeInside size (node_of node) → Parts size)
 
-module _ (result : Result (Unit {0}) Refusal) (old new : List Name) (node : declared.Node) where
-  -- The names of a node's parts are the node's
+by_view : (node : declared.Node) (names : List Name) (Parts : ℕ → Type 0) {made : Node} → node_of node ≡ made → node_names made ≡ names → ((size : ℕ) → NodeInside size made → Parts size) → Holds node names Parts
+by_view node names Parts view named parts = (ap node_names view ∙ named, λ size inside. parts size (subst (NodeInside size) view inside))
 
-  pub capture_gathered : (t : Bor Text) (filters : Vec SectionFilter Global) (body : Vec declared.Node Global) (is_global : Bool) (xs : List declared.Node) → node ≡ variant.Capture t filters body is_global → xs ≡ body.items
-      → OnOk result (new ≡ old ++ block_names (nodes_of xs)) → OnOk result (new ≡ old ++ node_names (node_of node))
-  capture_gathered t filters body is_global xs is a h =
-      let s = ap (λ xs. block_names (nodes_of xs)) a ∙ ap node_names (sym (view_capture t filters body is_global)) ∙ ap (λ n. node_names (node_of n)) (sym is) in
-      on_ok result (λ e. e ∙ ap (λ names. old ++ names) s) h
+-- a node that is no block and has one body
+abbrev pub HasBody : declared.Node → Vec declared.Node Global → Type 0
+HasBody node body =
+    ((is_global : Bool) × (c : Box Captured Global) × (node ≡ variant.Capture is_global c body)) ⊎ (((filters : Vec SectionFilter Global) × (node ≡ variant.FilterSection filters body))
+    ⊎ (((t : Box ComponentTag Global) × (span : Span) × (node ≡ variant.ComponentCall t body span)) ⊎ ((s : Box Signature Global) × (node ≡ variant.Definition s body))))
 
-  pub section_gathered : (filters : Vec SectionFilter Global) (body : Vec declared.Node Global) (xs : List declared.Node) → node ≡ variant.FilterSection filters body → xs ≡ body.items
-      → OnOk result (new ≡ old ++ block_names (nodes_of xs)) → OnOk result (new ≡ old ++ node_names (node_of node))
-  section_gathered filters body xs is a h =
-      let s = ap (λ xs. block_names (nodes_of xs)) a ∙ ap node_names (sym (view_section filters body)) ∙ ap (λ n. node_names (node_of n)) (sym is) in
-      on_ok result (λ e. e ∙ ap (λ names. old ++ names) s) h
+pub body_holds : (node : declared.Node) (body : Vec declared.Node Global) (xs : List declared.Node) → xs ≡ body.items → HasBody node body → Holds node (block_names (nodes_of xs)) (λ size. NodesInside size (nodes_of xs))
+body_holds node body xs a is = subst (λ xs. Holds node (block_names (nodes_of xs)) (λ size. NodesInside size (nodes_of xs))) (sym a) (by_head is)
+  where
+    by_head : HasBody node body → Holds node (block_names (nodes_of body.items)) (λ size. NodesInside size (nodes_of body.items))
+    by_head (inl p) = by_view node _ _ (ap node_of p.2 ∙ view_capture p.0 p.1 body) refl (λ size inside. inside.1)
+    by_head (inr (inl p)) = by_view node _ _ (ap node_of p.1 ∙ view_section p.0 body) refl (λ size inside. inside.1)
+    by_head (inr (inr (inl p))) = by_view node _ _ (ap node_of p.2 ∙ view_component_call p.0 body p.1) refl (λ size inside. inside.1)
+    by_head (inr (inr (inr p))) = by_view node _ _ (ap node_of p.1 ∙ view_definition p.0 body) refl (λ size inside. inside)
 
-  pub block_gathered : (t : Bor Text) (body : Vec declared.Node Global) (span : Span) (xs : List declared.Node) (names pushed : List PlacedName) (b : PlacedName) → node ≡ variant.Block t body span → xs ≡ body.items
-      → old ≡ names_of names → pushed ≡ names ++ b ∷ [] → b.name.now ≡ t.now → OnOk result (new ≡ names_of pushed ++ block_names (nodes_of xs)) → OnOk result (new ≡ old ++ node_names (node_of node))
-  block_gathered t body span xs names pushed b is a o p w h =
-      let m : names_of pushed ≡ old ++ t.now ∷ [] = ap names_of p ∙ map-append (λ n. n.name.now) names (b ∷ []) ∙ ap₂ (λ x y. x ++ y ∷ []) (sym o) w in
-      let s = ap node_names (sym (view_block t body span)) ∙ ap (λ n. node_names (node_of n)) (sym is) in
-      on_ok result (λ e. behind_two old (names_of pushed) new (t.now ∷ []) (block_names (nodes_of body.items)) m (e ∙ ap (λ xs. names_of pushed ++ block_names (nodes_of xs)) a)
-      ∙ ap (λ names. old ++ names) s) h
+-- a node that has two bodies
+abbrev pub HasBodies : declared.Node → Vec declared.Node Global → Vec declared.Node Global → Type 0
+HasBodies node body other = ((c : Box Expression Global) × (node ≡ variant.If c body other)) ⊎ ((h : Box Heading Global) × (node ≡ variant.For h body other))
 
-  pub call_gathered : (t : Bor Text) (attributes : Vec Entry Global) (body : Vec declared.Node Global) (span : Span) (xs : List declared.Node) → node ≡ variant.ComponentCall t attributes body span → xs ≡ body.items
-      → OnOk result (new ≡ old ++ block_names (nodes_of xs)) → OnOk result (new ≡ old ++ node_names (node_of node))
-  call_gathered t attributes body span xs is a h =
-      let s = ap (λ xs. block_names (nodes_of xs)) a ∙ ap node_names (sym (view_component_call t attributes body span)) ∙ ap (λ n. node_names (node_of n)) (sym is) in
-      on_ok result (λ e. e ∙ ap (λ names. old ++ names) s) h
+abbrev Both : declared.Node → List declared.Node → List declared.Node → Type 0
+Both node xs ys = Holds node (block_names (nodes_of xs) ++ block_names (nodes_of ys)) (λ size. NodesInside size (nodes_of xs) × NodesInside size (nodes_of ys))
 
-  pub definition_gathered : (signature : Box Signature Global) (body : Vec declared.Node Global) (xs : List declared.Node) → node ≡ variant.Definition signature body → xs ≡ body.items
-      → OnOk result (new ≡ old ++ block_names (nodes_of xs)) → OnOk result (new ≡ old ++ node_names (node_of node))
-  definition_gathered signature body xs is a h =
-      let s = ap (λ xs. block_names (nodes_of xs)) a ∙ ap node_names (sym (view_definition signature body)) ∙ ap (λ n. node_names (node_of n)) (sym is) in
-      on_ok result (λ e. e ∙ ap (λ names. old ++ names) s) h
+pub bodies_hold : (node : declared.Node) (body other : Vec declared.Node Global) (xs ys : List declared.Node) → xs ≡ body.items → ys ≡ other.items → HasBodies node body other → Both node xs ys
+bodies_hold node body other xs ys a b is = subst (λ xs. Both node xs ys) (sym a) (subst (Both node body.items) (sym b) (by_head is))
+  where
+    names : map (λ b. b.0) (blocks (nodes_of body.items) ++ blocks (nodes_of other.items)) ≡ block_names (nodes_of body.items) ++ block_names (nodes_of other.items)
+    names = map-append (λ b. b.0) (blocks (nodes_of body.items)) (blocks (nodes_of other.items))
 
-  both_gathered : (body other : Nodes) (middle : List Name) (xs ys : Nodes) → map (λ b. b.0) (blocks body ++ blocks other) ≡ node_names (node_of node) → xs ≡ body → ys ≡ other
-      → middle ≡ old ++ block_names xs → OnOk result (new ≡ middle ++ block_names ys) → OnOk result (new ≡ old ++ node_names (node_of node))
-  both_gathered body other middle xs ys s a b m h =
-      on_ok result (λ e. behind_two old middle new (block_names body) (block_names other) (m ∙ ap (λ x. old ++ block_names x) a) (e ∙ ap (λ y. middle ++ block_names y) b)
-      ∙ ap (λ names. old ++ names) (sym (names_both body other) ∙ s)) h
+    by_head : HasBodies node body other → Both node body.items other.items
+    by_head (inl p) = by_view node _ _ (ap node_of p.1 ∙ view_if p.0 body other) names (λ size inside. (inside.1, inside.2))
+    by_head (inr p) = by_view node _ _ (ap node_of p.1 ∙ view_for p.0 body other) names (λ size inside. (inside.1, inside.2))
 
-  pub if_gathered : (c : Box Expression Global) (body other : Vec declared.Node Global) (middle : List Name) (xs ys : List declared.Node) → node ≡ variant.If c body other → xs ≡ body.items → ys ≡ other.items
-      → middle ≡ old ++ block_names (nodes_of xs) → OnOk result (new ≡ middle ++ block_names (nodes_of ys)) → OnOk result (new ≡ old ++ node_names (node_of node))
-  if_gathered c body other middle xs ys is a b m h =
-      both_gathered (nodes_of body.items) (nodes_of other.items) middle (nodes_of xs) (nodes_of ys)
-      (ap node_names (sym (view_if c body other)) ∙ ap (λ n. node_names (node_of n)) (sym is)) (ap nodes_of a) (ap nodes_of b) m h
-
-  pub for_gathered : (h : Box Heading Global) (body other : Vec declared.Node Global) (middle : List Name) (xs ys : List declared.Node) → node ≡ variant.For h body other → xs ≡ body.items → ys ≡ other.items
-      → middle ≡ old ++ block_names (nodes_of xs) → OnOk result (new ≡ middle ++ block_names (nodes_of ys)) → OnOk result (new ≡ old ++ node_names (node_of node))
-  for_gathered h body other middle xs ys is a b m g =
-      both_gathered (nodes_of body.items) (nodes_of other.items) middle (nodes_of xs) (nodes_of ys)
-      (ap node_names (sym (view_for h body other)) ∙ ap (λ n. node_names (node_of n)) (sym is)) (ap nodes_of a) (ap nodes_of b) m g
+pub block_holds : (node : declared.Node) (t : Bor Text) (body : Vec declared.Node Global) (span : Span) (xs : List declared.Node) → xs ≡ body.items → node ≡ variant.Block t body span
+    → Holds node (t.now ∷ block_names (nodes_of xs)) (λ size. NodesInside size (nodes_of xs) × Within size span)
+block_holds node t body span xs a is =
+    subst (λ xs. Holds node (t.now ∷ block_names (nodes_of xs)) (λ size. NodesInside size (nodes_of xs) × Within size span)) (sym a) (by_view node _ _ (ap node_of is ∙ view_block t body span) refl (λ size inside. inside))

@@ -18,7 +18,7 @@ use Rattle.tera_syntax_expressions.proofs.Calls.{calls_lie}
 use Rattle.tera_syntax_expressions.proofs.Inside.{expr_lies, attributes_lie, filters_lie}
 use Rattle.tera_syntax.specs.declared.heads.Surroundings.{Surroundings}
 use Rattle.tera_syntax.specs.Heads.{Head, IfHead, ForHead, SetHead, SectionHead, BlockHead, CallHead, DefinitionHead, make, first}
-use Rattle.tera_syntax.specs.Grammar.{DerivesWhole, whole, DerivesPipe, pipe, Simple, set, includes, breaks, continues, Opens, choice, loop, capture, filtered, section, block, call, definition, GoesOn, elif, DerivesNodes, empty, content, blank, comment, print, single, bodied, DerivesRest, ended, split, chained, Front, nothing, space, remark, DerivesFile, root, child}
+use Rattle.tera_syntax.specs.Grammar.{DerivesWhole, whole, DerivesPipe, pipe, Simple, set, includes, Opens, choice, loop, capture, filtered, section, block, call, definition, GoesOn, elif, DerivesNodes, empty, content, blank, comment, print, single, bodied, DerivesRest, ended, split, chained, Front, nothing, space, remark, DerivesFile, root, child}
 use Rattle.tera_syntax.specs.Spells.{Spells}
 
 -- nodes that were read between two places lie inside, and so do the pieces that are left
@@ -57,8 +57,7 @@ stretch_inside size s i j e n o w =
 simple_inside : (size : ℕ) {q : Surroundings} {node : Node} {tokens : List Token} → Simple q node tokens → InOrder size 0 tokens → NodeInside size node
 simple_inside size {q = q} {tokens = tokens} (set b n w) o = whole_inside size w (behind_two size (next (begin q.in_loop tokens)) (behind size (begin q.in_loop tokens) o))
 simple_inside size {tokens = tokens} (includes w) o = token_inside size k.Text (next (begin false tokens)) w.1 (λ q. cc) (behind size (begin false tokens) o)
-simple_inside size (breaks l w) o = tt
-simple_inside size (continues l w) o = tt
+simple_inside size _ o = tt
 
 -- the expressions and filters of a head lie inside, and its name
 abbrev HeadInside : ℕ → Head → Type 0

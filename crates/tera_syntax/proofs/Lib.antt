@@ -1,7 +1,6 @@
 pub mod Rows
 pub mod Gathered
 pub mod Again
-pub mod Parts
 pub mod Whole
 pub mod Lone
 pub mod Begun

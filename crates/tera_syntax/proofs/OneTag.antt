@@ -40,7 +40,7 @@ some-is x y h = cc
 is-word : (word w : Text) → bytes_eq word w ≡ true → word ≡ w
 is-word word w h = (bytes_eq-Decides word w).0 h
 
-both : (a b : Bool) → (a && b) ≡ true → (a ≡ true) × (b ≡ true)
+pub both : (a b : Bool) → (a && b) ≡ true → (a ≡ true) × (b ≡ true)
 both true b h = (refl, h)
 both false b h = absurd (cc)
 
@@ -187,68 +187,24 @@ module _ (limit : ℕ) (q outer : Surroundings) (tokens : List Token) (t : Tag) 
       let g = guard q.may_leave (alone word tokens (Single n)) t h in
       alone-got k.Name word (Single n) e (m g.0) g.1
 
-  abbrev by-continue : Text → Option Tag
-  by-continue word = if bytes_eq word (codes "continue") then leaving q.may_leave (codes "continue") tokens Continue else Some Closing
-
-  abbrev by-break : Text → Option Tag
-  by-break word = if bytes_eq word (codes "break") then leaving q.may_leave (codes "break") tokens Break else by-continue word
-
-  abbrev by-include : Text → Option Tag
-  by-include word = if bytes_eq word (codes "include") then including (next (begin false tokens)) else by-break word
-
-  abbrev by-component : Text → Option Tag
-  by-component word = if bytes_eq word (codes "component") then defining q.is_top limit (next (begin false tokens)) else by-include word
-
-  abbrev by-block : Text → Option Tag
-  by-block word = if bytes_eq word (codes "block") then blocking q.may_have_blocks (next (begin q.in_loop tokens)) else by-component word
-
-  abbrev by-filter : Text → Option Tag
-  by-filter word = if bytes_eq word (codes "filter") then sectioning limit (next (begin q.in_loop tokens)) else by-block word
-
-  abbrev by-set_global : Text → Option Tag
-  by-set_global word = if bytes_eq word (codes "set_global") then setting limit true (next (begin q.in_loop tokens)) else by-filter word
-
-  continue-by : first tokens ≡ k.Name → (b : Bool) → (if b then leaving q.may_leave (codes "continue") tokens Continue else Some Closing) ≡ Some t → Says
-  continue-by e true h = leaving-got (codes "continue") Continue e (λ l w. (continues l w, omega arith)) h
-  continue-by e false h = said Closing tt (some-is Closing t h)
-
-  break-by : first tokens ≡ k.Name → (word : Text) → (b : Bool) → (if b then leaving q.may_leave (codes "break") tokens Break else by-continue word) ≡ Some t → Says
-  break-by e word true h = leaving-got (codes "break") Break e (λ l w. (breaks l w, omega arith)) h
-  break-by e word false h = continue-by e (bytes_eq word (codes "continue")) h
-
-  include-by : first tokens ≡ k.Name → (word : Text) → text (begin false tokens) ≡ word → (b : Bool) → bytes_eq word (codes "include") ≡ b
-      → (if b then including (next (begin false tokens)) else by-break word) ≡ Some t → Says
-  include-by e word f true w h = include-got (e, f ∙ is-word word (codes "include") w) h
-  include-by e word f false w h = break-by e word (bytes_eq word (codes "break")) h
-
-  component-by : first tokens ≡ k.Name → (word : Text) → text (begin false tokens) ≡ word → (b : Bool) → bytes_eq word (codes "component") ≡ b
-      → (if b then defining q.is_top limit (next (begin false tokens)) else by-include word) ≡ Some t → Says
-  component-by e word f true w h = definition-got (e, f ∙ is-word word (codes "component") w) h
-  component-by e word f false w h = include-by e word f (bytes_eq word (codes "include")) refl h
-
-  block-by : first tokens ≡ k.Name → (word : Text) → text (begin false tokens) ≡ word → (b : Bool) → bytes_eq word (codes "block") ≡ b
-      → (if b then blocking q.may_have_blocks (next (begin q.in_loop tokens)) else by-component word) ≡ Some t → Says
-  block-by e word f true w h = block-got (e, f ∙ is-word word (codes "block") w) h
-  block-by e word f false w h = component-by e word f (bytes_eq word (codes "component")) refl h
-
-  filter-by : first tokens ≡ k.Name → (word : Text) → text (begin false tokens) ≡ word → (b : Bool) → bytes_eq word (codes "filter") ≡ b
-      → (if b then sectioning limit (next (begin q.in_loop tokens)) else by-block word) ≡ Some t → Says
-  filter-by e word f true w h = section-got (e, f ∙ is-word word (codes "filter") w) h
-  filter-by e word f false w h = block-by e word f (bytes_eq word (codes "block")) refl h
-
-  set_global-by : first tokens ≡ k.Name → (word : Text) → text (begin false tokens) ≡ word → (b : Bool) → bytes_eq word (codes "set_global") ≡ b
-      → (if b then setting limit true (next (begin q.in_loop tokens)) else by-filter word) ≡ Some t → Says
-  set_global-by e word f true w h = set-got true (e, f ∙ is-word word (codes "set_global") w) h
-  set_global-by e word f false w h = filter-by e word f (bytes_eq word (codes "filter")) refl h
-
-  set-by : first tokens ≡ k.Name → (word : Text) → text (begin false tokens) ≡ word → (b : Bool) → bytes_eq word (codes "set") ≡ b
-      → (if b then setting limit false (next (begin q.in_loop tokens)) else by-set_global word) ≡ Some t → Says
-  set-by e word f true w h = set-got false (e, f ∙ is-word word (codes "set") w) h
-  set-by e word f false w h = set_global-by e word f (bytes_eq word (codes "set_global")) refl h
+  -- what is said where a tag begins with this word, and otherwise
+  word-got : (word : Text) (o p : Option Tag) → (text (begin false tokens) ≡ word → o ≡ Some t → Says) → (p ≡ Some t → Says) → (if bytes_eq (text (begin false tokens)) word then o else p) ≡ Some t → Says
+  word-got word o p this other h =
+      let w = text (begin false tokens) in
+      either (chosen (bytes_eq w word) o p (Some t) h) (λ c. this (is-word w word c.0) c.1) (λ c. other c.1)
 
   named-got : first tokens ≡ k.Name → named limit q tokens (text (begin false tokens)) ≡ Some t → Says
   unfolding named
-  named-got e h = set-by e (text (begin false tokens)) refl (bytes_eq (text (begin false tokens)) (codes "set")) refl h
+  named-got e =
+      word-got (codes "set") _ _ (λ w. set-got false (e, w)) (
+      word-got (codes "set_global") _ _ (λ w. set-got true (e, w)) (
+      word-got (codes "filter") _ _ (λ w. section-got (e, w)) (
+      word-got (codes "block") _ _ (λ w. block-got (e, w)) (
+      word-got (codes "component") _ _ (λ w. definition-got (e, w)) (
+      word-got (codes "include") _ _ (λ w. include-got (e, w)) (
+      word-got (codes "break") _ _ (λ w. leaving-got (codes "break") Break e (λ l w. (breaks l w, omega arith))) (
+      word-got (codes "continue") _ _ (λ w. leaving-got (codes "continue") Continue e (λ l w. (continues l w, omega arith)))
+      (λ h. said Closing tt (some-is Closing t h)))))))))
 
   tag-by-got : (s : Kind) → first tokens ≡ s → tag_by limit q outer tokens s ≡ Some t → Says
   tag-by-got k.If e h = if-got e h
@@ -282,75 +238,46 @@ module _ (limit : ℕ) (q outer : Surroundings) (tokens : List Token) where
   set-named true = refl
   set-named false = refl
 
-  break-named : named limit q tokens (codes "break") ≡ leaving q.may_leave (codes "break") tokens Break
-  unfolding named
-  break-named = refl
-
-  continue-named : named limit q tokens (codes "continue") ≡ leaving q.may_leave (codes "continue") tokens Continue
-  unfolding named
-  continue-named = refl
+  -- behind the word and a name, by what follows
+  set-by : (is_global : Bool) (s : Kind) → Begins (set_word is_global) tokens → Names (next (begin q.in_loop tokens)) s
+      → tag limit q outer tokens ≡ setting_by limit is_global (text (next (begin q.in_loop tokens))) (next (next (begin q.in_loop tokens))) s
+  set-by is_global s b n =
+      let i = next (begin q.in_loop tokens) in
+      by-word (set_word is_global) b
+      ∙ set-named is_global
+      ∙ name-stands i n.0 (setting_by limit is_global (text i) (next i) (kind (next i)))
+      ∙ ap (setting_by limit is_global (text i) (next i)) n.1
 
   set-read : {is_global : Bool} (e : Expr) → Begins (set_word is_global) tokens → Names (next (begin q.in_loop tokens)) k.Assign → DerivesWhole e (next (next (next (begin q.in_loop tokens)))) → depth e ≤ limit
       → tag limit q outer tokens ≡ Some (Single (Set (text (next (begin q.in_loop tokens))) e is_global))
-  set-read {is_global = is_global} e b n w le =
-      let i = next (begin q.in_loop tokens) in
-      by-word (set_word is_global) b
-      ∙ set-named is_global
-      ∙ name-stands i n.0 (setting_by limit is_global (text i) (next i) (kind (next i)))
-      ∙ ap (setting_by limit is_global (text i) (next i)) n.1
-      ∙ ap (option_map (λ e. Single (Set (text i) e is_global))) (whole_complete w limit le)
-
-  capture-read : {is_global : Bool} → Begins (set_word is_global) tokens → Names (next (begin q.in_loop tokens)) k.End → tag limit q outer tokens ≡ Some (Opening (SetHead (text (next (begin q.in_loop tokens))) NoFilters is_global))
-  capture-read {is_global = is_global} b n =
-      let i = next (begin q.in_loop tokens) in
-      by-word (set_word is_global) b
-      ∙ set-named is_global
-      ∙ name-stands i n.0 (setting_by limit is_global (text i) (next i) (kind (next i)))
-      ∙ ap (setting_by limit is_global (text i) (next i)) n.1
+  set-read {is_global = is_global} e b n w le = set-by is_global k.Assign b n ∙ ap (option_map (λ e. Single (Set (text (next (begin q.in_loop tokens))) e is_global))) (whole_complete w limit le)
 
   filtered-read : {is_global : Bool} {fs : Filters} → Begins (set_word is_global) tokens → Names (next (begin q.in_loop tokens)) k.Bar → DerivesPipe fs (next (next (next (begin q.in_loop tokens)))) → filters_depth fs ≤ limit
       → tag limit q outer tokens ≡ Some (Opening (SetHead (text (next (begin q.in_loop tokens))) fs is_global))
-  filtered-read {is_global = is_global} b n w le =
-      let i = next (begin q.in_loop tokens) in
-      by-word (set_word is_global) b
-      ∙ set-named is_global
-      ∙ name-stands i n.0 (setting_by limit is_global (text i) (next i) (kind (next i)))
-      ∙ ap (setting_by limit is_global (text i) (next i)) n.1
-      ∙ ap (option_map (λ fs. Opening (SetHead (text i) fs is_global))) (pipe_complete w limit le)
-
-  filter-named : named limit q tokens (codes "filter") ≡ sectioning limit (next (begin q.in_loop tokens))
-  unfolding named
-  filter-named = refl
+  filtered-read {is_global = is_global} b n w le = set-by is_global k.Bar b n ∙ ap (option_map (λ fs. Opening (SetHead (text (next (begin q.in_loop tokens))) fs is_global))) (pipe_complete w limit le)
 
   section-read : {fs : Filters} → Begins (codes "filter") tokens → DerivesPipe fs (next (begin q.in_loop tokens)) → filters_depth fs ≤ limit → tag limit q outer tokens ≡ Some (Opening (SectionHead fs))
-  section-read b w le = by-word (codes "filter") b ∙ filter-named ∙ ap (option_map (λ fs. Opening (SectionHead fs))) (pipe_complete w limit le)
-
-  block-named : named limit q tokens (codes "block") ≡ blocking q.may_have_blocks (next (begin q.in_loop tokens))
   unfolding named
-  block-named = refl
+  section-read b w le = by-word (codes "filter") b ∙ ap (option_map (λ fs. Opening (SectionHead fs))) (pipe_complete w limit le)
 
   block-read : IsTrue q.may_have_blocks → Begins (codes "block") tokens → is_word (kind (next (begin q.in_loop tokens))) ≡ true → kind (next (next (begin q.in_loop tokens))) ≡ k.End
       → tag limit q outer tokens ≡ Some (Opening (BlockHead (text (next (begin q.in_loop tokens))) (span (start (next (begin q.in_loop tokens))) (next (next (begin q.in_loop tokens))))))
+  unfolding named
   block-read m b w n =
       let i = next (begin q.in_loop tokens) in
       let u = Some (Opening (BlockHead (text i) (span (start i) (next i)))) in
       by-word (codes "block") b
-      ∙ block-named
       ∙ ap (λ (b : Bool). if b then block_at i else None) m
       ∙ ap (λ (b : Bool). if b then (if same k.End (kind (next i)) then u else None) else None) w
       ∙ ap (λ (b : Bool). if b then u else None) (ap (same k.End) n ∙ same-refl k.End)
 
-  component-named : named limit q tokens (codes "component") ≡ defining q.is_top limit (next (begin false tokens))
-  unfolding named
-  component-named = refl
-
   definition-read : {s : Signature} {j : Input} → IsTrue q.is_top → Begins (codes "component") tokens → DerivesSignature s (next (begin false tokens)) j → kind j ≡ k.End → parameters_depth s.parameters ≤ limit
       → tag limit q outer tokens ≡ Some (Opening (DefinitionHead s))
+  unfolding named
   definition-read m b d e le =
       let i = next (begin false tokens) in
       let make : Signature → Tag = λ s. Opening (DefinitionHead s) in
       by-word (codes "component") b
-      ∙ component-named
       ∙ ap (λ (b : Bool). if b then option_map make (signed limit i) else None) m
       ∙ ap (option_map make) (signed_complete d e limit le)
 
@@ -368,16 +295,12 @@ module _ (limit : ℕ) (q outer : Surroundings) (tokens : List Token) where
       ∙ ap (λ (b : Bool). if b then Some Closing else option_map Opening (called limit (start i) (next i))) (no-slash (next i) w)
       ∙ ap (option_map Opening) (called_complete limit (start i) (next i) a xs w d g f le)
 
-  include-named : named limit q tokens (codes "include") ≡ including (next (begin false tokens))
-  unfolding named
-  include-named = refl
-
   include-read : {name : Name} → Quotes (codes "include") name tokens
       → tag limit q outer tokens ≡ Some (Single (Include name (span (start (next (begin false tokens))) (next (next (begin false tokens))))))
+  unfolding named
   include-read {name = name} w =
       let i = next (begin false tokens) in
       by-word (codes "include") w.0
-      ∙ include-named
       ∙ ap (option_map (λ name. Single (Include name (span (start i) (next i))))) (quotes-is (codes "include") tokens name w)
 
   alone-is : (word : Text) (u : Tag) → IsTrue (is_alone word tokens) → alone word tokens u ≡ Some u
@@ -387,10 +310,11 @@ module _ (limit : ℕ) (q outer : Surroundings) (tokens : List Token) where
   leaving-is word n l h = ap (λ (b : Bool). if b then alone word tokens (Single n) else None) l ∙ alone-is word (Single n) h
 
   pub simple_read : {node : Node} → Simple q node tokens → node_depth node ≤ suc limit → tag limit q outer tokens ≡ Some (Single node)
+  unfolding named
   simple_read (set {e = e} b n w) le = set-read e b n w (omega (arith, le))
   simple_read (includes w) le = include-read w
-  simple_read (breaks l w) le = by-word (codes "break") (w.0, alone-text (codes "break") tokens w.1) ∙ break-named ∙ leaving-is (codes "break") Break l w.1
-  simple_read (continues l w) le = by-word (codes "continue") (w.0, alone-text (codes "continue") tokens w.1) ∙ continue-named ∙ leaving-is (codes "continue") Continue l w.1
+  simple_read (breaks l w) le = by-word (codes "break") (w.0, alone-text (codes "break") tokens w.1) ∙ leaving-is (codes "break") Break l w.1
+  simple_read (continues l w) le = by-word (codes "continue") (w.0, alone-text (codes "continue") tokens w.1) ∙ leaving-is (codes "continue") Continue l w.1
 
   pub opens_read : {head : Head} → Opens q head tokens → head_depth head ≤ limit → tag limit q outer tokens ≡ Some (Opening head)
   opens_read (choice e w) le = by-kind k.If e ∙ ap (option_map (λ c. Opening (IfHead c))) (whole_complete w limit le)
@@ -398,7 +322,7 @@ module _ (limit : ℕ) (q outer : Surroundings) (tokens : List Token) where
       by-kind k.For f
       ∙ ap (λ o. option_map Opening (looping_by limit o)) (calls-is c)
       ∙ ap (λ o. option_map Opening (option_map (ForHead key name) o)) (whole_complete w limit le)
-  opens_read (capture b n) le = capture-read b n
+  opens_read (capture {is_global = is_global} b n) le = set-by is_global k.End b n
   opens_read (filtered b n w) le = filtered-read b n w le
   opens_read (section b w) le = section-read b w le
   opens_read (block m b w n) le = block-read m b w n
@@ -420,15 +344,10 @@ module _ (limit : ℕ) (q outer : Surroundings) (tokens : List Token) where
   set-end e is_global true f h = by-end e (codes "endset") refl f
   set-end e is_global false f h = by-end e (codes "endset_global") refl (both is_global (is_alone (codes "endset_global") tokens) h).1
 
-  block-end : first tokens ≡ k.Name → (name : Text) (b : Bool) → is_alone (codes "endblock") tokens ≡ b → (b || is_named (codes "endblock") name tokens) ≡ true → tag limit q outer tokens ≡ Some Closing
-  unfolding named
-  block-end e name true f h = by-end e (codes "endblock") refl f
-  block-end e name false f h = by-word (codes "endblock") (e, named-text (codes "endblock") name tokens h)
-
-  component-end : first tokens ≡ k.Name → (name : Text) (b : Bool) → is_alone (codes "endcomponent") tokens ≡ b → (b || is_named (codes "endcomponent") name tokens) ≡ true → tag limit q outer tokens ≡ Some Closing
-  unfolding named
-  component-end e name true f h = by-end e (codes "endcomponent") refl f
-  component-end e name false f h = by-word (codes "endcomponent") (e, named-text (codes "endcomponent") name tokens h)
+  -- behind the word a name may stand
+  named-end : first tokens ≡ k.Name → (word name : Text) → named limit q tokens word ≡ Some Closing → (b : Bool) → is_alone word tokens ≡ b → (b || is_named word name tokens) ≡ true → tag limit q outer tokens ≡ Some Closing
+  named-end e word name free true f h = by-end e word free f
+  named-end e word name free false f h = by-word word (e, named-text word name tokens h) ∙ free
 
   end-read : (head : Head) → first tokens ≡ end_kind head → is_end head tokens ≡ true → tag limit q outer tokens ≡ Some Closing
   unfolding named
@@ -436,9 +355,9 @@ module _ (limit : ℕ) (q outer : Surroundings) (tokens : List Token) where
   end-read (ForHead key n c) e h = by-end e (codes "endfor") refl h
   end-read (SetHead n fs is_global) e h = set-end e is_global (is_alone (codes "endset") tokens) refl h
   end-read (SectionHead fs) e h = by-end e (codes "endfilter") refl h
-  end-read (BlockHead n place) e h = block-end e n (is_alone (codes "endblock") tokens) refl h
+  end-read (BlockHead n place) e h = named-end e (codes "endblock") n refl (is_alone (codes "endblock") tokens) refl h
   end-read (CallHead n all place) e h = by-kind k.Less e ∙ ap (λ (b : Bool). if b then Some Closing else option_map Opening (called limit (start (begin q.in_loop tokens)) (next (begin q.in_loop tokens)))) (slash-text q.in_loop n tokens h)
-  end-read (DefinitionHead s) e h = component-end e s.name (is_alone (codes "endcomponent") tokens) refl h
+  end-read (DefinitionHead s) e h = named-end e (codes "endcomponent") s.name refl (is_alone (codes "endcomponent") tokens) refl h
 
   pub extends_read : Begins (codes "extends") tokens → tag limit q outer tokens ≡ Some Closing
   unfolding named

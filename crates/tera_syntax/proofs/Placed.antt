@@ -6,27 +6,22 @@ use Rattle.tera_syntax_tree.specs.Tree.{Node, Nodes}
 use Rattle.tera_syntax_tree.specs.Places.{node_in_place, in_place}
 use Rattle.tera_syntax_tree.specs.Definitions.{node_defined_in_place, defined_in_place}
 use Rattle.tera_syntax.specs.declared.heads.Surroundings.{Surroundings}
-use Rattle.tera_syntax.specs.Heads.{Head, IfHead, ForHead, SetHead, SectionHead, BlockHead, CallHead, DefinitionHead, nested, make, inside}
-use Rattle.tera_syntax.specs.Grammar.{Simple, set, includes, breaks, continues, Opens, choice, loop, capture, filtered, section, block, call, definition, elif, DerivesNodes, empty, content, blank, comment, print, single, bodied, DerivesRest, ended, split, chained}
+use Rattle.tera_syntax.specs.Heads.{Head, IfHead, ForHead, BlockHead, DefinitionHead, nested, make, inside}
+use Rattle.tera_syntax.specs.Grammar.{Simple, set, breaks, continues, Opens, block, definition, elif, DerivesNodes, empty, content, blank, comment, print, single, bodied, DerivesRest, ended, split, chained}
 
 and-true : (a b : Bool) → a ≡ true → b ≡ true → (a && b) ≡ true
 and-true true b e f = f
 and-true false b e f = absurd (cc)
 
 simple_placed : {q : Surroundings} {node : Node} {tokens : List Token} → Simple q node tokens → IsTrue (node_in_place q.may_leave node)
-simple_placed (set b n w) = refl
-simple_placed (includes w) = refl
 simple_placed (breaks l w) = l
 simple_placed (continues l w) = l
+simple_placed _ = refl
 
 made_placed : (q : Surroundings) (head : Head) (body other : Nodes) → IsTrue (in_place (inside head q).may_leave body) → IsTrue (in_place q.may_leave other) → IsTrue (node_in_place q.may_leave (make head body other))
 made_placed q (IfHead c) body other b o = and-true (in_place q.may_leave body) (in_place q.may_leave other) b o
 made_placed q (ForHead key n e) body other b o = and-true (in_place true body) (in_place q.may_leave other) b o
-made_placed q (SetHead n fs is_global) body other b o = b
-made_placed q (SectionHead fs) body other b o = b
-made_placed q (BlockHead n span) body other b o = b
-made_placed q (CallHead n all span) body other b o = b
-made_placed q (DefinitionHead s) body other b o = b
+made_placed q _ body other b o = b
 
 mutual
   pub derived_placed : {q : Surroundings} {x : Nodes} {i j : List Piece} → DerivesNodes q x i j → IsTrue (in_place q.may_leave x)
@@ -47,39 +42,26 @@ mutual
 
 simple_defined : {q : Surroundings} {node : Node} {tokens : List Token} → Simple q node tokens → IsTrue (node_defined_in_place q.is_top q.may_have_blocks node)
 simple_defined (set b n w) = refl
-simple_defined (includes w) = refl
-simple_defined (breaks l w) = refl
-simple_defined (continues l w) = refl
+simple_defined _ = refl
 
 -- a statement with this head may stand here
 abbrev MayOpen : Surroundings → Head → Type 0
-MayOpen q (IfHead c) = Unit {0}
-MayOpen q (ForHead key n e) = Unit {0}
-MayOpen q (SetHead n fs is_global) = Unit {0}
-MayOpen q (SectionHead fs) = Unit {0}
 MayOpen q (BlockHead n span) = IsTrue q.may_have_blocks
-MayOpen q (CallHead n all span) = Unit {0}
 MayOpen q (DefinitionHead s) = IsTrue q.is_top
+MayOpen q _ = Unit {0}
 
 opens_may : {q : Surroundings} {head : Head} {tokens : List Token} → Opens q head tokens → MayOpen q head
-opens_may (choice e w) = tt
-opens_may (loop e c w) = tt
-opens_may (capture b n) = tt
-opens_may (filtered b n w) = tt
-opens_may (section b w) = tt
 opens_may (block m b w n) = m
-opens_may (call e w d g f) = tt
 opens_may (definition m b d e) = m
+opens_may _ = tt
 
 made_defined : (q : Surroundings) (head : Head) (body other : Nodes) → MayOpen q head → IsTrue (defined_in_place (inside head q).is_top (inside head q).may_have_blocks body)
     → IsTrue (defined_in_place false q.may_have_blocks other) → IsTrue (node_defined_in_place q.is_top q.may_have_blocks (make head body other))
 made_defined q (IfHead c) body other m b o = and-true (defined_in_place false q.may_have_blocks body) (defined_in_place false q.may_have_blocks other) b o
 made_defined q (ForHead key n e) body other m b o = and-true (defined_in_place false q.may_have_blocks body) (defined_in_place false q.may_have_blocks other) b o
-made_defined q (SetHead n fs is_global) body other m b o = b
-made_defined q (SectionHead fs) body other m b o = b
 made_defined q (BlockHead n span) body other m b o = and-true q.may_have_blocks (defined_in_place false q.may_have_blocks body) m b
-made_defined q (CallHead n all span) body other m b o = b
 made_defined q (DefinitionHead s) body other m b o = and-true q.is_top (defined_in_place false false body) m b
+made_defined q _ body other m b o = b
 
 mutual
   pub derived_defined : {q : Surroundings} {x : Nodes} {i j : List Piece} → DerivesNodes q x i j → IsTrue (defined_in_place q.is_top q.may_have_blocks x)

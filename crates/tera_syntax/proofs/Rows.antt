@@ -38,29 +38,21 @@ innermost fs f e =
     let d : reverse fs ≡ get_or (reverse fs) 0 f ∷ drop 1 (reverse fs) = drop_more (reverse fs) 0 f (omega (arith, length-reverse fs)) in
     (map frame_of (drop 1 (reverse fs)), ap (map frame_of) (d ∙ ap (λ x. x ∷ drop 1 (reverse fs)) r))
 
+-- so two answers are the same where they are the same whatever stands around it
+at_innermost : {A : Type 0} (one other : List Frame → A) (fs : List frame.Frame) (f : frame.Frame) → Some f ≡ slice_get fs (length fs - 1) → ((rest : List Frame) → one (frame_of f ∷ rest) ≡ other (frame_of f ∷ rest)) → one (frames_of fs) ≡ other (frames_of fs)
+at_innermost one other fs f e same = let t = innermost fs f e in ap one t.1 ∙ same t.0 ∙ sym (ap other t.1)
+
 pub turned_innermost : (may : Head → Bool) (fs : List frame.Frame) (f : frame.Frame) (found : Nodes) → Some f ≡ slice_get fs (length fs - 1) → may (head_of f.head) ≡ true → turned (λ head. true) (frames_of fs) found ≡ turned may (frames_of fs) found
-turned_innermost may fs f found e h =
-    let t = innermost fs f e in
-    let s : turned (λ head. true) (frame_of f ∷ t.0) found ≡ turned may (frame_of f ∷ t.0) found = rw h refl in
-    ap (λ fs. turned (λ head. true) fs found) t.1 ∙ s ∙ sym (ap (λ fs. turned may fs found) t.1)
+turned_innermost may fs f found e h = at_innermost (λ fs. turned (λ head. true) fs found) (λ fs. turned may fs found) fs f e (λ rest. rw h refl)
 
 pub shut_innermost : (tokens : List Token) (fs : List frame.Frame) (f : frame.Frame) (found : Nodes) → Some f ≡ slice_get fs (length fs - 1) → ends (head_of f.head) tokens ≡ true → closed (frames_of fs) found ≡ shut tokens (frames_of fs) found
-shut_innermost tokens fs f found e h =
-    let t = innermost fs f e in
-    let s : closed (frame_of f ∷ t.0) found ≡ shut tokens (frame_of f ∷ t.0) found = rw h refl in
-    ap (λ fs. closed fs found) t.1 ∙ s ∙ sym (ap (λ fs. shut tokens fs found) t.1)
+shut_innermost tokens fs f found e h = at_innermost (λ fs. closed fs found) (λ fs. shut tokens fs found) fs f e (λ rest. rw h refl)
 
 pub turned_otherwise : (may : Head → Bool) (fs : List frame.Frame) (f : frame.Frame) (found : Nodes) → Some f ≡ slice_get fs (length fs - 1) → may (head_of f.head) ≡ false → turned may (frames_of fs) found ≡ None
-turned_otherwise may fs f found e h =
-    let t = innermost fs f e in
-    let s : turned may (frame_of f ∷ t.0) found ≡ None = rw h refl in
-    ap (λ fs. turned may fs found) t.1 ∙ s
+turned_otherwise may fs f found e h = at_innermost (λ fs. turned may fs found) (λ fs. None) fs f e (λ rest. rw h refl)
 
 pub shut_otherwise : (tokens : List Token) (fs : List frame.Frame) (f : frame.Frame) (found : Nodes) → Some f ≡ slice_get fs (length fs - 1) → ends (head_of f.head) tokens ≡ false → shut tokens (frames_of fs) found ≡ None
-shut_otherwise tokens fs f found e h =
-    let t = innermost fs f e in
-    let s : shut tokens (frame_of f ∷ t.0) found ≡ None = rw h refl in
-    ap (λ fs. shut tokens fs found) t.1 ∙ s
+shut_otherwise tokens fs f found e h = at_innermost (λ fs. shut tokens fs found) (λ fs. None) fs f e (λ rest. rw h refl)
 
 pub nothing_open : (fs : List frame.Frame) → None ≡ slice_get fs (length fs - 1) → frames_of fs ≡ []
 nothing_open [] e = refl

@@ -64,9 +64,9 @@ made-small (CallHead n es s) b o m p q r = two-small (entries_depth es) (nodes_d
 made-small (DefinitionHead s) b o m p q r = two-small (parameters_depth s.parameters) (nodes_depth b) m p q
 
 -- what a step that was taken says
-if_then : {A B : Type 0} (b : Bool) (f : A → Option B) (o : Option A) (y : B) → option_and_then f (if b then o else None) ≡ Some y → (b ≡ true) × (option_and_then f o ≡ Some y)
-if_then true f o y h = (refl, h)
-if_then false f o y h = absurd (cc)
+if_then : {A B : Type 0} (b : Bool) (f : Option A → Option B) (o : Option A) (y : B) → f None ≡ None → f (if b then o else None) ≡ Some y → (b ≡ true) × (f o ≡ Some y)
+if_then true f o y n h = (refl, h)
+if_then false f o y n h = let e : None ≡ Some y = sym n ∙ h in absurd (cc)
 
 and_then-both : {A B C : Type 0} (f : B → Option C) (g : A → Option B) (o : Option A) (y : C) → option_and_then f (option_and_then g o) ≡ Some y
     → (x : A) × (o ≡ Some x) × (option_and_then f (g x) ≡ Some y)
@@ -94,7 +94,7 @@ module _ (limit : ℕ) (i : List Piece) (x : Nodes) where
   one-got : (q : Surroundings) (fs : List Frame) (found : Nodes) (n : Node) (p : Piece) → ((y : Nodes) (m : List Piece) → DerivesNodes q y i m → DerivesNodes q (join (one n) y) (p ∷ i) m)
       → node_depth n ≤ suc (limit - suc (length fs)) → Again → option_and_then (λ t. run limit t i) (put limit (at q fs found) n) ≡ Some x → Goes limit q fs found (p ∷ i) x
   one-got q fs found n p build le again h =
-      let g = if_then (nat_lt (length fs) limit) (λ t. run limit t i) (Some (at q fs (join found (one n)))) x h in
+      let g = if_then (nat_lt (length fs) limit) (option_and_then (λ t. run limit t i)) (Some (at q fs (join found (one n)))) x refl h in
       in_front limit q fs found (one n) (p ∷ i) i x build (one-small (node_depth n) limit (length fs) (has-room (length fs) limit g.0) le) (again q fs (join found (one n)) g.1)
 
   module _ (tokens : List Token) where
@@ -135,7 +135,7 @@ module _ (limit : ℕ) (i : List Piece) (x : Nodes) where
     opened-by : Again → (q : Surroundings) (fs : List Frame) (found : Nodes) (h : Head) → Opens q h tokens → head_depth h ≤ limit - suc (length fs)
         → option_and_then (λ t. run limit t i) (opened limit false (at q fs found) h) ≡ Some x → Goes limit q fs found (Block tokens ∷ i) x
     opened-by again q fs found h a le e =
-        let g = if_then (nat_lt (length fs) limit) (λ t. run limit t i) (Some (at (inside h q) (asking found h false q ∷ fs) NoNodes)) x e in
+        let g = if_then (nat_lt (length fs) limit) (option_and_then (λ t. run limit t i)) (Some (at (inside h q) (asking found h false q ∷ fs) NoNodes)) x refl e in
         open-got q fs found h a (has-room (length fs) limit g.0) le (again (inside h q) (asking found h false q ∷ fs) NoNodes g.1)
 
     goes-on-turned : Again → (q : Surroundings) (f : Frame) (fs : List Frame) (found : Nodes) (h : Head) → IsTrue (chains f.head) → GoesOn f.surroundings h tokens → head_depth h ≤ limit - suc (suc (length fs))
@@ -143,19 +143,14 @@ module _ (limit : ℕ) (i : List Piece) (x : Nodes) where
     goes-on-turned again q f fs found h s a le (Some body) n e = absurd (cc)
     goes-on-turned again q f fs found h s a le None n e =
         let to = half f found ∷ fs in
-        let g = if_then (nat_lt (length to) limit) (λ t. run limit t i) (Some (at (inside h f.surroundings) (asking NoNodes h true f.surroundings ∷ to) NoNodes)) x e in
+        let g = if_then (nat_lt (length to) limit) (option_and_then (λ t. run limit t i)) (Some (at (inside h f.surroundings) (asking NoNodes h true f.surroundings ∷ to) NoNodes)) x refl e in
         goes-on-got q f fs found h n s a (has-room (suc (length fs)) limit g.0) le (again (inside h f.surroundings) (asking NoNodes h true f.surroundings ∷ to) NoNodes g.1)
-
-    goes-on-if : (b : Bool) (f : Progress → Option Nodes) (g : Progress → Option Progress) (o : Option Progress) → option_and_then f (option_and_then g (if b then o else None)) ≡ Some x
-        → (b ≡ true) × (option_and_then f (option_and_then g o) ≡ Some x)
-    goes-on-if true f g o h = (refl, h)
-    goes-on-if false f g o h = absurd (cc)
 
     goes-on-by : Again → (q : Surroundings) (fs : List Frame) (found : Nodes) (h : Head) → GoesOn (around fs) h tokens → head_depth h ≤ limit - suc (length fs)
         → option_and_then (λ t. run limit t i) (option_and_then (λ t. opened limit true t h) (turned chains fs found)) ≡ Some x → Goes limit q fs found (Block tokens ∷ i) x
     goes-on-by again q [] found h a le e = absurd (cc)
     goes-on-by again q (f ∷ fs) found h a le e =
-        let g = goes-on-if (chains f.head) (λ t. run limit t i) (λ t. opened limit true t h) (turned_by f f.body fs found) e in
+        let g = if_then (chains f.head) (λ o. option_and_then (λ t. run limit t i) (option_and_then (λ t. opened limit true t h) o)) (turned_by f f.body fs found) x refl e in
         goes-on-turned again q f fs found h g.0 a le f.body refl g.1
 
     else-turned : Again → (q : Surroundings) (f : Frame) (fs : List Frame) (found : Nodes) → IsTrue (splits f.head) → IsWord k.Else (codes "else") tokens
@@ -163,21 +158,16 @@ module _ (limit : ℕ) (i : List Piece) (x : Nodes) where
     else-turned again q f fs found s a (Some body) n e = absurd (cc)
     else-turned again q f fs found s a None n e = else-got q f fs found n s a (again (nested f.surroundings) (half f found ∷ fs) NoNodes e)
 
-    aside-if : (b : Bool) (o : Option Progress) → option_and_then (λ t. run limit t i) (option_map aside (if b then o else None)) ≡ Some x
-        → (b ≡ true) × (option_and_then (λ t. run limit t i) (option_map aside o) ≡ Some x)
-    aside-if true o h = (refl, h)
-    aside-if false o h = absurd (cc)
-
     else-by : Again → (q : Surroundings) (fs : List Frame) (found : Nodes) → IsWord k.Else (codes "else") tokens → option_and_then (λ t. run limit t i) (option_map aside (turned splits fs found)) ≡ Some x → Goes limit q fs found (Block tokens ∷ i) x
     else-by again q [] found a e = absurd (cc)
     else-by again q (f ∷ fs) found a e =
-        let g = aside-if (splits f.head) (turned_by f f.body fs found) e in
+        let g = if_then (splits f.head) (λ o. option_and_then (λ t. run limit t i) (option_map aside o)) (turned_by f f.body fs found) x refl e in
         else-turned again q f fs found g.0 a f.body refl g.1
 
     end-by : Again → (q : Surroundings) (fs : List Frame) (found : Nodes) → option_and_then (λ t. run limit t i) (shut tokens fs found) ≡ Some x → Goes limit q fs found (Block tokens ∷ i) x
     end-by again q [] found e = absurd (cc)
     end-by again q (f ∷ fs) found e =
-        let g = if_then (ends f.head tokens) (λ t. run limit t i) (closed (f ∷ fs) found) x e in
+        let g = if_then (ends f.head tokens) (option_and_then (λ t. run limit t i)) (closed (f ∷ fs) found) x refl e in
         end-got q f fs found f.body refl g.0 (closes again fs f.is_chained f.surroundings (row f found) g.1)
 
     taken-by : Again → (q : Surroundings) (fs : List Frame) (found : Nodes) (t : Tag) → Meant (limit - suc (length fs)) q (around fs) tokens t

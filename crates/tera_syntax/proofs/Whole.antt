@@ -1,5 +1,5 @@
 -- An expression, filters, a signature or a call that are all from here to the end of a tag.
-use Rattle.std.proofs.Common.{◌≡◌, ℕ, zero, suc, ◌≤◌, ◌<◌, nat_lt, length, Bool, true, false, Some, None, if◌then◌else◌, refl, ap, ◌∙◌, subst, arith}
+use Rattle.std.proofs.Common.{◌≡◌, ℕ, zero, suc, ◌≤◌, ◌<◌, nat_lt, length, Bool, true, false, Some, None, if◌then◌else◌, refl, ap, subst, arith}
 use Rattle.std.proofs.lemmas.Grind.{common_steps}
 use Rattle.tera_syntax_tokens.specs.declared.token.Kind.TheVariants as k
 use Rattle.tera_syntax_tokens.specs.declared.token.Kind.{Kind}
@@ -13,7 +13,7 @@ use Rattle.tera_syntax_expressions.specs.Grammar.{Derives, DerivesAttributes, De
 use Rattle.tera_syntax.specs.Grammar.{DerivesWhole, whole, DerivesPipe, pipe}
 use Rattle.tera_syntax.specs.Heads.{Head, CallHead}
 use Rattle.tera_syntax.specs.Reader as r
-use Rattle.tera_syntax_expressions.proofs.Steps.{guard, alike, same-is, same-refl}
+use Rattle.tera_syntax_expressions.proofs.Steps.{guard, alike, same-is}
 use Rattle.tera_syntax_expressions.proofs.Sound.{what_is_read}
 use Rattle.tera_syntax_expressions.proofs.Complete.{complete}
 use Rattle.tera_syntax_expressions.proofs.Sections.{filters_are_derived, filters_are_read}
@@ -24,54 +24,38 @@ ended_by : {A : Type 0} (q : Bool) (x y : A) → (if q then Some x else None) �
 ended_by true x y h = (refl, cc)
 ended_by false x y h = absurd (cc)
 
-whole_from : (o : Outcome Deep) (x : Expr) → r.ended o ≡ Some x → (p : Deep × Input) × (o ≡ Some p) × (kind p.1 ≡ k.End) × (p.0.expr ≡ x)
-whole_from None x h = absurd (cc)
-whole_from (Some p) x h =
-    let e = ended_by (same k.End (kind p.1)) p.0.expr x h in
+ended_from : {A B : Type 0} (taken : A → B) (o : Outcome A) (y : B) → r.ended taken o ≡ Some y → (p : A × Input) × (o ≡ Some p) × (kind p.1 ≡ k.End) × (taken p.0 ≡ y)
+ended_from taken None y h = absurd (cc)
+ended_from taken (Some p) y h =
+    let e = ended_by (same k.End (kind p.1)) (taken p.0) y h in
     (p, refl, same-is k.End (kind p.1) e.0, e.1)
 
 pub whole_sound : (limit : ℕ) (i : Input) (x : Expr) → r.whole limit i ≡ Some x → DerivesWhole x i × (depth x ≤ limit)
 unfolding r.whole
 whole_sound limit i x h =
-    let p = whole_from (expr limit 0 i) x h in
+    let p = ended_from (λ (d : Deep). d.expr) (expr limit 0 i) x h in
     let d = what_is_read limit i p.0.1 p.0.0 p.1 in
     (whole (subst (λ x. Derives 0 x i p.0.1) p.3 d.0) p.2, subst (λ x. depth x ≤ limit) p.3 d.2)
 
 pub whole_complete : {x : Expr} {i : Input} → DerivesWhole x i → (limit : ℕ) → depth x ≤ limit → r.whole limit i ≡ Some x
 unfolding r.whole
-whole_complete (whole {x = x} {i = i} {end = j} d e) limit le =
-    let q : same k.End (kind j) ≡ true = ap (same k.End) e ∙ same-refl k.End in
-    rw (complete x i j d e limit le, q) refl
-
-pipe_from : (o : Outcome (Filters × ℕ)) (fs : Filters) → r.pipe_ended o ≡ Some fs → (p : (Filters × ℕ) × Input) × (o ≡ Some p) × (kind p.1 ≡ k.End) × (p.0.0 ≡ fs)
-pipe_from None fs h = absurd (cc)
-pipe_from (Some p) fs h =
-    let e = ended_by (same k.End (kind p.1)) p.0.0 fs h in
-    (p, refl, same-is k.End (kind p.1) e.0, e.1)
+whole_complete (whole {x = x} {i = i} {end = j} d e) limit le = rw (complete x i j d e limit le, alike k.End (kind j) e) refl
 
 pub pipe_sound : (limit : ℕ) (i : Input) (fs : Filters) → r.pipe limit i ≡ Some fs → DerivesPipe fs i × (filters_depth fs ≤ limit)
 unfolding r.pipe
 pipe_sound limit i fs h =
-    let p = pipe_from (filters limit i) fs h in
+    let p = ended_from (λ (p : Filters × ℕ). p.0) (filters limit i) fs h in
     let d = filters_are_derived limit i p.0.1 p.0.0 p.1 in
     (pipe (subst (λ fs. DerivesFilters fs i p.0.1) p.3 d.0) p.2, subst (λ fs. filters_depth fs ≤ limit) p.3 d.2)
 
 pub pipe_complete : {fs : Filters} {i : Input} → DerivesPipe fs i → (limit : ℕ) → filters_depth fs ≤ limit → r.pipe limit i ≡ Some fs
 unfolding r.pipe
-pipe_complete (pipe {fs = fs} {i = i} {end = j} d e) limit le =
-    let q : same k.End (kind j) ≡ true = ap (same k.End) e ∙ same-refl k.End in
-    rw (filters_are_read fs i j d e limit le, q) refl
-
-signed_from : (o : Outcome Signature) (s : Signature) → r.signature_ended o ≡ Some s → (p : Signature × Input) × (o ≡ Some p) × (kind p.1 ≡ k.End) × (p.0 ≡ s)
-signed_from None s h = absurd (cc)
-signed_from (Some p) s h =
-    let e = ended_by (same k.End (kind p.1)) p.0 s h in
-    (p, refl, same-is k.End (kind p.1) e.0, e.1)
+pipe_complete (pipe {fs = fs} {i = i} {end = j} d e) limit le = rw (filters_are_read fs i j d e limit le, alike k.End (kind j) e) refl
 
 pub signed_sound : (limit : ℕ) (i : Input) (s : Signature) → r.signed limit i ≡ Some s → (j : Input) × DerivesSignature s i j × (kind j ≡ k.End) × (parameters_depth s.parameters ≤ limit)
 unfolding r.signed
 signed_sound limit i s h =
-    let p = signed_from (signature limit i) s h in
+    let p = ended_from (λ (s : Signature). s) (signature limit i) s h in
     let d = what_is_signed limit i p.0.1 p.0.0 p.1 in
     (p.0.1, subst (λ s. DerivesSignature s i p.0.1) p.3 d.0, p.2, subst (λ s. parameters_depth s.parameters ≤ limit) p.3 d.1)
 

@@ -53,32 +53,20 @@ head_depth (DefinitionHead s) = parameters_depth s.parameters
 abbrev pub splits : Head → Bool
 splits (IfHead c) = true
 splits (ForHead key n e) = true
-splits (SetHead n fs is_global) = false
-splits (SectionHead fs) = false
-splits (BlockHead n span) = false
-splits (CallHead n all span) = false
-splits (DefinitionHead s) = false
+splits _ = false
 
 -- it may have an `elif`
 abbrev pub chains : Head → Bool
 chains (IfHead c) = true
-chains (ForHead key n e) = false
-chains (SetHead n fs is_global) = false
-chains (SectionHead fs) = false
-chains (BlockHead n span) = false
-chains (CallHead n all span) = false
-chains (DefinitionHead s) = false
+chains _ = false
 
 -- What its body stands in. A block's body keeps the names of a loop around it, and can't leave a turn of that loop; the body
 -- that a component is handed can. The body of a component's definition is in no loop, and has no blocks.
 abbrev pub inside : Head → Surroundings → Surroundings
-inside (IfHead c) around = nested around
 inside (ForHead key n e) around = record { in_loop = true; may_leave = true; is_top = false; may_have_blocks = around.may_have_blocks }
-inside (SetHead n fs is_global) around = nested around
-inside (SectionHead fs) around = nested around
 inside (BlockHead n span) around = record { in_loop = around.in_loop; may_leave = false; is_top = false; may_have_blocks = around.may_have_blocks }
-inside (CallHead n all span) around = nested around
 inside (DefinitionHead s) around = record { in_loop = false; may_leave = false; is_top = false; may_have_blocks = false }
+inside _ around = nested around
 
 -- the kind of a tag's first token
 abbrev pub first : List Token → Kind
@@ -100,13 +88,8 @@ is_call_end name tokens = false
 
 -- the kind of the first token of its end
 abbrev pub end_kind : Head → Kind
-end_kind (IfHead c) = k.Name
-end_kind (ForHead key n e) = k.Name
-end_kind (SetHead n fs is_global) = k.Name
-end_kind (SectionHead fs) = k.Name
-end_kind (BlockHead n span) = k.Name
 end_kind (CallHead n all span) = k.Less
-end_kind (DefinitionHead s) = k.Name
+end_kind _ = k.Name
 
 -- The tokens are its end, by the first one's kind. Behind the word that ends a block or a component its name may stand.
 abbrev pub is_end : Head → List Token → Bool

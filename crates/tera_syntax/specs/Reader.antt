@@ -7,7 +7,7 @@ use Rattle.tera_syntax_tokens.specs.declared.token.Kind.TheVariants as k
 use Rattle.tera_syntax_tokens.specs.Token.{Token}
 use Rattle.tera_syntax_tokens.specs.Input.{Input, Outcome, begin, kind, text, start, next, span, same, is_word}
 use Rattle.tera_syntax_tokens.specs.Literal.{literal}
-use Rattle.tera_syntax_expressions.specs.Expressions.{Deep, expr, filters, attributes}
+use Rattle.tera_syntax_expressions.specs.Expressions.{expr, filters, attributes}
 use Rattle.tera_syntax_expressions.specs.Headings.{calls}
 use Rattle.tera_syntax_expressions.specs.Parameters.{signature}
 use Rattle.tera_syntax_tokens.specs.Cut.{Piece, Words, Comment, Variable, Block, Broken, is_alone}
@@ -15,21 +15,18 @@ use Rattle.tera_syntax_tree.specs.Tree.{Expr, Entries, Filters, NoFilters, Signa
 use Rattle.tera_syntax.specs.declared.heads.Surroundings.{Surroundings}
 use Rattle.tera_syntax.specs.Heads.{Head, IfHead, ForHead, SetHead, SectionHead, BlockHead, CallHead, DefinitionHead, outside, nested, make, splits, chains, inside, first, ends}
 
-abbrev pub ended : Outcome Deep → Option Expr
-ended None = None
-ended (Some p) = if same k.End (kind p.1) then Some p.0.expr else None
+-- what is taken of what was read, where the tag ends behind it
+abbrev pub ended : {A B : Type 0} → (A → B) → Outcome A → Option B
+ended taken None = None
+ended taken (Some p) = if same k.End (kind p.1) then Some (taken p.0) else None
 
 -- an expression that is all from here to the end of the tag, no deeper than this
 unfoldable pub whole : ℕ → Input → Option Expr
-whole limit i = ended (expr limit 0 i)
-
-abbrev pub pipe_ended : Outcome (Filters × ℕ) → Option Filters
-pipe_ended None = None
-pipe_ended (Some p) = if same k.End (kind p.1) then Some p.0.0 else None
+whole limit i = ended (λ d. d.expr) (expr limit 0 i)
 
 -- filters that are all from here to the end of the tag, no deeper than this
 unfoldable pub pipe : ℕ → Input → Option Filters
-pipe limit i = pipe_ended (filters limit i)
+pipe limit i = ended (λ p. p.0) (filters limit i)
 
 abbrev pub join : Nodes → Nodes → Nodes
 join NoNodes more = more
@@ -160,13 +157,9 @@ block_at i = if is_word (kind i) then (if same k.End (kind (next i)) then Some (
 abbrev pub blocking : Bool → Input → Option Tag
 blocking q i = if q then block_at i else None
 
-abbrev pub signature_ended : Outcome Signature → Option Signature
-signature_ended None = None
-signature_ended (Some p) = if same k.End (kind p.1) then Some p.0 else None
-
 -- a signature that is all from here to the end of the tag, with defaults no deeper than this
 unfoldable pub signed : ℕ → Input → Option Signature
-signed limit i = signature_ended (signature limit i)
+signed limit i = ended (λ s. s) (signature limit i)
 
 -- behind `component`, where components may be defined
 abbrev pub defining : Bool → ℕ → Input → Option Tag

@@ -1,9 +1,12 @@
 -- What is open while a text is read, as plain data.
-use Rattle.std.specs.Prelude.{◌≡◌, List, Option, Some, None, Result, Ok, Err, Vec, map, option_copied, reverse}
+use Rattle.std.specs.Prelude.{◌≡◌, List, ◌++◌, Option, Some, None, Result, Ok, Err, Vec, map, option_copied, reverse}
 use Rattle.std.specs.Global.{Global}
+use Rattle.tera_errors.specs.declared.span.Span.{Span}
+use Rattle.tera_syntax_tree.specs.declared.expression.ComponentTag.{ComponentTag, out-ComponentTag}
 use Rattle.tera_syntax_tree.specs.declared.expression.Heading.{Heading}
 use Rattle.tera_syntax_tree.specs.declared.node.Node as declared
 use Rattle.tera_syntax_tokens.specs.declared.refusal.Refusal.{Refusal}
+use Rattle.tera_syntax_tokens.specs.declared.refusal.Refusal.TheVariants.{OutOfMemory}
 use Rattle.tera_syntax_tokens.specs.Answers.{Refuses}
 use Rattle.tera_errors.specs.Site.{Name}
 use Rattle.tera_syntax_tree.specs.Tree.{Node, Nodes}
@@ -23,13 +26,16 @@ use Rattle.tera_syntax.specs.declared.progress.Progress as progress
 abbrev pub heading_of : Heading → Head
 heading_of h = ForHead (option_copied h.key) h.name.now (expr_of h.target)
 
+abbrev call_of : ComponentTag → Span → Head
+call_of t span = let parts = out-ComponentTag t in CallHead parts.name.now (entries_of parts.attributes.items) span
+
 abbrev pub head_of : head.Head → Head
 head_of (variant.If c) = IfHead (expr_of c.value)
 head_of (variant.For h) = heading_of h.value
-head_of (variant.Set t fs is_global) = SetHead t.now (filters_of fs.items) is_global
+head_of (variant.Set c is_global) = SetHead c.value.name.now (filters_of c.value.filters.items) is_global
 head_of (variant.Section fs) = SectionHead (filters_of fs.items)
 head_of (variant.Block t span) = BlockHead t.now span
-head_of (variant.Call t all span) = CallHead t.now (entries_of all.items) span
+head_of (variant.Call t span) = call_of t.value span
 head_of (variant.Definition s) = DefinitionHead (signature_of s.value)
 
 abbrev pub body_of : Option (Vec declared.Node Global) → Option Nodes
@@ -51,6 +57,11 @@ file_of f = record { parent = quoted_option f.parent; is_front = f.is_front; pro
 
 abbrev pub names_of : List PlacedName → List Name
 names_of names = map (λ n. n.name.now) names
+
+-- These names are put behind those that were there. Memory may lack for it, and nothing else is refused.
+abbrev pub Gathers : List Name → List PlacedName → Result (Unit {0}) Refusal → List PlacedName → Type 0
+Gathers more old (Ok done) new = names_of new ≡ names_of old ++ more
+Gathers more old (Err refusal) new = refusal ≡ OutOfMemory
 
 -- the names of the blocks of a node
 abbrev pub node_names : Node → List Name

@@ -1,13 +1,13 @@
 // The names of a tree's blocks and components.
-ghost use Rattle.std.specs.Prelude.{ℕ, ◌≡◌, ◌≤◌, ◌++◌, OnOk, IfOk, IfErr, IfSome, is_some, not};
+ghost use Rattle.std.specs.Prelude.{ℕ, ◌≡◌, ◌≤◌, OnOk, IfOk, IfErr, IfSome, Some, None, is_some, not, if◌then◌else◌};
 ghost use Rattle.tera_syntax.specs.File as spec;
 ghost use Rattle.tera_syntax.specs.Places.{NamesWithin};
-ghost use Rattle.tera_syntax.specs.View.{names_of, node_components, node_names};
+ghost use Rattle.tera_syntax.specs.View.{Gathers, names_of, node_components, node_names};
 ghost use Rattle.tera_syntax_tokens.specs.Answers.{Answers};
 ghost use Rattle.tera_syntax_tokens.specs.Points.{PointsWithin};
 ghost use Rattle.tera_syntax_tokens.specs.declared.refusal.Refusal.TheVariants.{OutOfMemory};
-ghost use Rattle.tera_syntax_tree.specs.Blocks.{are_distinct, block_names, has_each_block_once};
-ghost use Rattle.tera_syntax_tree.specs.Definitions.{component_names, has_each_component_once};
+ghost use Rattle.tera_syntax_tree.specs.Blocks.{are_distinct, block_names};
+ghost use Rattle.tera_syntax_tree.specs.Definitions.{component_names};
 ghost use Rattle.tera_syntax_tree.specs.Inside.{Inside, NodeInside, NodesInside, Within};
 ghost use Rattle.tera_syntax_tree.specs.View.{node_of, nodes_of, tree_of};
 
@@ -27,9 +27,8 @@ struct PlacedName<'s> {
 /// Puts the names of all blocks of the nodes behind those that are there.
 #[cycle(names)]
 fn gather<'s>(names: &mut Vec<PlacedName<'s>>, nodes: &[Node<'s>]) -> Result<(), Refusal>
-    ensures ok { let more = block_names (nodes_of nodes.now) in
-        OnOk result (names_of names.new.items ≡ names_of names.old.items ++ more) }
-    ensures lacks { IfErr result (λ refusal. refusal ≡ OutOfMemory) }
+    ensures gathered { let more = block_names (nodes_of nodes.now) in
+        Gathers more names.old.items result names.new.items }
     ensures points { (size : ℕ) → NodesInside size (nodes_of nodes.now)
         → NamesWithin size names.old.items
         → OnOk result (NamesWithin size names.new.items) }
@@ -42,48 +41,25 @@ fn gather<'s>(names: &mut Vec<PlacedName<'s>>, nodes: &[Node<'s>]) -> Result<(),
 
 #[cycle(names)]
 fn gather_node<'s>(names: &mut Vec<PlacedName<'s>>, node: &Node<'s>) -> Result<(), Refusal>
-    ensures ok { let more = node_names (node_of node.now) in
-        OnOk result (names_of names.new.items ≡ names_of names.old.items ++ more) }
-    ensures lacks { IfErr result (λ refusal. refusal ≡ OutOfMemory) }
+    ensures gathered { let more = node_names (node_of node.now) in
+        Gathers more names.old.items result names.new.items }
     ensures points { (size : ℕ) → NodeInside size (node_of node.now)
         → NamesWithin size names.old.items
         → OnOk result (NamesWithin size names.new.items) }
 {
     match node {
-        Node::If {
-            condition: _,
-            body,
-            other,
-        } => {
+        Node::If { body, other, .. } | Node::For { body, other, .. } => {
             gather(names, body.as_slice())?;
             gather(names, other.as_slice())
         }
-        Node::For {
-            heading: _,
-            body,
-            other,
-        } => {
-            gather(names, body.as_slice())?;
-            gather(names, other.as_slice())
-        }
-        Node::Capture {
-            name: _,
-            filters: _,
-            body,
-            is_global: _,
-        } => gather(names, body.as_slice()),
-        Node::FilterSection { filters: _, body } => gather(names, body.as_slice()),
         Node::Block { name, body, span } => {
             names.push(PlacedName { name, span: *span })?;
             gather(names, body.as_slice())
         }
-        Node::ComponentCall {
-            name: _,
-            attributes: _,
-            body,
-            span: _,
-        } => gather(names, body.as_slice()),
-        Node::Definition { signature: _, body } => gather(names, body.as_slice()),
+        Node::Capture { body, .. }
+        | Node::FilterSection { body, .. }
+        | Node::ComponentCall { body, .. }
+        | Node::Definition { body, .. } => gather(names, body.as_slice()),
         Node::Content { .. } | Node::Print { .. } | Node::PrintName { .. } => Ok(()),
         Node::Set { .. } | Node::Include { .. } | Node::Break | Node::Continue => Ok(()),
     }
@@ -92,9 +68,8 @@ fn gather_node<'s>(names: &mut Vec<PlacedName<'s>>, node: &Node<'s>) -> Result<(
 /// Puts the names of all components that the nodes define behind those that are there. One stands
 /// behind the text before it.
 fn gather_components<'s>(names: &mut Vec<PlacedName<'s>>, nodes: &[Node<'s>]) -> Result<(), Refusal>
-    ensures ok { let more = component_names (nodes_of nodes.now) in
-        OnOk result (names_of names.new.items ≡ names_of names.old.items ++ more) }
-    ensures lacks { IfErr result (λ refusal. refusal ≡ OutOfMemory) }
+    ensures gathered { let more = component_names (nodes_of nodes.now) in
+        Gathers more names.old.items result names.new.items }
     ensures points { (size : ℕ) → NodesInside size (nodes_of nodes.now)
         → NamesWithin size names.old.items
         → OnOk result (NamesWithin size names.new.items) }
@@ -112,9 +87,8 @@ fn gather_component<'s>(
     node: &Node<'s>,
     at: usize,
 ) -> Result<(), Refusal>
-    ensures ok { let more = node_components (node_of node.now) in
-        OnOk result (names_of names.new.items ≡ names_of names.old.items ++ more) }
-    ensures lacks { IfErr result (λ refusal. refusal ≡ OutOfMemory) }
+    ensures gathered { let more = node_components (node_of node.now) in
+        Gathers more names.old.items result names.new.items }
     ensures points { (size : ℕ) → at ≤ size → NamesWithin size names.old.items
         → OnOk result (NamesWithin size names.new.items) }
 {
@@ -157,45 +131,16 @@ fn twice(alloc: Global, names: &[PlacedName<'_>]) -> Result<Option<Span>, Refusa
     Ok(found)
 }
 
-/// Where a block stands that has the name of one before, if one does.
-fn block_twice(alloc: Global, output: &ParserOutput<'_>) -> Result<Option<Span>, Refusal>
-    ensures ok { let once = has_each_block_once (tree_of output.now).nodes in
-        IfOk result (λ found. is_some found ≡ not once) }
-    ensures lacks { IfErr result (λ refusal. refusal ≡ OutOfMemory) }
-    ensures points { (size : ℕ) → Inside size (tree_of output.now)
-        → IfOk result (λ found. IfSome found (Within size)) }
+/// Refuses names of which two are the same, for this reason, where the second stands.
+fn all_differ(alloc: Global, names: &[PlacedName<'_>], why: Reason) -> Result<(), Refusal>
+    ensures value { let differ = are_distinct (names_of names.now) in
+        Answers (λ done. names_of names.now) (if differ then Some (names_of names.now) else None)
+        result }
+    ensures points { (size : ℕ) → NamesWithin size names.now → IfErr result (PointsWithin size) }
 {
-    let mut names = Vec::new(alloc);
-    gather(&mut names, output.nodes.as_slice())?;
-    twice(alloc, names.as_slice())
-}
-
-/// Where a component is defined that has the name of one before, if one is.
-fn component_twice(alloc: Global, output: &ParserOutput<'_>) -> Result<Option<Span>, Refusal>
-    ensures ok { let once = has_each_component_once (tree_of output.now).nodes in
-        IfOk result (λ found. is_some found ≡ not once) }
-    ensures lacks { IfErr result (λ refusal. refusal ≡ OutOfMemory) }
-    ensures points { (size : ℕ) → Inside size (tree_of output.now)
-        → IfOk result (λ found. IfSome found (Within size)) }
-{
-    let mut names = Vec::new(alloc);
-    gather_components(&mut names, output.nodes.as_slice())?;
-    twice(alloc, names.as_slice())
-}
-
-/// Refuses a tree where two blocks have one name, or two components.
-fn allow(alloc: Global, output: &ParserOutput<'_>) -> Result<(), Refusal>
-    ensures value { let tree = tree_of output.now in
-        Answers (λ done. tree) (spec.once tree) result }
-    ensures points { (size : ℕ) → Inside size (tree_of output.now)
-        → IfErr result (PointsWithin size) }
-{
-    if let Some(span) = block_twice(alloc, output)? {
-        return Err(Refusal::Syntax(Reason::BlockTwice, span));
-    }
-    match component_twice(alloc, output)? {
+    match twice(alloc, names)? {
         None => Ok(()),
-        Some(span) => Err(Refusal::Syntax(Reason::ComponentTwice, span)),
+        Some(span) => Err(Refusal::Syntax(why, span)),
     }
 }
 
@@ -205,6 +150,11 @@ pub(crate) fn once<'s>(alloc: Global, output: ParserOutput<'s>) -> Result<Parser
     ensures points { (size : ℕ) → Inside size (tree_of output.entry)
         → IfErr result (PointsWithin size) }
 {
-    allow(alloc, &output)?;
+    let mut blocks = Vec::new(alloc);
+    gather(&mut blocks, output.nodes.as_slice())?;
+    all_differ(alloc, blocks.as_slice(), Reason::BlockTwice)?;
+    let mut components = Vec::new(alloc);
+    gather_components(&mut components, output.nodes.as_slice())?;
+    all_differ(alloc, components.as_slice(), Reason::ComponentTwice)?;
     Ok(output)
 }

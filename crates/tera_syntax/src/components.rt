@@ -16,7 +16,7 @@ use tera_syntax_expressions::parameters::signature;
 use tera_syntax_tokens::input::{Tokens, is_word, same};
 use tera_syntax_tokens::refusal::{Reason, Refusal};
 use tera_syntax_tokens::token::{Kind, Token};
-use tera_syntax_tree::Signature;
+use tera_syntax_tree::{ComponentTag, Signature};
 
 /// Behind `component`.
 pub(crate) fn define<'s>(
@@ -96,5 +96,6 @@ fn called<'s>(
     if !same(Kind::End, ahead.kind()) {
         return Err(ahead.refuse(Reason::TagGoesOn));
     }
-    Ok(Head::Call(name, attributes, ahead.span(start)))
+    let tag = Box::new(alloc, ComponentTag { name, attributes })?;
+    Ok(Head::Call(tag, ahead.span(start)))
 }

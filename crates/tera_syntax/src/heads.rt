@@ -9,7 +9,9 @@ use tera_errors::Span;
 use tera_syntax_tokens::cut::is_alone;
 use tera_syntax_tokens::input::{Tokens, is_word, same};
 use tera_syntax_tokens::token::{Kind, Token};
-use tera_syntax_tree::{Entry, Expression, Heading, Node, SectionFilter, Signature};
+use tera_syntax_tree::{
+    Captured, ComponentTag, Expression, Heading, Node, SectionFilter, Signature,
+};
 
 /// What a tag stands in.
 #[derive(Clone, Copy)]
@@ -58,13 +60,13 @@ pub(crate) enum Head<'s> {
     /// `for name in target`
     For(Box<Heading<'s>>),
     /// `set name | filter`, or `set_global name | filter` where it is global. There may be no filter.
-    Set(&'s str, Vec<SectionFilter<'s>>, bool),
+    Set(Box<Captured<'s>>, bool),
     /// `filter filters`
     Section(Vec<SectionFilter<'s>>),
     /// `block name`, and where the name stands.
     Block(&'s str, Span),
     /// `<name attributes>`, and from where to where it stands.
-    Call(&'s str, Vec<Entry<'s>>, Span),
+    Call(Box<ComponentTag<'s>>, Span),
     /// `component signature`
     Definition(Box<Signature<'s>>),
 }
@@ -78,12 +80,10 @@ impl<'s> Head<'s> {
         match self {
             Head::If(condition) => Node::choice(condition, body, other),
             Head::For(heading) => Node::each(heading, body, other),
-            Head::Set(name, filters, is_global) => Node::capture(name, filters, body, is_global),
+            Head::Set(captured, is_global) => Node::capture(captured, body, is_global),
             Head::Section(filters) => Node::filter_section(filters, body),
             Head::Block(name, span) => Node::block(name, body, span),
-            Head::Call(name, attributes, span) => {
-                Node::component_call(name, attributes, body, span)
-            }
+            Head::Call(tag, span) => Node::component_call(tag, body, span),
             Head::Definition(signature) => Node::definition(signature, body),
         }
     }
@@ -94,8 +94,8 @@ impl<'s> Head<'s> {
     {
         match self {
             Head::If(_) | Head::For(_) => true,
-            Head::Set(_, _, _) | Head::Section(_) | Head::Block(_, _) => false,
-            Head::Call(_, _, _) | Head::Definition(_) => false,
+            Head::Set(_, _) | Head::Section(_) | Head::Block(_, _) => false,
+            Head::Call(_, _) | Head::Definition(_) => false,
         }
     }
 
@@ -105,8 +105,8 @@ impl<'s> Head<'s> {
     {
         match self {
             Head::If(_) => true,
-            Head::For(_) | Head::Set(_, _, _) | Head::Section(_) | Head::Block(_, _) => false,
-            Head::Call(_, _, _) | Head::Definition(_) => false,
+            Head::For(_) | Head::Set(_, _) | Head::Section(_) | Head::Block(_, _) => false,
+            Head::Call(_, _) | Head::Definition(_) => false,
         }
     }
 
@@ -116,8 +116,8 @@ impl<'s> Head<'s> {
         ensures { result ≡ spec.inside (head_of self.now) around }
     {
         match self {
-            Head::If(_) | Head::Set(_, _, _) | Head::Section(_) => around.nested(),
-            Head::Call(_, _, _) => around.nested(),
+            Head::If(_) | Head::Set(_, _) | Head::Section(_) => around.nested(),
+            Head::Call(_, _) => around.nested(),
             Head::For(_) => Surroundings {
                 in_loop: true,
                 may_leave: true,
@@ -144,9 +144,9 @@ impl<'s> Head<'s> {
         ensures { result ≡ spec.end_kind (head_of self.now) }
     {
         match self {
-            Head::If(_) | Head::For(_) | Head::Set(_, _, _) | Head::Section(_) => Kind::Name,
+            Head::If(_) | Head::For(_) | Head::Set(_, _) | Head::Section(_) => Kind::Name,
             Head::Block(_, _) | Head::Definition(_) => Kind::Name,
-            Head::Call(_, _, _) => Kind::Less,
+            Head::Call(_, _) => Kind::Less,
         }
     }
 
@@ -158,14 +158,14 @@ impl<'s> Head<'s> {
         match self {
             Head::If(_) => is_alone("endif", tokens),
             Head::For(_) => is_alone("endfor", tokens),
-            Head::Set(_, _, is_global) => {
+            Head::Set(_, is_global) => {
                 is_alone("endset", tokens) || *is_global && is_alone("endset_global", tokens)
             }
             Head::Section(_) => is_alone("endfilter", tokens),
             Head::Block(name, _) => {
                 is_alone("endblock", tokens) || is_named("endblock", name, tokens)
             }
-            Head::Call(name, _, _) => is_call_end(name, tokens),
+            Head::Call(tag, _) => is_call_end(tag.name, tokens),
             Head::Definition(signature) => {
                 is_alone("endcomponent", tokens) || is_named("endcomponent", signature.name, tokens)
             }

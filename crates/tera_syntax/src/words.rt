@@ -18,7 +18,7 @@ use tera_syntax_tokens::input::{Tokens, is_word, same};
 use tera_syntax_tokens::literal::literal;
 use tera_syntax_tokens::refusal::{Reason, Refusal};
 use tera_syntax_tokens::token::{Kind, Token};
-use tera_syntax_tree::{Node, Quoted};
+use tera_syntax_tree::{Captured, Node, Quoted};
 
 /// Behind `set` or `set_global`.
 fn set<'s>(
@@ -37,25 +37,21 @@ fn set<'s>(
     }
     let name = ahead.text();
     ahead.take();
-    match ahead.kind() {
+    let filters = match ahead.kind() {
         Kind::Assign => {
             ahead.take();
             let value = whole_in_box(alloc, ahead, progress.room())?;
-            put(progress, Node::set(name, value, is_global), tag)
+            return put(progress, Node::set(name, value, is_global), tag);
         }
-        Kind::End => progress.open(
-            alloc,
-            false,
-            Head::Set(name, Vec::new(alloc), is_global),
-            tag,
-        ),
+        Kind::End => Vec::new(alloc),
         Kind::Bar => {
             ahead.take();
-            let filters = pipe(alloc, ahead, progress.room())?;
-            progress.open(alloc, false, Head::Set(name, filters, is_global), tag)
+            pipe(alloc, ahead, progress.room())?
         }
-        _ => Err(ahead.refuse(Reason::Expected(Kind::Assign))),
-    }
+        _ => return Err(ahead.refuse(Reason::Expected(Kind::Assign))),
+    };
+    let captured = Box::new(alloc, Captured { name, filters })?;
+    progress.open(alloc, false, Head::Set(captured, is_global), tag)
 }
 
 /// Behind `filter`.

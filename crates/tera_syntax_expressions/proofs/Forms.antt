@@ -108,6 +108,12 @@ module _ (limit : ℕ) (part : ℕ → Parser Deep) where
       let q : same k.RightBracket (kind b) ≡ true = ap (same k.RightBracket) g ∙ steps.same-refl k.RightBracket in
       subscript-by w from (deep x) a h ∙ rw (f, q) (deep-node limit (max (depth x) (depth y)) (Index x y optional (span from (next b))) (next b) (omega arith) refl)
 
+  -- a bracket that closes where an index should stand
+  pub subscript-none : (optional : Bool) (from : ℕ) (x : Deep) (i : Input) → same k.RightBracket (kind (next i)) ≡ true → r.subscript limit part optional from x i ≡ None
+  unfolding r.subscript r.part r.index_at
+  subscript-none optional from x i h =
+      rw (differ k.Colon k.RightBracket (kind (next i)) (steps.same-is k.RightBracket (kind (next i)) h) (λ e. cc), h) (rw h refl)
+
   pub slice-is : {s : Kind} {optional : Bool} → Bracket s optional → (from : ℕ) (x : Expr) (p q t : Optional) (a b c d : Input) → kind a ≡ s → r.part limit part (next a) ≡ Some ((p, optional_depth p), b)
       → same k.RightBracket (kind b) ≡ false → kind b ≡ k.Colon → r.part limit part (next b) ≡ Some ((q, optional_depth q), c) → r.step limit part c ≡ Some ((t, optional_depth t), d) → kind d ≡ k.RightBracket
       → depth (Slice x p q t optional (span from (next d))) ≤ limit → r.operation limit part from (deep x) a ≡ Some (deep (Slice x p q t optional (span from (next d))), next d)

@@ -5,13 +5,12 @@ use Rattle.std.specs.declared.alloc.Global.{Global}
 use denote.Ref.{MutBor}
 use Rattle.tera_errors.specs.Site.{Name}
 use Rattle.tera_errors.specs.declared.span.Span.{Span}
-use Rattle.tera_syntax_tree.specs.declared.expression.Expression.{Expression}
 use Rattle.tera_syntax_tree.specs.declared.expression.Item as item
 use Rattle.tera_syntax_tree.specs.declared.expression.Entry as entry
 use Rattle.tera_syntax_tree.specs.declared.component.Parameter as parameter
 use Rattle.tera_syntax_tree.specs.Definitions.{rest_names}
-use Rattle.tera_syntax_tree.specs.Tree.{Expr, Parameter, Key, Optional, Absent, Present, And, Or, Binary, Arguments, NoArguments, MoreArguments}
-use Rattle.tera_syntax_tree.specs.View.{expr_of, items_of, entries_of, parameter_of}
+use Rattle.tera_syntax_tree.specs.Tree.{Expr, Parameter, Key, Optional, And, Or, Binary, Arguments, NoArguments, MoreArguments}
+use Rattle.tera_syntax_tree.specs.View.{expr_of, optional_of, items_of, entries_of, parameter_of}
 use Rattle.tera_syntax_tokens.specs.declared.refusal.Refusal.{Refusal}
 use Rattle.tera_syntax_tokens.specs.declared.refusal.Refusal.TheVariants.{Syntax, OutOfMemory}
 use Rattle.tera_syntax_tokens.specs.declared.input.Tokens.{Tokens}
@@ -30,12 +29,8 @@ use Rattle.tera_syntax_expressions.specs.Expressions.{Deep, expr, join_items, on
 abbrev pub deep_of : declared.Deep → Deep
 deep_of x = record { expr = expr_of x.expression; depth = x.depth }
 
-abbrev pub part_expr : Option Expression → Optional
-part_expr None = Absent
-part_expr (Some x) = Present (expr_of x)
-
 abbrev pub part_of : Part → Optional × ℕ
-part_of p = (part_expr p.expression, p.depth)
+part_of p = (optional_of p.expression, p.depth)
 
 abbrev pub names_of : LoopNames → Option Name × Name
 names_of n = (option_copied n.key, n.name.now)

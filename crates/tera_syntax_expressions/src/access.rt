@@ -1,17 +1,18 @@
 // Attributes, indices and slices.
+ghost use Rattle.tera_syntax_tree.specs.Tree.{Present};
 ghost use Rattle.tera_syntax_tree.specs.View.{optional_of};
 ghost use Rattle.tera_syntax_tokens.specs.Takes.{Takes, input};
 ghost use Rattle.tera_syntax_expressions.specs.Expressions as spec;
-ghost use Rattle.tera_syntax_expressions.specs.Parts.{Nests, deep_of, part_expr, part_of};
+ghost use Rattle.tera_syntax_expressions.specs.Parts.{Nests, deep_of, part_of};
 
 use crate::expressions::{Deep, Read};
 use crate::making::{absent, present};
-use crate::reader::{Part, Reader, boxed, larger};
+use crate::reader::{Part, Reader, larger};
 use std::alloc::Global;
 use tera_syntax_tokens::input::{Tokens, is_word, same};
 use tera_syntax_tokens::refusal::{Reason, Refusal};
 use tera_syntax_tokens::token::Kind;
-use tera_syntax_tree::{Bounds, Expression, Indexed};
+use tera_syntax_tree::{Bounds, Expression, Indexed, Sliced};
 
 impl<'s, F: Fn(Global, &mut Tokens<'_, 's>, usize, u8) -> Read<'s>> Reader<F> {
     /// `x.name`, from the dot on.
@@ -40,7 +41,7 @@ impl<'s, F: Fn(Global, &mut Tokens<'_, 's>, usize, u8) -> Read<'s>> Reader<F> {
     }
 
     /// `x[y]` or a slice, from the bracket on.
-    #[tactic(auto, unfolding(crate::specs::Expressions::subscript))]
+    #[tactic(auto, unfolding(crate::specs::Expressions::subscript, crate::specs::Expressions::part))]
     pub(crate) fn subscript(
         &self,
         tokens: &mut Tokens<'_, 's>,
@@ -53,12 +54,17 @@ impl<'s, F: Fn(Global, &mut Tokens<'_, 's>, usize, u8) -> Read<'s>> Reader<F> {
             optional start (deep_of x.entry) (input tokens.old)) result tokens.new }
     {
         tokens.take();
-        let p = self.part(tokens)?;
         if same(Kind::RightBracket, tokens.kind()) {
-            let depth = p.depth;
-            self.index_at(tokens, optional, start, x, p.expression, depth)
+            return Err(tokens.refuse(Reason::NoExpression));
+        }
+        if same(Kind::Colon, tokens.kind()) {
+            return self.slice(tokens, optional, start, x, absent());
+        }
+        let y = self.sub(tokens, 0)?;
+        if same(Kind::RightBracket, tokens.kind()) {
+            self.index_at(tokens, optional, start, x, y)
         } else {
-            self.slice(tokens, optional, start, x, p)
+            self.slice(tokens, optional, start, x, present(self.alloc, y)?)
         }
     }
 
@@ -76,7 +82,7 @@ impl<'s, F: Fn(Global, &mut Tokens<'_, 's>, usize, u8) -> Read<'s>> Reader<F> {
             return Ok(absent());
         }
         let x = self.sub(tokens, 0)?;
-        Ok(present(x))
+        Ok(present(self.alloc, x)?)
     }
 
     /// The step of a slice, if it is written, and how deep it is.
@@ -101,28 +107,23 @@ impl<'s, F: Fn(Global, &mut Tokens<'_, 's>, usize, u8) -> Read<'s>> Reader<F> {
         optional: bool,
         start: usize,
         x: Deep<'s>,
-        y: Option<Expression<'s>>,
-        depth: usize,
+        y: Deep<'s>,
     ) -> Read<'s>
-        ensures { Takes deep_of (spec.index_at self.now.limit (spec.expr self.now.below)
-            optional start (deep_of x.entry) (part_expr y.entry) depth (input tokens.old))
+        ensures { let index = deep_of y.entry in
+            Takes deep_of (spec.index_at self.now.limit (spec.expr self.now.below) optional start
+            (deep_of x.entry) (Present index.expr) index.depth (input tokens.old))
             result tokens.new }
     {
-        match y {
-            None => Err(tokens.refuse(Reason::NoExpression)),
-            Some(index) => {
-                tokens.take();
-                let a = x.depth;
-                let depth = larger(a, depth);
-                let span = tokens.span(start);
-                let parts = Indexed {
-                    target: x.expression,
-                    index,
-                };
-                let parts = Box::new(self.alloc, parts)?;
-                self.node(tokens, depth, Expression::index(parts, optional, span))
-            }
-        }
+        tokens.take();
+        let (a, b) = (x.depth, y.depth);
+        let depth = larger(a, b);
+        let span = tokens.span(start);
+        let parts = Indexed {
+            target: x.expression,
+            index: y.expression,
+        };
+        let parts = Box::new(self.alloc, parts)?;
+        self.node(tokens, depth, Expression::index(parts, optional, span))
     }
 
     /// A slice, from the first colon on.
@@ -145,11 +146,10 @@ impl<'s, F: Fn(Global, &mut Tokens<'_, 's>, usize, u8) -> Read<'s>> Reader<F> {
         let (a, b, c) = (p.depth, q.depth, r.depth);
         let depth = larger(a, larger(b, c));
         let bounds = Bounds {
-            start: boxed(self.alloc, p.expression)?,
-            end: boxed(self.alloc, q.expression)?,
-            step: boxed(self.alloc, r.expression)?,
+            start: p.expression,
+            end: q.expression,
+            step: r.expression,
         };
-        let bounds = Box::new(self.alloc, bounds)?;
         self.slice_made(tokens, optional, start, x, bounds, depth)
     }
 
@@ -161,21 +161,24 @@ impl<'s, F: Fn(Global, &mut Tokens<'_, 's>, usize, u8) -> Read<'s>> Reader<F> {
         optional: bool,
         start: usize,
         x: Deep<'s>,
-        bounds: Box<Bounds<'s>>,
+        bounds: Bounds<'s>,
         depth: usize,
     ) -> Read<'s>
         ensures { let slice = spec.slice_made self.now.limit (spec.expr self.now.below)
             optional start (deep_of x.entry)
-            (optional_of bounds.entry.value.start) (optional_of bounds.entry.value.end)
-            (optional_of bounds.entry.value.step) depth in
+            (optional_of bounds.entry.start) (optional_of bounds.entry.end)
+            (optional_of bounds.entry.step) depth in
             Takes deep_of (slice (input tokens.old)) result tokens.new }
     {
         tokens.expect(Kind::RightBracket)?;
         let a = x.depth;
         let depth = larger(a, depth);
         let span = tokens.span(start);
-        let target = Box::new(self.alloc, x.expression)?;
-        let expression = Expression::slice(target, bounds, optional, span);
-        self.node(tokens, depth, expression)
+        let sliced = Sliced {
+            target: x.expression,
+            bounds,
+        };
+        let sliced = Box::new(self.alloc, sliced)?;
+        self.node(tokens, depth, Expression::slice(sliced, optional, span))
     }
 }

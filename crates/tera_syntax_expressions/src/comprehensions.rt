@@ -8,7 +8,7 @@ ghost use Rattle.tera_syntax_expressions.specs.Parts.{Nests, deep_of, names_of, 
 use crate::expressions::{Deep, Read};
 use crate::headings::{LoopNames, names};
 use crate::making::{absent, present};
-use crate::reader::{Part, Reader, boxed, larger};
+use crate::reader::{Part, Reader, larger};
 use std::alloc::Global;
 use tera_syntax_tokens::input::{Tokens, same};
 use tera_syntax_tokens::refusal::Refusal;
@@ -47,7 +47,7 @@ impl<'s, F: Fn(Global, &mut Tokens<'_, 's>, usize, u8) -> Read<'s>> Reader<F> {
         }
         tokens.take();
         let x = self.sub(tokens, 1)?;
-        Ok(present(x))
+        Ok(present(self.alloc, x)?)
     }
 
     /// A comprehension whose parts were read, up to its bracket.
@@ -72,7 +72,7 @@ impl<'s, F: Fn(Global, &mut Tokens<'_, 's>, usize, u8) -> Read<'s>> Reader<F> {
         let collected = Collected {
             value: x.expression,
             heading: heading(names, target.expression),
-            condition: boxed(self.alloc, only.expression)?,
+            condition: only.expression,
         };
         let collected = Box::new(self.alloc, collected)?;
         self.node(

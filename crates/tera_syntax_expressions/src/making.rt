@@ -1,5 +1,5 @@
 // Forms that more than one rule makes.
-ghost use Rattle.std.specs.Prelude.{◌≡◌};
+ghost use Rattle.std.specs.Prelude.{◌≡◌, IfOk};
 ghost use Rattle.tera_syntax_tree.specs.Tree.{Absent, Not, Present};
 ghost use Rattle.tera_syntax_tree.specs.View.{applied_of, expr_of};
 ghost use Rattle.tera_syntax_tokens.specs.Input.{span};
@@ -10,7 +10,7 @@ ghost use Rattle.tera_syntax_expressions.specs.Parts.{Nests, deep_of, part_of};
 
 use crate::expressions::{Deep, Read};
 use crate::reader::{Part, Reader, larger};
-use std::alloc::Global;
+use std::alloc::{AllocError, Global};
 use tera_errors::Span;
 use tera_syntax_tokens::input::Tokens;
 use tera_syntax_tokens::refusal::Refusal;
@@ -96,11 +96,14 @@ pub(crate) fn absent<'s>() -> Part<'s>
 
 /// A part that is.
 #[inline(always)]
-pub(crate) fn present<'s>(x: Deep<'s>) -> Part<'s>
-    ensures { part_of result ≡ (Present (expr_of x.entry.expression), x.entry.depth) }
+pub(crate) fn present<'s>(alloc: Global, x: Deep<'s>) -> Result<Part<'s>, AllocError>
+    ensures { IfOk result (λ p. part_of p
+        ≡ (Present (expr_of x.entry.expression), x.entry.depth)) }
 {
-    Part {
-        expression: Some(x.expression),
-        depth: x.depth,
-    }
+    let depth = x.depth;
+    let expression = Box::new(alloc, x.expression)?;
+    Ok(Part {
+        expression: Some(expression),
+        depth,
+    })
 }

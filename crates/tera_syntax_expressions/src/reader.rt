@@ -1,20 +1,20 @@
 // What every form is read with.
-ghost use Rattle.std.specs.Prelude.{◌≡◌, IfOk, max};
-ghost use Rattle.tera_syntax_tree.specs.View.{expr_of, optional_of};
+ghost use Rattle.std.specs.Prelude.{◌≡◌, max};
+ghost use Rattle.tera_syntax_tree.specs.View.{expr_of};
 ghost use Rattle.tera_syntax_tokens.specs.Takes.{Takes, input};
 ghost use Rattle.tera_syntax_expressions.specs.Expressions as spec;
-ghost use Rattle.tera_syntax_expressions.specs.Parts.{Nests, deep_of, part_expr};
+ghost use Rattle.tera_syntax_expressions.specs.Parts.{Nests, deep_of};
 
 use crate::expressions::{Deep, Read};
-use std::alloc::{AllocError, Global};
+use std::alloc::Global;
 use tera_syntax_tokens::input::Tokens;
 use tera_syntax_tokens::refusal::{Reason, Refusal};
 use tera_syntax_tree::Expression;
 
-/// A bound of a slice, if it is written, and how deep it is.
+/// A part that need not be written, in a box if it is, and how deep it is.
 #[derive(Drop)]
 pub(crate) struct Part<'s> {
-    pub(crate) expression: Option<Expression<'s>>,
+    pub(crate) expression: Option<Box<Expression<'s>>>,
     pub(crate) depth: usize,
 }
 
@@ -59,19 +59,6 @@ impl<'s, F: Fn(Global, &mut Tokens<'_, 's>, usize, u8) -> Read<'s>> Reader<F> {
             expression,
             depth: depth + 1,
         })
-    }
-}
-
-/// The same part, in a box if it is written.
-pub(crate) fn boxed<'s>(
-    alloc: Global,
-    part: Option<Expression<'s>>,
-) -> Result<Option<Box<Expression<'s>>>, AllocError>
-    ensures { IfOk result (λ b. optional_of b ≡ part_expr part.entry) }
-{
-    match part {
-        None => Ok(None),
-        Some(expression) => Ok(Some(Box::new(alloc, expression)?)),
     }
 }
 

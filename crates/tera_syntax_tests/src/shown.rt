@@ -145,11 +145,11 @@ impl Shown {
                 self.expression(&parts.target);
                 self.expression(&parts.index);
             }
-            Expression::Slice { target, bounds, .. } => {
-                self.expression(target);
-                self.put_bound(&bounds.start);
-                self.put_bound(&bounds.end);
-                self.put_bound(&bounds.step);
+            Expression::Slice { sliced, .. } => {
+                self.expression(&sliced.target);
+                self.put_bound(&sliced.bounds.start);
+                self.put_bound(&sliced.bounds.end);
+                self.put_bound(&sliced.bounds.step);
             }
             Expression::Ternary { choice, .. } => {
                 self.expression(&choice.value);
@@ -312,13 +312,12 @@ impl Shown {
                     self.put(")");
                 }
                 Node::Capture {
-                    name,
-                    filters,
-                    body,
                     is_global,
+                    captured,
+                    body,
                 } => {
-                    self.put_set(name, *is_global);
-                    self.filters(filters);
+                    self.put_set(captured.name, *is_global);
+                    self.filters(&captured.filters);
                     self.put(" to ");
                     self.nodes(body);
                     self.put(")");
@@ -355,15 +354,10 @@ impl Shown {
                     self.put(name.as_str());
                     self.put_span(*span);
                 }
-                Node::ComponentCall {
-                    name,
-                    attributes,
-                    body,
-                    span,
-                } => {
+                Node::ComponentCall { tag, body, span } => {
                     self.put("(<");
-                    self.put(name);
-                    self.attributes(attributes);
+                    self.put(tag.name);
+                    self.attributes(&tag.attributes);
                     self.put(" of ");
                     self.nodes(body);
                     self.put_span(*span);

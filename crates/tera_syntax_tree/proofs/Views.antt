@@ -4,7 +4,7 @@ use mathlib.Core.Former.{Count}
 use Rattle.tera_errors.specs.Site.{Text}
 use Rattle.tera_errors.specs.declared.span.Span.{Span}
 use Rattle.tera_syntax_tree.specs.declared.expression.Heading.{Heading}
-use Rattle.tera_syntax_tree.specs.declared.expression.Bounds.{Bounds}
+use Rattle.tera_syntax_tree.specs.declared.expression.Sliced.{Sliced}
 use Rattle.tera_syntax_tree.specs.declared.expression.Collected.{Collected}
 use Rattle.tera_syntax_tree.specs.declared.expression.Applied.{Applied, Applied', out-Applied}
 use Rattle.tera_syntax_tree.specs.declared.expression.Called.{Called, Called', out-Called}
@@ -21,10 +21,11 @@ use Rattle.tera_syntax_tree.specs.declared.component.LiteralEntry.{LiteralEntry}
 use Rattle.tera_syntax_tree.specs.declared.component.Signature as signature
 use Rattle.tera_syntax_tree.specs.declared.node.Node.{Row_of-Node, end_of-Node, more_of-Node, items-the_row-Node, items_hidden-the_row-Node-0}
 use Rattle.tera_syntax_tree.specs.declared.node.Node as declared
+use Rattle.tera_syntax_tree.specs.declared.node.Captured.{Captured}
 use Rattle.tera_syntax_tree.specs.declared.node.SectionFilter.{SectionFilter}
 use Rattle.tera_syntax_tree.specs.declared.node.Node.TheVariants as variant
 use Rattle.tera_syntax_tree.specs.Tree.{Array, Map, Super, Filter, Test, Call, Component, ArrayLiteral, MapLiteral, MoreLiterals, MoreLiteralEntries, MoreItems, MoreEntries, MoreArguments, If, Capture, FilterSection, For, Block, ComponentCall, Definition, MoreNodes}
-use Rattle.tera_syntax_tree.specs.View.{literal_of, literal_option, expr_of, row_items, items_of, row_entries, entries_of, row_arguments, arguments_of, written_of, row_literals, literals_of, row_literal_entries, literal_entries_of, applied_of, called_of, tag_of, comprehension_of, slice_of, signature_of, filters_of, node_of, row_nodes, nodes_of, for_of}
+use Rattle.tera_syntax_tree.specs.View.{literal_of, literal_option, expr_of, row_items, items_of, row_entries, entries_of, row_arguments, arguments_of, written_of, row_literals, literals_of, row_literal_entries, literal_entries_of, applied_of, called_of, tag_of, comprehension_of, slice_of, signature_of, filters_of, capture_of, component_call_of, node_of, row_nodes, nodes_of, for_of}
 
 pub items_row : (m : _) (row : Row_of-Item m) → row_items row ≡ items_of (items-the_row-Item m row)
 items_row m end_of-Item = refl
@@ -76,11 +77,11 @@ arguments_in _ = (_, end_of-Argument)
 
 abbrev body_in : declared.Node → (n : Count) × Row_of-Node n
 body_in (variant.If' _ _ row _ _) = (_, row)
-body_in (variant.Capture' _ _ _ row _) = (_, row)
+body_in (variant.Capture' _ _ _ row) = (_, row)
 body_in (variant.FilterSection' _ _ row) = (_, row)
 body_in (variant.For' _ _ row _ _) = (_, row)
 body_in (variant.Block' _ _ row _) = (_, row)
-body_in (variant.ComponentCall' _ _ _ row _) = (_, row)
+body_in (variant.ComponentCall' _ _ row _) = (_, row)
 body_in (variant.Definition' _ _ row) = (_, row)
 body_in _ = (_, end_of-Node)
 
@@ -150,19 +151,19 @@ view_comprehension c span =
     by_condition p al v h None = refl
     by_condition p al v h (Some c) = refl
 
-pub view_slice : (optional : Bool) (target : Box Expression Global) (bounds : Box Bounds Global) (span : Span) → expr_of (expression.Slice optional target bounds span) ≡ slice_of target.value bounds.value optional span
-view_slice optional target bounds span =
-    by_bounds bounds.ptr bounds.alloc bounds.value.start bounds.value.end bounds.value.step
+pub view_slice : (optional : Bool) (s : Box Sliced Global) (span : Span) → expr_of (expression.Slice optional s span) ≡ slice_of s.value optional span
+view_slice optional s span =
+    by_bounds s.ptr s.alloc s.value.target s.value.bounds.start s.value.bounds.end s.value.bounds.step
   where
-    by_bounds : (p : _) (al : Global) (s e t : Option (Box Expression Global)) → let made : Bounds = record { start = s; end = e; step = t } in expr_of (expression.Slice optional target (record { ptr = p; alloc = al; value = made }) span) ≡ slice_of target.value made optional span
-    by_bounds p al None None None = refl
-    by_bounds p al None None (Some t) = refl
-    by_bounds p al None (Some e) None = refl
-    by_bounds p al None (Some e) (Some t) = refl
-    by_bounds p al (Some s) None None = refl
-    by_bounds p al (Some s) None (Some t) = refl
-    by_bounds p al (Some s) (Some e) None = refl
-    by_bounds p al (Some s) (Some e) (Some t) = refl
+    by_bounds : (p : _) (al : Global) (x : Expression) (s e t : Option (Box Expression Global)) → let made : Sliced = record { target = x; bounds = record { start = s; end = e; step = t } } in expr_of (expression.Slice optional (record { ptr = p; alloc = al; value = made }) span) ≡ slice_of made optional span
+    by_bounds p al x None None None = refl
+    by_bounds p al x None None (Some t) = refl
+    by_bounds p al x None (Some e) None = refl
+    by_bounds p al x None (Some e) (Some t) = refl
+    by_bounds p al x (Some s) None None = refl
+    by_bounds p al x (Some s) None (Some t) = refl
+    by_bounds p al x (Some s) (Some e) None = refl
+    by_bounds p al x (Some s) (Some e) (Some t) = refl
 
 pub view_block : (t : Bor Text) (body : Vec declared.Node Global) (span : Span) → node_of (variant.Block t body span) ≡ Block t.now (nodes_of body.items) span
 view_block t body span = ap (λ x. Block t.now x span) (nodes_is (body_in (variant.Block t body span)) body (items_hidden-the_row-Node-0 body))
@@ -171,8 +172,8 @@ pub view_if : (c : Box Expression Global) (body other : Vec declared.Node Global
 view_if c body other =
     ap₂ (λ x y. If (expr_of c.value) x y) (nodes_is (body_in (variant.If c body other)) body (items_hidden-the_row-Node-0 body)) (nodes_is (other_in (variant.If c body other)) other (items_hidden-the_row-Node-0 other))
 
-pub view_capture : (t : Bor Text) (filters : Vec SectionFilter Global) (body : Vec declared.Node Global) (is_global : Bool) → node_of (variant.Capture t filters body is_global) ≡ Capture t.now (filters_of filters.items) (nodes_of body.items) is_global
-view_capture t filters body is_global = ap (λ x. Capture t.now (filters_of filters.items) x is_global) (nodes_is (body_in (variant.Capture t filters body is_global)) body (items_hidden-the_row-Node-0 body))
+pub view_capture : (is_global : Bool) (c : Box Captured Global) (body : Vec declared.Node Global) → node_of (variant.Capture is_global c body) ≡ capture_of c.value (nodes_of body.items) is_global
+view_capture is_global c body = ap (λ x. capture_of c.value x is_global) (nodes_is (body_in (variant.Capture is_global c body)) body (items_hidden-the_row-Node-0 body))
 
 pub view_section : (filters : Vec SectionFilter Global) (body : Vec declared.Node Global) → node_of (variant.FilterSection filters body) ≡ FilterSection (filters_of filters.items) (nodes_of body.items)
 view_section filters body = ap (λ x. FilterSection (filters_of filters.items) x) (nodes_is (body_in (variant.FilterSection filters body)) body (items_hidden-the_row-Node-0 body))
@@ -181,10 +182,9 @@ pub view_for : (h : Box Heading Global) (body other : Vec declared.Node Global) 
 view_for h body other =
     ap₂ (λ x y. For (option_copied h.value.key) h.value.name.now (expr_of h.value.target) x y) (nodes_is (body_in (variant.For h body other)) body (items_hidden-the_row-Node-0 body)) (nodes_is (other_in (variant.For h body other)) other (items_hidden-the_row-Node-0 other))
 
-pub view_component_call : (t : Bor Text) (es : Vec entry.Entry Global) (body : Vec declared.Node Global) (span : Span)
-    → node_of (variant.ComponentCall t es body span) ≡ ComponentCall t.now (entries_of es.items) (nodes_of body.items) span
-view_component_call t es body span =
-    ap (λ x. ComponentCall t.now (entries_of es.items) x span) (nodes_is (body_in (variant.ComponentCall t es body span)) body (items_hidden-the_row-Node-0 body))
+pub view_component_call : (t : Box ComponentTag Global) (body : Vec declared.Node Global) (span : Span) → node_of (variant.ComponentCall t body span) ≡ component_call_of t.value (nodes_of body.items) span
+view_component_call t body span =
+    ap (λ x. component_call_of t.value x span) (nodes_is (body_in (variant.ComponentCall t body span)) body (items_hidden-the_row-Node-0 body))
 
 pub view_definition : (s : Box signature.Signature Global) (body : Vec declared.Node Global) → node_of (variant.Definition s body) ≡ Definition (signature_of s.value) (nodes_of body.items)
 view_definition s body = ap (λ x. Definition (signature_of s.value) x) (nodes_is (body_in (variant.Definition s body)) body (items_hidden-the_row-Node-0 body))

@@ -5,7 +5,7 @@ use Rattle.tera_syntax_tree.specs.declared.expression.Expression.{Expression, Ro
 use Rattle.tera_syntax_tree.specs.declared.expression.Expression.TheVariants as expression
 use Rattle.tera_errors.specs.Site as site
 use Rattle.tera_errors.specs.declared.span.Span.{Span}
-use Rattle.tera_syntax_tree.specs.declared.expression.Bounds.{Bounds}
+use Rattle.tera_syntax_tree.specs.declared.expression.Sliced.{Sliced}
 use Rattle.tera_syntax_tree.specs.declared.expression.Heading.{Heading}
 use Rattle.tera_syntax_tree.specs.declared.expression.Collected.{Collected}
 use Rattle.tera_syntax_tree.specs.declared.expression.Applied.{Applied, Applied', out-Applied}
@@ -26,6 +26,7 @@ use Rattle.tera_syntax_tree.specs.declared.component.Literal.TheVariants as writ
 use Rattle.tera_syntax_tree.specs.declared.component.LiteralEntry.{LiteralEntry}
 use Rattle.tera_syntax_tree.specs.declared.component.Parameter as parameter
 use Rattle.tera_syntax_tree.specs.declared.component.Signature as signature
+use Rattle.tera_syntax_tree.specs.declared.node.Captured.{Captured}
 use Rattle.tera_syntax_tree.specs.declared.node.SectionFilter.{SectionFilter}
 use Rattle.tera_syntax_tree.specs.declared.node.Node.{Row_of-Node, end_of-Node, more_of-Node}
 use Rattle.tera_syntax_tree.specs.declared.node.Node as declared
@@ -71,7 +72,7 @@ abbrev mutual
   expr_of (expression.Name t span) = Name t.now span
   expr_of (expression.Attribute' optional p e t span) = Attribute (expr_of e) t.now optional span
   expr_of (expression.Index' optional p a b span) = Index (expr_of a) (expr_of b) optional span
-  expr_of (expression.Slice' optional p e q a b c span) = Slice (expr_of e) (held_of a) (held_of b) (held_of c) optional span
+  expr_of (expression.Slice' optional p e a b c span) = Slice (expr_of e) (held_of a) (held_of b) (held_of c) optional span
   expr_of (expression.Not' p e span) = Not (expr_of e) span
   expr_of (expression.Negate' p e span) = Negate (expr_of e) span
   expr_of (expression.Binary' op p a b span) = Binary op (expr_of a) (expr_of b) span
@@ -112,8 +113,8 @@ abbrev pub comprehension_of : Collected → Span → Expr
 comprehension_of c span = Comprehension (expr_of c.value) (option_copied c.heading.key) c.heading.name.now (expr_of c.heading.target) (optional_of c.condition) span
 
 -- a slice of these bounds
-abbrev pub slice_of : Expression → Bounds → Bool → Span → Expr
-slice_of e b optional span = Slice (expr_of e) (optional_of b.start) (optional_of b.end) (optional_of b.step) optional span
+abbrev pub slice_of : Sliced → Bool → Span → Expr
+slice_of s optional span = Slice (expr_of s.target) (optional_of s.bounds.start) (optional_of s.bounds.end) (optional_of s.bounds.step) optional span
 
 abbrev pub items_of : List item.Item → Items
 items_of [] = NoItems
@@ -178,6 +179,14 @@ parameter_of p = record { name = p.name.now; is_implicit = p.is_implicit; of_typ
 abbrev pub signature_of : signature.Signature → Signature
 signature_of s = record { name = s.name.now; parameters = map_list parameter_of s.parameters.items; rest = option_copied s.rest }
 
+-- a name, filters and a body of which the text is captured
+abbrev pub capture_of : Captured → Nodes → Bool → Node
+capture_of c body is_global = Capture c.name.now (filters_of c.filters.items) body is_global
+
+-- a component that is handed a body
+abbrev pub component_call_of : ComponentTag → Nodes → Span → Node
+component_call_of t body span = let parts = out-ComponentTag t in ComponentCall parts.name.now (entries_of parts.attributes.items) body span
+
 abbrev mutual
   pub node_of : declared.Node → Node
   node_of (variant.Content t span) = Content t.now span
@@ -185,12 +194,12 @@ abbrev mutual
   node_of (variant.PrintName t span) = Print (Name t.now span)
   node_of (variant.If' c m body n other) = If (expr_of c.value) (row_nodes body) (row_nodes other)
   node_of (variant.Set t e is_global) = Set t.now (expr_of e.value) is_global
-  node_of (variant.Capture' t fs m body is_global) = Capture t.now (filters_of fs.items) (row_nodes body) is_global
+  node_of (variant.Capture' is_global c m body) = capture_of c.value (row_nodes body) is_global
   node_of (variant.FilterSection' fs m body) = FilterSection (filters_of fs.items) (row_nodes body)
   node_of (variant.For' h m body n other) = For (option_copied h.value.key) h.value.name.now (expr_of h.value.target) (row_nodes body) (row_nodes other)
   node_of (variant.Block' t m body span) = Block t.now (row_nodes body) span
   node_of (variant.Include t span) = Include (quoted_of t) span
-  node_of (variant.ComponentCall' t es m body span) = ComponentCall t.now (entries_of es.items) (row_nodes body) span
+  node_of (variant.ComponentCall' c m body span) = component_call_of c.value (row_nodes body) span
   node_of (variant.Definition' s m body) = Definition (signature_of s.value) (row_nodes body)
   node_of variant.Break = Break
   node_of variant.Continue = Continue

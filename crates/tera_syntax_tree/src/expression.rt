@@ -79,8 +79,7 @@ pub enum Expression<'s> {
     /// `target[start:end:step]`, or the same with `?[` where it is optional.
     Slice {
         optional: bool,
-        target: Box<Expression<'s>>,
-        bounds: Box<Bounds<'s>>,
+        sliced: Box<Sliced<'s>>,
         span: Span,
     },
     Not {
@@ -172,8 +171,7 @@ impl<'s> Drop for Expression<'s> {
             } => {}
             Expression::Slice {
                 optional: _,
-                target: _,
-                bounds: _,
+                sliced: _,
                 span: _,
             } => {}
             Expression::Not {
@@ -315,6 +313,14 @@ pub struct Collected<'s> {
     pub value: Expression<'s>,
     pub heading: Heading<'s>,
     pub condition: Option<Box<Expression<'s>>>,
+}
+
+/// What a slice is taken of, and its bounds.
+#[derive(Drop)]
+#[cycle(expression)]
+pub struct Sliced<'s> {
+    pub target: Expression<'s>,
+    pub bounds: Bounds<'s>,
 }
 
 /// The bounds of a slice, as far as they are written.

@@ -12,7 +12,7 @@ pub use component::{ArgumentType, Literal, LiteralEntry, Parameter, Signature};
 pub use delimiters::Delimiters;
 pub use expression::{
     Applied, Argument, BinaryOperator, Bounds, Called, Choice, Collected, ComponentTag, Entry,
-    Expression, Heading, Indexed, Item, LiteralKey, Operands, OwnedKey,
+    Expression, Heading, Indexed, Item, LiteralKey, Operands, OwnedKey, Sliced,
 };
-pub use node::{Node, ParserOutput, SectionFilter};
+pub use node::{Captured, Node, ParserOutput, SectionFilter};
 pub use quoted::Quoted;

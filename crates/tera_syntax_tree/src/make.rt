@@ -1,14 +1,14 @@
 // Trees from their parts.
 ghost use Rattle.std.specs.Prelude.{◌≡◌, IfOk};
-ghost use Rattle.tera_syntax_tree.specs.Tree.{Attribute, Index, Not, Negate, Binary, And, Or, Ternary, Array, Map, Super, Filter, Test, Call, Component, ArrayLiteral, MapLiteral, If, Set, Capture, FilterSection, Block, ComponentCall, Definition};
-ghost use Rattle.tera_syntax_tree.specs.View.{applied_of, called_of, tag_of, expr_of, slice_of, comprehension_of, items_of, entries_of, arguments_of, written_of, literals_of, literal_entries_of, signature_of, filters_of, node_of, nodes_of, for_of};
+ghost use Rattle.tera_syntax_tree.specs.Tree.{Attribute, Index, Not, Negate, Binary, And, Or, Ternary, Array, Map, Super, Filter, Test, Call, Component, ArrayLiteral, MapLiteral, If, Set, FilterSection, Block, Definition};
+ghost use Rattle.tera_syntax_tree.specs.View.{applied_of, called_of, tag_of, expr_of, slice_of, comprehension_of, items_of, entries_of, arguments_of, written_of, literals_of, literal_entries_of, signature_of, filters_of, capture_of, component_call_of, node_of, nodes_of, for_of};
 
 use crate::component::{Literal, LiteralEntry, Signature};
 use crate::expression::{
-    Applied, Argument, BinaryOperator, Bounds, Called, Choice, Collected, ComponentTag, Entry,
-    Expression, Heading, Indexed, Item, Operands,
+    Applied, Argument, BinaryOperator, Called, Choice, Collected, ComponentTag, Entry, Expression,
+    Heading, Indexed, Item, Operands, Sliced,
 };
-use crate::node::{Node, SectionFilter};
+use crate::node::{Captured, Node, SectionFilter};
 use std::alloc::{AllocError, Global};
 use tera_errors::Span;
 
@@ -45,18 +45,12 @@ impl<'s> Expression<'s> {
     }
 
     /// The bounds are those that are written, each in its place.
-    pub fn slice(
-        target: Box<Expression<'s>>,
-        bounds: Box<Bounds<'s>>,
-        optional: bool,
-        span: Span,
-    ) -> Expression<'s>
-        ensures { expr_of result ≡ slice_of target.entry.value bounds.entry.value optional span }
+    pub fn slice(sliced: Box<Sliced<'s>>, optional: bool, span: Span) -> Expression<'s>
+        ensures { expr_of result ≡ slice_of sliced.entry.value optional span }
     {
         Expression::Slice {
             optional,
-            target,
-            bounds,
+            sliced,
             span,
         }
     }
@@ -232,20 +226,14 @@ impl<'s> Node<'s> {
     }
 
     /// `{% set name | filter %}body{% endset %}`, or the same with `set_global` where it is global.
-    pub fn capture(
-        name: &'s str,
-        filters: Vec<SectionFilter<'s>>,
-        body: Vec<Node<'s>>,
-        is_global: bool,
-    ) -> Node<'s>
-        ensures { node_of result ≡ Capture name.now (filters_of filters.entry.items)
-            (nodes_of body.entry.items) is_global }
+    pub fn capture(captured: Box<Captured<'s>>, body: Vec<Node<'s>>, is_global: bool) -> Node<'s>
+        ensures { node_of result
+            ≡ capture_of captured.entry.value (nodes_of body.entry.items) is_global }
     {
         Node::Capture {
-            name,
-            filters,
-            body,
             is_global,
+            captured,
+            body,
         }
     }
 
@@ -265,21 +253,11 @@ impl<'s> Node<'s> {
     }
 
     /// `{% <name attributes> %}body{% </name> %}`
-    pub fn component_call(
-        name: &'s str,
-        attributes: Vec<Entry<'s>>,
-        body: Vec<Node<'s>>,
-        span: Span,
-    ) -> Node<'s>
-        ensures { node_of result ≡ ComponentCall name.now (entries_of attributes.entry.items)
-            (nodes_of body.entry.items) span }
+    pub fn component_call(tag: Box<ComponentTag<'s>>, body: Vec<Node<'s>>, span: Span) -> Node<'s>
+        ensures { node_of result
+            ≡ component_call_of tag.entry.value (nodes_of body.entry.items) span }
     {
-        Node::ComponentCall {
-            name,
-            attributes,
-            body,
-            span,
-        }
+        Node::ComponentCall { tag, body, span }
     }
 
     /// `{% component signature %}body{% endcomponent %}`

@@ -1,10 +1,11 @@
 // Nodes of a template. They borrow names and texts from its source.
 use crate::component::Signature;
-use crate::expression::{Argument, Entry, Expression, Heading};
+use crate::expression::{Argument, ComponentTag, Expression, Heading};
 use crate::quoted::Quoted;
 use tera_errors::Span;
 
-/// A node of a template: a piece of its text, or a tag with what belongs to it.
+/// A node of a template: a piece of its text, or a tag with what belongs to it. It takes 64 bytes: what stands beside a body has
+/// a box of its own where it is larger than a name.
 pub enum Node<'s> {
     /// Text that is written as it stands. The span is what it covers.
     Content {
@@ -34,10 +35,9 @@ pub enum Node<'s> {
     },
     /// `{% set name | filter %}body{% endset %}`, or the same with `set_global` where it is global. There may be no filter.
     Capture {
-        name: &'s str,
-        filters: Vec<SectionFilter<'s>>,
-        body: Vec<Node<'s>>,
         is_global: bool,
+        captured: Box<Captured<'s>>,
+        body: Vec<Node<'s>>,
     },
     /// `{% filter filters %}body{% endfilter %}`
     FilterSection {
@@ -63,8 +63,7 @@ pub enum Node<'s> {
     },
     /// `{% <name attributes> %}body{% </name> %}`: a component that is handed a body. The span is that of the first tag's `<` to `>`.
     ComponentCall {
-        name: &'s str,
-        attributes: Vec<Entry<'s>>,
+        tag: Box<ComponentTag<'s>>,
         body: Vec<Node<'s>>,
         span: Span,
     },
@@ -78,6 +77,8 @@ pub enum Node<'s> {
     /// `{% continue %}`
     Continue,
 }
+
+const _: () = prove!(size_of::<Node<'static>>() == 64);
 
 // By hand, so that nodes that go out of scope are one call.
 impl<'s> Drop for Node<'s> {
@@ -97,10 +98,9 @@ impl<'s> Drop for Node<'s> {
                 is_global: _,
             } => {}
             Node::Capture {
-                name: _,
-                filters: _,
-                body: _,
                 is_global: _,
+                captured: _,
+                body: _,
             } => {}
             Node::FilterSection {
                 filters: _,
@@ -118,8 +118,7 @@ impl<'s> Drop for Node<'s> {
             } => {}
             Node::Include { name: _, span: _ } => {}
             Node::ComponentCall {
-                name: _,
-                attributes: _,
+                tag: _,
                 body: _,
                 span: _,
             } => {}
@@ -131,6 +130,13 @@ impl<'s> Drop for Node<'s> {
             Node::Continue => {}
         }
     }
+}
+
+/// What a body is captured for: the name, and the filters that its text goes through.
+#[derive(Drop)]
+pub struct Captured<'s> {
+    pub name: &'s str,
+    pub filters: Vec<SectionFilter<'s>>,
 }
 
 /// A filter of what a body puts out. Its span begins with its name.

@@ -1,10 +1,9 @@
 -- All values of a context: put into another, and as a map.
-use Rattle.std.proofs.Common.{◌≡◌, ℕ, length, arith, inl, inr, Bool, true, false, List, [], ◌∷◌, ◌++◌, Option, Some, None, String, string_bytes, refl, sym, ap, ◌∙◌, subst, cond, if◌then◌else◌, map, append_assoc, append-nil, Less, true≢false}
+use Rattle.std.proofs.Common.{◌≡◌, ℕ, length, arith, inl, inr, Bool, true, false, List, [], ◌∷◌, ◌++◌, Option, Some, None, refl, sym, ap, ◌∙◌, subst, cond, if◌then◌else◌, map, append_assoc, append-nil, Less, true≢false}
 use Rattle.std.specs.List.{AllByRecursion, IsDistinct}
 use Rattle.std.specs.List.Sorted.{IsStrictlySortedBy}
 use Rattle.std.specs.Map.{lookup, keys_of}
 use Rattle.std.specs.Str.{bytes_eq}
-use Rattle.std.specs.String.{string_eq}
 use Rattle.std.specs.Ordering.{is_eq}
 use Rattle.std.specs.Cmp.Lexicographic.{bytes_decides}
 use Rattle.std.proofs.lemmas.Map.Keys.{IsDistinct-head}
@@ -46,16 +45,13 @@ module _ {A : Type 0} where
             ∙ ap (put_all es) (sym (put_swap e.0 n e.1 a m (flip_greater n e.0 q)))
       ]
 
-  module _ {Z : Type 0} where
-    absent : (k : String Z) (es : List (String Z × A)) → AllByRecursion (λ j. string_eq k j ≡ false) (keys_of es) → lookup (λ j. bytes_eq (string_bytes k) (string_bytes j)) es ≡ None
-    absent k [] h = refl
-    absent k (e ∷ es) h = ap (λ (b : Bool). cond b (Some e.1) (lookup (λ j. bytes_eq (string_bytes k) (string_bytes j)) es)) h.0 ∙ absent k es h.1
+  absent : (k : Name) (es : Named A) → AllByRecursion (λ j. bytes_eq k j ≡ false) (keys_of es) → lookup (λ j. bytes_eq k j) es ≡ None
+  absent k [] h = refl
+  absent k (e ∷ es) h = ap (λ (b : Bool). cond b (Some e.1) (lookup (λ j. bytes_eq k j) es)) h.0 ∙ absent k es h.1
 
-    -- the entries put one by one
-    pub put_first : (k : String Z) (a : A) (es : List (String Z × A)) (m : Named A) → IsDistinct string_eq (keys_of ((k, a) ∷ es)) → put_all (by_name ((k, a) ∷ es)) m ≡ put_all (by_name es) (put (string_bytes k) a m)
-    put_first k a es m h =
-        put_all-put (by_name es) (string_bytes k) a m
-        (sym (found es (string_bytes k)) ∙ absent k es (IsDistinct-head string_eq k (keys_of es) h))
+  -- the entries put one by one
+  pub put_first : (k : Name) (a : A) (es m : Named A) → IsDistinct bytes_eq (keys_of ((k, a) ∷ es)) → put_all (by_name ((k, a) ∷ es)) m ≡ put_all (by_name es) (put k a m)
+  put_first k a es m h = put_all-put (by_name es) k a m (sym (found es k) ∙ absent k es (IsDistinct-head bytes_eq k (keys_of es) h))
 
   pub among : (P : Name → Type 0) (pre : Named A) (e : Name × A) (post : Named A) → AllByRecursion P (map (λ d. d.0) (pre ++ e ∷ post)) → P e.0
   among P [] e post h = h.0
@@ -98,47 +94,24 @@ module _ {A : Type 0} where
   pub put_all-nil : (m : Named A) → IsAscending m → put_all m [] ≡ m
   put_all-nil m h = behind m [] h
 
-  -- the map has the first things in their order, and the names are those of the others
-  abbrev pub IsFilled : Named A → List (KeyVal × A) → List Name → Type 0
-  IsFilled m all names =
-      (done : Named A) × (rest : Named A) × (done ++ rest ≡ m) × (all ≡ text_keys done) × (names ≡ map (λ e. e.0) rest)
+  -- the map has the first things in their order, and the others are left
+  abbrev pub IsFilled : Named A → List (KeyVal × A) → Named A → Type 0
+  IsFilled m all left = (done : Named A) × (done ++ left ≡ m) × (all ≡ text_keys done)
 
-  pub filled_none : (m : Named A) (all : List (KeyVal × A)) (names : List Name) → all ≡ [] → names ≡ map (λ e. e.0) m → IsFilled m all names
-  filled_none m all names none e = ([], m, refl, none, e)
+  pub filled_none : (m : Named A) (all : List (KeyVal × A)) (left : Named A) → all ≡ [] → left ≡ m → IsFilled m all left
+  filled_none m all left none whole = ([], whole, none)
 
-  -- the next name is found, and what it finds goes last
-  next_is : (m : Named A) (all : List (KeyVal × A)) (n : Name) (names before : List Name) → before ≡ n ∷ names → IsAscending m → IsFilled m all before → (a : A) × (at_name n m ≡ Some a) × IsFilled m (insert_pair all (ktext n) a) names
-  next_is m all n names before e h (done, [], split, is, left) = cc
-  next_is m all n names before e h (done, d ∷ rest, split, is, left) =
-      let name : n ≡ d.0 = cc in
-      let others : names ≡ map (λ c. c.0) rest = cc in
-      let up : IsAscending (done ++ d ∷ rest) = subst IsAscending (sym split) h in (
-        d.1,
-        ap (at_name n) (sym split) ∙ ap (λ (j : Name). at_name j (done ++ d ∷ rest)) name ∙ found_among done d rest up,
-        (
-          done ++ d ∷ [],
-          rest,
-          append_assoc done (d ∷ []) rest ∙ split,
-          ap (λ (l : List (KeyVal × A)). insert_pair l (ktext n) d.1) is ∙ ap (λ (j : Name). insert_pair (text_keys done) (ktext j) d.1) name ∙ goes_last done d rest up,
-          others,
-        ),
+  -- the next thing goes last
+  pub filled_next : (m : Named A) (all new : List (KeyVal × A)) (e : Name × A) (left before : Named A) → before ≡ e ∷ left → IsAscending m → IsFilled m all before → new ≡ insert_pair all (ktext e.0) e.1 → IsFilled m new left
+  filled_next m all new e left before next h (done, split, is) made =
+      let whole : done ++ e ∷ left ≡ m = sym (ap (λ (l : Named A). done ++ l) next) ∙ split in (
+        done ++ e ∷ [],
+        append_assoc done (e ∷ []) left ∙ whole,
+        made ∙ ap (λ (l : List (KeyVal × A)). insert_pair l (ktext e.0) e.1) is ∙ goes_last done e left (subst IsAscending (sym whole) h),
       )
 
-  pub next_found : (m : Named A) (all : List (KeyVal × A)) (n : Name) (names before : List Name) → before ≡ n ∷ names → IsAscending m → IsFilled m all before → at_name n m ≡ None → ⊥
-  next_found m all n names before e h filled none =
-      let it = next_is m all n names before e h filled in
-      let same : Some it.0 ≡ None = sym it.1 ∙ none in
-      cc
-
-  pub filled_next : (m : Named A) (all new : List (KeyVal × A)) (n : Name) (names before : List Name) (a : A) → before ≡ n ∷ names → IsAscending m → IsFilled m all before → Some a ≡ at_name n m → new ≡ insert_pair all (ktext n) a → IsFilled m new names
-  filled_next m all new n names before a e h filled found made =
-      let it = next_is m all n names before e h filled in
-      let same : a ≡ it.0 = cc (found ∙ it.1) in
-      subst (λ (l : List (KeyVal × A)). IsFilled m l names) (sym (made ∙ ap (insert_pair all (ktext n)) same)) it.2
-
-  pub filled_all : (m : Named A) (all : List (KeyVal × A)) (names : List Name) → names ≡ [] → IsFilled m all names → all ≡ text_keys m
-  filled_all m all names none (done, [], split, is, left) = is ∙ ap text_keys (sym (append-nil done) ∙ split)
-  filled_all m all names none (done, d ∷ rest, split, is, left) = cc
+  pub filled_all : (m : Named A) (all : List (KeyVal × A)) (left : Named A) → left ≡ [] → IsFilled m all left → all ≡ text_keys m
+  filled_all m all left none (done, split, is) = is ∙ ap text_keys (sym (append-nil done) ∙ sym (ap (λ (l : Named A). done ++ l) none) ∙ split)
 
 pub none_left : {A : Type 0} (xs : List A) (n : ℕ) → n ≡ length xs → n ≡ 0 → xs ≡ []
 none_left [] n size none = refl

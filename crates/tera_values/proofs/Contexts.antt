@@ -1,5 +1,5 @@
 -- Values by name: found, kept, and in byte order.
-use Rattle.std.proofs.Common.{◌≡◌, inl, inr, Bool, true, false, List, [], ◌∷◌, Some, String, string_bytes, refl, sym, ap, ◌∙◌, subst, cond, map, Less}
+use Rattle.std.proofs.Common.{◌≡◌, inl, inr, Bool, true, false, [], ◌∷◌, Some, refl, sym, ap, ◌∙◌, subst, cond, map, Less}
 use Rattle.std.specs.List.{AllByRecursion}
 use Rattle.std.specs.List.Sorted.{IsStrictlySortedBy}
 use Rattle.std.specs.Str.{bytes_eq}
@@ -48,13 +48,13 @@ module _ {A : Type 0} where
     | inr (inr q) ↦ subst IsAscending (sym (after n a e es q)) (below_put e.0 n a es (flip_greater n e.0 q) h.0, put_ascends n a es h.1)
   ]
 
-  entries_ascend : {Z : Type 0} (es : List (String Z × A)) → IsAscending (by_name es)
+  entries_ascend : (es : Named A) → IsAscending (by_name es)
   unfolding IsStrictlySortedBy
   entries_ascend [] = tt
-  entries_ascend (e ∷ es) = put_ascends (string_bytes e.0) e.1 (by_name es) (entries_ascend es)
+  entries_ascend (e ∷ es) = put_ascends e.0 e.1 (by_name es) (entries_ascend es)
 
   -- so do those of a context, whatever its entries
-  pub named_ascend : {Z : Type 0} (es : List (String Z × A)) (m : Named A) → by_name es ≡ m → IsAscending m
+  pub named_ascend : (es m : Named A) → by_name es ≡ m → IsAscending m
   named_ascend es m h = subst IsAscending h (entries_ascend es)
 
 pub kept_order : PutKeepsOrder

@@ -3,9 +3,9 @@ use Rattle.std.proofs.Common.{◌≡◌, ◌⊎◌, inl, inr, Bool, true, false,
 use Rattle.std.specs.Ordering.{ordering_reverse, match_ordering}
 use Rattle.std.specs.Cmp.{IsTotalOrder}
 use Rattle.std.specs.Map.{lookup, keys_of}
-use Rattle.std.specs.BTreeSet.{insert_key}
+use Rattle.std.specs.BTreeMap.{insert_entry as insert_ordered}
 use Rattle.std.specs.Str.{bytes_eq}
-use Rattle.std.specs.String.{string_eq, string_cmp}
+use Rattle.std.specs.String.{string_cmp}
 use Rattle.std.specs.Cmp.Lexicographic.{bytes_decides}
 use Rattle.std.proofs.lemmas.Cmp.{nat_list_cmp_total, tied_itself}
 use Rattle.std.proofs.lemmas.Map.Lookups.{exact_bytes}
@@ -93,80 +93,45 @@ module _ {A : Type 0} where
     | inr (inr h) ↦ ap (at_name n) (after k a e es h) ∙ ap (λ (o : Option A). cond (bytes_eq n e.0) (Some e.1) o) (at_put n k a es) ∙ swapped (bytes_eq n k) (bytes_eq n e.0) (Some a) (Some e.1) (at_name n es) (differ n k e.0 h)
   ]
 
-  module _ {Z : Type 0} where
-    -- a look-up among the entries is one by name
-    pub found : (es : List (String Z × A)) (n : Name) → lookup (λ k. bytes_eq n (string_bytes k)) es ≡ at_name n (by_name es)
-    found [] n = refl
-    found (e ∷ es) n = ap (λ (o : Option A). cond (bytes_eq n (string_bytes e.0)) (Some e.1) o) (found es n) ∙ sym (at_put n (string_bytes e.0) e.1 (by_name es))
+  -- a look-up among the entries is one by name
+  pub found : (es : Named A) (n : Name) → lookup (λ k. bytes_eq n k) es ≡ at_name n (by_name es)
+  found [] n = refl
+  found (e ∷ es) n = ap (λ (o : Option A). cond (bytes_eq n e.0) (Some e.1) o) (found es n) ∙ sym (at_put n e.0 e.1 (by_name es))
 
-    by_test : (b : Bool) (e : String Z × A) (es more : List (String Z × A)) (k : String Z) (a : A) → bytes_eq (string_bytes k) (string_bytes e.0) ≡ b → by_name more ≡ put (string_bytes k) a (by_name es) → by_name (if b then (e.0, a) ∷ es else e ∷ more) ≡ put (string_bytes k) a (by_name (e ∷ es))
-    by_test true e es more k a h g =
-        let tie : string_bytes k ≡ string_bytes e.0 = (bytes_decides (string_bytes k) (string_bytes e.0)).0 h in
-        sym (put_again (string_bytes e.0) a e.1 (by_name es)) ∙ ap (λ (n : Name). put n a (put (string_bytes e.0) e.1 (by_name es))) (sym tie)
-    by_test false e es more k a h g = ap (put (string_bytes e.0) e.1) g ∙ elim (three (name_cmp (string_bytes e.0) (string_bytes k))) [
-      | inl p ↦ put_swap (string_bytes e.0) (string_bytes k) e.1 a (by_name es) p
-      | inr (inl p) ↦
-          let t : bytes_eq (string_bytes k) (string_bytes e.0) ≡ true = (bytes_decides (string_bytes k) (string_bytes e.0)).1 (sym (exact_bytes (string_bytes e.0) (string_bytes k) p)) in
-          cc
-      | inr (inr p) ↦ sym (put_swap (string_bytes k) (string_bytes e.0) a e.1 (by_name es) (flip_greater (string_bytes e.0) (string_bytes k) p))
-    ]
-
-    -- an entry that is inserted is put at its name
-    pub inserted : (es : List (String Z × A)) (k : String Z) (a : A) → by_name (insert_entry string_eq es k a) ≡ put (string_bytes k) a (by_name es)
-    inserted [] k a = refl
-    inserted (e ∷ es) k a = by_test (bytes_eq (string_bytes k) (string_bytes e.0)) e es (insert_entry string_eq es k a) k a refl (inserted es k a)
-
-abbrev pub tags : {A : Type 0} → Named A → Named (Unit {0})
-tags m = map (λ e. (e.0, tt)) m
-
--- names put one by one, onto those that are there
-abbrev pub tags_in : {Z : Type 0} → List (String Z) → Named (Unit {0}) → Named (Unit {0})
-tags_in [] m = m
-tags_in (k ∷ ks) m = tags_in ks (put (string_bytes k) tt m)
-
-abbrev pub set_tags : {Z : Type 0} → List (String Z) → Named (Unit {0})
-set_tags ks = map (λ k. (string_bytes k, tt)) ks
-
-either_order : (j k : Name) (m : Named (Unit {0})) → put j tt (put k tt m) ≡ put k tt (put j tt m)
-either_order j k m = elim (three (name_cmp j k)) [
-  | inl h ↦ put_swap j k tt tt m h
-  | inr (inl h) ↦ let e : j ≡ k = exact_bytes j k h in ap (λ (n : Name). put n tt (put k tt m)) e ∙ ap (λ (n : Name). put k tt (put n tt m)) (sym e)
-  | inr (inr h) ↦ sym (put_swap k j tt tt m (flip_greater j k h))
-]
-
-module _ {A : Type 0} where
-  -- the names of a list after a thing was put
-  tags_put : (n : Name) (a : A) (es : Named A) → tags (put n a es) ≡ put n tt (tags es)
-  tags_put n a [] = refl
-  tags_put n a (e ∷ es) = elim (three (name_cmp n e.0)) [
-    | inl h ↦ ap tags (before n a e es h) ∙ sym (before n tt (e.0, tt) (tags es) h)
-    | inr (inl h) ↦ ap tags (there n a e es h) ∙ sym (there n tt (e.0, tt) (tags es) h)
-    | inr (inr h) ↦ ap tags (after n a e es h) ∙ ap (λ (l : Named (Unit {0})). (e.0, tt) ∷ l) (tags_put n a es) ∙ sym (after n tt (e.0, tt) (tags es) h)
+  by_test : (b : Bool) (e : Name × A) (es more : Named A) (k : Name) (a : A) → bytes_eq k e.0 ≡ b → by_name more ≡ put k a (by_name es) → by_name (if b then (e.0, a) ∷ es else e ∷ more) ≡ put k a (by_name (e ∷ es))
+  by_test true e es more k a h g =
+      let tie : k ≡ e.0 = (bytes_decides k e.0).0 h in
+      sym (put_again e.0 a e.1 (by_name es)) ∙ ap (λ (n : Name). put n a (put e.0 e.1 (by_name es))) (sym tie)
+  by_test false e es more k a h g = ap (put e.0 e.1) g ∙ elim (three (name_cmp e.0 k)) [
+    | inl p ↦ put_swap e.0 k e.1 a (by_name es) p
+    | inr (inl p) ↦
+        let t : bytes_eq k e.0 ≡ true = (bytes_decides k e.0).1 (sym (exact_bytes e.0 k p)) in
+        cc
+    | inr (inr p) ↦ sym (put_swap k e.0 a e.1 (by_name es) (flip_greater e.0 k p))
   ]
 
-module _ {Z : Type 0} where
-  put_into : (ks : List (String Z)) (n : Name) (m : Named (Unit {0})) → tags_in ks (put n tt m) ≡ put n tt (tags_in ks m)
-  put_into [] n m = refl
-  put_into (k ∷ ks) n m = ap (tags_in ks) (either_order (string_bytes k) n m) ∙ put_into ks n (put (string_bytes k) tt m)
+  -- an entry that is inserted is put at its name
+  pub inserted : (es : Named A) (k : Name) (a : A) → by_name (insert_entry bytes_eq es k a) ≡ put k a (by_name es)
+  inserted [] k a = refl
+  inserted (e ∷ es) k a = by_test (bytes_eq k e.0) e es (insert_entry bytes_eq es k a) k a refl (inserted es k a)
 
-  pub set_more : (ks : List (String Z)) (k : String Z) → set_tags (insert_key string_cmp ks k) ≡ put (string_bytes k) tt (set_tags ks)
-  set_more [] k = refl
-  set_more (x ∷ ks) k = elim (three (name_cmp (string_bytes k) (string_bytes x))) [
-    | inl h ↦ ap (λ (o : Ordering). set_tags (match_ordering o (k ∷ x ∷ ks) (x ∷ ks) (x ∷ insert_key string_cmp ks k))) h ∙ sym (before (string_bytes k) tt (string_bytes x, tt) (set_tags ks) h)
-    | inr (inl h) ↦ ap (λ (o : Ordering). set_tags (match_ordering o (k ∷ x ∷ ks) (x ∷ ks) (x ∷ insert_key string_cmp ks k))) h ∙ ap (λ (n : Name). (n, tt) ∷ set_tags ks) (sym (exact_bytes (string_bytes k) (string_bytes x) h)) ∙ sym (there (string_bytes k) tt (string_bytes x, tt) (set_tags ks) h)
-    | inr (inr h) ↦ ap (λ (o : Ordering). set_tags (match_ordering o (k ∷ x ∷ ks) (x ∷ ks) (x ∷ insert_key string_cmp ks k))) h ∙ ap (λ (l : Named (Unit {0})). (string_bytes x, tt) ∷ l) (set_more ks k) ∙ sym (after (string_bytes k) tt (string_bytes x, tt) (set_tags ks) h)
-  ]
+-- the entries of an ordered map from texts, by name
+abbrev pub texts : {Z A : Type 0} → List (String Z × A) → Named A
+texts es = map (λ e. (string_bytes e.0, e.1)) es
 
-  -- all names of the entries, put one by one
-  pub tags_all : {A : Type 0} (es : List (String Z × A)) → tags_in (keys_of es) [] ≡ tags (by_name es)
-  tags_all [] = refl
-  tags_all (e ∷ es) = put_into (keys_of es) (string_bytes e.0) [] ∙ ap (put (string_bytes e.0) tt) (tags_all es) ∙ sym (tags_put (string_bytes e.0) e.1 (by_name es))
+module _ {Z A : Type 0} where
+  -- an entry that is inserted there is put at its name
+  pub text_inserted : (es : List (String Z × A)) (k : String Z) (a : A) → texts (insert_ordered string_cmp es k a) ≡ put (string_bytes k) a (texts es)
+  text_inserted [] k a = refl
+  text_inserted (x ∷ es) k a =
+      let chosen : Ordering → Named A = λ o. texts (match_ordering o ((k, a) ∷ x ∷ es) ((x.0, a) ∷ es) (x ∷ insert_ordered string_cmp es k a)) in
+      let first : Name × A = (string_bytes x.0, x.1) in
+      elim (three (name_cmp (string_bytes k) (string_bytes x.0))) [
+        | inl h ↦ ap chosen h ∙ sym (before (string_bytes k) a first (texts es) h)
+        | inr (inl h) ↦ ap chosen h ∙ ap (λ (n : Name). (n, a) ∷ texts es) (sym (exact_bytes (string_bytes k) (string_bytes x.0) h)) ∙ sym (there (string_bytes k) a first (texts es) h)
+        | inr (inr h) ↦ ap chosen h ∙ ap (λ (l : Named A). first ∷ l) (text_inserted es k a) ∙ sym (after (string_bytes k) a first (texts es) h)
+      ]
 
-  -- the names of a list, by its tags
-  pub names_of_set : (ks : List (String Z)) → map string_bytes ks ≡ map (λ e. e.0) (set_tags ks)
-  names_of_set [] = refl
-  names_of_set (k ∷ ks) = ap (λ (l : List Name). string_bytes k ∷ l) (names_of_set ks)
-
-pub names_of : {A : Type 0} (m : Named A) → map (λ e. e.0) (tags m) ≡ map (λ e. e.0) m
-names_of [] = refl
-names_of (e ∷ m) = ap (λ (l : List Name). e.0 ∷ l) (names_of m)
+  pub text_names : (es : List (String Z × A)) → map string_bytes (keys_of es) ≡ map (λ e. e.0) (texts es)
+  text_names [] = refl
+  text_names (e ∷ es) = ap (λ (l : List Name). string_bytes e.0 ∷ l) (text_names es)

@@ -1,5 +1,7 @@
 -- What is known of a name beside its text.
-use Rattle.std.specs.Prelude.{◌≡◌, ℕ, Option, Some, None, cond, codes}
+use Rattle.std.specs.Prelude.{◌≡◌, ℕ, Option, Some, None, cond, codes, IsTrue}
+use Rattle.std.proofs.Common.{ap}
+use Rattle.std.specs.Cmp.Lexicographic.{bytes_decides}
 use Rattle.std.specs.List.{fold}
 use Rattle.std.specs.Str.{bytes_eq}
 use Rattle.std.specs.Hash as fed
@@ -11,6 +13,14 @@ use Rattle.tera_values.specs.declared.counter.Counter.TheVariants as counter
 -- the hash of a text
 unfoldable pub name_hash : Name → ℕ
 name_hash n = folding.finish (fold folding.write folding.initial (fed.str n))
+
+-- what a map that hashes a name takes in: its hash alone
+abbrev pub hashed : Name → fed.HashWrites
+hashed n = fed.u64 (name_hash n)
+
+-- the same for the same text
+pub same_hashed : (a b : Name) → IsTrue (bytes_eq a b) → hashed a ≡ hashed b
+same_hashed a b h = ap hashed ((bytes_decides a b).0 h)
 
 -- what a loop counts under this name
 abbrev pub counter_of : Name → Option Counter

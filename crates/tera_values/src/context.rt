@@ -4,9 +4,10 @@ ghost use Rattle.tera_errors.specs.Answer.{Gives, Lacks};
 ghost use Rattle.tera_values_data.specs.Val.{entries, map as map_of};
 ghost use Rattle.tera_values.specs.Named.{at_name, put, put_all, text_keys, IsAscending};
 
+use crate::name::{Name, Sought};
 use indexmap::IndexMap;
 use std::alloc::Global;
-use std::collections::BTreeSet;
+use std::collections::BTreeMap;
 use std::marker::Model;
 use tera_errors::TeraResult;
 use tera_values_data::{Key, Map, Value};
@@ -14,7 +15,7 @@ use tera_values_data::{Key, Map, Value};
 /// Values by name. Each is kept so that a copy of it, or of any part of it, is a count.
 pub struct Context {
     alloc: Global,
-    names: IndexMap<String, Value>,
+    names: IndexMap<Name, Value>,
 }
 
 // By hand, so that a context that goes out of scope is one call.
@@ -61,14 +62,30 @@ impl Context {
         ensures lacks { IfErr result Lacks }
     {
         let value = value.shared(self.alloc)?;
-        let key = String::from_str(self.alloc, name)?;
-        let old = self.names.insert(key, value)?;
+        let name = Name::new(self.alloc, name)?;
+        self.put(name, value)
+    }
+
+    // The same by a name and a value that are shared already: both are kept as they lie.
+    fn put(&mut self, name: Name, value: Value) -> TeraResult<()>
+        ensures ok { OnOk result (self.new ≡ put name value self.old) }
+        ensures err { OnErr result (self.new ≡ self.old) }
+        ensures lacks { IfErr result Lacks }
+    {
+        let old = self.names.insert(name, value)?;
         drop(old);
         Ok(())
     }
 
     /// The value at the name.
     pub fn get(&self, name: &str) -> Option<&Value>
+        ensures { option_copied result ≡ at_name name.now self.now }
+    {
+        self.look(&Sought::new(name))
+    }
+
+    /// The same by a name whose hash is known: its text is not hashed anew. Takes no memory.
+    pub fn look(&self, name: &Sought<'_>) -> Option<&Value>
         ensures { option_copied result ≡ at_name name.now self.now }
     {
         self.names.get(name)
@@ -80,7 +97,7 @@ impl Context {
         ensures lacks { IfErr result Lacks }
     {
         for (name, value) in other.names.iter() {
-            self.insert(name.as_str(), value.try_clone()?)?;
+            self.put(name.share()?, value.try_clone()?)?;
         }
         Ok(())
     }
@@ -99,11 +116,7 @@ impl Context {
         ensures { Gives (λ v. v) result (Ok (map_of (entries (text_keys self.now)))) }
     {
         let mut all = Map::new(self.alloc);
-        for name in self.names()? {
-            let Some(value) = self.get(name.as_str()) else {
-                unreachable!()
-            };
-            let value = value.try_clone()?;
+        for (name, value) in self.ordered()? {
             all.insert(Key::Text(name), value)?;
         }
         Ok(Value::map(all))
@@ -115,19 +128,22 @@ impl Context {
             (Ok (map (λ e. e.0) self.now)) }
         ensures ascending { IsAscending self.now }
     {
-        let ordered = self.ordered_names()?;
-        let names = ordered.into_iter().collect(self.alloc)?;
+        let names = self.ordered()?.into_keys().collect(self.alloc)?;
         Ok(names)
     }
 
-    fn ordered_names(&self) -> TeraResult<BTreeSet<String>>
-        ensures names { Gives (λ s. map string_bytes s.keys) result
-            (Ok (map (λ e. e.0) self.now)) }
+    // The values at copies of their names, in byte order of these.
+    fn ordered(&self) -> TeraResult<BTreeMap<String, Value>>
+        ensures all { Gives (λ m. map (λ e. (string_bytes e.0, e.1)) m.entries) result
+            (Ok self.now) }
         ensures ascending { IsAscending self.now }
     {
-        let mut ordered = BTreeSet::new(self.alloc);
-        for name in self.names.keys() {
-            ordered.insert(name.clone()?)?;
+        let mut ordered = BTreeMap::new(self.alloc);
+        for (name, value) in self.names.iter() {
+            let name = String::from_str(self.alloc, name.as_str())?;
+            let value = value.try_clone()?;
+            let old = ordered.insert(name, value)?;
+            drop(old);
         }
         Ok(ordered)
     }

@@ -1,9 +1,12 @@
 // Names, shared by all that hold them, and what is known of them beside their text.
 ghost use Rattle.std.specs.Prelude.{◌≡◌, Ok, bytes_eq};
+ghost use Rattle.std.specs.Cmp.{partial_equiv_from_equiv};
+ghost use Rattle.std.specs.Cmp.Lexicographic.{nat_list_eq_equiv};
 ghost use Rattle.tera_errors.specs.Answer.{Gives};
-ghost use Rattle.tera_values.specs.Naming.{counter_of, name_hash};
+ghost use Rattle.tera_values.specs.Naming.{counter_of, hashed, name_hash, same_hashed};
 
 use crate::counter::Counter;
+use indexmap::Equivalent;
 use std::alloc::Global;
 use std::hash::{FoldHasher, Hash, Hasher};
 use std::marker::Model;
@@ -79,6 +82,32 @@ impl Name {
     }
 }
 
+// Two names are the same where their texts are, which are compared only where the hashes are the same.
+impl PartialEq for Name {
+    ghost eq = { bytes_eq };
+
+    ghost laws = { partial_equiv_from_equiv nat_list_eq_equiv };
+
+    fn eq(&self, other: &Name) -> bool {
+        self.hash == other.hash && are_same(self.text.as_str(), other.text.as_str())
+    }
+}
+
+impl Eq for Name {
+    ghost laws = { nat_list_eq_equiv };
+}
+
+// A map that hashes a name takes in the hash that was found once, and not the text.
+impl Hash for Name {
+    ghost hash_input = { hashed };
+
+    ghost respects_eq = { same_hashed };
+
+    fn hash<H: Hasher>(&self, state: &mut H) {
+        state.write_u64(self.hash);
+    }
+}
+
 /// A name that is looked for. Its text lies elsewhere; its hash and what it counts are found once, so that a look-up
 /// compares texts only where their hashes are the same. Takes no memory.
 #[derive(Drop)]
@@ -138,6 +167,43 @@ impl<'a> Sought<'a> {
         ensures { result ≡ bytes_eq self.now name.now }
     {
         self.hash == name.hash && are_same(self.text, name.text.as_str())
+    }
+}
+
+impl<'a> PartialEq for Sought<'a> {
+    ghost eq = { bytes_eq };
+
+    ghost laws = { partial_equiv_from_equiv nat_list_eq_equiv };
+
+    fn eq(&self, other: &Sought<'a>) -> bool {
+        self.hash == other.hash && are_same(self.text, other.text)
+    }
+}
+
+impl<'a> Eq for Sought<'a> {
+    ghost laws = { nat_list_eq_equiv };
+}
+
+impl<'a> Hash for Sought<'a> {
+    ghost hash_input = { hashed };
+
+    ghost respects_eq = { same_hashed };
+
+    fn hash<H: Hasher>(&self, state: &mut H) {
+        state.write_u64(self.hash);
+    }
+}
+
+// So a map whose keys are names is asked for one that is looked for, and hashes eight bytes.
+impl<'a, 's> Equivalent<Name> for &'s Sought<'a> {
+    ghost equivalent = { λ q n. bytes_eq q.now n };
+
+    ghost respects_hash = { λ q. same_hashed q.now };
+
+    ghost respects_eq = { λ q x y. nat_list_eq_equiv.congr q.now x y };
+
+    fn equivalent(&self, key: &Name) -> bool {
+        (*self).is(key)
     }
 }
 

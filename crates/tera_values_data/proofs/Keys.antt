@@ -21,14 +21,9 @@ key_exact (kbool false) (kbool false) h = refl
 key_exact (kbool true) (kbool true) h = refl
 key_exact (kbool false) (kbool true) h = cc
 key_exact (kbool true) (kbool false) h = cc
-key_exact (kbool a) (kint b) h = cc
-key_exact (kbool a) (ktext b) h = cc
-key_exact (kint a) (kbool b) h = cc
-key_exact (kint a) (ktext b) h = cc
-key_exact (ktext a) (kbool b) h = cc
-key_exact (ktext a) (kint b) h = cc
 key_exact (kint a) (kint b) h = ap kint (int_ranked a b Equal (sym (then_left _ _ h)))
 key_exact (ktext a) (ktext b) h = ap ktext (exact_bytes a b h)
+key_exact a b h = cc
 
 pub key_tied : (k : KeyVal) → key_cmp k k ≡ Equal
 key_tied k = tied_itself keys_total k

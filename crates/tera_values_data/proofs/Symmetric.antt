@@ -1,6 +1,7 @@
 -- Laws of comparability and of maps.
 use Rattle.std.proofs.Common.{◌≡◌, ◌≢◌, ◌⊎◌, inl, inr, Bool, true, false, cond, if◌then◌else◌, [], ◌∷◌, Option, Some, None, refl, sym, ap, ◌∙◌, Ordering, Less, Equal, Greater, is_eq}
 use Rattle.std.specs.Ordering.{ordering_reverse}
+use Rattle.std.proofs.lemmas.Bool.{cond-true, cond-false, false_from_ne_true}
 use Rattle.tera_values_data.specs.Val.{Val, Vals, KeyVal, undefined, none, bool, int, text, bytes, array, map, no_items, item}
 use Rattle.tera_values_data.specs.Access.{find, insert_pair, key_eq}
 use Rattle.tera_values_data.specs.Keys.{key_cmp}
@@ -23,21 +24,7 @@ joined a b c d e f p q r = ap (λ (x : Bool). cond x (cond c e true) false) p �
 mutual
   pub comparable_sym : (v w : Val) → comparable v w ≡ comparable w v
   comparable_sym undefined undefined = refl
-  comparable_sym undefined none = refl
-  comparable_sym undefined (bool b) = refl
-  comparable_sym undefined (int b) = refl
-  comparable_sym undefined (text b r) = refl
-  comparable_sym undefined (bytes b) = refl
-  comparable_sym undefined (array b) = refl
-  comparable_sym undefined (map b) = refl
-  comparable_sym none undefined = refl
   comparable_sym none none = refl
-  comparable_sym none (bool b) = refl
-  comparable_sym none (int b) = refl
-  comparable_sym none (text b r) = refl
-  comparable_sym none (bytes b) = refl
-  comparable_sym none (array b) = refl
-  comparable_sym none (map b) = refl
   comparable_sym (bool a) (bool b) = refl
   comparable_sym (int a) (int b) = refl
   comparable_sym (text a s) (text b r) = refl
@@ -56,42 +43,22 @@ tested : (b : Bool) → (b ≡ true) ⊎ (b ≡ false)
 tested true = inl refl
 tested false = inr refl
 
-hit : (b : Bool) (x y : Option Val) → b ≡ true → (if b then x else y) ≡ x
-hit true x y h = refl
-hit false x y h = cc
-
-miss : (b : Bool) (x y : Option Val) → b ≡ false → (if b then x else y) ≡ y
-miss true x y h = cc
-miss false x y h = refl
-
 itself : (k : KeyVal) → key_eq k k ≡ true
 itself k = ap is_eq (key_tied k)
 
-put_here : (b : Bool) (x y : Pairs) → b ≡ true → (if b then x else y) ≡ x
-put_here true x y h = refl
-put_here false x y h = cc
-
-put_later : (b : Bool) (x y : Pairs) → b ≡ false → (if b then x else y) ≡ y
-put_later true x y h = cc
-put_later false x y h = refl
-
 pub find_inserted : (es : Pairs) (k : KeyVal) (v : Val) → find k (insert_pair es k v) ≡ Some v
-find_inserted [] k v = hit (key_eq k k) (Some v) None (itself k)
+find_inserted [] k v = cond-true (key_eq k k) (Some v) None (itself k)
 find_inserted (e ∷ es) k v = elim (tested (key_eq k e.0)) [
-  | inl h ↦ ap (find k) (put_here (key_eq k e.0) ((e.0, v) ∷ es) (e ∷ insert_pair es k v) h) ∙ hit (key_eq k e.0) (Some v) (find k es) h
-  | inr h ↦ ap (find k) (put_later (key_eq k e.0) ((e.0, v) ∷ es) (e ∷ insert_pair es k v) h) ∙ miss (key_eq k e.0) (Some e.1) (find k (insert_pair es k v)) h ∙ find_inserted es k v
+  | inl h ↦ ap (find k) (cond-true (key_eq k e.0) ((e.0, v) ∷ es) (e ∷ insert_pair es k v) h) ∙ cond-true (key_eq k e.0) (Some v) (find k es) h
+  | inr h ↦ ap (find k) (cond-false (key_eq k e.0) ((e.0, v) ∷ es) (e ∷ insert_pair es k v) h) ∙ cond-false (key_eq k e.0) (Some e.1) (find k (insert_pair es k v)) h ∙ find_inserted es k v
 ]
 
-not_true : (b : Bool) → (b ≡ true → ⊥) → b ≡ false
-not_true true h = absurd (h refl)
-not_true false h = refl
-
 pub find_other : (es : Pairs) (k j : KeyVal) (v : Val) → key_eq j k ≢ true → find j (insert_pair es k v) ≡ find j es
-find_other [] k j v h = miss (key_eq j k) (Some v) None (not_true (key_eq j k) h)
+find_other [] k j v h = cond-false (key_eq j k) (Some v) None (false_from_ne_true (key_eq j k) h)
 find_other (e ∷ es) k j v h = elim (tested (key_eq k e.0)) [
   | inl t ↦
       let tie : k ≡ e.0 = key_exact k e.0 (is_eq_true (key_cmp k e.0) t) in
-      let apart : key_eq j e.0 ≡ false = ap (key_eq j) (sym tie) ∙ not_true (key_eq j k) h in
-      ap (find j) (put_here (key_eq k e.0) ((e.0, v) ∷ es) (e ∷ insert_pair es k v) t) ∙ miss (key_eq j e.0) (Some v) (find j es) apart ∙ sym (miss (key_eq j e.0) (Some e.1) (find j es) apart)
-  | inr t ↦ ap (find j) (put_later (key_eq k e.0) ((e.0, v) ∷ es) (e ∷ insert_pair es k v) t) ∙ ap (λ (o : Option Val). if key_eq j e.0 then Some e.1 else o) (find_other es k j v h)
+      let apart : key_eq j e.0 ≡ false = ap (key_eq j) (sym tie) ∙ false_from_ne_true (key_eq j k) h in
+      ap (find j) (cond-true (key_eq k e.0) ((e.0, v) ∷ es) (e ∷ insert_pair es k v) t) ∙ cond-false (key_eq j e.0) (Some v) (find j es) apart ∙ sym (cond-false (key_eq j e.0) (Some e.1) (find j es) apart)
+  | inr t ↦ ap (find j) (cond-false (key_eq k e.0) ((e.0, v) ∷ es) (e ∷ insert_pair es k v) t) ∙ ap (λ (o : Option Val). if key_eq j e.0 then Some e.1 else o) (find_other es k j v h)
 ]

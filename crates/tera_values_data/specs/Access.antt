@@ -31,34 +31,19 @@ pairs (entry k v es) = (k, v) ∷ pairs es
 -- the value of a map at a text key
 abbrev pub attr : {C : Type 0} → List ℕ → ValOf C → Option (ValOf C)
 attr n (map es) = find (ktext n) (pairs es)
-attr n undefined = None
-attr n none = None
-attr n (bool b) = None
-attr n (int z) = None
-attr n (text t s) = None
-attr n (bytes t) = None
-attr n (array vs) = None
+attr n v = None
 
 abbrev pub is_undefined : {C : Type 0} → ValOf C → Bool
 is_undefined undefined = true
-is_undefined none = false
-is_undefined (bool b) = false
-is_undefined (int z) = false
-is_undefined (text t s) = false
-is_undefined (bytes t) = false
-is_undefined (array vs) = false
-is_undefined (map es) = false
+is_undefined v = false
 
 -- safe are marked texts, integers, booleans and none
 abbrev pub is_safe : {C : Type 0} → ValOf C → Bool
-is_safe undefined = false
 is_safe none = true
 is_safe (bool b) = true
 is_safe (int z) = true
 is_safe (text t s) = s
-is_safe (bytes t) = false
-is_safe (array vs) = false
-is_safe (map es) = false
+is_safe v = false
 
 -- a text with the safe mark, and any other value as it is
 abbrev pub marked : {C : Type 0} → ValOf C → ValOf C
@@ -108,23 +93,11 @@ kind_name (map es) = codes "map"
 
 abbrev pub int_of : {C : Type 0} → ValOf C → Option ℤ
 int_of (int z) = Some z
-int_of undefined = None
-int_of none = None
-int_of (bool b) = None
-int_of (text t s) = None
-int_of (bytes t) = None
-int_of (array vs) = None
-int_of (map es) = None
+int_of v = None
 
 abbrev pub text_of : {C : Type 0} → ValOf C → Option (List C)
 text_of (text t s) = Some t
-text_of undefined = None
-text_of none = None
-text_of (bool b) = None
-text_of (int z) = None
-text_of (bytes t) = None
-text_of (array vs) = None
-text_of (map es) = None
+text_of v = None
 
 -- false are undefined, none, false, 0 and what is empty
 abbrev pub truthy : {C : Type 0} → ValOf C → Bool
@@ -157,11 +130,7 @@ abbrev pub key_in : {C : Type 0} → Alphabet C → ValOf C → Result KeyVal Fa
 key_in a (bool b) = Ok (kbool b)
 key_in a (int z) = Ok (kint z)
 key_in a (text t s) = Ok (ktext (a.seen t))
-key_in a undefined = Err message
-key_in a none = Err message
-key_in a (bytes t) = Err message
-key_in a (array vs) = Err message
-key_in a (map es) = Err message
+key_in a v = Err message
 
 abbrev pub key_of : Val → Result KeyVal Fault
 key_of = key_in plain

@@ -28,28 +28,12 @@ abbrev pub Step : Type 0
 Step = ℕ × (ℤ × List ℕ)
 
 abbrev pub onto : KeyVal → List Val → List Val
-onto k [] = []
-onto k (v ∷ []) = []
 onto k (v ∷ map es ∷ s) = map (entry k v es) ∷ s
-onto k (v ∷ undefined ∷ s) = []
-onto k (v ∷ none ∷ s) = []
-onto k (v ∷ bool b ∷ s) = []
-onto k (v ∷ int z ∷ s) = []
-onto k (v ∷ text t m ∷ s) = []
-onto k (v ∷ bytes t ∷ s) = []
-onto k (v ∷ array t ∷ s) = []
+onto k s = []
 
 abbrev pub with_item : List Val → List Val
-with_item [] = []
-with_item (v ∷ []) = []
 with_item (v ∷ array vs ∷ s) = array (item v vs) ∷ s
-with_item (v ∷ undefined ∷ s) = []
-with_item (v ∷ none ∷ s) = []
-with_item (v ∷ bool b ∷ s) = []
-with_item (v ∷ int z ∷ s) = []
-with_item (v ∷ text t m ∷ s) = []
-with_item (v ∷ bytes t ∷ s) = []
-with_item (v ∷ map t ∷ s) = []
+with_item s = []
 
 abbrev pub step : Tag → ℤ → List ℕ → List Val → List Val
 step t_undefined z bs s = undefined ∷ s

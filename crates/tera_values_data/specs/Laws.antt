@@ -78,32 +78,15 @@ by_key : (k j : KeyVal) (xs ys : List ℤ) → lists (key_then k xs) (key_then j
 by_key (kbool a) (kbool b) xs ys = by_bit a b (lists xs ys) ∙ ap (λ o. ordering_then o (lists xs ys)) (sym (then_Equal (bool_cmp a b)))
 by_key (kint a) (kint b) xs ys = ap (λ o. ordering_then o (lists xs ys)) (sym (then_Equal (int_cmp a b)))
 by_key (ktext a) (ktext b) xs ys = by_bytes a b xs ys
-by_key (kbool a) (kint b) xs ys = refl
-by_key (kbool a) (ktext b) xs ys = refl
-by_key (kint a) (kbool b) xs ys = refl
-by_key (kint a) (ktext b) xs ys = refl
-by_key (ktext a) (kbool b) xs ys = refl
-by_key (ktext a) (kint b) xs ys = refl
+by_key k j xs ys = refl
 
 ends_first : (w : Val) (xs ys : List ℤ) → lists (pos 0 ∷ xs) (val_then w ys) ≡ Less
 ends_first undefined xs ys = refl
-ends_first none xs ys = refl
-ends_first (bool b) xs ys = refl
-ends_first (int z) xs ys = refl
-ends_first (text t s) xs ys = refl
-ends_first (bytes t) xs ys = refl
-ends_first (array vs) xs ys = refl
-ends_first (map es) xs ys = refl
+ends_first w xs ys = refl
 
 ends_later : (w : Val) (xs ys : List ℤ) → lists (val_then w ys) (pos 0 ∷ xs) ≡ Greater
 ends_later undefined xs ys = refl
-ends_later none xs ys = refl
-ends_later (bool b) xs ys = refl
-ends_later (int z) xs ys = refl
-ends_later (text t s) xs ys = refl
-ends_later (bytes t) xs ys = refl
-ends_later (array vs) xs ys = refl
-ends_later (map es) xs ys = refl
+ends_later w xs ys = refl
 
 key_after : (k : KeyVal) (xs ys : List ℤ) → lists (pos 0 ∷ xs) (key_then k ys) ≡ Less
 key_after (kbool b) xs ys = refl
@@ -118,21 +101,7 @@ key_before (ktext t) xs ys = refl
 mutual
   by_value : (a b : Val) (xs ys : List ℤ) → lists (val_then a xs) (val_then b ys) ≡ ordering_then (content_cmp a b) (lists xs ys)
   by_value undefined undefined xs ys = refl
-  by_value undefined none xs ys = refl
-  by_value undefined (bool b) xs ys = refl
-  by_value undefined (int b) xs ys = refl
-  by_value undefined (text b r) xs ys = refl
-  by_value undefined (bytes b) xs ys = refl
-  by_value undefined (array b) xs ys = refl
-  by_value undefined (map b) xs ys = refl
-  by_value none undefined xs ys = refl
   by_value none none xs ys = refl
-  by_value none (bool b) xs ys = refl
-  by_value none (int b) xs ys = refl
-  by_value none (text b r) xs ys = refl
-  by_value none (bytes b) xs ys = refl
-  by_value none (array b) xs ys = refl
-  by_value none (map b) xs ys = refl
   by_value (int a) (int b) xs ys = refl
   by_value (bool a) (bool b) xs ys = by_bit a b (lists xs ys)
   by_value (text a s) (text b r) xs ys = by_bytes a b xs ys

@@ -6,10 +6,11 @@ use Rattle.tera_syntax_tree.specs.declared.expression.Expression.{Expression}
 use Rattle.tera_syntax_tree.specs.declared.node.Node as declared
 use Rattle.tera_syntax_tree.specs.declared.node.SectionFilter.{SectionFilter}
 use Rattle.tera_syntax_tree.specs.declared.node.Node.TheVariants as variant
-use Rattle.tera_syntax_tree.specs.declared.expression.Entry.{Entry}
+use Rattle.tera_syntax_tree.specs.declared.expression.ComponentTag.{ComponentTag}
+use Rattle.tera_syntax_tree.specs.declared.node.Captured.{Captured}
 use Rattle.tera_syntax_tree.specs.declared.component.Signature.{Signature}
-use Rattle.tera_syntax_tree.specs.Tree.{If, Capture, FilterSection, Block, ComponentCall, Definition}
-use Rattle.tera_syntax_tree.specs.View.{node_of, nodes_of, filters_of, entries_of, signature_of, expr_of, for_of}
+use Rattle.tera_syntax_tree.specs.Tree.{If, FilterSection, Block, Definition}
+use Rattle.tera_syntax_tree.specs.View.{node_of, nodes_of, filters_of, signature_of, expr_of, for_of, capture_of, component_call_of}
 use Rattle.tera_syntax_tree.proofs.Views.{view_if, view_capture, view_section, view_for, view_block, view_component_call, view_definition}
 
 pub node_if : (node : declared.Node) (condition : Box Expression Global) (body other : Vec declared.Node Global) (xs ys : List declared.Node) → node ≡ variant.If condition body other → xs ≡ body.items → ys ≡ other.items → node_of node ≡ If (expr_of condition.value) (nodes_of xs) (nodes_of ys)
@@ -20,9 +21,9 @@ pub node_for : (node : declared.Node) (heading : Box Heading Global) (body other
 node_for node heading body other xs ys is a b =
     ap node_of is ∙ view_for heading body other ∙ ap₂ (λ x y. for_of heading.value x y) (sym a) (sym b)
 
-pub node_capture : (node : declared.Node) (name : Bor (List ℕ)) (fs : Vec SectionFilter Global) (body : Vec declared.Node Global) (is_global : Bool) (xs : List declared.Node) → node ≡ variant.Capture name fs body is_global → xs ≡ body.items → node_of node ≡ Capture name.now (filters_of fs.items) (nodes_of xs) is_global
-node_capture node name fs body is_global xs is a =
-    ap node_of is ∙ view_capture name fs body is_global ∙ ap (λ x. Capture name.now (filters_of fs.items) (nodes_of x) is_global) (sym a)
+pub node_capture : (node : declared.Node) (is_global : Bool) (c : Box Captured Global) (body : Vec declared.Node Global) (k : Captured) (xs : List declared.Node) → node ≡ variant.Capture is_global c body → k ≡ c.value → xs ≡ body.items → node_of node ≡ capture_of k (nodes_of xs) is_global
+node_capture node is_global c body k xs is v a =
+    ap node_of is ∙ view_capture is_global c body ∙ ap₂ (λ k x. capture_of k (nodes_of x) is_global) (sym v) (sym a)
 
 pub node_section : (node : declared.Node) (fs : Vec SectionFilter Global) (body : Vec declared.Node Global) (xs : List declared.Node) → node ≡ variant.FilterSection fs body → xs ≡ body.items → node_of node ≡ FilterSection (filters_of fs.items) (nodes_of xs)
 node_section node fs body xs is a =
@@ -32,9 +33,9 @@ pub node_block : (node : declared.Node) (name : Bor (List ℕ)) (body : Vec decl
 node_block node name body span xs is a =
     ap node_of is ∙ view_block name body span ∙ ap (λ x. Block name.now (nodes_of x) span) (sym a)
 
-pub node_call : (node : declared.Node) (name : Bor (List ℕ)) (attributes : Vec Entry Global) (body : Vec declared.Node Global) (span : Span) (xs : List declared.Node) → node ≡ variant.ComponentCall name attributes body span → xs ≡ body.items → node_of node ≡ ComponentCall name.now (entries_of attributes.items) (nodes_of xs) span
-node_call node name attributes body span xs is a =
-    ap node_of is ∙ view_component_call name attributes body span ∙ ap (λ x. ComponentCall name.now (entries_of attributes.items) (nodes_of x) span) (sym a)
+pub node_call : (node : declared.Node) (tag : Box ComponentTag Global) (body : Vec declared.Node Global) (span : Span) (xs : List declared.Node) → node ≡ variant.ComponentCall tag body span → xs ≡ body.items → node_of node ≡ component_call_of tag.value (nodes_of xs) span
+node_call node tag body span xs is a =
+    ap node_of is ∙ view_component_call tag body span ∙ ap (λ x. component_call_of tag.value (nodes_of x) span) (sym a)
 
 pub node_definition : (node : declared.Node) (signature : Box Signature Global) (body : Vec declared.Node Global) (xs : List declared.Node) → node ≡ variant.Definition signature body → xs ≡ body.items → node_of node ≡ Definition (signature_of signature.value) (nodes_of xs)
 node_definition node signature body xs is a =

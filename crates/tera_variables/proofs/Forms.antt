@@ -6,7 +6,6 @@ use Rattle.tera_syntax_tree.specs.declared.expression.Item.{Item}
 use Rattle.tera_syntax_tree.specs.declared.expression.Entry.{Entry}
 use Rattle.tera_syntax_tree.specs.declared.expression.Argument.{Argument}
 use Rattle.tera_syntax_tree.specs.declared.expression.Applied.{Applied}
-use Rattle.tera_syntax_tree.specs.declared.expression.Bounds.{Bounds}
 use Rattle.tera_syntax_tree.specs.declared.expression.Called.{Called, out-Called}
 use Rattle.tera_syntax_tree.specs.declared.expression.Collected.{Collected}
 use Rattle.tera_syntax_tree.specs.declared.expression.ComponentTag.{ComponentTag, out-ComponentTag}
@@ -15,6 +14,7 @@ use Rattle.tera_syntax_tree.specs.declared.expression.Heading.{Heading}
 use Rattle.tera_syntax_tree.specs.declared.expression.Operands.{Operands}
 use Rattle.tera_syntax_tree.specs.declared.expression.Indexed.{Indexed}
 use Rattle.tera_syntax_tree.specs.declared.expression.Choice.{Choice}
+use Rattle.tera_syntax_tree.specs.declared.expression.Sliced.{Sliced}
 use Rattle.tera_syntax_tree.specs.declared.expression.Expression.{Expression}
 use Rattle.tera_syntax_tree.specs.declared.expression.Expression.TheVariants as expression
 use Rattle.tera_syntax_tree.specs.View.{comprehension_of, slice_of, expr_of, items_of, entries_of, arguments_of}
@@ -63,9 +63,9 @@ pub comprehension : (e : Expression) (collected : Box Collected Global) (span : 
 comprehension e collected span x is v =
     ap collected_free v ∙ sym (ap expr_free (ap expr_of is ∙ view_comprehension collected span))
 
-pub slice : (e : Expression) (optional : Bool) (target : Box Expression Global) (bounds : Box Bounds Global) (span : Span) (x : Expression) (b : Bounds) → e ≡ expression.Slice optional target bounds span → x ≡ target.value → b ≡ bounds.value → expr_free (expr_of x) ∪ bounds_free b ≡ expr_free (expr_of e)
-slice e optional target bounds span x b is v a =
-    ap₂ (λ y k. expr_free (expr_of y) ∪ bounds_free k) v a ∙ sym (ap expr_free (ap expr_of is ∙ view_slice optional target bounds span))
+pub slice : (e : Expression) (optional : Bool) (sliced : Box Sliced Global) (span : Span) (x y : Sliced) → e ≡ expression.Slice optional sliced span → x ≡ sliced.value → y ≡ sliced.value → expr_free (expr_of x.target) ∪ bounds_free y.bounds ≡ expr_free (expr_of e)
+slice e optional sliced span x y is v w =
+    ap₂ (λ x y. expr_free (expr_of x.target) ∪ bounds_free y.bounds) v w ∙ sym (ap expr_free (ap expr_of is ∙ view_slice optional sliced span))
 
 pub index : (e : Expression) (optional : Bool) (parts : Box Indexed Global) (span : Span) (x y : Indexed) → e ≡ expression.Index optional parts span → x ≡ parts.value → y ≡ parts.value → expr_free (expr_of x.target) ∪ expr_free (expr_of y.index) ≡ expr_free (expr_of e)
 index e optional parts span x y is v w =

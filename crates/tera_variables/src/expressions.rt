@@ -35,9 +35,9 @@ pub fn add_expression(
             add_expression(alloc, &parts.index, found)?;
             add_expression(alloc, &parts.target, found)
         }
-        Expression::Slice { target, bounds, .. } => {
-            add_bounds(alloc, bounds, found)?;
-            add_expression(alloc, target, found)
+        Expression::Slice { sliced, .. } => {
+            add_bounds(alloc, &sliced.bounds, found)?;
+            add_expression(alloc, &sliced.target, found)
         }
         Expression::Not { operand, .. } => add_expression(alloc, operand, found),
         Expression::Negate { operand, .. } => add_expression(alloc, operand, found),

@@ -12,7 +12,7 @@ use crate::sets::{add as add_name, join, remove, remove_loop_names};
 use std::alloc::Global;
 use std::collections::BTreeSet;
 use tera_errors::TeraResult;
-use tera_syntax_tree::{Heading, Node, SectionFilter};
+use tera_syntax_tree::{Captured, Heading, Node, SectionFilter};
 
 /// The names that are free in nodes, each once.
 pub fn free(alloc: Global, nodes: &[Node]) -> TeraResult<BTreeSet<String>>
@@ -61,14 +61,10 @@ fn add(alloc: Global, node: &Node, found: &mut BTreeSet<String>) -> TeraResult<(
             remove(name, found);
             add_expression(alloc, value, found)
         }
-        Node::Capture {
-            name,
-            filters,
-            body,
-            ..
-        } => {
-            remove(name, found);
-            add_section(alloc, filters.as_slice(), body.as_slice(), found)
+        Node::Capture { captured, body, .. } => {
+            let captured: &Captured = captured;
+            remove(captured.name, found);
+            add_section(alloc, captured.filters.as_slice(), body.as_slice(), found)
         }
         Node::FilterSection { filters, body } => {
             add_section(alloc, filters.as_slice(), body.as_slice(), found)
@@ -90,13 +86,9 @@ fn add(alloc: Global, node: &Node, found: &mut BTreeSet<String>) -> TeraResult<(
             add_expression(alloc, &heading.target, found)
         }
         Node::Block { body, .. } => add_all(alloc, body.as_slice(), found),
-        Node::ComponentCall {
-            attributes,
-            body,
-            ..
-        } => {
+        Node::ComponentCall { tag, body, .. } => {
             add_all(alloc, body.as_slice(), found)?;
-            add_entries(alloc, attributes.as_slice(), found)
+            add_entries(alloc, tag.attributes.as_slice(), found)
         }
         Node::Content { .. }
         | Node::Include { .. }
@@ -152,12 +144,11 @@ fn remove_globals_of(node: &Node, found: &mut BTreeSet<String>)
             ..
         } => remove_if_global(name, *is_global, found),
         Node::Capture {
-            name,
-            body,
             is_global,
-            ..
+            captured,
+            body,
         } => {
-            remove_if_global(name, *is_global, found);
+            remove_if_global(captured.name, *is_global, found);
             remove_globals(body.as_slice(), found);
         }
         Node::FilterSection { body, .. } => remove_globals(body.as_slice(), found),

@@ -15,7 +15,7 @@ add-returns-in_ok-add_all-in-For t c =
 
 pub add-returns-in-Capture : goal.add-returns-in-Capture
 add-returns-in-Capture t c =
-    on_ok_by _ _ _ _ (ap (λ x. map block_of c.args.found.now.items ++ block_listings c.args.file.now x) (blocks_capture _ c.in-Capture.name c.in-Capture.filters c.in-Capture.body c.in-Capture.is_global _ c.in-Capture.is c.as_slice-in-Capture.ensures.value)) c.add_all-in-Capture.ensures.ok
+    on_ok_by _ _ _ _ (ap (λ x. map block_of c.args.found.now.items ++ block_listings c.args.file.now x) (blocks_capture _ c.in-Capture.is_global c.in-Capture.captured c.in-Capture.body _ c.in-Capture.is c.as_slice-in-Capture.ensures.value)) c.add_all-in-Capture.ensures.ok
 
 pub add-returns-in-FilterSection : goal.add-returns-in-FilterSection
 add-returns-in-FilterSection t c =
@@ -30,7 +30,7 @@ add-returns-in_ok-put-in-Block t c =
 
 pub add-returns-in-ComponentCall : goal.add-returns-in-ComponentCall
 add-returns-in-ComponentCall t c =
-    on_ok_by _ _ _ _ (ap (λ x. map block_of c.args.found.now.items ++ block_listings c.args.file.now x) (blocks_component_call _ c.in-ComponentCall.name c.in-ComponentCall.attributes c.in-ComponentCall.body c.in-ComponentCall.span _ c.in-ComponentCall.is c.as_slice-in-ComponentCall.ensures.value)) c.add_all-in-ComponentCall.ensures.ok
+    on_ok_by _ _ _ _ (ap (λ x. map block_of c.args.found.now.items ++ block_listings c.args.file.now x) (blocks_component_call _ c.in-ComponentCall.tag c.in-ComponentCall.body c.in-ComponentCall.span _ c.in-ComponentCall.is c.as_slice-in-ComponentCall.ensures.value)) c.add_all-in-ComponentCall.ensures.ok
 
 pub add-returns-in-Definition : goal.add-returns-in-Definition
 add-returns-in-Definition t c =

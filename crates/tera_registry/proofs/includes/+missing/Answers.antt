@@ -47,7 +47,7 @@ node_misses-returns-else-misses-2 t c =
 pub node_misses-returns-in-Capture : goal.node_misses-returns-in-Capture
 node_misses-returns-in-Capture t c =
     let p = is_missing (seen c.args.templates.now c.args.prefixes.now) in
-    c.misses-in-Capture.ensures ∙ sym (ap (λ n. list_any p (node_includes n)) (node_capture _ c.in-Capture.name c.in-Capture.filters c.in-Capture.body c.in-Capture.is_global _ c.in-Capture.is c.as_slice-in-Capture.ensures.value))
+    c.misses-in-Capture.ensures ∙ sym (ap (λ n. list_any p (node_includes n)) (node_capture _ c.in-Capture.is_global c.in-Capture.captured c.in-Capture.body _ _ c.in-Capture.is refl c.as_slice-in-Capture.ensures.value))
 
 pub node_misses-returns-in-FilterSection : goal.node_misses-returns-in-FilterSection
 node_misses-returns-in-FilterSection t c =
@@ -62,7 +62,7 @@ node_misses-returns-in-Block t c =
 pub node_misses-returns-in-ComponentCall : goal.node_misses-returns-in-ComponentCall
 node_misses-returns-in-ComponentCall t c =
     let p = is_missing (seen c.args.templates.now c.args.prefixes.now) in
-    c.misses-in-ComponentCall.ensures ∙ sym (ap (λ n. list_any p (node_includes n)) (node_call _ c.in-ComponentCall.name c.in-ComponentCall.attributes c.in-ComponentCall.body c.in-ComponentCall.span _ c.in-ComponentCall.is c.as_slice-in-ComponentCall.ensures.value))
+    c.misses-in-ComponentCall.ensures ∙ sym (ap (λ n. list_any p (node_includes n)) (node_call _ c.in-ComponentCall.tag c.in-ComponentCall.body c.in-ComponentCall.span _ c.in-ComponentCall.is c.as_slice-in-ComponentCall.ensures.value))
 
 pub node_misses-returns-in-Definition : goal.node_misses-returns-in-Definition
 node_misses-returns-in-Definition t c =

@@ -1,4 +1,4 @@
-use Rattle.std.proofs.Common.{◌++◌, sym, ap}
+use Rattle.std.proofs.Common.{◌++◌, refl, sym, ap}
 use Rattle.tera_syntax_tree.specs.Includes.{node_includes}
 use Rattle.tera_registry.proofs.Bodies.{append-more, on_ok_by}
 use Rattle.tera_variables.proofs.Bodies.{node_if, node_for, node_capture, node_section, node_block, node_call, node_definition}
@@ -14,7 +14,7 @@ add-returns-in_ok-add_all-in-For-clause-ok t c =
 
 pub add-returns-in-Capture-clause-ok : goal.add-returns-in-Capture-clause-ok
 add-returns-in-Capture-clause-ok t c =
-    on_ok_by _ _ _ _ (ap (λ x. c.args.found.now.items ++ x) (sym (ap node_includes (node_capture _ c.in-Capture.name c.in-Capture.filters c.in-Capture.body c.in-Capture.is_global _ c.in-Capture.is c.as_slice-in-Capture.ensures.value)))) c.add_all-in-Capture.ensures.ok
+    on_ok_by _ _ _ _ (ap (λ x. c.args.found.now.items ++ x) (sym (ap node_includes (node_capture _ c.in-Capture.is_global c.in-Capture.captured c.in-Capture.body _ _ c.in-Capture.is refl c.as_slice-in-Capture.ensures.value)))) c.add_all-in-Capture.ensures.ok
 
 pub add-returns-in-FilterSection-clause-ok : goal.add-returns-in-FilterSection-clause-ok
 add-returns-in-FilterSection-clause-ok t c =
@@ -26,7 +26,7 @@ add-returns-in-Block-clause-ok t c =
 
 pub add-returns-in-ComponentCall-clause-ok : goal.add-returns-in-ComponentCall-clause-ok
 add-returns-in-ComponentCall-clause-ok t c =
-    on_ok_by _ _ _ _ (ap (λ x. c.args.found.now.items ++ x) (sym (ap node_includes (node_call _ c.in-ComponentCall.name c.in-ComponentCall.attributes c.in-ComponentCall.body c.in-ComponentCall.span _ c.in-ComponentCall.is c.as_slice-in-ComponentCall.ensures.value)))) c.add_all-in-ComponentCall.ensures.ok
+    on_ok_by _ _ _ _ (ap (λ x. c.args.found.now.items ++ x) (sym (ap node_includes (node_call _ c.in-ComponentCall.tag c.in-ComponentCall.body c.in-ComponentCall.span _ c.in-ComponentCall.is c.as_slice-in-ComponentCall.ensures.value)))) c.add_all-in-ComponentCall.ensures.ok
 
 pub add-returns-in-Definition-clause-ok : goal.add-returns-in-Definition-clause-ok
 add-returns-in-Definition-clause-ok t c =

@@ -1,6 +1,6 @@
 use Rattle.std.proofs.Common.{arith}
 use Rattle.std.proofs.lemmas.Grind.{common_steps}
-use Rattle.tera_syntax.proofs.Parts.{next_inside}
+use Rattle.tera_syntax.proofs.Gathered.{next_inside}
 use Rattle.tera_syntax.proofs.blocks.gather_components.Goals as goal
 
 pub loop-node-preserved : goal.loop-node-preserved

@@ -27,7 +27,7 @@ add_expression-returns-in_ok-add_expression-in-Or-clause-ok t c =
 
 pub add_expression-returns-in_ok-add_bounds-in-Slice-clause-ok : goal.add_expression-returns-in_ok-add_bounds-in-Slice-clause-ok
 add_expression-returns-in_ok-add_bounds-in-Slice-clause-ok t c =
-    whole _ _ _ _ _ (slice _ c.in-Slice.optional c.in-Slice.target c.in-Slice.bounds c.in-Slice.span _ _ c.in-Slice.is c.deref-in-Slice-2.ensures c.deref-in-Slice.ensures) (two _ _ _ _ _ _ c.in_ok-add_bounds-in-Slice.ensures.ok c.add_expression-in-Slice.ensures.ok)
+    whole _ _ _ _ _ (slice _ c.in-Slice.optional c.in-Slice.sliced c.in-Slice.span _ _ c.in-Slice.is c.deref-in-Slice-2.ensures c.deref-in-Slice.ensures) (two _ _ _ _ _ _ c.in_ok-add_bounds-in-Slice.ensures.ok c.add_expression-in-Slice.ensures.ok)
 
 pub add_expression-returns-in_ok-add_expression-in-Ternary-2-clause-ok : goal.add_expression-returns-in_ok-add_expression-in-Ternary-2-clause-ok
 add_expression-returns-in_ok-add_expression-in-Ternary-2-clause-ok t c =

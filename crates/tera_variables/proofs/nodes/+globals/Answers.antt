@@ -26,7 +26,7 @@ remove_globals_of-returns-in-For t c =
 
 pub remove_globals_of-returns-in-Capture : goal.remove_globals_of-returns-in-Capture
 remove_globals_of-returns-in-Capture t c =
-    c.remove_globals-in-Capture.ensures ∙ without-pass _ _ _ _ _ (ap (node_binds true) (node_capture _ c.in-Capture.name c.in-Capture.filters c.in-Capture.body c.in-Capture.is_global _ c.in-Capture.is c.as_slice-in-Capture.ensures.value)) c.remove_if_global-in-Capture.ensures
+    c.remove_globals-in-Capture.ensures ∙ without-pass _ _ _ _ _ (ap (node_binds true) (node_capture _ c.in-Capture.is_global c.in-Capture.captured c.in-Capture.body _ _ c.in-Capture.is c.deref.ensures c.as_slice-in-Capture.ensures.value)) c.remove_if_global-in-Capture.ensures
 
 pub remove_globals_of-returns-in-FilterSection : goal.remove_globals_of-returns-in-FilterSection
 remove_globals_of-returns-in-FilterSection t c =
@@ -38,4 +38,4 @@ remove_globals_of-returns-in-Block t c =
 
 pub remove_globals_of-returns-in-ComponentCall : goal.remove_globals_of-returns-in-ComponentCall
 remove_globals_of-returns-in-ComponentCall t c =
-    c.remove_globals-in-ComponentCall.ensures ∙ ap (λ x. names_in c.args.found.now ∖ x) (sym (ap (node_binds true) (node_call _ c.in-ComponentCall.name c.in-ComponentCall.attributes c.in-ComponentCall.body c.in-ComponentCall.span _ c.in-ComponentCall.is c.as_slice-in-ComponentCall.ensures.value)))
+    c.remove_globals-in-ComponentCall.ensures ∙ ap (λ x. names_in c.args.found.now ∖ x) (sym (ap (node_binds true) (node_call _ c.in-ComponentCall.tag c.in-ComponentCall.body c.in-ComponentCall.span _ c.in-ComponentCall.is c.as_slice-in-ComponentCall.ensures.value)))

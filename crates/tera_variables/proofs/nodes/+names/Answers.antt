@@ -1,4 +1,5 @@
 use Rattle.std.proofs.Common.{◌≡◌, ◌∙◌, ◌+◌, ◌-◌, ap, sym, drop, arith}
+use Rattle.tera_syntax_tree.specs.declared.expression.ComponentTag.{out-ComponentTag}
 use Rattle.tera_syntax_tree.specs.Tree.{If, Set, Capture, FilterSection, ComponentCall}
 use Rattle.tera_syntax_tree.specs.View.{node_of, nodes_of, expr_of, filters_of, entries_of, for_of}
 use Rattle.tera_variables.specs.Sets.{names_in, before_all}
@@ -17,7 +18,7 @@ add-returns-in-Set-clause-ok t c =
 
 pub add-returns-in-Capture-clause-ok : goal.add-returns-in-Capture-clause-ok
 add-returns-in-Capture-clause-ok t c =
-    whole-node _ (Capture c.in-Capture.name.now (filters_of c.as_slice-in-Capture.result.now) (nodes_of c.as_slice-in-Capture-2.result.now) c.in-Capture.is_global) _ _ _ (node_capture _ c.in-Capture.name c.in-Capture.filters c.in-Capture.body c.in-Capture.is_global _ c.in-Capture.is c.as_slice-in-Capture-2.ensures.value ∙ ap (λ y. Capture c.in-Capture.name.now (filters_of y) (nodes_of c.as_slice-in-Capture-2.result.now) c.in-Capture.is_global) (sym c.as_slice-in-Capture.ensures.value)) (capture-before _ c.in-Capture.is_global c.in-Capture.name.now _ _ _ _ _ c.remove-in-Capture.ensures c.add_section.ensures.ok)
+    whole-node _ (Capture c.deref-captured.result.now.name.now (filters_of c.as_slice-in-Capture.result.now) (nodes_of c.as_slice-in-Capture-2.result.now) c.in-Capture.is_global) _ _ _ (node_capture _ c.in-Capture.is_global c.in-Capture.captured c.in-Capture.body _ _ c.in-Capture.is c.deref-captured.ensures c.as_slice-in-Capture-2.ensures.value ∙ ap (λ y. Capture c.deref-captured.result.now.name.now (filters_of y) (nodes_of c.as_slice-in-Capture-2.result.now) c.in-Capture.is_global) (sym c.as_slice-in-Capture.ensures.value)) (capture-before _ c.in-Capture.is_global c.deref-captured.result.now.name.now _ _ _ _ _ c.remove-in-Capture.ensures c.add_section.ensures.ok)
 
 pub add-returns-in-FilterSection-clause-ok : goal.add-returns-in-FilterSection-clause-ok
 add-returns-in-FilterSection-clause-ok t c =
@@ -33,7 +34,7 @@ add-returns-in-Block-clause-ok t c =
 
 pub add-returns-in_ok-add_all-in-ComponentCall-clause-ok : goal.add-returns-in_ok-add_all-in-ComponentCall-clause-ok
 add-returns-in_ok-add_all-in-ComponentCall-clause-ok t c =
-    whole-node _ (ComponentCall c.in-ComponentCall.name.now (entries_of c.as_slice-in-ComponentCall-2.result.now) (nodes_of c.as_slice-in-ComponentCall.result.now) c.in-ComponentCall.span) _ _ _ (node_call _ c.in-ComponentCall.name c.in-ComponentCall.attributes c.in-ComponentCall.body c.in-ComponentCall.span _ c.in-ComponentCall.is c.as_slice-in-ComponentCall.ensures.value ∙ ap (λ y. ComponentCall c.in-ComponentCall.name.now (entries_of y) (nodes_of c.as_slice-in-ComponentCall.result.now) c.in-ComponentCall.span) (sym c.as_slice-in-ComponentCall-2.ensures.value)) (two _ _ _ _ _ _ c.in_ok-add_all-in-ComponentCall.ensures.ok c.add_entries.ensures.ok)
+    whole-node _ (ComponentCall (out-ComponentTag c.in-ComponentCall.tag.value).name.now (entries_of c.as_slice-in-ComponentCall-2.result.now) (nodes_of c.as_slice-in-ComponentCall.result.now) c.in-ComponentCall.span) _ _ _ (node_call _ c.in-ComponentCall.tag c.in-ComponentCall.body c.in-ComponentCall.span _ c.in-ComponentCall.is c.as_slice-in-ComponentCall.ensures.value ∙ ap (λ y. ComponentCall (out-ComponentTag c.in-ComponentCall.tag.value).name.now (entries_of y) (nodes_of c.as_slice-in-ComponentCall.result.now) c.in-ComponentCall.span) (sym (c.as_slice-in-ComponentCall-2.ensures.value ∙ ap (λ x. (out-ComponentTag x).attributes.items) c.deref-in-ComponentCall.ensures))) (two _ _ _ _ _ _ c.in_ok-add_all-in-ComponentCall.ensures.ok c.add_entries.ensures.ok)
 
 pub add_section-returns-clause-ok : goal.add_section-returns-clause-ok
 add_section-returns-clause-ok t c =

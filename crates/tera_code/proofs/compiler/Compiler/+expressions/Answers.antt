@@ -36,7 +36,7 @@ expression-returns-in-Ternary t c =
 
 pub expression-returns-in_ok-expression-in-Slice : goal.expression-returns-in_ok-expression-in-Slice
 expression-returns-in_ok-expression-in-Slice t c =
-    record { ok = slice_written _ _ _ _ c.in-Slice.optional c.in-Slice.target c.in-Slice.bounds c.in-Slice.span _ _ _ c.in-Slice.is c.deref-in-Slice.ensures c.deref-in-Slice-2.ensures c.in_ok-expression-in-Slice.ensures.ok c.slice.ensures.ok }
+    record { ok = slice_written _ _ _ _ c.in-Slice.optional c.in-Slice.sliced c.in-Slice.span _ _ _ c.in-Slice.is c.deref-in-Slice.ensures c.deref-in-Slice-2.ensures c.in_ok-expression-in-Slice.ensures.ok c.slice.ensures.ok }
 
 pub expression-returns-in-Array : goal.expression-returns-in-Array
 expression-returns-in-Array t c =

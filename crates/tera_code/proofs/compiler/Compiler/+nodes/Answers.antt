@@ -18,7 +18,7 @@ branching-returns-in_ok-body-in-For-2 t c =
 
 pub capturing-returns-in_ok-section-in-Capture : goal.capturing-returns-in_ok-section-in-Capture
 capturing-returns-in_ok-section-in-Capture t c =
-    capture_written _ _ _ _ _ c.in-Capture.name c.in-Capture.filters c.in-Capture.body c.in-Capture.is_global _ _ _ c.in-Capture.is refl refl
+    capture_written _ _ _ _ _ c.in-Capture.is_global c.in-Capture.captured c.in-Capture.body _ _ c.in-Capture.is c.deref-captured.ensures
     c.in_ok-section-in-Capture.ensures.ok c.store.ensures.ok
 
 pub capturing-returns-in_ok-section-in-FilterSection : goal.capturing-returns-in_ok-section-in-FilterSection
@@ -28,5 +28,5 @@ capturing-returns-in_ok-section-in-FilterSection t c =
 
 pub capturing-returns-in_ok-captured-in-ComponentCall : goal.capturing-returns-in_ok-captured-in-ComponentCall
 capturing-returns-in_ok-captured-in-ComponentCall t c =
-    component_call_written _ _ _ _ _ c.in-ComponentCall.name c.in-ComponentCall.attributes c.in-ComponentCall.body c.in-ComponentCall.span _ _ _ c.in-ComponentCall.is c.as_slice.ensures.value refl
+    component_call_written _ _ _ _ _ c.in-ComponentCall.tag c.in-ComponentCall.body c.in-ComponentCall.span _ _ _ c.in-ComponentCall.is c.deref-tag.ensures c.as_slice.ensures.value
     c.in_ok-captured-in-ComponentCall.ensures.ok c.hand.ensures.ok

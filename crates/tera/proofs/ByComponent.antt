@@ -4,7 +4,7 @@ use Rattle.std.specs.Str.{bytes_eq}
 use Rattle.std.specs.Cmp.Lexicographic.{bytes_decides}
 use Rattle.tera_errors.specs.Site.{Text, Name}
 use Rattle.tera_errors.specs.Fault.{Fault, message, component_not_found}
-use Rattle.tera_errors.specs.Answer.{Refusal, Says, Gives, GivesOneOf, SaysOneOf}
+use Rattle.tera_errors.specs.Answer.{SeenError, Says, Gives, GivesOneOf, SaysOneOf}
 use Rattle.tera_syntax_tree.specs.Tree.{Signature, Nodes}
 use Rattle.tera_values.specs.Alphabet.{marking, plain}
 use Rattle.tera_values.specs.Escape.{escape_html}
@@ -55,7 +55,7 @@ finds-itself r name found is =
 
 module _ (r : Registry) (caller : Around) (flag : Bool) (c : Component) where
   -- arguments that do not fit are refused
-  unfit-says : (o : Option (Named Val)) (e : Refusal) → Says e (or_message o) → Says e (within_context_in plain r caller flag c o)
+  unfit-says : (o : Option (Named Val)) (e : SeenError) → Says e (or_message o) → Says e (within_context_in plain r caller flag c o)
   unfit-says o None h = tt
   unfit-says None (Some fault) h =
       let p : message ≡ fault = (let q : Err message ≡ Err fault = h in cc) in
@@ -74,7 +74,7 @@ abbrev context_in : Signature → Named Val → Option Val → Around → Variab
 context_in s args body around v = component_context s args body (λ name. look_implicit name around v)
 
 -- what a call may make of the context of a component that is kept
-abbrev Builds : Definition → Named Val → Option Val → Around → Variables → Result (Named Val) Refusal → Type 0
+abbrev Builds : Definition → Named Val → Option Val → Around → Variables → Result (Named Val) SeenError → Type 0
 Builds d args body around v result =
     (s : Signature) → d ≡ definition_of s → Gives (λ x. x) result (or_message (context_in s args body around v))
 
@@ -82,7 +82,7 @@ module _ (r : Registry) (args implicits : Named Val) (body : Option Text) (flag 
   abbrev caller : Around
   caller = outermost r implicits
 
-  builds : (c : Component) (result : Result (Named Val) Refusal) → IsKept c found → Builds found.definition.now args value around v result → Gives (λ x. x) result (or_message (context_in c.signature args (option_map (λ b. text b true) body) caller nothing_set))
+  builds : (c : Component) (result : Result (Named Val) SeenError) → IsKept c found → Builds found.definition.now args value around v result → Gives (λ x. x) result (or_message (context_in c.signature args (option_map (λ b. text b true) body) caller nothing_set))
   builds c result is made =
       let P : Option (Named Val) → Type 0 = λ o. Gives (λ x. x) result (or_message o) in
       let same : context_in c.signature args value around v ≡ context_in c.signature args (option_map (λ b. text b true) body) caller nothing_set =
@@ -90,13 +90,13 @@ module _ (r : Registry) (args implicits : Named Val) (body : Option Text) (flag 
       ∙ ap (λ b. context_in c.signature args b caller nothing_set) (sym handed) in
       subst P same (made c.signature is.given)
 
-  meant-unfit : (o : Option Component) (e : Refusal) → IsDefined o (Some found) → Builds found.definition.now args value around v (Err e) → Says e (render_found_component_in plain r o args implicits body flag)
+  meant-unfit : (o : Option Component) (e : SeenError) → IsDefined o (Some found) → Builds found.definition.now args value around v (Err e) → Says e (render_found_component_in plain r o args implicits body flag)
   meant-unfit None e is made = absurd is
   meant-unfit (Some c) e is made =
       unfit-says r caller flag c (context_in c.signature args (option_map (λ b. text b true) body) caller nothing_set) e (builds c (Err e) is made)
 
   -- a component whose arguments do not fit is refused
-  pub component-unfit : (e : Refusal) → IsDefined (component r found.definition.now.name) (Some found) → Builds found.definition.now args value around v (Err e) → Says e (render_component r found.definition.now.name args implicits body flag)
+  pub component-unfit : (e : SeenError) → IsDefined (component r found.definition.now.name) (Some found) → Builds found.definition.now args value around v (Err e) → Says e (render_component r found.definition.now.name args implicits body flag)
   component-unfit e is made = meant-unfit (component r found.definition.now.name) e is made
 
   meant-runs : (o : Option Component) (context : Named Val) (inner : Around) → IsDefined o (Some found) → Builds found.definition.now args value around v (Ok context) → inner ≡ in_component context around v → text_meant (subject_of_component r o inner flag) ≡ render_found_component_in plain r o args implicits body flag
@@ -120,15 +120,15 @@ module _ (r : Registry) (name : Name) (args implicits : Named Val) (body : Optio
   by_name : (answer : Result Text Fault) → answer ≡ render_component r name args implicits body flag → ComponentByName r name args implicits body flag answer
   by_name answer is = record { is = is; origin = origin-of answer is }
 
-  pub renders-component : {X : Type 0} (view : X → Text) (result : Result X Refusal) → Gives view result (render_component r name args implicits body flag) → GivesOneOf view result (ComponentByName r name args implicits body flag)
+  pub renders-component : {X : Type 0} (view : X → Text) (result : Result X SeenError) → Gives view result (render_component r name args implicits body flag) → GivesOneOf view result (ComponentByName r name args implicits body flag)
   renders-component view (Ok x) g = by_name (Ok (view x)) (sym g)
   renders-component view (Err None) g = tt
   renders-component view (Err (Some fault)) g = by_name (Err fault) (sym g)
 
   -- a component that is not there is refused
-  pub no_component : (e : Refusal) → e ≡ Some component_not_found → component r name ≡ None → SaysOneOf e (ComponentByName r name args implicits body flag)
+  pub no_component : (e : SeenError) → e ≡ Some component_not_found → component r name ≡ None → SaysOneOf e (ComponentByName r name args implicits body flag)
   no_component e is none =
-      let P : Refusal → Type 0 = λ x. SaysOneOf x (ComponentByName r name args implicits body flag) in
+      let P : SeenError → Type 0 = λ x. SaysOneOf x (ComponentByName r name args implicits body flag) in
       subst P (sym is) (by_name (Err component_not_found) (sym (ap (λ o. render_found_component_in plain r o args implicits body flag) none)))
 
 -- what is told of a component that is found

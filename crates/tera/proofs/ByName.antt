@@ -2,7 +2,7 @@
 use Rattle.std.proofs.Common.{◌≡◌, Bool, List, [], ◌∷◌, Some, None, Result, Ok, Err, refl, sym, ap, ap₂, ◌∙◌, subst}
 use Rattle.tera_errors.specs.Site.{Text, Name}
 use Rattle.tera_errors.specs.Fault.{Fault, message, template_not_found}
-use Rattle.tera_errors.specs.Answer.{Refusal, Tells, Gives, GivesOneOf, SaysOneOf}
+use Rattle.tera_errors.specs.Answer.{SeenError, Tells, Gives, GivesOneOf, SaysOneOf}
 use Rattle.tera_values.specs.Alphabet.{marking}
 use Rattle.tera_values.specs.Val.{Val}
 use Rattle.tera_values.specs.Named.{Named}
@@ -18,13 +18,13 @@ use Rattle.tera_marks.specs.Origin.{Traces}
 use Rattle.tera_marks.proofs.Traced.{templates_are_traced, blocks_are_traced}
 use Rattle.tera_machine.specs.Subject.{Subject, meant}
 use Rattle.tera_registry.specs.Templates.{Leads, with_templates, definers_of}
-use Rattle.tera_registry.specs.declared.templates.Found.{Found}
+use Rattle.tera_registry.specs.declared.templates.FoundTemplate.{FoundTemplate}
 use Rattle.tera_registry.specs.declared.templates.Definers.{Definers}
 use Rattle.tera.specs.Registry.{nodes_in, nodes_of_file, subject_of, subject_of_file, text_meant, block_meant}
 use Rattle.tera.specs.Rendering.{ByName, BlockByName}
 use Rattle.tera.proofs.Owned.{owns-root}
 
-module _ (r : Registry) (name : Name) (found : Found) (leads : Leads r name found) where
+module _ (r : Registry) (name : Name) (found : FoundTemplate) (leads : Leads r name found) where
   file-found : found.chunk.now.file ≡ (root r leads.entry).0
   file-found = ap (λ (l : Listing). l.file) leads.code
 
@@ -35,7 +35,7 @@ module _ (r : Registry) (name : Name) (found : Found) (leads : Leads r name foun
   code-found = ap (λ (l : Listing). l.code) leads.code ∙ ap (λ ns. nodes_code ns 0) (sym nodes-found)
 
 -- what the body that was found means is what the template means
-answer-found : (r : Registry) (name : Name) (context : Named Val) (found : Found) (flag : Bool) (leads : Leads r name found) → flag ≡ autoescapes r found.name.now
+answer-found : (r : Registry) (name : Name) (context : Named Val) (found : FoundTemplate) (flag : Bool) (leads : Leads r name found) → flag ≡ autoescapes r found.name.now
     → meant (subject_of_file r found.name.now found.chunk.now.file context flag) (begun nothing_set) ≡ template_meaning r leads.entry context
 answer-found r name context found flag leads is =
     let top = root r leads.entry in
@@ -46,13 +46,13 @@ answer-found r name context found flag leads is =
     ∙ ap (λ n. m (subject_of (alone r) (Some n) top.0 top.1.tree.nodes context (autoescapes r leads.entry.0))) leads.named
 
 -- so its text is what the name renders to
-pub text-found : (r : Registry) (name : Name) (context : Named Val) (found : Found) (flag : Bool) → Leads r name found → flag ≡ autoescapes r found.name.now
+pub text-found : (r : Registry) (name : Name) (context : Named Val) (found : FoundTemplate) (flag : Bool) → Leads r name found → flag ≡ autoescapes r found.name.now
     → text_meant (subject_of_file r found.name.now found.chunk.now.file context flag) ≡ render r name context
 text-found r name context found flag leads is =
     ap text_of (answer-found r name context found flag leads is)
     ∙ sym (ap (λ o. render_template r o context) leads.resolves)
 
-module _ (r : Registry) (name block : Name) (context : Named Val) (found : Found) (leads : Leads r name found) (ds : Definers) (of_block : (s : Registry) → definers_of ds ≡ definers (with_templates s found.templates.now) (Some found.name.now) block) where
+module _ (r : Registry) (name block : Name) (context : Named Val) (found : FoundTemplate) (leads : Leads r name found) (ds : Definers) (of_block : (s : Registry) → definers_of ds ≡ definers (with_templates s found.templates.now) (Some found.name.now) block) where
   defined : definers_of ds ≡ definers r (Some leads.entry.0) block
   defined =
       of_block r
@@ -82,14 +82,14 @@ module _ (r : Registry) (name : Name) (context : Named Val) where
         subst P (sym e) (templates_are_traced r name context t by_html found on);
   }
 
-  pub renders : {X : Type 0} (view : X → Text) (result : Result X Refusal) → Gives view result (render r name context) → GivesOneOf view result (ByName r name context)
+  pub renders : {X : Type 0} (view : X → Text) (result : Result X SeenError) → Gives view result (render r name context) → GivesOneOf view result (ByName r name context)
   renders view (Ok x) g = by_name (Ok (view x)) (sym g)
   renders view (Err None) g = tt
   renders view (Err (Some fault)) g = by_name (Err fault) (sym g)
 
-  pub not_there : (e : Refusal) → e ≡ Some template_not_found → resolve r name ≡ None → SaysOneOf e (ByName r name context)
+  pub not_there : (e : SeenError) → e ≡ Some template_not_found → resolve r name ≡ None → SaysOneOf e (ByName r name context)
   not_there e is none =
-      let P : Refusal → Type 0 = λ x. SaysOneOf x (ByName r name context) in
+      let P : SeenError → Type 0 = λ x. SaysOneOf x (ByName r name context) in
       subst P (sym is) (by_name (Err template_not_found) (sym (ap (λ o. render_template r o context) none)))
 
 module _ (r : Registry) (name block : Name) (context : Named Val) where
@@ -100,21 +100,21 @@ module _ (r : Registry) (name block : Name) (context : Named Val) where
         subst P (sym e) (blocks_are_traced r name block context t by_html found on);
   }
 
-  pub renders-block : {X : Type 0} (view : X → Text) (result : Result X Refusal) → Gives view result (render_block r name block context) → GivesOneOf view result (BlockByName r name block context)
+  pub renders-block : {X : Type 0} (view : X → Text) (result : Result X SeenError) → Gives view result (render_block r name block context) → GivesOneOf view result (BlockByName r name block context)
   renders-block view (Ok x) g = block_by_name (Ok (view x)) (sym g)
   renders-block view (Err None) g = tt
   renders-block view (Err (Some fault)) g = block_by_name (Err fault) (sym g)
 
-  refuses-with : (e : Refusal) (fault : Fault) → Tells e fault → render_block r name block context ≡ Err fault → SaysOneOf e (BlockByName r name block context)
+  refuses-with : (e : SeenError) (fault : Fault) → Tells e fault → render_block r name block context ≡ Err fault → SaysOneOf e (BlockByName r name block context)
   refuses-with None fault h is = tt
   refuses-with (Some told) fault h is = block_by_name (Err told) (ap Err h ∙ sym is)
 
   -- a block that is not there is refused
-  pub no_block : (e : Refusal) → Tells e message → render_block r name block context ≡ Err message → SaysOneOf e (BlockByName r name block context)
+  pub no_block : (e : SeenError) → Tells e message → render_block r name block context ≡ Err message → SaysOneOf e (BlockByName r name block context)
   no_block e h is = refuses-with e message h is
 
   -- and so is a template that is not
-  pub no_template : (e : Refusal) → e ≡ Some template_not_found → resolve r name ≡ None → SaysOneOf e (BlockByName r name block context)
+  pub no_template : (e : SeenError) → e ≡ Some template_not_found → resolve r name ≡ None → SaysOneOf e (BlockByName r name block context)
   no_template e is none =
-      let P : Refusal → Type 0 = λ x. SaysOneOf x (BlockByName r name block context) in
+      let P : SeenError → Type 0 = λ x. SaysOneOf x (BlockByName r name block context) in
       subst P (sym is) (block_by_name (Err template_not_found) (sym (ap (λ o. render_template_block r o block context) none)))

@@ -1,6 +1,6 @@
 -- What registering leaves of a registry.
 use Rattle.std.proofs.Common.{◌≡◌, List, [], Some, None, Result, Ok, Err, OnOk, OnErr, IfErr, refl, sym, ap, subst}
-use Rattle.tera_errors.specs.Answer.{Refusal, Lacks}
+use Rattle.tera_errors.specs.Answer.{SeenError, Lacks}
 use Rattle.tera_errors.specs.Site.{Text}
 use Rattle.tera_syntax_tree.specs.Delimiters.{Delims, standard}
 use Rattle.tera_values.specs.Val.{Val}
@@ -25,12 +25,12 @@ abbrev at_engine : Registry → Engine → Registry
 at_engine r e = record r { engine = e }
 
 module _ (r : Registry) (left : Engine) where
-  configures : (change : Engine → Engine) (result : Result (Unit {0}) Refusal) → OnOk result (left ≡ change r.engine) → OnErr result (left ≡ r.engine) → IfErr result Lacks → Configures result (Ok (with_engine change r)) r (at_engine r left)
+  configures : (change : Engine → Engine) (result : Result (Unit {0}) SeenError) → OnOk result (left ≡ change r.engine) → OnErr result (left ≡ r.engine) → IfErr result Lacks → Configures result (Ok (with_engine change r)) r (at_engine r left)
   configures change (Ok u) ok err lacks = ap (λ e. Ok (at_engine r e)) (sym ok)
   configures change (Err None) ok err lacks = (tt, ap (at_engine r) err)
   configures change (Err (Some fault)) ok err lacks = (let q : Some fault ≡ None = lacks in cc)
 
-  moves : (other : Engine) (result : Result (Unit {0}) Refusal) → OnOk result (left ≡ with_those_of other r.engine) → OnErr result (MovedInPart other r.engine left) → IfErr result Lacks → MovesFrom result other r (at_engine r left)
+  moves : (other : Engine) (result : Result (Unit {0}) SeenError) → OnOk result (left ≡ with_those_of other r.engine) → OnErr result (MovedInPart other r.engine left) → IfErr result Lacks → MovesFrom result other r (at_engine r left)
   moves other (Ok u) ok err lacks = ap (at_engine r) ok
   moves other (Err None) ok err lacks = (err, refl)
   moves other (Err (Some fault)) ok err lacks = (let q : Some fault ≡ None = lacks in cc)
@@ -40,13 +40,13 @@ module _ {E F T G : Type 0} (t : TeraOver (ObjectsOver E F T G)) (left : Objects
   pub escapes-by : (change : Meanings E F T G → Engine → Engine) → ((n : Meanings E F T G) → engine_of n left ≡ change n (engine_of n t.objects)) → registry_of (engine_of m) (record t { objects = left }) ≡ with_engine (change m) (registry_of (engine_of m) t)
   escapes-by change is = ap (at_engine (registry_of (engine_of m) t)) (is m)
 
-  pub registers : (change : Meanings E F T G → Engine → Engine) (result : Result (Unit {0}) Refusal) → ((n : Meanings E F T G) → OnOk result (engine_of n left ≡ change n (engine_of n t.objects)))
+  pub registers : (change : Meanings E F T G → Engine → Engine) (result : Result (Unit {0}) SeenError) → ((n : Meanings E F T G) → OnOk result (engine_of n left ≡ change n (engine_of n t.objects)))
       → ((n : Meanings E F T G) → OnErr result (engine_of n left ≡ engine_of n t.objects)) → IfErr result Lacks
       → Configures result (Ok (with_engine (change m) (registry_of (engine_of m) t))) (registry_of (engine_of m) t) (registry_of (engine_of m) (record t { objects = left }))
   registers change result ok err lacks =
       configures (registry_of (engine_of m) t) (engine_of m left) (change m) result (ok m) (err m) lacks
 
-  pub takes-from : (other taken : ObjectsOver E F T G) (result : Result (Unit {0}) Refusal) → taken ≡ other → ((n : Meanings E F T G) → OnOk result (engine_of n left ≡ with_those_of (engine_of n taken) (engine_of n t.objects)))
+  pub takes-from : (other taken : ObjectsOver E F T G) (result : Result (Unit {0}) SeenError) → taken ≡ other → ((n : Meanings E F T G) → OnOk result (engine_of n left ≡ with_those_of (engine_of n taken) (engine_of n t.objects)))
       → ((n : Meanings E F T G) → OnErr result (MovedInPart (engine_of n taken) (engine_of n t.objects) (engine_of n left))) → IfErr result Lacks
       → MovesFrom result (engine_of m other) (registry_of (engine_of m) t) (registry_of (engine_of m) (record t { objects = left }))
   takes-from other taken result is ok err lacks =

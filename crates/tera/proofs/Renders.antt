@@ -2,7 +2,7 @@
 use Rattle.std.proofs.Common.{◌≡◌, Bool, true, false, ◌||◌, IsTrue, Some, None, is_some, Result, Ok, Err, if◌then◌else◌, [], refl, sym, ap, ap₂, ◌∙◌}
 use Rattle.tera_errors.specs.Site.{Text}
 use Rattle.tera_errors.specs.Fault.{Fault, message}
-use Rattle.tera_errors.specs.Answer.{Refusal, Says, Tells, Gives, GivesOneOf, SaysOneOf}
+use Rattle.tera_errors.specs.Answer.{SeenError, Says, Tells, Gives, GivesOneOf, SaysOneOf}
 use Rattle.tera_values.specs.Alphabet.{marking}
 use Rattle.tera_values.specs.Escape.{escape_html}
 use Rattle.tera_values.specs.Val.{Val}
@@ -36,7 +36,7 @@ pub begins-means : (about : Subject) (c : Configuration) (v : Variables) → con
 begins-means about c v starts empty = ap (λ x. meant about x.run) starts ∙ ap (λ w. meant about (begun w)) empty
 
 -- the fault that a run ends with is the answer
-pub fault-means : (meant : Answer Signal) (e : Refusal) (before after : Config) → Means meant before (Err e) after → Says e (text_of meant)
+pub fault-means : (meant : Answer Signal) (e : SeenError) (before after : Config) → Means meant before (Err e) after → Says e (text_of meant)
 fault-means (Gave signal run n) None before after h = tt
 fault-means (Gave signal run n) (Some fault) before after h = absurd h
 fault-means (Failed meant n) None before after h = tt
@@ -48,17 +48,17 @@ nothing-captured (Gave signal run n) u before after none h = ap (λ (c : Config)
 nothing-captured (Failed meant n) u before after none h = absurd h
 
 -- what is barred is refused, in place of any text that is meant
-barred-says : (b : Bool) (e : Refusal) (meant : Result Text Fault) → (let done : Result (Unit {0}) Fault = if b then Err message else Ok tt in Says e done) → Says e (if b then Err message else meant)
+barred-says : (b : Bool) (e : SeenError) (meant : Result Text Fault) → (let done : Result (Unit {0}) Fault = if b then Err message else Ok tt in Says e done) → Says e (if b then Err message else meant)
 barred-says b None meant h = tt
 barred-says true (Some fault) meant h = (let q : (let done : Result (Unit {0}) Fault = Err message in done ≡ Err fault) = h in cc)
 barred-says false (Some fault) meant h = (let q : Ok tt ≡ Err fault = h in cc)
 
-free-gives : {X : Type 0} (view : X → Text) (result : Result X Refusal) (b : Bool) (meant : Result Text Fault) → (let done : Result (Unit {0}) Fault = if b then Err message else Ok tt in done ≡ Ok tt) → Gives view result meant
+free-gives : {X : Type 0} (view : X → Text) (result : Result X SeenError) (b : Bool) (meant : Result Text Fault) → (let done : Result (Unit {0}) Fault = if b then Err message else Ok tt in done ≡ Ok tt) → Gives view result meant
     → Gives view result (if b then Err message else meant)
 free-gives view result true meant h g = (let q : Err message ≡ Ok tt = h in cc)
 free-gives view result false meant h g = g
 
-told-says : {Y : Type 0} (e : Refusal) (done : Result Y Fault) → Tells e message → done ≡ Err message → Says e done
+told-says : {Y : Type 0} (e : SeenError) (done : Result Y Fault) → Tells e message → done ≡ Err message → Says e done
 told-says None done t h = tt
 told-says (Some fault) done t h = h ∙ ap Err (sym t)
 
@@ -70,12 +70,12 @@ abbrev unless : Bool → Result Text Fault → Result Text Fault
 unless b meant = if b then Err message else meant
 
 -- nodes that call what is not there are refused
-pub lacking-says : (s : Subject) (e : Refusal) → lacks_a_callee s.world.registry.engine (is_there s.world) s.tree ≡ true → Tells e message → Says e (one_off_meant s)
+pub lacking-says : (s : Subject) (e : SeenError) → lacks_a_callee s.world.registry.engine (is_there s.world) s.tree ≡ true → Tells e message → Says e (one_off_meant s)
 lacking-says s e lacks t =
     told-says e (one_off_meant s) t (ap (λ b. unless (b || misses_an_include s.world.registry s.tree) (text_meant s)) lacks)
 
 -- and so are those that include it
-pub missing-says : (s : Subject) (e : Refusal) → misses_an_include s.world.registry s.tree ≡ true → Tells e message → Says e (one_off_meant s)
+pub missing-says : (s : Subject) (e : SeenError) → misses_an_include s.world.registry s.tree ≡ true → Tells e message → Says e (one_off_meant s)
 missing-says s e missing t =
     told-says e (one_off_meant s) t (ap (λ b. unless b (text_meant s)) (or-true (lacks_a_callee s.world.registry.engine (is_there s.world) s.tree) (misses_an_include s.world.registry s.tree) missing))
 
@@ -97,24 +97,24 @@ module _ (r : Registry) (text : Text) (context : Named Val) where
       record { reading = reading; read = h; is = e; origin = origin-of reading answer autoescape e }
 
   -- the reader's refusal is the answer
-  pub refused : {X : Type 0} (view : X → Text) (autoescape : Bool) (e : Refusal) → SaysOneOf e (Reads one_off_name r.delimiters text) → GivesOneOf view (Err e) (OneOff r text context autoescape)
+  pub refused : {X : Type 0} (view : X → Text) (autoescape : Bool) (e : SeenError) → SaysOneOf e (Reads one_off_name r.delimiters text) → GivesOneOf view (Err e) (OneOff r text context autoescape)
   refused view autoescape None h = tt
   refused view autoescape (Some fault) h = means (Err fault) _ autoescape h refl
 
   -- and so is what its tree answers
-  answered : {X : Type 0} (view : X → Text) (autoescape : Bool) (tree : Tree) (result : Result X Refusal) → Reads one_off_name r.delimiters text (Ok tree) → Gives view result (render_str r (Ok tree) context autoescape) → GivesOneOf view result (OneOff r text context autoescape)
+  answered : {X : Type 0} (view : X → Text) (autoescape : Bool) (tree : Tree) (result : Result X SeenError) → Reads one_off_name r.delimiters text (Ok tree) → Gives view result (render_str r (Ok tree) context autoescape) → GivesOneOf view result (OneOff r text context autoescape)
   answered view autoescape tree (Ok x) h g = means (Ok tree) _ autoescape h (sym g)
   answered view autoescape tree (Err None) h g = tt
   answered view autoescape tree (Err (Some fault)) h g = means (Ok tree) _ autoescape h (sym g)
 
   -- a text that may not be rendered is refused
-  pub refused-tree : {X : Type 0} (view : X → Text) (autoescape : Bool) (tree : Tree) (e : Refusal) → Reads one_off_name r.delimiters text (Ok tree) → Says e (allowed tree)
+  pub refused-tree : {X : Type 0} (view : X → Text) (autoescape : Bool) (tree : Tree) (e : SeenError) → Reads one_off_name r.delimiters text (Ok tree) → Says e (allowed tree)
       → GivesOneOf view (Err e) (OneOff r text context autoescape)
   refused-tree view autoescape tree e h says =
       answered view autoescape tree (Err e) h (barred-says (is_some tree.parent || has_a_block tree.nodes) e (one_off_text r tree context autoescape) says)
 
   -- any other is rendered
-  pub rendered : {X : Type 0} (view : X → Text) (autoescape : Bool) (tree : Tree) (result : Result X Refusal) → Reads one_off_name r.delimiters text (Ok tree) → allowed tree ≡ Ok tt
+  pub rendered : {X : Type 0} (view : X → Text) (autoescape : Bool) (tree : Tree) (result : Result X SeenError) → Reads one_off_name r.delimiters text (Ok tree) → allowed tree ≡ Ok tt
       → Gives view result (one_off_text r tree context autoescape) → GivesOneOf view result (OneOff r text context autoescape)
   rendered view autoescape tree result h allows g =
       answered view autoescape tree result h (free-gives view result (is_some tree.parent || has_a_block tree.nodes) (one_off_text r tree context autoescape) allows g)

@@ -2,13 +2,13 @@
 use Rattle.std.specs.Prelude.{◌≡◌, ◌&&◌, cond, List, Result, Ok, Err}
 use Rattle.tera_errors.specs.Fault.{Fault, message}
 use Rattle.tera_errors.specs.Site.{Text}
-use Rattle.tera_errors.specs.Answer.{Refusal, Says}
+use Rattle.tera_errors.specs.Answer.{SeenError, Says}
 use Rattle.tera_syntax_tree.specs.Delimiters.{Delims, accepted}
 use Rattle.tera_meaning.specs.Registry.{Registry}
 use Rattle.tera_registry.specs.Templates.{is_empty}
 
 -- how a configuring call ends: with the registry that is meant, or with a refusal and the one of before
-abbrev pub Configures : Result (Unit {0}) Refusal → Result Registry Fault → Registry → Registry → Type 0
+abbrev pub Configures : Result (Unit {0}) SeenError → Result Registry Fault → Registry → Registry → Type 0
 Configures (Ok u) meant old new = meant ≡ Ok new
 Configures (Err e) meant old new = Says e meant × (new ≡ old)
 

@@ -2,7 +2,7 @@
 use Rattle.std.specs.Prelude.{◌≡◌, Bool, IsTrue, ◌||◌, ◌++◌, Option, Some, is_some, Result, Ok, Err, if◌then◌else◌}
 use Rattle.tera_errors.specs.Site.{Text, Name}
 use Rattle.tera_errors.specs.Fault.{Fault, message}
-use Rattle.tera_errors.specs.Answer.{Refusal, SaysOneOf}
+use Rattle.tera_errors.specs.Answer.{SeenError, SaysOneOf}
 use Rattle.tera_values.specs.Alphabet.{marking}
 use Rattle.tera_values.specs.Escape.{escape_html}
 use Rattle.tera_values.specs.Val.{Val}
@@ -45,6 +45,6 @@ pub record ComponentByName (r : Registry) (name : Name) (args implicits : Named 
   pub origin : IsTrue autoescape → r.engine.escape ≡ escape_html → Traces (render_component_in marking r name args implicits body autoescape) answer
 
 -- how a call ends that appends what it renders to these bytes: they are followed by the text, or are as before
-abbrev pub AppendsOneOf : Result (Unit {0}) Refusal → Text → Text → (Result Text Fault → Type 0) → Type 0
+abbrev pub AppendsOneOf : Result (Unit {0}) SeenError → Text → Text → (Result Text Fault → Type 0) → Type 0
 AppendsOneOf (Ok u) before after Meant = (text : Text) × Meant (Ok text) × (after ≡ before ++ text)
 AppendsOneOf (Err e) before after Meant = SaysOneOf e Meant × (after ≡ before)

@@ -17,7 +17,7 @@ use std::sync::ledger::{Blank, Ledger};
 use tera_code::{Chunk, Steps, compiled};
 use tera_machine::{Configuration, VirtualMachine};
 use tera_objects::Objects;
-use tera_registry::Found;
+use tera_registry::FoundTemplate;
 use tera_registry::components::components;
 use tera_registry::tops::top_blocks;
 use tera_state::Scopes;
@@ -96,7 +96,7 @@ impl<O: Objects> TeraOver<O> {
     // The text of a template that was found, from the body of its root on: the file that its code names says of which.
     pub(crate) fn render_found(
         &self,
-        found: Found<'_>,
+        found: FoundTemplate<'_>,
         context: &Context,
         autoescape: bool,
     ) -> TeraResult<String>
@@ -115,7 +115,7 @@ impl<O: Objects> TeraOver<O> {
     // The text that a block of a template had when it ended last, while all of the template was rendered.
     pub(crate) fn render_found_block(
         &self,
-        found: Found<'_>,
+        found: FoundTemplate<'_>,
         block: &Name,
         context: &Context,
         autoescape: bool,

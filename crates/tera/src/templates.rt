@@ -11,7 +11,7 @@ use crate::engine::TeraOver;
 use crate::texts::ends_with_one_of;
 use std::collections::BTreeSet;
 use tera_objects::Objects;
-use tera_registry::Found;
+use tera_registry::FoundTemplate;
 use tera_values::{Context, Error, Name, TeraResult};
 
 impl<O: Objects> TeraOver<O> {
@@ -78,7 +78,7 @@ impl<O: Objects> TeraOver<O> {
     }
 
     // Whether texts are escaped where the template that was found is rendered.
-    fn escapes(&self, found: Found<'_>) -> bool
+    fn escapes(&self, found: FoundTemplate<'_>) -> bool
         ensures { result ≡ autoescapes (registry_of O.engine self.now) found.entry.name.now }
     {
         ends_with_one_of(found.name, self.suffixes.as_slice())

@@ -2,7 +2,7 @@
 use Rattle.std.proofs.Common.{◌≡◌, true, false, IsTrue, Option, Some, None, Result, Ok, Err, refl}
 use Rattle.tera_errors.specs.Site.{Text}
 use Rattle.tera_errors.specs.Fault.{Fault, message}
-use Rattle.tera_errors.specs.Answer.{Refusal, GivesOneOf}
+use Rattle.tera_errors.specs.Answer.{SeenError, GivesOneOf}
 use Rattle.tera_meaning.specs.Registry.{Entry, Registry}
 use Rattle.tera_meaning.specs.Resolve.{resolve}
 use Rattle.tera_meaning.specs.Rendering.{autoescapes, render_in, render_block_in}
@@ -31,7 +31,7 @@ Renders-answers r (rendering.Component name args implicits body autoescape) answ
     record { reading = Err message; read = tt; exact = h.is; origin = h.origin }
 
 -- an answer that one definition gives, another one gives that allows all that the first does
-pub GivesOneOf-weaker : {X Y : Type 0} (view : X → Y) (Meant Allowed : Result Y Fault → Type 0) → ((answer : Result Y Fault) → Meant answer → Allowed answer) → (answer : Result X Refusal) → GivesOneOf view answer Meant → GivesOneOf view answer Allowed
+pub GivesOneOf-weaker : {X Y : Type 0} (view : X → Y) (Meant Allowed : Result Y Fault → Type 0) → ((answer : Result Y Fault) → Meant answer → Allowed answer) → (answer : Result X SeenError) → GivesOneOf view answer Meant → GivesOneOf view answer Allowed
 GivesOneOf-weaker view Meant Allowed allow (Ok x) h = allow (Ok (view x)) h
 GivesOneOf-weaker view Meant Allowed allow (Err None) h = h
 GivesOneOf-weaker view Meant Allowed allow (Err (Some fault)) h = allow (Err fault) h

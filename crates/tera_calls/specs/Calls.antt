@@ -1,7 +1,7 @@
 -- What calls make of a registry.
 use Rattle.std.specs.Prelude.{◌≡◌, List, [], ◌∷◌, Result, Ok}
 use Rattle.tera_errors.specs.Site.{Name}
-use Rattle.tera_errors.specs.Answer.{Refusal}
+use Rattle.tera_errors.specs.Answer.{SeenError}
 use Rattle.tera_syntax_tree.specs.Delimiters.{delimiters_of}
 use Rattle.tera_values.specs.Escape.{escape_html}
 use Rattle.tera_values.specs.Val.{Val}
@@ -22,7 +22,7 @@ with_global name value r = record r { global = put name value r.global }
 
 -- what a call answers that has nothing to tell
 abbrev pub Answer : Type 0
-Answer = Result (Unit {0}) Refusal
+Answer = Result (Unit {0}) SeenError
 
 -- where the objects of calls mean this
 module _ {E F T G : Type 0} (objects : Meanings E F T G) where

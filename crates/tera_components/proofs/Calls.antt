@@ -3,7 +3,7 @@ use Rattle.std.proofs.Common.{◌≡◌, ℕ, ◌+◌, ◌<◌, not, List, [], �
 use Rattle.std.specs.List.{filter}
 use Rattle.std.specs.Option.{option_and_then}
 use Rattle.std.proofs.lemmas.List.{drop_more}
-use Rattle.tera_errors.specs.Answer.{Refusal, Says, Gives}
+use Rattle.tera_errors.specs.Answer.{SeenError, Says, Gives}
 use Rattle.tera_errors.specs.Fault.{Fault}
 use Rattle.tera_errors.specs.Site.{Name}
 use Rattle.tera_syntax_tree.specs.Blocks.{is_among}
@@ -45,13 +45,13 @@ pub answered : {A : Type 0} (a b : A) → ◌≡◌ {A = Result A Fault} (Ok a) 
 answered a b e = cc
 
 -- what refuses the value of a parameter refuses the call
-pub says_refused : {A B : Type 0} (told : Refusal) (o : Option A) (f : A → Option B) → Says told (or_message o) → Says told (or_message (option_and_then f o))
+pub says_refused : {A B : Type 0} (told : SeenError) (o : Option A) (f : A → Option B) → Says told (or_message o) → Says told (or_message (option_and_then f o))
 says_refused None o f h = tt
 says_refused (Some fault) None f h = cc
 says_refused (Some fault) (Some a) f h = absurd (cc)
 
 module _ (look : Name → Val) (given : List (Name × Val)) where
-  pub with_formals_refused : (fs : List Formal) (i : ℕ) (f : Formal) (context : Named Val) (told : Refusal) (meant : Option (Named Val)) →
+  pub with_formals_refused : (fs : List Formal) (i : ℕ) (f : Formal) (context : Named Val) (told : SeenError) (meant : Option (Named Val)) →
       i < length fs → f ≡ get_or fs i f → meant ≡ with_formals look given (drop i fs) context → Says told (or_message (formal_value look given f)) → Says told (or_message meant)
   with_formals_refused fs i f context told meant h at is says =
       let next : drop i fs ≡ f ∷ drop (i + 1) fs = drop_more fs i f h ∙ ap (λ g. g ∷ drop (i + 1) fs) (sym at) in
@@ -69,7 +69,7 @@ module _ (look : Name → Val) (given : List (Name × Val)) where
       ∙ ap (λ (o : Option Val). option_and_then (λ w. with_formals look given rest (put f.name w context)) o) (or_message_some (formal_value look given f) v takes)
       ∙ ap (with_formals look given rest) (sym (is ∙ ap (λ n. put n v context) named))
 
-pub gives_called : (r : Result (Named Val) Refusal) (d : Definition) (given : List (Name × Val)) (body : Option Val) (look : Name → Val) →
+pub gives_called : (r : Result (Named Val) SeenError) (d : Definition) (given : List (Name × Val)) (body : Option Val) (look : Name → Val) →
     Gives (λ (c : Named Val). c) r (or_message (call_context d given body look)) →
     (s : Signature) → d ≡ definition_of s → Gives (λ (c : Named Val). c) r (or_message (component_context s given body look))
 gives_called r d given body look h s is =

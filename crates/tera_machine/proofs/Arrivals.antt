@@ -9,12 +9,12 @@ use Rattle.tera_meaning.specs.Whole.{World, Place, here_at}
 use Rattle.tera_meaning.specs.Run.{Run, Signal, On, Broke, Continued, Answer, Meaning, go_on}
 use Rattle.tera_code.specs.declared.instruction.Instruction.{Instruction}
 use Rattle.tera_code.specs.declared.instruction.Instruction.TheVariants.{Jump}
+use Rattle.tera_code.specs.Code.{Code}
 use Rattle.tera_machine.specs.Config.{Config, Loop}
 use Rattle.tera_machine.specs.Did.{Goes}
 use Rattle.tera_machine.specs.Layers.{around_layers}
 use Rattle.tera_machine.specs.Captures.{dropped, past_body}
 use Rattle.tera_machine.specs.Act.{act}
-use Rattle.tera_machine.specs.Exec.{Code}
 use Rattle.tera_machine.proofs.Ends.{skip_leads, to_leads, out_leads}
 use Rattle.tera_machine.proofs.Literals.{push_all, seconds}
 use Rattle.tera_machine.proofs.Counted.{Spot, Reaches, Follows, Runs, done, reaches_none}

@@ -7,7 +7,7 @@ use Rattle.std.proofs.lemmas.List.{drop_more}
 use Rattle.tera_errors.specs.Site.{Name}
 use Rattle.tera_errors.specs.declared.span.Span.{Span}
 use Rattle.tera_errors.specs.Fault.{Fault, message}
-use Rattle.tera_errors.specs.Answer.{Refusal, Says, Tells}
+use Rattle.tera_errors.specs.Answer.{SeenError, Says, Tells}
 use Rattle.tera_syntax_tree.specs.Tree.{Signature, Nodes}
 use Rattle.tera_values.specs.Alphabet.{plain}
 use Rattle.tera_values.specs.Val.{Val}
@@ -26,7 +26,7 @@ use Rattle.tera_registry.specs.Components.{kept_of, kept_as}
 use Rattle.tera_registry.specs.declared.components.Component.{Component as Kept}
 use Rattle.tera_registry.specs.Templates.{with_templates, definers_of, IsKept, IsDefined}
 use Rattle.tera_registry.specs.declared.templates.Defined.{Defined}
-use Rattle.tera_registry.specs.declared.templates.Found.{Found}
+use Rattle.tera_registry.specs.declared.templates.FoundTemplate.{FoundTemplate}
 use Rattle.tera_machine.specs.declared.bodies.Outer.{Outer}
 use Rattle.tera_machine.specs.declared.blocks.OpenBlocks.{OpenBlocks}
 use Rattle.tera_machine.specs.declared.components.Called.{Called}
@@ -109,12 +109,12 @@ module _ (w : World) (p : Place) (name : Name) (given : List (Name × Val)) (bod
   way_is : (o : Option Component) → component_at w name ≡ o → way w p q v ≡ takes_component plain p v given body (fault_in p span) o
   way_is o e = ap (takes_component plain p v given body (fault_in p span)) e
 
-  told_refused : (told : Refusal) (fault : Fault) → way w p q v ≡ Refuses fault → Tells told fault → Calls w p q v (Err told)
+  told_refused : (told : SeenError) (fault : Fault) → way w p q v ≡ Refuses fault → Tells told fault → Calls w p q v (Err told)
   told_refused None fault e h = tt
   told_refused (Some t) fault e h = e ∙ ap Refuses (sym h)
 
   -- a name that leads nowhere
-  pub nobody_called : (told : Refusal) → IsDefined (component_at w name) None → Tells told (fault_in p span) → Calls w p q v (Err told)
+  pub nobody_called : (told : SeenError) → IsDefined (component_at w name) None → Tells told (fault_in p span) → Calls w p q v (Err told)
   nobody_called told e h = told_refused told (fault_in p span) (way_is None e) h
 
   module _ (found : Defined) (is : IsDefined (component_at w name) (Some found)) where
@@ -146,7 +146,7 @@ module _ (w : World) (p : Place) (name : Name) (given : List (Name × Val)) (bod
         no_ok e = cc
 
     -- arguments that do not fit
-    pub unfit : (refusal told : Refusal) → ((s : Signature) → found.definition.now ≡ definition_of s → Says refusal (or_message (component_context s given body look))) → Retells refusal told (fault_in p span) → Calls w p q v (Err told)
+    pub unfit : (refusal told : SeenError) → ((s : Signature) → found.definition.now ≡ definition_of s → Says refusal (or_message (component_context s given body look))) → Retells refusal told (fault_in p span) → Calls w p q v (Err told)
     unfit None told says h = subst (λ x. Calls w p q v (Err x)) (sym h) tt
     unfit (Some fault) told says h =
         told_refused told (fault_in p span) (in_context None (no_context (component_context c.signature given body look) fault (says c.signature kept.given))) h
@@ -158,7 +158,7 @@ module _ (w : World) (p : Place) (name : Name) (given : List (Name × Val)) (bod
           ∙ ap (λ x. if x then Takes (place_of_component (in_component context p.around v) p.autoescape (suc p.depth) c.file) nothing_set c.body else Refuses message) e
 
       -- components that are open too deep
-      pub too_deep : (told : Refusal) → 20 ≤ p.depth → Tells told message → Calls w p q v (Err told)
+      pub too_deep : (told : SeenError) → 20 ≤ p.depth → Tells told message → Calls w p q v (Err told)
       too_deep told l h = told_refused told message (deep false (le-ltb p.depth 20 l)) h
 
       -- and else it runs
@@ -175,7 +175,7 @@ module _ (w : World) (p : Place) (name : Name) (given : List (Name × Val)) (bod
 
 module _ (w : World) {O : Type 0} (m : VirtualMachine O) (file : Name) (q : Request) (u : Use) (b0 : OpenBlocks) (c0 : Configuration) where
   -- a request that is refused
-  pub call_failed : (r : Refusal) (c1 : Config) (k : ℕ) → k ≡ 0 → Calls w (place_at m file b0 c0) q (config_of c0).run.vars (Err r) → BodyRan w (place_at m file b0 c0) q u (config_of c0) (Err r) c1 k
+  pub call_failed : (r : SeenError) (c1 : Config) (k : ℕ) → k ≡ 0 → Calls w (place_at m file b0 c0) q (config_of c0).run.vars (Err r) → BodyRan w (place_at m file b0 c0) q u (config_of c0) (Err r) c1 k
   call_failed None c1 k z h = tt
   call_failed (Some f) c1 k z h = refused f k z h
 
@@ -184,7 +184,7 @@ module _ (w : World) {O : Type 0} (m : VirtualMachine O) (file : Name) (q : Requ
     same_place =
         let x = in_component called.context (around_of c0.scopes) (variables_of c0.scopes) in
         ap₂ (λ f d. record { template = None; file = f; around = x; autoescape = m.autoescape; depth = d; included = []; opened = []; above = [] }) (sym (ap (λ (l : Listing). l.file) is.code)) (sym (depth ∙ is.depth))
-        ∙ ap₂ (λ o a. record { template = o; file = called.code.now.file; around = a; autoescape = m.autoescape; depth = m1.depth; included = []; opened = []; above = [] }) (sym (ap (λ o. option_map (λ (f : Found). f.name.now) o) template)) (sym begins.around)
+        ∙ ap₂ (λ o a. record { template = o; file = called.code.now.file; around = a; autoescape = m.autoescape; depth = m1.depth; included = []; opened = []; above = [] }) (sym (ap (λ o. option_map (λ (f : FoundTemplate). f.name.now) o) template)) (sym begins.around)
         ∙ ap₂ (λ e i. record { template = template_of m1; file = called.code.now.file; around = around_of c1.scopes; autoescape = e; depth = m1.depth; included = i; opened = []; above = [] }) (sym escapes) (sym included)
         ∙ ap₂ (λ ns ds. record { template = template_of m1; file = called.code.now.file; around = around_of c1.scopes; autoescape = m1.autoescape; depth = m1.depth; included = names_in b1.included; opened = ns; above = ds }) (sym names) (sym above)
 

@@ -14,11 +14,10 @@ use Rattle.tera_meaning.specs.Run.{Run, ABlock, AnInclude, Oracle, ◌▹◌, vi
 use Rattle.tera_meaning.specs.Meaning.{output, written, turns_of, loop_or_else, node_meaning, nodes_meaning}
 use Rattle.tera_code.specs.declared.instruction.Instruction.{Instruction}
 use Rattle.tera_code.specs.declared.instruction.Instruction.TheVariants as instruction
-use Rattle.tera_code.specs.Code.{expr_code, node_code, nodes_code, choice_tail, loop_tail, print_code, is_context}
+use Rattle.tera_code.specs.Code.{Code, expr_code, node_code, nodes_code, choice_tail, loop_tail, print_code, is_context}
 use Rattle.tera_machine.specs.Flow.{Written}
 use Rattle.tera_machine.specs.Loops.{begun_with}
 use Rattle.tera_machine.specs.Act.{act, put_out}
-use Rattle.tera_machine.specs.Exec.{Code}
 use Rattle.tera_machine.proofs.Places.{StandsAt, stands_front, stands_back, parts, round}
 use Rattle.tera_machine.proofs.Counted.{Runs, Below, done, spend, step, first, fail, adjust, onward_runs, answered_runs, choice_runs, jump_after, asked_runs}
 use Rattle.tera_machine.proofs.Arrivals.{Base, over, in_loop, captured_over, config_at, spot, writing, Fits, Arrive, arrive_at, go_on_runs, arrive_passes, leave_leads}

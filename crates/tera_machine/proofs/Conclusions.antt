@@ -1,7 +1,7 @@
 -- A run of the code of a tree, from its start to its end.
 use Rattle.std.proofs.Common.{◌≡◌, ℕ, zero, suc, ◌+◌, ◌-◌, ◌*◌, ◌<◌, ◌≤◌, [], length, Some, None, Result, Ok, Err, refl, sym, ap, ◌∙◌, subst, arith}
 use Rattle.tera_errors.specs.Fault.{Fault}
-use Rattle.tera_errors.specs.Answer.{Refusal}
+use Rattle.tera_errors.specs.Answer.{SeenError}
 use Rattle.tera_syntax_tree.specs.Tree.{Nodes}
 use Rattle.tera_values.specs.Alphabet.{plain}
 use Rattle.tera_state.specs.Scope.{Variables}
@@ -9,10 +9,10 @@ use Rattle.tera_meaning.specs.Run.{Run, Request, Signal, On, Broke, Continued, A
 use Rattle.tera_meaning.specs.Meaning.{nodes_meaning}
 use Rattle.tera_meaning.specs.Whole.{World, Place, Way, Refuses, Takes, way, rank, ends, along, here_at, whole}
 use Rattle.tera_meaning.proofs.Levels.{IsLower, falls, unrolls}
-use Rattle.tera_code.specs.Code.{nodes_code}
+use Rattle.tera_code.specs.Code.{Code, nodes_code}
 use Rattle.tera_machine.specs.Config.{Config}
 use Rattle.tera_machine.specs.Flow.{Use}
-use Rattle.tera_machine.specs.Exec.{Code, Finished, Broken, entered, leaving, taken, exec, Within, Ends, EndsWithin, Ran}
+use Rattle.tera_machine.specs.Exec.{Finished, Broken, entered, leaving, taken, exec, Within, Ends, EndsWithin, Ran}
 use Rattle.tera_machine.specs.Subject.{Means}
 use Rattle.tera_machine.proofs.Ends.{ends_here, same_end}
 use Rattle.tera_machine.proofs.Places.{stands_whole, nothing_behind}
@@ -72,7 +72,7 @@ module _ (w : World) (place : Place) where
     not_both a f j k e = cc
 
     -- and so does the machine
-    pub means : (x : Answer Signal) → Concludes code c x → (result : Result (Unit {0}) Refusal) (c2 : Config) (n : ℕ) → Ran w place code c result c2 n → Means (more 1 x) c result c2
+    pub means : (x : Answer Signal) → Concludes code c x → (result : Result (Unit {0}) SeenError) (c2 : Config) (n : ℕ) → Ran w place code c result c2 n → Means (more 1 x) c result c2
     means (Failed f v) h (Ok u) c2 n ran =
         not_both c2 f n h.0 (same_end w place code 0 c _ _ tt tt ran h.2)
     means (Failed f v) h (Err None) c2 n ran = tt
@@ -118,6 +118,6 @@ module _ (w : World) {place place2 : Place} {code : Code} (tree : Nodes) (same :
       subst (λ p. EndsWithin w p code 0 c (n + m - n)) (sym same) (subst (λ x. EndsWithin w place2 x 0 c (n + m - n)) (sym is) (subst (EndsWithin w place2 (nodes_code tree 0) 0 c) e x))
 
   -- and gives what the tree means
-  pub gave_meant : (c : Config) → c.loops ≡ [] → (result : Result (Unit {0}) Refusal) (c2 : Config) (k : ℕ) → Ran w place code c result c2 k → Means (more 1 (nodes_meaning (here_at w place2) (whole w place2) tree c.run)) c result c2
+  pub gave_meant : (c : Config) → c.loops ≡ [] → (result : Result (Unit {0}) SeenError) (c2 : Config) (k : ℕ) → Ran w place code c result c2 k → Means (more 1 (nodes_meaning (here_at w place2) (whole w place2) tree c.run)) c result c2
   gave_meant c own result c2 k ran =
       means w place2 (nodes_code tree 0) c _ (concludes w place2 (all_below w place2) tree c own) result c2 k (subst (λ x. Ran w place2 x c result c2 k) is (subst (λ p. Ran w p code c result c2 k) same ran))

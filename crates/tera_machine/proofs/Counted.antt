@@ -6,12 +6,13 @@ use Rattle.tera_errors.specs.Fault.{Fault}
 use Rattle.tera_meaning.specs.Run.{Run, Signal, Request, Answer, Failed, Gave, Meaning, more, onward, gives, answered, if_else, joined, joined_answer, put_back}
 use Rattle.tera_meaning.specs.Whole.{World, Place, here_at, whole}
 use Rattle.tera_code.specs.declared.instruction.Instruction.{Instruction}
+use Rattle.tera_code.specs.Code.{Code}
 use Rattle.tera_machine.specs.Config.{Config}
 use Rattle.tera_machine.specs.Flow.{Use, On, Skip, Ask}
 use Rattle.tera_machine.specs.Did.{Goes, Faults}
 use Rattle.tera_machine.specs.Act.{act, branched}
-use Rattle.tera_machine.specs.Exec.{Code, Finished, Broken, used, Ends, BodyEnds}
-use Rattle.tera_machine.specs.Progress.{Leads}
+use Rattle.tera_machine.specs.Exec.{Finished, Broken, used, Ends, BodyEnds}
+use Rattle.tera_machine.specs.Advance.{Leads}
 use Rattle.tera_machine.proofs.Ends.{after-none, step_ends, further, on_leads, skip_leads, ask_leads, ask_breaks}
 
 -- a place in the code, and what the machine works on there

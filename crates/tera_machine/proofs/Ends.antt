@@ -6,13 +6,13 @@ use Rattle.tera_errors.specs.Fault.{Fault}
 use Rattle.tera_meaning.specs.Run.{Request}
 use Rattle.tera_meaning.specs.Whole.{World, Place, Way, Refuses, Takes, way, here_at}
 use Rattle.tera_code.specs.declared.instruction.Instruction.{Instruction}
-use Rattle.tera_code.specs.Code.{nodes_code}
+use Rattle.tera_code.specs.Code.{Code, nodes_code}
 use Rattle.tera_machine.specs.Config.{Config}
 use Rattle.tera_machine.specs.Flow.{Use, On, Skip, To, Out, Ask}
 use Rattle.tera_machine.specs.Did.{Did, Goes, Faults, Sticks}
 use Rattle.tera_machine.specs.Act.{act}
-use Rattle.tera_machine.specs.Exec.{Code, End, Finished, Broken, Unfinished, Stuck, after, then_on, Runner, entered, leaving, taken, within_code, follow, body_by, fetched, exec, Within, IsOver, Ends, EndsWithin, BodyEnds}
-use Rattle.tera_machine.specs.Progress.{Leads}
+use Rattle.tera_machine.specs.Exec.{End, Finished, Broken, Unfinished, Stuck, after, then_on, Runner, entered, leaving, taken, within_code, follow, body_by, fetched, exec, Within, IsOver, Ends, EndsWithin, BodyEnds}
+use Rattle.tera_machine.specs.Advance.{Leads}
 
 -- where the one is over, the other is the same
 abbrev Extends : End → End → Type 0

@@ -22,13 +22,12 @@ use Rattle.tera_meaning.specs.Run.{Run, Gave, Above, AComponent, Request, Oracle
 use Rattle.tera_meaning.specs.Meaning.{turns_of, if_kept, comprehension, component_meaning_in, expr_meaning, condition_meaning, bound_meaning, items_meaning, entries_meaning, arguments_meaning}
 use Rattle.tera_code.specs.declared.instruction.Instruction.{Instruction}
 use Rattle.tera_code.specs.declared.instruction.Instruction.TheVariants as instruction
-use Rattle.tera_code.specs.Code.{expr_code, turn_code, keep_code, keep_tail, bound_code, items_code, entries_code, choice_tail, comprehension_tail, is_context, spreads_of, keys_in, arguments_code, arguments_length, argument_names}
+use Rattle.tera_code.specs.Code.{Code, expr_code, turn_code, keep_code, keep_tail, bound_code, items_code, entries_code, choice_tail, comprehension_tail, is_context, spreads_of, keys_in, arguments_code, arguments_length, argument_names}
 use Rattle.tera_machine.specs.Config.{Config}
 use Rattle.tera_machine.specs.Flow.{Use, Pushed, Ask}
 use Rattle.tera_machine.specs.Did.{Goes, outcome}
 use Rattle.tera_machine.specs.Loops.{begun_with}
 use Rattle.tera_machine.specs.Act.{act, topmost, made_of, called_on, branched, above_in, handed, component_asked, component_given}
-use Rattle.tera_machine.specs.Exec.{Code}
 use Rattle.tera_machine.proofs.Literals.{push_all, firsts, seconds, zip-firsts, length-seconds, topmost-push_all}
 use Rattle.tera_machine.proofs.Places.{StandsAt, stands_front, stands_back, stands_within, parts, round}
 use Rattle.tera_machine.proofs.Counted.{Spot, Runs, Below, Holds, holds_onward, holds_any, done, spend, none, first, jump, fail, adjust, onward_runs, onward_lent, onward_where, onward-onward, answered_runs, mapped_runs, choice_runs, choice_not_runs, jump_after, asked_runs}

@@ -12,10 +12,10 @@ use Rattle.tera_meaning.specs.Run.{Run, Meaning, Gave, onward, more, gives}
 use Rattle.tera_meaning.specs.Meaning.{if_kept, comprehension}
 use Rattle.tera_code.specs.declared.instruction.Instruction.{Instruction}
 use Rattle.tera_code.specs.declared.instruction.Instruction.TheVariants.{NextTurn, EndComprehension, MakeArray}
+use Rattle.tera_code.specs.Code.{Code}
 use Rattle.tera_machine.specs.Config.{Config}
 use Rattle.tera_machine.specs.Loops.{begun_over}
 use Rattle.tera_machine.specs.Act.{act, made_of}
-use Rattle.tera_machine.specs.Exec.{Code}
 use Rattle.tera_machine.proofs.Ends.{skip_leads}
 use Rattle.tera_machine.proofs.Literals.{topmost-push_all}
 use Rattle.tera_machine.proofs.Counted.{Spot, Runs, done, spend, step, first, none, adjust, onward_lent, mapped_runs, same_goal, onward-onward}

@@ -3,7 +3,7 @@ use Rattle.std.proofs.Common.{◌≡◌, ℕ, Bool, true, false, [], ◌∷◌, 
 use Rattle.std.specs.Prelude.{option_map, if◌then◌else◌}
 use Rattle.tera_errors.specs.Site.{Name}
 use Rattle.tera_errors.specs.declared.span.Span.{Span}
-use Rattle.tera_errors.specs.Answer.{Refusal}
+use Rattle.tera_errors.specs.Answer.{SeenError}
 use Rattle.tera_syntax_tree.specs.Blocks.{is_among}
 use Rattle.tera_state.specs.Scope.{Variables, nothing_set, in_include}
 use Rattle.tera_state.specs.Scopes.{variables_of, around_of}
@@ -13,7 +13,7 @@ use Rattle.tera_meaning.specs.Run.{AnInclude}
 use Rattle.tera_meaning.specs.Whole.{World, Place, Refuses, Takes, takes_template, place_of_include, fault_in, way}
 use Rattle.tera_code.specs.Listing.{Listing}
 use Rattle.tera_registry.specs.Templates.{definers_of, Finds}
-use Rattle.tera_registry.specs.declared.templates.Found.{Found}
+use Rattle.tera_registry.specs.declared.templates.FoundTemplate.{FoundTemplate}
 use Rattle.tera_machine.specs.declared.bodies.Outer.{Outer}
 use Rattle.tera_machine.specs.declared.blocks.OpenBlocks.{OpenBlocks}
 use Rattle.tera_machine.specs.declared.configuration.Configuration.{Configuration}
@@ -40,7 +40,7 @@ module _ (w : World) (p : Place) (name : Name) (span : Span) (v : Variables) whe
   chosen : (t : Entry) (b : Bool) → is_among t.0 p.included ≡ b → takes_template p v (fault_in p span) (Some t) ≡ (if b then Refuses (fault_in p span) else Takes (place_of_include p v t.0) nothing_set t.1.tree.nodes)
   chosen t b e = ap (λ x. if x then Refuses (fault_in p span) else Takes (place_of_include p v t.0) nothing_set t.1.tree.nodes) e
 
-  module _ (found : Found) (leads : Finds w.registry name (Some found)) where
+  module _ (found : FoundTemplate) (leads : Finds w.registry name (Some found)) where
     among_is : (b : Bool) → is_among found.name.now p.included ≡ b → is_among leads.entry.0 p.included ≡ b
     among_is b e = ap (λ n. is_among n p.included) (sym leads.named) ∙ e
 
@@ -62,15 +62,15 @@ module _ (w : World) (p : Place) (name : Name) (span : Span) (v : Variables) whe
 
 module _ (w : World) {O : Type 0} (m : VirtualMachine O) (file : Name) (name : Name) (span : Span) (b0 : OpenBlocks) (c0 : Configuration) where
   -- a request that is refused
-  pub include_failed : (r : Refusal) (c1 : Config) (k : ℕ) → k ≡ 0 → FindsTemplate w (place_at m file b0 c0) (AnInclude name span) (config_of c0).run.vars (Err r) → BodyRan w (place_at m file b0 c0) (AnInclude name span) Written (config_of c0) (Err r) c1 k
+  pub include_failed : (r : SeenError) (c1 : Config) (k : ℕ) → k ≡ 0 → FindsTemplate w (place_at m file b0 c0) (AnInclude name span) (config_of c0).run.vars (Err r) → BodyRan w (place_at m file b0 c0) (AnInclude name span) Written (config_of c0) (Err r) c1 k
   include_failed None c1 k z h = tt
   include_failed (Some f) c1 k z h = refused f k z h
 
-  module _ {found : Found} (is : IsTemplate w (place_at m file b0 c0) (AnInclude name span) (config_of c0).run.vars found) (m1 : VirtualMachine O) (b1 : OpenBlocks) {outer : Outer} {c1 : Configuration} (template : m1.template ≡ Some found) (escapes : m1.autoescape ≡ m.autoescape) (depth : m1.depth ≡ m.depth) (names : b1.names ≡ []) (above : definers_of b1.above ≡ []) (included : names_in b1.included ≡ found.name.now ∷ names_in b0.included) (begins : Begins (in_include (around_of c0.scopes) (variables_of c0.scopes)) c0 outer c1) where
+  module _ {found : FoundTemplate} (is : IsTemplate w (place_at m file b0 c0) (AnInclude name span) (config_of c0).run.vars found) (m1 : VirtualMachine O) (b1 : OpenBlocks) {outer : Outer} {c1 : Configuration} (template : m1.template ≡ Some found) (escapes : m1.autoescape ≡ m.autoescape) (depth : m1.depth ≡ m.depth) (names : b1.names ≡ []) (above : definers_of b1.above ≡ []) (included : names_in b1.included ≡ found.name.now ∷ names_in b0.included) (begins : Begins (in_include (around_of c0.scopes) (variables_of c0.scopes)) c0 outer c1) where
     same_place : place_of_include (place_at m file b0 c0) (config_of c0).run.vars is.entry.0 ≡ place_at m1 found.body.now.file b1 c1
     same_place =
         let x = in_include (around_of c0.scopes) (variables_of c0.scopes) in
-        let t = ap (λ o. option_map (λ (f : Found). f.name.now) o) template in
+        let t = ap (λ o. option_map (λ (f : FoundTemplate). f.name.now) o) template in
         ap₂ (λ n f. record { template = Some n; file = f; around = x; autoescape = m.autoescape; depth = m.depth; included = n ∷ names_in b0.included; opened = []; above = [] }) (sym is.named) (sym (ap (λ (l : Listing). l.file) is.code))
         ∙ ap₂ (λ o a. record { template = o; file = found.body.now.file; around = a; autoescape = m.autoescape; depth = m.depth; included = found.name.now ∷ names_in b0.included; opened = []; above = [] }) (sym t) (sym begins.around)
         ∙ ap₂ (λ e i. record { template = template_of m1; file = found.body.now.file; around = around_of c1.scopes; autoescape = e; depth = m.depth; included = i; opened = []; above = [] }) (sym escapes) (sym included)

@@ -2,7 +2,7 @@
 use Rattle.std.proofs.Common.{◌≡◌, Bool, true, false, List, [], ◌∷◌, ◌++◌, Option, None, Some, Ok, Err, refl, sym, ap, ap₂, ◌∙◌, subst}
 use Rattle.std.specs.Prelude.{unwrap_or, if◌then◌else◌, bytes_eq}
 use Rattle.tera_errors.specs.Site.{Name, Text}
-use Rattle.tera_errors.specs.Answer.{Refusal, Says}
+use Rattle.tera_errors.specs.Answer.{SeenError, Says}
 use Rattle.tera_meaning.specs.Run.{Signal, Answer, Failed, Gave}
 use Rattle.tera_meaning.specs.Rendering.{last_text, block_of}
 use Rattle.tera_machine.specs.Config.{Config}
@@ -49,7 +49,7 @@ gives_block block (Failed fault n) before after text means e = absurd means
 gives_block block (Gave signal run n) before after text means e =
     ap Ok (ap (λ (c : Config). last_text block [] c.run.blocks) (sym means) ∙ sym e)
 
-pub fails_block : (block : Name) (x : Answer Signal) (before after : Config) (r : Refusal) → Means x before (Err r) after → Says r (block_of block x)
+pub fails_block : (block : Name) (x : Answer Signal) (before after : Config) (r : SeenError) → Means x before (Err r) after → Says r (block_of block x)
 fails_block block (Failed fault n) before after None means = tt
 fails_block block (Failed fault n) before after (Some told) means = ap Err (sym means)
 fails_block block (Gave signal run n) before after None means = tt

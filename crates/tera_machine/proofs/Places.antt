@@ -5,8 +5,7 @@ use Rattle.std.proofs.Math.Seq.{get_or-append_seam}
 use Rattle.std.proofs.lemmas.Option.{slice_get-get_or, slice_get_past, slice_get_within}
 use Rattle.tera_code.specs.declared.instruction.Instruction.{Instruction}
 use Rattle.tera_code.specs.declared.instruction.Instruction.TheVariants.{PopJumpIfFalse, Jump, NextTurn}
-use Rattle.tera_code.specs.Code.{choice_tail}
-use Rattle.tera_machine.specs.Exec.{Code}
+use Rattle.tera_code.specs.Code.{Code, choice_tail}
 
 -- the instructions stand in the code from this place on
 abbrev pub StandsAt : Code → ℕ → Code → Type 0

@@ -5,7 +5,7 @@ use Rattle.std.proofs.lemmas.Option.{slice_get_within}
 use Rattle.tera_errors.specs.declared.span.Span.{Span}
 use Rattle.tera_errors.specs.Site as site
 use Rattle.tera_errors.specs.Site.{Name}
-use Rattle.tera_errors.specs.Answer.{Refusal, Says}
+use Rattle.tera_errors.specs.Answer.{SeenError, Says}
 use Rattle.tera_errors.specs.Fault.{rendering_error}
 use Rattle.tera_values.specs.Val.{Val}
 use Rattle.tera_values.specs.Access.{is_undefined}
@@ -20,6 +20,7 @@ use Rattle.tera_code.specs.Asked.{Compares}
 use Rattle.tera_code.specs.declared.comparison.Comparison.{Comparison}
 use Rattle.tera_code.specs.declared.instruction.Instruction.{Instruction}
 use Rattle.tera_code.specs.declared.instruction.Instruction.TheVariants as instruction
+use Rattle.tera_code.specs.Code.{Code}
 use Rattle.tera_objects.specs.Engine.{Engine}
 use Rattle.tera_machine.specs.declared.machine.VirtualMachine.{VirtualMachine}
 use Rattle.tera_machine.specs.declared.configuration.Configuration.{Configuration}
@@ -29,7 +30,6 @@ use Rattle.tera_machine.specs.Config.{Config, config_of}
 use Rattle.tera_machine.specs.Flow.{On}
 use Rattle.tera_machine.specs.Did.{Goes, Faults, holding, pushed, outcome, with_text}
 use Rattle.tera_machine.specs.Act.{act, Acted, Does, put_out}
-use Rattle.tera_machine.specs.Exec.{Code}
 use Rattle.tera_machine.specs.Together.{done, WentOn}
 use Rattle.tera_machine.specs.Paths.{Start, Stands, Comes, Reaches, Breaks, start_at, topped, constant_of, truth_of}
 use Rattle.tera_machine.proofs.Together.{done_next}
@@ -44,7 +44,7 @@ alone_did here code c at n i e =
     (done_next here code 0 at c c i refl (subst (λ p. slice_get code p ≡ Some i) same e) ∙ ap (λ p. act here p i c) z)
 
 -- and what it does is what all do that are done
-pub alone_does : {O : Type 0} (engine : O → Engine) (m : VirtualMachine O) (file file2 : Name) (c c2 : Configuration) (code : Code) (at n : ℕ) (i : Instruction) (r : Result declared.Flow Refusal) → slice_get code at ≡ Some i → file2 ≡ file → Does (act (here_of engine m file2 c) (at + 1) i) c r c2 → Does (done (here_of engine m file c) code (suc (n - n)) at) c r c2
+pub alone_does : {O : Type 0} (engine : O → Engine) (m : VirtualMachine O) (file file2 : Name) (c c2 : Configuration) (code : Code) (at n : ℕ) (i : Instruction) (r : Result declared.Flow SeenError) → slice_get code at ≡ Some i → file2 ≡ file → Does (act (here_of engine m file2 c) (at + 1) i) c r c2 → Does (done (here_of engine m file c) code (suc (n - n)) at) c r c2
 alone_does engine m file file2 c c2 code at n i r e f d = (
   subst (λ x. Acted x r (config_of c2)) (sym (alone_did (here_of engine m file c) code (config_of c) at n i e))
       (subst (λ name. Acted (act (here_of engine m name c) (at + 1) i (config_of c)) r (config_of c2)) f d.0),
@@ -100,7 +100,7 @@ module _ {s : Start} {code : Code} {at n : ℕ} {a : Evaluated} (r : Reaches s c
   }
 
   -- or its fault
-  pub attribute_breaks : (x : Refusal) → Says x (attribute_of file2 optional a name2 span) → Breaks s code n2 x
+  pub attribute_breaks : (x : SeenError) → Says x (attribute_of file2 optional a name2 span) → Breaks s code n2 x
   attribute_breaks None y = λ c. tt
   attribute_breaks (Some fault) y = λ c. more_did r e p m ∙ ap (λ x. outcome x s.config.operands (topped a s.config)) (same ∙ y)
 
@@ -139,7 +139,7 @@ module _ {s : Start} {code : Code} {at n : ℕ} {a : Evaluated} (c : Config) (r 
   }
 
   -- or its fault
-  pub compared_breaks : (x : Refusal) → Says x (truth_of file a comparison) → Breaks s code n2 x
+  pub compared_breaks : (x : SeenError) → Says x (truth_of file a comparison) → Breaks s code n2 x
   compared_breaks None y = λ c. tt
   compared_breaks (Some fault) y = λ d. compared_did ∙ ap (λ x. outcome x c.operands both) y
 

@@ -2,21 +2,22 @@
 use Rattle.std.proofs.Common.{◌≡◌, ◌≢◌, ℕ, List, [], ◌∷◌, ◌++◌, Some, None, Result, Ok, Err, refl, sym, ap, ap₂, ◌∙◌, append-nil}
 use Rattle.std.specs.Prelude.{OnOk, IfErr}
 use Rattle.tera_errors.specs.Site.{Name, Text}
-use Rattle.tera_errors.specs.Answer.{Refusal, Lacks}
+use Rattle.tera_errors.specs.Answer.{SeenError, Lacks}
 use Rattle.tera_values.specs.Val.{text}
 use Rattle.tera_state.specs.Scope.{Frame, Around, Variables}
 use Rattle.tera_state.specs.Scopes.{above_of, variables_of, around_of, coming_of, coming_around}
 use Rattle.tera_state.specs.declared.scopes.Scopes.{Scopes}
 use Rattle.tera_meaning.specs.Run.{Run, Request}
 use Rattle.tera_meaning.specs.Whole.{World, Place, left_of}
+use Rattle.tera_code.specs.Code.{Code}
 use Rattle.tera_machine.specs.declared.bodies.Outer.{Outer}
 use Rattle.tera_machine.specs.declared.blocks.OpenBlocks.{OpenBlocks}
 use Rattle.tera_machine.specs.declared.configuration.Configuration.{Configuration}
 use Rattle.tera_machine.specs.Config.{Config, Loop, config_of, loops_at}
 use Rattle.tera_machine.specs.Flow.{Use, Written, Pushed}
 use Rattle.tera_machine.specs.Act.{beneath_in}
-use Rattle.tera_machine.specs.Exec.{Code, Finished, used, left, left_in, Ends, EndsWithin, BodyEnds, Ran}
-use Rattle.tera_machine.specs.Progress.{BodyWithin}
+use Rattle.tera_machine.specs.Exec.{Finished, used, left, left_in, Ends, EndsWithin, BodyEnds, Ran}
+use Rattle.tera_machine.specs.Advance.{BodyWithin}
 use Rattle.tera_machine.specs.Bodies.{Entered, Stays, BodyRan}
 use Rattle.tera_machine.specs.Apart.{Begins, Rejoins, joined_in}
 use Rattle.tera_machine.proofs.Noting.{noted_none}
@@ -52,7 +53,7 @@ module _ {w : World} {p : Place} {q : Request} {u : Use} (c0 : Configuration) {p
   may_begin = inner_within entry may
 
   -- a fault in the body
-  pub apart_failed : (r : Refusal) (c3 : Config) (j : ℕ) → Ran w p1 code (config_of c1) (Err r) c3 j → BodyRan w p q u (config_of c0) (Err r) c3 j
+  pub apart_failed : (r : SeenError) (c3 : Config) (j : ℕ) → Ran w p1 code (config_of c1) (Err r) c3 j → BodyRan w p q u (config_of c0) (Err r) c3 j
   apart_failed None c3 j x = tt
   apart_failed (Some f) c3 j x = body_broke entry f j x
 
@@ -126,10 +127,10 @@ module _ {w : World} {p : Place} {q : Request} {u : Use} (c0 : Configuration) {p
         }
 
       -- the body is over, unless memory was refused
-      pub apart_over : (c4 : Configuration) (r : Result (Unit {0}) Refusal) → OnOk r (Rejoins u c3 outer c4) → IfErr r Lacks → BodyRan w p q u (config_of c0) r (config_of c4) j
+      pub apart_over : (c4 : Configuration) (r : Result (Unit {0}) SeenError) → OnOk r (Rejoins u c3 outer c4) → IfErr r Lacks → BodyRan w p q u (config_of c0) r (config_of c4) j
       apart_over c4 (Ok done) rejoins lacks = took c4 rejoins
       apart_over c4 (Err r) rejoins lacks = lacked w p q u (config_of c0) (config_of c4) j r lacks
 
-      pub apart_stayed : (b0 : OpenBlocks) (c4 : Configuration) (r : Result (Unit {0}) Refusal) → OnOk r (Rejoins u c3 outer c4) → OnOk r (Stays b0 c0 b0 c4)
+      pub apart_stayed : (b0 : OpenBlocks) (c4 : Configuration) (r : Result (Unit {0}) SeenError) → OnOk r (Rejoins u c3 outer c4) → OnOk r (Stays b0 c0 b0 c4)
       apart_stayed b0 c4 (Ok done) rejoins = stayed c4 rejoins b0
       apart_stayed b0 c4 (Err r) rejoins = tt

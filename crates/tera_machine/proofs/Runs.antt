@@ -3,13 +3,14 @@ use Rattle.std.proofs.Common.{◌≡◌, ◌≢◌, ℕ, ◌+◌, ◌-◌, ◌^�
 use Rattle.std.proofs.lemmas.Bool.{leb-true}
 use Rattle.std.specs.Prelude.{slice_get, Bool, true, false, cond, nat_le, length}
 use Rattle.tera_errors.specs.Site.{Name}
-use Rattle.tera_errors.specs.Answer.{Refusal}
+use Rattle.tera_errors.specs.Answer.{SeenError}
 use Rattle.tera_state.specs.Scopes.{around_of}
 use Rattle.tera_objects.specs.Engine.{Engine}
 use Rattle.tera_meaning.specs.Here.{Here}
 use Rattle.tera_meaning.specs.Run.{Request}
 use Rattle.tera_meaning.specs.Whole.{World, Place, here_at}
 use Rattle.tera_code.specs.declared.instruction.Instruction.{Instruction}
+use Rattle.tera_code.specs.Code.{Code}
 use Rattle.tera_machine.specs.declared.configuration.Configuration.{Configuration}
 use Rattle.tera_machine.specs.declared.machine.VirtualMachine.{VirtualMachine}
 use Rattle.tera_machine.specs.declared.blocks.OpenBlocks.{OpenBlocks}
@@ -20,8 +21,8 @@ use Rattle.tera_machine.specs.Config.{Config}
 use Rattle.tera_machine.specs.Flow.{Use, On, Skip, To, Out, Ask, request_of, use_of, flow_of}
 use Rattle.tera_machine.specs.Did.{Did, Goes, Faults, Sticks}
 use Rattle.tera_machine.specs.Act.{act, Acted, IsSmall}
-use Rattle.tera_machine.specs.Exec.{Code, End, Finished, Broken, Stuck, after, within_code, follow, body_by, exec, Within, Ends, EndsWithin, Ran}
-use Rattle.tera_machine.specs.Progress.{Leads, Progress}
+use Rattle.tera_machine.specs.Exec.{End, Finished, Broken, Stuck, after, within_code, follow, body_by, exec, Within, Ends, EndsWithin, Ran}
+use Rattle.tera_machine.specs.Advance.{Leads, Advance}
 use Rattle.tera_machine.specs.Subject.{engine_of, place_at, here_of}
 use Rattle.tera_machine.proofs.Ends.{after-none, ends_here, step_ends, within_step, further, on_leads, skip_leads, to_leads, out_leads}
 use Rattle.tera_machine.proofs.Places.{nothing_behind}
@@ -38,7 +39,7 @@ here_is engine w m file file0 blocks0 c c0 e f a =
     ∙ ap₂ (λ name around. record { file = name; around = around; autoescape = m.autoescape; engine = w.registry.engine }) f a
 
 module _ {most : ℕ} {w : World} {place : Place} {code : Code} {c0 : Config} where
-  pub starts : {n : ℕ} → EndsWithin w place code 0 c0 (most - n) → Progress most w place code c0 n 0 c0 n
+  pub starts : {n : ℕ} → EndsWithin w place code 0 c0 (most - n) → Advance most w place code c0 n 0 c0 n
   starts {n} x = record {
     counted = omega arith;
     bounded = λ h. h;
@@ -46,7 +47,7 @@ module _ {most : ℕ} {w : World} {place : Place} {code : Code} {c0 : Config} wh
     leads = record { by = λ o over e. let z : n - n ≡ 0 = omega arith in subst (λ k. Ends w place code 0 c0 (after k o)) (sym z) (subst (Ends w place code 0 c0) (sym (after-none o)) e) };
   }
 
-  module _ {n0 ip : ℕ} {c : Config} {n : ℕ} {i : Instruction} (g : Progress most w place code c0 n0 ip c n) where
+  module _ {n0 ip : ℕ} {c : Config} {n : ℕ} {i : Instruction} (g : Advance most w place code c0 n0 ip c n) where
     pub one_left : slice_get code ip ≡ Some i → n < most
     one_left e =
         let x = within_step w place code ip c i (act (here_at w place) (ip + 1) i c) (most - n) g.within e refl in
@@ -77,7 +78,7 @@ module _ {most : ℕ} {w : World} {place : Place} {code : Code} {c0 : Config} wh
       not_stuck e = λ a. (within_step w place code ip c i Sticks (most - n) g.within e (ap (λ h. act h (ip + 1) i c) (sym same) ∙ a)).2
 
       module _ {n2 : ℕ} (e : slice_get code ip ≡ Some i) (m : n2 ≡ n + 1) where
-        pub goes_on : {c2 : Config} → act here (ip + 1) i c ≡ Goes c2 On → Progress most w place code c0 n0 (ip + 1) c2 n2
+        pub goes_on : {c2 : Config} → act here (ip + 1) i c ≡ Goes c2 On → Advance most w place code c0 n0 (ip + 1) c2 n2
         goes_on {c2} a =
             let at_least = g.counted in
             let d : act (here_at w place) (ip + 1) i c ≡ Goes c2 On = ap (λ h. act h (ip + 1) i c) (sym same) ∙ a in
@@ -91,7 +92,7 @@ module _ {most : ℕ} {w : World} {place : Place} {code : Code} {c0 : Config} wh
               leads = further w place code 0 c0 (n - n0) 1 (n2 - n0) ip (ip + 1) c c2 g.leads taken (on_leads w place code ip c c2 i e d);
             }
 
-        pub went_on : {c2 : Config} {f : declared.Flow} → act here (ip + 1) i c ≡ Goes c2 (flow_of f) → f ≡ flow.On → Progress most w place code c0 n0 (ip + 1) c2 n2
+        pub went_on : {c2 : Config} {f : declared.Flow} → act here (ip + 1) i c ≡ Goes c2 (flow_of f) → f ≡ flow.On → Advance most w place code c0 n0 (ip + 1) c2 n2
         went_on {c2} {f} a is = goes_on (a ∙ ap (λ x. Goes c2 (flow_of x)) is)
 
         -- a place that a run goes to lies within the code, and the run goes on there
@@ -104,7 +105,7 @@ module _ {most : ℕ} {w : World} {place : Place} {code : Code} {c0 : Config} wh
         at_place : {f : declared.Flow} {c2 : Config} → act here (ip + 1) i c ≡ Goes c2 (flow_of f) → (f2 : declared.Flow) → f ≡ f2 → act (here_at w place) (ip + 1) i c ≡ Goes c2 (flow_of f2)
         at_place {c2 = c2} a f2 is = ap (λ h. act h (ip + 1) i c) (sym same) ∙ a ∙ ap (λ x. Goes c2 (flow_of x)) is
 
-        arrived : {c2 : Config} (to : ℕ) → (1 ≤ most - n) × (to ≤ length code) × EndsWithin w place code to c2 (most - n - 1) → Leads w place code ip c 1 to c2 → Progress most w place code c0 n0 to c2 n2
+        arrived : {c2 : Config} (to : ℕ) → (1 ≤ most - n) × (to ≤ length code) × EndsWithin w place code to c2 (most - n - 1) → Leads w place code ip c 1 to c2 → Advance most w place code c0 n0 to c2 n2
         arrived {c2} to x led =
             let at_least = g.counted in
             let left : most - n - 1 ≡ most - n2 = omega arith in
@@ -119,7 +120,7 @@ module _ {most : ℕ} {w : World} {place : Place} {code : Code} {c0 : Config} wh
         pub skip_within : {c2 : Config} {f : declared.Flow} {k : ℕ} → act here (ip + 1) i c ≡ Goes c2 (flow_of f) → f ≡ flow.Skip k → ip + 1 + k ≤ length code
         skip_within {c2} {f} {k} a is = (landed (ip + 1 + k) (Goes c2 (Skip k)) (λ _. refl) (at_place a (flow.Skip k) is)).1
 
-        pub skipped : {c2 : Config} {f : declared.Flow} {k : ℕ} → act here (ip + 1) i c ≡ Goes c2 (flow_of f) → f ≡ flow.Skip k → Progress most w place code c0 n0 (ip + 1 + k) c2 n2
+        pub skipped : {c2 : Config} {f : declared.Flow} {k : ℕ} → act here (ip + 1) i c ≡ Goes c2 (flow_of f) → f ≡ flow.Skip k → Advance most w place code c0 n0 (ip + 1 + k) c2 n2
         skipped {c2} {f} {k} a is =
             let d = at_place a (flow.Skip k) is in
             let x = landed (ip + 1 + k) (Goes c2 (Skip k)) (λ _. refl) d in
@@ -128,7 +129,7 @@ module _ {most : ℕ} {w : World} {place : Place} {code : Code} {c0 : Config} wh
         pub place_within : {c2 : Config} {f : declared.Flow} {p k : ℕ} → act here (ip + 1) i c ≡ Goes c2 (flow_of f) → f ≡ flow.To p k → p + k ≤ length code
         place_within {c2} {f} {p} {k} a is = (landed (p + k) (Goes c2 (To p k)) (λ _. refl) (at_place a (flow.To p k) is)).1
 
-        pub went_to : {c2 : Config} {f : declared.Flow} {p k : ℕ} → act here (ip + 1) i c ≡ Goes c2 (flow_of f) → f ≡ flow.To p k → Progress most w place code c0 n0 (p + k) c2 n2
+        pub went_to : {c2 : Config} {f : declared.Flow} {p k : ℕ} → act here (ip + 1) i c ≡ Goes c2 (flow_of f) → f ≡ flow.To p k → Advance most w place code c0 n0 (p + k) c2 n2
         went_to {c2} {f} {p} {k} a is =
             let d = at_place a (flow.To p k) is in
             let x = landed (p + k) (Goes c2 (To p k)) (λ _. refl) d in
@@ -151,7 +152,7 @@ module _ {most : ℕ} {w : World} {place : Place} {code : Code} {c0 : Config} wh
         at_request {c2} {f2 = f2} q u did is asks =
             record { progress = g; is = e; count = m; did = at_place did f2 is ∙ ap (Goes c2) asks }
 
-        pub act_failed : (r : Refusal) (c2 : Config) → Acted (act here (ip + 1) i c) (Err r) c2 → Ran w place code c0 (Err r) c2 (n2 - n0)
+        pub act_failed : (r : SeenError) (c2 : Config) → Acted (act here (ip + 1) i c) (Err r) c2 → Ran w place code c0 (Err r) c2 (n2 - n0)
         act_failed None c2 a = tt
         act_failed (Some f) c2 a =
             let at_least = g.counted in
@@ -159,7 +160,7 @@ module _ {most : ℕ} {w : World} {place : Place} {code : Code} {c0 : Config} wh
             subst (λ k. Ends w place code 0 c0 (Broken f k)) z (g.leads.by (Broken f (1 + 0)) tt (step_ends w place code ip c i (Faults f) 0 (Broken f 0) e (ap (λ h. act h (ip + 1) i c) (sym same) ∙ a) refl))
 
   -- at the end
-  pub finished : {n0 ip : ℕ} {c : Config} {n n2 : ℕ} → Progress most w place code c0 n0 ip c n → slice_get code ip ≡ None → n2 ≡ n → Ends w place code 0 c0 (Finished c (n2 - n0))
+  pub finished : {n0 ip : ℕ} {c : Config} {n n2 : ℕ} → Advance most w place code c0 n0 ip c n → slice_get code ip ≡ None → n2 ≡ n → Ends w place code 0 c0 (Finished c (n2 - n0))
   finished {n0} {ip} {c} {n} {n2} g e m =
       let z : n - n0 + 0 ≡ n2 - n0 = omega arith in
       subst (λ k. Ends w place code 0 c0 (Finished c k)) z (g.leads.by (Finished c 0) tt (ends_here w place code ip c e))

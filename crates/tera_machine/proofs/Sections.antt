@@ -15,8 +15,7 @@ use Rattle.tera_meaning.specs.Run.{Run, Signal, On, Broke, Continued, Oracle, Me
 use Rattle.tera_meaning.specs.Meaning.{put_out, written, component_meaning_in, entries_meaning, filters_meaning}
 use Rattle.tera_code.specs.declared.instruction.Instruction.{Instruction}
 use Rattle.tera_code.specs.declared.instruction.Instruction.TheVariants as instruction
-use Rattle.tera_code.specs.Code.{entries_code, keys_in, arguments_code, argument_names, filters_code, section_code, captured_code, handed_code}
-use Rattle.tera_machine.specs.Exec.{Code}
+use Rattle.tera_code.specs.Code.{Code, entries_code, keys_in, arguments_code, argument_names, filters_code, section_code, captured_code, handed_code}
 use Rattle.tera_machine.proofs.Literals.{push_all, firsts, seconds}
 use Rattle.tera_machine.proofs.Places.{StandsAt, stands_front, stands_back}
 use Rattle.tera_machine.proofs.Counted.{Runs, Below, done, spend, first, onward_runs, onward_lent, onward_where, put_back_runs}

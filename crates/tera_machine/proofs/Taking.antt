@@ -6,12 +6,13 @@ use Rattle.tera_errors.specs.Fault.{Fault}
 use Rattle.tera_meaning.specs.Run.{Request}
 use Rattle.tera_meaning.specs.Whole.{World, Place, Refuses, way, here_at}
 use Rattle.tera_code.specs.declared.instruction.Instruction.{Instruction}
+use Rattle.tera_code.specs.Code.{Code}
 use Rattle.tera_machine.specs.Config.{Config}
 use Rattle.tera_machine.specs.Flow.{Use, Ask}
 use Rattle.tera_machine.specs.Did.{Goes}
 use Rattle.tera_machine.specs.Act.{act}
-use Rattle.tera_machine.specs.Exec.{Code, End, Finished, Broken, Unfinished, Stuck, then_on, entered, left, back, leaving, taken, body_by, exec, Within, IsOver, Ends, EndsWithin, BodyEnds}
-use Rattle.tera_machine.specs.Progress.{Progress, BodyWithin}
+use Rattle.tera_machine.specs.Exec.{End, Finished, Broken, Unfinished, Stuck, then_on, entered, left, back, leaving, taken, body_by, exec, Within, IsOver, Ends, EndsWithin, BodyEnds}
+use Rattle.tera_machine.specs.Advance.{Advance, BodyWithin}
 use Rattle.tera_machine.specs.Bodies.{Entered}
 use Rattle.tera_machine.proofs.Ends.{within_less, within_step, body_deeper, same_end, further, ask_leads, ask_breaks}
 
@@ -39,7 +40,7 @@ within_leaving m q u c Stuck h = h
 
 -- at an instruction that takes another body
 pub record AtAsk (most : ℕ) (w : World) (p : Place) (code : Code) (c0 : Config) (n0 ip : ℕ) (c : Config) (n : ℕ) (i : Instruction) (c2 : Config) (n2 : ℕ) (q : Request) (u : Use) : Type 0 where
-  pub progress : Progress most w p code c0 n0 ip c n
+  pub progress : Advance most w p code c0 n0 ip c n
   pub is : slice_get code ip ≡ Some i
   pub count : n2 ≡ n + 1
   pub did : act (here_at w p) (ip + 1) i c ≡ Goes c2 (Ask q u)
@@ -75,7 +76,7 @@ module _ {most : ℕ} {w : World} {p : Place} {code : Code} {c0 : Config} {n0 ip
           (cases_lt a b)
 
   -- where the body ended, the run goes on behind it
-  pub came_back : (c4 : Config) (n3 : ℕ) → n2 ≤ n3 → (n2 ≤ most → n3 ≤ most) → BodyEnds w p q u c2 (Finished c4 (n3 - n2)) → Progress most w p code c0 n0 (ip + 1) c4 n3
+  pub came_back : (c4 : Config) (n3 : ℕ) → n2 ≤ n3 → (n2 ≤ most → n3 ≤ most) → BodyEnds w p q u c2 (Finished c4 (n3 - n2)) → Advance most w p code c0 n0 (ip + 1) c4 n3
   came_back c4 n3 le up y =
       let x = ask_step in
       let m = at.count in

@@ -5,12 +5,12 @@ use Rattle.std.proofs.lemmas.Option.{slice_get_cases}
 use Rattle.tera_meaning.specs.Here.{Here}
 use Rattle.tera_meaning.specs.Whole.{World, Place, here_at}
 use Rattle.tera_code.specs.declared.instruction.Instruction.{Instruction}
+use Rattle.tera_code.specs.Code.{Code}
 use Rattle.tera_machine.specs.Config.{Config}
 use Rattle.tera_machine.specs.Flow.{Flow, On, Skip, To, Out, Ask}
 use Rattle.tera_machine.specs.Did.{Did, Goes, Faults, Sticks}
 use Rattle.tera_machine.specs.Act.{act}
-use Rattle.tera_machine.specs.Exec.{Code}
-use Rattle.tera_machine.specs.Progress.{Progress}
+use Rattle.tera_machine.specs.Advance.{Advance}
 use Rattle.tera_machine.specs.Together.{done, done_at, onto, WentOn}
 use Rattle.tera_machine.proofs.Runs.{goes_on}
 use Rattle.tera_machine.proofs.Still.{still}
@@ -86,24 +86,24 @@ module _ (here : Here) (code : Code) where
 
 module _ {most : ℕ} {w : World} {place : Place} {code : Code} {c0 : Config} {n0 : ℕ} where
   -- a run comes to where all of them went on
-  pub went_through : (k ip n : ℕ) (c c2 : Config) → Progress most w place code c0 n0 ip c n → done (here_at w place) code k ip c ≡ Goes c2 On → Progress most w place code c0 n0 (ip + k) c2 (n + k)
+  pub went_through : (k ip n : ℕ) (c c2 : Config) → Advance most w place code c0 n0 ip c n → done (here_at w place) code k ip c ≡ Goes c2 On → Advance most w place code c0 n0 (ip + k) c2 (n + k)
   went_through zero ip n c c2 g e =
       let p : ip ≡ ip + 0 = omega arith in
       let m : n ≡ n + 0 = omega arith in
-      subst (λ q. Progress most w place code c0 n0 q c2 (n + 0)) p (subst (λ q. Progress most w place code c0 n0 ip c2 q) m (subst (λ d. Progress most w place code c0 n0 ip d n) (goes_same e) g))
+      subst (λ q. Advance most w place code c0 n0 q c2 (n + 0)) p (subst (λ q. Advance most w place code c0 n0 ip c2 q) m (subst (λ d. Advance most w place code c0 n0 ip d n) (goes_same e) g))
   went_through (suc k) ip n c c2 g e =
       let l = last_went (here_at w place) code k ip c c2 e in
       let before = went_through k ip n c l.0 g l.2 in
       let p : ip + k + 1 ≡ ip + suc k = omega arith in
       let m : n + suc k ≡ n + k + 1 = omega arith in
-      subst (λ q. Progress most w place code c0 n0 q c2 (n + suc k)) p (goes_on before refl l.3 m l.4)
+      subst (λ q. Advance most w place code c0 n0 q c2 (n + suc k)) p (goes_on before refl l.3 m l.4)
 
 -- where the last one stands of those that are done together
 pub record Last (most : ℕ) (w : World) (place : Place) (code : Code) (c0 : Config) (n0 at n2 : ℕ) (c : Config) (d : Did) : Type 0 where
   pub before : ℕ
   pub instruction : Instruction
   pub config : Config
-  pub progress : Progress most w place code c0 n0 at config before
+  pub progress : Advance most w place code c0 n0 at config before
   pub found : slice_get code at ≡ Some instruction
   pub count : n2 ≡ before + 1
   pub did : act (here_at w place) (at + 1) instruction config ≡ d
@@ -115,7 +115,7 @@ there code at lt = elim ((slice_get_cases code at).1) [
   | inr t ↦ absurd (omega (arith, t.0, lt))
 ]
 
-pub last_of : {most : ℕ} {w : World} {place : Place} {code : Code} {c0 : Config} {n0 ip n n1 n2 at : ℕ} {c : Config} {here : Here} → Progress most w place code c0 n0 ip c n → here ≡ here_at w place → n1 ≡ n + 1 → n1 ≤ n2 → at ≡ ip + (n2 - n1) → at < length code → WentOn (done here code (n2 - n1) ip c) → Last most w place code c0 n0 at n2 c (done here code (suc (n2 - n1)) ip c)
+pub last_of : {most : ℕ} {w : World} {place : Place} {code : Code} {c0 : Config} {n0 ip n n1 n2 at : ℕ} {c : Config} {here : Here} → Advance most w place code c0 n0 ip c n → here ≡ here_at w place → n1 ≡ n + 1 → n1 ≤ n2 → at ≡ ip + (n2 - n1) → at < length code → WentOn (done here code (n2 - n1) ip c) → Last most w place code c0 n0 at n2 c (done here code (suc (n2 - n1)) ip c)
 last_of {most} {w} {place} {code} {c0} {n0} {ip} {n} {n1} {n2} {at} {c} g same m le a lt went =
     let k = n2 - n1 in
     let before = went_to _ (subst (λ h. WentOn (done h code k ip c)) same went) in

@@ -2,7 +2,7 @@
 use Rattle.std.proofs.Common.{◌≡◌, ◌≢◌, ℕ, ◌-◌, ◌≤◌, true, List, [], ◌∷◌, ◌++◌, Some, None, Result, Ok, Err, refl, sym, ap, ap₂, ◌∙◌, subst, append_assoc, append-nil}
 use Rattle.tera_errors.specs.Site.{Name, Text}
 use Rattle.std.specs.Prelude.{OnOk, IfErr}
-use Rattle.tera_errors.specs.Answer.{Refusal, Lacks}
+use Rattle.tera_errors.specs.Answer.{SeenError, Lacks}
 use Rattle.tera_state.specs.Scope.{Turn}
 use Rattle.tera_state.specs.Scopes.{around_of, coming_of, coming_around}
 use Rattle.tera_meaning.specs.Run.{Request}
@@ -11,6 +11,7 @@ use Rattle.tera_code.specs.declared.instruction.Instruction.{Instruction}
 use Rattle.tera_registry.specs.Templates.{definers_of}
 use Rattle.tera_registry.specs.declared.templates.Definer.{Definer as Nearest}
 use Rattle.tera_code.specs.Listing.{Listing}
+use Rattle.tera_code.specs.Code.{Code}
 use Rattle.tera_machine.specs.declared.asked.Asked.{Asked}
 use Rattle.tera_machine.specs.declared.asked.Asked.TheVariants as asked
 use Rattle.tera_machine.specs.declared.bodies.Inside.{Inside}
@@ -21,8 +22,8 @@ use Rattle.tera_machine.specs.declared.place.LoopPlace.{LoopPlace}
 use Rattle.tera_machine.specs.Config.{Config, Loop, config_of, loops_at}
 use Rattle.tera_machine.specs.Flow.{Use, Written, Pushed, request_of, use_of}
 use Rattle.tera_machine.specs.Act.{beneath, beneath_in}
-use Rattle.tera_machine.specs.Exec.{Code, End, Finished, entered, used, left, left_in, Ends, EndsWithin, BodyEnds, Ran}
-use Rattle.tera_machine.specs.Progress.{BodyWithin}
+use Rattle.tera_machine.specs.Exec.{End, Finished, entered, used, left, left_in, Ends, EndsWithin, BodyEnds, Ran}
+use Rattle.tera_machine.specs.Advance.{BodyWithin}
 use Rattle.tera_machine.specs.Included.{names_in}
 use Rattle.tera_machine.specs.Subject.{template_of, place_at, place_of}
 use Rattle.tera_machine.specs.Bodies.{opened_by, closed_by, IsBody, FindsBody, Entered, Enters, closed_in, Leaves, Stays, BodyRan}
@@ -74,7 +75,7 @@ at_place {w} {p} {p0} {q} {u} {c} {n} e h = subst (λ x. BodyWithin w x q u c n)
 pub ends_at : {w : World} {p p0 : Place} {q : Request} {u : Use} {c : Config} {o : End} → p ≡ p0 → BodyEnds w p q u c o → BodyEnds w p0 q u c o
 ends_at {w} {p} {p0} {q} {u} {c} {o} e h = subst (λ x. BodyEnds w x q u c o) e h
 
-pub take_failed : {most : ℕ} {w : World} {p p0 : Place} {code : Code} {c0 : Config} {n0 ip : ℕ} {c : Config} {n : ℕ} {i : Instruction} {c2 : Config} {n2 : ℕ} {q : Request} {u : Use} → p ≡ p0 → AtAsk most w p0 code c0 n0 ip c n i c2 n2 q u → (r : Refusal) (c3 : Config) (n3 : ℕ) → n2 ≤ n3 → BodyRan w p q u c2 (Err r) c3 (n3 - n2) → Ran w p0 code c0 (Err r) c3 (n3 - n0)
+pub take_failed : {most : ℕ} {w : World} {p p0 : Place} {code : Code} {c0 : Config} {n0 ip : ℕ} {c : Config} {n : ℕ} {i : Instruction} {c2 : Config} {n2 : ℕ} {q : Request} {u : Use} → p ≡ p0 → AtAsk most w p0 code c0 n0 ip c n i c2 n2 q u → (r : SeenError) (c3 : Config) (n3 : ℕ) → n2 ≤ n3 → BodyRan w p q u c2 (Err r) c3 (n3 - n2) → Ran w p0 code c0 (Err r) c3 (n3 - n0)
 take_failed e at None c3 n3 le h = tt
 take_failed e at (Some f) c3 n3 le h = body_failed at f n3 le (ends_at e h)
 
@@ -140,7 +141,7 @@ pub no_captures : (ls : List Loop) (cs : List Text) (q : Request) (u : Use) (c0 
 no_captures (l ∷ ls) cs q u c0 c3 e = refl
 no_captures [] cs q u c0 c3 e = ap (λ ts. left_in [] ts q u c0 c3) e
 
-pub lacked : (w : World) (p : Place) (q : Request) (u : Use) (c c' : Config) (k : ℕ) (r : Refusal) → r ≡ None → BodyRan w p q u c (Err r) c' k
+pub lacked : (w : World) (p : Place) (q : Request) (u : Use) (c c' : Config) (k : ℕ) (r : SeenError) → r ≡ None → BodyRan w p q u c (Err r) c' k
 lacked w p q u c c' k r e = subst (λ x. BodyRan w p q u c (Err x) c' k) (sym e) tt
 
 module _ (w : World) {O : Type 0} (m : VirtualMachine O) (file : Name) (a : Asked) (b0 : OpenBlocks) (c0 : Configuration) {most : ℕ} (may : BodyWithin w (place_at m file b0 c0) (request_of a) (use_of a) (config_of c0) most) where
@@ -198,28 +199,28 @@ module _ (w : World) {O : Type 0} (m : VirtualMachine O) (file : Name) (a : Aske
         }
 
         -- the body is over, unless memory was refused
-        pub body_over : (r : Result (Unit {0}) Refusal) → OnOk r (Leaves a inside b3 c3 b4 c4) → IfErr r Lacks → BodyRan w (place_at m file b0 c0) (request_of a) (use_of a) (config_of c0) r (config_of c4) j
+        pub body_over : (r : Result (Unit {0}) SeenError) → OnOk r (Leaves a inside b3 c3 b4 c4) → IfErr r Lacks → BodyRan w (place_at m file b0 c0) (request_of a) (use_of a) (config_of c0) r (config_of c4) j
         body_over (Ok done) leaves lacks = took leaves
         body_over (Err r) leaves lacks = lacked w (place_at m file b0 c0) (request_of a) (use_of a) (config_of c0) (config_of c4) j r lacks
 
-        pub body_stayed : (r : Result (Unit {0}) Refusal) → OnOk r (Leaves a inside b3 c3 b4 c4) → OnOk r (Stays b0 c0 b4 c4)
+        pub body_stayed : (r : Result (Unit {0}) SeenError) → OnOk r (Leaves a inside b3 c3 b4 c4) → OnOk r (Stays b0 c0 b4 c4)
         body_stayed (Ok done) leaves = stayed leaves
         body_stayed (Err r) leaves = tt
 
     -- a fault in the body
-    pub run_failed : (r : Refusal) (c3 : Config) (j : ℕ) → Ran w (place_at m inside.chunk.now.file b1 c1) inside.chunk.now.code (config_of c1) (Err r) c3 j → BodyRan w (place_at m file b0 c0) (request_of a) (use_of a) (config_of c0) (Err r) c3 j
+    pub run_failed : (r : SeenError) (c3 : Config) (j : ℕ) → Ran w (place_at m inside.chunk.now.file b1 c1) inside.chunk.now.code (config_of c1) (Err r) c3 j → BodyRan w (place_at m file b0 c0) (request_of a) (use_of a) (config_of c0) (Err r) c3 j
     run_failed None c3 j x = tt
     run_failed (Some f) c3 j x = body_broke entry.0 f j x
 
   -- a request that is refused
-  pub enter_failed : (r : Refusal) (b1 : OpenBlocks) (c1 : Configuration) (k : ℕ) → k ≡ 0 → Enters w m file a b0 c0 (Err r) b1 c1 → BodyRan w (place_at m file b0 c0) (request_of a) (use_of a) (config_of c0) (Err r) (config_of c1) k
+  pub enter_failed : (r : SeenError) (b1 : OpenBlocks) (c1 : Configuration) (k : ℕ) → k ≡ 0 → Enters w m file a b0 c0 (Err r) b1 c1 → BodyRan w (place_at m file b0 c0) (request_of a) (use_of a) (config_of c0) (Err r) (config_of c1) k
   enter_failed None b1 c1 k z h = tt
   enter_failed (Some f) b1 c1 k z h = refused f k z h
 
 -- what is not found is not entered
-pub not_found : (w : World) {O : Type 0} (m : VirtualMachine O) (file : Name) (a : Asked) (b0 : OpenBlocks) (c0 : Configuration) (r : Refusal) (b : OpenBlocks) (c : Configuration) → FindsBody w (place_at m file b0 c0) a (config_of c0).run.vars (Err r) → Enters w m file a b0 c0 (Err r) b c
+pub not_found : (w : World) {O : Type 0} (m : VirtualMachine O) (file : Name) (a : Asked) (b0 : OpenBlocks) (c0 : Configuration) (r : SeenError) (b : OpenBlocks) (c : Configuration) → FindsBody w (place_at m file b0 c0) a (config_of c0).run.vars (Err r) → Enters w m file a b0 c0 (Err r) b c
 not_found w m file a b0 c0 None b c h = tt
 not_found w m file a b0 c0 (Some f) b c h = h
 
-pub enter_lacks : (w : World) {O : Type 0} (m : VirtualMachine O) (file : Name) (a : Asked) (b0 : OpenBlocks) (c0 : Configuration) (r : Refusal) (b : OpenBlocks) (c : Configuration) → r ≡ None → Enters w m file a b0 c0 (Err r) b c
+pub enter_lacks : (w : World) {O : Type 0} (m : VirtualMachine O) (file : Name) (a : Asked) (b0 : OpenBlocks) (c0 : Configuration) (r : SeenError) (b : OpenBlocks) (c : Configuration) → r ≡ None → Enters w m file a b0 c0 (Err r) b c
 enter_lacks w m file a b0 c0 r b c e = subst (λ x. Enters w m file a b0 c0 (Err x) b c) (sym e) tt

@@ -8,10 +8,10 @@ use Rattle.tera_meaning.specs.Run.{Run, Signal, On, Broke, Continued, Gave, Mean
 use Rattle.tera_meaning.specs.Meaning.{after_turn, loop, loop_or_else}
 use Rattle.tera_code.specs.declared.instruction.Instruction.{Instruction}
 use Rattle.tera_code.specs.declared.instruction.Instruction.TheVariants.{NextTurn, EndLoop}
+use Rattle.tera_code.specs.Code.{Code}
 use Rattle.tera_machine.specs.Config.{Config}
 use Rattle.tera_machine.specs.Loops.{begun_over}
 use Rattle.tera_machine.specs.Act.{act}
-use Rattle.tera_machine.specs.Exec.{Code}
 use Rattle.tera_machine.proofs.Ends.{on_leads, skip_leads, to_leads}
 use Rattle.tera_machine.proofs.Counted.{Spot, Reaches, Runs, done, spend, step, none, adjust, onward_runs}
 use Rattle.tera_machine.proofs.Arrivals.{Base, in_loop, config_at, spot, changed, Arrive}

@@ -5,7 +5,7 @@ use Rattle.tera_errors.specs.declared.span.Span.{Span}
 use Rattle.tera_errors.specs.Site as site
 use Rattle.tera_errors.specs.Site.{Site, Text}
 use Rattle.tera_errors.specs.Fault.{Fault, rendering_error}
-use Rattle.tera_errors.specs.Answer.{Refusal}
+use Rattle.tera_errors.specs.Answer.{SeenError}
 use Rattle.tera_syntax_tree.specs.Tree.{Key}
 use Rattle.tera_syntax_tree.specs.declared.expression.BinaryOperator.{BinaryOperator}
 use Rattle.tera_values.specs.Alphabet.{plain}
@@ -240,7 +240,7 @@ act here next (ApplyTest name names span) = test_called here name names span
 act here next (CallFunction name names span) = function_answered here name names span
 
 -- the code did so, unless memory was refused
-abbrev pub Acted : Did → Result declared.Flow Refusal → Config → Type 0
+abbrev pub Acted : Did → Result declared.Flow SeenError → Config → Type 0
 Acted d (Ok flow) c = d ≡ Goes c (flow_of flow)
 Acted d (Err None) c = Unit {0}
 Acted d (Err (Some fault)) c = d ≡ Faults fault
@@ -268,18 +268,18 @@ abbrev pub beneath : Configuration → List (List (List Turn))
 beneath c = beneath_in c.places (coming_of c.scopes) ∷ coming_around c.scopes
 
 -- the code does this to a configuration; what is around its variables stays, and so do the loops around the body
-abbrev pub Does : (Config → Did) → Configuration → Result declared.Flow Refusal → Configuration → Type 0
+abbrev pub Does : (Config → Did) → Configuration → Result declared.Flow SeenError → Configuration → Type 0
 Does does before result after =
     Acted (does (config_of before)) result (config_of after)
     × ((around_of after.scopes ≡ around_of before.scopes) × OnOk result (beneath after ≡ beneath before))
 
 -- what goes on at the next instruction, unless memory was refused
-abbrev pub going_on : {E : Type 0} → Result (Unit {0}) E → Result declared.Flow Refusal
+abbrev pub going_on : {E : Type 0} → Result (Unit {0}) E → Result declared.Flow SeenError
 going_on (Ok u) = Ok declared_flow.On
 going_on (Err e) = Err None
 
 -- the same of a value, which may be undefined: that is a fault there
-abbrev pub going_on_if : {E : Type 0} → Site → Result Bool E → Result declared.Flow Refusal
+abbrev pub going_on_if : {E : Type 0} → Site → Result Bool E → Result declared.Flow SeenError
 going_on_if site (Ok true) = Ok declared_flow.On
 going_on_if site (Ok false) = Err (Some (rendering_error site))
 going_on_if site (Err e) = Err None

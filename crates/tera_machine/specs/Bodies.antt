@@ -1,14 +1,14 @@
 -- How the machine takes the body of a block, and how it leaves it.
 use Rattle.std.specs.Prelude.{◌≡◌, ℕ, List, [], ◌∷◌, ◌++◌, drop, Some, None, Result, Ok, Err}
 use Rattle.tera_errors.specs.Site.{Name, Text}
-use Rattle.tera_errors.specs.Answer.{Refusal}
+use Rattle.tera_errors.specs.Answer.{SeenError}
 use Rattle.tera_syntax_tree.specs.Tree.{Nodes}
 use Rattle.tera_state.specs.Scope.{Variables}
 use Rattle.tera_state.specs.Scopes.{around_of, coming_of}
 use Rattle.tera_meaning.specs.Lineage.{Definer}
 use Rattle.tera_meaning.specs.Run.{Request}
 use Rattle.tera_meaning.specs.Whole.{World, Place, Refuses, Takes, way, left_of}
-use Rattle.tera_code.specs.Code.{nodes_code, listing_of}
+use Rattle.tera_code.specs.Code.{Code, nodes_code, listing_of}
 use Rattle.tera_registry.specs.Templates.{definers_of}
 use Rattle.tera_registry.specs.declared.templates.Definer.{Definer as Nearest}
 use Rattle.tera_machine.specs.declared.asked.Asked.{Asked}
@@ -20,7 +20,7 @@ use Rattle.tera_machine.specs.declared.blocks.OpenBlocks.{OpenBlocks}
 use Rattle.tera_machine.specs.Config.{Config, Loop, config_of, loops_at}
 use Rattle.tera_machine.specs.Flow.{Use, request_of, use_of}
 use Rattle.tera_machine.specs.Act.{beneath}
-use Rattle.tera_machine.specs.Exec.{Code, Finished, Broken, entered, used, BodyEnds}
+use Rattle.tera_machine.specs.Exec.{Finished, Broken, entered, used, BodyEnds}
 use Rattle.tera_machine.specs.Subject.{place_at}
 use Rattle.tera_machine.specs.Wanted.{ended_by, Noted}
 
@@ -40,7 +40,7 @@ pub record IsBody (w : World) (p : Place) (a : Asked) (v : Variables) (nearest :
   pub code : nearest.chunk.now ≡ listing_of definer.file definer.body
 
 -- the body is found, or the request is refused, unless memory was refused
-abbrev pub FindsBody : World → Place → Asked → Variables → Result Nearest Refusal → Type 0
+abbrev pub FindsBody : World → Place → Asked → Variables → Result Nearest SeenError → Type 0
 FindsBody w p a v (Ok nearest) = IsBody w p a v nearest
 FindsBody w p a v (Err None) = Unit {0}
 FindsBody w p a v (Err (Some fault)) = way w p (request_of a) v ≡ Refuses fault
@@ -64,7 +64,7 @@ pub record Keeps (a : Asked) (inside : Inside) (blocks0 : OpenBlocks) (c0 : Conf
   pub none : c.places ≡ []
   pub scopes : c.scopes ≡ c0.scopes
 
-abbrev pub Enters : {O : Type 0} → World → VirtualMachine O → Name → Asked → OpenBlocks → Configuration → Result Inside Refusal → OpenBlocks → Configuration → Type 0
+abbrev pub Enters : {O : Type 0} → World → VirtualMachine O → Name → Asked → OpenBlocks → Configuration → Result Inside SeenError → OpenBlocks → Configuration → Type 0
 Enters w m file a blocks0 c0 (Ok inside) blocks c =
     Entered w (place_at m file blocks0 c0) (request_of a) (config_of c0) (place_at m inside.chunk.now.file blocks c) inside.chunk.now.code (config_of c)
     × Keeps a inside blocks0 c0 blocks c
@@ -99,7 +99,7 @@ pub record Stays (blocks0 : OpenBlocks) (c0 : Configuration) (blocks : OpenBlock
   pub noted : Noted blocks0.wanted since blocks.wanted
 
 -- a request was answered as the machine does, unless memory was refused
-abbrev pub BodyRan : World → Place → Request → Use → Config → Result (Unit {0}) Refusal → Config → ℕ → Type 0
+abbrev pub BodyRan : World → Place → Request → Use → Config → Result (Unit {0}) SeenError → Config → ℕ → Type 0
 BodyRan w p q u c (Ok done) c' k = BodyEnds w p q u c (Finished c' k)
 BodyRan w p q u c (Err None) c' k = Unit {0}
 BodyRan w p q u c (Err (Some f)) c' k = BodyEnds w p q u c (Broken f k)

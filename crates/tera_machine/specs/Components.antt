@@ -1,7 +1,7 @@
 -- Which component a request takes, and the context in which it runs.
 use Rattle.std.specs.Prelude.{◌≡◌, suc, List, [], ◌∷◌, Option, None, Some, Result, Ok, Err, bytes_eq, if◌then◌else◌}
 use Rattle.tera_errors.specs.Site.{Name}
-use Rattle.tera_errors.specs.Answer.{Refusal}
+use Rattle.tera_errors.specs.Answer.{SeenError}
 use Rattle.tera_syntax_tree.specs.Tree.{Nodes}
 use Rattle.tera_state.specs.Scope.{Variables, in_component, nothing_set}
 use Rattle.tera_components.specs.Definition.{Definition, definition_of}
@@ -34,7 +34,7 @@ pub record IsCalled (w : World) (p : Place) (q : Request) (v : Variables) (calle
   pub depth : called.depth ≡ suc p.depth
 
 -- the component is called, or the request is refused, unless memory was refused
-abbrev pub Calls : World → Place → Request → Variables → Result Called Refusal → Type 0
+abbrev pub Calls : World → Place → Request → Variables → Result Called SeenError → Type 0
 Calls w p q v (Ok called) = IsCalled w p q v called
 Calls w p q v (Err None) = Unit {0}
 Calls w p q v (Err (Some fault)) = way w p q v ≡ Refuses fault

@@ -2,20 +2,17 @@
 use Rattle.std.specs.Prelude.{◌≡◌, ℕ, zero, suc, ◌+◌, ◌≤◌, nat_le, cond, List, [], ◌∷◌, ◌++◌, length, Option, Some, None, Result, Ok, Err, slice_get}
 use Rattle.tera_errors.specs.Site.{Text}
 use Rattle.tera_errors.specs.Fault.{Fault}
-use Rattle.tera_errors.specs.Answer.{Refusal}
+use Rattle.tera_errors.specs.Answer.{SeenError}
 use Rattle.tera_values.specs.Val.{text}
 use Rattle.tera_state.specs.Scope.{Variables}
 use Rattle.tera_meaning.specs.Run.{Run, Request, begun}
 use Rattle.tera_meaning.specs.Whole.{World, Place, Way, Refuses, Takes, way, left_of, here_at}
 use Rattle.tera_code.specs.declared.instruction.Instruction.{Instruction}
-use Rattle.tera_code.specs.Code.{nodes_code}
+use Rattle.tera_code.specs.Code.{Code, nodes_code}
 use Rattle.tera_machine.specs.Config.{Config, Loop}
 use Rattle.tera_machine.specs.Flow.{Use, Written, Pushed, On, Skip, To, Out, Ask}
 use Rattle.tera_machine.specs.Did.{Did, Goes, Faults, Sticks}
 use Rattle.tera_machine.specs.Act.{act}
-
-abbrev pub Code : Type 0
-Code = List Instruction
 
 -- how a run ends, and after how many instructions
 pub data End : Type 0 where
@@ -136,7 +133,7 @@ pub record BodyEnds (w : World) (p : Place) (q : Request) (u : Use) (c : Config)
   pub is : body_by w (exec w depth) p q u c ≡ o
 
 -- the code ended as the machine does, unless memory was refused
-abbrev pub Ran : World → Place → Code → Config → Result (Unit {0}) Refusal → Config → ℕ → Type 0
+abbrev pub Ran : World → Place → Code → Config → Result (Unit {0}) SeenError → Config → ℕ → Type 0
 Ran w p code c (Ok u) c' k = Ends w p code 0 c (Finished c' k)
 Ran w p code c (Err None) c' k = Unit {0}
 Ran w p code c (Err (Some f)) c' k = Ends w p code 0 c (Broken f k)

@@ -1,16 +1,16 @@
 -- Which template an include takes.
 use Rattle.std.specs.Prelude.{◌≡◌, None, Some, Result, Ok, Err}
-use Rattle.tera_errors.specs.Answer.{Refusal}
+use Rattle.tera_errors.specs.Answer.{SeenError}
 use Rattle.tera_state.specs.Scope.{Variables, nothing_set}
 use Rattle.tera_meaning.specs.Registry.{Entry}
 use Rattle.tera_meaning.specs.Run.{Request}
 use Rattle.tera_meaning.specs.Whole.{World, Place, Refuses, Takes, way, place_of_include}
 use Rattle.tera_code.specs.Code.{listing_of}
 use Rattle.tera_registry.specs.Templates.{with_templates}
-use Rattle.tera_registry.specs.declared.templates.Found.{Found}
+use Rattle.tera_registry.specs.declared.templates.FoundTemplate.{FoundTemplate}
 
 -- the template that an include takes, with the code of its own body
-pub record IsTemplate (w : World) (p : Place) (q : Request) (v : Variables) (found : Found) : Type 0 where
+pub record IsTemplate (w : World) (p : Place) (q : Request) (v : Variables) (found : FoundTemplate) : Type 0 where
   pub entry : Entry
   pub takes : way w p q v ≡ Takes (place_of_include p v entry.0) nothing_set entry.1.tree.nodes
   pub named : found.name.now ≡ entry.0
@@ -18,7 +18,7 @@ pub record IsTemplate (w : World) (p : Place) (q : Request) (v : Variables) (fou
   pub among : with_templates w.registry found.templates.now ≡ w.registry
 
 -- the template is found, or the request is refused, unless memory was refused
-abbrev pub FindsTemplate : World → Place → Request → Variables → Result Found Refusal → Type 0
+abbrev pub FindsTemplate : World → Place → Request → Variables → Result FoundTemplate SeenError → Type 0
 FindsTemplate w p q v (Ok found) = IsTemplate w p q v found
 FindsTemplate w p q v (Err None) = Unit {0}
 FindsTemplate w p q v (Err (Some fault)) = way w p q v ≡ Refuses fault

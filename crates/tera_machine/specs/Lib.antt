@@ -8,7 +8,7 @@ pub mod Act
 pub mod Exec
 pub mod Together
 pub mod Paths
-pub mod Progress
+pub mod Advance
 pub mod Included
 pub mod Subject
 pub mod Wanted

@@ -1,16 +1,16 @@
 -- How far the reading of a path has come.
 use Rattle.std.specs.Prelude.{◌≡◌, ℕ, suc, ◌+◌, ◌-◌, ◌<◌, ◌≤◌, ◌∷◌, length, Result, Ok, Err}
 use Rattle.tera_errors.specs.Site.{Name}
-use Rattle.tera_errors.specs.Answer.{Refusal}
+use Rattle.tera_errors.specs.Answer.{SeenError}
 use Rattle.tera_operators.specs.Operand.{Evaluated, Outcome}
 use Rattle.tera_operators.specs.Operators.{binary_of}
 use Rattle.tera_code.specs.declared.comparison.Comparison.{Comparison}
+use Rattle.tera_code.specs.Code.{Code}
 use Rattle.tera_meaning.specs.Here.{Here}
 use Rattle.tera_machine.specs.Config.{Config}
 use Rattle.tera_machine.specs.Flow.{On}
 use Rattle.tera_machine.specs.Did.{Goes, holding}
 use Rattle.tera_machine.specs.Act.{Acted}
-use Rattle.tera_machine.specs.Exec.{Code}
 use Rattle.tera_machine.specs.Together.{done, WentOn}
 
 -- where a reading begins: its place, the count behind the instruction there, and the configuration
@@ -44,7 +44,7 @@ abbrev pub Reaches : Start → Code → ℕ → ℕ → Evaluated → Type 0
 Reaches s code at n a = Comes s code at n (topped a s.config)
 
 -- and the last one did not go on, for this reason
-abbrev pub Breaks : Start → Code → ℕ → Refusal → Type 0
+abbrev pub Breaks : Start → Code → ℕ → SeenError → Type 0
 Breaks s code n e = (c : Config) → Acted (done s.here code (suc (n - s.count)) s.at s.config) (Err e) c
 
 -- the constant with which an operand is compared

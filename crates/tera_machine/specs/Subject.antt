@@ -1,7 +1,7 @@
 -- What a run of the machine is about.
 use Rattle.std.specs.Prelude.{◌≡◌, [], List, map, Option, Some, None, Result, Ok, Err, option_map}
 use Rattle.tera_errors.specs.Site.{Name}
-use Rattle.tera_errors.specs.Answer.{Refusal}
+use Rattle.tera_errors.specs.Answer.{SeenError}
 use Rattle.tera_syntax_tree.specs.Tree.{Nodes}
 use Rattle.tera_state.specs.Scopes.{around_of}
 use Rattle.tera_objects.specs.Engine.{Engine}
@@ -15,7 +15,7 @@ use Rattle.tera_meaning.specs.Meaning.{nodes_meaning}
 use Rattle.tera_meaning.specs.Whole.{World, Place, here_at, whole}
 use Rattle.tera_registry.specs.Components.{kept_of, kept_as}
 use Rattle.tera_registry.specs.Templates.{with_templates, definers_of}
-use Rattle.tera_registry.specs.declared.templates.Found.{Found}
+use Rattle.tera_registry.specs.declared.templates.FoundTemplate.{FoundTemplate}
 use Rattle.tera_machine.specs.declared.blocks.OpenBlocks.{OpenBlocks}
 use Rattle.tera_machine.specs.declared.components.Beside.{Beside}
 use Rattle.tera_machine.specs.declared.configuration.Configuration.{Configuration}
@@ -45,7 +45,7 @@ engine_of engine m = engine m.objects.now
 abbrev pub template_of : {O : Type 0} → VirtualMachine O → Option Name
 template_of m = option_map (λ f. f.name.now) m.template
 
-abbrev pub is_from : Option Found → Registry → Type 0
+abbrev pub is_from : Option FoundTemplate → Registry → Type 0
 is_from None r = Unit {0}
 is_from (Some found) r = with_templates r found.templates.now ≡ r
 
@@ -98,7 +98,7 @@ here_of engine m file c = record {
 }
 
 -- the run gave what is meant, and all that waited waits as before, unless memory was refused
-abbrev pub Means : Answer Signal → Config → Result (Unit {0}) Refusal → Config → Type 0
+abbrev pub Means : Answer Signal → Config → Result (Unit {0}) SeenError → Config → Type 0
 Means (Gave signal run n) before (Ok u) after = after ≡ record before { run = run }
 Means (Gave signal run n) before (Err None) after = Unit {0}
 Means (Gave signal run n) before (Err (Some fault)) after = ⊥

@@ -2,11 +2,11 @@
 use Rattle.std.specs.Prelude.{ℕ, zero, suc, ◌+◌, Option, Some, None, slice_get}
 use Rattle.tera_meaning.specs.Here.{Here}
 use Rattle.tera_code.specs.declared.instruction.Instruction.{Instruction}
+use Rattle.tera_code.specs.Code.{Code}
 use Rattle.tera_machine.specs.Config.{Config}
 use Rattle.tera_machine.specs.Flow.{On, Skip, To, Out, Ask}
 use Rattle.tera_machine.specs.Did.{Did, Goes, Faults, Sticks}
 use Rattle.tera_machine.specs.Act.{act}
-use Rattle.tera_machine.specs.Exec.{Code}
 
 -- what the instruction at a place does, where there is one
 abbrev pub done_at : Here → ℕ → Option Instruction → Config → Did

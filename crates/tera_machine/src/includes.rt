@@ -21,7 +21,7 @@ use crate::machine::{Limit, VirtualMachine};
 use tera_code::Chunk;
 use tera_errors::Error;
 use tera_objects::Objects;
-use tera_registry::{Found, Home, Templates};
+use tera_registry::{FoundTemplate, Home, Templates};
 use tera_values::{Name, TeraResult};
 
 /// The templates that are included and open, the innermost first: each lies where its body is run.
@@ -73,7 +73,7 @@ impl<'c> Configuration<'c> {
 
 impl<'t, O: Objects> VirtualMachine<'t, O> {
     // The template to which the name resolves.
-    fn found<M: Limit>(&self, name: &Name, home: Home, number: usize) -> Option<Found<'t>>
+    fn found<M: Limit>(&self, name: &Name, home: Home, number: usize) -> Option<FoundTemplate<'t>>
         requires { IsLinked self.now M.world }
         ensures { Finds M.world.registry name.now result }
     {
@@ -88,7 +88,7 @@ impl<'t, O: Objects> VirtualMachine<'t, O> {
         home: Home,
         asked: AskedTemplate<'_>,
         blocks: &OpenBlocks<'t>,
-    ) -> TeraResult<Found<'t>>
+    ) -> TeraResult<FoundTemplate<'t>>
         requires { IsLinked self.now M.world }
         ensures { (c : Configuration) → FindsTemplate M.world
             (place_at self.now chunk.now.file blocks.now c) (AnInclude asked.entry.name.now

@@ -11,7 +11,7 @@ ghost use Rattle.tera_registry.specs.Components.{kept_of};
 ghost use Rattle.tera_machine.specs.Config.{config_of};
 ghost use Rattle.tera_machine.specs.Exec.{EndsWithin, Ran};
 ghost use Rattle.tera_machine.specs.Flow.{Written, request_of, use_of, component_request, component_use};
-ghost use Rattle.tera_machine.specs.Progress.{BodyWithin};
+ghost use Rattle.tera_machine.specs.Advance.{BodyWithin};
 ghost use Rattle.tera_machine.specs.Bodies.{Stays, BodyRan};
 ghost use Rattle.tera_machine.specs.Subject.{Subject, IsLinked, kept_beside, meant_from, engine_of, place_at, place_of, Means};
 
@@ -25,7 +25,7 @@ use std::marker::Brand;
 use std::sync::ledger::Ledger;
 use tera_code::{Chunk, Steps};
 use tera_objects::Objects;
-use tera_registry::{Component, Found, Home, Templates};
+use tera_registry::{Component, FoundTemplate, Home, Templates};
 use tera_values::{Name, TeraResult};
 
 /// Where the machine goes on.
@@ -69,7 +69,7 @@ pub struct VirtualMachine<'t, O> {
     pub(crate) autoescape: bool,
     pub(crate) templates: &'t Templates,
     pub(crate) objects: &'t O,
-    pub(crate) template: Option<Found<'t>>,
+    pub(crate) template: Option<FoundTemplate<'t>>,
     pub(crate) beside: Option<Beside<'t>>,
     pub(crate) depth: usize,
     /// Where the code is linked that it runs first.
@@ -119,7 +119,7 @@ impl<'t, O: Objects> VirtualMachine<'t, O> {
     pub fn for_template(
         alloc: Global,
         autoescape: bool,
-        template: Found<'t>,
+        template: FoundTemplate<'t>,
         objects: &'t O,
     ) -> VirtualMachine<'t, O>
         ensures escapes { result.autoescape ≡ autoescape }
@@ -169,7 +169,7 @@ impl<'t, O: Objects> VirtualMachine<'t, O> {
     }
 
     // The same for a template that is included.
-    fn in_template(&self, template: Found<'t>) -> VirtualMachine<'t, O>
+    fn in_template(&self, template: FoundTemplate<'t>) -> VirtualMachine<'t, O>
         ensures escapes { result.autoescape ≡ self.now.autoescape }
         ensures templates { result.templates.now ≡ template.entry.templates.now }
         ensures objects { result.objects.now ≡ self.now.objects.now }

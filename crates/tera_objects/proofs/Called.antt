@@ -1,7 +1,7 @@
 -- Calls with values of bytes.
 use Rattle.std.proofs.Common.{◌≡◌, ◌||◌, is_some, Bool, [], ◌∷◌, Option, Some, None, option_map, Result, refl, sym, ap, ap₂, subst, ◌∙◌}
 use Rattle.tera_errors.specs.Fault.{Fault}
-use Rattle.tera_errors.specs.Answer.{Refusal, Gives}
+use Rattle.tera_errors.specs.Answer.{SeenError, Gives}
 use Rattle.tera_values.specs.Alphabet.{plain}
 use Rattle.tera_errors.specs.Site.{Name, Text}
 use Rattle.tera_values.specs.Named.{Named, at_name}
@@ -76,7 +76,7 @@ module _ {E F T G : Type 0} (escape : E → Text → Text) (filter : F → OwnFi
       ∙ ap (λ (standing : Standing). view_at around variables autoescape (escape_or_html escape o.escape) standing) (left filter o.filters.taken.items (listed o.filters.table) o.filters.are_taken)
 
   module _ (name : Name) (given : Named Val) where
-    module _ (v : Val) (result : Result Val Refusal) where
+    module _ (v : Val) (result : Result Val SeenError) where
       pub own-filter : {s : View} {f : F} → s ≡ lent → Some f ≡ at_name name (listed o.filters.table)
           → Gives (λ (a : Val). a) result (answer_of (filter f).safe ((filter f).meaning v given s)) → Gives (λ (a : Val). a) result (filtered_by plain (engine_with [] []) here name v given)
       own-filter {s} {f} same there gives =
@@ -91,7 +91,7 @@ module _ {E F T G : Type 0} (escape : E → Text → Text) (filter : F → OwnFi
           (sym (ap (λ (x : Option OwnFilter). filter_called plain here (own_or_built_in x (filter_named name)) v given) (at-each filter name (listed o.filters.table) ∙ ap (option_map filter) absent) ∙ built_in-filter here given v (filter_named name)))
           gives
 
-    module _ (test : T → OwnTest) (v : Val) (result : Result Bool Refusal) where
+    module _ (test : T → OwnTest) (v : Val) (result : Result Bool SeenError) where
       pub own-test : {s : View} {t : T} → s ≡ lent → Some t ≡ at_name name (listed o.tests)
           → Gives (λ (b : Bool). b) result ((test t).meaning v given s) → Gives (λ (b : Bool). b) result (tested_by plain (engine_with (each test (listed o.tests)) []) here name v given)
       own-test {s} {t} same there gives =
@@ -106,7 +106,7 @@ module _ {E F T G : Type 0} (escape : E → Text → Text) (filter : F → OwnFi
           (sym (ap (λ (x : Option OwnTest). test_called plain here (own_or_built_in x (test_named name)) v given) (at-each test name (listed o.tests) ∙ ap (option_map test) absent) ∙ built_in-test here given v (test_named name)))
           gives
 
-    module _ (function : G → OwnFunction) (result : Result Val Refusal) where
+    module _ (function : G → OwnFunction) (result : Result Val SeenError) where
       pub own-function : {s : View} {f : G} → s ≡ lent → Some f ≡ at_name name (listed o.functions)
           → Gives (λ (a : Val). a) result (answer_of (function f).safe ((function f).meaning given s)) → Gives (λ (a : Val). a) result (called_by plain (engine_with [] (each function (listed o.functions))) here name given)
       own-function {s} {f} same there gives =

@@ -3,7 +3,7 @@ use Rattle.std.proofs.Common.{◌≡◌, Bool, true, false, cond, List, [], ◌�
 use Rattle.std.specs.List.{zip, list_any, slice_get}
 use Rattle.std.proofs.lemmas.List.{drop_more, length-map, get_or-map}
 use Rattle.std.proofs.lemmas.Option.{slice_get_within, get_or_from_slice_get}
-use Rattle.tera_errors.specs.Answer.{Refusal, Tells, Says}
+use Rattle.tera_errors.specs.Answer.{SeenError, Tells, Says}
 use Rattle.tera_syntax_tree.specs.View.{key_option}
 use Rattle.tera_syntax_tree.specs.declared.expression.OwnedKey.{OwnedKey}
 use Rattle.tera_errors.specs.Site.{Name}
@@ -82,11 +82,11 @@ spread_keys (k ∷ keys) [] n = absurd (omega (arith, n))
 spread_keys (None ∷ keys) (x ∷ xs) n = refl
 spread_keys (Some k ∷ keys) (x ∷ xs) n = spread_keys keys xs (omega (arith, n))
 
-pub says_fault : {A : Type 0} → (told : Refusal) (fault : Fault) (meant : Result A Fault) → Tells told fault → meant ≡ Err fault → Says told meant
+pub says_fault : {A : Type 0} → (told : SeenError) (fault : Fault) (meant : Result A Fault) → Tells told fault → meant ≡ Err fault → Says told meant
 says_fault None fault meant t e = tt
 says_fault (Some f) fault meant t e = e ∙ ap Err (sym t)
 
-pub says_onto : (told : Refusal) (file : Name) (es : List (Option Key × Evaluated)) (r meant : Result (List (KeyVal × Val)) Fault) → meant ≡ onto file es r → Says told r → Says told meant
+pub says_onto : (told : SeenError) (file : Name) (es : List (Option Key × Evaluated)) (r meant : Result (List (KeyVal × Val)) Fault) → meant ≡ onto file es r → Says told r → Says told meant
 says_onto None file es r meant e h = tt
 says_onto (Some f) file es r meant e h = e ∙ ap (onto file es) h ∙ onto_fault file es f
 

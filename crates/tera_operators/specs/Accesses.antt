@@ -3,7 +3,7 @@ use Rattle.std.specs.Prelude.{ℤ, Bool, true, false, cond, Option, Some, None, 
 use Rattle.tera_errors.specs.declared.span.Span.{Span}
 use Rattle.tera_errors.specs.Site.{Name}
 use Rattle.tera_errors.specs.Fault.{Fault}
-use Rattle.tera_errors.specs.Answer.{Refusal, Says}
+use Rattle.tera_errors.specs.Answer.{SeenError, Says}
 use Rattle.tera_values.specs.Alphabet.{Alphabet, plain}
 use Rattle.tera_values.specs.Val.{ValOf, undefined, none, int}
 use Rattle.tera_values.specs.Access.{attr, is_undefined}
@@ -22,7 +22,7 @@ part_of file false target span part = cond (is_undefined target.value) (fault_at
 part_of file true target span part = cond (is_missing target.value) (at_span undefined span) part
 
 -- whatever the part is: whether the answer is undefined without it, or a fault without it; if neither, the part is the answer
-abbrev pub Decides : Result Bool Refusal → (Span → Outcome → Outcome) → Type 0
+abbrev pub Decides : Result Bool SeenError → (Span → Outcome → Outcome) → Type 0
 Decides (Ok true) meant = (span : Span) (part : Outcome) → meant span part ≡ at_span undefined span
 Decides (Ok false) meant = (span : Span) (part : Outcome) → meant span part ≡ part
 Decides (Err e) meant = (span : Span) (part : Outcome) → IsErr (meant span part) × Says e (meant span part)

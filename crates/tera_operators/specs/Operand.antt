@@ -4,7 +4,7 @@ use Rattle.std.specs.Coded.{Coded, code_by, coded×, coded_ℕ}
 use Rattle.tera_errors.specs.declared.span.Span.{Span}
 use Rattle.tera_errors.specs.Site.{Name}
 use Rattle.tera_errors.specs.Fault.{Fault, rendering_error}
-use Rattle.tera_errors.specs.Answer.{Refusal, Lacks, Tells}
+use Rattle.tera_errors.specs.Answer.{SeenError, Lacks, Tells}
 use Rattle.tera_values.specs.Val.{Val, ValOf}
 use Rattle.tera_values.specs.Code.{val_code}
 
@@ -54,6 +54,6 @@ placed file (Ok a) span = Ok a
 placed file (Err f) span = fault_at file span
 
 -- a refusal told as this fault; want of memory stays want of memory
-abbrev pub Retells : Refusal → Refusal → Fault → Type 0
+abbrev pub Retells : SeenError → SeenError → Fault → Type 0
 Retells None told fault = Lacks told
 Retells (Some refused) told fault = Tells told fault

@@ -6,7 +6,7 @@ use mathlib.Core.Path.{fun_ext}
 use Rattle.std.specs.Option.{option_or}
 use Rattle.tera_errors.specs.Site.{Name, Text}
 use Rattle.tera_errors.specs.Fault.{Fault, message, circular_include}
-use Rattle.tera_errors.specs.Answer.{Refusal, Says, SaysOneOf}
+use Rattle.tera_errors.specs.Answer.{SeenError, Says, SaysOneOf}
 use Rattle.tera_syntax_tree.specs.Delimiters.{Delims}
 use Rattle.tera_values.specs.Named.{Named, put_all}
 use Rattle.tera_objects.specs.Engine.{Engine}
@@ -72,7 +72,7 @@ accepted-err : (r : Registry) (q : Registry) (f : Fault) → q ≡ served r.engi
 accepted-err r q f is e = ap (unless_faulty r) (fault-same r ∙ sym (ap fault is) ∙ faulty q f e)
 
 -- A refusal of a text is that of the call.
-pub refused-adds : (e : Refusal) (r : Registry) (d : Delims) (batch : List (Name × Text)) → r.delimiters ≡ d → SaysOneOf e (Puts d r.templates batch) → SaysOneOf e (Adds r batch)
+pub refused-adds : (e : SeenError) (r : Registry) (d : Delims) (batch : List (Name × Text)) → r.delimiters ≡ d → SaysOneOf e (Puts d r.templates batch) → SaysOneOf e (Adds r batch)
 refused-adds None r d batch same p = tt
 refused-adds (Some f) r d batch same p = by_reading p.reading (rw same p.read) p.is
   where
@@ -98,7 +98,7 @@ linked-adds : (r : Registry) (d : Delims) (batch : List (Name × Text)) (new : N
 linked-adds r d batch new q same p is ok =
     put-adds r d batch new _ same p (accepted-ok (record r { templates = new }) q is ok)
 
-unlinked-adds : (e : Refusal) (r : Registry) (d : Delims) (batch : List (Name × Text)) (new : Named Template) (q : Registry) → r.delimiters ≡ d → Puts d r.templates batch (Ok new) → q ≡ served r.engine new r.prefixes → Says e (accepted q) → SaysOneOf e (Adds r batch)
+unlinked-adds : (e : SeenError) (r : Registry) (d : Delims) (batch : List (Name × Text)) (new : Named Template) (q : Registry) → r.delimiters ≡ d → Puts d r.templates batch (Ok new) → q ≡ served r.engine new r.prefixes → Says e (accepted q) → SaysOneOf e (Adds r batch)
 unlinked-adds None r d batch new q same p is says = tt
 unlinked-adds (Some f) r d batch new q same p is says =
     put-adds r d batch new _ same p (accepted-err (record r { templates = new }) q f is says)
@@ -125,7 +125,7 @@ module _ (r : Registry) (d : Delims) (batch : List (Name × Text)) (old all : Li
   abbrev PutsTo : Result (Named Template) Fault → Type 0
   PutsTo = Puts d (entries_of all) batch
 
-  pub add-unread : (e : Refusal) → SaysOneOf e PutsTo → SaysOneOf e (Adds (with old) batch)
+  pub add-unread : (e : SeenError) → SaysOneOf e PutsTo → SaysOneOf e (Adds (with old) batch)
   add-unread e p =
       let from_old : SaysOneOf e (Puts d (entries_of old) batch) = rw (sym (same-entries old all z)) p in
       refused-adds e (with old) d batch same from_old
@@ -137,7 +137,7 @@ module _ (r : Registry) (d : Delims) (batch : List (Name × Text)) (old all : Li
     from_old : Puts d (entries_of old) batch (Ok (entries_of new))
     from_old = rw (sym (same-entries old all z)) p
 
-    pub add-unlinked : (refusal : Refusal) → Says refusal (accepted (seen_by engine lent lent_ps)) → SaysOneOf refusal (Adds (with old) batch)
+    pub add-unlinked : (refusal : SeenError) → Says refusal (accepted (seen_by engine lent lent_ps)) → SaysOneOf refusal (Adds (with old) batch)
     add-unlinked refusal says =
         unlinked-adds refusal (with old) d batch (entries_of new) (seen_by engine lent lent_ps) same from_old same-seen says
 

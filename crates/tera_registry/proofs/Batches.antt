@@ -4,7 +4,7 @@ use Rattle.std.proofs.lemmas.List.{drop_all}
 use Rattle.std.proofs.lemmas.Option.{slice_get-get_or, slice_get-map}
 use Rattle.tera_errors.specs.Site.{Name, Text}
 use Rattle.tera_errors.specs.Fault.{Fault}
-use Rattle.tera_errors.specs.Answer.{Refusal, Lacks, SaysOneOf, GivesOneOf}
+use Rattle.tera_errors.specs.Answer.{SeenError, Lacks, SaysOneOf, GivesOneOf}
 use Rattle.tera_syntax_tree.specs.Delimiters.{Delims}
 use Rattle.tera_syntax_tree.specs.Tree.{Tree}
 use Rattle.tera_values.specs.Named.{Named, put}
@@ -17,12 +17,12 @@ use Rattle.tera_registry.specs.Put.{made_of, Makes, put_among, Puts}
 
 -- One text.
 
-pub makes : {X : Type 0} (view : X → Entry) (d : Delims) (name : Name) (text : Text) (tree : Tree) (result : Result X Refusal) → Reads name d text (Ok tree) → IfOk result (λ x. view x ≡ (name, record { text = text; tree = tree })) → IfErr result Lacks → GivesOneOf view result (Makes d name text)
+pub makes : {X : Type 0} (view : X → Entry) (d : Delims) (name : Name) (text : Text) (tree : Tree) (result : Result X SeenError) → Reads name d text (Ok tree) → IfOk result (λ x. view x ≡ (name, record { text = text; tree = tree })) → IfErr result Lacks → GivesOneOf view result (Makes d name text)
 makes view d name text tree (Ok x) read ok lacks = record { reading = Ok tree; read = read; is = ap Ok ok }
 makes view d name text tree (Err None) read ok lacks = tt
 makes view d name text tree (Err (Some f)) read ok lacks = (let q : Some f ≡ None = lacks in cc)
 
-pub makes-none : (d : Delims) (name : Name) (text : Text) (e : Refusal) → SaysOneOf e (Reads name d text) → SaysOneOf e (Makes d name text)
+pub makes-none : (d : Delims) (name : Name) (text : Text) (e : SeenError) → SaysOneOf e (Reads name d text) → SaysOneOf e (Makes d name text)
 makes-none d name text None says = tt
 makes-none d name text (Some f) says = record { reading = Err f; read = says; is = refl }
 
@@ -57,7 +57,7 @@ putting-on d old new batch i p made u at m =
     }
     by_reading (Err f) read is = (let q : Ok made ≡ Err f = is in cc)
 
-pub putting-stops : (e : Refusal) (d : Delims) (old new : Named Template) (batch : List (Name × Text)) (i : ℕ) (p : Name × Text) → Putting d old batch new i → slice_get batch i ≡ Some p → SaysOneOf e (Makes d p.0 p.1) → SaysOneOf e (Puts d old batch)
+pub putting-stops : (e : SeenError) (d : Delims) (old new : Named Template) (batch : List (Name × Text)) (i : ℕ) (p : Name × Text) → Putting d old batch new i → slice_get batch i ≡ Some p → SaysOneOf e (Makes d p.0 p.1) → SaysOneOf e (Puts d old batch)
 putting-stops None d old new batch i p u at m = tt
 putting-stops (Some f) d old new batch i p u at m = by_reading m.reading m.read m.is
   where

@@ -4,7 +4,7 @@ use Rattle.std.specs.Option.{option_or}
 use Rattle.std.specs.List.{list_any}
 use Rattle.std.proofs.lemmas.List.{drop_all}
 use Rattle.tera_errors.specs.Fault.{Fault, message, circular_include}
-use Rattle.tera_errors.specs.Answer.{Refusal, Says, Tells}
+use Rattle.tera_errors.specs.Answer.{SeenError, Says, Tells}
 use Rattle.tera_meaning.specs.Registry.{Registry, Entry}
 use Rattle.tera_meaning.specs.Resolve.{parents}
 use Rattle.tera_meaning.specs.Accepted.{fault_of_parents, fault_if, leads_into_a_circle, template_fault, first_fault, lacks_something, missing, fault}
@@ -47,7 +47,7 @@ checked-fault : (r : Registry) (i : ℕ) (t : Entry) (f : Fault) → Checked r i
 checked-fault r i t f c at e =
     ap (unless_faulty r) (next r i t c at ∙ ap (λ o. option_or o (first_fault r (take (i + 1) r.templates) (drop (i + 1) r.templates))) e)
 
-pub checked-says : (e : Refusal) (r : Registry) (i : ℕ) (t : Entry) → Checked r i → slice_get r.templates i ≡ Some t → Says e (parents r t) → Says e (climbed r)
+pub checked-says : (e : SeenError) (r : Registry) (i : ℕ) (t : Entry) → Checked r i → slice_get r.templates i ≡ Some t → Says e (parents r t) → Says e (climbed r)
 checked-says None r i t c at says = tt
 checked-says (Some f) r i t c at says =
     checked-fault r i t f c at (parents-fault r (take i r.templates) t f says)
@@ -61,7 +61,7 @@ checked-tie r i t ps c at e leads ties =
     checked-fault r i t message c at (later-fault r (take i r.templates) t ps false true e leads ties)
 
 -- a message is the fault where the answer is one
-pub told : {A : Type 0} (e : Refusal) (answer : Result A Fault) → Tells e message → answer ≡ Err message → Says e answer
+pub told : {A : Type 0} (e : SeenError) (answer : Result A Fault) → Tells e message → answer ≡ Err message → Says e answer
 told None answer tells is = tt
 told (Some f) answer tells is = is ∙ ap Err (sym tells)
 
@@ -89,7 +89,7 @@ faulty r f e = faulty-by r (fault r) f e
 pub climbed-faultless : (r : Registry) → climbed r ≡ Ok r → first_fault r [] r.templates ≡ None
 climbed-faultless r e = faultless-by r (first_fault r [] r.templates) e
 
-pub climbed-says : (e : Refusal) (r : Registry) → Says e (climbed r) → Says e (accepted r)
+pub climbed-says : (e : SeenError) (r : Registry) → Says e (climbed r) → Says e (accepted r)
 unfolding fault
 climbed-says None r says = tt
 climbed-says (Some f) r says =

@@ -1,7 +1,7 @@
 -- The way up to the last parent of a template, step by step.
 use Rattle.std.proofs.Common.{◌≡◌, ℕ, zero, suc, ◌+◌, ◌<◌, ◌≤◌, List, [], ◌∷◌, ◌++◌, length, Option, Some, None, Result, Ok, Err, refl, sym, ap, ◌∙◌, append_assoc, arith, slice_get}
 use Rattle.std.proofs.lemmas.List.{append-nil, length-append}
-use Rattle.tera_errors.specs.Answer.{Refusal}
+use Rattle.tera_errors.specs.Answer.{SeenError}
 use Rattle.tera_errors.specs.Fault.{Fault, circular_extend, missing_parent}
 use Rattle.tera_errors.specs.Site.{Name}
 use Rattle.tera_meaning.specs.Registry.{Registry, Entry}
@@ -76,7 +76,7 @@ climb-again r t u steps zero n c none e = c.is ∙ ap (λ o. after_these c.passe
 climb-again r t u steps (suc left) n c none e = absurd (omega arith)
 
 -- the top of what is known further up is that of the template
-pub climb-meets : (r : Registry) (t u : Entry) (steps left most : ℕ) (top : Top) (result : Result Top Refusal) → Climbed r t u steps left → most ≡ length r.templates → steps + left ≡ most → Stands r u top → IsFurther top steps most result → IsTop r t result
+pub climb-meets : (r : Registry) (t u : Entry) (steps left most : ℕ) (top : Top) (result : Result Top SeenError) → Climbed r t u steps left → most ≡ length r.templates → steps + left ≡ most → Stands r u top → IsFurther top steps most result → IsTop r t result
 climb-meets r t u steps left most top (Ok far) c all sum s f = (
   omega (arith, f.2, all),
   record {

@@ -17,7 +17,7 @@ use Rattle.std.specs.List.{list_any, cons_option}
 use Rattle.std.specs.Option.{option_or}
 use Rattle.std.proofs.lemmas.Bool.{cases_Bool}
 use Rattle.tera_errors.specs.Site.{Name}
-use Rattle.tera_errors.specs.Answer.{Refusal, Lacks, GivesOneOf, SaysOneOf}
+use Rattle.tera_errors.specs.Answer.{SeenError, Lacks, GivesOneOf, SaysOneOf}
 use Rattle.tera_errors.specs.Fault.{Fault, message, circular_include, template_not_found}
 use Rattle.tera_meaning.specs.Registry.{Registry, Entry}
 use Rattle.tera_meaning.specs.Resolve.{parents, resolve}
@@ -244,7 +244,7 @@ pub given-none : (p : Names) → p ≡ if_given (those []) ∪ p
 given-none p = fun_ext (λ n. ap (λ b. b || p n) (sym (none-given (given n))))
 
 -- what is answered of a template that is there
-pub answers-of : (r : Registry) (res : Result (BTreeSet (String Global)) Refusal) (o : Option Entry) (t : Entry) → o ≡ Some t → IfOk res (λ s. IsOrdered string_cmp s) → IfOk res (λ s. names_in s ≡ variables (bare r.templates r.prefixes) t) → IfErr res Lacks → GivesOneOf (λ s. map string_bytes s.keys) res (AnswersVariables r o)
+pub answers-of : (r : Registry) (res : Result (BTreeSet (String Global)) SeenError) (o : Option Entry) (t : Entry) → o ≡ Some t → IfOk res (λ s. IsOrdered string_cmp s) → IfOk res (λ s. names_in s ≡ variables (bare r.templates r.prefixes) t) → IfErr res Lacks → GivesOneOf (λ s. map string_bytes s.keys) res (AnswersVariables r o)
 answers-of r (Ok s) o t e ordered is lacks = rw e (are-variables r t s ordered is)
 answers-of r (Err x) o t e ordered is lacks = rw lacks tt
 
@@ -260,13 +260,13 @@ module _ (r : Registry) (ts lent : List (Rc Stored Global)) (ps lent_ps : List (
   abbrev whole : Registry
   whole = record r { templates = entries_of ts; prefixes = map string_bytes ps }
 
-  pub answers-found : (place : ℕ) (t : Entry) (res : Result (BTreeSet (String Global)) Refusal) → resolve (seen lent lent_ps) name ≡ Some t → IfOk res (λ s. IsOrdered string_cmp s) → IfOk res (λ s. names_in s ≡ variables (seen lent lent_ps) t) → IfErr res Lacks → GivesOneOf (λ s. map string_bytes s.keys) res (AnswersVariables whole (resolve whole name))
+  pub answers-found : (place : ℕ) (t : Entry) (res : Result (BTreeSet (String Global)) SeenError) → resolve (seen lent lent_ps) name ≡ Some t → IfOk res (λ s. IsOrdered string_cmp s) → IfOk res (λ s. names_in s ≡ variables (seen lent lent_ps) t) → IfErr res Lacks → GivesOneOf (λ s. map string_bytes s.keys) res (AnswersVariables whole (resolve whole name))
   answers-found place t res found ordered ok lacks =
       let same : seen lent lent_ps ≡ seen ts ps = ap₂ (λ xs ys. seen xs ys) e f in
       let there : resolve whole name ≡ Some t = sym (ap (λ q. resolve q name) same) ∙ found in
       answers-of whole res (resolve whole name) t there ordered (subst (λ q. IfOk res (λ s. names_in s ≡ variables q t)) same ok) lacks
 
-  pub answers-none : (x : Refusal) → resolve (seen lent lent_ps) name ≡ None → x ≡ Some template_not_found → SaysOneOf x (AnswersVariables whole (resolve whole name))
+  pub answers-none : (x : SeenError) → resolve (seen lent lent_ps) name ≡ None → x ≡ Some template_not_found → SaysOneOf x (AnswersVariables whole (resolve whole name))
   answers-none x none is =
       let same : seen lent lent_ps ≡ seen ts ps = ap₂ (λ xs ys. seen xs ys) e f in
       let there : resolve whole name ≡ None = sym (ap (λ q. resolve q name) same) ∙ none in

@@ -3,7 +3,7 @@ use Rattle.std.specs.Prelude.{◌≡◌, ℕ, List, [], ◌∷◌, map, Result, 
 use Rattle.std.specs.Borrow.{Bor}
 use Rattle.tera_errors.specs.Site.{Name, Text}
 use Rattle.tera_errors.specs.Fault.{Fault}
-use Rattle.tera_errors.specs.Answer.{Refusal, SaysOneOf}
+use Rattle.tera_errors.specs.Answer.{SeenError, SaysOneOf}
 use Rattle.tera_values.specs.Named.{Named}
 use Rattle.tera_syntax_tree.specs.Tree.{Tree}
 use Rattle.tera_syntax_tree.specs.Delimiters.{Delims}
@@ -31,6 +31,6 @@ pub record Adds (r : Registry) (batch : List (Name × Text)) (answer : Result Re
   pub is : answer ≡ added r reading
 
 -- how a call ends that changes a registry: with one that is meant, or with a refusal and the one of before
-abbrev pub ConfiguresOneOf : Result (Unit {0}) Refusal → (Result Registry Fault → Type 0) → Registry → Registry → Type 0
+abbrev pub ConfiguresOneOf : Result (Unit {0}) SeenError → (Result Registry Fault → Type 0) → Registry → Registry → Type 0
 ConfiguresOneOf (Ok u) Meant old new = Meant (Ok new)
 ConfiguresOneOf (Err e) Meant old new = SaysOneOf e Meant × (new ≡ old)

@@ -4,7 +4,7 @@ use Rattle.std.specs.declared.alloc.Global.{Global}
 use Rattle.std.specs.declared.rc.Rc.{Rc}
 use Rattle.tera_errors.specs.Site.{Name}
 use Rattle.tera_errors.specs.Fault.{Fault, circular_extend}
-use Rattle.tera_errors.specs.Answer.{Refusal, Says}
+use Rattle.tera_errors.specs.Answer.{SeenError, Says}
 use Rattle.tera_meaning.specs.Registry.{Entry, Registry}
 use Rattle.tera_meaning.specs.Resolve.{resolve, parents, root, last_of}
 use Rattle.tera_meaning.specs.Accepted.{first_fault}
@@ -66,7 +66,7 @@ pub record Stands (r : Registry) (t : Entry) (top : Top) : Type 0 where
   pub root_at : slice_get r.templates top.root ≡ Some (last_of t above)
 
 -- what is at the top, or the fault of a template's parents
-abbrev pub IsTop : Registry → Entry → Result Top Refusal → Type 0
+abbrev pub IsTop : Registry → Entry → Result Top SeenError → Type 0
 IsTop r t (Ok top) = (top.parents ≤ length r.templates) × Stands r t top
 IsTop r t (Err e) = Says e (parents r t)
 
@@ -75,7 +75,7 @@ pub record AreTops (r : Registry) (tops : List (Option Top)) : Type 0 where
   pub those : (i : ℕ) (top : Top) (t : Entry) → slice_get tops i ≡ Some (Some top) → slice_get r.templates i ≡ Some t → Stands r t top
 
 -- a top from so many steps below it, or a fault where that is too far
-abbrev pub IsFurther : Top → ℕ → ℕ → Result Top Refusal → Type 0
+abbrev pub IsFurther : Top → ℕ → ℕ → Result Top SeenError → Type 0
 IsFurther top steps most (Ok far) = (far.root ≡ top.root) × (far.parents ≡ steps + top.parents) × (far.parents ≤ most)
 IsFurther top steps most (Err e) = (e ≡ Some circular_extend) × (most < steps + top.parents)
 

@@ -9,7 +9,7 @@ use Rattle.tera_meaning.specs.Components.{Component}
 use Rattle.tera_components.specs.Definition.{definition_of}
 use Rattle.tera_code.specs.Code.{listing_of}
 use Rattle.tera_registry.specs.declared.templates.Templates.{Templates}
-use Rattle.tera_registry.specs.declared.templates.Found.{Found}
+use Rattle.tera_registry.specs.declared.templates.FoundTemplate.{FoundTemplate}
 use Rattle.tera_registry.specs.declared.templates.Start.{Start}
 use Rattle.tera_registry.specs.declared.templates.Definers.{Definers}
 use Rattle.tera_registry.specs.declared.templates.Definer.{Definer as Nearest}
@@ -32,7 +32,7 @@ abbrev pub with_templates : Registry → Templates → Registry
 with_templates r t = record r { templates = templates_of t; prefixes = prefixes_of t }
 
 -- what is found is the template: its name, the code of the nodes that a rendering of it begins with, and that of its own
-pub record Leads (r : Registry) (name : Name) (found : Found) : Type 0 where
+pub record Leads (r : Registry) (name : Name) (found : FoundTemplate) : Type 0 where
   pub entry : Entry
   pub resolves : resolve r name ≡ Some entry
   pub named : found.name.now ≡ entry.0
@@ -41,7 +41,7 @@ pub record Leads (r : Registry) (name : Name) (found : Found) : Type 0 where
   pub among : with_templates r found.templates.now ≡ r
 
 -- what is found under a name
-abbrev pub Finds : Registry → Name → Option Found → Type 0
+abbrev pub Finds : Registry → Name → Option FoundTemplate → Type 0
 Finds r name None = resolve r name ≡ None
 Finds r name (Some found) = Leads r name found
 

@@ -24,4 +24,4 @@ mod walks;
 
 pub use components::Component;
 pub use links::Home;
-pub use templates::{Defined, Definer, Definers, Found, Templates};
+pub use templates::{Defined, Definer, Definers, FoundTemplate, Templates};

@@ -84,7 +84,7 @@ impl Drop for Templates {
 
 /// A template that was found by a name.
 #[derive(Clone, Copy)]
-pub struct Found<'t> {
+pub struct FoundTemplate<'t> {
     pub name: &'t str,
     /// The code that a rendering of it begins with: that of the last of its parents, or its own.
     pub chunk: &'t Chunk,
@@ -106,7 +106,7 @@ pub struct Defined<'t> {
     pub home: Home,
 }
 
-impl<'t> Found<'t> {
+impl<'t> FoundTemplate<'t> {
     ghost use Rattle.tera_meaning.specs.Lineage.{definers};
     ghost use Rattle.tera_registry.specs.Templates.{with_templates, definers_of};
 
@@ -257,7 +257,7 @@ impl Templates {
     }
 
     /// The template to which a name resolves. Takes no memory.
-    pub fn find(&self, name: &str) -> Option<Found<'_>>
+    pub fn find(&self, name: &str) -> Option<FoundTemplate<'_>>
         ensures { (r : Registry) → Finds (with_templates r self.now) name.now result }
     {
         let place = resolve(self.all.as_slice(), self.prefixes.as_slice(), name)?;
@@ -265,7 +265,7 @@ impl Templates {
     }
 
     /// The same for the name of a reference, which has this number in code at home there: what is linked is not looked up.
-    pub fn find_linked(&self, name: &Name, home: Home, number: usize) -> Option<Found<'_>>
+    pub fn find_linked(&self, name: &Name, home: Home, number: usize) -> Option<FoundTemplate<'_>>
         ensures { (r : Registry) → Finds (with_templates r self.now) name.now result }
     {
         match self.links.place(name, home, number) {
@@ -275,7 +275,7 @@ impl Templates {
     }
 
     // The template at a place, to which some names resolve.
-    fn found_at(&self, place: usize) -> Found<'_>
+    fn found_at(&self, place: usize) -> FoundTemplate<'_>
         requires { place < length self.now.all.items }
         ensures { (r : Registry) (name : Name)
             → IsPlace (templates_of self.now) (Some place)
@@ -284,7 +284,7 @@ impl Templates {
     {
         let template: &Template = &self.all[place];
         let root: &Template = &self.all[self.roots[place]];
-        Found {
+        FoundTemplate {
             name: template.name.as_str(),
             chunk: &root.body,
             body: &template.body,

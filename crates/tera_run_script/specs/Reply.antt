@@ -3,14 +3,14 @@ use Rattle.std.specs.Prelude.{List, [], ◌++◌, codes, decimal, Option, Some, 
 use Rattle.std.specs.Global.{Global}
 use Rattle.tera.specs.Site.{Site, Text}
 use Rattle.tera.specs.Fault.{syntax_error, message, rendering_error, circular_extend, circular_include, missing_parent, template_not_found, component_not_found, invalid_argument, missing_argument}
-use Rattle.tera.specs.Answer.{Refusal}
+use Rattle.tera.specs.Answer.{SeenError}
 use Rattle.tera_run_script.specs.declared.reply.Reply.{Reply}
 use Rattle.tera_run_script.specs.declared.reply.Reply.TheVariants as reply
 
 pub data Replied : Type 0 where
   done : Replied
   says : (text : Text) → Replied
-  refuses : (refusal : Refusal) → Replied
+  refuses : (refusal : SeenError) → Replied
 
 abbrev pub reply_seen : Reply → Replied
 reply_seen reply.Done = done
@@ -18,12 +18,12 @@ reply_seen (reply.Text text) = says (string_bytes text)
 reply_seen (reply.Fault error) = refuses error
 
 -- what is told of a call that has nothing to tell
-abbrev pub done_seen : Result (Unit {0}) Refusal → Replied
+abbrev pub done_seen : Result (Unit {0}) SeenError → Replied
 done_seen (Ok u) = done
 done_seen (Err refusal) = refuses refusal
 
 -- what is told of a call that answers a text
-abbrev pub rendered_seen : Result (String Global) Refusal → Replied
+abbrev pub rendered_seen : Result (String Global) SeenError → Replied
 rendered_seen (Ok text) = says (string_bytes text)
 rendered_seen (Err refusal) = refuses refusal
 
@@ -31,7 +31,7 @@ abbrev pub replies_seen : List Reply → List Replied
 replies_seen replies = map reply_seen replies
 
 -- the word for a kind of fault
-abbrev pub word_of : Refusal → Text
+abbrev pub word_of : SeenError → Text
 word_of None = codes "OutOfMemory"
 word_of (Some (syntax_error site)) = codes "SyntaxError"
 word_of (Some message) = codes "Message"
@@ -45,7 +45,7 @@ word_of (Some invalid_argument) = codes "InvalidArgument"
 word_of (Some missing_argument) = codes "MissingArgument"
 
 -- where it is, for the kinds that have a place
-abbrev pub site_of : Refusal → Option Site
+abbrev pub site_of : SeenError → Option Site
 site_of None = None
 site_of (Some (syntax_error site)) = Some site
 site_of (Some message) = None
@@ -64,7 +64,7 @@ place None = []
 place (Some site) =
     codes " " ++ site.file ++ codes " " ++ decimal site.span.start ++ codes " " ++ decimal site.span.end
 
-abbrev pub fault_line : Refusal → Text
+abbrev pub fault_line : SeenError → Text
 fault_line refusal = codes "fault " ++ word_of refusal ++ place (site_of refusal)
 
 -- a reply as it is written

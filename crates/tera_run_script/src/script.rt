@@ -294,7 +294,7 @@ fn with_body<'a>(opening: Opening<'a>, body: &'a str) -> Command<'a>
 
 /// A command, how many lines behind its command line belong to it, and what follows them.
 #[derive(Drop)]
-pub struct Found<'a> {
+pub struct FoundCommand<'a> {
     pub command: Command<'a>,
     pub lines: usize,
     pub rest: &'a str,
@@ -304,19 +304,19 @@ fn command_at<'a>(
     alloc: Global,
     line: &'a str,
     after: &'a str,
-) -> Result<Option<Found<'a>>, AllocError>
+) -> Result<Option<FoundCommand<'a>>, AllocError>
     ensures { IfOk result (λ found.
         MatchOption found (IsNone line.now after.now) (IsCommand line.now after.now)) }
 {
     match head_of(alloc, line)? {
         None => Ok(None),
-        Some(Head::Alone(command)) => Ok(Some(Found {
+        Some(Head::Alone(command)) => Ok(Some(FoundCommand {
             command,
             lines: 0,
             rest: after,
         })),
         Some(Head::Opens(opening)) => match first_body(after) {
-            Some(body) => Ok(Some(Found {
+            Some(body) => Ok(Some(FoundCommand {
                 command: with_body(opening, body.text),
                 lines: body.lines,
                 rest: body.rest,

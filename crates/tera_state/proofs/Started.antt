@@ -3,7 +3,7 @@ use Rattle.std.proofs.Common.{◌≡◌, ℕ, List, [], ◌∷◌, Option, Some,
 use Rattle.std.specs.Prelude.{slice_get, ◌&&◌, not}
 use Rattle.std.specs.Option.{is_some}
 use Rattle.tera_errors.specs.Fault.{message}
-use Rattle.tera_errors.specs.Answer.{Refusal, Gives}
+use Rattle.tera_errors.specs.Answer.{SeenError, Gives}
 use Rattle.tera_values.specs.Alphabet.{plain}
 use Rattle.tera_values.specs.Val.{Val, array, text, vals}
 use Rattle.tera_state.specs.Items.{Item, items_in, unkeyed, clusters_in}
@@ -30,7 +30,7 @@ module _ (is_keyed : Bool) (content : List ℕ) (safe : Bool) (target : Val) whe
       ∙ ap (λ (l : List Val). Ok (unkeyed l)) (sym (list_of_vals (clusters_in plain content)))
       ∙ ap (λ (v : Val). Ok (walked v)) made
 
-  pub gives_clusters : (r : Result Val Refusal) → (is_keyed && not (is_map target)) ≡ false → text content safe ≡ target → Gives (λ v. v) r (Ok (array (vals (clusters_in plain content)))) → Gives walked r (items_for is_keyed target)
+  pub gives_clusters : (r : Result Val SeenError) → (is_keyed && not (is_map target)) ≡ false → text content safe ≡ target → Gives (λ v. v) r (Ok (array (vals (clusters_in plain content)))) → Gives walked r (items_for is_keyed target)
   gives_clusters (Ok items) fits e made = let same : array (vals (clusters_in plain content)) ≡ items = cc in over_clusters items fits e same
   gives_clusters (Err None) fits e made = tt
   gives_clusters (Err (Some fault)) fits e made = cc

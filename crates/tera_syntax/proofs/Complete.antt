@@ -10,20 +10,20 @@ use Rattle.tera_syntax_tree.specs.Depth.{depth, entries_depth, filters_depth, pa
 use Rattle.tera_syntax.specs.declared.heads.Surroundings.{Surroundings}
 use Rattle.tera_syntax.specs.Heads.{Head, IfHead, ForHead, SetHead, SectionHead, BlockHead, CallHead, DefinitionHead, outside, nested, make, head_depth, splits, chains, inside, ends}
 use Rattle.tera_syntax.specs.Grammar.{IsWord, Simple, Opens, GoesOn, DerivesNodes, empty, content, blank, comment, print, single, bodied, DerivesRest, ended, split, chained}
-use Rattle.tera_syntax.specs.Reader.{Frame, Progress, Tag, Single, Opening, GoingOn, Turning, Closing, join, one, printed, put, room, opened, aside, closed, around, tag, taken, statement, run, nodes}
+use Rattle.tera_syntax.specs.Reader.{OpenStatement, Progress, Tag, Single, Opening, GoingOn, Turning, Closing, join, one, printed, put, room, opened, aside, closed, around, tag, taken, statement, run, nodes}
 use Rattle.tera_syntax.proofs.Rows.{join-none, join-join}
 use Rattle.tera_syntax.proofs.Whole.{whole_complete}
 use Rattle.tera_syntax.proofs.OneTag.{simple_read, opens_read, goes_on_read, else_read, ends_read}
 
-abbrev pub at : Surroundings → List Frame → Nodes → Progress
-at q fs found = record { frames = fs; found = found; surroundings = q }
+abbrev pub at : Surroundings → List OpenStatement → Nodes → Progress
+at q fs found = record { statements = fs; found = found; surroundings = q }
 
 -- a statement of which the body is being read
-abbrev pub asking : Nodes → Head → Bool → Surroundings → Frame
+abbrev pub asking : Nodes → Head → Bool → Surroundings → OpenStatement
 asking before head is_chained q = record { before = before; head = head; body = None; is_chained = is_chained; surroundings = q }
 
 -- a statement of which the body was read
-abbrev pub halved : Nodes → Head → Bool → Surroundings → Nodes → Frame
+abbrev pub halved : Nodes → Head → Bool → Surroundings → Nodes → OpenStatement
 halved before head is_chained q body = record { before = before; head = head; body = Some body; is_chained = is_chained; surroundings = q }
 
 -- How deep the parts of a statement are
@@ -73,27 +73,27 @@ print-fits v limit h lt le = omega arith
 -- What is read
 
 module _ (limit : ℕ) where
-  has-room : (fs : List Frame) (A : Option Progress) → length fs < limit → (if nat_lt (length fs) limit then A else None) ≡ A
+  has-room : (fs : List OpenStatement) (A : Option Progress) → length fs < limit → (if nat_lt (length fs) limit then A else None) ≡ A
   has-room fs A lt =
       let t : nat_lt (length fs) limit ≡ true = grind (arith, common_steps) in
       ap (λ (b : Bool). if b then A else None) t
 
-  statement-by : (s : Progress) (tokens : List Token) (t : Tag) → tag (room limit s) s.surroundings (around s.frames) tokens ≡ Some t → statement limit s tokens ≡ taken limit s tokens t
+  statement-by : (s : Progress) (tokens : List Token) (t : Tag) → tag (room limit s) s.surroundings (around s.statements) tokens ≡ Some t → statement limit s tokens ≡ taken limit s tokens t
   unfolding statement
   statement-by s tokens t e = ap (option_and_then (taken limit s tokens)) e
 
-  pub put-read : (q : Surroundings) (fs : List Frame) (found : Nodes) (n : Node) → length fs < limit → put limit (at q fs found) n ≡ Some (at q fs (join found (one n)))
+  pub put-read : (q : Surroundings) (fs : List OpenStatement) (found : Nodes) (n : Node) → length fs < limit → put limit (at q fs found) n ≡ Some (at q fs (join found (one n)))
   put-read q fs found n lt = has-room fs (Some (at q fs (join found (one n)))) lt
 
-  opened-read : (q : Surroundings) (c : Bool) (fs : List Frame) (found : Nodes) (h : Head) → length fs < limit → opened limit c (at q fs found) h ≡ Some (at (inside h q) (asking found h c q ∷ fs) NoNodes)
+  opened-read : (q : Surroundings) (c : Bool) (fs : List OpenStatement) (found : Nodes) (h : Head) → length fs < limit → opened limit c (at q fs found) h ≡ Some (at (inside h q) (asking found h c q ∷ fs) NoNodes)
   opened-read q c fs found h lt = has-room fs (Some (at (inside h q) (asking found h c q ∷ fs) NoNodes)) lt
 
-  single-read : {q : Surroundings} {n : Node} {tokens : List Token} → Simple q n tokens → (fs : List Frame) (found : Nodes) → length fs < limit → node_depth n ≤ suc (limit - suc (length fs))
+  single-read : {q : Surroundings} {n : Node} {tokens : List Token} → Simple q n tokens → (fs : List OpenStatement) (found : Nodes) → length fs < limit → node_depth n ≤ suc (limit - suc (length fs))
       → statement limit (at q fs found) tokens ≡ Some (at q fs (join found (one n)))
   single-read {q = q} {n = n} {tokens = tokens} a fs found lt le =
       statement-by (at q fs found) tokens (Single n) (simple_read (room limit (at q fs found)) q (around fs) tokens a le) ∙ put-read q fs found n lt
 
-  bodied-read : {q : Surroundings} {h : Head} {tokens : List Token} → Opens q h tokens → (fs : List Frame) (found : Nodes) → length fs < limit → head_depth h ≤ limit - suc (length fs)
+  bodied-read : {q : Surroundings} {h : Head} {tokens : List Token} → Opens q h tokens → (fs : List OpenStatement) (found : Nodes) → length fs < limit → head_depth h ≤ limit - suc (length fs)
       → statement limit (at q fs found) tokens ≡ Some (at (inside h q) (asking found h false q ∷ fs) NoNodes)
   bodied-read {q = q} {h = h} {tokens = tokens} a fs found lt le =
       statement-by (at q fs found) tokens (Opening h) (opens_read (room limit (at q fs found)) q (around fs) tokens a le) ∙ opened-read q false fs found h lt
@@ -101,7 +101,7 @@ module _ (limit : ℕ) where
   may-turn : (b : Bool) (A : Option Progress) → b ≡ true → (if b then A else None) ≡ A
   may-turn b A e = ap (λ (b : Bool). if b then A else None) e
 
-  module _ (p q : Surroundings) (c : Bool) (before : Nodes) (h : Head) (fs : List Frame) (body : Nodes) (tokens : List Token) where
+  module _ (p q : Surroundings) (c : Bool) (before : Nodes) (h : Head) (fs : List OpenStatement) (body : Nodes) (tokens : List Token) where
     abbrev here : Progress
     here = at p (asking before h c q ∷ fs) body
 
@@ -129,7 +129,7 @@ module _ (limit : ℕ) where
         ∙ may-turn (ends h tokens) (closed (halved before h c q body ∷ fs) other) e
 
   mutual
-    reads : {q : Surroundings} {x : Nodes} {i j : List Piece} → DerivesNodes q x i j → (fs : List Frame) (found : Nodes) → nodes_depth x ≤ limit - length fs
+    reads : {q : Surroundings} {x : Nodes} {i j : List Piece} → DerivesNodes q x i j → (fs : List OpenStatement) (found : Nodes) → nodes_depth x ≤ limit - length fs
         → run limit (at q fs found) i ≡ run limit (at q fs (join found x)) j
     reads {q = q} {j = j} empty fs found le = ap (λ n. run limit (at q fs n) j) (sym (join-none found))
     reads (content {words = []} filled d) fs found le = absurd (filled refl)
@@ -162,7 +162,7 @@ module _ (limit : ℕ) where
         ∙ reads d fs (join found (one n)) s.2
         ∙ ap (λ n. run limit (at q fs n) j) (join-join found (one n) rest)
 
-    rests : {q : Surroundings} {h : Head} {x : Nodes} {i j : List Piece} → DerivesRest q h x i j → (p : Surroundings) (before : Nodes) (c : Bool) (fs : List Frame) (body : Nodes) → nodes_depth x ≤ limit - suc (length fs)
+    rests : {q : Surroundings} {h : Head} {x : Nodes} {i j : List Piece} → DerivesRest q h x i j → (p : Surroundings) (before : Nodes) (c : Bool) (fs : List OpenStatement) (body : Nodes) → nodes_depth x ≤ limit - suc (length fs)
         → run limit (at p (asking before h c q ∷ fs) body) i ≡ option_and_then (λ t. run limit t j) (closed (halved before h c q body ∷ fs) x)
     rests {q = q} {h = h} (ended {tokens = tokens} {i = i} e) p before c fs body le =
         ap (option_and_then (λ t. run limit t i)) (ended-read p q c before h fs body tokens e)

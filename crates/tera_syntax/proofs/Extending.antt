@@ -113,7 +113,7 @@ module _ (limit : ℕ) where
     piece-got again Broken s h = absurd (cc)
 
   says : (i : List Piece) (s : Progress) (tree : Tree) → file_run limit (state None true s) i ≡ Some tree → Says s i tree.parent tree.nodes
-  says [] s tree h = let g = mapped None (finished s.frames s.found) tree h in subst (λ parent. Says s [] parent tree.nodes) g.1 (alone g.0)
+  says [] s tree h = let g = mapped None (finished s.statements s.found) tree h in subst (λ parent. Says s [] parent tree.nodes) g.1 (alone g.0)
   says (p ∷ i) s tree h = piece-got i tree (λ s h. says i s tree h) p s h
 
   derived : {i : List Piece} {parent : Option Name} {x : Nodes} → Says begun i parent x → DerivesFile parent x i × (nodes_depth x ≤ limit)

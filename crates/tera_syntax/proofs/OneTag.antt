@@ -6,7 +6,7 @@ use Rattle.tera_errors.specs.Site.{Text, Name}
 use Rattle.tera_syntax_tokens.specs.declared.token.Kind.{Kind}
 use Rattle.tera_syntax_tokens.specs.declared.token.Kind.TheVariants as k
 use Rattle.tera_syntax_tokens.specs.Token.{Token}
-use Rattle.tera_syntax_tokens.specs.Input.{Input, Outcome, begin, kind, text, start, next, span, same, is_word}
+use Rattle.tera_syntax_tokens.specs.Input.{Input, Parsed, begin, kind, text, start, next, span, same, is_word}
 use Rattle.tera_syntax_tokens.specs.Cut.{is_alone}
 use Rattle.tera_syntax_tokens.specs.Literal.{literal}
 use Rattle.tera_syntax_tree.specs.Tree.{Expr, Entries, Filters, NoFilters, Signature, Node, Set, Include, Break, Continue}
@@ -104,7 +104,7 @@ module _ (limit : ℕ) (q outer : Surroundings) (tokens : List Token) (t : Tag) 
       let w = whole_sound limit (next (begin outer.in_loop tokens)) p.0 p.1 in
       said (GoingOn (IfHead p.0)) (elif e w.0, w.1) p.2
 
-  for-got : first tokens ≡ k.For → (o : Outcome (Option Name × Name)) → calls (next (begin q.in_loop tokens)) ≡ o → option_map Opening (looping_by limit o) ≡ Some t → Says
+  for-got : first tokens ≡ k.For → (o : Parsed (Option Name × Name)) → calls (next (begin q.in_loop tokens)) ≡ o → option_map Opening (looping_by limit o) ≡ Some t → Says
   for-got e None c h = absurd (cc)
   for-got e (Some n) c h =
       let head = mapped Opening (looping_by limit (Some n)) t h in

@@ -3,13 +3,13 @@ use Rattle.std.proofs.Common.{max, ◌≡◌, ℕ, suc, ◌+◌, ◌-◌, ◌<�
 use Rattle.std.proofs.lemmas.List.{drop_all}
 use Rattle.tera_errors.specs.Site.{Text, Name}
 use Rattle.tera_errors.specs.Fault.{Fault}
-use Rattle.tera_errors.specs.Answer.{Refusal, Tells, SaysOneOf}
+use Rattle.tera_errors.specs.Answer.{SeenError, Tells, SaysOneOf}
 use Rattle.tera_errors.specs.declared.span.Span.{Span}
 use Rattle.tera_syntax_tokens.specs.Answers.{IsSyntax, Refuses}
 use Rattle.tera_syntax_tokens.specs.declared.refusal.Refusal as reader
 use Rattle.tera_syntax_tokens.specs.declared.refusal.Refusal.TheVariants.{Syntax, OutOfMemory}
 use Rattle.tera_syntax_tokens.specs.Bytes.{place}
-use Rattle.tera_syntax_tokens.specs.Cut.{Piece, Words, Found, words, trims_before, opening_at, opens, piece, cut, pieces}
+use Rattle.tera_syntax_tokens.specs.Cut.{Piece, Words, FoundPiece, words, trims_before, opening_at, opens, piece, cut, pieces}
 use Rattle.tera_syntax_tree.specs.Delimiters.{Delims}
 use Rattle.tera_syntax_tree.specs.Depth.{nodes_depth}
 use Rattle.tera_syntax.specs.File.{spelled, file}
@@ -21,7 +21,7 @@ use Rattle.tera_syntax_tokens.proofs.Cuts.{cut_step, cut_nothing}
 use Rattle.tera_syntax.proofs.Extending.{spelled_complete, file_complete}
 
 -- what an error that tells a fault says
-pub says_one : {Y : Type 0} (r : Refusal) (told : Fault) (Meant : Result Y Fault → Type 0) → Tells r told → Meant (Err told) → SaysOneOf r Meant
+pub says_one : {Y : Type 0} (r : SeenError) (told : Fault) (Meant : Result Y Fault → Type 0) → Tells r told → Meant (Err told) → SaysOneOf r Meant
 says_one None told Meant e m = tt
 says_one (Some fault) told Meant e m = let P : Fault → Type 0 = λ f. Meant (Err f) in subst P (sym e) m
 
@@ -62,7 +62,7 @@ unopened d text h = go (opening_at d text) h
     go None e = refl
     go (Some x) e = absurd (cc)
 
-abbrev all_words : Delims → Text → Found
+abbrev all_words : Delims → Text → FoundPiece
 all_words d text = let n = place (opens d) text in
     record { piece = words false (trims_before (drop n text) (opening_at d (drop n text))) n 0 text; next = 0 + n; trims = false }
 

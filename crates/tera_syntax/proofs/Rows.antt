@@ -10,9 +10,9 @@ use Rattle.tera_syntax_tree.specs.Depth.{node_depth, nodes_depth}
 use Rattle.tera_syntax_tree.specs.declared.node.Node as declared
 use Rattle.tera_syntax_tree.specs.View.{node_of, nodes_of}
 use Rattle.tera_syntax.specs.Heads.{Head, ends}
-use Rattle.tera_syntax.specs.Reader.{Frame, closed, join, one, shut, turned}
-use Rattle.tera_syntax.specs.View.{frame_of, frames_of, head_of}
-use Rattle.tera_syntax.specs.declared.progress.Frame as frame
+use Rattle.tera_syntax.specs.Reader.{OpenStatement, closed, join, one, shut, turned}
+use Rattle.tera_syntax.specs.View.{statement_of, statements_of, head_of}
+use Rattle.tera_syntax.specs.declared.progress.OpenStatement as statement
 
 pub join-none : (m : Nodes) → join m NoNodes ≡ m
 join-none NoNodes = refl
@@ -26,35 +26,35 @@ pub nodes_push : (all : List declared.Node) (n : declared.Node) → nodes_of (al
 nodes_push [] n = refl
 nodes_push (m ∷ all) n = ap (MoreNodes (node_of m)) (nodes_push all n)
 
-pub frames_push : (all : List frame.Frame) (f : frame.Frame) → frames_of (all ++ f ∷ []) ≡ frame_of f ∷ frames_of all
-frames_push all f = ap (map frame_of) (reverse-append all (f ∷ []))
+pub frames_push : (all : List statement.OpenStatement) (f : statement.OpenStatement) → statements_of (all ++ f ∷ []) ≡ statement_of f ∷ statements_of all
+frames_push all f = ap (map statement_of) (reverse-append all (f ∷ []))
 
 -- what is open innermost stands last in memory
-innermost : (fs : List frame.Frame) (f : frame.Frame) → Some f ≡ slice_get fs (length fs - 1) → (rest : List Frame) × (frames_of fs ≡ frame_of f ∷ rest)
+innermost : (fs : List statement.OpenStatement) (f : statement.OpenStatement) → Some f ≡ slice_get fs (length fs - 1) → (rest : List OpenStatement) × (statements_of fs ≡ statement_of f ∷ rest)
 innermost fs f e =
     let w = slice_get_within fs (length fs - 1) f (sym e) in
     let z : length fs - 1 - 0 ≡ length fs - 1 = omega arith in
     let r : get_or (reverse fs) 0 f ≡ f = get_or-reverse fs 0 f (omega arith) ∙ ap (λ k. get_or fs k f) z ∙ get_or_from_slice_get fs (length fs - 1) f f (sym e) in
     let d : reverse fs ≡ get_or (reverse fs) 0 f ∷ drop 1 (reverse fs) = drop_more (reverse fs) 0 f (omega (arith, length-reverse fs)) in
-    (map frame_of (drop 1 (reverse fs)), ap (map frame_of) (d ∙ ap (λ x. x ∷ drop 1 (reverse fs)) r))
+    (map statement_of (drop 1 (reverse fs)), ap (map statement_of) (d ∙ ap (λ x. x ∷ drop 1 (reverse fs)) r))
 
 -- so two answers are the same where they are the same whatever stands around it
-at_innermost : {A : Type 0} (one other : List Frame → A) (fs : List frame.Frame) (f : frame.Frame) → Some f ≡ slice_get fs (length fs - 1) → ((rest : List Frame) → one (frame_of f ∷ rest) ≡ other (frame_of f ∷ rest)) → one (frames_of fs) ≡ other (frames_of fs)
+at_innermost : {A : Type 0} (one other : List OpenStatement → A) (fs : List statement.OpenStatement) (f : statement.OpenStatement) → Some f ≡ slice_get fs (length fs - 1) → ((rest : List OpenStatement) → one (statement_of f ∷ rest) ≡ other (statement_of f ∷ rest)) → one (statements_of fs) ≡ other (statements_of fs)
 at_innermost one other fs f e same = let t = innermost fs f e in ap one t.1 ∙ same t.0 ∙ sym (ap other t.1)
 
-pub turned_innermost : (may : Head → Bool) (fs : List frame.Frame) (f : frame.Frame) (found : Nodes) → Some f ≡ slice_get fs (length fs - 1) → may (head_of f.head) ≡ true → turned (λ head. true) (frames_of fs) found ≡ turned may (frames_of fs) found
+pub turned_innermost : (may : Head → Bool) (fs : List statement.OpenStatement) (f : statement.OpenStatement) (found : Nodes) → Some f ≡ slice_get fs (length fs - 1) → may (head_of f.head) ≡ true → turned (λ head. true) (statements_of fs) found ≡ turned may (statements_of fs) found
 turned_innermost may fs f found e h = at_innermost (λ fs. turned (λ head. true) fs found) (λ fs. turned may fs found) fs f e (λ rest. rw h refl)
 
-pub shut_innermost : (tokens : List Token) (fs : List frame.Frame) (f : frame.Frame) (found : Nodes) → Some f ≡ slice_get fs (length fs - 1) → ends (head_of f.head) tokens ≡ true → closed (frames_of fs) found ≡ shut tokens (frames_of fs) found
+pub shut_innermost : (tokens : List Token) (fs : List statement.OpenStatement) (f : statement.OpenStatement) (found : Nodes) → Some f ≡ slice_get fs (length fs - 1) → ends (head_of f.head) tokens ≡ true → closed (statements_of fs) found ≡ shut tokens (statements_of fs) found
 shut_innermost tokens fs f found e h = at_innermost (λ fs. closed fs found) (λ fs. shut tokens fs found) fs f e (λ rest. rw h refl)
 
-pub turned_otherwise : (may : Head → Bool) (fs : List frame.Frame) (f : frame.Frame) (found : Nodes) → Some f ≡ slice_get fs (length fs - 1) → may (head_of f.head) ≡ false → turned may (frames_of fs) found ≡ None
+pub turned_otherwise : (may : Head → Bool) (fs : List statement.OpenStatement) (f : statement.OpenStatement) (found : Nodes) → Some f ≡ slice_get fs (length fs - 1) → may (head_of f.head) ≡ false → turned may (statements_of fs) found ≡ None
 turned_otherwise may fs f found e h = at_innermost (λ fs. turned may fs found) (λ fs. None) fs f e (λ rest. rw h refl)
 
-pub shut_otherwise : (tokens : List Token) (fs : List frame.Frame) (f : frame.Frame) (found : Nodes) → Some f ≡ slice_get fs (length fs - 1) → ends (head_of f.head) tokens ≡ false → shut tokens (frames_of fs) found ≡ None
+pub shut_otherwise : (tokens : List Token) (fs : List statement.OpenStatement) (f : statement.OpenStatement) (found : Nodes) → Some f ≡ slice_get fs (length fs - 1) → ends (head_of f.head) tokens ≡ false → shut tokens (statements_of fs) found ≡ None
 shut_otherwise tokens fs f found e h = at_innermost (λ fs. shut tokens fs found) (λ fs. None) fs f e (λ rest. rw h refl)
 
-pub nothing_open : (fs : List frame.Frame) → None ≡ slice_get fs (length fs - 1) → frames_of fs ≡ []
+pub nothing_open : (fs : List statement.OpenStatement) → None ≡ slice_get fs (length fs - 1) → statements_of fs ≡ []
 nothing_open [] e = refl
 nothing_open (f ∷ fs) e = let s = slice_get-get_or (f ∷ fs) (length (f ∷ fs) - 1) f (omega arith) in absurd (cc)
 

@@ -3,7 +3,7 @@ use Rattle.std.proofs.Common.{◌≡◌, ℕ, zero, suc, ◌≤◌, ◌<◌, nat
 use Rattle.std.proofs.lemmas.Grind.{common_steps}
 use Rattle.tera_syntax_tokens.specs.declared.token.Kind.TheVariants as k
 use Rattle.tera_syntax_tokens.specs.declared.token.Kind.{Kind}
-use Rattle.tera_syntax_tokens.specs.Input.{Input, Outcome, kind, text, next, span, same, is_word}
+use Rattle.tera_syntax_tokens.specs.Input.{Input, Parsed, kind, text, next, span, same, is_word}
 use Rattle.tera_syntax_expressions.specs.Expressions.{Deep, expr, filters, attributes}
 use Rattle.tera_syntax_expressions.specs.Parameters.{DerivesSignature, signature}
 use Rattle.tera_syntax_expressions.specs.Arguments.{begins_attribute}
@@ -24,7 +24,7 @@ ended_by : {A : Type 0} (q : Bool) (x y : A) → (if q then Some x else None) �
 ended_by true x y h = (refl, cc)
 ended_by false x y h = absurd (cc)
 
-ended_from : {A B : Type 0} (taken : A → B) (o : Outcome A) (y : B) → r.ended taken o ≡ Some y → (p : A × Input) × (o ≡ Some p) × (kind p.1 ≡ k.End) × (taken p.0 ≡ y)
+ended_from : {A B : Type 0} (taken : A → B) (o : Parsed A) (y : B) → r.ended taken o ≡ Some y → (p : A × Input) × (o ≡ Some p) × (kind p.1 ≡ k.End) × (taken p.0 ≡ y)
 ended_from taken None y h = absurd (cc)
 ended_from taken (Some p) y h =
     let e = ended_by (same k.End (kind p.1)) (taken p.0) y h in
@@ -74,7 +74,7 @@ pub record Calls (limit from : ℕ) (i : Input) (head : Head) : Type 0 where
   pub made : CallHead (text i) attributes (span from (next place)) ≡ head
   pub fits : entries_depth attributes ≤ limit
 
-called_from : (limit from : ℕ) (i : Input) (head : Head) (o : Outcome (Entries × ℕ)) → is_word (kind i) ≡ true → attributes limit (next i) ≡ o → r.call_ended (text i) from o ≡ Some head → Calls limit from i head
+called_from : (limit from : ℕ) (i : Input) (head : Head) (o : Parsed (Entries × ℕ)) → is_word (kind i) ≡ true → attributes limit (next i) ≡ o → r.call_ended (text i) from o ≡ Some head → Calls limit from i head
 called_from limit from i head None w e h = absurd (cc)
 called_from limit from i head (Some p) w e h =
     let made = Some (CallHead (text i) p.0.0 (span from (next p.1))) in
@@ -117,6 +117,6 @@ whole_room (suc n) i x h = omega arith
 pub put_read : (limit : ℕ) (s : r.Progress) (i : Input) (x : Expr) (n : Node) → r.whole (r.room limit s) i ≡ Some x → r.put limit s n ≡ Some (r.added s n)
 put_read limit s i x n h =
     let p = whole_room (r.room limit s) i x h in
-    let l : length s.frames < limit = omega (arith, p) in
-    let t : nat_lt (length s.frames) limit ≡ true = grind (arith, common_steps) in
+    let l : length s.statements < limit = omega (arith, p) in
+    let t : nat_lt (length s.statements) limit ≡ true = grind (arith, common_steps) in
     ap (λ (b : Bool). if b then Some (r.added s n) else None) t

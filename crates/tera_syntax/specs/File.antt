@@ -53,7 +53,7 @@ file_step limit f piece = if f.is_front && is_extends_piece piece then extending
 
 -- the tree, at the end of the text
 abbrev pub file_finished : File → Option Tree
-file_finished f = option_map (λ nodes. record { parent = f.parent; nodes = nodes }) (finished f.progress.frames f.progress.found)
+file_finished f = option_map (λ nodes. record { parent = f.parent; nodes = nodes }) (finished f.progress.statements f.progress.found)
 
 -- the tree of all pieces behind what was read
 abbrev pub file_run : ℕ → File → List Piece → Option Tree

@@ -5,7 +5,7 @@ use Rattle.tera_errors.specs.declared.span.Span.{Span}
 use Rattle.tera_syntax_tokens.specs.declared.token.Kind.{Kind}
 use Rattle.tera_syntax_tokens.specs.declared.token.Kind.TheVariants as k
 use Rattle.tera_syntax_tokens.specs.Token.{Token}
-use Rattle.tera_syntax_tokens.specs.Input.{Input, Outcome, begin, kind, text, start, next, span, same, is_word}
+use Rattle.tera_syntax_tokens.specs.Input.{Input, Parsed, begin, kind, text, start, next, span, same, is_word}
 use Rattle.tera_syntax_tokens.specs.Literal.{literal}
 use Rattle.tera_syntax_expressions.specs.Expressions.{expr, filters, attributes}
 use Rattle.tera_syntax_expressions.specs.Headings.{calls}
@@ -16,7 +16,7 @@ use Rattle.tera_syntax.specs.declared.heads.Surroundings.{Surroundings}
 use Rattle.tera_syntax.specs.Heads.{Head, IfHead, ForHead, SetHead, SectionHead, BlockHead, CallHead, DefinitionHead, outside, nested, make, splits, chains, inside, first, ends}
 
 -- what is taken of what was read, where the tag ends behind it
-abbrev pub ended : {A B : Type 0} → (A → B) → Outcome A → Option B
+abbrev pub ended : {A B : Type 0} → (A → B) → Parsed A → Option B
 ended taken None = None
 ended taken (Some p) = if same k.End (kind p.1) then Some (taken p.0) else None
 
@@ -36,7 +36,7 @@ abbrev pub one : Node → Nodes
 one node = MoreNodes node NoNodes
 
 -- What is open: a statement whose end is not read yet.
-pub record Frame : Type 0 where
+pub record OpenStatement : Type 0 where
   -- what stands in front of it
   pub before : Nodes
   pub head : Head
@@ -49,27 +49,27 @@ pub record Frame : Type 0 where
 
 -- how far the reading is: what is open, from the innermost on, the nodes that were read in it, and what these stand in
 pub record Progress : Type 0 where
-  pub frames : List Frame
+  pub statements : List OpenStatement
   pub found : Nodes
   pub surroundings : Surroundings
 
 abbrev pub begun : Progress
-begun = record { frames = []; found = NoNodes; surroundings = outside }
+begun = record { statements = []; found = NoNodes; surroundings = outside }
 
 -- whether a node may stand here, where nodes may be as deep as the limit at the top
 abbrev pub has_room : ℕ → Progress → Bool
-has_room limit s = nat_lt (length s.frames) limit
+has_room limit s = nat_lt (length s.statements) limit
 
 -- a node more
 abbrev pub added : Progress → Node → Progress
-added s node = record { frames = s.frames; found = join s.found (one node); surroundings = s.surroundings }
+added s node = record { statements = s.statements; found = join s.found (one node); surroundings = s.surroundings }
 
 abbrev pub put : ℕ → Progress → Node → Option Progress
 put limit s node = if has_room limit s then Some (added s node) else None
 
 -- how deep an expression of a tag may be here
 abbrev pub room : ℕ → Progress → ℕ
-room limit s = limit - suc (length s.frames)
+room limit s = limit - suc (length s.statements)
 
 -- what the end of a statement makes of what was read last
 abbrev pub made : Head → Option Nodes → Nodes → Node
@@ -77,43 +77,43 @@ made head None found = make head found NoNodes
 made head (Some body) found = make head body found
 
 -- what stands in front of a statement, and the statement
-abbrev pub row : Frame → Nodes → Nodes
+abbrev pub row : OpenStatement → Nodes → Nodes
 row f found = join f.before (one (made f.head f.body found))
 
 -- a statement with a body begins
 abbrev pub opened : ℕ → Bool → Progress → Head → Option Progress
 opened limit is_chained s head =
     if has_room limit s then Some (record {
-      frames = record { before = s.found; head = head; body = None; is_chained = is_chained; surroundings = s.surroundings } ∷ s.frames;
+      statements = record { before = s.found; head = head; body = None; is_chained = is_chained; surroundings = s.surroundings } ∷ s.statements;
       found = NoNodes;
       surroundings = inside head s.surroundings;
     }) else None
 
-abbrev pub turned_by : Frame → Option Nodes → List Frame → Nodes → Option Progress
+abbrev pub turned_by : OpenStatement → Option Nodes → List OpenStatement → Nodes → Option Progress
 turned_by f (Some body) fs found = None
 turned_by f None fs found =
-    Some (record { frames = record { before = f.before; head = f.head; body = Some found; is_chained = f.is_chained; surroundings = f.surroundings } ∷ fs; found = NoNodes; surroundings = f.surroundings })
+    Some (record { statements = record { before = f.before; head = f.head; body = Some found; is_chained = f.is_chained; surroundings = f.surroundings } ∷ fs; found = NoNodes; surroundings = f.surroundings })
 
 -- `else`, or the first half of a tag that goes on, at a head that may have it: what was read is the body
-abbrev pub turned : (Head → Bool) → List Frame → Nodes → Option Progress
+abbrev pub turned : (Head → Bool) → List OpenStatement → Nodes → Option Progress
 turned may [] found = None
 turned may (f ∷ fs) found = if may f.head then turned_by f f.body fs found else None
 
 -- what follows stands in the statement too
 abbrev pub aside : Progress → Progress
-aside s = record { frames = s.frames; found = s.found; surroundings = nested s.surroundings }
+aside s = record { statements = s.statements; found = s.found; surroundings = nested s.surroundings }
 
-abbrev pub closed : List Frame → Nodes → Option Progress
+abbrev pub closed : List OpenStatement → Nodes → Option Progress
 closed [] found = None
-closed (f ∷ fs) found = if f.is_chained then closed fs (row f found) else Some (record { frames = fs; found = row f found; surroundings = f.surroundings })
+closed (f ∷ fs) found = if f.is_chained then closed fs (row f found) else Some (record { statements = fs; found = row f found; surroundings = f.surroundings })
 
 -- the end of what is open
-abbrev pub shut : List Token → List Frame → Nodes → Option Progress
+abbrev pub shut : List Token → List OpenStatement → Nodes → Option Progress
 shut tokens [] found = None
 shut tokens (f ∷ fs) found = if ends f.head tokens then closed (f ∷ fs) found else None
 
 -- what it stands in that is open
-abbrev pub around : List Frame → Surroundings
+abbrev pub around : List OpenStatement → Surroundings
 around [] = outside
 around (f ∷ fs) = f.surroundings
 
@@ -128,7 +128,7 @@ pub data Tag : Type 0 where
   -- any other, which may be an end
   Closing : Tag
 
-abbrev pub looping_by : ℕ → Outcome (Option Name × Name) → Option Head
+abbrev pub looping_by : ℕ → Parsed (Option Name × Name) → Option Head
 looping_by limit None = None
 looping_by limit (Some p) = option_map (ForHead p.0.0 p.0.1) (whole limit p.1)
 
@@ -165,7 +165,7 @@ signed limit i = ended (λ s. s) (signature limit i)
 abbrev pub defining : Bool → ℕ → Input → Option Tag
 defining q limit i = if q then option_map (λ s. Opening (DefinitionHead s)) (signed limit i) else None
 
-abbrev pub call_ended : Name → ℕ → Outcome (Entries × ℕ) → Option Head
+abbrev pub call_ended : Name → ℕ → Parsed (Entries × ℕ) → Option Head
 call_ended name from None = None
 call_ended name from (Some p) = if same k.Greater (kind p.1) then (if same k.End (kind (next p.1)) then Some (CallHead name p.0.0 (span from (next p.1))) else None) else None
 
@@ -236,13 +236,13 @@ tag limit q outer tokens = tag_by limit q outer tokens (first tokens)
 abbrev pub taken : ℕ → Progress → List Token → Tag → Option Progress
 taken limit s tokens (Single node) = put limit s node
 taken limit s tokens (Opening head) = opened limit false s head
-taken limit s tokens (GoingOn head) = option_and_then (λ t. opened limit true t head) (turned chains s.frames s.found)
-taken limit s tokens Turning = option_map aside (turned splits s.frames s.found)
-taken limit s tokens Closing = shut tokens s.frames s.found
+taken limit s tokens (GoingOn head) = option_and_then (λ t. opened limit true t head) (turned chains s.statements s.found)
+taken limit s tokens Turning = option_map aside (turned splits s.statements s.found)
+taken limit s tokens Closing = shut tokens s.statements s.found
 
 -- a statement, or a tag that belongs to one
 unfoldable pub statement : ℕ → Progress → List Token → Option Progress
-statement limit s tokens = option_and_then (taken limit s tokens) (tag (room limit s) s.surroundings (around s.frames) tokens)
+statement limit s tokens = option_and_then (taken limit s tokens) (tag (room limit s) s.surroundings (around s.statements) tokens)
 
 abbrev pub printed : ℕ → Progress → Option Expr → Option Progress
 printed limit s None = None
@@ -262,13 +262,13 @@ step limit s (Block tokens) = statement limit s tokens
 step limit s Broken = None
 
 -- at the end nothing is open
-abbrev pub finished : List Frame → Nodes → Option Nodes
+abbrev pub finished : List OpenStatement → Nodes → Option Nodes
 finished [] found = Some found
 finished (f ∷ fs) found = None
 
 -- the nodes of all pieces behind what was read
 abbrev pub run : ℕ → Progress → List Piece → Option Nodes
-run limit s [] = finished s.frames s.found
+run limit s [] = finished s.statements s.found
 run limit s (piece ∷ rest) = option_and_then (λ t. run limit t rest) (step limit s piece)
 
 -- the nodes of all pieces, no deeper than this

@@ -14,13 +14,13 @@ use Rattle.tera_syntax_tree.specs.Blocks.{node_blocks}
 use Rattle.tera_syntax_tree.specs.Definitions.{node_definitions}
 use Rattle.tera_syntax_tree.specs.View.{expr_of, entries_of, filters_of, signature_of, nodes_of, quoted_option}
 use Rattle.tera_syntax.specs.Heads.{Head, IfHead, ForHead, SetHead, SectionHead, BlockHead, CallHead, DefinitionHead}
-use Rattle.tera_syntax.specs.Reader.{Frame, Progress}
+use Rattle.tera_syntax.specs.Reader.{OpenStatement, Progress}
 use Rattle.tera_syntax.specs.File.{File}
 use Rattle.tera_syntax.specs.declared.blocks.PlacedName.{PlacedName}
 use Rattle.tera_syntax.specs.declared.file.File as file
 use Rattle.tera_syntax.specs.declared.heads.Head as head
 use Rattle.tera_syntax.specs.declared.heads.Head.TheVariants as variant
-use Rattle.tera_syntax.specs.declared.progress.Frame as frame
+use Rattle.tera_syntax.specs.declared.progress.OpenStatement as statement
 use Rattle.tera_syntax.specs.declared.progress.Progress as progress
 
 abbrev pub heading_of : Heading → Head
@@ -42,15 +42,15 @@ abbrev pub body_of : Option (Vec declared.Node Global) → Option Nodes
 body_of None = None
 body_of (Some nodes) = Some (nodes_of nodes.items)
 
-abbrev pub frame_of : frame.Frame → Frame
-frame_of f = record { before = nodes_of f.before.items; head = head_of f.head; body = body_of f.body; is_chained = f.is_chained; surroundings = f.surroundings }
+abbrev pub statement_of : statement.OpenStatement → OpenStatement
+statement_of f = record { before = nodes_of f.before.items; head = head_of f.head; body = body_of f.body; is_chained = f.is_chained; surroundings = f.surroundings }
 
 -- the innermost stands last in memory
-abbrev pub frames_of : List frame.Frame → List Frame
-frames_of fs = map frame_of (reverse fs)
+abbrev pub statements_of : List statement.OpenStatement → List OpenStatement
+statements_of fs = map statement_of (reverse fs)
 
 abbrev pub progress_of : progress.Progress → Progress
-progress_of s = record { frames = frames_of s.frames.items; found = nodes_of s.found.items; surroundings = s.surroundings }
+progress_of s = record { statements = statements_of s.statements.items; found = nodes_of s.found.items; surroundings = s.surroundings }
 
 abbrev pub file_of : file.File → File
 file_of f = record { parent = quoted_option f.parent; is_front = f.is_front; progress = progress_of f.progress }

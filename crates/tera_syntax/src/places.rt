@@ -10,7 +10,7 @@ ghost use Rattle.tera_syntax_tree.specs.Delimiters.{accepted, delimiters_of};
 ghost use Rattle.tera_syntax_tree.specs.Inside.{Within};
 
 use tera_errors::Span;
-use tera_syntax_tokens::cut::{Found, Piece, block_end};
+use tera_syntax_tokens::cut::{FoundPiece, Piece, block_end};
 use tera_syntax_tokens::refusal::{Reason, Refusal};
 use tera_syntax_tokens::token::Token;
 use tera_syntax_tree::Delimiters;
@@ -25,7 +25,7 @@ pub(crate) struct Standing {
 impl Standing {
     /// Of a piece that begins at this place.
     #[inline(always)]
-    pub fn new(delimiters: &Delimiters, at: usize, found: &Found<'_>) -> Standing
+    pub fn new(delimiters: &Delimiters, at: usize, found: &FoundPiece<'_>) -> Standing
         ensures { (size : ℕ) → at ≤ found.now.next → found.now.next ≤ size
             → StandsWithin size result }
     {

@@ -2,7 +2,7 @@
 ghost use Rattle.std.specs.Prelude.{◌≡◌, ◌-◌, true, Some, IfErr, option_map};
 ghost use Rattle.tera_syntax.specs.Heads as heads;
 ghost use Rattle.tera_syntax.specs.Reader as spec;
-ghost use Rattle.tera_syntax.specs.View.{Becomes, body_of, frame_of, head_of, progress_of};
+ghost use Rattle.tera_syntax.specs.View.{Becomes, body_of, statement_of, head_of, progress_of};
 ghost use Rattle.tera_syntax_tokens.specs.Answers.{Answers, IsSyntax};
 ghost use Rattle.tera_syntax_tokens.specs.Token.{tokens_of};
 ghost use Rattle.tera_syntax_tree.specs.View.{node_of, nodes_of};
@@ -21,7 +21,7 @@ const MAX_DEPTH: usize = 200;
 
 /// A statement whose end is not read yet.
 #[derive(Drop)]
-pub(crate) struct Frame<'s> {
+pub(crate) struct OpenStatement<'s> {
     /// What stands in front of it.
     before: Vec<Node<'s>>,
     head: Head<'s>,
@@ -39,7 +39,7 @@ pub(crate) struct Frame<'s> {
 #[derive(Drop)]
 pub(crate) struct Progress<'s> {
     /// The innermost last.
-    frames: Vec<Frame<'s>>,
+    statements: Vec<OpenStatement<'s>>,
     found: Vec<Node<'s>>,
     /// What these nodes stand in.
     pub surroundings: Surroundings,
@@ -83,16 +83,20 @@ fn made<'s>(
 
 /// What stands in front of a statement, and the statement.
 #[tactic(auto, using(crate::proofs::Rows::nodes_push))]
-fn row<'s>(alloc: Global, frame: Frame<'s>, found: Vec<Node<'s>>) -> Result<Vec<Node<'s>>, Refusal>
-    ensures { let meant = spec.row (frame_of frame.entry) (nodes_of found.entry.items) in
+fn row<'s>(
+    alloc: Global,
+    statement: OpenStatement<'s>,
+    found: Vec<Node<'s>>,
+) -> Result<Vec<Node<'s>>, Refusal>
+    ensures { let meant = spec.row (statement_of statement.entry) (nodes_of found.entry.items) in
         Answers (λ nodes. nodes_of nodes.items) (Some meant) result }
 {
-    let Frame {
+    let OpenStatement {
         mut before,
         head,
         body,
         ..
-    } = frame;
+    } = statement;
     before.push(made(alloc, head, body, found))?;
     Ok(before)
 }
@@ -102,7 +106,7 @@ impl<'s> Progress<'s> {
         ensures { progress_of result ≡ spec.begun }
     {
         Progress {
-            frames: Vec::new(alloc),
+            statements: Vec::new(alloc),
             found: Vec::new(alloc),
             surroundings: Surroundings::outside(),
             tag: 0,
@@ -113,15 +117,15 @@ impl<'s> Progress<'s> {
     pub fn room(&self) -> usize
         ensures { result ≡ spec.room 200 (progress_of self.now) }
     {
-        MAX_DEPTH.saturating_sub(self.frames.len() + 1)
+        MAX_DEPTH.saturating_sub(self.statements.len() + 1)
     }
 
     /// What it stands in that is open.
     pub fn around(&self) -> Surroundings
-        ensures { result ≡ spec.around (progress_of self.now).frames }
+        ensures { result ≡ spec.around (progress_of self.now).statements }
     {
-        match self.frames.last() {
-            Some(frame) => frame.surroundings,
+        match self.statements.last() {
+            Some(statement) => statement.surroundings,
             None => Surroundings::outside(),
         }
     }
@@ -130,7 +134,7 @@ impl<'s> Progress<'s> {
     pub fn has_room(&self) -> bool
         ensures { result ≡ spec.has_room 200 (progress_of self.now) }
     {
-        self.frames.len() < MAX_DEPTH
+        self.statements.len() < MAX_DEPTH
     }
 
     /// Puts a node behind those that were read, where it may stand.
@@ -165,7 +169,7 @@ impl<'s> Progress<'s> {
             self.tag
         };
         let before = replace(&mut self.found, Vec::new(alloc));
-        self.frames.push(Frame {
+        self.statements.push(OpenStatement {
             before,
             head,
             body: None,
@@ -180,11 +184,11 @@ impl<'s> Progress<'s> {
     /// `else`: what was read is the body.
     pub fn split(&mut self, alloc: Global, tag: &[Token<'_>]) -> Result<(), Refusal>
         ensures { let s = progress_of self.old in
-            let meant = option_map spec.aside (spec.turned heads.splits s.frames s.found) in
+            let meant = option_map spec.aside (spec.turned heads.splits s.statements s.found) in
             Becomes meant result self.new }
     {
-        match self.frames.last() {
-            Some(frame) if frame.head.splits() => self.turn_aside(alloc, tag),
+        match self.statements.last() {
+            Some(statement) if statement.head.splits() => self.turn_aside(alloc, tag),
             _ => Err(refused(tag, Reason::NotOpen)),
         }
     }
@@ -192,7 +196,7 @@ impl<'s> Progress<'s> {
     /// The same where it may have an `else`.
     fn turn_aside(&mut self, alloc: Global, tag: &[Token<'_>]) -> Result<(), Refusal>
         ensures { let s = progress_of self.old in
-            let meant = option_map spec.aside (spec.turned (λ head. true) s.frames s.found) in
+            let meant = option_map spec.aside (spec.turned (λ head. true) s.statements s.found) in
             Becomes meant result self.new }
     {
         match self.turn(alloc, tag) {
@@ -207,50 +211,50 @@ impl<'s> Progress<'s> {
     /// The first half of a tag that goes on with a statement: what was read is the body.
     pub fn go_on(&mut self, alloc: Global, tag: &[Token<'_>]) -> Result<(), Refusal>
         ensures { let s = progress_of self.old in
-            Becomes (spec.turned heads.chains s.frames s.found) result self.new }
+            Becomes (spec.turned heads.chains s.statements s.found) result self.new }
     {
-        match self.frames.last() {
-            Some(frame) if frame.head.chains() => self.turn(alloc, tag),
+        match self.statements.last() {
+            Some(statement) if statement.head.chains() => self.turn(alloc, tag),
             _ => Err(refused(tag, Reason::NotOpen)),
         }
     }
 
     fn turn(&mut self, alloc: Global, tag: &[Token<'_>]) -> Result<(), Refusal>
         ensures { let s = progress_of self.old in
-            Becomes (spec.turned (λ head. true) s.frames s.found) result self.new }
+            Becomes (spec.turned (λ head. true) s.statements s.found) result self.new }
     {
-        let Some(mut frame) = self.frames.pop() else {
+        let Some(mut statement) = self.statements.pop() else {
             return Err(refused(tag, Reason::NotOpen));
         };
-        if frame.body.is_some() {
+        if statement.body.is_some() {
             return Err(refused(tag, Reason::NotOpen));
         }
-        self.surroundings = frame.surroundings;
-        frame.body = Some(replace(&mut self.found, Vec::new(alloc)));
-        self.frames.push(frame)?;
+        self.surroundings = statement.surroundings;
+        statement.body = Some(replace(&mut self.found, Vec::new(alloc)));
+        self.statements.push(statement)?;
         Ok(())
     }
 
     /// The end of what is open.
     pub fn shut(&mut self, alloc: Global, tag: &[Token<'_>]) -> Result<(), Refusal>
         ensures { let s = progress_of self.old in
-            Becomes (spec.shut (tokens_of tag.now) s.frames s.found) result self.new }
+            Becomes (spec.shut (tokens_of tag.now) s.statements s.found) result self.new }
     {
-        match self.frames.last() {
-            Some(frame) if frame.head.is_ended_by(tag) => self.close(alloc, tag),
+        match self.statements.last() {
+            Some(statement) if statement.head.is_ended_by(tag) => self.close(alloc, tag),
             _ => Err(refused(tag, stray(tag))),
         }
     }
 
     fn close(&mut self, alloc: Global, tag: &[Token<'_>]) -> Result<(), Refusal>
         ensures { let s = progress_of self.old in
-            Becomes (spec.closed s.frames s.found) result self.new }
+            Becomes (spec.closed s.statements s.found) result self.new }
     {
-        while let Some(frame) = self.frames.pop() {
-            let is_chained = frame.is_chained;
-            self.surroundings = frame.surroundings;
+        while let Some(statement) = self.statements.pop() {
+            let is_chained = statement.is_chained;
+            self.surroundings = statement.surroundings;
             let found = replace(&mut self.found, Vec::new(alloc));
-            self.found = match row(alloc, frame, found) {
+            self.found = match row(alloc, statement, found) {
                 Ok(found) => found,
                 Err(refusal) => return Err(refusal),
             };
@@ -263,22 +267,26 @@ impl<'s> Progress<'s> {
 
     /// Where the first tag begins of the innermost statement that is open.
     fn innermost(&self) -> usize {
-        match self.frames.last() {
-            Some(frame) => frame.opened,
+        match self.statements.last() {
+            Some(statement) => statement.opened,
             None => self.tag,
         }
     }
 
     /// The nodes, where the text ends here. It takes no memory. A statement that is open is told of by where its first tag begins.
     pub fn finish(self) -> Result<Vec<Node<'s>>, Refusal>
-        ensures value { let meant = spec.finished (progress_of self.entry).frames
+        ensures value { let meant = spec.finished (progress_of self.entry).statements
             (progress_of self.entry).found in
             Answers (λ nodes. nodes_of nodes.items) meant result }
         ensures told { IfErr result IsSyntax }
     {
         let start = self.innermost();
-        let Progress { frames, found, .. } = self;
-        if frames.is_empty() {
+        let Progress {
+            statements,
+            found,
+            ..
+        } = self;
+        if statements.is_empty() {
             Ok(found)
         } else {
             Err(Refusal::Syntax(Reason::NoEnd, Span { start, end: start }))

@@ -4,7 +4,7 @@ use Rattle.std.proofs.lemmas.Grind.{common_steps}
 use Rattle.tera_syntax_tree.specs.Tree.{Expr, Name}
 use Rattle.tera_syntax_tokens.specs.declared.token.Kind.{Kind}
 use Rattle.tera_syntax_tokens.specs.declared.token.Kind.TheVariants as k
-use Rattle.tera_syntax_tokens.specs.Input.{Input, Outcome, Parser, and_then, same, kind, start, text, next, left, span}
+use Rattle.tera_syntax_tokens.specs.Input.{Input, Parsed, Parser, and_then, same, kind, start, text, next, left, span}
 use Rattle.tera_syntax_expressions.specs.Loops.{loop_name}
 use Rattle.tera_syntax_expressions.specs.Arguments.{is_call}
 use Rattle.tera_syntax_expressions.specs.Expressions.{Deep, needs, gives, begins, goes_on, opened, node, leaf, name_by, head, head_by, climb, level, level_with}
@@ -36,7 +36,7 @@ unfolding opened
 not_open zero os i h = refl
 not_open (suc n) os i h = rw h refl
 
-kept : (o : Outcome Deep) (f : Deep → Parser Deep) → ((x : Deep) (j : Input) → o ≡ Some (x, j) → f x j ≡ Some (x, j)) → and_then o f ≡ o
+kept : (o : Parsed Deep) (f : Deep → Parser Deep) → ((x : Deep) (j : Input) → o ≡ Some (x, j) → f x j ≡ Some (x, j)) → and_then o f ≡ o
 kept None f h = refl
 kept (Some p) f h = h p.0 p.1 refl
 

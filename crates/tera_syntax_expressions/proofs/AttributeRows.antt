@@ -5,7 +5,7 @@ use Rattle.tera_syntax_tree.specs.Tree.{Expr, Text, Component, Key, TextKey, Ent
 use Rattle.tera_syntax_tree.specs.Depth.{depth, entries_depth}
 use Rattle.tera_syntax_tokens.specs.declared.token.Kind.{Kind}
 use Rattle.tera_syntax_tokens.specs.declared.token.Kind.TheVariants as k
-use Rattle.tera_syntax_tokens.specs.Input.{Input, Outcome, Parser, and_then, same, kind, start, text, next, left, span, expect, is_word}
+use Rattle.tera_syntax_tokens.specs.Input.{Input, Parsed, Parser, and_then, same, kind, start, text, next, left, span, expect, is_word}
 use Rattle.tera_syntax_tokens.specs.Literal.{literal}
 use Rattle.tera_syntax_expressions.specs.Arguments.{argument_name, begins_attribute}
 use Rattle.tera_syntax_expressions.specs.Grammar.{Derives, component, DerivesValue, text_value, braced_value, DerivesAttribute, named_attribute, spread_attribute, DerivesAttributes, no_attributes, more_attributes}
@@ -56,8 +56,8 @@ module _ (limit : ℕ) (part : ℕ → Parser Deep) where
   attributes-more n found d p i a y h e q = attributes-next n found d i h ∙ ap (λ o. and_then o (attributes-behind n d)) e ∙ q
 
   -- a turn of the loop that finds one
-  pub attributes-turn : {meant : Outcome (Entries × ℕ)} (n at : ℕ) (found : Entries) (d : ℕ) (i : Input) → at < n → meant ≡ r.attributes_from limit part (n - at) found d i → begins_attribute (kind i) ≡ true
-      → {o : Outcome (Entries × ℕ)} → r.any_attribute limit part found i ≡ o → meant ≡ and_then o (attributes-behind (n - (at + 1)) d)
+  pub attributes-turn : {meant : Parsed (Entries × ℕ)} (n at : ℕ) (found : Entries) (d : ℕ) (i : Input) → at < n → meant ≡ r.attributes_from limit part (n - at) found d i → begins_attribute (kind i) ≡ true
+      → {o : Parsed (Entries × ℕ)} → r.any_attribute limit part found i ≡ o → meant ≡ and_then o (attributes-behind (n - (at + 1)) d)
   attributes-turn n at found d i lt turn h e =
       one_more (λ n. r.attributes_from limit part n found d i) n at lt turn ∙ attributes-next (n - (at + 1)) found d i h ∙ ap (λ o. and_then o (attributes-behind (n - (at + 1)) d)) e
 

@@ -8,7 +8,7 @@ use Rattle.tera_syntax_tree.specs.Tree.{Arguments, Filters, NoFilters, MoreFilte
 use Rattle.tera_syntax_tree.specs.Depth.{arguments_depth, filters_depth}
 use Rattle.tera_syntax_tree.specs.View.{arguments_of, filters_of}
 use Rattle.tera_syntax_tokens.specs.declared.token.Kind.TheVariants.{Bar}
-use Rattle.tera_syntax_tokens.specs.Input.{Input, Outcome, Parser, and_then, kind, text, start, next, same, span, is_word}
+use Rattle.tera_syntax_tokens.specs.Input.{Input, Parsed, Parser, and_then, kind, text, start, next, same, span, is_word}
 use Rattle.tera_syntax_expressions.specs.Expressions as r
 use Rattle.tera_syntax_expressions.specs.Expressions.{Deep, join_filters, one_filter}
 use Rattle.tera_syntax_expressions.proofs.Steps.{unlike, alike}
@@ -62,8 +62,8 @@ module _ (limit : ℕ) (sub : ℕ → Parser Deep) where
   filters_end n d p j h = rw h refl
 
   -- a turn of the loop: a filter, the bar behind it, and no bar
-  module _ {meant : Outcome (Filters × ℕ)} (n at : ℕ) (found : Filters) (d : ℕ) (i : Input) (lt : at < n) (turn : meant ≡ r.filters_from limit sub (n - at) found d i) where
-    pub filters_turn : {o : Outcome (Filters × ℕ)} → r.section_filter limit sub found i ≡ o → meant ≡ and_then o (filters_behind (n - (at + 1)) d)
+  module _ {meant : Parsed (Filters × ℕ)} (n at : ℕ) (found : Filters) (d : ℕ) (i : Input) (lt : at < n) (turn : meant ≡ r.filters_from limit sub (n - at) found d i) where
+    pub filters_turn : {o : Parsed (Filters × ℕ)} → r.section_filter limit sub found i ≡ o → meant ≡ and_then o (filters_behind (n - (at + 1)) d)
     filters_turn e = one_more (λ n. r.filters_from limit sub n found d i) n at lt turn ∙ filters_next (n - (at + 1)) found d i ∙ ap (λ o. and_then o (filters_behind (n - (at + 1)) d)) e
 
     pub filters_more : {all : Filters} {b : ℕ} {j : Input} → r.section_filter limit sub found i ≡ Some ((all, b), j) → same Bar (kind j) ≡ true → {most : ℕ} → most ≡ max d b → {a : Input} → a ≡ next j

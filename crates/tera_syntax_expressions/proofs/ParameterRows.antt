@@ -3,7 +3,7 @@ use Rattle.std.proofs.Common.{◌≡◌, ℕ, suc, ◌+◌, ◌-◌, ◌<◌, Li
 use Rattle.tera_errors.specs.Site.{Name}
 use Rattle.tera_syntax_tree.specs.Tree.{Parameter}
 use Rattle.tera_syntax_tokens.specs.declared.token.Kind.TheVariants.{Spread, Comma}
-use Rattle.tera_syntax_tokens.specs.Input.{Input, Outcome, Parser, and_then, kind, next, same}
+use Rattle.tera_syntax_tokens.specs.Input.{Input, Parsed, Parser, and_then, kind, next, same}
 use Rattle.tera_syntax_expressions.specs.Headings.{name}
 use Rattle.tera_syntax_expressions.specs.Parameters.{with_parameter, rest_name, behind_parameter, parameters_from}
 use Rattle.tera_syntax_expressions.proofs.Turns.{one_more}
@@ -31,12 +31,12 @@ module _ (limit : ℕ) where
   parameters_end n found j h = rw h refl
 
   -- a turn of the loop: what takes all others, a parameter, the comma behind it, and no comma
-  module _ {meant : Outcome (List Parameter × Option Name)} (n at : ℕ) (found : List Parameter) (i : Input) (lt : at < n) (turn : meant ≡ parameters_from limit (n - at) found i) where
-    pub parameters_last : same Spread (kind i) ≡ true → {a : Input} → a ≡ next i → {o : Outcome Name} → name a ≡ o → meant ≡ and_then o (λ rest. λ j. Some ((found, Some rest), j))
+  module _ {meant : Parsed (List Parameter × Option Name)} (n at : ℕ) (found : List Parameter) (i : Input) (lt : at < n) (turn : meant ≡ parameters_from limit (n - at) found i) where
+    pub parameters_last : same Spread (kind i) ≡ true → {a : Input} → a ≡ next i → {o : Parsed Name} → name a ≡ o → meant ≡ and_then o (λ rest. λ j. Some ((found, Some rest), j))
     unfolding rest_name
     parameters_last h {a = a} f e = one_more (λ n. parameters_from limit n found i) n at lt turn ∙ parameters_rest (n - (at + 1)) found i h ∙ ap (rest_name found) (sym f) ∙ ap (λ o. and_then o (λ rest. λ j. Some ((found, Some rest), j))) e
 
-    pub parameters_turn : same Spread (kind i) ≡ false → {o : Outcome (List Parameter)} → with_parameter limit found i ≡ o → meant ≡ and_then o (parameters_behind (n - (at + 1)))
+    pub parameters_turn : same Spread (kind i) ≡ false → {o : Parsed (List Parameter)} → with_parameter limit found i ≡ o → meant ≡ and_then o (parameters_behind (n - (at + 1)))
     parameters_turn h e = one_more (λ n. parameters_from limit n found i) n at lt turn ∙ parameters_next (n - (at + 1)) found i h ∙ ap (λ o. and_then o (parameters_behind (n - (at + 1)))) e
 
     pub parameters_more : same Spread (kind i) ≡ false → {all : List Parameter} {j : Input} → with_parameter limit found i ≡ Some (all, j) → same Comma (kind j) ≡ true → {a : Input} → a ≡ next j

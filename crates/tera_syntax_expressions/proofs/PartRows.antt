@@ -6,7 +6,7 @@ use Rattle.tera_syntax_tree.specs.Tree.{Literals, NoLiterals, MoreLiterals, Lite
 use Rattle.tera_syntax_tree.specs.View.{literal_of, literals_of, literal_entries_of, written_of}
 use Rattle.tera_syntax_tokens.specs.declared.token.Kind.{Kind}
 use Rattle.tera_syntax_tokens.specs.declared.token.Kind.TheVariants.{Comma}
-use Rattle.tera_syntax_tokens.specs.Input.{Input, Outcome, Parser, and_then, kind, next, left, same}
+use Rattle.tera_syntax_tokens.specs.Input.{Input, Parsed, Parser, and_then, kind, next, left, same}
 use Rattle.tera_syntax_expressions.specs.Literals.{closed, behind_part, parts_from, join_literals, one_literal, join_literal_entries, one_literal_entry, written, written_by}
 use Rattle.tera_syntax_expressions.proofs.Turns.{one_more, no_more}
 
@@ -41,11 +41,11 @@ module _ {A : Type 0} (closing : Kind) (step : A → Parser A) where
       ap (λ n. parts_from closing step n first i) z ∙ ap (λ f. parts_from closing step (n - 0) f i) (sym f)
 
   -- A turn of the loop: what closes, a part and what is behind it, and no part
-  module _ {X : Outcome A} (n at : ℕ) (found : A) (i : Input) where
+  module _ {X : Parsed A} (n at : ℕ) (found : A) (i : Input) where
     pub turn_end : at < n → X ≡ parts_from closing step (n - at) found i → same closing (kind i) ≡ true → (j : Input) → j ≡ next i → X ≡ Some (found, j)
     turn_end lt e s j t = one_more (λ n. parts_from closing step n found i) n at lt e ∙ parts_end (n - (at + 1)) found i s ∙ ap (λ j. Some (found, j)) (sym t)
 
-    pub turn_part : {o : Outcome A} → at < n → X ≡ parts_from closing step (n - at) found i → same closing (kind i) ≡ false → step found i ≡ o → X ≡ and_then o (parts_behind (n - (at + 1)))
+    pub turn_part : {o : Parsed A} → at < n → X ≡ parts_from closing step (n - at) found i → same closing (kind i) ≡ false → step found i ≡ o → X ≡ and_then o (parts_behind (n - (at + 1)))
     turn_part lt e s p = one_more (λ n. parts_from closing step n found i) n at lt e ∙ parts_next (n - (at + 1)) found i s ∙ ap (λ o. and_then o (parts_behind (n - (at + 1)))) p
 
     pub turn_over : n ≤ at → X ≡ parts_from closing step (n - at) found i → X ≡ None

@@ -7,7 +7,7 @@ use Rattle.tera_syntax_tree.specs.declared.expression.Argument as argument
 use Rattle.tera_syntax_tree.specs.Tree.{Expr, Arguments, NoArguments, MoreArguments}
 use Rattle.tera_syntax_tree.specs.View.{arguments_of, expr_of}
 use Rattle.tera_syntax_tokens.specs.declared.token.Kind.TheVariants.{RightParenthesis}
-use Rattle.tera_syntax_tokens.specs.Input.{Input, Outcome, Parser, and_then, kind, text, next, same}
+use Rattle.tera_syntax_tokens.specs.Input.{Input, Parsed, Parser, and_then, kind, text, next, same}
 use Rattle.tera_syntax_expressions.specs.Arguments.{name_cmp, put_argument, argument_name}
 use Rattle.tera_syntax_expressions.specs.Parts.{place_of}
 use Rattle.tera_syntax_expressions.specs.Expressions as r
@@ -75,18 +75,18 @@ module _ (limit : ℕ) (sub : ℕ → Parser Deep) where
   unfolding r.argument
   argument_unplaced found i h = go (argument_name i) refl
     where
-      value : (o : Outcome Deep) → and_then o (λ x. r.placed limit sub (put_argument (text i) x.expr found) x.depth) ≡ None
+      value : (o : Parsed Deep) → and_then o (λ x. r.placed limit sub (put_argument (text i) x.expr found) x.depth) ≡ None
       value None = refl
       value (Some p) = ap (λ o. r.placed limit sub o p.0.depth p.1) (not-placed (text i) p.0.expr found h)
 
-      go : (o : Outcome Name) → argument_name i ≡ o → and_then o (λ n. λ j. and_then (sub 0 j) (λ x. r.placed limit sub (put_argument n x.expr found) x.depth)) ≡ None
+      go : (o : Parsed Name) → argument_name i ≡ o → and_then o (λ n. λ j. and_then (sub 0 j) (λ x. r.placed limit sub (put_argument n x.expr found) x.depth)) ≡ None
       go None e = refl
       go (Some p) e =
           let n = named-got i p.1 p.0 e in
           ap (λ n. and_then (sub 0 p.1) (λ x. r.placed limit sub (put_argument n x.expr found) x.depth)) n.2 ∙ value (sub 0 p.1)
 
 -- A turn of the loop over arguments: what closes, no argument, and an argument with what is behind it
-module _ (limit : ℕ) (sub : ℕ → Parser Deep) {meant : Outcome (Arguments × ℕ)} (n at : ℕ) (found : Arguments) (d : ℕ) (i : Input) (lt : at < n) (turn : meant ≡ r.arguments_from limit sub (n - at) found d i) where
+module _ (limit : ℕ) (sub : ℕ → Parser Deep) {meant : Parsed (Arguments × ℕ)} (n at : ℕ) (found : Arguments) (d : ℕ) (i : Input) (lt : at < n) (turn : meant ≡ r.arguments_from limit sub (n - at) found d i) where
   abbrev argument_rest : Arguments × ℕ → Parser (Arguments × ℕ)
   argument_rest = r.behind_argument limit sub (r.arguments_from limit sub (n - (at + 1))) d
 
@@ -94,7 +94,7 @@ module _ (limit : ℕ) (sub : ℕ → Parser Deep) {meant : Outcome (Arguments �
   unfolding r.arguments_from
   arguments_end h e = one_more (λ n. r.arguments_from limit sub n found d i) n at lt turn ∙ rw h (ap (λ j. Some ((found, d), j)) (sym e))
 
-  pub arguments_next : same RightParenthesis (kind i) ≡ false → {o : Outcome (Arguments × ℕ)} → r.argument limit sub found i ≡ o → meant ≡ and_then o argument_rest
+  pub arguments_next : same RightParenthesis (kind i) ≡ false → {o : Parsed (Arguments × ℕ)} → r.argument limit sub found i ≡ o → meant ≡ and_then o argument_rest
   unfolding r.arguments_from
   arguments_next h e = one_more (λ n. r.arguments_from limit sub n found d i) n at lt turn ∙ rw h (ap (λ o. and_then o argument_rest) e)
 

@@ -7,11 +7,11 @@ use Rattle.tera_syntax_tree.specs.Depth.{depth}
 use Rattle.tera_syntax_tokens.specs.contracts.token.Kind.{the_type}
 use Rattle.tera_syntax_tokens.specs.declared.token.Kind.{Kind}
 use Rattle.tera_syntax_tokens.specs.declared.token.Kind.TheVariants as k
-use Rattle.tera_syntax_tokens.specs.Input.{Input, Outcome, Parser, and_then, same, kind, next, expect, is_word}
+use Rattle.tera_syntax_tokens.specs.Input.{Input, Parsed, Parser, and_then, same, kind, next, expect, is_word}
 use Rattle.tera_syntax_expressions.specs.Arguments.{is_test_name}
 use Rattle.tera_syntax_expressions.specs.Expressions.{Deep, deep, node}
 
-pub and_then-some : {A B : Type 0} (o : Outcome A) (f : A → Parser B) (y : B × Input) → and_then o f ≡ Some y → (x : A) × (j : Input) × (o ≡ Some (x, j)) × (f x j ≡ Some y)
+pub and_then-some : {A B : Type 0} (o : Parsed A) (f : A → Parser B) (y : B × Input) → and_then o f ≡ Some y → (x : A) × (j : Input) × (o ≡ Some (x, j)) × (f x j ≡ Some y)
 and_then-some None f y h = cc
 and_then-some (Some p) f y h = (p.0, p.1, refl, h)
 

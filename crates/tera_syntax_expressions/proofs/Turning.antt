@@ -4,7 +4,7 @@ use Rattle.tera_syntax_tree.specs.Tree.{Expr}
 use Rattle.tera_syntax_tree.specs.Depth.{depth}
 use Rattle.tera_syntax_tokens.specs.declared.token.Kind.{Kind}
 use Rattle.tera_syntax_tokens.specs.declared.token.Kind.TheVariants as k
-use Rattle.tera_syntax_tokens.specs.Input.{Input, Outcome, Parser, and_then, same, kind, start, next, left}
+use Rattle.tera_syntax_tokens.specs.Input.{Input, Parsed, Parser, and_then, same, kind, start, next, left}
 use Rattle.tera_syntax_expressions.specs.Expressions as r
 use Rattle.tera_syntax_expressions.specs.Expressions.{Deep, deep, needs, gives, begins, goes_on, floor_in, opened, climb, level, level_with, expr, head}
 use Rattle.tera_syntax_expressions.proofs.Steps as steps
@@ -15,7 +15,7 @@ pub if-mono : {A : Type 0} (c : Bool) (d e : Option A) (y : A) → (d ≡ Some y
 if-mono true d e y f h = f h
 if-mono false d e y f h = h
 
-pub turn-mono : (c : Bool) (o : Outcome Deep) (f g : Deep → Parser Deep) (d e : Outcome Deep) (y : Deep × Input)
+pub turn-mono : (c : Bool) (o : Parsed Deep) (f g : Deep → Parser Deep) (d e : Parsed Deep) (y : Deep × Input)
     → ((x : Deep) (j : Input) → f x j ≡ Some y → g x j ≡ Some y) → (d ≡ Some y → e ≡ Some y)
     → (if c then and_then o f else d) ≡ Some y → (if c then and_then o g else e) ≡ Some y
 turn-mono true (Some p) f g d e y m q h = m p.0 p.1 h

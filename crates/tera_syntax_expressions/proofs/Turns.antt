@@ -11,7 +11,7 @@ use Rattle.tera_syntax_tree.specs.declared.expression.Entry as entry
 use Rattle.tera_syntax_tokens.specs.Token.{Token}
 use Rattle.tera_syntax_tokens.specs.declared.token.Kind.{Kind}
 use Rattle.tera_syntax_tokens.specs.declared.token.Kind.TheVariants.{LeftParenthesis, RightParenthesis, RightBracket, RightBrace, Comma, Spread}
-use Rattle.tera_syntax_tokens.specs.Input.{Input, Outcome, Parser, and_then, kind, next, after, same, start, starts, start_of, expect}
+use Rattle.tera_syntax_tokens.specs.Input.{Input, Parsed, Parser, and_then, kind, next, after, same, start, starts, start_of, expect}
 use Rattle.tera_syntax_expressions.specs.Expressions.{Deep, join_items, one_item, join_entries, one_entry, entry_key, entry_rest, entries_from, behind_dots, behind_item, items_from, expr, level, climb, goes_on, gives, operation, floor_in, opened}
 
 pub one_more : {X : Type 0} {x : X} (f : ℕ → X) (n at : ℕ) → at < n → x ≡ f (n - at) → x ≡ f (suc (n - (at + 1)))
@@ -83,23 +83,23 @@ tested test e t v = ap test (sym e) ∙ sym t ∙ v
 abbrev pub behind : {S : Type 0} → Kind → (S → Parser S) → S → Parser S
 behind closing more found j = if same Comma (kind j) then more found (next j) else and_then (expect closing j) (λ done. λ a. Some (found, a))
 
-pub record Behind {S : Type 0} (meant : Outcome S) (closing : Kind) (more : S → Parser S) (found : S) (j : Input) : Type 0 where
+pub record Behind {S : Type 0} (meant : Parsed S) (closing : Kind) (more : S → Parser S) (found : S) (j : Input) : Type 0 where
   pub is : meant ≡ behind closing more found j
 
-pub behind_these : {A : Type 0} {meant : Outcome (A × ℕ)} (closing : Kind) (more : A → ℕ → Parser (A × ℕ)) (j : Input) {found all : A} {d most : ℕ} → meant ≡ behind closing (λ (p : A × ℕ). more p.0 p.1) (found, d) j
+pub behind_these : {A : Type 0} {meant : Parsed (A × ℕ)} (closing : Kind) (more : A → ℕ → Parser (A × ℕ)) (j : Input) {found all : A} {d most : ℕ} → meant ≡ behind closing (λ (p : A × ℕ). more p.0 p.1) (found, d) j
     → all ≡ found → most ≡ d → Behind meant closing (λ (p : A × ℕ). more p.0 p.1) (all, most) j
 behind_these closing more j e f g = record { is = e ∙ ap₂ (λ found d. behind closing (λ (p : _ × ℕ). more p.0 p.1) (found, d) j) (sym f) (sym g) }
 
-pub goes_on_behind : {S : Type 0} {meant : Outcome S} {closing : Kind} {more : S → Parser S} {found : S} {j a : Input} → Behind meant closing more found j → same Comma (kind j) ≡ true → a ≡ next j
+pub goes_on_behind : {S : Type 0} {meant : Parsed S} {closing : Kind} {more : S → Parser S} {found : S} {j a : Input} → Behind meant closing more found j → same Comma (kind j) ≡ true → a ≡ next j
     → meant ≡ more found a
 goes_on_behind {more = more} {found = found} b h e = b.is ∙ rw h (ap (more found) (sym e))
 
-pub closes_behind : {S : Type 0} {meant : Outcome S} {closing : Kind} {more : S → Parser S} {found : S} {j : Input} {o : Outcome (Unit {0})} → Behind meant closing more found j → same Comma (kind j) ≡ false
+pub closes_behind : {S : Type 0} {meant : Parsed S} {closing : Kind} {more : S → Parser S} {found : S} {j : Input} {o : Parsed (Unit {0})} → Behind meant closing more found j → same Comma (kind j) ≡ false
     → expect closing j ≡ o → meant ≡ and_then o (λ done. λ a. Some (found, a))
 closes_behind {found = found} b h e = b.is ∙ rw h (ap (λ o. and_then o (λ done. λ a. Some (found, a))) e)
 
 -- A turn of the loop over items: what closes, no item, and an item with what is behind it
-module _ (limit : ℕ) (sub : ℕ → Parser Deep) {meant : Outcome (Items × ℕ)} (n at : ℕ) (found : Items) (d : ℕ) (i : Input) (lt : at < n) (turn : meant ≡ items_from limit sub (n - at) found d i) where
+module _ (limit : ℕ) (sub : ℕ → Parser Deep) {meant : Parsed (Items × ℕ)} (n at : ℕ) (found : Items) (d : ℕ) (i : Input) (lt : at < n) (turn : meant ≡ items_from limit sub (n - at) found d i) where
   abbrev item_rest : Deep → Parser (Items × ℕ)
   item_rest x = behind_item limit sub (items_from limit sub (n - (at + 1))) (join_items found (one_item (same Spread (kind i)) x.expr)) (max d x.depth)
 
@@ -107,7 +107,7 @@ module _ (limit : ℕ) (sub : ℕ → Parser Deep) {meant : Outcome (Items × �
   unfolding items_from
   items_end h e = one_more (λ n. items_from limit sub n found d i) n at lt turn ∙ rw h (ap (λ j. Some ((found, d), j)) (sym e))
 
-  pub items_next : same RightBracket (kind i) ≡ false → {o : Outcome Deep} → sub 0 (behind_dots i) ≡ o → meant ≡ and_then o item_rest
+  pub items_next : same RightBracket (kind i) ≡ false → {o : Parsed Deep} → sub 0 (behind_dots i) ≡ o → meant ≡ and_then o item_rest
   unfolding items_from
   items_next h e = one_more (λ n. items_from limit sub n found d i) n at lt turn ∙ rw h (ap (λ o. and_then o item_rest) e)
 
@@ -126,7 +126,7 @@ entries_of-push [] i = refl
 entries_of-push (j ∷ all) i = ap (MoreEntries (literal_option j.key) (expr_of j.value)) (entries_of-push all i)
 
 -- the same of the loop over entries
-module _ (limit : ℕ) (sub : ℕ → Parser Deep) {meant : Outcome (Entries × ℕ)} (n at : ℕ) (found : Entries) (d : ℕ) (i : Input) (lt : at < n) (turn : meant ≡ entries_from limit sub (n - at) found d i) where
+module _ (limit : ℕ) (sub : ℕ → Parser Deep) {meant : Parsed (Entries × ℕ)} (n at : ℕ) (found : Entries) (d : ℕ) (i : Input) (lt : at < n) (turn : meant ≡ entries_from limit sub (n - at) found d i) where
   abbrev behind_key : Option Key → Parser (Entries × ℕ)
   behind_key key j = and_then (sub 0 j) (entry_rest limit sub (entries_from limit sub (n - (at + 1))) found d key)
 
@@ -138,7 +138,7 @@ module _ (limit : ℕ) (sub : ℕ → Parser Deep) {meant : Outcome (Entries × 
   unfolding entries_from
   entries_next h = one_more (λ n. entries_from limit sub n found d i) n at lt turn ∙ rw h refl
 
-  none_by : (o : Outcome (Option Key)) → and_then o (λ key. sub 0) ≡ None → and_then o behind_key ≡ None
+  none_by : (o : Parsed (Option Key)) → and_then o (λ key. sub 0) ≡ None → and_then o behind_key ≡ None
   none_by None h = refl
   none_by (Some p) h = ap (λ o. and_then o (entry_rest limit sub (entries_from limit sub (n - (at + 1))) found d p.0)) h
 

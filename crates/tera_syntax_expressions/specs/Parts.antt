@@ -15,7 +15,7 @@ use Rattle.tera_syntax_tokens.specs.declared.refusal.Refusal.{Refusal}
 use Rattle.tera_syntax_tokens.specs.declared.refusal.Refusal.TheVariants.{Syntax, OutOfMemory}
 use Rattle.tera_syntax_tokens.specs.declared.input.Tokens.{Tokens}
 use Rattle.tera_syntax_tokens.specs.Answers.{Refuses}
-use Rattle.tera_syntax_tokens.specs.Input.{Input, Outcome, Parser, and_then}
+use Rattle.tera_syntax_tokens.specs.Input.{Input, Parsed, Parser, and_then}
 use Rattle.tera_syntax_tokens.specs.Takes.{Takes, input}
 use Rattle.tera_syntax_expressions.specs.declared.expressions.Deep as declared
 use Rattle.tera_syntax_expressions.specs.declared.headings.LoopNames.{LoopNames}
@@ -48,12 +48,12 @@ pub record Nests (limit : ℕ) (pre : Global → MutBor Tokens → ℕ → ℕ �
       → Takes deep_of (expr limit floor (input old.now)) r new.now
 
 -- an item was read behind those that were there, and its depth is the answer
-abbrev pub TakesItem : Outcome Deep → Bool → List item.Item → List item.Item → Result ℕ Refusal → Tokens → Type 0
+abbrev pub TakesItem : Parsed Deep → Bool → List item.Item → List item.Item → Result ℕ Refusal → Tokens → Type 0
 TakesItem meant is_spread old items (Ok d) new = (x : Deep) × (meant ≡ Some (x, input new)) × (x.depth ≡ d) × (items_of items ≡ join_items (items_of old) (one_item is_spread x.expr))
 TakesItem meant is_spread old items (Err refusal) new = Refuses meant refusal
 
 -- an entry was read behind those that were there, and its depth is the answer
-abbrev pub TakesEntry : Outcome (Option Key) → Parser Deep → List entry.Entry → List entry.Entry → Result ℕ Refusal → Tokens → Type 0
+abbrev pub TakesEntry : Parsed (Option Key) → Parser Deep → List entry.Entry → List entry.Entry → Result ℕ Refusal → Tokens → Type 0
 TakesEntry meant sub old entries (Ok d) new = (key : Option Key) × (j : Input) × (x : Deep) × (meant ≡ Some (key, j)) × (sub j ≡ Some (x, input new)) × (x.depth ≡ d)
     × (entries_of entries ≡ join_entries (entries_of old) (one_entry key x.expr))
 TakesEntry meant sub old entries (Err refusal) new = Refuses (and_then meant (λ key. sub)) refusal

@@ -5,7 +5,7 @@ use Rattle.std.specs.List.{ends_with}
 use Rattle.tera_errors.specs.Site.{Text}
 use Rattle.tera_syntax_tokens.specs.Bytes.{begins, place}
 use Rattle.tera_syntax_tokens.specs.Inside.{hyphen}
-use Rattle.tera_syntax_tokens.specs.Cut.{Comment, Broken, Found, comment, piece, cut}
+use Rattle.tera_syntax_tokens.specs.Cut.{Comment, Broken, FoundPiece, comment, piece, cut}
 use Rattle.tera_syntax_tree.specs.Delimiters.{Delims}
 use Rattle.tera_syntax_tokens.specs.Points.{PointsInto}
 use Rattle.tera_syntax_tokens.specs.declared.refusal.Refusal.{Refusal}
@@ -26,7 +26,7 @@ pub a_comment : (end : Text) (at n : ℕ) (text : Text) (q : Bool) → n ≡ pla
 unfolding comment
 a_comment end at n text q e l p = rw (sym e, lt_yes _ _ l, p)
 
-abbrev pub next_of : Option Found → ℕ
+abbrev pub next_of : Option FoundPiece → ℕ
 next_of None = 0
 next_of (Some x) = x.next
 
@@ -55,7 +55,7 @@ passed d trims zero at text = let e : at ≡ at + 0 = omega arith in ap (λ k. c
 passed d trims (suc n) at [] = refl
 passed d trims (suc n) at (b ∷ bs) = let e : suc at + n ≡ at + suc n = omega arith in passed d trims n (suc at) bs ∙ ap (λ k. cut d trims 0 k (drop n bs)) e
 
-head_step : (d : Delims) (trims : Bool) (at b : ℕ) (bs : Text) (f : Found) → piece d trims at (b ∷ bs) ≡ Some f
+head_step : (d : Delims) (trims : Bool) (at b : ℕ) (bs : Text) (f : FoundPiece) → piece d trims at (b ∷ bs) ≡ Some f
     → cut d trims 0 at (b ∷ bs) ≡ f.piece ∷ cut d f.trims (f.next - suc at) (suc at) bs
 unfolding cut
 head_step d trims at b bs f h = rw h refl
@@ -67,7 +67,7 @@ head_broken d trims at b bs h = rw h refl
 drop_step : (k n : ℕ) (b : ℕ) (bs : Text) → k ≡ suc n → drop n bs ≡ drop k (b ∷ bs)
 drop_step k n b bs e = rw e refl
 
-pub cut_step : (d : Delims) (trims : Bool) (at : ℕ) (text : Text) (f : Found) → 0 < length text → piece d trims at text ≡ Some f → at < f.next
+pub cut_step : (d : Delims) (trims : Bool) (at : ℕ) (text : Text) (f : FoundPiece) → 0 < length text → piece d trims at text ≡ Some f → at < f.next
     → cut d trims 0 at text ≡ f.piece ∷ cut d f.trims 0 f.next (drop (f.next - at) text)
 cut_step d trims at [] f l h m = absurd (omega arith)
 cut_step d trims at (b ∷ bs) f l h m =

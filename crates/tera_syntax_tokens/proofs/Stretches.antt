@@ -16,7 +16,7 @@ use Rattle.tera_syntax_tokens.specs.Inside.{Inside, inside, hyphen}
 use Rattle.tera_syntax_tokens.specs.declared.cut.Tag.{Tag}
 use Rattle.tera_syntax_tokens.specs.declared.cut.Tag.TheVariants as tag
 use Rattle.tera_syntax_tokens.specs.declared.cut.Opening.{Opening}
-use Rattle.tera_syntax_tokens.specs.Cut.{Piece, Comment, Variable, Block, Found, opening_at, opens, trims_before, start_trimmed, end_trimmed, words, comment, tag_of, start_size, is_alone, of_word, endraw, endraw_of, endraw_by, ends_raw, raw, block, behind, piece_by, piece, piece_then, cut, pieces}
+use Rattle.tera_syntax_tokens.specs.Cut.{Piece, Comment, Variable, Block, FoundPiece, opening_at, opens, trims_before, start_trimmed, end_trimmed, words, comment, tag_of, start_size, is_alone, of_word, endraw, endraw_of, endraw_by, ends_raw, raw, block, behind, piece_by, piece, piece_then, cut, pieces}
 use Rattle.tera_syntax_tokens.proofs.Places.{place_le, place_passes, boundary_after, word_fits}
 use Rattle.tera_syntax_tokens.proofs.Insides.{ending_fits, ending_boundary}
 use Rattle.tera_syntax_tokens.proofs.Openings.{start_of, start_fits, start_boundary, start_size_le, start_size_fits, words_boundary, filled}
@@ -131,24 +131,24 @@ tag_in end at text x l v u h =
     record { in_order = in_order-wider x.next (at + length text) (at + 0) 0 x.tokens r.fits (omega arith) c.in_order; reach = r }
 
 -- a piece lies in its text
-record FoundIn (at : ℕ) (text : Text) (f : Found) : Type 0 where
+record FoundIn (at : ℕ) (text : Text) (f : FoundPiece) : Type 0 where
   inside : PieceInside (at + length text) f.piece
   reach : Reaches at text f.next
 
-tag_of_some : (make : List Token → Piece) (o : Option Inside) (f : Found) → tag_of make o ≡ Some f → (x : Inside) × (o ≡ Some x) × (make x.tokens ≡ f.piece) × (x.next ≡ f.next)
+tag_of_some : (make : List Token → Piece) (o : Option Inside) (f : FoundPiece) → tag_of make o ≡ Some f → (x : Inside) × (o ≡ Some x) × (make x.tokens ≡ f.piece) × (x.next ≡ f.next)
 tag_of_some make None f h = absurd (cc)
 tag_of_some make (Some x) f h =
     let e : record { piece = make x.tokens; next = x.next; trims = x.trims } ≡ f = cc in
     (x, refl, ap (λ f. f.piece) e, ap (λ f. f.next) e)
 
-tag_found : (make : List Token → Piece) (at : ℕ) (text : Text) (o : Option Inside) (f : Found) → ((x : Inside) → o ≡ Some x → TagIn at text x)
+tag_found : (make : List Token → Piece) (at : ℕ) (text : Text) (o : Option Inside) (f : FoundPiece) → ((x : Inside) → o ≡ Some x → TagIn at text x)
     → ((tokens : List Token) → InOrder (at + length text) 0 tokens → PieceInside (at + length text) (make tokens)) → tag_of make o ≡ Some f → FoundIn at text f
 tag_found make at text o f lies p h =
     let t = tag_of_some make o f h in
     let l = lies t.0 t.1 in
     record { inside = subst (PieceInside (at + length text)) t.2 (p t.0.tokens l.in_order); reach = subst (Reaches at text) t.3 l.reach }
 
-comment_by : (end : Text) (at : ℕ) (text : Text) (q : Bool) (f : Found) → 0 < length end → IsUtf8 end → IsUtf8 text → nat_lt (place (begins end) text) (length text) ≡ q
+comment_by : (end : Text) (at : ℕ) (text : Text) (q : Bool) (f : FoundPiece) → 0 < length end → IsUtf8 end → IsUtf8 text → nat_lt (place (begins end) text) (length text) ≡ q
     → (if q then Some (record { piece = Comment; next = at + (place (begins end) text + length end); trims = ends_with (λ a b. a == b) (take (place (begins end) text) text) hyphen }) else None) ≡ Some f → FoundIn at text f
 comment_by end at text false f l v u e h = absurd (cc)
 comment_by end at text true f l v u e h =
@@ -159,11 +159,11 @@ comment_by end at text true f l v u e h =
     let q : record { piece = Comment; next = at + (n + length end); trims = ends_with (λ a b. a == b) (take n text) hyphen } ≡ f = cc in
     subst (FoundIn at text) q (record { inside = tt; reach = r })
 
-comment_found : (end : Text) (at : ℕ) (text : Text) (f : Found) → 0 < length end → IsUtf8 end → IsUtf8 text → comment end at text ≡ Some f → FoundIn at text f
+comment_found : (end : Text) (at : ℕ) (text : Text) (f : FoundPiece) → 0 < length end → IsUtf8 end → IsUtf8 text → comment end at text ≡ Some f → FoundIn at text f
 unfolding comment
 comment_found end at text f l v u h = comment_by end at text (nat_lt (place (begins end) text) (length text)) f l v u refl h
 
-found_from : (at s : ℕ) (text : Text) (f : Found) → s ≤ length text → FoundIn (at + s) (drop s text) f → FoundIn at text f
+found_from : (at s : ℕ) (text : Text) (f : FoundPiece) → s ≤ length text → FoundIn (at + s) (drop s text) f → FoundIn at text f
 found_from at s text f l p =
     let m = length-drop s text in
     let e : (at + s) + length (drop s text) ≡ at + length text = omega arith in
@@ -198,7 +198,7 @@ module _ (d : Delimiters) (usable : IsTrue (accepted (delimiters_of d))) where
           let t = block_in (at + n) (drop n text) x v (word_some (codes "endraw") (inside (string_bytes d.block_end) 0 0 (at + n) (drop n text)) x h) in
           reaches_from at n x.next text l t.reach
 
-  raw_found : (trims : Bool) (at : ℕ) (text : Text) (f : Found) → IsUtf8 text → raw (delimiters_of d) trims at text ≡ Some f → FoundIn at text f
+  raw_found : (trims : Bool) (at : ℕ) (text : Text) (f : FoundPiece) → IsUtf8 text → raw (delimiters_of d) trims at text ≡ Some f → FoundIn at text f
   unfolding raw endraw
   raw_found trims at text f u h =
       let n = place (ends_raw (delimiters_of d)) text in
@@ -209,7 +209,7 @@ module _ (d : Delimiters) (usable : IsTrue (accepted (delimiters_of d))) where
       let w = words_within trims (trims_before (drop n text) (opening_at (delimiters_of d) (drop n text))) n at text l (IsUtf8-take text n u b) in
       record { inside = subst (PieceInside (at + length text)) t.2 w; reach = subst (Reaches at text) t.3 (reaches_from at n t.0.next text l r) }
 
-  block_found : (at : ℕ) (text : Text) (o : Option Inside) (f : Found) → IsUtf8 text → inside (string_bytes d.block_end) 0 0 at text ≡ o → block (delimiters_of d) at text o ≡ Some f → FoundIn at text f
+  block_found : (at : ℕ) (text : Text) (o : Option Inside) (f : FoundPiece) → IsUtf8 text → inside (string_bytes d.block_end) 0 0 at text ≡ o → block (delimiters_of d) at text o ≡ Some f → FoundIn at text f
   block_found at text None f u e h = absurd (cc)
   block_found at text (Some x) f u e h = go (is_alone (codes "raw") x.tokens) (block_in at text x u e) h
     where
@@ -222,14 +222,14 @@ module _ (d : Delimiters) (usable : IsTrue (accepted (delimiters_of d))) where
           let g : raw (delimiters_of d) x.trims (at + n) (drop n text) ≡ Some f = subst (λ k. raw (delimiters_of d) x.trims k (drop n text) ≡ Some f) e h in
           found_from at n text f (omega arith) (raw_found x.trims (at + n) (drop n text) f t.reach.utf8 g)
 
-  behind_found : (kind : Tag) (at : ℕ) (text : Text) (f : Found) → IsUtf8 text → behind (delimiters_of d) kind at text ≡ Some f → FoundIn at text f
+  behind_found : (kind : Tag) (at : ℕ) (text : Text) (f : FoundPiece) → IsUtf8 text → behind (delimiters_of d) kind at text ≡ Some f → FoundIn at text f
   behind_found tag.Variable at text f u h =
       tag_found Variable at text (inside (string_bytes d.variable_end) 0 0 at text) f
       (λ x e. tag_in (string_bytes d.variable_end) at text x (filled (delimiters_of d) usable).variable_end (IsUtf8-string_bytes d.variable_end) u e) (λ tokens p. p) h
   behind_found tag.Block at text f u h = block_found at text (inside (string_bytes d.block_end) 0 0 at text) f u refl h
   behind_found tag.Comment at text f u h = comment_found (string_bytes d.comment_end) at text f (filled (delimiters_of d) usable).comment_end (IsUtf8-string_bytes d.comment_end) u h
 
-  piece_found : (trims : Bool) (at : ℕ) (text : Text) (o : Option Opening) (f : Found) → 0 < length text → IsUtf8 text → opening_at (delimiters_of d) text ≡ o
+  piece_found : (trims : Bool) (at : ℕ) (text : Text) (o : Option Opening) (f : FoundPiece) → 0 < length text → IsUtf8 text → opening_at (delimiters_of d) text ≡ o
       → piece_by (delimiters_of d) trims at text o ≡ Some f → FoundIn at text f × (at < f.next)
   piece_found trims at text None f some u e h =
       let n = place (opens (delimiters_of d)) text in
@@ -251,11 +251,11 @@ module _ (d : Delimiters) (usable : IsTrue (accepted (delimiters_of d))) where
       (found_from at n text f (start_size_fits text o s) p, omega arith)
 
   -- a piece that is found is a stretch of its text
-  pub piece_inside : (trims : Bool) (at : ℕ) (text : Text) (f : Found) → 0 < length text → IsUtf8 text → piece (delimiters_of d) trims at text ≡ Some f → PieceInside (at + length text) f.piece
+  pub piece_inside : (trims : Bool) (at : ℕ) (text : Text) (f : FoundPiece) → 0 < length text → IsUtf8 text → piece (delimiters_of d) trims at text ≡ Some f → PieceInside (at + length text) f.piece
   unfolding piece
   piece_inside trims at text f some u h = (piece_found trims at text (opening_at (delimiters_of d) text) f some u refl h).0.inside
 
-  cut_by : (trims : Bool) (at b : ℕ) (bs : Text) (o : Option Found) → IsUtf8 (b ∷ bs) → piece (delimiters_of d) trims at (b ∷ bs) ≡ o
+  cut_by : (trims : Bool) (at b : ℕ) (bs : Text) (o : Option FoundPiece) → IsUtf8 (b ∷ bs) → piece (delimiters_of d) trims at (b ∷ bs) ≡ o
       → ((trims : Bool) (skip : ℕ) → IsUtf8 (drop skip bs) → PiecesInside (suc at + length bs) (cut (delimiters_of d) trims skip (suc at) bs))
       → PiecesInside (at + length (b ∷ bs)) (piece_then o (λ f. cut (delimiters_of d) f.trims (f.next - suc at) (suc at) bs))
   unfolding piece

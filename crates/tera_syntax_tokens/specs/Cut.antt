@@ -22,7 +22,7 @@ pub data Piece : Type 0 where
   Broken : Piece
 
 -- a piece, the place behind it, and whether a `-` at its end trims the text that follows
-pub record Found : Type 0 where
+pub record FoundPiece : Type 0 where
   pub piece : Piece
   pub next : ℕ
   pub trims : Bool
@@ -68,12 +68,12 @@ words before behind n at text =
     Words kept (record { start = start; end = start + length kept })
 
 -- A comment ends at the first comment end.
-unfoldable pub comment : Text → ℕ → Text → Option Found
+unfoldable pub comment : Text → ℕ → Text → Option FoundPiece
 comment end at text =
     let n = place (begins end) text in
     if nat_lt n (length text) then Some (record { piece = Comment; next = at + (n + length end); trims = ends_with (λ a b. a == b) (take n text) hyphen }) else None
 
-abbrev pub tag_of : (List Token → Piece) → Option Inside → Option Found
+abbrev pub tag_of : (List Token → Piece) → Option Inside → Option FoundPiece
 tag_of make None = None
 tag_of make (Some x) = Some (record { piece = make x.tokens; next = x.next; trims = x.trims })
 
@@ -108,33 +108,33 @@ abbrev pub ends_raw : Delims → Text → Bool
 ends_raw d text = is_some (endraw d 0 text)
 
 -- What the tag `raw` gives: the text behind it, up to the first tag `endraw`, as one piece. None where there is no such tag.
-unfoldable pub raw : Delims → Bool → ℕ → Text → Option Found
+unfoldable pub raw : Delims → Bool → ℕ → Text → Option FoundPiece
 raw d trims at text =
     let n = place (ends_raw d) text in
     tag_of (λ tokens. words trims (trims_before (drop n text) (opening_at d (drop n text))) n at text) (endraw d (at + n) (drop n text))
 
 -- What a block gives by its inside, where the text behind its start delimiter stands at a place.
-abbrev pub block : Delims → ℕ → Text → Option Inside → Option Found
+abbrev pub block : Delims → ℕ → Text → Option Inside → Option FoundPiece
 block d at text None = None
 block d at text (Some x) = if is_alone (codes "raw") x.tokens then raw d x.trims x.next (drop (x.next - at) text)
     else tag_of Block (Some x)
 
-abbrev pub behind : Delims → Tag → ℕ → Text → Option Found
+abbrev pub behind : Delims → Tag → ℕ → Text → Option FoundPiece
 behind d tag.Variable at text = tag_of Variable (inside d.variable_end 0 0 at text)
 behind d tag.Block at text = block d at text (inside d.block_end 0 0 at text)
 behind d tag.Comment at text = comment d.comment_end at text
 
-abbrev pub piece_by : Delims → Bool → ℕ → Text → Option Opening → Option Found
+abbrev pub piece_by : Delims → Bool → ℕ → Text → Option Opening → Option FoundPiece
 piece_by d trims at text None =
     let n = place (opens d) text in
     Some (record { piece = words trims (trims_before (drop n text) (opening_at d (drop n text))) n at text; next = at + n; trims = false })
 piece_by d trims at text (Some o) = behind d o.tag (at + start_size o text) (drop (start_size o text) text)
 
 -- The first piece of a text that stands at a place; a `-` before it may trim it.
-unfoldable pub piece : Delims → Bool → ℕ → Text → Option Found
+unfoldable pub piece : Delims → Bool → ℕ → Text → Option FoundPiece
 piece d trims at text = piece_by d trims at text (opening_at d text)
 
-abbrev pub piece_then : Option Found → (Found → List Piece) → List Piece
+abbrev pub piece_then : Option FoundPiece → (FoundPiece → List Piece) → List Piece
 piece_then None more = Broken ∷ []
 piece_then (Some f) more = f.piece ∷ more f
 

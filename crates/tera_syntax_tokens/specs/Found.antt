@@ -3,12 +3,12 @@ use Rattle.std.specs.Prelude.{ℕ, ◌+◌, List, Bool}
 use Rattle.tera_syntax_tokens.specs.Token.{tokens_of}
 use Rattle.tera_syntax_tokens.specs.declared.token.Token as token
 use Rattle.tera_syntax_tokens.specs.Inside.{Inside}
-use Rattle.tera_syntax_tokens.specs.Cut.{Piece, Words, Comment, Variable, Block, Found}
+use Rattle.tera_syntax_tokens.specs.Cut.{Piece, Words, Comment, Variable, Block, FoundPiece}
 use Rattle.tera_syntax_tokens.specs.declared.inside.Ending.{Ending}
 use Rattle.tera_syntax_tokens.specs.declared.inside.Inside as inside
 use Rattle.tera_syntax_tokens.specs.declared.cut.Piece as piece
 use Rattle.tera_syntax_tokens.specs.declared.cut.Piece.TheVariants as variant
-use Rattle.tera_syntax_tokens.specs.declared.cut.Found as found
+use Rattle.tera_syntax_tokens.specs.declared.cut.FoundPiece as found
 
 -- a tag with its tokens, which are kept apart from it
 abbrev pub inside_of : List token.Token → inside.Inside → Inside
@@ -29,5 +29,5 @@ piece_of tokens variant.Comment = Comment
 piece_of tokens variant.Variable = Variable (tokens_of tokens)
 piece_of tokens variant.Block = Block (tokens_of tokens)
 
-abbrev pub found_of : List token.Token → found.Found → Found
+abbrev pub found_of : List token.Token → found.FoundPiece → FoundPiece
 found_of tokens x = record { piece = piece_of tokens x.piece; next = x.next; trims = x.trims }

@@ -84,13 +84,13 @@ is_word k.For = true
 is_word kind = false
 
 -- what was read, and the place behind it
-abbrev pub Outcome : Type 0 → Type 0
-Outcome A = Option (A × Input)
+abbrev pub Parsed : Type 0 → Type 0
+Parsed A = Option (A × Input)
 
 abbrev pub Parser : Type 0 → Type 0
-Parser A = Input → Outcome A
+Parser A = Input → Parsed A
 
-abbrev pub and_then : {A B : Type 0} → Outcome A → (A → Parser B) → Outcome B
+abbrev pub and_then : {A B : Type 0} → Parsed A → (A → Parser B) → Parsed B
 and_then (Some p) f = f p.0 p.1
 and_then None f = None
 

@@ -60,7 +60,7 @@ pub enum Piece<'a> {
 
 /// A piece, and what follows it.
 #[derive(Drop)]
-pub struct Found<'a> {
+pub struct FoundPiece<'a> {
     pub piece: Piece<'a>,
     /// The place behind it in the source.
     pub next: usize,
@@ -243,7 +243,7 @@ fn trimmed_sides<'a>(text: &'a str, n: usize, at: usize, before: bool, behind: b
 }
 
 /// Text up to the next start delimiter.
-fn words<'a>(delimiters: &Delimiters, text: &'a str, at: usize, trims: bool) -> Found<'a>
+fn words<'a>(delimiters: &Delimiters, text: &'a str, at: usize, trims: bool) -> FoundPiece<'a>
     requires room { at + length text.now < 2 ^ 64 }
     requires usable { IsTrue (accepted (delimiters_of delimiters.now)) }
     ensures value { (tokens : List Token) → let meant = spec.piece_by (delimiters_of delimiters.now)
@@ -256,7 +256,7 @@ fn words<'a>(delimiters: &Delimiters, text: &'a str, at: usize, trims: bool) -> 
     let n = ahead.at;
     let (_, rest) = text.split_at(n);
     let behind = trims_before(rest.as_bytes(), ahead.opening);
-    Found {
+    FoundPiece {
         piece: trimmed(text, n, at, trims, behind),
         next: at + n,
         trims: false,
@@ -266,7 +266,7 @@ fn words<'a>(delimiters: &Delimiters, text: &'a str, at: usize, trims: bool) -> 
 }
 
 /// What is left of a comment behind its start delimiter.
-fn comment<'a>(end: &str, text: &'a str, at: usize) -> Result<Found<'a>, Refusal>
+fn comment<'a>(end: &str, text: &'a str, at: usize) -> Result<FoundPiece<'a>, Refusal>
     requires room { at + length text.now < 2 ^ 64 }
     requires some { 0 < length end.now }
     ensures value { (tokens : List Token) → Answers (found_of tokens)
@@ -288,7 +288,7 @@ fn comment<'a>(end: &str, text: &'a str, at: usize) -> Result<Found<'a>, Refusal
     }
     let size = n + end.len();
     let (_, rest) = text.split_at(size);
-    Ok(Found {
+    Ok(FoundPiece {
         piece: Piece::Comment,
         next: at + size,
         trims: before(bytes, n).ends_with(b"-"),
@@ -313,7 +313,7 @@ fn block<'a>(
     delimiters: &Delimiters,
     text: &'a str,
     at: usize,
-) -> Result<Found<'a>, Refusal>
+) -> Result<FoundPiece<'a>, Refusal>
     requires room { at + length text.now < 2 ^ 64 }
     requires usable { IsTrue (accepted (delimiters_of delimiters.now)) }
     ensures value { let d = delimiters_of delimiters.now in
@@ -327,7 +327,7 @@ fn block<'a>(
     if is_alone("raw", tokens.as_slice()) {
         return raw(delimiters, x.rest, x.next, x.trims);
     }
-    Ok(Found {
+    Ok(FoundPiece {
         piece: Piece::Block,
         next: x.next,
         trims: x.trims,
@@ -343,7 +343,7 @@ fn behind<'a>(
     tag: Tag,
     text: &'a str,
     at: usize,
-) -> Result<Found<'a>, Refusal>
+) -> Result<FoundPiece<'a>, Refusal>
     requires room { at + length text.now < 2 ^ 64 }
     requires usable { IsTrue (accepted (delimiters_of delimiters.now)) }
     ensures value { let meant = spec.behind (delimiters_of delimiters.now) tag at text.now in
@@ -355,7 +355,7 @@ fn behind<'a>(
     match tag {
         Tag::Variable => {
             let x = cut_inside(tokens, text, delimiters.variable_end.as_str(), at)?;
-            Ok(Found {
+            Ok(FoundPiece {
                 piece: Piece::Variable,
                 next: x.next,
                 trims: x.trims,
@@ -380,7 +380,7 @@ pub fn next_piece<'a>(
     at: usize,
     trims: bool,
     known: Option<Opening>,
-) -> Result<Found<'a>, Refusal>
+) -> Result<FoundPiece<'a>, Refusal>
     requires room { at + length text.now < 2 ^ 64 }
     requires some { 0 < length text.now }
     requires usable { IsTrue (accepted (delimiters_of delimiters.now)) }

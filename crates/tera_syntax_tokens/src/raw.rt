@@ -13,7 +13,7 @@ ghost use Rattle.tera_syntax_tokens.specs.declared.token.Token.{Token};
 ghost use Rattle.tera_syntax_tree.specs.Delimiters.{accepted, delimiters_of};
 
 use crate::bytes::{after, begins};
-use crate::cut::{Found, Tag, next_opening, opening_at, start_size, trimmed, trims_before};
+use crate::cut::{FoundPiece, Tag, next_opening, opening_at, start_size, trimmed, trims_before};
 use crate::inside::{Ending, closing};
 use crate::refusal::{Reason, Refusal};
 use crate::token::{byte_at, is_blank, is_name_byte};
@@ -120,7 +120,7 @@ pub(crate) fn raw<'a>(
     text: &'a str,
     at: usize,
     trims: bool,
-) -> Result<Found<'a>, Refusal>
+) -> Result<FoundPiece<'a>, Refusal>
     requires room { at + length text.now < 2 ^ 64 }
     requires usable { IsTrue (accepted (delimiters_of delimiters.now)) }
     ensures value { (tokens : List Token) → let meant = spec.raw (delimiters_of delimiters.now)
@@ -143,7 +143,7 @@ pub(crate) fn raw<'a>(
     };
     let (_, rest) = tag.split_at(ending.size);
     let behind = trims_before(tag.as_bytes(), opening_at(delimiters, tag.as_bytes()));
-    Ok(Found {
+    Ok(FoundPiece {
         piece: trimmed(text, n, at, trims, behind),
         next: at + n + ending.size,
         trims: ending.trims,

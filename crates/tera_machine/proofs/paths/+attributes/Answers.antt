@@ -1,14 +1,14 @@
 use Rattle.std.proofs.Common.{◌+◌, arith, refl, Ok, Err, IfOk, IfErr, Result}
 use Rattle.std.proofs.lemmas.Option.{slice_get_within}
-use Rattle.tera_errors.specs.Answer.{Refusal}
+use Rattle.tera_errors.specs.Answer.{SeenError}
 use Rattle.tera_machine.proofs.Reaching.{more, attribute_reached, attribute_breaks}
 use Rattle.tera_machine.proofs.paths.+attributes.Goals as goal
 
-if_ok : {A : Type 0} {P Q : A → Type 0} (r : Result A Refusal) → ((a : A) → P a → Q a) → IfOk r P → IfOk r Q
+if_ok : {A : Type 0} {P Q : A → Type 0} (r : Result A SeenError) → ((a : A) → P a → Q a) → IfOk r P → IfOk r Q
 if_ok (Ok a) f p = f a p
 if_ok (Err e) f p = tt
 
-if_err : {A : Type 0} {P Q : Refusal → Type 0} (r : Result A Refusal) → ((e : Refusal) → P e → Q e) → IfErr r P → IfErr r Q
+if_err : {A : Type 0} {P Q : SeenError → Type 0} (r : Result A SeenError) → ((e : SeenError) → P e → Q e) → IfErr r P → IfErr r Q
 if_err (Ok a) f p = tt
 if_err (Err e) f p = f e p
 

@@ -2,8 +2,8 @@ use Rattle.std.proofs.Common.{◌≡◌, ◌-◌, length, List, Option, Some, ap
 use Rattle.std.specs.Prelude.{option_and_then}
 use Rattle.std.proofs.lemmas.List.{length-drop}
 use Rattle.std.proofs.lemmas.Bool.Decides.{Decides-eqb}
-use Rattle.tera_syntax_tokens.specs.Cut.{cut, Found}
-use Rattle.tera_syntax_tokens.specs.declared.cut.Found as found
+use Rattle.tera_syntax_tokens.specs.Cut.{cut, FoundPiece}
+use Rattle.tera_syntax_tokens.specs.declared.cut.FoundPiece as found
 use Rattle.tera_syntax_tokens.specs.declared.token.Token.{Token}
 use Rattle.tera_syntax_tokens.specs.Answers.{Answers}
 use Rattle.tera_syntax_tree.specs.Delimiters.{delimiters_of}
@@ -21,7 +21,7 @@ use Rattle.tera_syntax.proofs.Plain.{refused_too}
 use Rattle.tera_syntax.proofs.Rows.{some_bytes}
 use Rattle.tera_syntax.proofs.reader.spelled.Goals as goal
 
-found_in : (meant : Option Found) (ts us : List Token) (x : found.Found) → ts ≡ us → meant ≡ Some (found_of ts x) → meant ≡ Some (found_of us x)
+found_in : (meant : Option FoundPiece) (ts us : List Token) (x : found.FoundPiece) → ts ≡ us → meant ≡ Some (found_of ts x) → meant ≡ Some (found_of us x)
 found_in meant ts us x e h = h ∙ ap (λ ts. Some (found_of ts x)) e
 
 pub returns-in-Err-clause-value : goal.returns-in-Err-clause-value

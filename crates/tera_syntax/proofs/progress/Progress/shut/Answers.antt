@@ -12,14 +12,14 @@ use Rattle.tera_syntax.proofs.progress.Progress.shut.Goals.{in_default-via-in-So
 pub returns-in-Some : goal.returns-in-Some
 returns-in-Some c =
     let last = c.in-Some.ensures.value ∙ ap (λ fs. slice_get fs (length fs - 1)) c.deref.ensures.value in
-    subst (λ o. Becomes o c.close.result c.close.new.self) (shut_innermost (tokens_of c.args.tag.now) c.args.self.now.frames.items c.in-Some.frame.now (nodes_of c.args.self.now.found.items) last (sym c.is_ended_by.ensures ∙ c.if-is_ended_by.true)) c.close.ensures
+    subst (λ o. Becomes o c.close.result c.close.new.self) (shut_innermost (tokens_of c.args.tag.now) c.args.self.now.statements.items c.in-Some.statement.now (nodes_of c.args.self.now.found.items) last (sym c.is_ended_by.ensures ∙ c.if-is_ended_by.true)) c.close.ensures
 
 pub returns-in_default : goal.returns-in_default
 returns-in_default c =
-    let frames = c.args.self.now.frames.items in
+    let statements = c.args.self.now.statements.items in
     let found = nodes_of c.args.self.now.found.items in
     let last = ap (λ fs. slice_get fs (length fs - 1)) c.deref.ensures.value in
     elim c.in_default.branch [
-      | in_default-via-in-Some+else-is_ended_by w ↦ refuses c.refused.result c.refused.ensures (shut_otherwise (tokens_of c.args.tag.now) frames w.in-Some.frame.now found (w.in-Some.ensures.value ∙ last) (sym w.is_ended_by.ensures ∙ w.if-is_ended_by.false))
-      | in_default-via-in_default w ↦ refuses c.refused.result c.refused.ensures (ap (λ fs. shut (tokens_of c.args.tag.now) fs found) (nothing_open frames (w.in_default.ensures.value ∙ last)))
+      | in_default-via-in-Some+else-is_ended_by w ↦ refuses c.refused.result c.refused.ensures (shut_otherwise (tokens_of c.args.tag.now) statements w.in-Some.statement.now found (w.in-Some.ensures.value ∙ last) (sym w.is_ended_by.ensures ∙ w.if-is_ended_by.false))
+      | in_default-via-in_default w ↦ refuses c.refused.result c.refused.ensures (ap (λ fs. shut (tokens_of c.args.tag.now) fs found) (nothing_open statements (w.in_default.ensures.value ∙ last)))
     ]

@@ -4,7 +4,7 @@ use Rattle.tera_meaning.specs.Lineage.{definers_from}
 use Rattle.tera_registry.specs.Kept.{entries_of}
 use Rattle.tera_registry.specs.Templates.{with_templates}
 use Rattle.tera_registry.proofs.Kept.{length-entries, named-place}
-use Rattle.tera_registry.proofs.templates.Found.definers.Goals as goal
+use Rattle.tera_registry.proofs.templates.FoundTemplate.definers.Goals as goal
 
 pub first-requires : goal.first-requires
 first-requires c =

@@ -152,7 +152,8 @@ impl<O: Objects> TeraOver<O> {
         requires code { chunk.now.code ≡ nodes_code about.tree 0 }
         ensures { Gives string_bytes result (block_meant block.now about) }
     {
-        let scopes = Scopes::new(self.alloc, context, Some(&self.global_context));
+        let mut scopes = Scopes::new(self.alloc, context, Some(&self.global_context));
+        scopes.note_all(chunk.frequent_names())?;
         let mut configuration = Configuration::new(self.alloc, scopes);
         let mut steps = Steps::<L>::new(blank);
         machine.run_for_block::<L>(chunk, block, &mut configuration, &mut steps)
@@ -177,7 +178,8 @@ impl<O: Objects> TeraOver<O> {
         requires code { chunk.now.code ≡ nodes_code about.tree 0 }
         ensures { Gives string_bytes result (text_meant about) }
     {
-        let scopes = Scopes::new(self.alloc, context, Some(&self.global_context));
+        let mut scopes = Scopes::new(self.alloc, context, Some(&self.global_context));
+        scopes.note_all(chunk.frequent_names())?;
         self.run_within::<L>(machine, chunk, scopes, blank)
     }
 

@@ -77,6 +77,16 @@ impl Chunk {
         self.tables.references.as_slice()
     }
 
+    /// The names of code that may look them up often, each once or more: it has a loop, or many instructions for each
+    /// name. None of other code.
+    pub fn frequent_names(&self) -> &[Name] {
+        let names = self.tables.names.as_slice();
+        if self.tables.loops.is_empty() && self.code.len() / 16 < names.len() {
+            return &[];
+        }
+        names
+    }
+
     /// The instruction at this place, from 0, which is counted where there is one. No call hands one out that it doesn't count.
     #[inline(always)]
     pub fn get<L: Ledger>(&self, at: usize, steps: &mut Steps<L>) -> Option<LentInstruction<'_>>

@@ -8,12 +8,15 @@ use Rattle.tera_values.specs.Access.{is_undefined}
 use Rattle.tera_values.specs.Named.{Named, at_name}
 use Rattle.tera_state.specs.Found.{found_value}
 use Rattle.tera_state.specs.Scope.{Variables, Turn, in_turn, in_turns, in_innermost, bound, bound_above, defined, handed_down, outermost, in_variables, Frame as FrameMeant}
+use Rattle.tera_state.specs.Bound.{layer_of}
+use Rattle.tera_state.specs.Opened.{turns_of}
 use Rattle.tera_state.specs.Stack.{lower}
 use Rattle.tera_state.specs.Scopes.{context_of, frame_of, above_of, variables_at}
 use Rattle.tera_state.specs.declared.bindings.Binding.{Binding}
 use Rattle.tera_state.specs.declared.found.Found.{Found}
 use Rattle.tera_state.specs.declared.found.Found.TheVariants as found
 use Rattle.tera_state.specs.declared.frame.Frame.{Frame}
+use Rattle.tera_state.specs.declared.loops.ForLoop.{ForLoop}
 use Rattle.tera_state.specs.declared.frame.Standing.{Standing}
 use Rattle.tera_state.specs.declared.frame.Standing.TheVariants as standing
 use Rattle.tera_state.proofs.Finds.{first, second, lower_at, lower_length}
@@ -51,9 +54,9 @@ module _ (n : Name) (bs : List Binding) where
   abbrev pub at : Standing → List Frame → Option Val
   at s fs = beyond n (frame_of s fs) (above_of bs fs)
 
-  pub whole_beyond : (s : Standing) (context global : Named Val) (fs : List Frame) → s ≡ standing.Whole context global → at s fs ≡ option_or (at_name n context) (at_name n global)
-  whole_beyond s context global [] e = ap (λ (t : Standing). at t []) e
-  whole_beyond s context global (f ∷ fs) e = ap (λ (t : Standing). at t (f ∷ fs)) e
+  pub whole_beyond : (s : Standing) (c : Named Val × Named Val) (fs : List Frame) → s ≡ standing.Whole c → at s fs ≡ option_or (at_name n c.0) (at_name n c.1)
+  whole_beyond s c [] e = ap (λ (t : Standing). at t []) e
+  whole_beyond s c (f ∷ fs) e = ap (λ (t : Standing). at t (f ∷ fs)) e
 
   pub called_beyond : (s : Standing) (context : Named Val) (fs : List Frame) → s ≡ standing.Called context → at s fs ≡ at_name n context
   called_beyond s context [] e = ap (λ (t : Standing). at t []) e ∙ or_none (at_name n context)
@@ -66,6 +69,16 @@ module _ (n : Name) (bs : List Binding) where
   included_beyond s f gs fs k e g ek =
       ap₂ at e g
       ∙ ap₂ (λ (j : ℕ) (o : Option Val). option_or (defined (of_includer f fs j)) o) ek (or_none (at_name n (context_of f.standing fs)))
+
+-- with one loop open at most, what the innermost turn does not bind no turn does
+pub one_turn : (n : Name) (bs : List Binding) (k : ℕ) (ls : List ForLoop) → length ls ≤ 1 → None ≡ in_innermost n (turns_of bs k ls) → None ≡ in_turns n (turns_of bs k ls)
+one_turn n bs k [] few none = refl
+one_turn n bs k (l ∷ []) few none = ap (λ (o : Option Val). option_or o None) none
+one_turn n bs k (l ∷ m ∷ ls) few none = absurd (omega (arith, few))
+
+pub nothing_bound : (n : Name) (bs : List Binding) (k : ℕ) (body : Frame) → bs ≡ [] → length body.loops ≤ 1 → None ≡ in_innermost n (turns_of bs k body.loops) → None ≡ in_variables n (variables_at bs k body)
+nothing_bound n bs k body unset few none =
+    second _ _ _ (one_turn n bs k body.loops few none) (ap (λ (cs : List Binding). at_name n (layer_of cs k 0)) (sym unset))
 
 -- where the includer's look-up gives undefined, and where not
 pub handed_none : (o a x : Option Val) → is_undefined (unwrap_or o undefined) ≡ true → x ≡ a → x ≡ option_or (defined o) a

@@ -63,9 +63,9 @@ turns_step bs f ls k l lt le h =
     ap (turns_of bs f) (lower_at ls k l lt h) ∙ ap (λ (j : ℕ). turn_of (layer_of bs f j) l ∷ turns_of bs f (lower (k - 1) ls)) size
 
 -- the context of a body
-pub whole_context : (s : Standing) (context global : Named Val) (fs : List Frame) → s ≡ standing.Whole context global → context_of s fs ≡ context
-whole_context s context global [] e = ap (λ (t : Standing). context_of t []) e
-whole_context s context global (f ∷ fs) e = ap (λ (t : Standing). context_of t (f ∷ fs)) e
+pub whole_context : (s : Standing) (c : Named Val × Named Val) (fs : List Frame) → s ≡ standing.Whole c → context_of s fs ≡ c.0
+whole_context s c [] e = ap (λ (t : Standing). context_of t []) e
+whole_context s c (f ∷ fs) e = ap (λ (t : Standing). context_of t (f ∷ fs)) e
 
 pub called_context : (s : Standing) (context : Named Val) (fs : List Frame) → s ≡ standing.Called context → context_of s fs ≡ context
 called_context s context [] e = ap (λ (t : Standing). context_of t []) e

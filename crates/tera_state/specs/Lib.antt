@@ -1,5 +1,6 @@
 pub mod Stack
 pub mod Lent
+pub mod Contexts
 pub mod Items
 pub mod Scope
 pub mod Bound

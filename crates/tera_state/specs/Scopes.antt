@@ -21,18 +21,18 @@ abbrev pub variables_at : List Binding → ℕ → Frame → Variables
 variables_at bs k f = record { turns = turns_of bs k f.loops; sets = layer_of bs k 0 }
 
 abbrev pub kind_of : Standing → Kind
-kind_of (standing.Whole c g) = whole
+kind_of (standing.Whole c) = whole
 kind_of standing.Included = included
 kind_of (standing.Called c) = called
 
 -- an include has its includer's context
 abbrev pub own_context : Standing → Named Val → Named Val
-own_context (standing.Whole c g) above = c
+own_context (standing.Whole c) above = c.0
 own_context standing.Included above = above
 own_context (standing.Called c) above = c
 
 abbrev pub own_global : Standing → Named Val
-own_global (standing.Whole c g) = g
+own_global (standing.Whole c) = c.1
 own_global standing.Included = []
 own_global (standing.Called c) = []
 

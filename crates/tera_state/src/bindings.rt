@@ -1,5 +1,5 @@
 // All names that a rendering has set, in one list.
-ghost use Rattle.std.specs.Prelude.{◌≡◌, [], OnOk, OnErr, IfErr, option_copied};
+ghost use Rattle.std.specs.Prelude.{◌≡◌, ◌↔◌, [], IsTrue, OnOk, OnErr, IfErr, option_copied};
 ghost use Rattle.tera_errors.specs.Answer.{Lacks};
 ghost use Rattle.tera_values.specs.Named.{put_all};
 ghost use Rattle.tera_state.specs.Bound.{value_in, with_binding, without, without_frame, place_from, layer_of, is_beyond, end_with, end_without};
@@ -57,6 +57,14 @@ impl Bindings {
             items: Vec::new(alloc),
             end: Layer { frame: 0, layer: 0 },
         }
+    }
+
+    /// Whether nothing is bound.
+    #[inline(always)]
+    pub fn is_empty(&self) -> bool
+        ensures { IsTrue result ↔ (self.now ≡ []) }
+    {
+        self.items.is_empty()
     }
 
     /// The value of the name in the layer.

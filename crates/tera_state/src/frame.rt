@@ -1,13 +1,13 @@
 // The bodies that run, one below the other.
-use crate::lent::Lent;
+use crate::contexts::Contexts;
 use crate::open_loops::OpenLoops;
 use tera_values::Kwargs;
 
-/// A template by itself with its context and the global one, an include, which reads its includer, or a component, which
-/// reads the arguments that were made for it.
+/// A template by itself with its contexts, an include, which reads its includer, or a component, which reads the
+/// arguments that were made for it.
 #[derive(Drop)]
 pub enum Standing<'c> {
-    Whole(Lent<'c>, Lent<'c>),
+    Whole(Contexts<'c>),
     Included,
     Called(Kwargs),
 }

@@ -2,6 +2,7 @@
 #![tactic(auto)]
 
 pub mod bindings;
+pub mod contexts;
 pub mod found;
 pub mod frame;
 pub mod items;
@@ -16,6 +17,7 @@ pub mod state;
 pub mod string_input;
 
 pub use bindings::Bindings;
+pub use contexts::Contexts;
 pub use found::Found;
 pub use frame::{Frame, Standing};
 pub use items::ForLoopIterator;

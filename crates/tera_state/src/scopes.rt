@@ -1,16 +1,17 @@
 // All that a rendering has open, and all that it binds.
-ghost use Rattle.std.specs.Prelude.{◌≡◌, Ok, ◌≤◌, ◌≢◌, ◌↔◌, ◌∷◌, [], suc, OnOk, OnErr, IfErr, IsTrue, length, drop, unwrap_or, option_copied};
+ghost use Rattle.std.specs.Prelude.{◌≡◌, Ok, ◌≤◌, ◌≢◌, ◌↔◌, ◌∷◌, [], suc, OnOk, OnErr, IfErr, IsTrue, length, drop, unwrap_or, option_copied, None};
 ghost use Rattle.tera_errors.specs.Answer.{Gives, Lacks};
 ghost use Rattle.tera_values.specs.Val.{undefined};
 ghost use Rattle.tera_state.specs.Found.{found_value};
 ghost use Rattle.tera_state.specs.Bound.{without_frame};
 ghost use Rattle.tera_state.specs.Lent.{names_of};
-ghost use Rattle.tera_state.specs.Scope.{look, look_implicit, in_variables, set_variable, set_global, open_turn, close_turn, nothing_set, outside, in_include, in_component, put_turns, dump};
+ghost use Rattle.tera_state.specs.Scope.{look, look_implicit, in_variables, in_innermost, set_variable, set_global, open_turn, close_turn, nothing_set, outside, in_include, in_component, put_turns, dump};
 ghost use Rattle.tera_state.specs.Opened.{turn_of, to_come};
 ghost use Rattle.tera_state.specs.Stack.{lower};
 ghost use Rattle.tera_state.specs.Scopes.{begun, bound_at, bound_above_at, variables_at, context_of, variables_of, around_of, coming_of, coming_around, own_global, TakesTurn};
 
 use crate::bindings::Bindings;
+use crate::contexts::Contexts;
 use crate::found::Found;
 use crate::frame::{Frame, Standing};
 use crate::lent::Lent;
@@ -70,9 +71,25 @@ impl<'c> Scopes<'c> {
             .loops
             .look_innermost(&self.bindings, height, name)
         {
-            Found::Nothing => self.bound_at(height, &self.frame, name),
+            Found::Nothing => self.look_beyond(height, name),
             found => found,
         }
+    }
+
+    // The same of a name that the innermost turn does not bind. Where no other loop is open and nothing is set, a
+    // template by itself asks its contexts at once.
+    #[inline(never)]
+    fn look_beyond(&self, height: usize, name: &Sought<'_>) -> Found<'_>
+        requires height { height ≡ length self.now.below }
+        requires beyond { in_innermost name.now (variables_of self.now).turns ≡ None }
+        ensures { found_value result ≡ bound_at self.now height self.now.frame name.now }
+    {
+        if self.bindings.is_empty() && self.frame.loops.len() <= 1 {
+            if let Standing::Whole(contexts) = &self.frame.standing {
+                return kept(contexts.get(name));
+            }
+        }
+        self.bound_at(height, &self.frame, name)
     }
 
     // What a body with so many frames below it has the name stand for.
@@ -82,10 +99,7 @@ impl<'c> Scopes<'c> {
     {
         match in_body(&self.bindings, height, body, name) {
             Found::Nothing => match &body.standing {
-                Standing::Whole(context, global) => match context.get(name) {
-                    Some(value) => Found::Kept(value),
-                    None => kept(global.get(name)),
-                },
+                Standing::Whole(contexts) => kept(contexts.get(name)),
                 Standing::Called(arguments) => kept(arguments.look(name)),
                 Standing::Included => {
                     if height == 0 {
@@ -141,7 +155,7 @@ impl<'c> Scopes<'c> {
         ensures { result ≡ context_of body.now.standing (lower height self.now.below) }
     {
         match &body.standing {
-            Standing::Whole(context, _) => return context.share(),
+            Standing::Whole(contexts) => return contexts.context(),
             Standing::Called(arguments) => return Lent::arguments(arguments),
             Standing::Included => {}
         }
@@ -171,7 +185,7 @@ impl<'c> Scopes<'c> {
         ensures { Gives (λ c. c) result (Ok (own_global self.now.frame.standing)) }
     {
         match &self.frame.standing {
-            Standing::Whole(_, global) => global.to_context(alloc),
+            Standing::Whole(contexts) => contexts.global(alloc),
             Standing::Called(_) => Ok(Context::new(alloc)),
             Standing::Included => Ok(Context::new(alloc)),
         }
@@ -200,10 +214,26 @@ impl<'c> Scopes<'c> {
             alloc,
             bindings: Bindings::new(alloc),
             frame: Frame {
-                standing: Standing::Whole(Lent::new(Some(context)), Lent::new(global)),
+                standing: Standing::Whole(Contexts::new(
+                    alloc,
+                    Lent::new(Some(context)),
+                    Lent::new(global),
+                )),
                 loops: OpenLoops::new(alloc),
             },
             below: Stack::new(alloc),
+        }
+    }
+
+    /// Notes these names of a template, so that its contexts are searched for them once and not at each look-up. In an
+    /// include or a component nothing is noted.
+    pub fn note_all(&mut self, names: &[Name]) -> Result<(), AllocError>
+        ensures { self.new ≡ self.old }
+    {
+        match &mut self.frame.standing {
+            Standing::Whole(contexts) => contexts.note_all(names),
+            Standing::Included => Ok(()),
+            Standing::Called(_) => Ok(()),
         }
     }
 

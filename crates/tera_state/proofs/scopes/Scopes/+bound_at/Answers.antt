@@ -1,25 +1,18 @@
-use Rattle.std.proofs.Common.{rules, ◌≤◌, ◌<◌, ◌∙◌, sym, ap, refl, arith, length}
+use Rattle.std.proofs.Common.{rules, ◌≤◌, ◌<◌, ◌∙◌, sym, ap, arith, length}
 use Rattle.tera_values.specs.Named.{at_name}
 use Rattle.tera_state.specs.Found.{found_value}
 use Rattle.tera_state.specs.Stack.{lower}
 use Rattle.tera_state.specs.Scopes.{frame_of, above_of, variables_at}
-use Rattle.tera_state.proofs.Finds.{first, second, missing}
+use Rattle.tera_state.proofs.Finds.{missing}
 use Rattle.tera_state.proofs.Beyond.{kept_first, bound_split, from_beyond, whole_beyond, called_beyond, from_context, from_includer}
 use Rattle.tera_state.proofs.scopes.Scopes.+bound_at.Goals as goal
 
-pub returns-in-Some : goal.returns-in-Some
-returns-in-Some t c =
+pub returns-in-Whole : goal.returns-in-Whole
+returns-in-Whole t c =
     let fs = lower c.args.height c.args.self.now.below in
     let s = c.args.body.now.standing in
     from_beyond c.args.name.now c.args.self.now.bindings c.args.height c.args.body.now fs _ c.in-Nothing.ensures
-    (first _ _ _ c.in-Some.ensures c.in-Some.value.now refl ∙ sym (whole_beyond c.args.name.now c.args.self.now.bindings s _ _ fs c.in-Whole.is))
-
-pub returns-in-None : goal.returns-in-None
-returns-in-None t c =
-    let fs = lower c.args.height c.args.self.now.below in
-    let s = c.args.body.now.standing in
-    from_beyond c.args.name.now c.args.self.now.bindings c.args.height c.args.body.now fs _ c.in-Nothing.ensures
-    (second _ _ _ c.in-None.ensures (c.kept.ensures ∙ c.get-in-None.ensures) ∙ sym (whole_beyond c.args.name.now c.args.self.now.bindings s _ _ fs c.in-Whole.is))
+    (c.kept.ensures ∙ c.get.ensures ∙ sym (whole_beyond c.args.name.now c.args.self.now.bindings s _ fs c.in-Whole.is))
 
 pub returns-in-Called : goal.returns-in-Called
 returns-in-Called t c =
@@ -37,7 +30,7 @@ returns-then-is_undefined t c =
     let positive : 0 < h = search rules in
     let within : h ≤ length below = omega (arith, c.requires) in
     from_beyond n bs h c.args.body.now (lower h below) _ c.in-Nothing.ensures
-    (from_context n bs below h c.args.body.now.standing c.in-Some-at_height.includer.now positive within c.in-Included.is c.in-Some-at_height.ensures (found_value c.bound_at-found.result) c.bound_at-found.ensures _
+    (from_context n bs below h c.args.body.now.standing c.in-Some.includer.now positive within c.in-Included.is c.in-Some.ensures (found_value c.bound_at-found.result) c.bound_at-found.ensures _
     (sym c.is_undefined.ensures ∙ c.if-is_undefined.true)
     (c.kept-then-is_undefined.ensures ∙ c.get-then-is_undefined.ensures ∙ ap (at_name n) c.context_at.ensures))
 
@@ -50,11 +43,11 @@ returns-else-is_undefined t c =
     let positive : 0 < h = search rules in
     let within : h ≤ length below = omega (arith, c.requires) in
     from_beyond n bs h c.args.body.now (lower h below) _ c.in-Nothing.ensures
-    (from_includer n bs below h c.args.body.now.standing c.in-Some-at_height.includer.now positive within c.in-Included.is c.in-Some-at_height.ensures (found_value c.bound_at-found.result) c.bound_at-found.ensures
+    (from_includer n bs below h c.args.body.now.standing c.in-Some.includer.now positive within c.in-Included.is c.in-Some.ensures (found_value c.bound_at-found.result) c.bound_at-found.ensures
     (sym c.is_undefined.ensures ∙ c.if-is_undefined.false))
 
-pub returns-in-None-at_height : goal.returns-in-None-at_height
-returns-in-None-at_height t c = missing c.args.self.now.below c.args.height (search rules) (omega (arith, c.requires)) c.in-None-at_height.ensures
+pub returns-in-None : goal.returns-in-None
+returns-in-None t c = missing c.args.self.now.below c.args.height (search rules) (omega (arith, c.requires)) c.in-None.ensures
 
 pub returns-in_default : goal.returns-in_default
 returns-in_default t c =

@@ -4,7 +4,7 @@ use Rattle.tera_state.proofs.Finds.{lower_at, missing, whole_context, called_con
 use Rattle.tera_state.proofs.scopes.Scopes.+context_at.Goals as goal
 
 pub returns-in-Whole : goal.returns-in-Whole
-returns-in-Whole t c = c.share.ensures ∙ sym (whole_context c.args.body.now.standing _ _ (lower c.args.height c.args.self.now.below) c.in-Whole.is)
+returns-in-Whole t c = c.context.ensures ∙ sym (whole_context c.args.body.now.standing _ (lower c.args.height c.args.self.now.below) c.in-Whole.is)
 
 pub returns-in-Called : goal.returns-in-Called
 returns-in-Called t c = c.arguments.ensures ∙ sym (called_context c.args.body.now.standing _ (lower c.args.height c.args.self.now.below) c.in-Called.is)

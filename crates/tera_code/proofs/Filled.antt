@@ -79,10 +79,6 @@ looped_written l m n o front turn place h counts e at g w =
     ∙ lengthened-lengthened l (front ++ start ∷ turn) (instruction.NextTurn ∷ [])
     ∙ ap (lengthened l) (append_assoc front (start ∷ turn) (instruction.NextTurn ∷ []))
 
--- the heading is told once more
-pub looped_by : (l m : Listing) (place : ℕ) (h k : Heading) → m ≡ looped place h true l → h ≡ k → m ≡ looped place k true l
-looped_by l m place h k w e = w ∙ ap (λ z. looped place z true l) e
-
 -- the turns of a loop and what goes where there is no item are written behind the front
 pub loop_written : (l m n o p q r : Listing) (front body other : Code) (place leave count : ℕ) (h : Heading) → m ≡ lengthened l front → place ≡ length m.code → n ≡ lengthened m kept → o ≡ lengthened n body
     → p ≡ looped place h true o → leave ≡ length p.code → q ≡ lengthened p kept → r ≡ lengthened q other → count ≡ behind leave r

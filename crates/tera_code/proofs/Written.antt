@@ -1,28 +1,20 @@
 -- Forms whose parts stand in a Vec.
-use Rattle.std.proofs.Common.{◌≡◌, ℕ, suc, Bool, Bor, length, List, [], ◌∷◌, ◌++◌, Vec, Box, Global, Result, Ok, Err, OnOk, Option, None, Some, refl, sym, ap, ap₂, ◌∙◌, append_assoc}
+use Rattle.std.proofs.Common.{◌≡◌, ℕ, suc, Bool, cond, length, List, [], ◌∷◌, ◌++◌, Box, Global, Result, Ok, Err, OnOk, Option, None, Some, refl, sym, ap, ap₂, ◌∙◌, append_assoc}
 use Rattle.std.specs.declared.alloc.AllocError.{AllocError}
 use Rattle.tera_errors.specs.declared.span.Span.{Span}
-use Rattle.tera_syntax_tree.specs.declared.expression.Entry.{Entry}
 use Rattle.tera_syntax_tree.specs.declared.expression.Argument.{Argument}
 use Rattle.tera_syntax_tree.specs.declared.expression.OwnedKey.{OwnedKey}
-use Rattle.tera_syntax_tree.specs.declared.expression.Heading.{Heading}
 use Rattle.tera_syntax_tree.specs.declared.expression.Bounds.{Bounds}
-use Rattle.tera_syntax_tree.specs.declared.expression.ComponentTag.{ComponentTag, out-ComponentTag}
 use Rattle.tera_syntax_tree.specs.declared.expression.Sliced.{Sliced}
 use Rattle.tera_syntax_tree.specs.declared.expression.Expression.{Expression}
 use Rattle.tera_syntax_tree.specs.declared.expression.Expression.TheVariants as expression
-use Rattle.tera_syntax_tree.specs.declared.node.Node.{Node}
-use Rattle.tera_syntax_tree.specs.declared.node.Captured.{Captured}
-use Rattle.tera_syntax_tree.specs.declared.node.SectionFilter.{SectionFilter}
-use Rattle.tera_syntax_tree.specs.declared.node.Node.TheVariants as variant
-use Rattle.tera_syntax_tree.specs.Tree.{Expr, Key, Arguments, If}
-use Rattle.tera_syntax_tree.specs.View.{key_option, literal_option, slice_of, optional_of, expr_of, entries_of, arguments_of, filters_of, node_of, nodes_of, for_of}
-use Rattle.tera_syntax_tree.proofs.Views.{view_slice, view_if, view_capture, view_section, view_component_call, view_for}
+use Rattle.tera_syntax_tree.specs.Tree.{Expr, Key, Arguments, And, Or}
+use Rattle.tera_syntax_tree.specs.View.{key_option, keys_of, slice_of, optional_of, expr_of, arguments_of}
+use Rattle.tera_syntax_tree.proofs.Views.{view_slice}
 use Rattle.tera_code.specs.declared.instruction.Instruction.{Instruction}
 use Rattle.tera_code.specs.declared.instruction.Instruction.TheVariants as instruction
 use Rattle.tera_code.specs.Listing.{Listing}
-use Rattle.tera_syntax_tree.specs.View.{keys_of}
-use Rattle.tera_code.specs.Code.{Code, expr_code, bound_code, arguments_code, arguments_length, section_code, captured_code, handed_code, node_code, nodes_code, turn_code, keys_in, lengthened}
+use Rattle.tera_code.specs.Code.{Code, expr_code, bound_code, arguments_code, arguments_length, turn_code, lengthened}
 use Rattle.tera_code.specs.Places.{filled, behind}
 use Rattle.tera_code.proofs.Lengthened.{lengthened-lengthened}
 use Rattle.tera_code.proofs.Filled.{keep_written}
@@ -36,18 +28,19 @@ pub length_keys : (ks : List (Option OwnedKey)) → length (keys_of ks) ≡ leng
 length_keys [] = refl
 length_keys (k ∷ ks) = ap (λ n. suc n) (length_keys ks)
 
-pub keys_of-append : (ks : List (Option OwnedKey)) (k : Option OwnedKey) → keys_of (ks ++ k ∷ []) ≡ keys_of ks ++ key_option k ∷ []
+keys_of-append : (ks : List (Option OwnedKey)) (k : Option OwnedKey) → keys_of (ks ++ k ∷ []) ≡ keys_of ks ++ key_option k ∷ []
 keys_of-append [] k = refl
 keys_of-append (j ∷ ks) k = ap (λ all. key_option j ∷ all) (keys_of-append ks k)
 
--- one key more is copied
-pub keys_more : (ks js : List (Option OwnedKey)) (k : Option OwnedKey) (e : Entry) (before rest : List Entry) (all : List (Option Key)) → js ≡ ks ++ k ∷ [] → key_option k ≡ literal_option e.key → before ≡ e ∷ rest → keys_of ks ++ keys_in (entries_of before) ≡ all → keys_of js ++ keys_in (entries_of rest) ≡ all
-keys_more ks js k e before rest all h same b is =
-    ap (λ x. keys_of x ++ keys_in (entries_of rest)) h
-    ∙ ap (λ x. x ++ keys_in (entries_of rest)) (keys_of-append ks k)
-    ∙ append_assoc (keys_of ks) (key_option k ∷ []) (keys_in (entries_of rest))
-    ∙ ap (λ x. keys_of ks ++ x ∷ keys_in (entries_of rest)) (same)
-    ∙ ap (λ x. keys_of ks ++ keys_in (entries_of x)) (sym b)
+-- one key more is copied, of what shows its key
+pub keys_more : {A : Type 0} (shown : A → Option Key) (view : List A → List (Option Key)) → ((x : A) (xs : List A) → view (x ∷ xs) ≡ shown x ∷ view xs)
+    → (ks js : List (Option OwnedKey)) (k : Option OwnedKey) (e : A) (before rest : List A) (all : List (Option Key)) → js ≡ ks ++ k ∷ [] → key_option k ≡ shown e → before ≡ e ∷ rest → keys_of ks ++ view before ≡ all → keys_of js ++ view rest ≡ all
+keys_more shown view step ks js k e before rest all h same b is =
+    ap (λ x. keys_of x ++ view rest) h
+    ∙ ap (λ x. x ++ view rest) (keys_of-append ks k)
+    ∙ append_assoc (keys_of ks) (key_option k ∷ []) (view rest)
+    ∙ ap (λ x. keys_of ks ++ x ∷ view rest) same
+    ∙ ap (λ x. keys_of ks ++ x) (sym (ap view b ∙ step e rest))
     ∙ is
 
 pub on_ok_by : {X : Type 0} (r : Result (Unit {0}) AllocError) (x y z : X) → y ≡ z → OnOk r (x ≡ y) → OnOk r (x ≡ z)
@@ -58,19 +51,23 @@ pub arguments_counted : (xs : List Argument) → length xs ≡ arguments_length 
 arguments_counted [] = refl
 arguments_counted (x ∷ xs) = ap (λ n. suc n) (arguments_counted xs)
 
--- the code of what is seen of an expression is that of the expression
-pub seen : (l o : Listing) (e : Expression) (x : Expr) (r : Result (Unit {0}) AllocError) → x ≡ expr_of e → OnOk r (o ≡ lengthened l (expr_code x)) → OnOk r (o ≡ lengthened l (expr_code (expr_of e)))
-seen l o e x r is h = on_ok_by r o _ _ (ap (λ t. lengthened l (expr_code t)) is) h
+-- the code of what is seen of a part is that of the part
+pub seen : {A : Type 0} (code : A → Code) (l m : Listing) (x y : A) (r : Result (Unit {0}) AllocError) → x ≡ y → OnOk r (m ≡ lengthened l (code x)) → OnOk r (m ≡ lengthened l (code y))
+seen code l m x y r is h = on_ok_by r m _ _ (ap (λ t. lengthened l (code t)) is) h
 
 pub boxed_written : (l m : Listing) (x y : Expression) → m ≡ lengthened l (expr_code (expr_of x)) → x ≡ y → m ≡ lengthened l (expr_code (expr_of y))
 boxed_written l m x y h e = h ∙ ap (λ e. lengthened l (expr_code (expr_of e))) e
+
+-- which of the two operators is told once more
+pub decided : (l : Listing) (b d : Bool) (left right : Expr) (span : Span) → b ≡ d → lengthened l (expr_code (cond d (Or left right span) (And left right span))) ≡ lengthened l (expr_code (cond b (Or left right span) (And left right span)))
+decided l b d left right span is = ap (λ k. lengthened l (expr_code (cond k (Or left right span) (And left right span)))) (sym is)
 
 -- a slice is written behind what it is taken of
 pub slice_written : (l m n : Listing) (e : Expression) (optional : Bool) (sliced : Box Sliced Global) (span : Span) (x y : Sliced) (r : Result (Unit {0}) AllocError) → e ≡ expression.Slice optional sliced span → x ≡ sliced.value → y ≡ sliced.value → m ≡ lengthened l (expr_code (expr_of x.target))
     → OnOk r (n ≡ lengthened m (bounds_code y.bounds optional span)) → OnOk r (n ≡ lengthened l (expr_code (expr_of e)))
 slice_written l m n e optional sliced span x y r is v w g h =
     let bounds : Sliced → Code = λ s. bounds_code s.bounds optional span in
-    seen l n e (slice_of sliced.value optional span) r (sym (ap expr_of is ∙ view_slice optional sliced span))
+    seen expr_code l n (slice_of sliced.value optional span) (expr_of e) r (sym (ap expr_of is ∙ view_slice optional sliced span))
     (on_ok_by r n _ _ (ap₂ (λ k s. lengthened k (bounds s)) (g ∙ ap (λ s. lengthened l (expr_code (expr_of s.target))) v) w ∙ lengthened-lengthened l (expr_code (expr_of sliced.value.target)) (bounds sliced.value)) h)
 
 -- parts are written, and what takes them
@@ -86,54 +83,9 @@ applied_written l m n o value xs ys zs take r a b g h w =
     let last = arguments_code (arguments_of zs) ++ take (arguments_of zs) ∷ [] in
     on_ok_by r o _ _ (ap (λ k. lengthened k last) g ∙ lengthened-lengthened l value last) (taken_written m n o xs ys zs (λ x. arguments_code (arguments_of x)) (λ y. take (arguments_of y)) r a b h w)
 
-pub if_written : (l m : Listing) (node : Node) (drops : ℕ) (condition : Box Expression Global) (body other : Vec Node Global) (e : Expression) (xs ys : List Node) (r : Result (Unit {0}) AllocError) → node ≡ variant.If condition body other → e ≡ condition.value → xs ≡ body.items → ys ≡ other.items
-    → OnOk r (m ≡ lengthened l (node_code (If (expr_of e) (nodes_of xs) (nodes_of ys)) drops)) → OnOk r (m ≡ lengthened l (node_code (node_of node) drops))
-if_written l m node drops condition body other e xs ys r is c a b h =
-    on_ok_by r m _ _ (ap (λ x. lengthened l (node_code (If (expr_of x) (nodes_of xs) (nodes_of ys)) drops)) c
-    ∙ ap₂ (λ x y. lengthened l (node_code (If (expr_of condition.value) (nodes_of x) (nodes_of y)) drops)) a b
-    ∙ ap (λ t. lengthened l (node_code t drops)) (sym (view_if condition body other))
-    ∙ ap (λ t. lengthened l (node_code (node_of t) drops)) (sym is)) h
-
-pub for_written : (l m : Listing) (node : Node) (drops : ℕ) (heading : Box Heading Global) (body other : Vec Node Global) (h : Heading) (xs ys : List Node) (r : Result (Unit {0}) AllocError) → node ≡ variant.For heading body other → h ≡ heading.value → xs ≡ body.items → ys ≡ other.items
-    → OnOk r (m ≡ lengthened l (node_code (for_of h xs ys) drops)) → OnOk r (m ≡ lengthened l (node_code (node_of node) drops))
-for_written l m node drops heading body other h xs ys r is c a b w =
-    on_ok_by r m _ _ (ap (λ x. lengthened l (node_code (for_of x xs ys) drops)) c
-    ∙ ap₂ (λ x y. lengthened l (node_code (for_of heading.value x y) drops)) a b
-    ∙ ap (λ t. lengthened l (node_code t drops)) (sym (view_for heading body other))
-    ∙ ap (λ t. lengthened l (node_code (node_of t) drops)) (sym is)) w
-
--- the text of a section is written, and what takes it
-pub capture_written : (l m n : Listing) (node : Node) (drops : ℕ) (is_global : Bool) (c : Box Captured Global) (body : Vec Node Global) (k : Captured) (r : Result (Unit {0}) AllocError) → node ≡ variant.Capture is_global c body → k ≡ c.value
-    → m ≡ lengthened l (section_code (filters_of k.filters.items) (nodes_code (nodes_of body.items) (suc drops))) → OnOk r (n ≡ lengthened m (instruction.Store k.name.now is_global ∷ [])) → OnOk r (n ≡ lengthened l (node_code (node_of node) drops))
-capture_written l m n node drops is_global c body k r is v h =
-    let section : Captured → Code = λ y. section_code (filters_of y.filters.items) (nodes_code (nodes_of body.items) (suc drops)) in
-    let store : Captured → Code = λ y. instruction.Store y.name.now is_global ∷ [] in
-    on_ok_by r n _ _ (ap₂ (λ m y. lengthened m (store y)) (h ∙ ap (λ y. lengthened l (section y)) v) v
-    ∙ lengthened-lengthened l (section c.value) (store c.value)
-    ∙ ap (λ t. lengthened l (node_code t drops)) (sym (view_capture is_global c body))
-    ∙ ap (λ t. lengthened l (node_code (node_of t) drops)) (sym is))
-
-pub section_written : (l m n : Listing) (node : Node) (drops : ℕ) (filters : Vec SectionFilter Global) (body : Vec Node Global) (fs : List SectionFilter) (xs : List Node) (r : Result (Unit {0}) AllocError) → node ≡ variant.FilterSection filters body → fs ≡ filters.items → xs ≡ body.items
-    → m ≡ lengthened l (section_code (filters_of fs) (nodes_code (nodes_of xs) (suc drops))) → OnOk r (n ≡ lengthened m (instruction.WriteTop ∷ [])) → OnOk r (n ≡ lengthened l (node_code (node_of node) drops))
-section_written l m n node drops filters body fs xs r is a b h =
-    let section = λ (y : List SectionFilter) (z : List Node). section_code (filters_of y) (nodes_code (nodes_of z) (suc drops)) in
-    on_ok_by r n _ _ (ap (λ k. lengthened k (instruction.WriteTop ∷ [])) (h ∙ ap₂ (λ y z. lengthened l (section y z)) a b)
-    ∙ lengthened-lengthened l (section filters.items body.items) (instruction.WriteTop ∷ [])
-    ∙ ap (λ t. lengthened l (node_code t drops)) (sym (view_section filters body))
-    ∙ ap (λ t. lengthened l (node_code (node_of t) drops)) (sym is))
-
--- the text of a body is written, and the component that is handed it
-pub component_call_written : (l m n : Listing) (node : Node) (drops : ℕ) (tag : Box ComponentTag Global) (body : Vec Node Global) (span : Span) (k : ComponentTag) (es : List Entry) (r : Result (Unit {0}) AllocError) → node ≡ variant.ComponentCall tag body span → k ≡ tag.value → es ≡ (out-ComponentTag k).attributes.items
-    → m ≡ lengthened l (captured_code (nodes_code (nodes_of body.items) (suc drops)) span) → OnOk r (n ≡ lengthened m (handed_code (out-ComponentTag k).name.now (entries_of es) span)) → OnOk r (n ≡ lengthened l (node_code (node_of node) drops))
-component_call_written l m n node drops tag body span k es r is v a h =
-    let text = captured_code (nodes_code (nodes_of body.items) (suc drops)) span in
-    let hand : ComponentTag → List Entry → Code = λ t y. handed_code (out-ComponentTag t).name.now (entries_of y) span in
-    let whole : ComponentTag → Code = λ t. hand t (out-ComponentTag t).attributes.items in
-    on_ok_by r n _ _ (ap₂ (λ m y. lengthened m (hand k y)) h a
-    ∙ lengthened-lengthened l text (whole k)
-    ∙ ap (λ t. lengthened l (text ++ whole t)) v
-    ∙ ap (λ t. lengthened l (node_code t drops)) (sym (view_component_call tag body span))
-    ∙ ap (λ t. lengthened l (node_code (node_of t) drops)) (sym is))
+-- a part is written, and what stands behind it
+pub two_written : (l m n : Listing) (first second : Code) (r : Result (Unit {0}) AllocError) → m ≡ lengthened l first → OnOk r (n ≡ lengthened m second) → OnOk r (n ≡ lengthened l (first ++ second))
+two_written l m n first second r h w = on_ok_by r n _ _ (ap (λ k. lengthened k second) h ∙ lengthened-lengthened l first second) w
 
 -- the turn of a comprehension without a condition
 pub kept : (l m n : Listing) (condition : Option (Box Expression Global)) (x value : Expression) → condition ≡ None → m ≡ lengthened l (expr_code (expr_of x)) → x ≡ value → n ≡ lengthened m (instruction.Keep ∷ [])

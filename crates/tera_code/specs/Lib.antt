@@ -3,7 +3,6 @@ pub mod Packed
 pub mod Listing
 pub mod Code
 pub mod Places
-pub mod Kinds
 pub mod Blocks
 pub mod Asked
 pub mod Called

@@ -54,18 +54,14 @@ fn add(alloc: Global, node: &Node, file: &str, found: &mut Vec<Block>) -> Result
         (node_blocks (node_of node.now))) }
 {
     match node {
-        Node::If { body, other, .. } => {
+        Node::If { body, other, .. } | Node::For { body, other, .. } => {
             add_all(alloc, body.as_slice(), file, found)?;
             add_all(alloc, other.as_slice(), file, found)
         }
-        Node::For { body, other, .. } => {
-            add_all(alloc, body.as_slice(), file, found)?;
-            add_all(alloc, other.as_slice(), file, found)
-        }
-        Node::Capture { body, .. } => add_all(alloc, body.as_slice(), file, found),
-        Node::FilterSection { body, .. } => add_all(alloc, body.as_slice(), file, found),
-        Node::ComponentCall { body, .. } => add_all(alloc, body.as_slice(), file, found),
-        Node::Definition { body, .. } => add_all(alloc, body.as_slice(), file, found),
+        Node::Capture { body, .. }
+        | Node::FilterSection { body, .. }
+        | Node::ComponentCall { body, .. }
+        | Node::Definition { body, .. } => add_all(alloc, body.as_slice(), file, found),
         Node::Block { body, name, .. } => {
             let body = body.as_slice();
             put(alloc, body, file, name, found)?;

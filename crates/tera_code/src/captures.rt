@@ -1,10 +1,9 @@
 // Names that are bound, and texts that are captured for them.
-ghost use Rattle.std.specs.Prelude.{◌≡◌, [], ◌∷◌, suc, true, OnOk, IfOk};
+ghost use Rattle.std.specs.Prelude.{◌≡◌, [], ◌∷◌, suc, OnOk, IfOk};
 ghost use Rattle.tera_code.specs.declared.instruction.Instruction.TheVariants as instruction;
 ghost use Rattle.tera_code.specs.Code.{node_code, nodes_code, section_code, captured_code, lengthened};
-ghost use Rattle.tera_code.specs.Kinds.{captures_body};
-ghost use Rattle.tera_syntax_tree.specs.Tree.{Set, first_span};
-ghost use Rattle.tera_syntax_tree.specs.View.{expr_of, filters_of, node_of, nodes_of};
+ghost use Rattle.tera_syntax_tree.specs.Tree.{FilterSection, Set, first_span};
+ghost use Rattle.tera_syntax_tree.specs.View.{capture_of, component_call_of, expr_of, filters_of, nodes_of};
 
 use crate::compiler::Compiler;
 use crate::content::LentName;
@@ -29,34 +28,54 @@ impl Compiler {
         self.store(name, is_global)
     }
 
-    // What begins with a capture of its body.
+    // The text of the body, through the filters, becomes the value of the name.
     #[cycle(nodes)]
-    pub(crate) fn capturing(&mut self, node: &Node, drops: usize) -> Result<(), AllocError>
-        requires { captures_body (node_of node.now) ≡ true }
-        ensures { OnOk result (self.new ≡ lengthened self.old
-            (node_code (node_of node.now) drops)) }
+    #[inline(never)]
+    pub(crate) fn capture(
+        &mut self,
+        body: &Vec<Node>,
+        captured: &Captured,
+        is_global: bool,
+        drops: usize,
+    ) -> Result<(), AllocError>
+        ensures ok { OnOk result (self.new ≡ lengthened self.old
+            (node_code (capture_of captured.now (nodes_of body.now.items) is_global) drops)) }
     {
-        match node {
-            Node::Capture {
-                is_global,
-                captured,
-                body,
-            } => {
-                let captured: &Captured = captured;
-                self.section(&captured.filters, body, drops)?;
-                self.store(captured.name, *is_global)
-            }
-            Node::FilterSection { filters, body } => {
-                self.section(filters, body, drops)?;
-                self.emit(Instruction::WriteTop)
-            }
-            Node::ComponentCall { tag, body, span } => {
-                let tag: &ComponentTag = tag;
-                self.captured(body, *span, drops)?;
-                self.hand(tag.name, tag.attributes.as_slice(), *span)
-            }
-            _ => unreachable!(),
-        }
+        self.section(&captured.filters, body, drops)?;
+        self.store(captured.name, is_global)
+    }
+
+    // The text of the body, through the filters, is put out.
+    #[cycle(nodes)]
+    #[inline(never)]
+    pub(crate) fn filtered(
+        &mut self,
+        body: &Vec<Node>,
+        filters: &Vec<SectionFilter>,
+        drops: usize,
+    ) -> Result<(), AllocError>
+        ensures ok { OnOk result (self.new ≡ lengthened self.old (node_code (FilterSection
+            (filters_of filters.now.items) (nodes_of body.now.items)) drops)) }
+    {
+        self.section(filters, body, drops)?;
+        self.emit(Instruction::WriteTop)
+    }
+
+    // The component is handed the text of the body.
+    #[cycle(nodes)]
+    #[inline(never)]
+    pub(crate) fn component_call(
+        &mut self,
+        body: &Vec<Node>,
+        tag: &ComponentTag,
+        span: Span,
+        drops: usize,
+    ) -> Result<(), AllocError>
+        ensures ok { OnOk result (self.new ≡ lengthened self.old
+            (node_code (component_call_of tag.now (nodes_of body.now.items) span) drops)) }
+    {
+        self.captured(body, span, drops)?;
+        self.hand(tag.name, tag.attributes.as_slice(), span)
     }
 
     // The text that the body puts out, through the filters, on top of the operands.

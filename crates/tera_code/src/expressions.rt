@@ -1,5 +1,5 @@
 // Expressions.
-ghost use Rattle.std.specs.Prelude.{◌≡◌, ◌∷◌, [], ◌++◌, OnOk};
+ghost use Rattle.std.specs.Prelude.{◌≡◌, ◌∷◌, [], ◌++◌, OnOk, cond};
 ghost use Rattle.tera_code.specs.declared.instruction.Instruction.TheVariants as instruction;
 ghost use Rattle.tera_code.specs.Code.{expr_code, bound_code, items_code, entries_code, lengthened};
 ghost use Rattle.tera_syntax_tree.specs.Tree.{Index, Not, Negate, Binary, And, Or, Ternary, Array, Map};
@@ -57,8 +57,8 @@ impl Compiler {
                 operands,
                 span,
             } => self.binary(*operator, operands, *span),
-            Expression::And { operands, .. } => self.and(operands),
-            Expression::Or { operands, .. } => self.or(operands),
+            Expression::And { operands, .. } => self.logical(operands, false),
+            Expression::Or { operands, .. } => self.logical(operands, true),
             Expression::Ternary { choice, .. } => self.ternary(choice),
             Expression::Array { items, span } => self.array(items.as_slice(), *span),
             Expression::Map { entries, span } => self.map(entries.as_slice(), *span),
@@ -132,29 +132,23 @@ impl Compiler {
         self.emit(Instruction::Binary(operator, span))
     }
 
-    // The right operand is passed by a jump where the left one decides.
+    // The right operand is passed by a jump where the left one decides: a truthy one of `or`, a falsy one of `and`.
     #[cycle(expressions)]
     #[inline(never)]
-    fn and(&mut self, operands: &Operands) -> Result<(), AllocError>
+    fn logical(&mut self, operands: &Operands, is_or: bool) -> Result<(), AllocError>
         ensures ok { (span : Span) → OnOk result (self.new ≡ lengthened self.old (expr_code
-            (And (expr_of operands.now.left) (expr_of operands.now.right) span))) }
+            (cond is_or (Or (expr_of operands.now.left) (expr_of operands.now.right) span)
+            (And (expr_of operands.now.left) (expr_of operands.now.right) span)))) }
     {
         self.expression(&operands.left)?;
         let place = self.keep_place()?;
         self.expression(&operands.right)?;
-        self.fill(place, Instruction::JumpIfFalseOrPop(self.behind(place)))
-    }
-
-    #[cycle(expressions)]
-    #[inline(never)]
-    fn or(&mut self, operands: &Operands) -> Result<(), AllocError>
-        ensures ok { (span : Span) → OnOk result (self.new ≡ lengthened self.old (expr_code
-            (Or (expr_of operands.now.left) (expr_of operands.now.right) span))) }
-    {
-        self.expression(&operands.left)?;
-        let place = self.keep_place()?;
-        self.expression(&operands.right)?;
-        self.fill(place, Instruction::JumpIfTrueOrPop(self.behind(place)))
+        let count = self.behind(place);
+        if is_or {
+            self.fill(place, Instruction::JumpIfTrueOrPop(count))
+        } else {
+            self.fill(place, Instruction::JumpIfFalseOrPop(count))
+        }
     }
 
     // The value that is not chosen is passed by a jump.

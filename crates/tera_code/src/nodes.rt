@@ -1,10 +1,9 @@
 // Nodes.
-ghost use Rattle.std.specs.Prelude.{◌≡◌, [], ◌∷◌, true, OnOk, IfOk};
+ghost use Rattle.std.specs.Prelude.{◌≡◌, [], ◌∷◌, OnOk, IfOk};
 ghost use Rattle.tera_code.specs.declared.instruction.Instruction.TheVariants as instruction;
 ghost use Rattle.tera_code.specs.Code.{handed_code, node_code, nodes_code, listing_of, lengthened};
-ghost use Rattle.tera_code.specs.Kinds.{has_other_body};
 ghost use Rattle.tera_syntax_tree.specs.Tree as tree;
-ghost use Rattle.tera_syntax_tree.specs.View.{expr_of, entries_of, node_of, nodes_of};
+ghost use Rattle.tera_syntax_tree.specs.View.{expr_of, entries_of, for_of, node_of, nodes_of};
 
 use crate::chunk::Chunk;
 use crate::compiler::Compiler;
@@ -14,7 +13,7 @@ use crate::parts::is_context;
 use crate::room::Room;
 use std::alloc::{AllocError, Global};
 use tera_errors::lacking;
-use tera_syntax_tree::{Entry, Expression, Node};
+use tera_syntax_tree::{Entry, Expression, Heading, Node};
 use tera_values::{Name, Span};
 
 impl Compiler {
@@ -56,29 +55,39 @@ impl Compiler {
         self.nodes(body.as_slice(), drops)
     }
 
+    // Each form with bodies has a function of its own, which takes them first.
     #[cycle(nodes)]
     fn node(&mut self, node: &Node, drops: usize) -> Result<(), AllocError>
         ensures ok { OnOk result (self.new ≡ lengthened self.old
             (node_code (node_of node.now) drops)) }
     {
         match node {
-            Node::Content { text, span: _ } => self.emit_text(text),
+            Node::Content { text, .. } => self.emit_text(text),
             Node::Print { value } => self.print(value),
             Node::PrintName { name, span } => self.print_name(name, *span),
-            Node::If { .. } | Node::For { .. } => self.branching(node, drops),
+            Node::If {
+                condition,
+                body,
+                other,
+            } => self.choice(body, other, condition, drops),
+            Node::For {
+                heading,
+                body,
+                other,
+            } => self.turns(body, other, heading, drops),
             Node::Set {
                 name,
                 value,
                 is_global,
             } => self.set(name, value, *is_global),
-            Node::Capture { .. } | Node::FilterSection { .. } | Node::ComponentCall { .. } => {
-                self.capturing(node, drops)
-            }
-            Node::Block {
-                name,
-                body: _,
-                span,
-            } => self.block(name, *span),
+            Node::Capture {
+                is_global,
+                captured,
+                body,
+            } => self.capture(body, captured, *is_global, drops),
+            Node::FilterSection { filters, body } => self.filtered(body, filters, drops),
+            Node::ComponentCall { tag, body, span } => self.component_call(body, tag, *span, drops),
+            Node::Block { name, span, .. } => self.block(name, *span),
             Node::Include { name, span } => self.include(name.as_str(), *span),
             Node::Definition { .. } => Ok(()),
             Node::Break => self.emit(Instruction::LeaveLoop(drops)),
@@ -86,41 +95,47 @@ impl Compiler {
         }
     }
 
-    // What has another body, for where the first one doesn't run.
+    // The body that is not chosen is passed by a jump.
     #[cycle(nodes)]
-    fn branching(&mut self, node: &Node, drops: usize) -> Result<(), AllocError>
-        requires { has_other_body (node_of node.now) ≡ true }
-        ensures { OnOk result (self.new ≡ lengthened self.old
-            (node_code (node_of node.now) drops)) }
+    #[inline(never)]
+    fn choice(
+        &mut self,
+        body: &Vec<Node>,
+        other: &Vec<Node>,
+        condition: &Expression,
+        drops: usize,
+    ) -> Result<(), AllocError>
+        ensures ok { OnOk result (self.new ≡ lengthened self.old (node_code (tree.If
+            (expr_of condition.now) (nodes_of body.now.items) (nodes_of other.now.items)) drops)) }
     {
-        match node {
-            Node::If {
-                condition,
-                body,
-                other,
-            } => {
-                self.expression(condition)?;
-                let place = self.keep_place()?;
-                self.body(body, drops)?;
-                let place = self.divide(place)?;
-                self.body(other, drops)?;
-                self.fill(place, Instruction::Jump(self.behind(place)))
-            }
-            Node::For {
-                heading,
-                body,
-                other,
-            } => {
-                self.expression(&heading.target)?;
-                let place = self.keep_place()?;
-                self.body(body, 0)?;
-                self.end_turns(place, heading, true)?;
-                let place = self.keep_place()?;
-                self.body(other, drops)?;
-                self.fill(place, Instruction::EndLoop(self.behind(place)))
-            }
-            _ => unreachable!(),
-        }
+        self.expression(condition)?;
+        let place = self.keep_place()?;
+        self.body(body, drops)?;
+        let place = self.divide(place)?;
+        self.body(other, drops)?;
+        self.fill(place, Instruction::Jump(self.behind(place)))
+    }
+
+    // The other body runs where there is no turn, and is passed where the loop ends.
+    #[cycle(nodes)]
+    #[inline(never)]
+    fn turns(
+        &mut self,
+        body: &Vec<Node>,
+        other: &Vec<Node>,
+        heading: &Heading,
+        drops: usize,
+    ) -> Result<(), AllocError>
+        ensures ok { OnOk result (self.new ≡ lengthened self.old
+            (node_code (for_of heading.now body.now.items other.now.items) drops)) }
+    {
+        self.expression(&heading.target)?;
+        let place = self.keep_place()?;
+        self.body(body, 0)?;
+        self.end_turns(place, heading, true)?;
+        let place = self.keep_place()?;
+        self.body(other, drops)?;
+        self.fill(place, Instruction::EndLoop(self.behind(place)))
     }
 
     // The block is put out as the template that is rendered has it: its body is compiled by itself.

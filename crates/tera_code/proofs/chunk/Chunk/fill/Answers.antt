@@ -1,18 +1,14 @@
-use Rattle.std.proofs.Common.{◌∙◌, ap, refl}
-use Rattle.std.proofs.lemmas.Str.{IsUtf8-string_bytes}
-use Rattle.tera_code.specs.Places.{filled}
+use Rattle.std.proofs.Common.{refl}
 use Rattle.tera_code.proofs.Growth.{all_stay, all_filled, chunk_filled}
 use Rattle.tera_code.proofs.chunk.Chunk.fill.Goals as goal
 
 pub invariant_of-self : goal.invariant_of-self
-invariant_of-self c =
-    all_stay _ _ (IsUtf8-string_bytes c.self.inside.tables.pool) (IsUtf8-string_bytes c.pack.new.self.pool) c.in_err-packed.ensures.grows c.self.inside.code.items c.self.invariant
+invariant_of-self c = all_stay c.self.inside.tables c.pack.new.self c.in_err-packed.ensures.grows c.self.inside.code.items c.self.invariant _ refl
 
 pub invariant_of-self-2 : goal.invariant_of-self-2
 invariant_of-self-2 c =
-    all_filled _ _ (IsUtf8-string_bytes c.self.inside.tables.pool) (IsUtf8-string_bytes c.pack.new.self.pool) c.in_ok-packed.ensures.grows c.self.inside.code.items _ c.args.place _ c.args.instruction c.self.invariant c.in_ok-packed.ensures.ok refl
+    all_filled c.self.inside.tables c.pack.new.self c.in_ok-packed.ensures.grows c.self.inside.code.items c.self.invariant c.args.place _ c.args.instruction c.in_ok-packed.ensures.ok
 
 pub returns : goal.returns
 returns c =
-    chunk_filled _ _ (IsUtf8-string_bytes c.self.inside.tables.pool) (IsUtf8-string_bytes c.pack.new.self.pool) c.in_ok-packed.ensures.grows c.self.inside.code.items _ c.args.place _ c.args.instruction c.self.invariant c.in_ok-packed.ensures.ok refl c.self.inside.file
-    ∙ ap (filled c.args.place c.args.instruction) c.self.view_is
+    chunk_filled c.self.inside.tables c.pack.new.self c.in_ok-packed.ensures.grows c.self.inside.code.items c.self.invariant c.args.place _ c.args.instruction c.in_ok-packed.ensures.ok c.self.inside.file _ c.self.view_is

@@ -9,30 +9,30 @@ use Rattle.tera_syntax_tree.specs.View.{applied_of, called_of, comprehension_of,
 use Rattle.tera_syntax_tree.proofs.Views.{view_array, view_map, view_super, view_filter, view_test, view_call, view_component, view_comprehension}
 use Rattle.tera_code.specs.declared.instruction.Instruction.TheVariants as instruction
 use Rattle.tera_code.specs.Calls.{call_of}
-use Rattle.tera_code.specs.Code.{arguments_code, argument_names, entries_code, keys_in, lengthened}
+use Rattle.tera_code.specs.Code.{arguments_code, argument_names, entries_code, expr_code, keys_in, lengthened}
 use Rattle.tera_code.proofs.Filled.{jump_written, choice_written, comprehension_written}
-use Rattle.tera_code.proofs.Written.{applied_written, arguments_counted, kept, kept_if, on_ok_by, seen, slice_written, taken_written}
+use Rattle.tera_code.proofs.Written.{applied_written, arguments_counted, decided, kept, kept_if, on_ok_by, seen, slice_written, taken_written}
 use Rattle.tera_code.proofs.compiler.Compiler.+expressions.Goals as goal
 
 pub expression-returns-in-Not : goal.expression-returns-in-Not
 expression-returns-in-Not t c =
-    record { ok = seen _ _ _ _ _ (ap (λ x. Not (expr_of x) c.in-Not.span) c.deref-in-Not.ensures ∙ sym (ap expr_of c.in-Not.is)) (c.not.ensures.ok c.in-Not.span) }
+    record { ok = seen expr_code _ _ _ _ _ (ap (λ x. Not (expr_of x) c.in-Not.span) c.deref-in-Not.ensures ∙ sym (ap expr_of c.in-Not.is)) (c.not.ensures.ok c.in-Not.span) }
 
 pub expression-returns-in-Negate : goal.expression-returns-in-Negate
 expression-returns-in-Negate t c =
-    record { ok = seen _ _ _ _ _ (ap (λ x. Negate (expr_of x) c.in-Negate.span) c.deref-in-Negate.ensures ∙ sym (ap expr_of c.in-Negate.is)) (c.negate.ensures.ok c.in-Negate.span) }
+    record { ok = seen expr_code _ _ _ _ _ (ap (λ x. Negate (expr_of x) c.in-Negate.span) c.deref-in-Negate.ensures ∙ sym (ap expr_of c.in-Negate.is)) (c.negate.ensures.ok c.in-Negate.span) }
 
 pub expression-returns-in-And : goal.expression-returns-in-And
 expression-returns-in-And t c =
-    record { ok = seen _ _ _ _ _ (ap (λ (x : Operands). And (expr_of x.left) (expr_of x.right) c.in-And.span) c.deref-in-And.ensures ∙ sym (ap expr_of c.in-And.is)) (c.and.ensures.ok c.in-And.span) }
+    record { ok = seen expr_code _ _ _ _ _ (ap (λ (x : Operands). And (expr_of x.left) (expr_of x.right) c.in-And.span) c.deref-in-And.ensures ∙ sym (ap expr_of c.in-And.is)) (c.logical.ensures.ok c.in-And.span) }
 
 pub expression-returns-in-Or : goal.expression-returns-in-Or
 expression-returns-in-Or t c =
-    record { ok = seen _ _ _ _ _ (ap (λ (x : Operands). Or (expr_of x.left) (expr_of x.right) c.in-Or.span) c.deref-in-Or.ensures ∙ sym (ap expr_of c.in-Or.is)) (c.or.ensures.ok c.in-Or.span) }
+    record { ok = seen expr_code _ _ _ _ _ (ap (λ (x : Operands). Or (expr_of x.left) (expr_of x.right) c.in-Or.span) c.deref-in-Or.ensures ∙ sym (ap expr_of c.in-Or.is)) (c.logical-in-Or.ensures.ok c.in-Or.span) }
 
 pub expression-returns-in-Ternary : goal.expression-returns-in-Ternary
 expression-returns-in-Ternary t c =
-    record { ok = seen _ _ _ _ _ (ap (λ (x : Choice). Ternary (expr_of x.value) (expr_of x.condition) (expr_of x.other) c.in-Ternary.span) c.deref-in-Ternary.ensures ∙ sym (ap expr_of c.in-Ternary.is)) (c.ternary.ensures.ok c.in-Ternary.span) }
+    record { ok = seen expr_code _ _ _ _ _ (ap (λ (x : Choice). Ternary (expr_of x.value) (expr_of x.condition) (expr_of x.other) c.in-Ternary.span) c.deref-in-Ternary.ensures ∙ sym (ap expr_of c.in-Ternary.is)) (c.ternary.ensures.ok c.in-Ternary.span) }
 
 pub expression-returns-in_ok-expression-in-Slice : goal.expression-returns-in_ok-expression-in-Slice
 expression-returns-in_ok-expression-in-Slice t c =
@@ -40,43 +40,43 @@ expression-returns-in_ok-expression-in-Slice t c =
 
 pub expression-returns-in-Array : goal.expression-returns-in-Array
 expression-returns-in-Array t c =
-    record { ok = seen _ _ _ _ _ (ap (λ xs. Array (items_of xs) c.in-Array.span) c.as_slice.ensures.value ∙ sym (ap expr_of c.in-Array.is ∙ view_array c.in-Array.items c.in-Array.span)) c.array.ensures.ok }
+    record { ok = seen expr_code _ _ _ _ _ (ap (λ xs. Array (items_of xs) c.in-Array.span) c.as_slice.ensures.value ∙ sym (ap expr_of c.in-Array.is ∙ view_array c.in-Array.items c.in-Array.span)) c.array.ensures.ok }
 
 pub expression-returns-in-Map : goal.expression-returns-in-Map
 expression-returns-in-Map t c =
-    record { ok = seen _ _ _ _ _ (ap (λ xs. Map (entries_of xs) c.in-Map.span) c.as_slice-in-Map.ensures.value ∙ sym (ap expr_of c.in-Map.is ∙ view_map c.in-Map.entries c.in-Map.span)) c.map.ensures.ok }
+    record { ok = seen expr_code _ _ _ _ _ (ap (λ xs. Map (entries_of xs) c.in-Map.span) c.as_slice-in-Map.ensures.value ∙ sym (ap expr_of c.in-Map.is ∙ view_map c.in-Map.entries c.in-Map.span)) c.map.ensures.ok }
 
 pub expression-returns-in-Super : goal.expression-returns-in-Super
 expression-returns-in-Super t c =
-    record { ok = seen _ _ _ _ _ (ap (λ xs. Super (arguments_of xs) c.in-Super.span) c.as_slice-in-Super.ensures.value ∙ sym (ap expr_of c.in-Super.is ∙ view_super c.in-Super.arguments c.in-Super.span)) c.above.ensures.ok }
+    record { ok = seen expr_code _ _ _ _ _ (ap (λ xs. Super (arguments_of xs) c.in-Super.span) c.as_slice-in-Super.ensures.value ∙ sym (ap expr_of c.in-Super.is ∙ view_super c.in-Super.arguments c.in-Super.span)) c.above.ensures.ok }
 
 pub expression-returns-in-Comprehension : goal.expression-returns-in-Comprehension
 expression-returns-in-Comprehension t c =
-    record { ok = seen _ _ _ _ _ (ap (λ x. comprehension_of x c.in-Comprehension.span) c.deref-in-Comprehension.ensures ∙ sym (ap expr_of c.in-Comprehension.is ∙ view_comprehension c.in-Comprehension.collected c.in-Comprehension.span)) c.comprehension.ensures.ok }
+    record { ok = seen expr_code _ _ _ _ _ (ap (λ x. comprehension_of x c.in-Comprehension.span) c.deref-in-Comprehension.ensures ∙ sym (ap expr_of c.in-Comprehension.is ∙ view_comprehension c.in-Comprehension.collected c.in-Comprehension.span)) c.comprehension.ensures.ok }
 
 pub expression-returns-in-Filter : goal.expression-returns-in-Filter
 expression-returns-in-Filter t c =
-    record { ok = seen _ _ _ _ _ (ap (λ x. applied_of Filter x c.in-Filter.span) c.deref-in-Filter.ensures ∙ sym (ap expr_of c.in-Filter.is ∙ view_filter c.in-Filter.applied c.in-Filter.span)) c.applied.ensures.ok }
+    record { ok = seen expr_code _ _ _ _ _ (ap (λ x. applied_of Filter x c.in-Filter.span) c.deref-in-Filter.ensures ∙ sym (ap expr_of c.in-Filter.is ∙ view_filter c.in-Filter.applied c.in-Filter.span)) c.applied.ensures.ok }
 
 pub expression-returns-in-Test : goal.expression-returns-in-Test
 expression-returns-in-Test t c =
-    record { ok = seen _ _ _ _ _ (ap (λ x. applied_of Test x c.in-Test.span) c.deref-in-Test.ensures ∙ sym (ap expr_of c.in-Test.is ∙ view_test c.in-Test.applied c.in-Test.span)) c.applied-in-Test.ensures.ok }
+    record { ok = seen expr_code _ _ _ _ _ (ap (λ x. applied_of Test x c.in-Test.span) c.deref-in-Test.ensures ∙ sym (ap expr_of c.in-Test.is ∙ view_test c.in-Test.applied c.in-Test.span)) c.applied-in-Test.ensures.ok }
 
 pub expression-returns-in-Call : goal.expression-returns-in-Call
 expression-returns-in-Call t c =
-    record { ok = seen _ _ _ _ _ (ap (λ x. called_of x c.in-Call.span) c.deref-in-Call.ensures ∙ sym (ap expr_of c.in-Call.is ∙ view_call c.in-Call.called c.in-Call.span)) c.called.ensures.ok }
+    record { ok = seen expr_code _ _ _ _ _ (ap (λ x. called_of x c.in-Call.span) c.deref-in-Call.ensures ∙ sym (ap expr_of c.in-Call.is ∙ view_call c.in-Call.called c.in-Call.span)) c.called.ensures.ok }
 
 pub expression-returns-in-Component : goal.expression-returns-in-Component
 expression-returns-in-Component t c =
-    record { ok = seen _ _ _ _ _ (ap (λ x. tag_of x c.in-Component.span) c.deref-in-Component.ensures ∙ sym (ap expr_of c.in-Component.is ∙ view_component c.in-Component.tag c.in-Component.span)) c.tag.ensures.ok }
+    record { ok = seen expr_code _ _ _ _ _ (ap (λ x. tag_of x c.in-Component.span) c.deref-in-Component.ensures ∙ sym (ap expr_of c.in-Component.is ∙ view_component c.in-Component.tag c.in-Component.span)) c.tag.ensures.ok }
 
-pub and-returns : goal.and-returns
-and-returns t c =
-    record { ok = λ span. on_ok_by _ _ _ _ (jump_written _ _ _ _ _ _ _ _ (λ count. instruction.JumpIfFalseOrPop count) c.in_ok-expression.ensures.ok c.in_ok-place.ensures.place c.in_ok-place.ensures.ok c.in_ok-expression-2.ensures.ok c.behind.ensures) c.fill.ensures.ok }
+pub logical-returns-then-is_or : goal.logical-returns-then-is_or
+logical-returns-then-is_or t c =
+    record { ok = λ span. on_ok_by _ _ _ _ (jump_written _ _ _ _ _ _ _ _ (λ count. instruction.JumpIfTrueOrPop count) c.in_ok-expression.ensures.ok c.in_ok-place.ensures.place c.in_ok-place.ensures.ok c.in_ok-expression-2.ensures.ok c.behind-count.ensures ∙ decided c.args.self.now _ _ (expr_of c.args.operands.now.left) (expr_of c.args.operands.now.right) span c.if-is_or.true) c.fill.ensures.ok }
 
-pub or-returns : goal.or-returns
-or-returns t c =
-    record { ok = λ span. on_ok_by _ _ _ _ (jump_written _ _ _ _ _ _ _ _ (λ count. instruction.JumpIfTrueOrPop count) c.in_ok-expression.ensures.ok c.in_ok-place.ensures.place c.in_ok-place.ensures.ok c.in_ok-expression-2.ensures.ok c.behind.ensures) c.fill.ensures.ok }
+pub logical-returns-else-is_or : goal.logical-returns-else-is_or
+logical-returns-else-is_or t c =
+    record { ok = λ span. on_ok_by _ _ _ _ (jump_written _ _ _ _ _ _ _ _ (λ count. instruction.JumpIfFalseOrPop count) c.in_ok-expression.ensures.ok c.in_ok-place.ensures.place c.in_ok-place.ensures.ok c.in_ok-expression-2.ensures.ok c.behind-count.ensures ∙ decided c.args.self.now _ _ (expr_of c.args.operands.now.left) (expr_of c.args.operands.now.right) span c.if-is_or.false) c.fill-else-is_or.ensures.ok }
 
 pub ternary-returns : goal.ternary-returns
 ternary-returns t c =

@@ -22,33 +22,8 @@ pub struct Deep<'s> {
 /// What reading an expression gives.
 pub(crate) type Read<'s> = Result<Deep<'s>, Refusal>;
 
-/// An expression of this level or above, no deeper than `limit`. What stands alone, as most operands do, is read in line.
-#[inline(always)]
-#[cycle(expr)]
+/// An expression of this level or above, no deeper than `limit`.
 pub fn expr<'s>(
-    alloc: Global,
-    tokens: &mut Tokens<'_, 's>,
-    limit: usize,
-    floor: u8,
-) -> Result<Deep<'s>, Refusal>
-    ensures { Takes deep_of (spec.expr limit floor (input tokens.old)) result tokens.new }
-{
-    if limit > 0 && stands_alone(tokens, floor) {
-        let reader = Reader {
-            alloc,
-            limit,
-            below: limit - 1,
-            expr,
-        };
-        return reader.leaf(tokens);
-    }
-    whole(alloc, tokens, limit, floor)
-}
-
-/// The same with whatever may stand there.
-#[inline(never)]
-#[cycle(expr)]
-fn whole<'s>(
     alloc: Global,
     tokens: &mut Tokens<'_, 's>,
     limit: usize,
@@ -65,5 +40,9 @@ fn whole<'s>(
         below: limit - 1,
         expr,
     };
-    reader.level(tokens, floor)
+    if stands_alone(tokens, floor) {
+        reader.leaf(tokens)
+    } else {
+        reader.level(tokens, floor)
+    }
 }

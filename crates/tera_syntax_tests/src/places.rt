@@ -5,7 +5,7 @@
 pub struct Place(pub &'static str, pub usize, pub usize, pub &'static str);
 
 /// Between the standard delimiters.
-pub static PLACES: [Place; 36] = [
+pub static PLACES: [Place; 37] = [
     Place("{{ }}", 0, 5, "no expression begins here"),
     Place("ab{{}}", 2, 6, "no expression begins here"),
     Place("{%  %}", 0, 6, "no statement begins here"),
@@ -99,6 +99,12 @@ pub static PLACES: [Place; 36] = [
         36,
         37,
         "another block has this name",
+    ),
+    Place(
+        "{% component A() %}{% endcomponent %}x{% component A() %}{% endcomponent %}",
+        38,
+        38,
+        "another component has the same name",
     ),
     Place(
         "a{% extends \"b\" %}",

@@ -1,8 +1,8 @@
 -- What none of a list passes, and blocks that are lost.
-use Rattle.std.proofs.Common.{◌≡◌, ℕ, zero, suc, ◌+◌, ◌<◌, ◌≤◌, Bool, true, false, ◌&&◌, is_some, List, [], ◌∷◌, length, Option, Some, None, option_map, string_bytes, String, Global, inl, inr, refl, sym, ap, ◌∙◌, arith, slice_get}
+use Rattle.std.proofs.Common.{◌≡◌, ℕ, zero, suc, ◌+◌, ◌<◌, ◌≤◌, Bool, true, false, ◌&&◌, is_some, List, [], ◌∷◌, length, get_or, Option, Some, None, option_map, string_bytes, String, Global, inl, inr, refl, sym, ap, ◌∙◌, arith, slice_get}
 use Rattle.std.specs.List.{list_any}
 use Rattle.std.proofs.lemmas.Bool.{cases_lt}
-use Rattle.std.proofs.lemmas.Option.{slice_get_within}
+use Rattle.std.proofs.lemmas.Option.{slice_get_read, slice_get_within}
 use Rattle.std.specs.Str.{bytes_eq}
 use Rattle.std.specs.Prelude.{cond}
 use Rattle.tera_errors.specs.Site.{Name}
@@ -60,6 +60,10 @@ entry-nowhere n (x ∷ es) i none over =
 
 pub tops-of : (kept : Stored) (t : Entry) → entry_of kept ≡ t → kept.tops.items ≡ top_blocks t.1.tree.nodes
 tops-of kept t same = kept.topped ∙ ap (λ (u : Entry). top_blocks u.1.tree.nodes) same
+
+pub top-at : (kept : Stored) (t : Entry) (lent : List Name) (i : ℕ) (name : Name) → entry_of kept ≡ t → lent ≡ kept.tops.items → i < length lent → name ≡ get_or lent i name → slice_get (top_blocks t.1.tree.nodes) i ≡ Some name
+top-at kept t lent i name same e lt is =
+    ap (λ l. slice_get l i) (sym (e ∙ tops-of kept t same)) ∙ slice_get_read lent (length lent) i name refl lt is
 
 pub child-of : (kept : Stored) (t : Entry) (b : Bool) → entry_of kept ≡ t → is_some kept.parent ≡ b → is_some t.1.tree.parent ≡ b
 child-of kept t b same e =

@@ -1,7 +1,7 @@
 -- What templates are linked to, one more at a time.
-use Rattle.std.proofs.Common.{◌≡◌, ℕ, ◌+◌, ◌<◌, List, [], ◌∷◌, ◌++◌, length, map, option_map, Option, Some, None, String, Global, refl, sym, ap, ◌∙◌, inl, inr, arith, slice_get}
+use Rattle.std.proofs.Common.{◌≡◌, ℕ, ◌+◌, ◌<◌, List, [], ◌∷◌, ◌++◌, length, map, get_or, option_map, Option, Some, None, String, Global, refl, sym, ap, ◌∙◌, inl, inr, arith, slice_get}
 use Rattle.std.specs.declared.rc.Rc.{Rc}
-use Rattle.std.proofs.lemmas.Option.{slice_get-map, slice_get_within}
+use Rattle.std.proofs.lemmas.Option.{slice_get-get_or, slice_get-map, slice_get_within}
 use Rattle.tera_code.specs.Code.{listing_of}
 use Rattle.tera_meaning.specs.Registry.{Registry, Entry}
 use Rattle.tera_errors.specs.Site.{Name}
@@ -17,20 +17,24 @@ use Rattle.tera_registry.proofs.Kept.{length-entries, named-place}
 use Rattle.tera_registry.proofs.Resolved.{first-there-own}
 use Rattle.tera_registry.proofs.Rows.{get-push, length-push}
 
+-- what is so of what stands at each of so many places is so of one more
+more : {X Y : Type 0} (Is : X → Y → Type 0) (ys : List Y) (xs : List X) (x : X) (many : ℕ) (y : Y) → length xs ≡ many → ((i : ℕ) (v : X) (w : Y) → slice_get xs i ≡ Some v → slice_get ys i ≡ Some w → Is v w) → slice_get ys many ≡ Some y → Is x y → (i : ℕ) (v : X) (w : Y) → slice_get (xs ++ x ∷ []) i ≡ Some v → slice_get ys i ≡ Some w → Is v w
+more Is ys xs x many y as_many those at is = λ i v w got w_at.
+    elim (get-push xs x v i got) [
+      | inl before ↦ those i v w before w_at
+      | inr last ↦
+          (let here : i ≡ many = last.0 ∙ as_many in
+          let same : y ≡ w = (let q : Some y ≡ Some w = sym at ∙ ap (slice_get ys) (sym here) ∙ w_at in cc) in
+          rw (last.1, ← same) is)
+    ]
+
 pub no-ups : (r : Registry) → AreUps r [] 0
 no-ups r = record { as_many = refl; those = λ i u t got at. (let q : None ≡ Some u = got in cc) }
 
 pub more-ups : (r : Registry) (ups : List Up) (u : Up) (many : ℕ) (t : Entry) → AreUps r ups many → slice_get r.templates many ≡ Some t → IsUp r u t.1.tree.parent → AreUps r (ups ++ u ∷ []) (many + 1)
 more-ups r ups u many t a at is = record {
   as_many = length-push ups u ∙ ap (λ n. n + 1) a.as_many;
-  those = λ i v s got s_at.
-      elim (get-push ups u v i got) [
-        | inl before ↦ a.those i v s before s_at
-        | inr last ↦
-            (let here : i ≡ many = last.0 ∙ a.as_many in
-            let same : t ≡ s = (let q : Some t ≡ Some s = sym at ∙ ap (slice_get r.templates) (sym here) ∙ s_at in cc) in
-            rw (last.1, ← same) is)
-      ];
+  those = more (λ u (t : Entry). IsUp r u t.1.tree.parent) r.templates ups u many t a.as_many a.those at is;
 }
 
 pub no-roots : (r : Registry) → AreRoots r [] 0
@@ -39,14 +43,7 @@ no-roots r = record { as_many = refl; those = λ i k t got at. (let q : None ≡
 pub more-roots : (r : Registry) (roots : List ℕ) (k many : ℕ) (t : Entry) → AreRoots r roots many → slice_get r.templates many ≡ Some t → slice_get r.templates k ≡ Some (root r t) → AreRoots r (roots ++ k ∷ []) (many + 1)
 more-roots r roots k many t a at is = record {
   as_many = length-push roots k ∙ ap (λ n. n + 1) a.as_many;
-  those = λ i l s got s_at.
-      elim (get-push roots k l i got) [
-        | inl before ↦ a.those i l s before s_at
-        | inr last ↦
-            (let here : i ≡ many = last.0 ∙ a.as_many in
-            let same : t ≡ s = (let q : Some t ≡ Some s = sym at ∙ ap (slice_get r.templates) (sym here) ∙ s_at in cc) in
-            rw (last.1, ← same) is)
-      ];
+  those = more (λ k t. slice_get r.templates k ≡ Some (root r t)) r.templates roots k many t a.as_many a.those at is;
 }
 
 at-entry : (ts : List (Rc Stored Global)) (k : ℕ) (u : Rc Stored Global) → slice_get ts k ≡ Some u → slice_get (entries_of ts) k ≡ Some (entry_of u.value)
@@ -76,6 +73,12 @@ ups-inside r ups a = record {
       let above = a.those i (up.At j) t.0 got t.1 in
       omega (arith, a.as_many, above.2.1));
 }
+
+-- a template, and what it extends
+pub up-there : (r : Registry) (ups : List Up) (i : ℕ) (u : Up) → AreUps r ups (length r.templates) → i < length ups → get_or ups i up.Nothing ≡ u → (t : Entry) × (slice_get r.templates i ≡ Some t) × IsUp r u t.1.tree.parent
+up-there r ups i u a lt is =
+    let e = element r.templates i (omega (arith, lt, a.as_many)) in
+    (e.0, e.1, a.those i u e.0 (slice_get-get_or ups i up.Nothing lt ∙ ap Some is) e.1)
 
 -- Said by names, they are the same: no two templates share one.
 

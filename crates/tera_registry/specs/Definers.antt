@@ -1,10 +1,13 @@
 -- Those who define a block, from the place on where one of them stands.
 use Rattle.std.specs.Prelude.{◌≡◌, ℕ, false, List, [], ◌∷◌, length, slice_get, Option, Some, None, Ok}
+use Rattle.std.specs.Borrow.{Bor}
 use Rattle.std.specs.declared.alloc.Global.{Global}
 use Rattle.std.specs.declared.rc.Rc.{Rc}
 use Rattle.tera_errors.specs.Site.{Name}
 use Rattle.tera_syntax_tree.specs.Tree.{Nodes}
 use Rattle.tera_syntax_tree.specs.Blocks.{blocks}
+use Rattle.tera_code.specs.declared.blocks.Block.{Block}
+use Rattle.tera_code.specs.Code.{listing_of}
 use Rattle.tera_meaning.specs.Registry.{Entry, Registry}
 use Rattle.tera_meaning.specs.Resolve.{parents}
 use Rattle.tera_meaning.specs.Lineage.{Definer, ancestors, definers_in}
@@ -46,6 +49,20 @@ above_template r k (Some t) = above_block r t (slice_get (blocks_of t) k)
 -- those who define a block above the template in which it stands
 abbrev pub above_place : Registry → At → List Definer
 above_place r at = above_template r at.block (slice_get r.templates at.template)
+
+-- a block as it is kept is the one that stands at a place
+pub record IsKeptAt (r : Registry) (at : At) (kept : Block) : Type 0 where
+  pub entry : Entry
+  pub block : Name × Nodes
+  pub here : slice_get r.templates at.template ≡ Some entry
+  pub there : slice_get (blocks_of entry) at.block ≡ Some block
+  pub name : kept.name ≡ block.0
+  pub code : kept.code ≡ listing_of entry.0 block.1
+
+-- what is found of a place is the block that stands there, if one does
+abbrev pub StandsAt : Registry → At → Option (Bor Block) → Type 0
+StandsAt r at None = (from_place r at ≡ []) × (above_place r at ≡ [])
+StandsAt r at (Some kept) = IsKeptAt r at kept.now
 
 -- the first of those who define a block stands there, or nowhere where there is none
 abbrev pub IsFirst : Registry → Option At → List Definer → Type 0

@@ -48,19 +48,15 @@ fn add(alloc: Global, node: &Node, found: &mut Vec<Name>) -> TeraResult<()>
     ensures lacks { IfErr result Lacks }
 {
     match node {
-        Node::If { body, other, .. } => {
+        Node::If { body, other, .. } | Node::For { body, other, .. } => {
             add_all(alloc, body.as_slice(), found)?;
             add_all(alloc, other.as_slice(), found)
         }
-        Node::For { body, other, .. } => {
-            add_all(alloc, body.as_slice(), found)?;
-            add_all(alloc, other.as_slice(), found)
-        }
-        Node::Capture { body, .. } => add_all(alloc, body.as_slice(), found),
-        Node::FilterSection { body, .. } => add_all(alloc, body.as_slice(), found),
-        Node::Block { body, .. } => add_all(alloc, body.as_slice(), found),
-        Node::ComponentCall { body, .. } => add_all(alloc, body.as_slice(), found),
-        Node::Definition { body, .. } => add_all(alloc, body.as_slice(), found),
+        Node::Block { body, .. }
+        | Node::Capture { body, .. }
+        | Node::FilterSection { body, .. }
+        | Node::ComponentCall { body, .. }
+        | Node::Definition { body, .. } => add_all(alloc, body.as_slice(), found),
         Node::Include { name, .. } => {
             found.push(Name::new(alloc, name.as_str())?)?;
             Ok(())
@@ -97,19 +93,15 @@ fn node_misses(node: &Node, templates: &[Rc<Template>], prefixes: &[String]) -> 
         result ≡ list_any (λ name. is_none (resolve r name)) (node_includes (node_of node.now)) }
 {
     match node {
-        Node::If { body, other, .. } => {
+        Node::If { body, other, .. } | Node::For { body, other, .. } => {
             misses(body.as_slice(), templates, prefixes)
                 || misses(other.as_slice(), templates, prefixes)
         }
-        Node::For { body, other, .. } => {
-            misses(body.as_slice(), templates, prefixes)
-                || misses(other.as_slice(), templates, prefixes)
-        }
-        Node::Capture { body, .. } => misses(body.as_slice(), templates, prefixes),
-        Node::FilterSection { body, .. } => misses(body.as_slice(), templates, prefixes),
-        Node::Block { body, .. } => misses(body.as_slice(), templates, prefixes),
-        Node::ComponentCall { body, .. } => misses(body.as_slice(), templates, prefixes),
-        Node::Definition { body, .. } => misses(body.as_slice(), templates, prefixes),
+        Node::Block { body, .. }
+        | Node::Capture { body, .. }
+        | Node::FilterSection { body, .. }
+        | Node::ComponentCall { body, .. }
+        | Node::Definition { body, .. } => misses(body.as_slice(), templates, prefixes),
         Node::Include { name, .. } => resolve(templates, prefixes, name.as_str()).is_none(),
         Node::Content { .. }
         | Node::Print { .. }

@@ -35,7 +35,7 @@ use crate::variables::variables;
 use std::alloc::Global;
 use std::collections::{BTreeMap, BTreeSet};
 use std::rc::Rc;
-use tera_code::Chunk;
+use tera_code::{Block, Chunk};
 use tera_components::ComponentDefinition;
 use tera_errors::{Error, TeraResult};
 use tera_objects::Objects;
@@ -199,7 +199,7 @@ impl Templates {
     ghost use Rattle.tera_meaning.specs.Known.{lacks_a_callee};
     ghost use Rattle.tera_meaning.specs.Rendering.{is_component_beside};
     ghost use Rattle.tera_registry.specs.Components.{kept_of, kept_all};
-    ghost use Rattle.tera_registry.specs.Definers.{from_place, above_place, from_found};
+    ghost use Rattle.tera_registry.specs.Definers.{from_place, above_place, from_found, StandsAt};
 
     /// None yet. Takes no memory.
     pub fn new(alloc: Global, prefixes: Vec<String>) -> Templates
@@ -311,9 +311,9 @@ impl Templates {
         }
     }
 
-    /// The block that stands there, with those who define it above.
-    fn definer(&self, at: At) -> Option<Definer<'_>>
-        ensures { AreNext (from_place (registry_in self.now) at) result }
+    // The block that stands there, if one does.
+    fn block_at(&self, at: At) -> Option<&Block>
+        ensures { StandsAt (registry_in self.now) at result }
     {
         let all = self.all.as_slice();
         if at.template >= all.len() {
@@ -324,7 +324,14 @@ impl Templates {
         if at.block >= blocks.len() {
             return None;
         }
-        let block = &blocks[at.block];
+        Some(&blocks[at.block])
+    }
+
+    /// The block that stands there, with those who define it above.
+    fn definer(&self, at: At) -> Option<Definer<'_>>
+        ensures { AreNext (from_place (registry_in self.now) at) result }
+    {
+        let block = self.block_at(at)?;
         Some(Definer {
             chunk: &block.code,
             home: self.links.home_of_block(at.template, at.block),
@@ -344,18 +351,9 @@ impl Templates {
         requires registry { registry ≡ registry_in self.now }
         ensures { from_found registry result ≡ above_place registry at }
     {
-        let all = self.all.as_slice();
-        if at.template >= all.len() {
-            return None;
-        }
-        let template: &Template = &all[at.template];
-        let blocks = template.blocks.as_slice();
-        if at.block >= blocks.len() {
-            return None;
-        }
-        let block = &blocks[at.block];
+        let block = self.block_at(at)?;
         let name = block.name.sought();
-        first_above(all, self.ups.as_slice(), at.template, &name)
+        first_above(self.all.as_slice(), self.ups.as_slice(), at.template, &name)
     }
 
     /// Whether a name resolves to a template. Takes no memory.

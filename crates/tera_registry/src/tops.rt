@@ -40,18 +40,14 @@ fn add(alloc: Global, node: &Node, found: &mut Vec<Name>) -> TeraResult<()>
     ensures lacks { IfErr result Lacks }
 {
     match node {
-        Node::If { body, other, .. } => {
+        Node::If { body, other, .. } | Node::For { body, other, .. } => {
             add_all(alloc, body.as_slice(), found)?;
             add_all(alloc, other.as_slice(), found)
         }
-        Node::For { body, other, .. } => {
-            add_all(alloc, body.as_slice(), found)?;
-            add_all(alloc, other.as_slice(), found)
-        }
-        Node::Capture { body, .. } => add_all(alloc, body.as_slice(), found),
-        Node::FilterSection { body, .. } => add_all(alloc, body.as_slice(), found),
-        Node::ComponentCall { body, .. } => add_all(alloc, body.as_slice(), found),
-        Node::Definition { body, .. } => add_all(alloc, body.as_slice(), found),
+        Node::Capture { body, .. }
+        | Node::FilterSection { body, .. }
+        | Node::ComponentCall { body, .. }
+        | Node::Definition { body, .. } => add_all(alloc, body.as_slice(), found),
         Node::Block { name, .. } => {
             found.push(Name::new(alloc, name)?)?;
             Ok(())

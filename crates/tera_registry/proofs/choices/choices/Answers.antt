@@ -1,4 +1,4 @@
-use Rattle.std.proofs.Common.{◌≡◌, Some, None, string_bytes, sym, ap, ◌∙◌, arith, slice_get}
+use Rattle.std.proofs.Common.{◌≡◌, None, string_bytes, refl, ap, ◌∙◌, arith}
 use Rattle.std.proofs.lemmas.List.{take_all}
 use Rattle.tera_meaning.specs.Components.{priority}
 use Rattle.tera_syntax_tree.specs.View.{nodes_of}
@@ -6,7 +6,7 @@ use Rattle.tera_syntax_tree.specs.Definitions.{component_names}
 use Rattle.tera_registry.specs.Kept.{entry_of, entries_of, seen}
 use Rattle.tera_registry.specs.Components.{kept_names}
 use Rattle.tera_registry.specs.Choices.{chosen, chosen_in, chosen_from, ties_at}
-use Rattle.tera_registry.proofs.Kept.{entry-at-place, length-entries}
+use Rattle.tera_registry.proofs.Kept.{entry-among, length-entries}
 use Rattle.tera_registry.proofs.First.{first-more, first-of-all}
 use Rattle.tera_registry.proofs.Choosing.{chosen-next, kept-names-are, ties-is}
 use Rattle.tera_registry.proofs.choices.choices.Goals as goal
@@ -18,7 +18,7 @@ loop-place-preserved c =
     let i = c.loop-place.place in
     let u = c.deref-template.result.now in
     let t = entry_of u in
-    let at : slice_get (entries_of ts) i ≡ Some t = entry-at-place ts i c.index-templates-place.result c.loop-place-test.true c.index-templates-place.is ∙ ap (λ x. Some (entry_of x)) (sym c.deref-template.ensures) in
+    let at = entry-among r ts i _ _ refl c.loop-place-test.true c.index-templates-place.is c.deref-template.ensures in
     let good : c.priority-priority.result ≡ priority r t.0 = c.priority-priority.ensures ∙ ap (priority r) c.as_str.ensures.value in
     let names : kept_names u.components.items ≡ component_names t.1.tree.nodes = kept-names-are (string_bytes u.name) (nodes_of u.meant.nodes) u.components.items u.defined in
     record {

@@ -1,41 +1,29 @@
-use Rattle.std.proofs.Common.{◌≡◌, Bool, true, false, ◌||◌, length, refl, sym, ap, ◌∙◌}
-use Rattle.tera_meaning.specs.Accepted.{is_component, includes_of, loses_a_block, misses_an_include}
+use Rattle.std.proofs.Common.{◌≡◌, Bool, true, false, ◌||◌, length, refl, sym, ap, ap₂, ◌∙◌}
+use Rattle.tera_meaning.specs.Accepted.{is_component, includes_of, loses_a_block, lacks_something, misses_an_include}
 use Rattle.tera_meaning.specs.Known.{lacks_a_callee}
-use Rattle.tera_meaning.specs.Registry.{Entry}
+use Rattle.tera_meaning.specs.Registry.{Registry, Entry}
 use Rattle.tera_registry.proofs.Kept.{entry-is}
 use Rattle.tera_registry.proofs.definers.lacks.Goals as goal
 use Rattle.tera_registry.proofs.definers.lacks.Goals.{then-loses, else-loses}
 
-one-holds : (v a b c : Bool) → v ≡ (a || b) → v ≡ true → v ≡ (a || (b || c))
-one-holds v true b c e h = h
-one-holds v false true c e h = h
-one-holds v false false c e h = (let q : true ≡ false = sym h ∙ e in cc)
-
-none-holds : (v a b c : Bool) → v ≡ (a || b) → v ≡ false → c ≡ (a || (b || c))
-none-holds v true b c e h = (let q : true ≡ false = sym e ∙ h in cc)
-none-holds v false true c e h = (let q : true ≡ false = sym e ∙ h in cc)
-none-holds v false false c e h = refl
+lacks-by : (r : Registry) (t : Entry) (loses callee include : Bool) → loses ≡ loses_a_block r t → callee ≡ lacks_a_callee r.engine (is_component r) t.1.tree.nodes → include ≡ misses_an_include r t.1.tree.nodes → (loses || (callee || include)) ≡ lacks_something r t
+lacks-by r t loses callee include e f h = ap₂ (λ x y. x || y) e (ap₂ (λ x y. x || y) f h)
 
 pub returns-then-misses_a_callee : goal.returns-then-misses_a_callee
 returns-then-misses_a_callee g c = λ t at.
     let r = g.registry in
     let same = entry-is r c.args.templates.now c.args.of _ _ t c.requires.1.0.same c.requires.1.1.0 c.index-templates-of.is c.deref-template.ensures at in
-    let callee = lacks_a_callee r.engine (is_component r) t.1.tree.nodes in
-    let first : c.if-loses.value ≡ (loses_a_block r t || callee) = elim c.if-loses.branch [
-      | then-loses w ↦ w.value-is ∙ w.if-loses.true ∙ sym (ap (λ a. a || callee) (sym (c.loses.ensures t at) ∙ w.if-loses.true))
-      | else-loses w ↦ w.value-is ∙ w.misses_a_callee.ensures r c.requires.1.1.1.1.0 c.requires.1.1.1.1.1 ∙ ap (λ (u : Entry). lacks_a_callee r.engine (is_component r) u.1.tree.nodes) same ∙ sym (ap (λ a. a || callee) (sym (c.loses.ensures t at) ∙ w.if-loses.false))
-    ] in
-    one-holds c.if-loses.value _ callee _ first c.if-misses_a_callee.true
+    c.if-misses_a_callee.true ∙ elim c.if-loses.branch [
+      | then-loses w ↦ lacks-by r t true _ _ (sym w.if-loses.true ∙ c.loses.ensures t at) refl refl
+      | else-loses w ↦ lacks-by r t false true _ (sym w.if-loses.false ∙ c.loses.ensures t at) (sym c.if-misses_a_callee.true ∙ w.value-is ∙ w.misses_a_callee.ensures r c.requires.1.1.1.1.0 c.requires.1.1.1.1.1 ∙ ap (λ (u : Entry). lacks_a_callee r.engine (is_component r) u.1.tree.nodes) same) refl
+    ]
 
 pub returns-else-misses_a_callee : goal.returns-else-misses_a_callee
 returns-else-misses_a_callee g c = λ t at.
     let r = g.registry in
     let same = entry-is r c.args.templates.now c.args.of _ _ t c.requires.1.0.same c.requires.1.1.0 c.index-templates-of.is c.deref-template.ensures at in
-    let callee = lacks_a_callee r.engine (is_component r) t.1.tree.nodes in
-    let first : c.if-loses.value ≡ (loses_a_block r t || callee) = elim c.if-loses.branch [
-      | then-loses w ↦ w.value-is ∙ w.if-loses.true ∙ sym (ap (λ a. a || callee) (sym (c.loses.ensures t at) ∙ w.if-loses.true))
-      | else-loses w ↦ w.value-is ∙ w.misses_a_callee.ensures r c.requires.1.1.1.1.0 c.requires.1.1.1.1.1 ∙ ap (λ (u : Entry). lacks_a_callee r.engine (is_component r) u.1.tree.nodes) same ∙ sym (ap (λ a. a || callee) (sym (c.loses.ensures t at) ∙ w.if-loses.false))
-    ] in
-    let many = c.requires.1.1.1.0 t at ∙ ap (λ u. length (includes_of r u)) (sym same) in
-    let missing = c.misses.ensures r many ∙ ap (λ (u : Entry). misses_an_include r u.1.tree.nodes) same in
-    missing ∙ none-holds c.if-loses.value _ callee (misses_an_include r t.1.tree.nodes) first c.if-misses_a_callee.false
+    let include = c.misses.ensures r (c.requires.1.1.1.0 t at ∙ ap (λ u. length (includes_of r u)) (sym same)) ∙ ap (λ (u : Entry). misses_an_include r u.1.tree.nodes) same in
+    elim c.if-loses.branch [
+      | then-loses w ↦ (let q : true ≡ false = sym (w.value-is ∙ w.if-loses.true) ∙ c.if-misses_a_callee.false in cc)
+      | else-loses w ↦ lacks-by r t false false _ (sym w.if-loses.false ∙ c.loses.ensures t at) (sym c.if-misses_a_callee.false ∙ w.value-is ∙ w.misses_a_callee.ensures r c.requires.1.1.1.1.0 c.requires.1.1.1.1.1 ∙ ap (λ (u : Entry). lacks_a_callee r.engine (is_component r) u.1.tree.nodes) same) include
+    ]

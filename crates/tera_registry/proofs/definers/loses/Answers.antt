@@ -1,11 +1,8 @@
-use Rattle.std.proofs.Common.{◌≡◌, Some, true, false, refl, sym, ap, ◌∙◌, arith, length, slice_get}
-use Rattle.std.proofs.lemmas.Option.{slice_get_read}
+use Rattle.std.proofs.Common.{true, false, sym, ap, ◌∙◌, arith, length}
 use Rattle.std.proofs.lemmas.Map.Keys.{any_passes_from_place}
 use Rattle.tera_meaning.specs.Accepted.{is_lost}
-use Rattle.tera_meaning.specs.Lineage.{ancestors, definers_in}
-use Rattle.tera_registry.specs.Definers.{IsFirst}
 use Rattle.tera_registry.proofs.Kept.{entry-is}
-use Rattle.tera_registry.proofs.Absent.{none-yet-more, none-yet-all, tops-of, child-of, lost-none, lost-some, loses-of, loses-nothing}
+use Rattle.tera_registry.proofs.Absent.{none-yet-more, none-yet-all, tops-of, top-at, child-of, lost-none, lost-some, loses-of, loses-nothing}
 use Rattle.tera_registry.proofs.definers.loses.Goals as goal
 
 pub returns-then-is_none : goal.returns-then-is_none
@@ -15,25 +12,16 @@ returns-then-is_none g c = λ t t_at.
 
 pub loop-name-preserved : goal.loop-name-preserved
 loop-name-preserved g c = λ t t_at.
-    let r = g.registry in
-    let name = c.name-item.result in
-    let i = c.loop-name.name-index in
-    let same = entry-is r c.args.templates.now c.args.of _ _ t c.requires.0.same c.requires.1 c.index-templates-of.is c.deref-template.ensures t_at in
-    let tops = c.deref-name-items.ensures.value ∙ tops-of c.deref-template.result.now t same in
-    let at = slice_get_read c.deref-name-items.result.now (length c.deref-name-items.result.now) i name refl c.loop-name-test.true c.name-item.is in
-    let first : IsFirst r (Some c.in-Some.field-0) (definers_in name (ancestors r t)) = rw c.sought-sought.ensures at (c.in-Some.ensures t t_at) in
-    none-yet-more (is_lost r t) _ i name (c.loop-name.invariant t t_at) (ap (λ l. slice_get l i) (sym tops) ∙ at) (lost-some r t name c.in-Some.field-0 first)
+    let same = entry-is g.registry c.args.templates.now c.args.of _ _ t c.requires.0.same c.requires.1 c.index-templates-of.is c.deref-template.ensures t_at in
+    let at = top-at c.deref-template.result.now t _ c.loop-name.name-index c.name-item.result same c.deref-name-items.ensures.value c.loop-name-test.true c.name-item.is in
+    none-yet-more (is_lost g.registry t) _ _ _ (c.loop-name.invariant t t_at) at (lost-some g.registry t c.name-item.result c.in-Some.field-0 (rw c.sought-sought.ensures at (c.in-Some.ensures t t_at)))
 
 pub returns-in-None : goal.returns-in-None
 returns-in-None g c = λ t t_at.
-    let r = g.registry in
-    let name = c.name-item.result in
-    let i = c.loop-name.name-index in
-    let same = entry-is r c.args.templates.now c.args.of _ _ t c.requires.0.same c.requires.1 c.index-templates-of.is c.deref-template.ensures t_at in
-    let tops = c.deref-name-items.ensures.value ∙ tops-of c.deref-template.result.now t same in
-    let at = slice_get_read c.deref-name-items.result.now (length c.deref-name-items.result.now) i name refl c.loop-name-test.true c.name-item.is in
-    let none : is_lost r t name ≡ true = lost-none r t name (rw c.sought-sought.ensures at (c.in-None.ensures t t_at)) in
-    sym (loses-of r t true (child-of c.deref-template.result.now t true same c.if-is_none.ensures) (any_passes_from_place (is_lost r t) _ i name (ap (λ l. slice_get l i) (sym tops) ∙ at) none))
+    let same = entry-is g.registry c.args.templates.now c.args.of _ _ t c.requires.0.same c.requires.1 c.index-templates-of.is c.deref-template.ensures t_at in
+    let at = top-at c.deref-template.result.now t _ c.loop-name.name-index c.name-item.result same c.deref-name-items.ensures.value c.loop-name-test.true c.name-item.is in
+    let none = lost-none g.registry t c.name-item.result (rw c.sought-sought.ensures at (c.in-None.ensures t t_at)) in
+    sym (loses-of g.registry t true (child-of c.deref-template.result.now t true same c.if-is_none.ensures) (any_passes_from_place (is_lost g.registry t) _ _ _ at none))
 
 pub returns : goal.returns
 returns g c = λ t t_at.

@@ -6,8 +6,7 @@ use Rattle.tera_syntax_tree.specs.View.{node_of, nodes_of}
 use Rattle.tera_meaning.specs.Registry.{Registry}
 use Rattle.tera_meaning.specs.Resolve.{resolve}
 use Rattle.tera_registry.specs.Kept.{entries_of, seen}
-use Rattle.tera_registry.proofs.Bodies.{any-first, any-second}
-use Rattle.tera_variables.proofs.Bodies.{node_if, node_for, node_capture, node_section, node_block, node_call, node_definition}
+use Rattle.tera_registry.proofs.Bodies.{includes_in_body, in_both, any_of_both}
 use Rattle.tera_registry.proofs.Filled.{is_none-place}
 use Rattle.tera_registry.proofs.includes.+missing.Goals as goal
 
@@ -27,47 +26,19 @@ none_if_not_some (Some i) false e = refl
 pub node_misses-returns-then-misses : goal.node_misses-returns-then-misses
 node_misses-returns-then-misses t c =
     let p = is_missing (seen c.args.templates.now c.args.prefixes.now) in
-    c.if-misses.true ∙ sym (any-first p (includes (nodes_of c.as_slice.result.now)) (includes (nodes_of c.in-If.other.items)) _ (ap node_includes (node_if _ c.in-If.condition c.in-If.body c.in-If.other _ _ c.in-If.is c.as_slice.ensures.value refl)) (sym c.misses.ensures ∙ c.if-misses.true))
+    let first = c.misses-in-If.ensures ∙ ap (λ x. list_any p (includes (nodes_of x))) c.as_slice-in-If.ensures.value in
+    c.if-misses.true ∙ sym (any_of_both p _ _ _ true (ap (λ x. x.0) (in_both _ c.in-If.body c.in-If.other c.in-If.is)) (sym first ∙ c.if-misses.true))
 
 pub node_misses-returns-else-misses : goal.node_misses-returns-else-misses
 node_misses-returns-else-misses t c =
     let p = is_missing (seen c.args.templates.now c.args.prefixes.now) in
-    c.misses-else-misses.ensures ∙ sym (any-second p (includes (nodes_of c.as_slice.result.now)) (includes (nodes_of c.as_slice-else-misses.result.now)) _ (ap node_includes (node_if _ c.in-If.condition c.in-If.body c.in-If.other _ _ c.in-If.is c.as_slice.ensures.value c.as_slice-else-misses.ensures.value)) (sym c.misses.ensures ∙ c.if-misses.false))
-
-pub node_misses-returns-then-misses-2 : goal.node_misses-returns-then-misses-2
-node_misses-returns-then-misses-2 t c =
-    let p = is_missing (seen c.args.templates.now c.args.prefixes.now) in
-    c.if-misses-2.true ∙ sym (any-first p (includes (nodes_of c.as_slice-in-For.result.now)) (includes (nodes_of c.in-For.other.items)) _ (ap node_includes (node_for _ c.in-For.heading c.in-For.body c.in-For.other _ _ c.in-For.is c.as_slice-in-For.ensures.value refl)) (sym c.misses-in-For.ensures ∙ c.if-misses-2.true))
-
-pub node_misses-returns-else-misses-2 : goal.node_misses-returns-else-misses-2
-node_misses-returns-else-misses-2 t c =
-    let p = is_missing (seen c.args.templates.now c.args.prefixes.now) in
-    c.misses-else-misses-2.ensures ∙ sym (any-second p (includes (nodes_of c.as_slice-in-For.result.now)) (includes (nodes_of c.as_slice-else-misses-2.result.now)) _ (ap node_includes (node_for _ c.in-For.heading c.in-For.body c.in-For.other _ _ c.in-For.is c.as_slice-in-For.ensures.value c.as_slice-else-misses-2.ensures.value)) (sym c.misses-in-For.ensures ∙ c.if-misses-2.false))
-
-pub node_misses-returns-in-Capture : goal.node_misses-returns-in-Capture
-node_misses-returns-in-Capture t c =
-    let p = is_missing (seen c.args.templates.now c.args.prefixes.now) in
-    c.misses-in-Capture.ensures ∙ sym (ap (λ n. list_any p (node_includes n)) (node_capture _ c.in-Capture.is_global c.in-Capture.captured c.in-Capture.body _ _ c.in-Capture.is refl c.as_slice-in-Capture.ensures.value))
-
-pub node_misses-returns-in-FilterSection : goal.node_misses-returns-in-FilterSection
-node_misses-returns-in-FilterSection t c =
-    let p = is_missing (seen c.args.templates.now c.args.prefixes.now) in
-    c.misses-in-FilterSection.ensures ∙ sym (ap (λ n. list_any p (node_includes n)) (node_section _ c.in-FilterSection.filters c.in-FilterSection.body _ c.in-FilterSection.is c.as_slice-in-FilterSection.ensures.value))
+    let first = c.misses-in-If.ensures ∙ ap (λ x. list_any p (includes (nodes_of x))) c.as_slice-in-If.ensures.value in
+    c.misses-else-misses.ensures ∙ ap (λ x. list_any p (includes (nodes_of x))) c.as_slice-else-misses.ensures.value ∙ sym (any_of_both p _ _ _ false (ap (λ x. x.0) (in_both _ c.in-If.body c.in-If.other c.in-If.is)) (sym first ∙ c.if-misses.false))
 
 pub node_misses-returns-in-Block : goal.node_misses-returns-in-Block
 node_misses-returns-in-Block t c =
     let p = is_missing (seen c.args.templates.now c.args.prefixes.now) in
-    c.misses-in-Block.ensures ∙ sym (ap (λ n. list_any p (node_includes n)) (node_block _ c.in-Block.name c.in-Block.body c.in-Block.span _ c.in-Block.is c.as_slice-in-Block.ensures.value))
-
-pub node_misses-returns-in-ComponentCall : goal.node_misses-returns-in-ComponentCall
-node_misses-returns-in-ComponentCall t c =
-    let p = is_missing (seen c.args.templates.now c.args.prefixes.now) in
-    c.misses-in-ComponentCall.ensures ∙ sym (ap (λ n. list_any p (node_includes n)) (node_call _ c.in-ComponentCall.tag c.in-ComponentCall.body c.in-ComponentCall.span _ c.in-ComponentCall.is c.as_slice-in-ComponentCall.ensures.value))
-
-pub node_misses-returns-in-Definition : goal.node_misses-returns-in-Definition
-node_misses-returns-in-Definition t c =
-    let p = is_missing (seen c.args.templates.now c.args.prefixes.now) in
-    c.misses-in-Definition.ensures ∙ sym (ap (λ n. list_any p (node_includes n)) (node_definition _ c.in-Definition.signature c.in-Definition.body _ c.in-Definition.is c.as_slice-in-Definition.ensures.value))
+    c.misses.ensures ∙ ap (list_any p) (ap (λ x. includes (nodes_of x)) c.as_slice.ensures.value ∙ includes_in_body _ c.in-Block.body c.in-Block.is)
 
 pub node_misses-returns-in-Include : goal.node_misses-returns-in-Include
 node_misses-returns-in-Include t c =

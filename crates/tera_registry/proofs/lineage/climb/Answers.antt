@@ -3,6 +3,7 @@ use Rattle.std.proofs.lemmas.Option.{slice_get-get_or}
 use Rattle.tera_registry.specs.declared.lineage.Up.TheVariants as up
 use Rattle.tera_registry.proofs.Element.{element}
 use Rattle.tera_registry.proofs.Climb.{climb-begins, climb-ends, climb-misses, climb-on, climb-again, climb-meets}
+use Rattle.tera_registry.proofs.Linked.{up-there}
 use Rattle.tera_registry.proofs.lineage.climb.Goals as goal
 
 pub loop-step-init : goal.loop-step-init
@@ -16,17 +17,14 @@ loop-step-init c = record {
 pub returns-in-Nothing : goal.returns-in-Nothing
 returns-in-Nothing c = λ r t a known at.
     let i = c.loop-step.invariant in
-    let got = slice_get-get_or c.args.ups.now c.loop-step.last up.Nothing i.last_there ∙ ap Some c.in-Nothing.is in
-    let e = element r.templates c.loop-step.last (omega (arith, i.last_there, a.as_many)) in
-    climb-ends r t e.0 _ _ c.loop-step.last (i.climbed r t e.0 a at e.1) (omega (arith, a.as_many, c.loop-step-test.true)) (a.those _ up.Nothing e.0 got e.1) e.1
+    let e = up-there r c.args.ups.now c.loop-step.last _ a i.last_there c.in-Nothing.is in
+    climb-ends r t e.0 _ _ c.loop-step.last (i.climbed r t e.0 a at e.1) (omega (arith, a.as_many, c.loop-step-test.true)) e.2 e.1
 
 pub returns-in-Missing : goal.returns-in-Missing
 returns-in-Missing c = λ r t a known at.
     let i = c.loop-step.invariant in
-    let got = slice_get-get_or c.args.ups.now c.loop-step.last up.Nothing i.last_there ∙ ap Some c.in-Missing.is in
-    let e = element r.templates c.loop-step.last (omega (arith, i.last_there, a.as_many)) in
-    let above = a.those _ up.Missing e.0 got e.1 in
-    rw c.missing_parent.ensures (climb-misses r t e.0 _ _ above.0 (i.climbed r t e.0 a at e.1) (omega (arith, c.loop-step-test.true)) above.1 above.2)
+    let e = up-there r c.args.ups.now c.loop-step.last _ a i.last_there c.in-Missing.is in
+    rw c.missing_parent.ensures (climb-misses r t e.0 _ _ e.2.0 (i.climbed r t e.0 a at e.1) (omega (arith, c.loop-step-test.true)) e.2.1 e.2.2)
 
 pub loop-step-preserved : goal.loop-step-preserved
 loop-step-preserved c =
@@ -35,35 +33,29 @@ loop-step-preserved c =
     record {
       last_there = c.requires.inside.inside _ c.in-At.next got;
       climbed = λ r t v a at v_at.
-          (let e = element r.templates c.loop-step.last (omega (arith, i.last_there, a.as_many)) in
-          let above = a.those _ (up.At c.in-At.next) e.0 got e.1 in
+          (let e = up-there r c.args.ups.now c.loop-step.last _ a i.last_there c.in-At.is in
           let left : length c.args.ups.now - c.loop-step.step ≡ suc (length c.args.ups.now - (c.loop-step.step + 1)) = omega (arith, c.loop-step-test.true) in
-          climb-on r t e.0 v _ _ _ above.0 (i.climbed r t e.0 a at e.1) left above.1 (above.2.0 ∙ v_at));
+          climb-on r t e.0 v _ _ _ e.2.0 (i.climbed r t e.0 a at e.1) left e.2.1 (e.2.2.0 ∙ v_at));
     }
 
 pub returns-in-Nothing-ups : goal.returns-in-Nothing-ups
 returns-in-Nothing-ups c = λ r t a known at.
     let i = c.loop-step.invariant in
-    let got = slice_get-get_or c.args.ups.now c.loop-step.last up.Nothing i.last_there ∙ ap Some c.in-Nothing-ups.is in
-    let e = element r.templates c.loop-step.last (omega (arith, i.last_there, a.as_many)) in
+    let e = up-there r c.args.ups.now c.loop-step.last _ a i.last_there c.in-Nothing-ups.is in
     let all : length c.args.ups.now ≡ c.loop-step.step = omega (arith, c.loop-step-test.false, c.loop-step.auto.step-end) in
-    rw all (climb-ends r t e.0 _ _ c.loop-step.last (i.climbed r t e.0 a at e.1) (omega (arith, a.as_many, all)) (a.those _ up.Nothing e.0 got e.1) e.1)
+    rw all (climb-ends r t e.0 _ _ c.loop-step.last (i.climbed r t e.0 a at e.1) (omega (arith, a.as_many, all)) e.2 e.1)
 
 pub returns-in-Missing-ups : goal.returns-in-Missing-ups
 returns-in-Missing-ups c = λ r t a known at.
     let i = c.loop-step.invariant in
-    let got = slice_get-get_or c.args.ups.now c.loop-step.last up.Nothing i.last_there ∙ ap Some c.in-Missing-ups.is in
-    let e = element r.templates c.loop-step.last (omega (arith, i.last_there, a.as_many)) in
-    let above = a.those _ up.Missing e.0 got e.1 in
-    rw c.circular_extend.ensures (climb-again r t e.0 _ _ above.0 (i.climbed r t e.0 a at e.1) (omega (arith, c.loop-step-test.false)) above.1)
+    let e = up-there r c.args.ups.now c.loop-step.last _ a i.last_there c.in-Missing-ups.is in
+    rw c.circular_extend.ensures (climb-again r t e.0 _ _ e.2.0 (i.climbed r t e.0 a at e.1) (omega (arith, c.loop-step-test.false)) e.2.1)
 
 pub returns-in-At-ups : goal.returns-in-At-ups
 returns-in-At-ups c = λ r t a known at.
     let i = c.loop-step.invariant in
-    let got = slice_get-get_or c.args.ups.now c.loop-step.last up.Nothing i.last_there ∙ ap Some c.in-At-ups.is in
-    let e = element r.templates c.loop-step.last (omega (arith, i.last_there, a.as_many)) in
-    let above = a.those _ (up.At c.in-At-ups.field-0) e.0 got e.1 in
-    rw c.circular_extend-in-At-ups.ensures (climb-again r t e.0 _ _ above.0 (i.climbed r t e.0 a at e.1) (omega (arith, c.loop-step-test.false)) above.1)
+    let e = up-there r c.args.ups.now c.loop-step.last _ a i.last_there c.in-At-ups.is in
+    rw c.circular_extend-in-At-ups.ensures (climb-again r t e.0 _ _ e.2.0 (i.climbed r t e.0 a at e.1) (omega (arith, c.loop-step-test.false)) e.2.1)
 
 pub returns-in-Some : goal.returns-in-Some
 returns-in-Some c = λ r t a known at.

@@ -3,6 +3,7 @@ use Rattle.std.proofs.lemmas.Option.{slice_get-get_or}
 use Rattle.tera_registry.specs.declared.lineage.Up.TheVariants as up
 use Rattle.tera_registry.specs.Links.{Stands}
 use Rattle.tera_registry.proofs.Element.{element}
+use Rattle.tera_registry.proofs.Linked.{up-there}
 use Rattle.tera_registry.proofs.Noted.{noted, one-nearer, length-set}
 use Rattle.tera_registry.proofs.lineage.note.Goals as goal
 
@@ -17,10 +18,9 @@ loop-passed-preserved c =
           (let e = element r.templates c.loop-passed.last (omega (arith, i.last_there, a.as_many)) in
           noted r _ c.loop-passed.last _ e.0 (i.known r t a k at s) e.1 (i.stands r t e.0 a at s e.1));
       stands = λ r t v a at s v_at.
-          (let e = element r.templates c.loop-passed.last (omega (arith, i.last_there, a.as_many)) in
-          let above = a.those _ (up.At c.in-At.next) e.0 got e.1 in
+          (let e = up-there r c.args.ups.now c.loop-passed.last _ a i.last_there c.in-At.is in
           let nearer : c.args.top.parents - c.loop-passed.passed ≡ suc (c.args.top.parents - (c.loop-passed.passed + 1)) = omega (arith, c.loop-passed-test.true) in
-          one-nearer r e.0 v above.0 c.in-At.next _ _ _ (i.stands r t e.0 a at s e.1) nearer above.1 above.2.0 v_at);
+          one-nearer r e.0 v e.2.0 c.in-At.next _ _ _ (i.stands r t e.0 a at s e.1) nearer e.2.1 e.2.2.0 v_at);
     }
 
 pub returns-clause-known : goal.returns-clause-known

@@ -1,27 +1,25 @@
-use Rattle.std.proofs.Common.{◌≡◌, [], map, string_bytes, nat_eq, true, false, get_or, sym, arith, below_more}
+use Rattle.std.proofs.Common.{◌≡◌, ◌<◌, ℕ, Bool, List, [], length, map, String, Global, string_bytes, nat_eq, true, false, get_or, sym, arith, below_more}
 use Rattle.std.specs.List.{starts_with}
 use Rattle.std.proofs.lemmas.Option.{get_or_from_slice_get}
 use Rattle.tera_registry.proofs.Resolved.{prefix-at, length-texts}
 use Rattle.tera_registry.proofs.Priorities.{first-fit-at, first-fit-none}
 use Rattle.tera_registry.proofs.priority.priority.Goals as goal
 
+-- whether the prefix at a place begins the name is asked of their bytes
+begins : (prefixes : List (String Global)) (place : ℕ) (prefix : String Global) (name text front : List ℕ) (b : Bool) → place < length prefixes → prefix ≡ get_or prefixes place prefix → text ≡ name → front ≡ string_bytes prefix → b ≡ starts_with nat_eq text front → starts_with nat_eq name (get_or (map string_bytes prefixes) place []) ≡ b
+begins prefixes place prefix name text front b lt is text_is front_is e =
+    let at : get_or (map string_bytes prefixes) place [] ≡ string_bytes prefix = get_or_from_slice_get (map string_bytes prefixes) _ _ [] (prefix-at prefixes place prefix lt is) in
+    rw (at, ← text_is, ← front_is) (sym e)
+
 pub returns-then-starts_with : goal.returns-then-starts_with
 returns-then-starts_with c =
     let ps = map string_bytes c.args.prefixes.now in
-    let at : get_or ps c.loop-place.place [] ≡ string_bytes c.index-prefixes-place.result =
-    get_or_from_slice_get ps _ _ [] (prefix-at c.args.prefixes.now c.loop-place.place c.index-prefixes-place.result c.loop-place-test.true c.index-prefixes-place.is) in
-    let begins : starts_with nat_eq c.args.name.now (get_or ps c.loop-place.place []) ≡ true =
-    rw (at, ← c.as_bytes.ensures.value, ← c.as_bytes-in-loop-place.ensures.value) (sym c.if-starts_with.ensures.value) in
-    sym (first-fit-at ps c.args.name.now c.loop-place.place (omega (arith, length-texts c.args.prefixes.now, c.loop-place-test.true)) c.loop-place.invariant begins)
+    sym (first-fit-at ps c.args.name.now c.loop-place.place (omega (arith, length-texts c.args.prefixes.now, c.loop-place-test.true)) c.loop-place.invariant (begins _ _ _ _ _ _ true c.loop-place-test.true c.index-prefixes-place.is c.as_bytes.ensures.value c.as_bytes-in-loop-place.ensures.value c.if-starts_with.ensures.value))
 
 pub loop-place-preserved : goal.loop-place-preserved
 loop-place-preserved c =
     let ps = map string_bytes c.args.prefixes.now in
-    let at : get_or ps c.loop-place.place [] ≡ string_bytes c.index-prefixes-place.result =
-    get_or_from_slice_get ps _ _ [] (prefix-at c.args.prefixes.now c.loop-place.place c.index-prefixes-place.result c.loop-place-test.true c.index-prefixes-place.is) in
-    let fails : starts_with nat_eq c.args.name.now (get_or ps c.loop-place.place []) ≡ false =
-    rw (at, ← c.as_bytes.ensures.value, ← c.as_bytes-in-loop-place.ensures.value) (sym c.if-starts_with.ensures.value) in
-    below_more (λ k. starts_with nat_eq c.args.name.now (get_or ps k []) ≡ false) _ c.loop-place.invariant fails
+    below_more (λ k. starts_with nat_eq c.args.name.now (get_or ps k []) ≡ false) _ c.loop-place.invariant (begins _ _ _ _ _ _ false c.loop-place-test.true c.index-prefixes-place.is c.as_bytes.ensures.value c.as_bytes-in-loop-place.ensures.value c.if-starts_with.ensures.value)
 
 pub returns : goal.returns
 returns c =

@@ -1,7 +1,7 @@
-use Rattle.std.proofs.Common.{◌≡◌, ◌<◌, length, Some, refl, ap, sym, ◌∙◌, arith, slice_get}
+use Rattle.std.proofs.Common.{◌≡◌, ◌<◌, length, Some, refl, sym, ◌∙◌, arith, slice_get}
 use Rattle.std.proofs.lemmas.Option.{slice_get_read}
 use Rattle.tera_registry.specs.Kept.{entry_of, entries_of, seen}
-use Rattle.tera_registry.proofs.Kept.{entry-at-place, length-entries}
+use Rattle.tera_registry.proofs.Kept.{entry-among, length-entries}
 use Rattle.tera_registry.proofs.Reaching.{none-reached, there-at, closing-begins, closing-on, closing-ends, few}
 use Rattle.tera_registry.proofs.variables.closure.Goals as goal
 
@@ -21,7 +21,7 @@ loop-next-preserved c =
     let left : c.loop-next.next < length ps = omega (arith, c.if-next-len.false) in
     let p_at : slice_get ps c.loop-next.next ≡ Some place = slice_get_read ps (length ps) c.loop-next.next place refl left c.index-place.ensures in
     let lt = there-at ps (length (entries_of ts)) c.loop-next.next place i.reached.there p_at in
-    let at : slice_get (entries_of ts) place ≡ Some (entry_of c.deref-template.result.now) = entry-at-place ts place c.index-templates-place.result (omega (arith, lt, length-entries ts)) c.index-templates-place.is ∙ ap (λ t. Some (entry_of t)) (sym c.deref-template.ensures) in
+    let at = entry-among r ts place _ _ refl (omega (arith, lt, length-entries ts)) c.index-templates-place.is c.deref-template.ensures in
     closing-on r c.args.from.now c.loop-next.next place (entry_of c.deref-template.result.now) ps _ _ _ p_at at c.in_ok-reach_included.ensures i
 
 pub returns-then-next-len : goal.returns-then-next-len

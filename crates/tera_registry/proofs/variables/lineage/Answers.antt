@@ -1,43 +1,38 @@
-use Rattle.std.proofs.Common.{◌≡◌, Some, sym, ap, ◌∙◌, slice_get, arith}
-use Rattle.tera_registry.specs.Kept.{entry_of, entries_of, seen}
+use Rattle.std.proofs.Common.{refl, arith}
+use Rattle.tera_registry.specs.Kept.{entry_of, seen}
 use Rattle.tera_registry.proofs.Element.{element}
 use Rattle.tera_registry.proofs.Filled.{AreThere-push}
-use Rattle.tera_registry.proofs.Kept.{entry-at-place, length-entries}
+use Rattle.tera_registry.proofs.Kept.{entry-among, length-entries}
 use Rattle.tera_registry.proofs.Ancestors.{next-ancestors, fewer, not-missing}
 use Rattle.tera_registry.proofs.Above.{passed, passed-last}
 use Rattle.tera_registry.proofs.variables.lineage.Goals as goal
 
 pub up-smaller : goal.up-smaller
 up-smaller c =
-    let ts = c.args.templates.now in
-    let r = seen ts c.args.prefixes.now in
+    let r = seen c.args.templates.now c.args.prefixes.now in
     let u = entry_of c.deref-template.result.now in
-    let here : slice_get (entries_of ts) c.up.last ≡ Some u = entry-at-place ts c.up.last c.index-templates-last.result c.up.invariant.there c.index-templates-last.is ∙ ap (λ t. Some (entry_of t)) (sym c.deref-template.ensures) in
-    let ok = c.requires.grounded.each c.up.last u here in
-    let v = element (entries_of ts) c.in-At.next c.in-At.ensures.2.1 in
-    let behind = next-ancestors r u v.0 c.in-At.next ok c.in-At.ensures v.1 in
+    let here = entry-among r c.args.templates.now c.up.last _ _ refl c.up.invariant.there c.index-templates-last.is c.deref-template.ensures in
+    let v = element r.templates c.in-At.next c.in-At.ensures.2.1 in
+    let behind = next-ancestors r u v.0 c.in-At.next (c.requires.grounded.each c.up.last u here) c.in-At.ensures v.1 in
     fewer r u v.0 c.up.last c.in-At.next here v.1 behind
 
 pub up-preserved : goal.up-preserved
 up-preserved c =
-    let ts = c.args.templates.now in
-    let r = seen ts c.args.prefixes.now in
+    let r = seen c.args.templates.now c.args.prefixes.now in
     let u = entry_of c.deref-template.result.now in
-    let here : slice_get (entries_of ts) c.up.last ≡ Some u = entry-at-place ts c.up.last c.index-templates-last.result c.up.invariant.there c.index-templates-last.is ∙ ap (λ t. Some (entry_of t)) (sym c.deref-template.ensures) in
-    let ok = c.requires.grounded.each c.up.last u here in
+    let here = entry-among r c.args.templates.now c.up.last _ _ refl c.up.invariant.there c.index-templates-last.is c.deref-template.ensures in
     record {
-      there = omega (arith, c.in-At.ensures.2.1, length-entries ts);
+      there = omega (arith, c.in-At.ensures.2.1, length-entries c.args.templates.now);
       inside = rw c.in_ok-push.ensures.items (AreThere-push _ _ _ c.up.invariant.inside c.up.invariant.there);
       so_far = λ t v t_at v_at.
-          rw c.in_ok-push.ensures.items (passed r c.up.places.items c.up.last t u v here (next-ancestors r u v c.in-At.next ok c.in-At.ensures v_at) (c.up.invariant.so_far t u t_at here));
+          rw c.in_ok-push.ensures.items (passed r c.up.places.items c.up.last t u v here (next-ancestors r u v c.in-At.next (c.requires.grounded.each c.up.last u here) c.in-At.ensures v_at) (c.up.invariant.so_far t u t_at here));
     }
 
 pub returns-in-Nothing-clause-those : goal.returns-in-Nothing-clause-those
 returns-in-Nothing-clause-those c =
-    let ts = c.args.templates.now in
-    let r = seen ts c.args.prefixes.now in
+    let r = seen c.args.templates.now c.args.prefixes.now in
     let u = entry_of c.deref-template.result.now in
-    let here : slice_get (entries_of ts) c.up.last ≡ Some u = entry-at-place ts c.up.last c.index-templates-last.result c.up.invariant.there c.index-templates-last.is ∙ ap (λ t. Some (entry_of t)) (sym c.deref-template.ensures) in
+    let here = entry-among r c.args.templates.now c.up.last _ _ refl c.up.invariant.there c.index-templates-last.is c.deref-template.ensures in
     λ t at. rw c.in_ok-push.ensures.items (passed-last r c.up.places.items c.up.last t u here c.in-Nothing.ensures (c.up.invariant.so_far t u at here))
 
 pub returns-in-Nothing-clause-there : goal.returns-in-Nothing-clause-there
@@ -46,12 +41,10 @@ returns-in-Nothing-clause-there c =
 
 pub returns-in-Missing-clause-those : goal.returns-in-Missing-clause-those
 returns-in-Missing-clause-those c =
-    let ts = c.args.templates.now in
-    let r = seen ts c.args.prefixes.now in
+    let r = seen c.args.templates.now c.args.prefixes.now in
     let u = entry_of c.deref-template.result.now in
-    let here : slice_get (entries_of ts) c.up.last ≡ Some u = entry-at-place ts c.up.last c.index-templates-last.result c.up.invariant.there c.index-templates-last.is ∙ ap (λ t. Some (entry_of t)) (sym c.deref-template.ensures) in
-    let ok = c.requires.grounded.each c.up.last u here in
-    λ t at. absurd (not-missing r u c.in-Missing.ensures.0 ok c.in-Missing.ensures.1 c.in-Missing.ensures.2)
+    let here = entry-among r c.args.templates.now c.up.last _ _ refl c.up.invariant.there c.index-templates-last.is c.deref-template.ensures in
+    λ t at. absurd (not-missing r u c.in-Missing.ensures.0 (c.requires.grounded.each c.up.last u here) c.in-Missing.ensures.1 c.in-Missing.ensures.2)
 
 pub returns-in-Missing-clause-there : goal.returns-in-Missing-clause-there
 returns-in-Missing-clause-there c =

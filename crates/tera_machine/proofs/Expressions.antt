@@ -18,7 +18,7 @@ use Rattle.tera_components.specs.Definition.{named_arguments}
 use Rattle.tera_operators.specs.Calls.{filter_applied_by, test_applied_by, function_called_by}
 use Rattle.tera_meaning.specs.Here.{Here, filtered_at, tested_at, called_at}
 use Rattle.tera_meaning.specs.Whole.{World, Place, here_at, whole}
-use Rattle.tera_meaning.specs.Run.{Run, Gave, Above, AComponent, Request, Oracle, Meaning, ◌▹◌, visit, reads, answered, asks, onward, gives, value_at}
+use Rattle.tera_meaning.specs.Run.{Run, Answer, Gave, Above, AComponent, Request, Oracle, Meaning, ◌▹◌, visit, more, reads, answered, answered_at, asks, onward, gives, value_at}
 use Rattle.tera_meaning.specs.Meaning.{turns_of, if_kept, comprehension, component_meaning_in, expr_meaning, condition_meaning, bound_meaning, items_meaning, entries_meaning, arguments_meaning}
 use Rattle.tera_code.specs.declared.instruction.Instruction.{Instruction}
 use Rattle.tera_code.specs.declared.instruction.Instruction.TheVariants as instruction
@@ -46,34 +46,33 @@ module _ (w : World) (place : Place) (code : Code) (below : Below w place) where
   outcome_runs ip stack rest r s (Ok a) i l e h = first w place code _ s i e h (done w place code l)
   outcome_runs ip stack rest r s (Err f) i l e h = fail w place code {s = s} f i l e h
 
+  -- one more part in front of others
+  holds_part : {X : Type 0} (x : X) (xs : List X) (value : Answer Evaluated) (rest : Meaning (List (X × Evaluated))) → ((r : Run) → Holds (λ all. firsts all ≡ xs) (rest r)) → Holds (λ all. firsts all ≡ x ∷ xs) (onward value (λ a. rest ▹ λ all. gives ((x, a) ∷ all)))
+  holds_part x xs value rest h =
+      holds_onward _ _ value _ (holds_any value) (λ a r1 _. holds_onward _ _ (rest r1) _ (h r1) (λ all r2 e. ap (λ ys. x ∷ ys) e))
+
   holds_items : (items : Items) (r : Run) → Holds (λ all. firsts all ≡ spreads_of items) (items_meaning here call items r)
   holds_items NoItems r = refl
   holds_items (MoreItems is_spread value rest) r =
-      holds_onward _ _ (expr_meaning here call value r) _ (holds_any (expr_meaning here call value r)) (λ a r1 _. holds_onward _ _ (items_meaning here call rest r1) _ (holds_items rest r1) (λ all r2 h. ap (λ bs. is_spread ∷ bs) h))
+      holds_part is_spread (spreads_of rest) (expr_meaning here call value r) (items_meaning here call rest) (λ r1. holds_items rest r1)
 
   pub holds_entries : (entries : Entries) (r : Run) → Holds (λ all. firsts all ≡ keys_in entries) (entries_meaning here call entries r)
   holds_entries NoEntries r = refl
   holds_entries (MoreEntries key value rest) r =
-      holds_onward _ _ (expr_meaning here call value r) _ (holds_any (expr_meaning here call value r)) (λ a r1 _. holds_onward _ _ (entries_meaning here call rest r1) _ (holds_entries rest r1) (λ all r2 h. ap (λ ks. key ∷ ks) h))
+      holds_part key (keys_in rest) (expr_meaning here call value r) (entries_meaning here call rest) (λ r1. holds_entries rest r1)
 
-  -- the operands of a literal are there, and what is made of them is meant
-  made_array : (next : ℕ) (items : Items) (all : List (Bool × Evaluated)) (base : Base) (r : Run) (span : Span) → firsts all ≡ spreads_of items → act here next (instruction.MakeArray (spreads_of items) span) (config_at (all_over (seconds all) base) r) ≡ outcome (array_of place.file all span) base.operands (config_at (all_over (seconds all) base) r)
-  made_array next items all base r span e =
+  -- the operands of the parts are there, and what is made of them is meant
+  makes : {X : Type 0} (f : List (X × Evaluated) → Outcome) (xs : List X) (all : List (X × Evaluated)) (base : Base) (r : Run) → firsts all ≡ xs → made_of (λ vs. f (zip xs vs)) (topmost (length xs) (push_all (seconds all) base.operands)) (config_at (all_over (seconds all) base) r) ≡ outcome (f all) base.operands (config_at (all_over (seconds all) base) r)
+  makes f xs all base r e =
       let c : Config = config_at (all_over (seconds all) base) r in
-      ap (λ o. made_of (λ vs. array_of place.file (zip (spreads_of items) vs) span) o c) (topmost-push_all (length (spreads_of items)) (seconds all) base.operands (length-seconds (spreads_of items) all e))
-      ∙ ap (λ ps. outcome (array_of place.file ps span) base.operands c) (zip-firsts (spreads_of items) all e)
-
-  made_map : (next : ℕ) (entries : Entries) (all : List (Option Key × Evaluated)) (base : Base) (r : Run) (span : Span) → firsts all ≡ keys_in entries → act here next (instruction.MakeMap (keys_in entries) span) (config_at (all_over (seconds all) base) r) ≡ outcome (map_of place.file all span) base.operands (config_at (all_over (seconds all) base) r)
-  made_map next entries all base r span e =
-      let c : Config = config_at (all_over (seconds all) base) r in
-      ap (λ o. made_of (λ vs. map_of place.file (zip (keys_in entries) vs) span) o c) (topmost-push_all (length (keys_in entries)) (seconds all) base.operands (length-seconds (keys_in entries) all e))
-      ∙ ap (λ ps. outcome (map_of place.file ps span) base.operands c) (zip-firsts (keys_in entries) all e)
+      ap (λ o. made_of (λ vs. f (zip xs vs)) o c) (topmost-push_all (length xs) (seconds all) base.operands (length-seconds xs all e))
+      ∙ ap (λ ps. outcome (f ps) base.operands c) (zip-firsts xs all e)
 
   -- the arguments have their names
   pub holds_arguments : (arguments : Arguments) (r : Run) → Holds (λ all. firsts all ≡ argument_names arguments) (arguments_meaning here call arguments r)
   holds_arguments NoArguments r = refl
   holds_arguments (MoreArguments name value rest) r =
-      holds_onward _ _ (expr_meaning here call value r) _ (holds_any (expr_meaning here call value r)) (λ a r1 _. holds_onward _ _ (arguments_meaning here call rest r1) _ (holds_arguments rest r1) (λ all r2 h. ap (λ ns. name ∷ ns) h))
+      holds_part name (argument_names rest) (expr_meaning here call value r) (arguments_meaning here call rest) (λ r1. holds_arguments rest r1)
 
   length-argument_names : (arguments : Arguments) → length (argument_names arguments) ≡ arguments_length arguments
   length-argument_names NoArguments = refl
@@ -111,11 +110,60 @@ module _ (w : World) (place : Place) (code : Code) (below : Below w place) where
       let u : Use = Pushed place.autoescape span in
       answered_runs w place code s (map_entries place.file all) r (λ given r1. onward (asks call (q given) r1) top) tk l i (λ f g. takes ∙ ap (λ o. component_asked place.autoescape name span o (Some (body, base.operands)) c) g) (λ given g. asked_runs w place code (config_at base r) s (q given) u r top tk (call (q given) r.vars) l i (takes ∙ ap (λ o. component_asked place.autoescape name span o (Some (body, base.operands)) c) g ∙ ap (λ d. Goes d (Ask (q given) u)) (sym same)) (below (q given) u (config_at base r)) (λ after. done w place code l))
 
-  calls_function : (next : ℕ) (name : site.Name) (names : List site.Name) (all : List (site.Name × Evaluated)) (base : Base) (r : Run) (span : Span) → firsts all ≡ names → act here next (instruction.CallFunction name names span) (config_at (all_over (seconds all) base) r) ≡ outcome (function_called_by place.file (called_at plain here r.vars name) all span) base.operands (config_at (all_over (seconds all) base) r)
-  calls_function next name names all base r span e =
-      let c : Config = config_at (all_over (seconds all) base) r in
-      ap (λ o. made_of (λ vs. function_called_by place.file (called_at plain here r.vars name) (zip names vs) span) o c) (topmost-push_all (length names) (seconds all) base.operands (length-seconds names all e))
-      ∙ ap (λ ps. outcome (function_called_by place.file (called_at plain here r.vars name) ps span) base.operands c) (zip-firsts names all e)
+  -- a part of which this holds, and one instruction behind it
+  one_behind : {A : Type 0} (P : A → Type 0) (cs : Code) (i : Instruction) (ip t : ℕ) (base : Base) (r : Run) {goal : A → Run → Spot} {x : Answer A} {go : A → Meaning Evaluated} → StandsAt code ip (cs ++ i ∷ []) → Holds P x → Runs w place code (spot ip base r) 0 t goal x → (slice_get code (ip + length cs) ≡ Some i → (a : A) (r1 : Run) → P a → Runs w place code (goal a r1) (8 + t) 1 (Top (ip + length cs + 1) base) (go a r1)) → Runs w place code (spot ip base r) 0 1 (Top (ip + length (cs ++ i ∷ [])) base) (more 1 (onward x go))
+  one_behind P cs i ip t base r has holds part acts =
+      let len : ip + length cs + 1 ≡ ip + length (cs ++ i ∷ []) = omega (arith, length-append cs (i ∷ [])) in
+      top_at w place code _ len (spend w place code (onward_where w place code P (omega arith) holds part (acts (stands_back code ip cs (i ∷ []) has).0)))
+
+  -- an operand, and what is made of it
+  of_one : (cs : Code) (i : Instruction) (f : Evaluated → Outcome) (ip : ℕ) (base : Base) (r : Run) {x : Answer Evaluated} → StandsAt code ip (cs ++ i ∷ []) → Runs w place code (spot ip base r) 0 1 (Top (ip + length cs) base) x → ((a : Evaluated) (r1 : Run) → act here (ip + length cs + 1) i (config_at (over a base) r1) ≡ outcome (f a) base.operands (config_at (over a base) r1)) → Runs w place code (spot ip base r) 0 1 (Top (ip + length (cs ++ i ∷ [])) base) (more 1 (onward x (λ a. answered (f a))))
+  of_one cs i f ip base r {x} has part acts =
+      one_behind (λ _. Unit {0}) cs i ip 1 base r has (holds_any x) part (λ at a r1 _. outcome_runs (ip + length cs) (a ∷ base.operands) base r1 8 (f a) i (omega arith) at (acts a r1))
+
+  -- parts, and what is made of all their operands
+  of_all : {X : Type 0} (cs : Code) (i : Instruction) (xs : List X) (f : Variables → List (X × Evaluated) → Outcome) (ip : ℕ) (base : Base) (r : Run) {x : Answer (List (X × Evaluated))} → StandsAt code ip (cs ++ i ∷ []) → Holds (λ all. firsts all ≡ xs) x → Runs w place code (spot ip base r) 0 0 (Tops (ip + length cs) base) x → ((all : List (X × Evaluated)) (r1 : Run) → act here (ip + length cs + 1) i (config_at (all_over (seconds all) base) r1) ≡ made_of (λ vs. f r1.vars (zip xs vs)) (topmost (length xs) (push_all (seconds all) base.operands)) (config_at (all_over (seconds all) base) r1)) → Runs w place code (spot ip base r) 0 1 (Top (ip + length (cs ++ i ∷ [])) base) (more 1 (onward x (λ all. answered_at (λ v. f v all))))
+  of_all cs i xs f ip base r has holds part acts =
+      one_behind (λ all. firsts all ≡ xs) cs i ip 0 base r has holds part (λ at all r1 e. outcome_runs (ip + length cs) (push_all (seconds all) base.operands) base r1 7 (f r1.vars all) i (omega arith) at (acts all r1 ∙ makes (f r1.vars) xs all base r1 e))
+
+  -- an operand, a part above it of which this holds, and one instruction behind both
+  two_behind : {A : Type 0} (P : A → Type 0) (cv cp : Code) (i : Instruction) (ip t : ℕ) (base : Base) (r : Run) {goal : Evaluated → A → Run → Spot} {x : Answer Evaluated} {next : Evaluated → Meaning A} {go : Evaluated → A → Meaning Evaluated} → StandsAt code ip (cv ++ (cp ++ i ∷ [])) → Runs w place code (spot ip base r) 0 1 (Top (ip + length cv) base) x → ((a : Evaluated) (r1 : Run) → Holds P (next a r1)) → (StandsAt code (ip + length cv) cp → (a : Evaluated) (r1 : Run) → Runs w place code (spot (ip + length cv) (over a base) r1) 0 t (goal a) (next a r1)) → (slice_get code (ip + length cv + length cp) ≡ Some i → (a : Evaluated) (b : A) (r2 : Run) → P b → Runs w place code (goal a b r2) (9 + t) 1 (Top (ip + length cv + length cp + 1) base) (go a b r2)) → Runs w place code (spot ip base r) 0 1 (Top (ip + length (cv ++ (cp ++ i ∷ []))) base) (more 1 (onward x (λ a r1. onward (next a r1) (go a))))
+  two_behind P cv cp i ip t base r has operand holds part acts =
+      let p = ip + length cv in
+      let len : p + length cp + 1 ≡ ip + length (cv ++ (cp ++ i ∷ [])) = omega (arith, length-append cv (cp ++ i ∷ []), length-append cp (i ∷ [])) in
+      let h = stands_back code ip cv (cp ++ i ∷ []) has in
+      let at = (stands_back code p cp (i ∷ []) h).0 in
+      top_at w place code _ len (spend w place code (onward_runs w place code (omega arith) operand (λ a r1. onward_where w place code P (omega arith) (holds a r1) (part (stands_front code p cp _ h) a r1) (λ b r2 e. acts at a b r2 e))))
+
+  -- two operands, and what is made of both
+  of_two : (cl cr : Code) (i : Instruction) (f : Evaluated → Evaluated → Outcome) (ip : ℕ) (base : Base) (r : Run) {x : Answer Evaluated} (next : Meaning Evaluated) → StandsAt code ip (cl ++ (cr ++ i ∷ [])) → Runs w place code (spot ip base r) 0 1 (Top (ip + length cl) base) x → (StandsAt code (ip + length cl) cr → (a : Evaluated) (r1 : Run) → Runs w place code (spot (ip + length cl) (over a base) r1) 0 1 (Top (ip + length cl + length cr) (over a base)) (next r1)) → ((a b : Evaluated) (r2 : Run) → act here (ip + length cl + length cr + 1) i (config_at (over b (over a base)) r2) ≡ outcome (f a b) base.operands (config_at (over b (over a base)) r2)) → Runs w place code (spot ip base r) 0 1 (Top (ip + length (cl ++ (cr ++ i ∷ []))) base) (more 1 (onward x (λ a. next ▹ λ b. answered (f a b))))
+  of_two cl cr i f ip base r next has left right acts =
+      two_behind (λ _. Unit {0}) cl cr i ip 1 base r {next = λ a. next} has left (λ a r1. holds_any (next r1)) right (λ at a b r2 _. outcome_runs (ip + length cl + length cr) (b ∷ a ∷ base.operands) base r2 9 (f a b) i (omega arith) at (acts a b r2))
+
+  -- an operand, arguments above it, and what is called with both
+  of_call : (cv ca : Code) (i : Instruction) (names : List site.Name) (f : Variables → Evaluated → List (site.Name × Evaluated) → Outcome) (ip : ℕ) (base : Base) (r : Run) {x : Answer Evaluated} (next : Meaning (List (site.Name × Evaluated))) → StandsAt code ip (cv ++ (ca ++ i ∷ [])) → Runs w place code (spot ip base r) 0 1 (Top (ip + length cv) base) x → ((r1 : Run) → Holds (λ all. firsts all ≡ names) (next r1)) → (StandsAt code (ip + length cv) ca → (a : Evaluated) (r1 : Run) → Runs w place code (spot (ip + length cv) (over a base) r1) 0 0 (Tops (ip + length cv + length ca) (over a base)) (next r1)) → ((a : Evaluated) (all : List (site.Name × Evaluated)) (r2 : Run) → act here (ip + length cv + length ca + 1) i (config_at (all_over (seconds all) (over a base)) r2) ≡ called_on (f r2.vars) names (topmost (length names) (push_all (seconds all) (a ∷ base.operands))) (config_at (all_over (seconds all) (over a base)) r2)) → Runs w place code (spot ip base r) 0 1 (Top (ip + length (cv ++ (ca ++ i ∷ []))) base) (more 1 (onward x (λ a. next ▹ λ given. answered_at (λ v. f v a given))))
+  of_call cv ca i names f ip base r next has operand holds arguments acts =
+      two_behind (λ all. firsts all ≡ names) cv ca i ip 0 base r {next = λ a. next} has operand (λ a r1. holds r1) arguments (λ at a all r2 e. outcome_runs (ip + length cv + length ca) (push_all (seconds all) (a ∷ base.operands)) base r2 8 (f r2.vars a all) i (omega arith) at (acts a all r2 ∙ calls_on (f r2.vars) names all a base r2 e))
+
+  -- an operand, a jump behind it, and code that the jump may pass
+  jumps_behind : (cl cr : Code) (i : Instruction) (ip : ℕ) (base : Base) (r : Run) {x : Answer Evaluated} {go : Evaluated → Meaning Evaluated} → StandsAt code ip (cl ++ (i ∷ cr)) → Runs w place code (spot ip base r) 0 1 (Top (ip + length cl) base) x → (StandsAt code (ip + length cl) (i ∷ cr) → ip + length cl + 1 + length cr ≤ length code → (a : Evaluated) (r1 : Run) → Runs w place code (Top (ip + length cl) base a r1) 9 1 (Top (ip + length cl + 1 + length cr) base) (go a r1)) → Runs w place code (spot ip base r) 0 1 (Top (ip + length (cl ++ (i ∷ cr))) base) (more 1 (onward x go))
+  jumps_behind cl cr i ip base r has operand chooses =
+      let p = ip + length cl in
+      let len : p + 1 + length cr ≡ ip + length (cl ++ (i ∷ cr)) = omega (arith, length-append cl (i ∷ cr)) in
+      let h = stands_back code ip cl (i ∷ cr) has in
+      let m : p + length (i ∷ cr) ≤ length code = stands_within code p i cr h in
+      let l : p + 1 + length cr ≤ length code = omega (arith, m) in
+      top_at w place code _ len (spend w place code (onward_runs w place code (omega arith) operand (chooses h l)))
+
+  -- no part, and one part in front of others
+  no_parts : (X : Type 0) (ip : ℕ) (base : Base) (r : Run) → Runs w place code (spot ip base r) 0 0 (Tops {A = X} (ip + 0) base) (Gave [] r 0)
+  no_parts X ip base r =
+      let len : ip ≡ ip + 0 = omega arith in tops_at w place code _ len (done w place code (omega arith))
+
+  more_parts : {X : Type 0} (x : X) (cv cr : Code) (ip : ℕ) (base : Base) (r : Run) {value : Answer Evaluated} (rest : Meaning (List (X × Evaluated))) → StandsAt code ip (cv ++ cr) → Runs w place code (spot ip base r) 0 1 (Top (ip + length cv) base) value → (StandsAt code (ip + length cv) cr → (a : Evaluated) (r1 : Run) → Runs w place code (spot (ip + length cv) (over a base) r1) 0 0 (Tops (ip + length cv + length cr) (over a base)) (rest r1)) → Runs w place code (spot ip base r) 0 0 (Tops (ip + length (cv ++ cr)) base) (onward value (λ a. rest ▹ λ all. gives ((x, a) ∷ all)))
+  more_parts x cv cr ip base r rest has part others =
+      let len : ip + length cv + length cr ≡ ip + length (cv ++ cr) = omega (arith, length-append cv cr) in
+      tops_at w place code _ len (onward_runs w place code (omega arith) part (λ a r1. onward_runs w place code (omega arith) (others (stands_back code ip cv cr has) a r1) (λ all r2. done w place code (omega arith))))
 
   -- a name's value on top, or the map of all that is bound
   name_runs : (b : Bool) (name : site.Name) (span : Span) (ip : ℕ) (base : Base) (r : Run) → StandsAt code ip (cond b (instruction.LoadContext span ∷ []) (instruction.LoadName name span ∷ [])) → Runs w place code (spot ip base r) 0 1 (Top (ip + length (cond b (instruction.LoadContext span ∷ []) (instruction.LoadName name span ∷ []))) base) (visit (reads (λ v. cond b (dump place.around v) (look name place.around v)) ▹ λ v. value_at v span) r)
@@ -163,22 +211,11 @@ module _ (w : World) (place : Place) (code : Code) (below : Below w place) where
     expr_runs (Name name span) ip base r has =
         name_runs (is_context name) name span ip base r has
     expr_runs (Attribute target name optional span) ip base r has =
-        let i = instruction.LoadAttribute name optional span in
         let ct = expr_code target in
-        let p = ip + length ct in
-        let len : p + 1 ≡ ip + length (ct ++ i ∷ []) = omega (arith, length-append ct (i ∷ [])) in
-        let at = (stands_back code ip ct (i ∷ []) has).0 in
-        top_at w place code _ len (spend w place code (onward_runs w place code (omega arith) (expr_runs target ip base r (stands_front code ip ct _ has)) (λ a r1. outcome_runs p (a ∷ base.operands) base r1 8 (attribute_of here.file optional a name span) i (omega arith) at refl)))
+        of_one ct (instruction.LoadAttribute name optional span) (λ a. attribute_of here.file optional a name span) ip base r has (expr_runs target ip base r (stands_front code ip ct _ has)) (λ a r1. refl)
     expr_runs (Index target index optional span) ip base r has =
-        let i = instruction.LoadItem optional span in
         let ct = expr_code target in
-        let ci = expr_code index in
-        let p = ip + length ct in
-        let q = p + length ci in
-        let len : q + 1 ≡ ip + length (ct ++ (ci ++ i ∷ [])) = omega (arith, length-append ct (ci ++ i ∷ []), length-append ci (i ∷ [])) in
-        let h = stands_back code ip ct (ci ++ i ∷ []) has in
-        let at = (stands_back code p ci (i ∷ []) h).0 in
-        top_at w place code _ len (spend w place code (onward_runs w place code (omega arith) (expr_runs target ip base r (stands_front code ip ct _ has)) (λ a r1. onward_runs w place code (omega arith) (expr_runs index p (over a base) r1 (stands_front code p ci _ h)) (λ b r2. outcome_runs q (b ∷ a ∷ base.operands) base r2 9 (item_of here.file optional a b span) i (omega arith) at refl))))
+        of_two ct (expr_code index) (instruction.LoadItem optional span) (λ a b. item_of here.file optional a b span) ip base r (expr_meaning here call index) has (expr_runs target ip base r (stands_front code ip ct _ has)) (λ stands a r1. expr_runs index (ip + length ct) (over a base) r1 stands) (λ a b r2. refl)
     expr_runs (Slice target start end step optional span) ip base r has =
         let i = instruction.Slice optional span in
         let ct = expr_code target in
@@ -196,47 +233,24 @@ module _ (w : World) (place : Place) (code : Code) (below : Below w place) where
         let at = (stands_back code u cp (i ∷ []) h3).0 in
         top_at w place code _ len (spend w place code (onward_runs w place code (omega arith) (expr_runs target ip base r (stands_front code ip ct _ has)) (λ a r1. onward_lent w place code 1 8 (omega arith) (bound_runs start p (over a base) r1 (stands_front code p cs _ h1)) (λ s r2. onward_lent w place code 1 7 (omega arith) (bound_runs end q (over s (over a base)) r2 (stands_front code q ce _ h2)) (λ e r3. onward_lent w place code 1 6 (omega arith) (bound_runs step u (over e (over s (over a base))) r3 (stands_front code u cp _ h3)) (λ t r4. outcome_runs v (t ∷ e ∷ s ∷ a ∷ base.operands) base r4 5 (slice_of here.file optional a s e t span) i (omega arith) at refl))))))
     expr_runs (Not operand span) ip base r has =
-        let i = instruction.Not in
-        let ct = expr_code operand in
-        let p = ip + length ct in
-        let len : p + 1 ≡ ip + length (ct ++ i ∷ []) = omega (arith, length-append ct (i ∷ [])) in
-        let at = (stands_back code ip ct (i ∷ []) has).0 in
-        top_at w place code _ len (spend w place code (onward_runs w place code (omega arith) (expr_runs operand ip base r (stands_front code ip ct _ has)) (λ a r1. outcome_runs p (a ∷ base.operands) base r1 8 (Ok (not_of a)) i (omega arith) at refl)))
+        let co = expr_code operand in
+        of_one co instruction.Not (λ a. Ok (not_of a)) ip base r has (expr_runs operand ip base r (stands_front code ip co _ has)) (λ a r1. refl)
     expr_runs (Negate operand span) ip base r has =
-        let i = instruction.Negate in
-        let ct = expr_code operand in
-        let p = ip + length ct in
-        let len : p + 1 ≡ ip + length (ct ++ i ∷ []) = omega (arith, length-append ct (i ∷ [])) in
-        let at = (stands_back code ip ct (i ∷ []) has).0 in
-        top_at w place code _ len (spend w place code (onward_runs w place code (omega arith) (expr_runs operand ip base r (stands_front code ip ct _ has)) (λ a r1. outcome_runs p (a ∷ base.operands) base r1 8 (negative_of here.file a) i (omega arith) at refl)))
+        let co = expr_code operand in
+        of_one co instruction.Negate (negative_of here.file) ip base r has (expr_runs operand ip base r (stands_front code ip co _ has)) (λ a r1. refl)
     expr_runs (Binary operator left right span) ip base r has =
-        let i = instruction.Binary operator span in
         let cl = expr_code left in
-        let cr = expr_code right in
-        let p = ip + length cl in
-        let q = p + length cr in
-        let len : q + 1 ≡ ip + length (cl ++ (cr ++ i ∷ [])) = omega (arith, length-append cl (cr ++ i ∷ []), length-append cr (i ∷ [])) in
-        let h = stands_back code ip cl (cr ++ i ∷ []) has in
-        let at = (stands_back code p cr (i ∷ []) h).0 in
-        top_at w place code _ len (spend w place code (onward_runs w place code (omega arith) (expr_runs left ip base r (stands_front code ip cl _ has)) (λ a r1. onward_runs w place code (omega arith) (expr_runs right p (over a base) r1 (stands_front code p cr _ h)) (λ b r2. outcome_runs q (b ∷ a ∷ base.operands) base r2 9 (binary_of here.file operator a b span) i (omega arith) at refl))))
+        of_two cl (expr_code right) (instruction.Binary operator span) (λ a b. binary_of here.file operator a b span) ip base r (expr_meaning here call right) has (expr_runs left ip base r (stands_front code ip cl _ has)) (λ stands a r1. expr_runs right (ip + length cl) (over a base) r1 stands) (λ a b r2. refl)
     expr_runs (And left right span) ip base r has =
         let cl = expr_code left in
         let cr = expr_code right in
         let i = instruction.JumpIfFalseOrPop (length cr) in
-        let p = ip + length cl in
-        let len : p + 1 + length cr ≡ ip + length (cl ++ (i ∷ cr)) = omega (arith, length-append cl (i ∷ cr)) in
-        let h = stands_back code ip cl (i ∷ cr) has in
-        let l : p + 1 + length cr ≤ length code = let m : p + length (i ∷ cr) ≤ length code = stands_within code p i cr h in omega (arith, m) in
-        top_at w place code _ len (spend w place code (onward_runs w place code (omega arith) (expr_runs left ip base r (stands_front code ip cl _ has)) (λ a r1. choice_runs w place code _ _ 8 (length cr) (truthy a.value) (expr_meaning here call right) (gives a) r1 i h.0 refl l (adjust w place code 8 1 (omega arith) (expr_runs right (p + 1) base r1 h.1)) (done w place code (omega arith)))))
+        jumps_behind cl cr i ip base r has (expr_runs left ip base r (stands_front code ip cl _ has)) (λ h l a r1. choice_runs w place code _ _ 8 (length cr) (truthy a.value) (expr_meaning here call right) (gives a) r1 i h.0 refl l (adjust w place code 8 1 (omega arith) (expr_runs right (ip + length cl + 1) base r1 h.1)) (done w place code (omega arith)))
     expr_runs (Or left right span) ip base r has =
         let cl = expr_code left in
         let cr = expr_code right in
         let i = instruction.JumpIfTrueOrPop (length cr) in
-        let p = ip + length cl in
-        let len : p + 1 + length cr ≡ ip + length (cl ++ (i ∷ cr)) = omega (arith, length-append cl (i ∷ cr)) in
-        let h = stands_back code ip cl (i ∷ cr) has in
-        let l : p + 1 + length cr ≤ length code = let m : p + length (i ∷ cr) ≤ length code = stands_within code p i cr h in omega (arith, m) in
-        top_at w place code _ len (spend w place code (onward_runs w place code (omega arith) (expr_runs left ip base r (stands_front code ip cl _ has)) (λ a r1. choice_not_runs w place code _ _ 8 (length cr) (truthy a.value) (gives a) (expr_meaning here call right) r1 i h.0 refl l (adjust w place code 8 1 (omega arith) (expr_runs right (p + 1) base r1 h.1)) (done w place code (omega arith)))))
+        jumps_behind cl cr i ip base r has (expr_runs left ip base r (stands_front code ip cl _ has)) (λ h l a r1. choice_not_runs w place code _ _ 8 (length cr) (truthy a.value) (gives a) (expr_meaning here call right) r1 i h.0 refl l (adjust w place code 8 1 (omega arith) (expr_runs right (ip + length cl + 1) base r1 h.1)) (done w place code (omega arith)))
     expr_runs (Ternary value condition other span) ip base r has =
         let cc = expr_code condition in
         let cv = expr_code value in
@@ -248,66 +262,34 @@ module _ (w : World) (place : Place) (code : Code) (below : Below w place) where
         let pass : p + 1 + length cv + 1 + length co ≡ end = omega (arith, len) in
         spend w place code (onward_runs w place code (omega arith) (expr_runs condition ip base r (stands_front code ip cc _ has)) (λ c r1. choice_runs w place code _ _ 8 (length cv + 1) (truthy c.value) (expr_meaning here call value) (expr_meaning here call other) r1 (instruction.PopJumpIfFalse (length cv + 1)) h.branch refl h.within (adjust w place code 8 1 (omega arith) (jump_after w place code (top_passes w place code (p + 1 + length cv) end (length co) base h.jump h.ends pass) (expr_runs value (p + 1) base r1 h.first))) (adjust w place code 8 1 (omega arith) (top_at w place code _ len (expr_runs other (p + 1 + (length cv + 1)) base r1 h.second)))))
     expr_runs (Array items span) ip base r has =
-        let i = instruction.MakeArray (spreads_of items) span in
         let ci = items_code items in
-        let p = ip + length ci in
-        let len : p + 1 ≡ ip + length (ci ++ i ∷ []) = omega (arith, length-append ci (i ∷ [])) in
-        let at = (stands_back code ip ci (i ∷ []) has).0 in
-        top_at w place code _ len (spend w place code (onward_where w place code (λ all. firsts all ≡ spreads_of items) (omega arith) (holds_items items r) (items_runs items ip base r (stands_front code ip ci _ has)) (λ all r1 e. outcome_runs p (push_all (seconds all) base.operands) base r1 7 (array_of here.file all span) i (omega arith) at (made_array (p + 1) items all base r1 span e))))
+        of_all ci (instruction.MakeArray (spreads_of items) span) (spreads_of items) (λ v all. array_of here.file all span) ip base r has (holds_items items r) (items_runs items ip base r (stands_front code ip ci _ has)) (λ all r1. refl)
     expr_runs (Map entries span) ip base r has =
-        let i = instruction.MakeMap (keys_in entries) span in
-        let ci = entries_code entries in
-        let p = ip + length ci in
-        let len : p + 1 ≡ ip + length (ci ++ i ∷ []) = omega (arith, length-append ci (i ∷ [])) in
-        let at = (stands_back code ip ci (i ∷ []) has).0 in
-        top_at w place code _ len (spend w place code (onward_where w place code (λ all. firsts all ≡ keys_in entries) (omega arith) (holds_entries entries r) (entries_runs entries ip base r (stands_front code ip ci _ has)) (λ all r1 e. outcome_runs p (push_all (seconds all) base.operands) base r1 7 (map_of here.file all span) i (omega arith) at (made_map (p + 1) entries all base r1 span e))))
+        let ce = entries_code entries in
+        of_all ce (instruction.MakeMap (keys_in entries) span) (keys_in entries) (λ v all. map_of here.file all span) ip base r has (holds_entries entries r) (entries_runs entries ip base r (stands_front code ip ce _ has)) (λ all r1. refl)
     expr_runs (Super arguments span) ip base r has =
         let ca = arguments_code arguments in
         let i = instruction.TakeAbove (arguments_length arguments) span in
-        let p = ip + length ca in
-        let len : p + 1 ≡ ip + length (ca ++ i ∷ []) = omega (arith, length-append ca (i ∷ [])) in
-        let at = (stands_back code ip ca (i ∷ []) has).0 in
         let top : site.Text → Meaning Evaluated = λ t. value_at (val.text t true) span in
-        top_at w place code _ len (spend w place code (onward_where w place code (λ all. firsts all ≡ argument_names arguments) (omega arith) (holds_arguments arguments r) (arguments_runs arguments ip base r (stands_front code ip ca _ has)) (λ all r1 e. asked_runs w place code (config_at base r1) 7 (Above span) (Pushed true span) r1 top i (call (Above span) r1.vars) (omega arith) at (asks_above (p + 1) arguments all base r1 span e) (below (Above span) (Pushed true span) (config_at base r1)) (λ after. done w place code (omega arith)))))
+        one_behind (λ all. firsts all ≡ argument_names arguments) ca i ip 0 base r has (holds_arguments arguments r) (arguments_runs arguments ip base r (stands_front code ip ca _ has)) (λ at all r1 e. asked_runs w place code (config_at base r1) 7 (Above span) (Pushed true span) r1 top i (call (Above span) r1.vars) (omega arith) at (asks_above (ip + length ca + 1) arguments all base r1 span e) (below (Above span) (Pushed true span) (config_at base r1)) (λ after. done w place code (omega arith)))
     expr_runs (Filter value name arguments span) ip base r has =
-        let names = argument_names arguments in
-        let i = instruction.ApplyFilter name names span in
         let cv = expr_code value in
-        let ca = arguments_code arguments in
-        let p = ip + length cv in
-        let q = p + length ca in
-        let len : q + 1 ≡ ip + length (cv ++ (ca ++ i ∷ [])) = omega (arith, length-append cv (ca ++ i ∷ []), length-append ca (i ∷ [])) in
-        let h = stands_back code ip cv (ca ++ i ∷ []) has in
-        let at = (stands_back code p ca (i ∷ []) h).0 in
+        let names = argument_names arguments in
         let f : Variables → Evaluated → List (site.Name × Evaluated) → Outcome = λ v a given. filter_applied_by here.file (filtered_at plain here v name) a given span in
-        top_at w place code _ len (spend w place code (onward_runs w place code (omega arith) (expr_runs value ip base r (stands_front code ip cv _ has)) (λ a r1. onward_where w place code (λ all. firsts all ≡ names) (omega arith) (holds_arguments arguments r1) (arguments_runs arguments p (over a base) r1 (stands_front code p ca _ h)) (λ all r2 e. outcome_runs q (push_all (seconds all) (a ∷ base.operands)) base r2 8 (f r2.vars a all) i (omega arith) at (calls_on (f r2.vars) names all a base r2 e)))))
+        of_call cv (arguments_code arguments) (instruction.ApplyFilter name names span) names f ip base r (arguments_meaning here call arguments) has (expr_runs value ip base r (stands_front code ip cv _ has)) (λ r1. holds_arguments arguments r1) (λ stands a r1. arguments_runs arguments (ip + length cv) (over a base) r1 stands) (λ a all r2. refl)
     expr_runs (Test value name arguments span) ip base r has =
-        let names = argument_names arguments in
-        let i = instruction.ApplyTest name names span in
         let cv = expr_code value in
-        let ca = arguments_code arguments in
-        let p = ip + length cv in
-        let q = p + length ca in
-        let len : q + 1 ≡ ip + length (cv ++ (ca ++ i ∷ [])) = omega (arith, length-append cv (ca ++ i ∷ []), length-append ca (i ∷ [])) in
-        let h = stands_back code ip cv (ca ++ i ∷ []) has in
-        let at = (stands_back code p ca (i ∷ []) h).0 in
-        let f : Variables → Evaluated → List (site.Name × Evaluated) → Outcome = λ v a given. test_applied_by here.file (tested_at plain here v name) a given span in
-        top_at w place code _ len (spend w place code (onward_runs w place code (omega arith) (expr_runs value ip base r (stands_front code ip cv _ has)) (λ a r1. onward_where w place code (λ all. firsts all ≡ names) (omega arith) (holds_arguments arguments r1) (arguments_runs arguments p (over a base) r1 (stands_front code p ca _ h)) (λ all r2 e. outcome_runs q (push_all (seconds all) (a ∷ base.operands)) base r2 8 (f r2.vars a all) i (omega arith) at (calls_on (f r2.vars) names all a base r2 e)))))
-    expr_runs (Call name arguments span) ip base r has =
         let names = argument_names arguments in
-        let i = instruction.CallFunction name names span in
+        let f : Variables → Evaluated → List (site.Name × Evaluated) → Outcome = λ v a given. test_applied_by here.file (tested_at plain here v name) a given span in
+        of_call cv (arguments_code arguments) (instruction.ApplyTest name names span) names f ip base r (arguments_meaning here call arguments) has (expr_runs value ip base r (stands_front code ip cv _ has)) (λ r1. holds_arguments arguments r1) (λ stands a r1. arguments_runs arguments (ip + length cv) (over a base) r1 stands) (λ a all r2. refl)
+    expr_runs (Call name arguments span) ip base r has =
         let ca = arguments_code arguments in
-        let p = ip + length ca in
-        let len : p + 1 ≡ ip + length (ca ++ i ∷ []) = omega (arith, length-append ca (i ∷ [])) in
-        let at = (stands_back code ip ca (i ∷ []) has).0 in
-        top_at w place code _ len (spend w place code (onward_where w place code (λ all. firsts all ≡ names) (omega arith) (holds_arguments arguments r) (arguments_runs arguments ip base r (stands_front code ip ca _ has)) (λ all r1 e. outcome_runs p (push_all (seconds all) base.operands) base r1 7 (function_called_by here.file (called_at plain here r1.vars name) all span) i (omega arith) at (calls_function (p + 1) name names all base r1 span e))))
+        let names = argument_names arguments in
+        of_all ca (instruction.CallFunction name names span) names (λ v given. function_called_by here.file (called_at plain here v name) given span) ip base r has (holds_arguments arguments r) (arguments_runs arguments ip base r (stands_front code ip ca _ has)) (λ all r1. refl)
     expr_runs (Component name attributes span) ip base r has =
-        let i = instruction.TakeComponent name (keys_in attributes) false span in
-        let ci = entries_code attributes in
-        let p = ip + length ci in
-        let len : p + 1 ≡ ip + length (ci ++ i ∷ []) = omega (arith, length-append ci (i ∷ [])) in
-        let at = (stands_back code ip ci (i ∷ []) has).0 in
-        top_at w place code _ len (spend w place code (onward_where w place code (λ all. firsts all ≡ keys_in attributes) (omega arith) (holds_entries attributes r) (entries_runs attributes ip base r (stands_front code ip ci _ has)) (λ all r1 e. component_runs p name (keys_in attributes) false all base base None r1 span 7 (omega arith) at e refl refl)))
+        let ca = entries_code attributes in
+        let keys = keys_in attributes in
+        one_behind (λ all. firsts all ≡ keys) ca (instruction.TakeComponent name keys false span) ip 0 base r has (holds_entries attributes r) (entries_runs attributes ip base r (stands_front code ip ca _ has)) (λ at all r1 e. component_runs (ip + length ca) name keys false all base base None r1 span 7 (omega arith) at e refl refl)
     expr_runs (Comprehension value key name target condition span) ip base r has =
         let heading : Heading = record { name = name; key = key; counts = false } in
         let ct = expr_code target in
@@ -350,28 +332,19 @@ module _ (w : World) (place : Place) (code : Code) (below : Below w place) where
     bound_runs (Present e) ip base r has = adjust w place code 1 0 (omega arith) (expr_runs e ip base r has)
 
     items_runs : (items : Items) (ip : ℕ) (base : Base) (r : Run) → StandsAt code ip (items_code items) → Runs w place code (spot ip base r) 0 0 (Tops (ip + length (items_code items)) base) (items_meaning here call items r)
-    items_runs NoItems ip base r has =
-        let len : ip ≡ ip + 0 = omega arith in tops_at w place code _ len (done w place code (omega arith))
+    items_runs NoItems ip base r has = no_parts Bool ip base r
     items_runs (MoreItems is_spread value rest) ip base r has =
         let cv = expr_code value in
-        let cr = items_code rest in
-        let len : ip + length cv + length cr ≡ ip + length (cv ++ cr) = omega (arith, length-append cv cr) in
-        tops_at w place code _ len (onward_runs w place code (omega arith) (expr_runs value ip base r (stands_front code ip cv cr has)) (λ a r1. onward_runs w place code (omega arith) (items_runs rest (ip + length cv) (over a base) r1 (stands_back code ip cv cr has)) (λ all r2. done w place code (omega arith))))
+        more_parts is_spread cv (items_code rest) ip base r (items_meaning here call rest) has (expr_runs value ip base r (stands_front code ip cv _ has)) (λ stands a r1. items_runs rest (ip + length cv) (over a base) r1 stands)
 
     pub entries_runs : (entries : Entries) (ip : ℕ) (base : Base) (r : Run) → StandsAt code ip (entries_code entries) → Runs w place code (spot ip base r) 0 0 (Tops (ip + length (entries_code entries)) base) (entries_meaning here call entries r)
-    entries_runs NoEntries ip base r has =
-        let len : ip ≡ ip + 0 = omega arith in tops_at w place code _ len (done w place code (omega arith))
+    entries_runs NoEntries ip base r has = no_parts (Option Key) ip base r
     entries_runs (MoreEntries key value rest) ip base r has =
         let cv = expr_code value in
-        let cr = entries_code rest in
-        let len : ip + length cv + length cr ≡ ip + length (cv ++ cr) = omega (arith, length-append cv cr) in
-        tops_at w place code _ len (onward_runs w place code (omega arith) (expr_runs value ip base r (stands_front code ip cv cr has)) (λ a r1. onward_runs w place code (omega arith) (entries_runs rest (ip + length cv) (over a base) r1 (stands_back code ip cv cr has)) (λ all r2. done w place code (omega arith))))
+        more_parts key cv (entries_code rest) ip base r (entries_meaning here call rest) has (expr_runs value ip base r (stands_front code ip cv _ has)) (λ stands a r1. entries_runs rest (ip + length cv) (over a base) r1 stands)
 
     pub arguments_runs : (arguments : Arguments) (ip : ℕ) (base : Base) (r : Run) → StandsAt code ip (arguments_code arguments) → Runs w place code (spot ip base r) 0 0 (Tops (ip + length (arguments_code arguments)) base) (arguments_meaning here call arguments r)
-    arguments_runs NoArguments ip base r has =
-        let len : ip ≡ ip + 0 = omega arith in tops_at w place code _ len (done w place code (omega arith))
+    arguments_runs NoArguments ip base r has = no_parts site.Name ip base r
     arguments_runs (MoreArguments name value rest) ip base r has =
         let cv = expr_code value in
-        let cr = arguments_code rest in
-        let len : ip + length cv + length cr ≡ ip + length (cv ++ cr) = omega (arith, length-append cv cr) in
-        tops_at w place code _ len (onward_runs w place code (omega arith) (expr_runs value ip base r (stands_front code ip cv cr has)) (λ a r1. onward_runs w place code (omega arith) (arguments_runs rest (ip + length cv) (over a base) r1 (stands_back code ip cv cr has)) (λ all r2. done w place code (omega arith))))
+        more_parts name cv (arguments_code rest) ip base r (arguments_meaning here call rest) has (expr_runs value ip base r (stands_front code ip cv _ has)) (λ stands a r1. arguments_runs rest (ip + length cv) (over a base) r1 stands)

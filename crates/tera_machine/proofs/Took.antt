@@ -20,7 +20,8 @@ use Rattle.tera_machine.specs.declared.configuration.Configuration.{Configuratio
 use Rattle.tera_machine.specs.declared.machine.VirtualMachine.{VirtualMachine}
 use Rattle.tera_machine.specs.declared.place.LoopPlace.{LoopPlace}
 use Rattle.tera_machine.specs.Config.{Config, Loop, config_of, loops_at}
-use Rattle.tera_machine.specs.Flow.{Use, Written, Pushed, request_of, use_of}
+use Rattle.tera_machine.specs.Flow.{Flow, Use, Written, Pushed, request_of, use_of}
+use Rattle.tera_machine.specs.Did.{Did, Goes}
 use Rattle.tera_machine.specs.Act.{beneath, beneath_in}
 use Rattle.tera_machine.specs.Exec.{End, Finished, entered, used, left, left_in, Ends, EndsWithin, BodyEnds, Ran}
 use Rattle.tera_machine.specs.Advance.{BodyWithin}
@@ -28,6 +29,7 @@ use Rattle.tera_machine.specs.Included.{names_in}
 use Rattle.tera_machine.specs.Subject.{template_of, place_at, place_of}
 use Rattle.tera_machine.specs.Bodies.{opened_by, closed_by, IsBody, FindsBody, Entered, Enters, closed_in, Leaves, Stays, BodyRan}
 use Rattle.tera_machine.specs.Wanted.{ended_by}
+use Rattle.tera_machine.proofs.Together.{Last, last_still}
 use Rattle.tera_machine.proofs.Noting.{noted_then, noted_from}
 use Rattle.tera_machine.proofs.Taking.{AtAsk, body_failed, refused, inner_within, can_leave, body_done, body_broke}
 
@@ -56,7 +58,7 @@ stays_then s t = record {
 }
 
 -- what an instruction leaves as it is
-pub moved : {b0 b : OpenBlocks} {c0 c : Configuration} (c1 : Configuration) → Stays b0 c0 b c → around_of c1.scopes ≡ around_of c.scopes → beneath c1 ≡ beneath c → (config_of c1).run.blocks ≡ (config_of c).run.blocks → Stays b0 c0 b c1
+moved : {b0 b : OpenBlocks} {c0 c : Configuration} (c1 : Configuration) → Stays b0 c0 b c → around_of c1.scopes ≡ around_of c.scopes → beneath c1 ≡ beneath c → (config_of c1).run.blocks ≡ (config_of c).run.blocks → Stays b0 c0 b c1
 moved c1 s e f g = record {
   names = s.names;
   above = s.above;
@@ -67,6 +69,10 @@ moved c1 s e f g = record {
   ended = g ∙ s.ended;
   noted = s.noted;
 }
+
+-- what instructions that were done together leave as it is
+pub did_still : {most : ℕ} {w : World} {place : Place} {code : Code} {k : Config} {n0 at n2 : ℕ} {d : Did} {f : Flow} {b0 b : OpenBlocks} {c0 c : Configuration} (c1 : Configuration) → Stays b0 c0 b c → Last most w place code k n0 at n2 (config_of c) d → (d ≡ Goes (config_of c1) f) × ((around_of c1.scopes ≡ around_of c.scopes) × (beneath c1 ≡ beneath c)) → Stays b0 c0 b c1
+did_still c1 s l e = moved c1 s e.1.0 e.1.1 (last_still l e.0)
 
 -- a body that is asked for in one place, and in the same
 pub at_place : {w : World} {p p0 : Place} {q : Request} {u : Use} {c : Config} {n : ℕ} → p ≡ p0 → BodyWithin w p0 q u c n → BodyWithin w p q u c n

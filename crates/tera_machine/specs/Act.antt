@@ -24,6 +24,8 @@ use Rattle.tera_meaning.specs.Run.{ABlock, Above, AnInclude, AComponent}
 use Rattle.tera_meaning.specs.Meaning.{output}
 use Rattle.tera_code.specs.declared.instruction.Instruction.{Instruction}
 use Rattle.tera_code.specs.declared.instruction.Instruction.TheVariants.{WriteText, WriteTop, WriteName, LoadConst, LoadName, LoadAttribute, LoadItem, Slice, Not, Negate, Binary, MakeArray, MakeMap, Jump, PopJumpIfFalse, JumpIfFalseOrPop, JumpIfTrueOrPop, Store, LoadContext, StartLoop, NextTurn, EndLoop, Keep, EndComprehension, StartCapture, EndCapture, LeaveLoop, LeaveTurn, TakeBlock, TakeAbove, TakeInclude, TakeComponent, ApplyFilter, ApplyTest, CallFunction}
+use Rattle.tera_machine.specs.declared.calls.CallKind.{CallKind}
+use Rattle.tera_machine.specs.declared.calls.CallKind.TheVariants as kind
 use Rattle.tera_machine.specs.declared.configuration.Configuration.{Configuration}
 use Rattle.tera_machine.specs.declared.machine.Flow as declared
 use Rattle.tera_machine.specs.declared.machine.Flow.TheVariants as declared_flow
@@ -153,6 +155,11 @@ test_called here name names span c =
 abbrev pub function_answered : Here → site.Name → List site.Name → Span → Config → Did
 function_answered here name names span c =
     on_many (λ all. function_called_by here.file (called_at plain here c.run.vars name) (zip names all) span) (length names) c.operands c
+
+abbrev pub called : CallKind → Here → site.Name → List site.Name → Span → Config → Did
+called kind.Function = function_answered
+called kind.Filter = filter_called
+called kind.Test = test_called
 
 abbrev pub popped_branch : ℕ → Config → Did
 popped_branch skip c = popped_branch_in skip c.operands c

@@ -5,16 +5,17 @@ ghost use Rattle.tera_errors.specs.Site.{Site};
 ghost use Rattle.tera_errors.specs.Fault.{rendering_error};
 ghost use Rattle.tera_machine.specs.Config.{config_of};
 ghost use Rattle.tera_machine.specs.Did.{pushed, holding};
-ghost use Rattle.tera_machine.specs.Act.{act, IsReady, IsSmall, Does, going_on, going_on_if, text_written, outcome_put, top_written, name_written, name_loaded, context_loaded, stored, attribute_loaded, item_loaded, sliced, denied, negated, operated, array_made, map_made, handed, component_taken, popped_branch, kept_if_falsy, kept_if_truthy, above_taken, topmost};
+ghost use Rattle.tera_machine.specs.Act.{act, IsReady, IsSmall, Does, going_on, going_on_if, text_written, outcome_put, top_written, name_written, name_loaded, context_loaded, stored, attribute_loaded, item_loaded, sliced, denied, negated, operated, handed, component_taken, popped_branch, kept_if_falsy, kept_if_truthy, above_taken, topmost};
 ghost use Rattle.tera_machine.specs.Subject.{here_of};
 ghost use Rattle.tera_machine.specs.declared.machine.Flow.TheVariants as flow;
 ghost use Rattle.tera_state.specs.Scopes.{around_of};
 
 use crate::asked::{Asked, AskedComponent, AskedTemplate};
+use crate::calls::CallKind;
 use crate::configuration::Configuration;
 use crate::machine::{Flow, VirtualMachine};
 use std::alloc::{AllocError, Global};
-use tera_code::{Instruction, Keys, LentName, Spreads};
+use tera_code::{Instruction, Keys, LentName};
 use tera_errors::lacking;
 use tera_objects::Objects;
 use tera_operators::Operand;
@@ -57,8 +58,18 @@ impl<'c> Configuration<'c> {
             Instruction::Not => self.deny(),
             Instruction::Negate => self.negate(alloc, file),
             Instruction::Binary(operator, span) => self.operate(alloc, file, *operator, *span),
-            Instruction::MakeArray(spreads, span) => self.make_array(alloc, file, spreads, *span),
-            Instruction::MakeMap(keys, span) => self.make_map(alloc, file, keys, *span),
+            Instruction::MakeArray(spreads, span) => {
+                let spreads = spreads.as_slice();
+                let operands = self.take_topmost(spreads.len())?;
+                let operand = tera_operators::array(alloc, file, spreads, operands, *span)?;
+                self.put(operand)
+            }
+            Instruction::MakeMap(keys, span) => {
+                let keys = keys.as_slice();
+                let operands = self.take_topmost(keys.len())?;
+                let operand = tera_operators::map(alloc, file, keys, operands, *span)?;
+                self.put(operand)
+            }
             Instruction::Jump(skip) => Ok(Flow::Skip(*skip)),
             Instruction::PopJumpIfFalse(skip) => self.pop_jump_if_false(*skip),
             Instruction::JumpIfFalseOrPop(skip) => self.jump_if_false_or_pop(*skip),
@@ -102,17 +113,17 @@ impl<'c> Configuration<'c> {
                 name,
                 arguments,
                 span,
-            } => self.apply_filter(machine, file, name, arguments, *span),
+            } => self.call(machine, file, CallKind::Filter, name, arguments, *span),
             Instruction::ApplyTest {
                 name,
                 arguments,
                 span,
-            } => self.apply_test(machine, file, name, arguments, *span),
+            } => self.call(machine, file, CallKind::Test, name, arguments, *span),
             Instruction::CallFunction {
                 name,
                 arguments,
                 span,
-            } => self.call_function(machine, file, name, arguments, *span),
+            } => self.call(machine, file, CallKind::Function, name, arguments, *span),
         }
     }
 
@@ -349,42 +360,7 @@ impl<'c> Configuration<'c> {
         ensures places { self.new.places ≡ self.old.places }
         ensures lacks { IfErr result Lacks }
     {
-        if self.operands.len() < count {
-            unreachable!()
-        }
         self.operands.pop_many(count)
-    }
-
-    fn make_array<'f>(
-        &mut self,
-        alloc: Global,
-        file: &str,
-        spreads: &Spreads<'_>,
-        span: Span,
-    ) -> TeraResult<Flow<'f>>
-        requires { IsReady (array_made file.now spreads.now span) self.old }
-        ensures { Does (array_made file.now spreads.now span) self.old result self.new }
-    {
-        let spreads = spreads.as_slice();
-        let operands = self.take_topmost(spreads.len())?;
-        let operand = tera_operators::array(alloc, file, spreads, operands, span)?;
-        self.put(operand)
-    }
-
-    fn make_map<'f>(
-        &mut self,
-        alloc: Global,
-        file: &str,
-        keys: &Keys<'_>,
-        span: Span,
-    ) -> TeraResult<Flow<'f>>
-        requires { IsReady (map_made file.now keys.now span) self.old }
-        ensures { Does (map_made file.now keys.now span) self.old result self.new }
-    {
-        let keys = keys.as_slice();
-        let operands = self.take_topmost(keys.len())?;
-        let operand = tera_operators::map(alloc, file, keys, operands, span)?;
-        self.put(operand)
     }
 
     // The arguments are read and dropped.

@@ -1,4 +1,4 @@
-use Rattle.std.proofs.Common.{arith, refl, sym, ap, subst, suc, Err, ◌-◌, ◌∙◌}
+use Rattle.std.proofs.Common.{arith, refl, sym, ap, subst, suc, Err, ◌-◌, ◌<◌, ◌≤◌, ◌∙◌}
 use Rattle.tera_meaning.specs.Run.{AnInclude}
 use Rattle.tera_machine.specs.Flow.{Written, Ask, component_request, component_use}
 use Rattle.tera_machine.specs.Act.{Acted}
@@ -6,9 +6,9 @@ use Rattle.tera_machine.specs.Config.{config_of}
 use Rattle.tera_machine.proofs.Runs.{here_is, not_stuck, small, one_left, went_on, skipped, skip_within, went_to, place_within, went_out, finished, act_failed, at_ask, at_request}
 use Rattle.tera_machine.specs.Subject.{here_of, place_at}
 use Rattle.tera_machine.specs.Together.{done}
-use Rattle.tera_machine.proofs.Together.{Last, last_of, last_still}
+use Rattle.tera_machine.proofs.Together.{Last, last_of}
 use Rattle.tera_machine.proofs.Taking.{body_within, came_back}
-use Rattle.tera_machine.proofs.Took.{place_same, moved, stays_then, at_place, ends_at, take_failed, may_run, run_failed, may_leave, body_over, body_stayed}
+use Rattle.tera_machine.proofs.Took.{place_same, did_still, stays_then, at_place, ends_at, take_failed, may_run, run_failed, may_leave, body_over, body_stayed}
 use Rattle.tera_machine.proofs.Ways.{linked_in, linked_alone}
 use Rattle.tera_machine.proofs.Rejoining.{may_begin, apart_failed, may_rejoin, has_outer, apart_over, apart_stayed}
 use Rattle.tera_machine.proofs.Including.{include_failed, include_entered}
@@ -21,6 +21,16 @@ use Rattle.tera_machine.proofs.machine.VirtualMachine.+run.Goals as goal
 last : (g : Over) (t : _) (c : run_counted-After-perform g t) → Last g.M.Limit.most g.M.Limit.world (place_at c.args.self.now c.args.chunk.now.file c.args.blocks.now c.args.configuration.now) c.args.chunk.now.code (config_of c.args.configuration.now) c.args.steps.now c.perform.new.at c.perform.new.steps (config_of c.loop-instruction.configuration)
     (done (here_of g.O.Objects.engine c.args.self.now c.args.chunk.now.file c.loop-instruction.configuration) c.args.chunk.now.code (suc (c.perform.new.steps - c.get.new.steps)) c.loop-instruction.at (config_of c.loop-instruction.configuration))
 last g t c = last_of c.loop-instruction.invariant.progress (here_is g.O.Objects.engine g.M.Limit.world c.args.self.now _ _ c.args.blocks.now c.loop-instruction.configuration c.args.configuration.now c.requires.engine refl c.loop-instruction.invariant.stays.around) c.in-Some.ensures.count c.perform.ensures.stands.counted c.perform.ensures.stands.place c.perform.ensures.stands.there c.perform.ensures.stands.before
+
+-- they are counted, and there was room for them
+counted : (g : Over) (t : _) (c : run_counted-After-perform g t) → (c.loop-instruction.steps < c.perform.new.steps) × (c.perform.new.steps ≤ g.M.Limit.most)
+counted g t c =
+    let l = last g t c in
+    let left = one_left l.progress l.found in
+    (omega (arith, l.count, c.in-Some.ensures.count, c.perform.ensures.stands.counted), omega (arith, left, l.count))
+
+fewer : (g : Over) (t : _) (c : run_counted-After-perform g t) → g.M.Limit.most - c.perform.new.steps < g.M.Limit.most - c.loop-instruction.steps
+fewer g t c = let n = counted g t c in omega (arith, n.0, n.1)
 
 pub run_counted-perform-requires-clause-ready : goal.run_counted-perform-requires-clause-ready
 run_counted-perform-requires-clause-ready g t c =
@@ -41,9 +51,7 @@ run_counted-overflow_add-at-in-To g t c =
     omega (arith, place_within l.progress refl l.found l.count (l.did ∙ c.in-Ok.ensures.does.0) c.in-To.is, c.in-Some.ensures.small)
 
 pub run_counted-returns-in-Err-clause-bounded : goal.run_counted-returns-in-Err-clause-bounded
-run_counted-returns-in-Err-clause-bounded g t c =
-    let l = last g t (goal.at.run_counted-returns-in-Err-clause-bounded g t c).After-perform in
-    λ h. omega (arith, one_left l.progress l.found, l.count, c.in-Some.ensures.count, c.perform.ensures.stands.counted)
+run_counted-returns-in-Err-clause-bounded g t c = λ h. (counted g t (goal.at.run_counted-returns-in-Err-clause-bounded g t c).After-perform).1
 
 pub run_counted-returns-in-Err-clause-ends : goal.run_counted-returns-in-Err-clause-ends
 run_counted-returns-in-Err-clause-ends g t c =
@@ -51,9 +59,7 @@ run_counted-returns-in-Err-clause-ends g t c =
     act_failed l.progress refl l.found l.count _ _ (subst (λ d. Acted d (Err c.in-Err.error) (config_of c.perform.new.self)) (sym l.did) c.in-Err.ensures.does.0)
 
 pub run_counted-returns-in-Out-clause-bounded : goal.run_counted-returns-in-Out-clause-bounded
-run_counted-returns-in-Out-clause-bounded g t c =
-    let l = last g t (goal.at.run_counted-returns-in-Out-clause-bounded g t c).After-perform in
-    λ h. omega (arith, one_left l.progress l.found, l.count, c.in-Some.ensures.count, c.perform.ensures.stands.counted)
+run_counted-returns-in-Out-clause-bounded g t c = λ h. (counted g t (goal.at.run_counted-returns-in-Out-clause-bounded g t c).After-perform).1
 
 pub run_counted-returns-in-Out-clause-ends : goal.run_counted-returns-in-Out-clause-ends
 run_counted-returns-in-Out-clause-ends g t c =
@@ -61,26 +67,20 @@ run_counted-returns-in-Out-clause-ends g t c =
     went_out l.progress refl l.found l.count (l.did ∙ c.in-Ok.ensures.does.0) c.in-Out.is
 
 pub run_counted-loop-instruction-smaller-in-On : goal.run_counted-loop-instruction-smaller-in-On
-run_counted-loop-instruction-smaller-in-On g t c =
-    let l = last g t (goal.at.run_counted-loop-instruction-smaller-in-On g t c).After-perform in
-    omega (arith, one_left l.progress l.found, l.count, c.in-Some.ensures.count, c.perform.ensures.stands.counted)
+run_counted-loop-instruction-smaller-in-On g t c = fewer g t (goal.at.run_counted-loop-instruction-smaller-in-On g t c).After-perform
 
 pub run_counted-loop-instruction-smaller-in-Skip : goal.run_counted-loop-instruction-smaller-in-Skip
-run_counted-loop-instruction-smaller-in-Skip g t c =
-    let l = last g t (goal.at.run_counted-loop-instruction-smaller-in-Skip g t c).After-perform in
-    omega (arith, one_left l.progress l.found, l.count, c.in-Some.ensures.count, c.perform.ensures.stands.counted)
+run_counted-loop-instruction-smaller-in-Skip g t c = fewer g t (goal.at.run_counted-loop-instruction-smaller-in-Skip g t c).After-perform
 
 pub run_counted-loop-instruction-smaller-in-To : goal.run_counted-loop-instruction-smaller-in-To
-run_counted-loop-instruction-smaller-in-To g t c =
-    let l = last g t (goal.at.run_counted-loop-instruction-smaller-in-To g t c).After-perform in
-    omega (arith, one_left l.progress l.found, l.count, c.in-Some.ensures.count, c.perform.ensures.stands.counted)
+run_counted-loop-instruction-smaller-in-To g t c = fewer g t (goal.at.run_counted-loop-instruction-smaller-in-To g t c).After-perform
 
 pub run_counted-loop-instruction-preserved-in-On : goal.run_counted-loop-instruction-preserved-in-On
 run_counted-loop-instruction-preserved-in-On g t c =
     let l = last g t (goal.at.run_counted-loop-instruction-preserved-in-On g t c).After-perform in
     record {
       progress = went_on l.progress refl l.found l.count (l.did ∙ c.in-Ok.ensures.does.0) c.in-On.is;
-      stays = moved c.perform.new.self c.loop-instruction.invariant.stays c.in-Ok.ensures.does.1.0 c.in-Ok.ensures.does.1.1 (last_still l c.in-Ok.ensures.does.0);
+      stays = did_still c.perform.new.self c.loop-instruction.invariant.stays l c.in-Ok.ensures.does;
     }
 
 pub run_counted-loop-instruction-preserved-in-Skip : goal.run_counted-loop-instruction-preserved-in-Skip
@@ -88,7 +88,7 @@ run_counted-loop-instruction-preserved-in-Skip g t c =
     let l = last g t (goal.at.run_counted-loop-instruction-preserved-in-Skip g t c).After-perform in
     record {
       progress = skipped l.progress refl l.found l.count (l.did ∙ c.in-Ok.ensures.does.0) c.in-Skip.is;
-      stays = moved c.perform.new.self c.loop-instruction.invariant.stays c.in-Ok.ensures.does.1.0 c.in-Ok.ensures.does.1.1 (last_still l c.in-Ok.ensures.does.0);
+      stays = did_still c.perform.new.self c.loop-instruction.invariant.stays l c.in-Ok.ensures.does;
     }
 
 pub run_counted-loop-instruction-preserved-in-To : goal.run_counted-loop-instruction-preserved-in-To
@@ -96,7 +96,7 @@ run_counted-loop-instruction-preserved-in-To g t c =
     let l = last g t (goal.at.run_counted-loop-instruction-preserved-in-To g t c).After-perform in
     record {
       progress = went_to l.progress refl l.found l.count (l.did ∙ c.in-Ok.ensures.does.0) c.in-To.is;
-      stays = moved c.perform.new.self c.loop-instruction.invariant.stays c.in-Ok.ensures.does.1.0 c.in-Ok.ensures.does.1.1 (last_still l c.in-Ok.ensures.does.0);
+      stays = did_still c.perform.new.self c.loop-instruction.invariant.stays l c.in-Ok.ensures.does;
     }
 
 pub run_counted-returns-clause-ends : goal.run_counted-returns-clause-ends
@@ -106,91 +106,85 @@ run_counted-returns-clause-ends g t c =
 pub run_counted-returns-in-Out-clause-stays : goal.run_counted-returns-in-Out-clause-stays
 run_counted-returns-in-Out-clause-stays g t c =
     let l = last g t (goal.at.run_counted-returns-in-Out-clause-stays g t c).After-perform in
-    moved c.perform.new.self c.loop-instruction.invariant.stays c.in-Ok.ensures.does.1.0 c.in-Ok.ensures.does.1.1 (last_still l c.in-Ok.ensures.does.0)
+    did_still c.perform.new.self c.loop-instruction.invariant.stays l c.in-Ok.ensures.does
 
 pub run_counted-take-requires : goal.run_counted-take-requires
 run_counted-take-requires g t c κs within =
     let l = last g t (goal.at.run_counted-take-requires g t c).After-perform in
-    (omega (arith, one_left l.progress l.found, l.count, c.in-Some.ensures.count, c.perform.ensures.stands.counted, l.progress.counted, c.decreases), (within.0, (within.1.0, (within.1.1, (c.requires.engine, (c.requires.linked, at_place (place_same c.args.self.now c.args.chunk.now.file c.args.chunk.now.file refl (moved c.perform.new.self c.loop-instruction.invariant.stays c.in-Ok.ensures.does.1.0 c.in-Ok.ensures.does.1.1 (last_still l c.in-Ok.ensures.does.0))) (body_within (at_ask l.progress refl l.found l.count (l.did ∙ c.in-Ok.ensures.does.0) c.in-Ask.is))))))))
+    (omega (arith, one_left l.progress l.found, l.count, c.in-Some.ensures.count, c.perform.ensures.stands.counted, l.progress.counted, c.decreases), (within.0, (within.1.0, (within.1.1, (c.requires.engine, (c.requires.linked, at_place (place_same c.args.self.now c.args.chunk.now.file c.args.chunk.now.file refl (did_still c.perform.new.self c.loop-instruction.invariant.stays l c.in-Ok.ensures.does)) (body_within (at_ask l.progress refl l.found l.count (l.did ∙ c.in-Ok.ensures.does.0) c.in-Ask.is))))))))
 
 pub run_counted-loop-instruction-smaller-in-Ok-take : goal.run_counted-loop-instruction-smaller-in-Ok-take
 run_counted-loop-instruction-smaller-in-Ok-take g t c =
-    let l = last g t (goal.at.run_counted-loop-instruction-smaller-in-Ok-take g t c).After-perform in
-    omega (arith, one_left l.progress l.found, l.count, c.in-Some.ensures.count, c.perform.ensures.stands.counted, c.in-Ok-take.ensures.counted)
+    let n = counted g t (goal.at.run_counted-loop-instruction-smaller-in-Ok-take g t c).After-perform in
+    omega (arith, n.0, n.1, c.in-Ok-take.ensures.counted)
 
 pub run_counted-loop-instruction-preserved-in-Ok-take : goal.run_counted-loop-instruction-preserved-in-Ok-take
 run_counted-loop-instruction-preserved-in-Ok-take g t c =
     let l = last g t (goal.at.run_counted-loop-instruction-preserved-in-Ok-take g t c).After-perform in
     record {
-      progress = came_back (at_ask l.progress refl l.found l.count (l.did ∙ c.in-Ok.ensures.does.0) c.in-Ask.is) _ _ c.in-Ok-take.ensures.counted c.in-Ok-take.ensures.bounded (ends_at (place_same c.args.self.now c.args.chunk.now.file c.args.chunk.now.file refl (moved c.perform.new.self c.loop-instruction.invariant.stays c.in-Ok.ensures.does.1.0 c.in-Ok.ensures.does.1.1 (last_still l c.in-Ok.ensures.does.0))) c.in-Ok-take.ensures.ends);
-      stays = stays_then (moved c.perform.new.self c.loop-instruction.invariant.stays c.in-Ok.ensures.does.1.0 c.in-Ok.ensures.does.1.1 (last_still l c.in-Ok.ensures.does.0)) c.in-Ok-take.ensures.stays;
+      progress = came_back (at_ask l.progress refl l.found l.count (l.did ∙ c.in-Ok.ensures.does.0) c.in-Ask.is) _ _ c.in-Ok-take.ensures.counted c.in-Ok-take.ensures.bounded (ends_at (place_same c.args.self.now c.args.chunk.now.file c.args.chunk.now.file refl (did_still c.perform.new.self c.loop-instruction.invariant.stays l c.in-Ok.ensures.does)) c.in-Ok-take.ensures.ends);
+      stays = stays_then (did_still c.perform.new.self c.loop-instruction.invariant.stays l c.in-Ok.ensures.does) c.in-Ok-take.ensures.stays;
     }
 
 pub run_counted-returns-in-Err-take-clause-bounded : goal.run_counted-returns-in-Err-take-clause-bounded
-run_counted-returns-in-Err-take-clause-bounded g t c =
-    let l = last g t (goal.at.run_counted-returns-in-Err-take-clause-bounded g t c).After-perform in
-    λ h. c.in-Err-take.ensures.bounded (omega (arith, one_left l.progress l.found, l.count, c.in-Some.ensures.count, c.perform.ensures.stands.counted))
+run_counted-returns-in-Err-take-clause-bounded g t c = λ h. c.in-Err-take.ensures.bounded (counted g t (goal.at.run_counted-returns-in-Err-take-clause-bounded g t c).After-perform).1
 
 pub run_counted-returns-in-Err-take-clause-ends : goal.run_counted-returns-in-Err-take-clause-ends
 run_counted-returns-in-Err-take-clause-ends g t c =
     let l = last g t (goal.at.run_counted-returns-in-Err-take-clause-ends g t c).After-perform in
-    take_failed (place_same c.args.self.now c.args.chunk.now.file c.args.chunk.now.file refl (moved c.perform.new.self c.loop-instruction.invariant.stays c.in-Ok.ensures.does.1.0 c.in-Ok.ensures.does.1.1 (last_still l c.in-Ok.ensures.does.0))) (at_ask l.progress refl l.found l.count (l.did ∙ c.in-Ok.ensures.does.0) c.in-Ask.is) _ _ _ c.in-Err-take.ensures.counted c.in-Err-take.ensures.ends
+    take_failed (place_same c.args.self.now c.args.chunk.now.file c.args.chunk.now.file refl (did_still c.perform.new.self c.loop-instruction.invariant.stays l c.in-Ok.ensures.does)) (at_ask l.progress refl l.found l.count (l.did ∙ c.in-Ok.ensures.does.0) c.in-Ask.is) _ _ _ c.in-Err-take.ensures.counted c.in-Err-take.ensures.ends
 
 pub run_counted-include-requires : goal.run_counted-include-requires
 run_counted-include-requires g t c κs within =
     let l = last g t (goal.at.run_counted-include-requires g t c).After-perform in
-    (omega (arith, one_left l.progress l.found, l.count, c.in-Some.ensures.count, c.perform.ensures.stands.counted, l.progress.counted, c.decreases), (within.0, (within.1.0, (within.1.1, (c.requires.engine, (c.requires.linked, at_place (place_same c.args.self.now c.args.chunk.now.file c.args.chunk.now.file refl (moved c.perform.new.self c.loop-instruction.invariant.stays c.in-Ok.ensures.does.1.0 c.in-Ok.ensures.does.1.1 (last_still l c.in-Ok.ensures.does.0))) (body_within (at_request l.progress refl l.found l.count (AnInclude c.in-Include.asked.name.now c.in-Include.asked.span) Written (l.did ∙ c.in-Ok.ensures.does.0) c.in-Include.is refl))))))))
+    (omega (arith, one_left l.progress l.found, l.count, c.in-Some.ensures.count, c.perform.ensures.stands.counted, l.progress.counted, c.decreases), (within.0, (within.1.0, (within.1.1, (c.requires.engine, (c.requires.linked, at_place (place_same c.args.self.now c.args.chunk.now.file c.args.chunk.now.file refl (did_still c.perform.new.self c.loop-instruction.invariant.stays l c.in-Ok.ensures.does)) (body_within (at_request l.progress refl l.found l.count (AnInclude c.in-Include.asked.name.now c.in-Include.asked.span) Written (l.did ∙ c.in-Ok.ensures.does.0) c.in-Include.is refl))))))))
 
 pub run_counted-loop-instruction-smaller-in-Ok-include : goal.run_counted-loop-instruction-smaller-in-Ok-include
 run_counted-loop-instruction-smaller-in-Ok-include g t c =
-    let l = last g t (goal.at.run_counted-loop-instruction-smaller-in-Ok-include g t c).After-perform in
-    omega (arith, one_left l.progress l.found, l.count, c.in-Some.ensures.count, c.perform.ensures.stands.counted, c.in-Ok-include.ensures.counted)
+    let n = counted g t (goal.at.run_counted-loop-instruction-smaller-in-Ok-include g t c).After-perform in
+    omega (arith, n.0, n.1, c.in-Ok-include.ensures.counted)
 
 pub run_counted-loop-instruction-preserved-in-Ok-include : goal.run_counted-loop-instruction-preserved-in-Ok-include
 run_counted-loop-instruction-preserved-in-Ok-include g t c =
     let l = last g t (goal.at.run_counted-loop-instruction-preserved-in-Ok-include g t c).After-perform in
     record {
-      progress = came_back (at_request l.progress refl l.found l.count (AnInclude c.in-Include.asked.name.now c.in-Include.asked.span) Written (l.did ∙ c.in-Ok.ensures.does.0) c.in-Include.is refl) _ _ c.in-Ok-include.ensures.counted c.in-Ok-include.ensures.bounded (ends_at (place_same c.args.self.now c.args.chunk.now.file c.args.chunk.now.file refl (moved c.perform.new.self c.loop-instruction.invariant.stays c.in-Ok.ensures.does.1.0 c.in-Ok.ensures.does.1.1 (last_still l c.in-Ok.ensures.does.0))) c.in-Ok-include.ensures.ends);
-      stays = stays_then (moved c.perform.new.self c.loop-instruction.invariant.stays c.in-Ok.ensures.does.1.0 c.in-Ok.ensures.does.1.1 (last_still l c.in-Ok.ensures.does.0)) c.in-Ok-include.ensures.stays;
+      progress = came_back (at_request l.progress refl l.found l.count (AnInclude c.in-Include.asked.name.now c.in-Include.asked.span) Written (l.did ∙ c.in-Ok.ensures.does.0) c.in-Include.is refl) _ _ c.in-Ok-include.ensures.counted c.in-Ok-include.ensures.bounded (ends_at (place_same c.args.self.now c.args.chunk.now.file c.args.chunk.now.file refl (did_still c.perform.new.self c.loop-instruction.invariant.stays l c.in-Ok.ensures.does)) c.in-Ok-include.ensures.ends);
+      stays = stays_then (did_still c.perform.new.self c.loop-instruction.invariant.stays l c.in-Ok.ensures.does) c.in-Ok-include.ensures.stays;
     }
 
 pub run_counted-returns-in-Err-include-clause-bounded : goal.run_counted-returns-in-Err-include-clause-bounded
-run_counted-returns-in-Err-include-clause-bounded g t c =
-    let l = last g t (goal.at.run_counted-returns-in-Err-include-clause-bounded g t c).After-perform in
-    λ h. c.in-Err-include.ensures.bounded (omega (arith, one_left l.progress l.found, l.count, c.in-Some.ensures.count, c.perform.ensures.stands.counted))
+run_counted-returns-in-Err-include-clause-bounded g t c = λ h. c.in-Err-include.ensures.bounded (counted g t (goal.at.run_counted-returns-in-Err-include-clause-bounded g t c).After-perform).1
 
 pub run_counted-returns-in-Err-include-clause-ends : goal.run_counted-returns-in-Err-include-clause-ends
 run_counted-returns-in-Err-include-clause-ends g t c =
     let l = last g t (goal.at.run_counted-returns-in-Err-include-clause-ends g t c).After-perform in
-    take_failed (place_same c.args.self.now c.args.chunk.now.file c.args.chunk.now.file refl (moved c.perform.new.self c.loop-instruction.invariant.stays c.in-Ok.ensures.does.1.0 c.in-Ok.ensures.does.1.1 (last_still l c.in-Ok.ensures.does.0))) (at_request l.progress refl l.found l.count (AnInclude c.in-Include.asked.name.now c.in-Include.asked.span) Written (l.did ∙ c.in-Ok.ensures.does.0) c.in-Include.is refl) _ _ _ c.in-Err-include.ensures.counted c.in-Err-include.ensures.ends
+    take_failed (place_same c.args.self.now c.args.chunk.now.file c.args.chunk.now.file refl (did_still c.perform.new.self c.loop-instruction.invariant.stays l c.in-Ok.ensures.does)) (at_request l.progress refl l.found l.count (AnInclude c.in-Include.asked.name.now c.in-Include.asked.span) Written (l.did ∙ c.in-Ok.ensures.does.0) c.in-Include.is refl) _ _ _ c.in-Err-include.ensures.counted c.in-Err-include.ensures.ends
 
 pub run_counted-component-requires : goal.run_counted-component-requires
 run_counted-component-requires g t c κs within =
     let l = last g t (goal.at.run_counted-component-requires g t c).After-perform in
-    (omega (arith, one_left l.progress l.found, l.count, c.in-Some.ensures.count, c.perform.ensures.stands.counted, l.progress.counted, c.decreases), (within.0, (within.1.0, (within.1.1, (c.requires.engine, (c.requires.linked, at_place (place_same c.args.self.now c.args.chunk.now.file c.args.chunk.now.file refl (moved c.perform.new.self c.loop-instruction.invariant.stays c.in-Ok.ensures.does.1.0 c.in-Ok.ensures.does.1.1 (last_still l c.in-Ok.ensures.does.0))) (body_within (at_request l.progress refl l.found l.count (component_request c.into_inner-asked.result) (component_use c.into_inner-asked.result) (l.did ∙ c.in-Ok.ensures.does.0) c.in-Component.is (ap (λ a. Ask (component_request a) (component_use a)) (sym c.into_inner-asked.ensures))))))))))
+    (omega (arith, one_left l.progress l.found, l.count, c.in-Some.ensures.count, c.perform.ensures.stands.counted, l.progress.counted, c.decreases), (within.0, (within.1.0, (within.1.1, (c.requires.engine, (c.requires.linked, at_place (place_same c.args.self.now c.args.chunk.now.file c.args.chunk.now.file refl (did_still c.perform.new.self c.loop-instruction.invariant.stays l c.in-Ok.ensures.does)) (body_within (at_request l.progress refl l.found l.count (component_request c.into_inner-asked.result) (component_use c.into_inner-asked.result) (l.did ∙ c.in-Ok.ensures.does.0) c.in-Component.is (ap (λ a. Ask (component_request a) (component_use a)) (sym c.into_inner-asked.ensures))))))))))
 
 pub run_counted-loop-instruction-smaller : goal.run_counted-loop-instruction-smaller
 run_counted-loop-instruction-smaller g t c =
-    let l = last g t (goal.at.run_counted-loop-instruction-smaller g t c).After-perform in
-    omega (arith, one_left l.progress l.found, l.count, c.in-Some.ensures.count, c.perform.ensures.stands.counted, c.in-Ok-component.ensures.counted)
+    let n = counted g t (goal.at.run_counted-loop-instruction-smaller g t c).After-perform in
+    omega (arith, n.0, n.1, c.in-Ok-component.ensures.counted)
 
 pub run_counted-loop-instruction-preserved : goal.run_counted-loop-instruction-preserved
 run_counted-loop-instruction-preserved g t c =
     let l = last g t (goal.at.run_counted-loop-instruction-preserved g t c).After-perform in
     record {
-      progress = came_back (at_request l.progress refl l.found l.count (component_request c.into_inner-asked.result) (component_use c.into_inner-asked.result) (l.did ∙ c.in-Ok.ensures.does.0) c.in-Component.is (ap (λ a. Ask (component_request a) (component_use a)) (sym c.into_inner-asked.ensures))) _ _ c.in-Ok-component.ensures.counted c.in-Ok-component.ensures.bounded (ends_at (place_same c.args.self.now c.args.chunk.now.file c.args.chunk.now.file refl (moved c.perform.new.self c.loop-instruction.invariant.stays c.in-Ok.ensures.does.1.0 c.in-Ok.ensures.does.1.1 (last_still l c.in-Ok.ensures.does.0))) c.in-Ok-component.ensures.ends);
-      stays = stays_then (moved c.perform.new.self c.loop-instruction.invariant.stays c.in-Ok.ensures.does.1.0 c.in-Ok.ensures.does.1.1 (last_still l c.in-Ok.ensures.does.0)) c.in-Ok-component.ensures.stays;
+      progress = came_back (at_request l.progress refl l.found l.count (component_request c.into_inner-asked.result) (component_use c.into_inner-asked.result) (l.did ∙ c.in-Ok.ensures.does.0) c.in-Component.is (ap (λ a. Ask (component_request a) (component_use a)) (sym c.into_inner-asked.ensures))) _ _ c.in-Ok-component.ensures.counted c.in-Ok-component.ensures.bounded (ends_at (place_same c.args.self.now c.args.chunk.now.file c.args.chunk.now.file refl (did_still c.perform.new.self c.loop-instruction.invariant.stays l c.in-Ok.ensures.does)) c.in-Ok-component.ensures.ends);
+      stays = stays_then (did_still c.perform.new.self c.loop-instruction.invariant.stays l c.in-Ok.ensures.does) c.in-Ok-component.ensures.stays;
     }
 
 pub run_counted-returns-in-Err-component-clause-bounded : goal.run_counted-returns-in-Err-component-clause-bounded
-run_counted-returns-in-Err-component-clause-bounded g t c =
-    let l = last g t (goal.at.run_counted-returns-in-Err-component-clause-bounded g t c).After-perform in
-    λ h. c.in-Err-component.ensures.bounded (omega (arith, one_left l.progress l.found, l.count, c.in-Some.ensures.count, c.perform.ensures.stands.counted))
+run_counted-returns-in-Err-component-clause-bounded g t c = λ h. c.in-Err-component.ensures.bounded (counted g t (goal.at.run_counted-returns-in-Err-component-clause-bounded g t c).After-perform).1
 
 pub run_counted-returns-in-Err-component-clause-ends : goal.run_counted-returns-in-Err-component-clause-ends
 run_counted-returns-in-Err-component-clause-ends g t c =
     let l = last g t (goal.at.run_counted-returns-in-Err-component-clause-ends g t c).After-perform in
-    take_failed (place_same c.args.self.now c.args.chunk.now.file c.args.chunk.now.file refl (moved c.perform.new.self c.loop-instruction.invariant.stays c.in-Ok.ensures.does.1.0 c.in-Ok.ensures.does.1.1 (last_still l c.in-Ok.ensures.does.0))) (at_request l.progress refl l.found l.count (component_request c.into_inner-asked.result) (component_use c.into_inner-asked.result) (l.did ∙ c.in-Ok.ensures.does.0) c.in-Component.is (ap (λ a. Ask (component_request a) (component_use a)) (sym c.into_inner-asked.ensures))) _ _ _ c.in-Err-component.ensures.counted c.in-Err-component.ensures.ends
+    take_failed (place_same c.args.self.now c.args.chunk.now.file c.args.chunk.now.file refl (did_still c.perform.new.self c.loop-instruction.invariant.stays l c.in-Ok.ensures.does)) (at_request l.progress refl l.found l.count (component_request c.into_inner-asked.result) (component_use c.into_inner-asked.result) (l.did ∙ c.in-Ok.ensures.does.0) c.in-Component.is (ap (λ a. Ask (component_request a) (component_use a)) (sym c.into_inner-asked.ensures))) _ _ _ c.in-Err-component.ensures.counted c.in-Err-component.ensures.ends
 
 pub run_counted-returns-clause-stays : goal.run_counted-returns-clause-stays
 run_counted-returns-clause-stays g t c = c.loop-instruction.invariant.stays

@@ -1,17 +1,18 @@
 // From a text, or the code of a body, to what it renders to.
-ghost use Rattle.std.specs.Prelude.{◌≡◌, [], OnOk, string_bytes};
+ghost use Rattle.std.specs.Prelude.{◌≡◌, [], IfOk, OnOk, string_bytes};
 ghost use Rattle.tera_errors.specs.Answer.{Gives, GivesOneOf};
 ghost use Rattle.tera_syntax_tree.specs.Blocks.{blocks};
 ghost use Rattle.tera_syntax_tree.specs.View.{nodes_of, tree_of};
 ghost use Rattle.tera_state.specs.Scope.{nothing_set};
 ghost use Rattle.tera_state.specs.Scopes.{around_of, variables_of};
+ghost use Rattle.tera_meaning.specs.Rendering.{outermost};
 ghost use Rattle.tera_code.specs.Code.{nodes_code};
 ghost use Rattle.tera_registry.specs.Templates.{with_templates};
 ghost use Rattle.tera.specs.Rendering.{OneOff, allowed};
 ghost use Rattle.tera_machine.specs.Subject.{Subject, IsLinked, engine_of, template_of};
 
 use crate::engine::TeraOver;
-use std::alloc::Global;
+use std::alloc::{AllocError, Global};
 use std::marker::Brand;
 use std::sync::ledger::{Blank, Ledger};
 use tera_code::{Chunk, Steps, compiled};
@@ -152,8 +153,7 @@ impl<O: Objects> TeraOver<O> {
         requires code { chunk.now.code ≡ nodes_code about.tree 0 }
         ensures { Gives string_bytes result (block_meant block.now about) }
     {
-        let mut scopes = Scopes::new(self.alloc, context, Some(&self.global_context));
-        scopes.note_all(chunk.frequent_names())?;
+        let scopes = self.scopes_for(chunk, context)?;
         let mut configuration = Configuration::new(self.alloc, scopes);
         let mut steps = Steps::<L>::new(blank);
         machine.run_for_block::<L>(chunk, block, &mut configuration, &mut steps)
@@ -178,12 +178,26 @@ impl<O: Objects> TeraOver<O> {
         requires code { chunk.now.code ≡ nodes_code about.tree 0 }
         ensures { Gives string_bytes result (text_meant about) }
     {
-        let mut scopes = Scopes::new(self.alloc, context, Some(&self.global_context));
-        scopes.note_all(chunk.frequent_names())?;
+        let scopes = self.scopes_for(chunk, context)?;
         self.run_within::<L>(machine, chunk, scopes, blank)
     }
 
-    // The same where it reads these scopes.
+    // The scopes of a body that reads this context: names that its code reads often are found without a search.
+    fn scopes_for<'s>(
+        &'s self,
+        chunk: &Chunk,
+        context: &'s Context,
+    ) -> Result<Scopes<'s>, AllocError>
+        ensures around { IfOk result (λ scopes. around_of scopes
+            ≡ outermost (registry_of O.engine self.now) context.now) }
+        ensures fresh { IfOk result (λ scopes. variables_of scopes ≡ nothing_set) }
+    {
+        let mut scopes = Scopes::new(self.alloc, context, Some(&self.global_context));
+        scopes.note_all(chunk.frequent_names())?;
+        Ok(scopes)
+    }
+
+    // The text of a body that reads these scopes.
     pub(crate) fn run_within<L: Ledger>(
         &self,
         machine: &VirtualMachine<'_, O>,

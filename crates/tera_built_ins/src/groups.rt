@@ -1,10 +1,10 @@
 // Items by an attribute.
-ghost use Rattle.std.specs.Prelude.{◌≡◌, [], ◌∷◌, ◌++◌, length, pos, Ok, OnOk, IfErr, map as each, option_map};
+ghost use Rattle.std.specs.Prelude.{◌≡◌, [], ◌∷◌, Ok, OnOk, IfErr, map as each, option_map};
 ghost use Rattle.std.specs.List.{filter_map};
 ghost use Rattle.tera_errors.specs.Answer.{Gives, Lacks};
 ghost use Rattle.tera_values.specs.Alphabet.{plain};
-ghost use Rattle.tera_values.specs.Access.{find, insert_pair};
-ghost use Rattle.tera_values.specs.Val.{int, map as map_of, entries};
+ghost use Rattle.tera_values.specs.Access.{find};
+ghost use Rattle.tera_values.specs.Val.{map as map_of, entries};
 ghost use Rattle.tera_values.specs.View.{key_view};
 ghost use Rattle.tera_built_ins.specs.Arguments.{◌▸◌};
 ghost use Rattle.tera_built_ins.specs.Attributes.{all_of};
@@ -12,9 +12,10 @@ ghost use Rattle.tera_built_ins.specs.Gathering.{AllOther, keyed_view, group_vie
 ghost use Rattle.tera_built_ins.specs.Groups.{key_or_none, attribute_key, keyed_by, groups, group_arrays, group_by_of};
 
 use crate::arguments::{as_array, needed_text};
+use crate::attributes::attribute_of;
 use crate::sorting::is_none;
 use std::alloc::Global;
-use tera_values::{Error, Key, Kwargs, Map, TeraResult, Value};
+use tera_values::{Key, Kwargs, Map, TeraResult, Value};
 
 /// An item, and the key that its attribute is.
 #[derive(Drop)]
@@ -70,10 +71,8 @@ fn with_keys<'a>(alloc: Global, items: &'a [Value], path: &str) -> TeraResult<Ve
 fn attribute_key(alloc: Global, item: &Value, path: &str) -> TeraResult<Option<Key>>
     ensures { Gives (λ o. option_map key_view o) result (attribute_key path.now item.now) }
 {
-    match item.get_from_path(path) {
-        Some(attribute) => key_or_none(alloc, attribute),
-        None => Err(Error::message(alloc, "an item has no such attribute")),
-    }
+    let attribute = attribute_of(alloc, item, path)?;
+    key_or_none(alloc, attribute)
 }
 
 fn key_or_none(alloc: Global, attribute: &Value) -> TeraResult<Option<Key>>
@@ -120,32 +119,20 @@ fn put_in(
             Ok(())
         }
         None => {
-            begin(alloc, key, item, places, gathered)?;
+            let place = gathered.len() as i128;
+            places.insert(key.try_clone()?, Value::from_int(place))?;
+            gathered.push(group_of_one(alloc, key, item)?)?;
             Ok(())
         }
     }
 }
 
-/// A group of one item behind the others.
-fn begin(
-    alloc: Global,
-    key: Key,
-    item: Value,
-    places: &mut Map,
-    gathered: &mut Vec<Group>,
-) -> TeraResult<()>
-    ensures places { OnOk result (places.new
-        ≡ insert_pair places.old (key_view key) (int (pos (length gathered.old.items)))) }
-    ensures groups { OnOk result (each group_view gathered.new.items
-        ≡ each group_view gathered.old.items ++ (key_view key, item ∷ []) ∷ []) }
-    ensures lacks { IfErr result Lacks }
+fn group_of_one(alloc: Global, key: Key, item: Value) -> TeraResult<Group>
+    ensures { Gives group_view result (Ok (key_view key, item ∷ [])) }
 {
-    let place = gathered.len() as i128;
-    places.insert(key.try_clone()?, Value::from_int(place))?;
     let mut items = Vec::new(alloc);
     items.push(item)?;
-    gathered.push(Group { key, items })?;
-    Ok(())
+    Ok(Group { key, items })
 }
 
 fn place_of(places: &Map, key: &Key) -> Option<usize>

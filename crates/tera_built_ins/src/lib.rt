@@ -2,6 +2,7 @@
 #![tactic(auto)]
 
 mod arguments;
+mod attributes;
 pub mod defaults;
 pub mod escaping;
 pub mod filter;

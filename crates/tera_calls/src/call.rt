@@ -5,10 +5,6 @@ ghost use Rattle.tera.specs.Registry.{registry_of};
 ghost use Rattle.tera_calls.specs.Calls.{Ends, Leads, with_global};
 ghost use Rattle.tera_errors.specs.Answer.{Lacks};
 
-use crate::boxed::{
-    register_filter, register_from, register_function, register_test, reset_escape_fn,
-    set_escape_fn,
-};
 use std::alloc::Global;
 use tera::{
     CallerObjects, Delimiters, EscapeFn, Filter, Function, Objects, Tera, TeraOver, TeraResult,
@@ -105,12 +101,18 @@ pub fn make_call(engine: &mut Tera, call: Call<'_>) -> TeraResult<()>
         CallOver::InsertGlobal { name, value } => insert_global(engine, name, value),
         CallOver::AddRawTemplate { name, content } => engine.add_raw_template(name, content),
         CallOver::AddRawTemplates { templates } => engine.add_raw_templates(templates),
-        CallOver::SetEscapeFn { escape } => set_escape_fn(engine, escape),
-        CallOver::ResetEscapeFn => reset_escape_fn(engine),
-        CallOver::RegisterFilter { name, filter } => register_filter(engine, name, filter),
-        CallOver::RegisterTest { name, test } => register_test(engine, name, test),
-        CallOver::RegisterFunction { name, function } => register_function(engine, name, function),
-        CallOver::RegisterFrom { other } => register_from(engine, other),
+        CallOver::SetEscapeFn { escape } => {
+            engine.set_escape_fn(escape);
+            Ok(())
+        }
+        CallOver::ResetEscapeFn => {
+            engine.reset_escape_fn();
+            Ok(())
+        }
+        CallOver::RegisterFilter { name, filter } => engine.register_filter(name, filter),
+        CallOver::RegisterTest { name, test } => engine.register_test(name, test),
+        CallOver::RegisterFunction { name, function } => engine.register_function(name, function),
+        CallOver::RegisterFrom { other } => engine.register_from(other),
     }
 }
 

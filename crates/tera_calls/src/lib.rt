@@ -2,7 +2,6 @@
 #![tactic(auto)]
 
 pub mod after;
-mod boxed;
 pub mod call;
 pub mod rendering;
 

@@ -5,8 +5,8 @@ use Rattle.tera_errors.specs.declared.span.Span.{Span}
 use Rattle.tera_syntax_tree.specs.declared.expression.Applied.{Applied, out-Applied}
 use Rattle.tera_syntax_tree.specs.View.{expr_of, arguments_of}
 use Rattle.tera_code.specs.Code.{Code, expr_code, arguments_code, argument_names}
-use Rattle.tera_code.specs.declared.calls.CallKind.{CallKind}
-use Rattle.tera_code.specs.declared.calls.CallKind.TheVariants as kind
+use Rattle.tera_code.specs.declared.call_kind.CallKind.{CallKind}
+use Rattle.tera_code.specs.declared.call_kind.CallKind.TheVariants as kind
 use Rattle.tera_code.specs.declared.instruction.Instruction.{Instruction}
 use Rattle.tera_code.specs.declared.instruction.Instruction.TheVariants as instruction
 

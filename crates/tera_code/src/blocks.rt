@@ -1,6 +1,6 @@
 // The blocks of a template, each with code of its own.
 ghost use Rattle.std.specs.Prelude.{◌≡◌, ◌++◌, [], ◌∷◌, map, OnOk, IfOk};
-ghost use Rattle.tera_code.specs.Blocks.{block_of, block_listing, block_listings};
+ghost use Rattle.tera_code.specs.Blocks.{block_of, block_listings};
 ghost use Rattle.tera_syntax_tree.specs.Blocks.{blocks, node_blocks};
 ghost use Rattle.tera_syntax_tree.specs.View.{node_of, nodes_of};
 
@@ -90,16 +90,9 @@ fn put(
         ≡ map block_of found.old.items
         ++ block_listings file.now ((name.now, nodes_of body.now) ∷ [])) }
 {
-    found.push(made(alloc, body, file, name)?)?;
-    Ok(())
-}
-
-fn made(alloc: Global, body: &[Node], file: &str, name: &str) -> Result<Block, AllocError>
-    ensures ok { IfOk result (λ b. block_of b
-        ≡ block_listing file.now (name.now, nodes_of body.now)) }
-{
-    Ok(Block {
+    found.push(Block {
         name: lacking(Name::new(alloc, name))?,
         code: compiled(alloc, file, body)?,
-    })
+    })?;
+    Ok(())
 }

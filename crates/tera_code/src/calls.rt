@@ -6,6 +6,7 @@ ghost use Rattle.tera_code.specs.Code.{expr_code, arguments_code, argument_names
 ghost use Rattle.tera_syntax_tree.specs.Tree.{Super, MoreFilters, NoFilters};
 ghost use Rattle.tera_syntax_tree.specs.View.{called_of, tag_of, entries_of, arguments_of, filters_of};
 
+use crate::call_kind::CallKind;
 use crate::compiler::Compiler;
 use crate::content::{Keys, LentName, Names};
 use crate::instruction::Instruction;
@@ -14,17 +15,6 @@ use std::alloc::{AllocError, Global};
 use tera_errors::lacking;
 use tera_syntax_tree::{Applied, Argument, Called, ComponentTag, Entry, SectionFilter};
 use tera_values::{Name, Span};
-
-/// What an instruction that calls by name calls.
-#[derive(Clone, Copy)]
-pub(crate) enum CallKind {
-    /// `value | name`
-    Filter,
-    /// `value is name`
-    Test,
-    /// `name(..)`
-    Function,
-}
 
 impl Compiler {
     // `super`
@@ -126,7 +116,7 @@ impl Compiler {
         ensures ok { OnOk result (self.new ≡ lengthened self.old (call_of kind
             name.now (argument_names (arguments_of arguments.now)) span ∷ [])) }
     {
-        let name = lacking(Name::new(self.alloc(), name))?;
+        let name = self.name(name)?;
         let names = argument_names(self.alloc(), arguments)?;
         let name = LentName::new(&name);
         let arguments = Names::new(names.as_slice());
@@ -159,7 +149,7 @@ impl Compiler {
         ensures ok { OnOk result (self.new ≡ lengthened self.old (instruction.TakeComponent
             name.now (keys_in (entries_of attributes.now)) has_body span ∷ [])) }
     {
-        let name = lacking(Name::new(self.alloc(), name))?;
+        let name = self.name(name)?;
         let keys = keys(self.alloc(), attributes)?;
         self.emit(Instruction::TakeComponent {
             name: LentName::new(&name),

@@ -9,9 +9,8 @@ use crate::compiler::Compiler;
 use crate::content::LentName;
 use crate::instruction::Instruction;
 use std::alloc::{AllocError, Global};
-use tera_errors::lacking;
 use tera_syntax_tree::{Captured, ComponentTag, Expression, Node, SectionFilter};
-use tera_values::{Name, Span};
+use tera_values::Span;
 
 impl Compiler {
     // The value becomes that of the name.
@@ -117,7 +116,7 @@ impl Compiler {
         ensures ok { OnOk result (self.new ≡ lengthened self.old
             (instruction.Store name.now is_global ∷ [])) }
     {
-        let name = lacking(Name::new(self.alloc(), name))?;
+        let name = self.name(name)?;
         self.emit(Instruction::Store {
             name: LentName::new(&name),
             is_global,

@@ -249,6 +249,7 @@ impl Chunk {
     }
 
     // The same for a text that is put out, which is most of a template: no other form is looked for.
+    #[tactic(auto, using(crate::proofs::Growth::all_stay, crate::proofs::Growth::all_grow))]
     #[inline(always)]
     pub(crate) fn emit_text(&mut self, text: &str) -> Result<(), AllocError>
         ensures { OnOk result
@@ -260,6 +261,7 @@ impl Chunk {
     }
 
     // The same for a name whose value is put out.
+    #[tactic(auto, using(crate::proofs::Growth::all_stay, crate::proofs::Growth::all_grow))]
     #[inline(always)]
     pub(crate) fn emit_name(
         &mut self,
@@ -277,6 +279,7 @@ impl Chunk {
     }
 
     // The same for an array of these items, whose flags are noted where they stay.
+    #[tactic(auto, using(crate::proofs::Growth::all_stay, crate::proofs::Growth::all_grow))]
     pub(crate) fn emit_array(&mut self, items: &[Item], span: Span) -> Result<(), AllocError>
         ensures { OnOk result (self.new ≡ lengthened self.old
             (instruction.MakeArray (spreads_of (items_of items.now)) span ∷ [])) }

@@ -68,6 +68,13 @@ impl Compiler {
         self.alloc
     }
 
+    // A name of its own, which an instruction lends where it is emitted.
+    pub(crate) fn name(&self, name: &str) -> Result<Name, AllocError>
+        ensures { IfOk result (λ n. n ≡ name.now) }
+    {
+        lacking(Name::new(self.alloc, name))
+    }
+
     // So that what is written moves less often as it grows.
     pub(crate) fn make_room(&mut self, room: Room) -> Result<(), AllocError>
         ensures same { self.new ≡ self.old }

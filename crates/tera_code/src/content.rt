@@ -107,65 +107,41 @@ impl<'a> LentName<'a> {
     }
 }
 
-/// Which items of an array literal are spread, from left to right.
+/// A list that lies in the chunk. A contract sees its items.
 #[derive(Drop)]
-pub struct Spreads<'a> {
-    flags: &'a [bool],
+pub struct LentSlice<'a, T> {
+    items: &'a [T],
 }
 
-impl<'a> Model for Spreads<'a> {
-    ghost use Rattle.std.specs.Prelude.{Bool, List};
+impl<'a, T> Model for LentSlice<'a, T> {
+    ghost use Rattle.std.specs.Prelude.{List};
 
-    ghost Value = { List Bool };
+    ghost Value = { List T };
 
-    ghost view = { λ s. s.flags.now };
+    ghost view = { λ l. l.items.now };
 }
 
-impl<'a> Spreads<'a> {
-    /// A flag for each item.
-    pub fn new(flags: &'a [bool]) -> Spreads<'a>
-        ensures { result ≡ flags.now }
+impl<'a, T> LentSlice<'a, T> {
+    /// The list itself, which is not copied.
+    pub fn new(items: &'a [T]) -> LentSlice<'a, T>
+        ensures { result ≡ items.now }
     {
-        Spreads { flags }
+        LentSlice { items }
     }
 
-    /// The flags.
-    pub fn as_slice(&self) -> &'a [bool]
+    /// The items.
+    pub fn as_slice(&self) -> &'a [T]
         ensures { result.now ≡ self.now }
     {
-        self.flags
+        self.items
     }
 }
+
+/// Which items of an array literal are spread, from left to right.
+pub type Spreads<'a> = LentSlice<'a, bool>;
 
 /// The names of the arguments of a call, in the order in which these are evaluated.
-#[derive(Drop)]
-pub struct Names<'a> {
-    names: &'a [Name],
-}
-
-impl<'a> Model for Names<'a> {
-    ghost use Rattle.std.specs.Prelude.{ℕ, List};
-
-    ghost Value = { List (List ℕ) };
-
-    ghost view = { λ n. n.names.now };
-}
-
-impl<'a> Names<'a> {
-    /// A name for each argument; none is copied.
-    pub fn new(names: &'a [Name]) -> Names<'a>
-        ensures { result ≡ names.now }
-    {
-        Names { names }
-    }
-
-    /// The names.
-    pub fn as_slice(&self) -> &'a [Name]
-        ensures { result.now ≡ self.now }
-    {
-        self.names
-    }
-}
+pub type Names<'a> = LentSlice<'a, Name>;
 
 /// The keys of a map literal, from left to right; what has none is spread.
 #[derive(Drop)]

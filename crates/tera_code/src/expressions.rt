@@ -5,7 +5,7 @@ ghost use Rattle.tera_code.specs.Code.{expr_code, bound_code, items_code, entrie
 ghost use Rattle.tera_syntax_tree.specs.Tree.{Index, Not, Negate, Binary, And, Or, Ternary, Array, Map};
 ghost use Rattle.tera_syntax_tree.specs.View.{expr_of, optional_of, items_of, entries_of};
 
-use crate::calls::CallKind;
+use crate::call_kind::CallKind;
 use crate::compiler::Compiler;
 use crate::constant::Constant;
 use crate::instruction::Instruction;

@@ -235,10 +235,7 @@ impl<'a> LentInstruction<'a> {
         ensures means { IsTrue result → self.now ≡ instruction.WriteTop }
         ensures exact { result ≡ is_write_top self.now }
     {
-        match *self.packed {
-            Packed::WriteTop => true,
-            _ => false,
-        }
+        matches!(self.packed, Packed::WriteTop)
     }
 
     /// Whether it takes an attribute of the topmost operand, puts that out or tests it.
@@ -246,10 +243,10 @@ impl<'a> LentInstruction<'a> {
     pub fn uses_top(&self) -> bool
         ensures { result ≡ uses_top self.now }
     {
-        match *self.packed {
-            Packed::LoadAttribute { .. } | Packed::WriteTop | Packed::PopJumpIfFalse(_) => true,
-            _ => false,
-        }
+        matches!(
+            self.packed,
+            Packed::LoadAttribute { .. } | Packed::WriteTop | Packed::PopJumpIfFalse(_)
+        )
     }
 
     /// Whether it goes on to the next turn of a loop.
@@ -258,10 +255,7 @@ impl<'a> LentInstruction<'a> {
         ensures means { IsTrue result → self.now ≡ instruction.NextTurn }
         ensures exact { result ≡ is_next_turn self.now }
     {
-        match *self.packed {
-            Packed::NextTurn => true,
-            _ => false,
-        }
+        matches!(self.packed, Packed::NextTurn)
     }
 
     // What it calls.

@@ -2,6 +2,7 @@
 #![tactic(auto)]
 
 pub mod blocks;
+pub mod call_kind;
 pub mod callee;
 mod calls;
 mod captures;
@@ -24,6 +25,7 @@ pub mod steps;
 mod unpack;
 
 pub use blocks::Block;
+pub use call_kind::CallKind;
 pub use callee::Callee;
 pub use chunk::Chunk;
 pub use comparison::Comparison;

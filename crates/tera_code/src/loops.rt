@@ -79,7 +79,7 @@ impl Compiler {
         ensures ok { OnOk result (self.new ≡ looped start heading.now counts self.old) }
     {
         let key = key_name(self.alloc(), &heading.key)?;
-        let name = lacking(Name::new(self.alloc(), heading.name))?;
+        let name = self.name(heading.name)?;
         let size = self.behind(start);
         self.fill(
             start,

@@ -12,9 +12,8 @@ use crate::instruction::Instruction;
 use crate::parts::is_context;
 use crate::room::Room;
 use std::alloc::{AllocError, Global};
-use tera_errors::lacking;
 use tera_syntax_tree::{Entry, Expression, Heading, Node};
-use tera_values::{Name, Span};
+use tera_values::Span;
 
 impl Compiler {
     /// The instructions of the nodes, one after another, behind those that are there. After a refusal some may be missing.
@@ -143,7 +142,7 @@ impl Compiler {
         ensures ok { OnOk result
             (self.new ≡ lengthened self.old (instruction.TakeBlock name.now span ∷ [])) }
     {
-        let name = lacking(Name::new(self.alloc(), name))?;
+        let name = self.name(name)?;
         self.emit(Instruction::TakeBlock {
             name: LentName::new(&name),
             span,
@@ -170,7 +169,7 @@ impl Compiler {
         ensures ok { OnOk result
             (self.new ≡ lengthened self.old (instruction.TakeInclude name.now span ∷ [])) }
     {
-        let name = lacking(Name::new(self.alloc(), name))?;
+        let name = self.name(name)?;
         self.emit(Instruction::TakeInclude {
             name: LentName::new(&name),
             span,

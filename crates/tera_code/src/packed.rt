@@ -1,10 +1,12 @@
 // How a body's instructions are kept: small ones in a row, and beside them what they name by number.
 ghost use Rattle.std.specs.Prelude.{◌≡◌, ◌<◌, ◌-◌, IfOk};
+ghost use Rattle.tera_code.specs.Calls.{call_of};
 ghost use Rattle.tera_code.specs.Code.{spreads_of};
 ghost use Rattle.tera_code.specs.Packed.{Grows, Longer, IsAt, Packs, shelf_of};
 ghost use Rattle.tera_syntax_tree.specs.View.{items_of, keys_of};
 ghost use Rattle.tera_code.specs.declared.instruction.Instruction.TheVariants as instruction;
 
+use crate::call_kind::CallKind;
 use crate::constant::{Constant, Kept, small_integer};
 use crate::content::{Keys, LentName, Names, Spreads};
 use crate::instruction::Instruction;
@@ -426,18 +428,18 @@ impl Tables {
         })
     }
 
-    /// Puts the names of a call and a span beside the others, and tells their places.
+    /// A call of this kind by numbers: its names and its span are put beside the others.
     fn call(
         &mut self,
         alloc: Global,
+        kind: CallKind,
         name: &LentName<'_>,
         arguments: &Names<'_>,
         span: Span,
-    ) -> Result<(u32, u32), AllocError>
+    ) -> Result<Packed, AllocError>
         ensures grows { Grows (shelf_of self.old) (shelf_of self.new) }
-        ensures call { IfOk result
-            (λ p. IsAt (shelf_of self.new).calls p.0 (name.now, arguments.now)) }
-        ensures span { IfOk result (λ p. IsAt (shelf_of self.new).spans p.1 span) }
+        ensures ok { IfOk result (λ p. Packs (shelf_of self.new) p
+            (call_of kind name.now arguments.now span)) }
     {
         let names = CallNames {
             name: lacking(name.share())?,
@@ -445,7 +447,11 @@ impl Tables {
         };
         let call = number(&mut self.calls, names)?;
         let span = number(&mut self.spans, span)?;
-        Ok((call, span))
+        Ok(match kind {
+            CallKind::Filter => Packed::ApplyFilter { call, span },
+            CallKind::Test => Packed::ApplyTest { call, span },
+            CallKind::Function => Packed::CallFunction { call, span },
+        })
     }
 
     /// The instruction by numbers, with all that it names put where they find it. Inlined, so that a caller that names the form is
@@ -543,26 +549,17 @@ impl Tables {
                 name,
                 arguments,
                 span,
-            } => {
-                let (call, span) = self.call(alloc, &name, &arguments, span)?;
-                Ok(Packed::ApplyFilter { call, span })
-            }
+            } => self.call(alloc, CallKind::Filter, &name, &arguments, span),
             Instruction::ApplyTest {
                 name,
                 arguments,
                 span,
-            } => {
-                let (call, span) = self.call(alloc, &name, &arguments, span)?;
-                Ok(Packed::ApplyTest { call, span })
-            }
+            } => self.call(alloc, CallKind::Test, &name, &arguments, span),
             Instruction::CallFunction {
                 name,
                 arguments,
                 span,
-            } => {
-                let (call, span) = self.call(alloc, &name, &arguments, span)?;
-                Ok(Packed::CallFunction { call, span })
-            }
+            } => self.call(alloc, CallKind::Function, &name, &arguments, span),
         }
     }
 }

@@ -24,8 +24,8 @@ use Rattle.tera_meaning.specs.Run.{ABlock, Above, AnInclude, AComponent}
 use Rattle.tera_meaning.specs.Meaning.{output}
 use Rattle.tera_code.specs.declared.instruction.Instruction.{Instruction}
 use Rattle.tera_code.specs.declared.instruction.Instruction.TheVariants.{WriteText, WriteTop, WriteName, LoadConst, LoadName, LoadAttribute, LoadItem, Slice, Not, Negate, Binary, MakeArray, MakeMap, Jump, PopJumpIfFalse, JumpIfFalseOrPop, JumpIfTrueOrPop, Store, LoadContext, StartLoop, NextTurn, EndLoop, Keep, EndComprehension, StartCapture, EndCapture, LeaveLoop, LeaveTurn, TakeBlock, TakeAbove, TakeInclude, TakeComponent, ApplyFilter, ApplyTest, CallFunction}
-use Rattle.tera_machine.specs.declared.calls.CallKind.{CallKind}
-use Rattle.tera_machine.specs.declared.calls.CallKind.TheVariants as kind
+use Rattle.tera_code.specs.declared.call_kind.CallKind.{CallKind}
+use Rattle.tera_code.specs.declared.call_kind.CallKind.TheVariants as kind
 use Rattle.tera_machine.specs.declared.configuration.Configuration.{Configuration}
 use Rattle.tera_machine.specs.declared.machine.Flow as declared
 use Rattle.tera_machine.specs.declared.machine.Flow.TheVariants as declared_flow

@@ -11,11 +11,10 @@ ghost use Rattle.tera_machine.specs.declared.machine.Flow.TheVariants as flow;
 ghost use Rattle.tera_state.specs.Scopes.{around_of};
 
 use crate::asked::{Asked, AskedComponent, AskedTemplate};
-use crate::calls::CallKind;
 use crate::configuration::Configuration;
 use crate::machine::{Flow, VirtualMachine};
 use std::alloc::{AllocError, Global};
-use tera_code::{Instruction, Keys, LentName};
+use tera_code::{CallKind, Instruction, Keys, LentName};
 use tera_errors::lacking;
 use tera_objects::Objects;
 use tera_operators::Operand;
@@ -344,9 +343,12 @@ impl<'c> Configuration<'c> {
         ensures { Does (operated file.now operator span) self.old result self.new }
     {
         let right = self.operands.take();
-        let left = self.operands.take();
-        let operand = tera_operators::binary(alloc, file, operator, &left, &right, span)?;
-        self.put(operand)
+        // The answer takes the left operand's place. Most calculations are with small integers, of which a number alone changes.
+        let left = self.operands.top_mut();
+        if !tera_operators::binary_in_place(operator, left, &right) {
+            *left = tera_operators::binary(alloc, file, operator, left, &right, span)?;
+        }
+        Ok(Flow::On)
     }
 
     // So many operands from the top, the last one first.

@@ -4,18 +4,9 @@ ghost use Rattle.tera_machine.specs.Subject.{here_of};
 
 use crate::configuration::Configuration;
 use crate::machine::{Flow, VirtualMachine};
-use tera_code::{LentName, Names};
+use tera_code::{CallKind, LentName, Names};
 use tera_objects::{Objects, filter, function, test};
 use tera_values::{Span, TeraResult};
-
-/// What is called by its name.
-#[derive(Clone, Copy)]
-pub(crate) enum CallKind {
-    Function,
-    /// On the operand below its arguments, as a test is.
-    Filter,
-    Test,
-}
 
 impl<'c> Configuration<'c> {
     /// Calls what has this name. There is an operand for each name of an argument.

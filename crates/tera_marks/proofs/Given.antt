@@ -8,7 +8,7 @@ use Rattle.tera_values.specs.Named.{Named}
 use Rattle.tera_built_ins.specs.Arguments as spec
 use Rattle.tera_built_ins.specs.Arguments.{◌▸◌, GivenOf, below, some_of, optional_of, needed_of, default_of}
 use Rattle.tera_marks.proofs.Each.{Each}
-use Rattle.tera_marks.proofs.Standing.{Stands, undefineds, nones, bools, ints, texts, raws, arrays, maps, Bears, OptionStands, no_value, value, ResultStands, answers, refuses}
+use Rattle.tera_marks.proofs.Standing.{Stands, bools, ints, texts, arrays, maps, Bears, OptionStands, no_value, value, ResultStands, answers, refuses}
 use Rattle.tera_marks.proofs.Moving.{Pair, each-stands, pairs-stand}
 use Rattle.tera_marks.proofs.Around.{Binds, at_name-stands}
 
@@ -32,54 +32,24 @@ module _ {A B A' B' : Type 0} {S : A → A' → Type 0} {T : B → B' → Type 0
   after-stands (refuses fault) go = refuses fault
 
 pub as_text-stands : {v : ValOf Marked} {w : ValOf ℕ} → Stands v w → ResultStands GivenStands (spec.as_text v) (spec.as_text w)
-as_text-stands undefineds = refuses invalid_argument
-as_text-stands nones = refuses invalid_argument
-as_text-stands (bools b) = refuses invalid_argument
-as_text-stands (ints z) = refuses invalid_argument
 as_text-stands (texts safe rs) = answers (given_texts safe rs)
-as_text-stands (raws t) = refuses invalid_argument
-as_text-stands (arrays ss) = refuses invalid_argument
-as_text-stands (maps ss) = refuses invalid_argument
+as_text-stands _ = refuses invalid_argument
 
 pub as_array-stands : {v : ValOf Marked} {w : ValOf ℕ} → Stands v w → ResultStands (Each Stands) (spec.as_array v) (spec.as_array w)
-as_array-stands undefineds = refuses invalid_argument
-as_array-stands nones = refuses invalid_argument
-as_array-stands (bools b) = refuses invalid_argument
-as_array-stands (ints z) = refuses invalid_argument
-as_array-stands (texts safe rs) = refuses invalid_argument
-as_array-stands (raws t) = refuses invalid_argument
 as_array-stands (arrays ss) = answers (each-stands ss)
-as_array-stands (maps ss) = refuses invalid_argument
+as_array-stands _ = refuses invalid_argument
 
 pub as_map-stands : {v : ValOf Marked} {w : ValOf ℕ} → Stands v w → ResultStands (Each Pair) (spec.as_map v) (spec.as_map w)
-as_map-stands undefineds = refuses invalid_argument
-as_map-stands nones = refuses invalid_argument
-as_map-stands (bools b) = refuses invalid_argument
-as_map-stands (ints z) = refuses invalid_argument
-as_map-stands (texts safe rs) = refuses invalid_argument
-as_map-stands (raws t) = refuses invalid_argument
-as_map-stands (arrays ss) = refuses invalid_argument
 as_map-stands (maps ss) = answers (pairs-stand ss)
+as_map-stands _ = refuses invalid_argument
 
 pub as_integer-stands : {v : ValOf Marked} {w : ValOf ℕ} → Stands v w → ResultStands Equals (spec.as_integer v) (spec.as_integer w)
-as_integer-stands undefineds = refuses invalid_argument
-as_integer-stands nones = refuses invalid_argument
-as_integer-stands (bools b) = refuses invalid_argument
 as_integer-stands (ints z) = answers refl
-as_integer-stands (texts safe rs) = refuses invalid_argument
-as_integer-stands (raws t) = refuses invalid_argument
-as_integer-stands (arrays ss) = refuses invalid_argument
-as_integer-stands (maps ss) = refuses invalid_argument
+as_integer-stands _ = refuses invalid_argument
 
 pub as_bool-stands : {v : ValOf Marked} {w : ValOf ℕ} → Stands v w → ResultStands Equals (spec.as_bool v) (spec.as_bool w)
-as_bool-stands undefineds = refuses invalid_argument
-as_bool-stands nones = refuses invalid_argument
 as_bool-stands (bools b) = answers refl
-as_bool-stands (ints z) = refuses invalid_argument
-as_bool-stands (texts safe rs) = refuses invalid_argument
-as_bool-stands (raws t) = refuses invalid_argument
-as_bool-stands (arrays ss) = refuses invalid_argument
-as_bool-stands (maps ss) = refuses invalid_argument
+as_bool-stands _ = refuses invalid_argument
 
 -- an answer that has no characters
 pub same-stands : {A : Type 0} (r : Result A Fault) → ResultStands Equals r r

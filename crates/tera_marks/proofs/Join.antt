@@ -16,14 +16,8 @@ use Rattle.tera_marks.proofs.Given.{NamedStand, GivenStands, after-stands, as_ar
 use Rattle.tera_marks.proofs.Parts.{escape-each, part-each, given_safe-same}
 
 safe_text-same : {v : ValOf Marked} {w : ValOf ℕ} → Stands v w → of.is_safe_text v ≡ of.is_safe_text w
-safe_text-same undefineds = refl
-safe_text-same nones = refl
-safe_text-same (bools b) = refl
-safe_text-same (ints z) = refl
 safe_text-same (texts s rs) = refl
-safe_text-same (raws t) = refl
-safe_text-same (arrays ss) = refl
-safe_text-same (maps ss) = refl
+safe_text-same _ = refl
 
 any_safe-same : {vs : List (ValOf Marked)} {ws : List (ValOf ℕ)} → Each Stands vs ws → list_any of.is_safe_text vs ≡ list_any of.is_safe_text ws
 any_safe-same none = refl

@@ -22,7 +22,7 @@ use Rattle.tera_values.specs.Escape.{escape_html}
 use Rattle.tera_operators.specs.Operand.{EvaluatedOf, fault_at}
 use Rattle.tera_state.specs.Rendered.{rendered_in}
 use Rattle.tera_state.specs.Scope.{AroundOf, VariablesOf, TurnOf, Heading, look, dump}
-use Rattle.tera_meaning.specs.Run.{Signal, On, Broke, Continued, RunOf, AnswerOf, Failed, Gave, MeaningOf, OracleOf, ◌▹◌, onward, more as counted, visit, gives, answered, answered_at, value_at, if_else, reads, changes, writes, go_on, put_back, captured, RequestOf, ABlock, Above, AnInclude, AComponent, joined_answer, asks}
+use Rattle.tera_meaning.specs.Run.{Signal, On, Broke, RunOf, AnswerOf, Failed, Gave, MeaningOf, OracleOf, ◌▹◌, onward, more as counted, visit, gives, answered, answered_at, value_at, if_else, reads, changes, writes, go_on, put_back, captured, RequestOf, ABlock, Above, AnInclude, AComponent, joined_answer, asks}
 use Rattle.tera_components.specs.Definition.{named_by}
 use Rattle.tera_meaning.specs.Meaning.{output_in, written_in, turns_of_in, named_value, if_kept, comprehension, after_turn, loop, loop_or_else, expr_meaning_in, bound_meaning_in, condition_meaning_in, items_meaning_in, entries_meaning_in, arguments_meaning_in, filters_meaning_in, put_out, component_meaning_in, node_meaning_in, nodes_meaning_in}
 use Rattle.tera_meaning.specs.Here.{HereOf}
@@ -99,8 +99,7 @@ go_on-means {y = y} p {m} {n} h = rw p (go y)
   where
     go : (x : Signal) → Means Same (go_on x m) (go_on x n)
     go On = h
-    go Broke = gives-means _ _ refl
-    go Continued = gives-means _ _ refl
+    go _ = gives-means _ _ refl
 
 -- how a body ends, and its text, which keeps its marks
 abbrev Captured : Signal × List Marked → Signal × List ℕ → Type 0
@@ -152,9 +151,8 @@ after-means : {x y : Signal} → x ≡ y → {m : MeaningOf Marked Signal} {n : 
 after-means {y = y} p {m} {n} h = rw p (go y)
   where
     go : (x : Signal) → Means Same (after_turn x m) (after_turn x n)
-    go On = h
     go Broke = gives-means _ _ refl
-    go Continued = h
+    go _ = h
 
 loop-means : {m : MeaningOf Marked Signal} {n : MeaningOf ℕ Signal} → Means Same m n → {ts : List (TurnOf Marked)} {us : List (TurnOf ℕ)} → Each TurnStands ts us → Means Same (loop m ts) (loop n us)
 loop-means h none = gives-means _ _ refl

@@ -11,7 +11,7 @@ use Rattle.tera_values.specs.Val.{ValOf}
 use Rattle.tera_built_ins.specs.Arguments.{GivenOf, as_bytes}
 use Rattle.tera_built_ins.specs.Numbers.{there, kept, abs_of, pluralize_of}
 use Rattle.tera_built_ins.specs.Parse.{is_numeral, signed_numeral, numeral_in, integer_of, int_of}
-use Rattle.tera_marks.proofs.Standing.{Stands, undefineds, nones, bools, ints, texts, raws, arrays, maps, seen-is, bearing-each, ResultStands, answers, refuses}
+use Rattle.tera_marks.proofs.Standing.{Stands, ints, texts, seen-is, bearing-each, ResultStands, answers, refuses}
 use Rattle.tera_marks.proofs.Moving.{int-same}
 use Rattle.tera_marks.proofs.Operating.{either_result}
 use Rattle.tera_marks.proofs.Given.{NamedStand, Equals, GivenStands, given_texts, after-stands, same-stands, as_text-stands, as_natural-stands, or_default-stands}
@@ -42,14 +42,9 @@ signed_numeral-stands : (base : ℕ) (t : List ℕ) → ResultStands Stands (sig
 signed_numeral-stands base t = either_result Stands (is_numeral base (without_leading_sign t)) (kept-stands (signed_digits_value base t)) (refuses message)
 
 integer-stands : (base : ℕ) {v : ValOf Marked} {w : ValOf ℕ} → Stands v w → ResultStands Stands (integer_of marking base v) (integer_of plain base w)
-integer-stands base undefineds = refuses message
-integer-stands base nones = refuses message
-integer-stands base (bools b) = refuses message
 integer-stands base (ints z) = answers (ints z)
 integer-stands base (texts safe {u = u} rs) = rw (seen-is safe rs) (signed_numeral-stands base (numeral_in base u))
-integer-stands base (raws t) = refuses message
-integer-stands base (arrays ss) = refuses message
-integer-stands base (maps ss) = refuses message
+integer-stands base _ = refuses message
 
 pub int-stands : {v : ValOf Marked} {w : ValOf ℕ} → Stands v w → {given : Named (ValOf Marked)} {others : Named (ValOf ℕ)} → NamedStand given others → ResultStands Stands (int_of marking v given) (int_of plain w others)
 int-stands s ns =

@@ -1,6 +1,6 @@
 -- What names stand for, with marked values: an object of the caller is handed the same at marked characters and at bytes.
 use mathlib.Core.Path.{fun_ext}
-use Rattle.std.proofs.Common.{◌≡◌, ℕ, Bool, List, ◌∷◌, refl, ap, ap₂, Option, Some, None}
+use Rattle.std.proofs.Common.{◌≡◌, ℕ, Bool, ◌∷◌, refl, ap, ap₂, Option, Some, None}
 use Rattle.tera_errors.specs.Site.{Name}
 use Rattle.tera_errors.specs.Fault.{message}
 use Rattle.tera_values.specs.Alphabet.{Marked, plain, marking}
@@ -14,7 +14,7 @@ use Rattle.tera_state.specs.Scope.{AroundOf, VariablesOf}
 use Rattle.tera_state.specs.View.{View, escaping_in}
 use Rattle.tera_objects.specs.Engine.{Engine, OwnFilter, OwnTest, OwnFunction, Callee, own, built_in, filter_at, test_at, function_at, built_in_filters}
 use Rattle.tera_objects.specs.Calling.{answer_of, seen_in, all_bare, filter_called, test_called, function_called, filtered_by, tested_by, called_by}
-use Rattle.tera_marks.proofs.Each.{Each, none, more}
+use Rattle.tera_marks.proofs.Each.{none, more}
 use Rattle.tera_marks.proofs.Standing.{Stands, bare-is, ResultStands, refuses, answers-stand}
 use Rattle.tera_marks.proofs.Around.{VariablesStand, AroundStands, look-stands}
 use Rattle.tera_marks.proofs.Given.{NamedStand, Equals, same-stands}

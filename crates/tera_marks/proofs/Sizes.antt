@@ -7,7 +7,7 @@ use Rattle.tera_values.specs.Alphabet.{Marked, plain, marking}
 use Rattle.tera_values.specs.Val.{ValOf}
 use Rattle.tera_built_ins.specs.Sizes.{number_or_refused, length_of, reverse_of}
 use Rattle.tera_marks.proofs.Each.{each-reverse}
-use Rattle.tera_marks.proofs.Standing.{Stands, undefineds, nones, bools, ints, texts, raws, arrays, maps, seen-is, bare-is, ResultStands, answers, refuses}
+use Rattle.tera_marks.proofs.Standing.{Stands, ints, texts, arrays, seen-is, bare-is, ResultStands, answers, refuses}
 use Rattle.tera_marks.proofs.Moving.{each-stands, all-stand}
 use Rattle.tera_marks.proofs.Made.{made-stands}
 
@@ -19,11 +19,6 @@ pub length-stands : {v : ValOf Marked} {w : ValOf ℕ} → Stands v w → Result
 length-stands {w = w} s = rw (bare-is s) (number-stands (count w))
 
 pub reverse-stands : {v : ValOf Marked} {w : ValOf ℕ} → Stands v w → ResultStands Stands (reverse_of marking v) (reverse_of plain w)
-reverse-stands undefineds = refuses message
-reverse-stands nones = refuses message
-reverse-stands (bools b) = refuses message
-reverse-stands (ints z) = refuses message
 reverse-stands (texts safe {u = u} rs) = rw (seen-is safe rs) (answers (made-stands (encode_utf8_all (reverse (chars u)))))
-reverse-stands (raws t) = refuses message
 reverse-stands (arrays ss) = answers (arrays (all-stand (each-reverse (each-stands ss))))
-reverse-stands (maps ss) = refuses message
+reverse-stands _ = refuses message

@@ -12,6 +12,7 @@ use Rattle.tera_built_ins.specs.declared.function.BuiltInFunction.{BuiltInFuncti
 use Rattle.tera_built_ins.specs.declared.function.BuiltInFunction.TheVariants as function
 use Rattle.tera_built_ins.specs.Escaping.{Escaping}
 use Rattle.tera_built_ins.specs.Filters.{filter_of}
+use Rattle.tera_built_ins.specs.Tests.{is_text, is_integer, is_map, is_bool, is_array, is_none, is_iterable}
 use Rattle.tera_built_ins.specs.TestTable.{test_of}
 use Rattle.tera_built_ins.specs.FunctionTable.{function_of}
 use Rattle.tera_marks.proofs.Standing.{Stands, ResultStands}
@@ -73,14 +74,14 @@ module _ {given : Named (ValOf Marked)} {others : Named (ValOf ℕ)} (ns : Named
 
   module _ {v : ValOf Marked} {w : ValOf ℕ} (s : Stands v w) where
     pub test-stands : (t : BuiltInTest) → ResultStands Equals (test_of marking t v given) (test_of plain t w others)
-    test-stands test.String = tests.string-stands s ns
-    test-stands test.Number = tests.number-stands s ns
-    test-stands test.Map = tests.map-stands s ns
-    test-stands test.Bool = tests.bool-stands s ns
-    test-stands test.Array = tests.array-stands s ns
-    test-stands test.Integer = tests.integer-stands s ns
-    test-stands test.None = tests.none-stands s ns
-    test-stands test.Iterable = tests.iterable-stands s ns
+    test-stands test.String = tests.bare-stands is_text s
+    test-stands test.Number = tests.bare-stands is_integer s
+    test-stands test.Map = tests.bare-stands is_map s
+    test-stands test.Bool = tests.bare-stands is_bool s
+    test-stands test.Array = tests.bare-stands is_array s
+    test-stands test.Integer = tests.bare-stands is_integer s
+    test-stands test.None = tests.bare-stands is_none s
+    test-stands test.Iterable = tests.bare-stands is_iterable s
     test-stands test.Defined = tests.defined-stands s ns
     test-stands test.Undefined = tests.undefined-stands s ns
     test-stands test.Odd = tests.odd-stands s ns

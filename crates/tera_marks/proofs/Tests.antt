@@ -1,9 +1,9 @@
 -- What `is` says of marked values.
-use Rattle.std.proofs.Common.{◌≡◌, ℕ, ℤ, pos, not, codes, refl, ap}
+use Rattle.std.proofs.Common.{◌≡◌, ℕ, ℤ, pos, Bool, not, codes, refl, ap, Ok}
 use Rattle.tera_values.specs.Alphabet.{Marked, plain, marking, bytes_of}
 use Rattle.tera_values.specs.Named.{Named}
 use Rattle.tera_values.specs.Slices.{contains}
-use Rattle.tera_values.specs.Val.{ValOf}
+use Rattle.tera_values.specs.Val.{Val, ValOf}
 use Rattle.tera_built_ins.specs.Arguments.{GivenOf}
 use Rattle.tera_built_ins.specs.Tests as of
 use Rattle.tera_marks.proofs.Standing.{Stands, seen-is, bare-is, ResultStands, answers}
@@ -13,31 +13,11 @@ use Rattle.tera_marks.proofs.Given.{NamedStand, Equals, GivenStands, given_texts
 given-same : {g : GivenOf Marked} {h : GivenOf ℕ} → GivenStands g h → bytes_of g.text ≡ h.text
 given-same (given_texts safe rs) = seen-is safe rs
 
+-- what is asked of a value without its marks
+pub bare-stands : (holds : Val → Bool) {v : ValOf Marked} {w : ValOf ℕ} → Stands v w → ResultStands Equals (Ok (holds (marking.bare v))) (Ok (holds w))
+bare-stands holds s = answers (ap holds (bare-is s))
+
 module _ {v : ValOf Marked} {w : ValOf ℕ} (s : Stands v w) {given : Named (ValOf Marked)} {others : Named (ValOf ℕ)} (ns : NamedStand given others) where
-  pub string-stands : ResultStands Equals (of.string_test marking v given) (of.string_test plain w others)
-  string-stands = answers (ap of.is_text (bare-is s))
-
-  pub number-stands : ResultStands Equals (of.number_test marking v given) (of.number_test plain w others)
-  number-stands = answers (ap of.is_integer (bare-is s))
-
-  pub map-stands : ResultStands Equals (of.map_test marking v given) (of.map_test plain w others)
-  map-stands = answers (ap of.is_map (bare-is s))
-
-  pub bool-stands : ResultStands Equals (of.bool_test marking v given) (of.bool_test plain w others)
-  bool-stands = answers (ap of.is_bool (bare-is s))
-
-  pub array-stands : ResultStands Equals (of.array_test marking v given) (of.array_test plain w others)
-  array-stands = answers (ap of.is_array (bare-is s))
-
-  pub integer-stands : ResultStands Equals (of.integer_test marking v given) (of.integer_test plain w others)
-  integer-stands = answers (ap of.is_integer (bare-is s))
-
-  pub none-stands : ResultStands Equals (of.none_test marking v given) (of.none_test plain w others)
-  none-stands = answers (ap of.is_none (bare-is s))
-
-  pub iterable-stands : ResultStands Equals (of.iterable_test marking v given) (of.iterable_test plain w others)
-  iterable-stands = answers (ap of.is_iterable (bare-is s))
-
   pub defined-stands : ResultStands Equals (of.defined_test marking v given) (of.defined_test plain w others)
   defined-stands = answers (ap not (undefined-same s))
 

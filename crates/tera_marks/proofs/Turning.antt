@@ -9,7 +9,7 @@ use Rattle.tera_state.specs.Found.{key_as_value_in}
 use Rattle.tera_state.specs.Items.{ItemOf, unkeyed, items_in}
 use Rattle.tera_state.specs.Scope.{TurnOf, Heading, counters, named_item, turn, turns_from, is_map, turns_over, loop_turns_in}
 use Rattle.tera_marks.proofs.Each.{Each, none, more, each-length}
-use Rattle.tera_marks.proofs.Standing.{Stands, undefineds, nones, bools, ints, texts, raws, arrays, maps, seen-is, bearing-each, OptionStands, no_value, value, ResultStands, answers, refuses}
+use Rattle.tera_marks.proofs.Standing.{Stands, bools, ints, texts, raws, arrays, maps, seen-is, bearing-each, OptionStands, no_value, value, ResultStands, answers, refuses}
 use Rattle.tera_marks.proofs.Moving.{Pair, each-stands, pairs-stand}
 use Rattle.tera_marks.proofs.Around.{Binds, TurnStands}
 
@@ -41,14 +41,11 @@ bytes-stand [] = none
 bytes-stand (b ∷ t) = more (ints (pos b)) (bytes-stand t)
 
 items-stand : {v : ValOf Marked} {w : ValOf ℕ} → Stands v w → OptionStands (Each ItemStands) (items_in marking v) (items_in plain w)
-items-stand undefineds = no_value
-items-stand nones = no_value
-items-stand (bools b) = no_value
-items-stand (ints z) = no_value
 items-stand (texts s rs) = rw (seen-is s rs) (value (unkeyed-stand (clusters-stand _)))
 items-stand (raws t) = value (unkeyed-stand (bytes-stand t))
 items-stand (arrays ss) = value (unkeyed-stand (each-stands ss))
 items-stand (maps ss) = value (keyed-stand (pairs-stand ss))
+items-stand _ = no_value
 
 counters-stand : (counts : Bool) (size index : ℕ) → Each Binds (cond counts (counters size index) []) (cond counts (counters size index) [])
 counters-stand false size index = none
@@ -73,14 +70,8 @@ turns_over-stand h no_value = refuses message
 turns_over-stand h (value ss) = rw (each-length ss) (answers (turns_from-stand h _ 0 ss))
 
 map-same : {v : ValOf Marked} {w : ValOf ℕ} → Stands v w → is_map v ≡ is_map w
-map-same undefineds = refl
-map-same nones = refl
-map-same (bools b) = refl
-map-same (ints z) = refl
-map-same (texts s rs) = refl
-map-same (raws t) = refl
-map-same (arrays ss) = refl
 map-same (maps ss) = refl
+map-same _ = refl
 
 pub turns-stand : (h : Heading) {v : ValOf Marked} {w : ValOf ℕ} → Stands v w → ResultStands (Each TurnStands) (loop_turns_in marking h v) (loop_turns_in plain h w)
 turns-stand h {v} {w} s = rw (map-same s) (go (is_some h.key && not (is_map w)) (turns_over-stand h (items-stand s)))

@@ -14,7 +14,7 @@ use Rattle.tera_built_ins.specs.Filters.{filter_named, filter_in, filtered_in}
 use Rattle.tera_built_ins.specs.TestTable.{test_named, test_in, tested_in}
 use Rattle.tera_built_ins.specs.FunctionTable.{function_named, function_in, called_in}
 use Rattle.tera_state.specs.Scope.{Around, Variables}
-use Rattle.tera_state.specs.View.{View, Standing, view_at, filters_left, escaping_in}
+use Rattle.tera_state.specs.View.{View, NamedFilters, view_at, filters_left, escaping_in}
 use Rattle.tera_objects.specs.Calling.{answer_of, all_bare, seen_in, filter_called, test_called, function_called, filtered_by, tested_by, called_by}
 use Rattle.tera_objects.specs.Engine.{Engine, OwnFilter, OwnTest, OwnFunction, own_or_built_in}
 use Rattle.tera_objects.specs.Kept.{each}
@@ -73,7 +73,7 @@ module _ {E F T G : Type 0} (escape : E → Text → Text) (filter : F → OwnFi
   lent-here : {s : View} → s ≡ lent → s ≡ here
   lent-here same =
       same
-      ∙ ap (λ (standing : Standing). view_at around variables autoescape (escape_or_html escape o.escape) standing) (left filter o.filters.taken.items (listed o.filters.table) o.filters.are_taken)
+      ∙ ap (λ (filters : NamedFilters). view_at around variables autoescape (escape_or_html escape o.escape) filters) (left filter o.filters.taken.items (listed o.filters.table) o.filters.are_taken)
 
   module _ (name : Name) (given : Named Val) where
     module _ (v : Val) (result : Result Val SeenError) where

@@ -11,7 +11,7 @@ use Rattle.tera_built_ins.specs.declared.function.BuiltInFunction.{BuiltInFuncti
 use Rattle.tera_built_ins.specs.Filters.{filter_named}
 use Rattle.tera_built_ins.specs.TestTable.{test_named}
 use Rattle.tera_built_ins.specs.FunctionTable.{function_named}
-use Rattle.tera_state.specs.View.{View, Standing}
+use Rattle.tera_state.specs.View.{View, NamedFilters}
 
 -- a filter of the caller: what it makes of a value and arguments, where it sees this of the rendering, and whether its texts
 -- are marked safe
@@ -74,7 +74,7 @@ built_in_unless (Some o) b = None
 built_in_unless None b = b
 
 -- the names that stand for built-in filters
-abbrev pub built_in_filters : Engine → Standing
+abbrev pub built_in_filters : Engine → NamedFilters
 built_in_filters engine name = built_in_unless (at_name name engine.filters) (filter_named name)
 
 -- a filter is registered at a name, in place of what the name stood for

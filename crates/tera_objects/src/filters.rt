@@ -1,4 +1,4 @@
-// Filters of the caller.
+// Filters: which every engine has, and those of the caller.
 ghost use Rattle.std.specs.Prelude.{◌≡◌, ◌&&◌, not, ℕ, [], take, is_some, OnOk, OnErr, IfErr};
 ghost use Rattle.tera_errors.specs.Answer.{Lacks};
 ghost use Rattle.tera_values.specs.Named.{at_name, put};
@@ -89,5 +89,13 @@ impl<F: Drop> OwnFilters<F> {
             taken: _,
         } = other;
         self.table.move_from::<BuiltInFilter>(table)
+    }
+}
+
+impl Standard for BuiltInFilter {
+    ghost stands = { λ name. is_some (filter_named name) };
+
+    fn is_one(name: &str) -> bool {
+        BuiltInFilter::named(name).is_some()
     }
 }

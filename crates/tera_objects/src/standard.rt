@@ -1,22 +1,12 @@
-// What every engine has.
+// Which tests and functions every engine has.
+ghost use Rattle.std.specs.Prelude.{is_some};
+ghost use Rattle.tera_built_ins.specs.TestTable.{test_named};
+ghost use Rattle.tera_built_ins.specs.FunctionTable.{function_named};
+
 use crate::table::Standard;
-use tera_built_ins::{BuiltInFilter, BuiltInFunction, BuiltInTest};
-
-impl Standard for BuiltInFilter {
-    ghost use Rattle.std.specs.Prelude.{is_some};
-    ghost use Rattle.tera_built_ins.specs.Filters.{filter_named};
-
-    ghost stands = { λ name. is_some (filter_named name) };
-
-    fn is_one(name: &str) -> bool {
-        BuiltInFilter::named(name).is_some()
-    }
-}
+use tera_built_ins::{BuiltInFunction, BuiltInTest};
 
 impl Standard for BuiltInTest {
-    ghost use Rattle.std.specs.Prelude.{is_some};
-    ghost use Rattle.tera_built_ins.specs.TestTable.{test_named};
-
     ghost stands = { λ name. is_some (test_named name) };
 
     fn is_one(name: &str) -> bool {
@@ -25,9 +15,6 @@ impl Standard for BuiltInTest {
 }
 
 impl Standard for BuiltInFunction {
-    ghost use Rattle.std.specs.Prelude.{is_some};
-    ghost use Rattle.tera_built_ins.specs.FunctionTable.{function_named};
-
     ghost stands = { λ name. is_some (function_named name) };
 
     fn is_one(name: &str) -> bool {

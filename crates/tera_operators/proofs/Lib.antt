@@ -3,3 +3,4 @@ pub mod Keeping
 pub mod Spreading
 pub mod Listing
 pub mod Undefined
+pub mod InPlace

@@ -1,5 +1,5 @@
 -- What operators give.
-use Rattle.std.specs.Prelude.{ℤ, pos, Bool, true, false, cond, not, ◌++◌, Result, Ok}
+use Rattle.std.specs.Prelude.{◌≡◌, ℤ, pos, Bool, true, false, cond, not, ◌++◌, Result, Ok}
 use Rattle.std.specs.declared.cmp.Ordering.{Ordering}
 use Rattle.std.specs.Ordering.{int_eq, is_lt, is_gt, is_le, is_ge}
 use Rattle.tera_errors.specs.declared.span.Span.{Span}
@@ -106,3 +106,8 @@ contained = contained_in plain
 
 abbrev pub binary_of : Name → BinaryOperator → Evaluated → Evaluated → Span → Outcome
 binary_of = binary_in plain
+
+-- the operator makes the value of the two values, at the combined span: in every file and wherever they stand
+abbrev pub Makes : BinaryOperator → Val → Val → Val → Type 0
+Makes operator v w made = (file : Name) (left right span : Span) →
+    binary_of file operator (record { value = v; span = left }) (record { value = w; span = right }) span ≡ at_span made (record { start = left.start; end = right.end })

@@ -95,22 +95,24 @@ module _ (n : Name) (bs : List Binding) (k : ℕ) (body : Frame) (fs : List Fram
   from_beyond o none e =
       second _ _ _ none e ∙ sym (bound_split n (frame_of body.standing fs) (above_of bs fs) (variables_at bs k body))
 
--- the includer stands below so many frames, and o is what it has
-module _ (n : Name) (bs : List Binding) (below : List Frame) (k : ℕ) (s : Standing) (f : Frame) (some : 0 < k) (le : k ≤ length below) (is : s ≡ standing.Included) (there : slice_get (reverse below) (k - 1) ≡ Some f) (o : Option Val) (e : o ≡ bound n (frame_of f.standing (lower (k - 1) below)) (above_of bs (lower (k - 1) below)) (variables_at bs (k - 1) f)) where
+-- It is included, its includer stands below so many frames, and o is what that one has.
+module _ (n : Name) (bs : List Binding) (below : List Frame) (k : ℕ) (body f : Frame) (none : None ≡ in_variables n (variables_at bs k body)) (some : 0 < k) (le : k ≤ length below) (is : body.standing ≡ standing.Included) (there : slice_get (reverse below) (k - 1) ≡ Some f) (o : Option Val) (e : o ≡ bound n (frame_of f.standing (lower (k - 1) below)) (above_of bs (lower (k - 1) below)) (variables_at bs (k - 1) f)) where
   abbrev own : Option Val
   own = at_name n (context_of f.standing (lower (k - 1) below))
 
-  to_includer : option_or (defined o) own ≡ at n bs s (lower k below)
-  to_includer =
+  to_includer : (x : Option Val) → x ≡ option_or (defined o) own → x ≡ bound n (frame_of body.standing (lower k below)) (above_of bs (lower k below)) (variables_at bs k body)
+  to_includer x ex =
       let less : k - 1 ≤ length below = omega (arith, le) in
-      ap (λ (p : Option Val). option_or (defined p) own) e
-      ∙ sym (included_beyond n bs s f (lower k below) (lower (k - 1) below) (k - 1) is (lower_at below k f some there) (lower_length below (k - 1) less))
+      from_beyond n bs k body (lower k below) x none
+      (ex
+      ∙ ap (λ (p : Option Val). option_or (defined p) own) e
+      ∙ sym (included_beyond n bs body.standing f (lower k below) (lower (k - 1) below) (k - 1) is (lower_at below k f some there) (lower_length below (k - 1) less)))
 
-  pub from_context : (x : Option Val) → is_undefined (unwrap_or o undefined) ≡ true → x ≡ own → x ≡ at n bs s (lower k below)
-  from_context x u ex = handed_none o own x u ex ∙ to_includer
+  pub from_context : (x : Option Val) → is_undefined (unwrap_or o undefined) ≡ true → x ≡ own → x ≡ bound n (frame_of body.standing (lower k below)) (above_of bs (lower k below)) (variables_at bs k body)
+  from_context x u ex = to_includer x (handed_none o own x u ex)
 
-  pub from_includer : is_undefined (unwrap_or o undefined) ≡ false → o ≡ at n bs s (lower k below)
-  from_includer u = handed_some o own u ∙ to_includer
+  pub from_includer : is_undefined (unwrap_or o undefined) ≡ false → o ≡ bound n (frame_of body.standing (lower k below)) (above_of bs (lower k below)) (variables_at bs k body)
+  from_includer u = to_includer o (handed_some o own u)
 
 -- the bodies above one that has nothing but undefined
 abbrev pub from_above : Name → List (FrameMeant × Variables) → Option Val

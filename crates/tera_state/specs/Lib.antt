@@ -1,4 +1,5 @@
 pub mod Stack
+pub mod Topmost
 pub mod Lent
 pub mod Contexts
 pub mod Items

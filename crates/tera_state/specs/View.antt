@@ -19,23 +19,23 @@ use Rattle.tera_state.specs.declared.state.Source.TheVariants.{Alone, Open}
 use Rattle.tera_state.specs.declared.state.StateOver.{StateOver}
 
 -- names with the built-in filters that they stand for
-abbrev pub Standing : Type 0
-Standing = Name → Option BuiltInFilter
+abbrev pub NamedFilters : Type 0
+NamedFilters = Name → Option BuiltInFilter
 
 -- the look-up, which gives undefined where nothing binds the name; whether text is escaped; the escape; and the built-in filters
 pub record View : Type 0 where
   pub look : Name → Val
   pub autoescape : Bool
   pub escape : Text → Text
-  pub filters : Standing
+  pub filters : NamedFilters
 
 -- the view where these are the variables, with this around them
-abbrev pub view_at : Around → Variables → Bool → (Text → Text) → Standing → View
+abbrev pub view_at : Around → Variables → Bool → (Text → Text) → NamedFilters → View
 view_at around variables autoescape escape filters =
     record { look = λ name. look name around variables; autoescape = autoescape; escape = escape; filters = filters }
 
 -- the built-in filters without those whose names are taken; none at all where there are no filters
-abbrev pub filters_left : Option (List Name) → Standing
+abbrev pub filters_left : Option (List Name) → NamedFilters
 filters_left None name = None
 filters_left (Some taken) name = if list_any (bytes_eq name) taken then None else filter_named name
 

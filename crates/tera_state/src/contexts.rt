@@ -1,5 +1,5 @@
 // The contexts of a template, and what is known of their names.
-ghost use Rattle.std.specs.Prelude.{◌≡◌, option_copied};
+ghost use Rattle.std.specs.Prelude.{◌≡◌, IfSome, option_copied};
 ghost use Rattle.std.specs.Option.{option_or};
 ghost use Rattle.tera_values.specs.Named.{at_name};
 ghost use Rattle.tera_errors.specs.Answer.{Gives};
@@ -74,12 +74,22 @@ impl<'c> Contexts<'c> {
         ensures { option_copied result
             ≡ option_or (at_name name.now self.now.0) (at_name name.now self.now.1) }
     {
-        if let Some(Some(known)) = self.known.get(slot_of(name, self.known.len())) {
-            if name.is(&known.name) {
-                return known.value;
-            }
+        match self.known(name) {
+            Some(known) => known.value,
+            None => self.search(name),
         }
-        self.search(name)
+    }
+
+    // What is known of the name, if its slot has it.
+    #[inline(always)]
+    fn known(&self, name: &Sought<'_>) -> Option<&Known<'c>>
+        ensures { IfSome result (λ known. option_copied known.now.value
+            ≡ option_or (at_name name.now self.now.0) (at_name name.now self.now.1)) }
+    {
+        match self.known.get(slot_of(name, self.known.len())) {
+            Some(Some(known)) if name.is(&known.name) => Some(known),
+            _ => None,
+        }
     }
 
     // The same where nothing is known of the name.
@@ -128,7 +138,7 @@ impl<'c> Contexts<'c> {
     {
         let sought = name.sought();
         let slot = slot_of(&sought, self.known.len());
-        if slot < self.known.len() && !self.knows(&sought) {
+        if slot < self.known.len() && self.known(&sought).is_none() {
             let value = self.search(&sought);
             if value.is_some() || self.known[slot].is_none() {
                 let name = lacking(name.share())?;
@@ -136,14 +146,6 @@ impl<'c> Contexts<'c> {
             }
         }
         Ok(())
-    }
-
-    // Whether the slot of the name has it.
-    fn knows(&self, name: &Sought<'_>) -> bool {
-        match self.known.get(slot_of(name, self.known.len())) {
-            Some(Some(known)) => name.is(&known.name),
-            _ => false,
-        }
     }
 }
 

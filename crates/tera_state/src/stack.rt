@@ -1,5 +1,6 @@
 // A stack.
 ghost use Rattle.std.specs.Prelude.{◌≡◌, ◌≢◌, ◌<◌, ◌≤◌, ◌^◌, [], ◌∷◌, length, reverse, take, drop, slice_get, MatchOption, IfOk, OnOk, OnErr, IfErr, None, Some};
+ghost use Rattle.std.specs.Borrow.{sem};
 ghost use Rattle.tera_errors.specs.Answer.{Lacks};
 
 use std::alloc::{AllocError, Global};
@@ -21,6 +22,8 @@ impl<T> Model for Stack<T> {
 }
 
 impl<T: Drop> Stack<T> {
+    ghost use Rattle.tera_state.specs.Topmost.{LendsTop};
+
     /// An empty stack, which takes no memory.
     pub fn new(alloc: Global) -> Stack<T>
         ensures { result ≡ [] }
@@ -55,6 +58,16 @@ impl<T: Drop> Stack<T> {
         ensures { self.old ≡ result ∷ self.new }
     {
         self.items.pop().unwrap()
+    }
+
+    /// The topmost value, to be changed where it lies, where it is known that there is one.
+    #[inline(always)]
+    pub fn top_mut(&mut self) -> &mut T
+        requires { self.old ≢ [] }
+        ensures* writes_back { sem 𝓛 (LendsTop T.row self.entry result) }
+        ensures value { slice_get self.old 0 ≡ Some result.now }
+    {
+        self.items.last_mut().unwrap()
     }
 
     /// How many values there are.

@@ -2,10 +2,10 @@
 use Rattle.std.specs.Prelude.{ℕ, List, All}
 use Rattle.tera_syntax_tree.specs.Inside.{Within}
 use Rattle.tera_syntax.specs.declared.blocks.PlacedName.{PlacedName}
-use Rattle.tera_syntax.specs.declared.places.Standing.{Standing}
+use Rattle.tera_syntax.specs.declared.places.PieceSpans.{PieceSpans}
 
 -- a piece stands in a text of this size, and so does its end delimiter
-abbrev pub StandsWithin : ℕ → Standing → Type 0
+abbrev pub StandsWithin : ℕ → PieceSpans → Type 0
 StandsWithin size s = Within size s.whole × Within size s.end
 
 -- names stand in a text of this size

@@ -14,7 +14,7 @@ ghost use Rattle.tera_syntax_tokens.specs.declared.token.Token as token;
 ghost use Rattle.tera_syntax_tree.specs.View.{tree_of};
 
 use crate::heads::is_extends;
-use crate::places::Standing;
+use crate::places::PieceSpans;
 use crate::progress::Progress;
 use crate::statements::{behind, step};
 use crate::words::quoted_name;
@@ -77,21 +77,21 @@ impl<'s> File<'s> {
     pub fn step(
         &mut self,
         alloc: Global,
-        standing: Standing,
+        spans: PieceSpans,
         piece: Piece<'s>,
         tokens: &[Token<'s>],
     ) -> Result<(), Refusal>
         ensures value { let meant = piece_of tokens.now piece.entry in
             FileBecomes (spec.file_step 200 (file_of self.old) meant) result self.new }
-        ensures points { (size : ℕ) → StandsWithin size standing
+        ensures points { (size : ℕ) → StandsWithin size spans
             → PieceInside size (piece_of tokens.now piece.entry)
             → IfErr result (PointsWithin size) }
     {
-        self.progress.tag = standing.whole.start;
+        self.progress.tag = spans.whole.start;
         match self.take(alloc, piece, tokens) {
             Ok(()) => Ok(()),
             Err(Refusal::Syntax(why, span)) => {
-                Err(Refusal::Syntax(why, standing.pointed(piece, span, tokens)))
+                Err(Refusal::Syntax(why, spans.pointed(piece, span, tokens)))
             }
             Err(Refusal::OutOfMemory) => Err(Refusal::OutOfMemory),
         }

@@ -17,15 +17,15 @@ use tera_syntax_tree::Delimiters;
 
 /// Where a piece of the source stands, with its delimiters, and where the end delimiter of a tag does.
 #[derive(Clone, Copy)]
-pub(crate) struct Standing {
+pub(crate) struct PieceSpans {
     pub whole: Span,
     pub end: Span,
 }
 
-impl Standing {
+impl PieceSpans {
     /// Of a piece that begins at this place.
     #[inline(always)]
-    pub fn new(delimiters: &Delimiters, at: usize, found: &FoundPiece<'_>) -> Standing
+    pub fn new(delimiters: &Delimiters, at: usize, found: &FoundPiece<'_>) -> PieceSpans
         ensures { (size : ℕ) → at ≤ found.now.next → found.now.next ≤ size
             → StandsWithin size result }
     {
@@ -35,7 +35,7 @@ impl Standing {
             Piece::Words(_, _) | Piece::Comment => 0,
         };
         let next = found.next;
-        Standing {
+        PieceSpans {
             whole: Span {
                 start: at,
                 end: next,

@@ -13,7 +13,7 @@ ghost use Rattle.tera_syntax_tree.specs.View.{tree_of};
 
 use crate::blocks::once;
 use crate::file::File;
-use crate::places::{Standing, pointed, refused_at};
+use crate::places::{PieceSpans, pointed, refused_at};
 use std::alloc::Global;
 use tera_errors::{Error, TeraResult};
 use tera_syntax_tokens::cut::next_piece;
@@ -63,12 +63,12 @@ fn spelled<'s>(
             Ok(piece) => piece,
             Err(refusal) => return Err(pointed(refusal, rest, at)),
         };
-        let standing = Standing::new(delimiters, at, &piece);
+        let spans = PieceSpans::new(delimiters, at, &piece);
         rest = piece.rest;
         at = piece.next;
         trims = piece.trims;
         opening = piece.opening;
-        match file.step(alloc, standing, piece.piece, tokens.as_slice()) {
+        match file.step(alloc, spans, piece.piece, tokens.as_slice()) {
             Ok(()) => {}
             Err(refusal) => return Err(refusal),
         }

@@ -9,7 +9,7 @@ use Rattle.tera_syntax_expressions.specs.Grammar.{DerivesAttributes}
 use Rattle.tera_syntax_expressions.specs.Expressions as r
 use Rattle.tera_syntax_expressions.specs.Expressions.{expr}
 use Rattle.tera_syntax_expressions.proofs.Steps.{and_then-some, guard, some-pair}
-use Rattle.tera_syntax_expressions.proofs.Rows.{row-start}
+use Rattle.tera_syntax_expressions.proofs.Rows.{got-first}
 use Rattle.tera_syntax_expressions.proofs.AttributeRows.{all-attributes-got}
 use Rattle.tera_syntax_expressions.proofs.Sections.{reads-expr}
 use Rattle.tera_syntax_expressions.proofs.Complete.{goes-attributes}
@@ -31,5 +31,5 @@ pub attributes_are_read : (xs : Entries) (i j : Input) → DerivesAttributes xs 
 unfolding r.attributes
 attributes_are_read xs i j d h b le =
     let t : nat_le (entries_depth xs) b ≡ true = grind (arith, common_steps) in
-    let e = goes-attributes d h b b (left i) NoEntries 0 le (omega arith) ∙ row-start xs (entries_depth xs) j in
+    let e = goes-attributes d h b b (left i) NoEntries 0 le (omega arith) ∙ got-first (entries_depth xs) j in
     rw (e, t) refl

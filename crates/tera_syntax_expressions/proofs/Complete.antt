@@ -9,11 +9,11 @@ use Rattle.tera_syntax_expressions.specs.Grammar.{Derives, quoted, tighter, choi
 use Rattle.tera_syntax_expressions.specs.Expressions as r
 use Rattle.tera_syntax_expressions.specs.Arguments.{call_form, begins_attribute}
 use Rattle.tera_syntax_expressions.specs.Loops.{behind_loop}
-use Rattle.tera_syntax_expressions.specs.Expressions.{deep, needs, expr, behind_dots, join_items, one_item, join_entries}
+use Rattle.tera_syntax_expressions.specs.Expressions.{deep, needs, gives, expr, behind_dots, join_items, one_item, join_entries}
 use Rattle.tera_syntax_expressions.proofs.Steps.{differ, unlike, alike, test-name}
-use Rattle.tera_syntax_expressions.proofs.Precedence.{operator-depth, is-no-end, operator-needs, dot-needs, bracket-needs, needs-some, not-three, not-eight, stops-up, ends-up, ends, eight-of-nine, if-kind, not-kind, is-kind, bar-kind, power-kind, closing-kinds, needs-at, gives-at, begin-kinds, ends-bound, ends-target, at-most}
+use Rattle.tera_syntax_expressions.proofs.Precedence.{operator-depth, is-no-end, operator-needs, dot-needs, bracket-needs, needs-some, not-three, not-eight, stops-up, ends-up, ends, eight-of-nine, needed-kinds, given-kinds, closing-kinds, level-at, begin-kinds, ends-bound, ends-target, at-most}
 use Rattle.tera_syntax_expressions.proofs.Extent.{next-left, token, word-left, shorter, shorter-entry, shorter-entries, shorter-part, shorter-step, shorter-item, shorter-all, shorter-attribute, shorter-attributes, shorter-argument, shorter-given, starts-so, item-starts, entry-starts, argument-starts, step-begins, condition-begins}
-use Rattle.tera_syntax_expressions.proofs.Rows.{list-nil, list-one, list-more, list-only, row-nil, row-one, row-more, row-start}
+use Rattle.tera_syntax_expressions.proofs.Rows.{join-none, join-join, join-no-entries, join-entries, got-none, got-one, got-more, got-first}
 use Rattle.tera_syntax_expressions.proofs.Forms.{deep-node, some-depth, infixed-is, operator-is, power-is, not_in-is, choice-is, attribute-is, index-is, slice-is, prefixed-is, item-none, item-one, item-more, behind-last, behind-comma, empty-is, array-is, no-condition-is, condition-is, comprehension-is, key-is, dots-is, entry-none, entry-one, entry-more, map-is, int-is, quoted-is, part-colon, part-bracket, part-some, step-none, step-some}
 use Rattle.tera_syntax_expressions.proofs.Alone.{called_no_loop}
 use Rattle.tera_syntax_expressions.proofs.ArgumentRows.{put-depth, grown, call-depth, argument-is, arguments-none, arguments-one, arguments-more, call-is}
@@ -27,8 +27,8 @@ mutual
       let top = at-most d in
       goes d b m n floor os y dep (omega arith) (stops-up l (kind j) st) fu (lower (suc b) (expr b) n floor l (start i) os (deep x) j y st (omega arith) c)
   goes (choice {x = x} {y = z} {z = w} {i = i} {a = a} {b = v} {j = j} d h f g q) b m n floor os y dep fl st fu c =
-      let n1 = needs-at (kind a) k.If 1 h if-kind.0 in let g1 = gives-at (kind a) k.If 0 h if-kind.1 in
-      let n2 = needs-at (kind v) k.Else 12 g closing-kinds.0 in
+      let n1 = level-at needs (kind a) k.If 1 h needed-kinds.0 in let g1 = level-at gives (kind a) k.If 0 h given-kinds.0 in
+      let n2 = level-at needs (kind v) k.Else 12 g closing-kinds.0 in
       let n3 = needs-some (kind j) in
       let pz : part-read b 1 z (next a) v = whole 1 z (next a) v (goes f) (inr (omega arith)) (inr (omega arith)) (some-depth z) b (omega arith) in
       let pw : part-read b 0 w (next v) j = whole 0 w (next v) j (goes q) st (inr (omega arith)) (some-depth w) b (omega arith) in
@@ -38,7 +38,7 @@ mutual
   goes (operation {s = s} {form = form} {l = l} {x = x} {y = z} {i = i} {a = a} {j = j} w d h f) b m n floor os y dep fl st fu c =
       let dd = operator-depth w x z (span (start i) j) in
       let v = operator-needs w in
-      let n1 = needs-at (kind a) s l h v.0 in let g1 = gives-at (kind a) s l h v.1 in
+      let n1 = level-at needs (kind a) s l h v.0 in let g1 = level-at gives (kind a) s l h v.1 in
       let pz : part-read b (suc l) z (next a) j = whole (suc l) z (next a) j (goes f) (stops-up l (kind j) st) (ends-up l (kind j) st (omega arith)) (some-depth z) b (omega arith) in
       let t1 = token s a h (λ e. is-no-end w e) in let s1 = shorter f in
       goes-on b m n floor l l os x (form x z (span (start i) j)) i a j y (goes d) (omega arith) fl (omega arith) n1 g1 fu (omega arith)
@@ -49,7 +49,7 @@ mutual
       goes-first b m n floor 3 os k.Not (Not x (span (start i) j)) i j y h (λ e. cc) begin-kinds.0 fl (omega arith)
       (head-is (suc b) (expr b) i k.Not h ∙ prefixed-is (suc b) (expr b) 3 Not x i j refl px dep) c
   goes (not_in {x = x} {y = z} {i = i} {a = a} {j = j} d h g f) b m n floor os y dep fl st fu c =
-      let n1 = needs-at (kind a) k.Not 4 h not-kind.0 in let g1 = gives-at (kind a) k.Not 4 h not-kind.1 in
+      let n1 = level-at needs (kind a) k.Not 4 h needed-kinds.1 in let g1 = level-at gives (kind a) k.Not 4 h given-kinds.1 in
       let pz : part-read b 5 z (next (next a)) j = whole 5 z (next (next a)) j (goes f) (stops-up 4 (kind j) st) (ends-up 4 (kind j) st (omega arith)) (some-depth z) b (omega arith) in
       let t1 = token k.Not a h (λ e. cc) in let t2 = token k.In (next a) g (λ e. cc) in let s1 = shorter f in
       goes-on b m n floor 4 4 os x (Not (Binary binary.In x z (span (start i) j)) (span (start i) j)) i a j y (goes d) (omega arith) fl (omega arith) n1 g1 fu (omega arith)
@@ -60,45 +60,45 @@ mutual
       goes-first b m n floor 8 os k.Minus (Negate x (span (start i) j)) i j y h (λ e. cc) begin-kinds.1 fl (omega arith)
       (head-is (suc b) (expr b) i k.Minus h ∙ prefixed-is (suc b) (expr b) 8 Negate x i j refl px dep) c
   goes (power {x = x} {y = z} {i = i} {a = a} {j = j} d h f) b m n floor os y dep fl st fu c =
-      let n1 = needs-at (kind a) k.Power 10 h power-kind.0 in let g1 = gives-at (kind a) k.Power 9 h power-kind.1 in
+      let n1 = level-at needs (kind a) k.Power 10 h needed-kinds.4 in let g1 = level-at gives (kind a) k.Power 9 h given-kinds.4 in
       let st8 = eight-of-nine (kind j) st in
       let pz : part-read b 8 z (next a) j = whole 8 z (next a) j (goes f) st8 (ends 8 (kind j) st8 (omega arith) (not-eight (kind j))) (some-depth z) b (omega arith) in
       let t1 = token k.Power a h (λ e. cc) in let s1 = shorter f in
       goes-on b m n floor 10 9 os x (Binary binary.Power x z (span (start i) j)) i a j y (goes d) (omega arith) fl (omega arith) n1 g1 fu (omega arith)
       (power-is (suc b) (expr b) (start i) x z a j h pz dep) c
   goes (test {x = x} {all = all} {i = i} {a = a} {j = j} d h g q) b m n floor os y dep fl st fu c =
-      let n1 = needs-at (kind a) k.Is 4 h is-kind.0 in let g1 = gives-at (kind a) k.Is 4 h is-kind.1 in
+      let n1 = level-at needs (kind a) k.Is 4 h needed-kinds.2 in let g1 = level-at gives (kind a) k.Is 4 h given-kinds.2 in
       let t1 = token k.Is a h (λ e. cc) in let t2 = word-left (next a) (test-name (kind (next a)) g).0 in let s1 = shorter-given q in
       goes-on b m n floor 4 4 os x (Test x (text (next a)) all (span (start i) j)) i a j y (goes d) (omega arith) fl (omega arith) n1 g1 fu (omega arith)
       (test-is (suc b) (expr b) (start i) x all a j h g (goes-given q b (omega arith)) dep) c
   goes (not_test {x = x} {all = all} {i = i} {a = a} {j = j} d h f g q) b m n floor os y dep fl st fu c =
-      let n1 = needs-at (kind a) k.Is 4 h is-kind.0 in let g1 = gives-at (kind a) k.Is 4 h is-kind.1 in
+      let n1 = level-at needs (kind a) k.Is 4 h needed-kinds.2 in let g1 = level-at gives (kind a) k.Is 4 h given-kinds.2 in
       let t1 = token k.Is a h (λ e. cc) in let t2 = token k.Not (next a) f (λ e. cc) in
       let t3 = word-left (next (next a)) (test-name (kind (next (next a))) g).0 in let s1 = shorter-given q in
       goes-on b m n floor 4 4 os x (Not (Test x (text (next (next a))) all (span (start i) j)) (span (start i) j)) i a j y (goes d) (omega arith) fl (omega arith) n1 g1 fu (omega arith)
       (not_test-is (suc b) (expr b) (start i) x all a j h f g (goes-given q b (omega arith)) dep) c
   goes (filter {x = x} {all = all} {i = i} {a = a} {j = j} d h g q) b m n floor os y dep fl st fu c =
-      let n1 = needs-at (kind a) k.Bar 10 h bar-kind.0 in let g1 = gives-at (kind a) k.Bar 10 h bar-kind.1 in
+      let n1 = level-at needs (kind a) k.Bar 10 h needed-kinds.3 in let g1 = level-at gives (kind a) k.Bar 10 h given-kinds.3 in
       let t1 = token k.Bar a h (λ e. cc) in let t2 = word-left (next a) g in let s1 = shorter-given q in
       goes-on b m n floor 10 10 os x (Filter x (text (next a)) all (span (start i) j)) i a j y (goes d) (omega arith) fl (omega arith) n1 g1 fu (omega arith)
       (filter-is (suc b) (expr b) (start i) x all a j h g (goes-given q b (omega arith)) dep) c
   goes (attribute {s = s} {optional = optional} {x = x} {i = i} {a = a} w d h g) b m n floor os y dep fl st fu c =
       let v = dot-needs w in
-      let n1 = needs-at (kind a) s 11 h v.0 in let g1 = gives-at (kind a) s 11 h v.1 in
+      let n1 = level-at needs (kind a) s 11 h v.0 in let g1 = level-at gives (kind a) s 11 h v.1 in
       let t1 = token s a h v.2 in let t2 = word-left (next a) g in
       goes-on b m n floor 11 11 os x (Attribute x (text (next a)) optional (span (start i) (next (next a)))) i a (next (next a)) y (goes d) (omega arith) fl (omega arith) n1 g1 fu (omega arith)
       (attribute-is (suc b) (expr b) w (start i) x a h g dep) c
   goes (index {s = s} {optional = optional} {x = x} {y = z} {i = i} {a = a} {b = v} w d h f g) b m n floor os y dep fl st fu c =
       let u = bracket-needs w in
-      let n1 = needs-at (kind a) s 11 h u.0 in let g1 = gives-at (kind a) s 11 h u.1 in
-      let n2 = needs-at (kind v) k.RightBracket 12 g closing-kinds.2 in
+      let n1 = level-at needs (kind a) s 11 h u.0 in let g1 = level-at gives (kind a) s 11 h u.1 in
+      let n2 = level-at needs (kind v) k.RightBracket 12 g closing-kinds.2 in
       let t1 = token s a h u.2 in let t2 = token k.RightBracket v g (λ e. cc) in let s1 = shorter f in
       goes-on b m n floor 11 11 os x (Index x z optional (span (start i) (next v))) i a (next v) y (goes d) (omega arith) fl (omega arith) n1 g1 fu (omega arith)
       (index-is (suc b) (expr b) w (start i) x z a v h
       (part-some (suc b) (expr b) z (next a) v (starts-so f).2 (starts-so f).0 (whole 0 z (next a) v (goes f) (inr (omega arith)) (inr (omega arith)) (some-depth z) b (omega arith))) g dep) c
   goes (slice {s = s} {optional = optional} {x = x} {from = p} {to = q} {by = t} {i = i} {a = a} {b = v} {c = e} {d = o} w d h f g f2 f3 l) b m n floor os y dep fl st fu c =
       let u = bracket-needs w in
-      let n1 = needs-at (kind a) s 11 h u.0 in let g1 = gives-at (kind a) s 11 h u.1 in
+      let n1 = level-at needs (kind a) s 11 h u.0 in let g1 = level-at gives (kind a) s 11 h u.1 in
       let t1 = token s a h u.2 in let t2 = token k.Colon v g (λ e. cc) in let t3 = token k.RightBracket o l (λ e. cc) in
       let s1 = shorter-part f in let s2 = shorter-part f2 in let s3 = shorter-step f3 in
       goes-on b m n floor 11 11 os x (Slice x p q t optional (span (start i) (next o))) i a (next o) y (goes d) (omega arith) fl (omega arith) n1 g1 fu (omega arith)
@@ -131,9 +131,9 @@ mutual
       let t1 = token k.Less i h (λ e. cc) in let t2 = word-left (next i) w in let t3 = token k.TagEnd a g (λ e. cc) in let s1 = shorter-attributes d in
       goes-first b m n floor 11 os k.Less (Component (text (next i)) xs (span (start i) (next a))) i (next a) y h (λ e. cc) begin-kinds.10 fl (omega arith)
       (head-is (suc b) (expr b) i k.Less h ∙ component-is (suc b) (expr b) xs i a w
-      (goes-attributes d (ends-attributes (kind a) (inl g)) (suc b) b (left (next (next i))) NoEntries 0 (omega arith) (omega arith) ∙ row-start xs (entries_depth xs) a) g dep) c
+      (goes-attributes d (ends-attributes (kind a) (inl g)) (suc b) b (left (next (next i))) NoEntries 0 (omega arith) (omega arith) ∙ got-first (entries_depth xs) a) g dep) c
   goes (parentheses {x = x} {i = i} {a = a} h d g) b m n floor os y dep fl st fu c =
-      let n1 = needs-at (kind a) k.RightParenthesis 12 g closing-kinds.1 in
+      let n1 = level-at needs (kind a) k.RightParenthesis 12 g closing-kinds.1 in
       let t1 = next-left k.LeftParenthesis i h (λ e. cc) in let t2 = next-left k.RightParenthesis a g (λ e. cc) in
       reading-open b m floor os i h
       ∙ goes d b m (suc n) floor (start i ∷ os) y dep (omega arith) (inr (omega arith)) (omega arith)
@@ -143,7 +143,7 @@ mutual
       goes-first b m n floor 11 os k.LeftBracket (Array xs (span (start i) (next a))) i (next a) y h (λ e. cc) begin-kinds.4 fl (omega arith)
       (head-is (suc b) (expr b) i k.LeftBracket h ∙ goes-array d g b (start i) dep) c
   goes (comprehension {x = x} {target = z} {key = key} {called = word} {only = p} {i = i} {a = a} {b = v} {c = u} {d = e} h d f w t q g) b m n floor os y dep fl st fu c =
-      let n1 = needs-at (kind a) k.For 12 f closing-kinds.7 in
+      let n1 = level-at needs (kind a) k.For 12 f closing-kinds.7 in
       let en = ends-target (kind u) (condition-begins q g) in
       let be = starts-so d in
       let px : part-read b 0 x (next i) a = whole 0 x (next i) a (goes d) (inr (omega arith)) (inr (omega arith)) (some-depth x) b (omega arith) in
@@ -155,7 +155,7 @@ mutual
   goes (map {xs = xs} {i = i} {a = a} h d g) b m n floor os y dep fl st fu c =
       let t1 = token k.LeftBrace i h (λ e. cc) in let t2 = token k.RightBrace a g (λ e. cc) in let s1 = shorter-entries d in
       goes-first b m n floor 11 os k.LeftBrace (Map xs (span (start i) (next a))) i (next a) y h (λ e. cc) begin-kinds.9 fl (omega arith)
-      (head-is (suc b) (expr b) i k.LeftBrace h ∙ map-is (suc b) (expr b) xs i a (goes-entries d g b (left (next i)) NoEntries 0 (omega arith) (omega arith) ∙ row-start xs (entries_depth xs) (next a)) dep) c
+      (head-is (suc b) (expr b) i k.LeftBrace h ∙ map-is (suc b) (expr b) xs i a (goes-entries d g b (left (next i)) NoEntries 0 (omega arith) (omega arith) ∙ got-first (entries_depth xs) (next a)) dep) c
 
   -- the key of an entry, or its dots, and then its value
   goes-entry : {key : Option Key} {x : Expr} {i a : Input} → DerivesEntry key x i a → needs (kind a) ≡ 12 → (limit b : ℕ) → depth x ≤ b → (m : Input) × (r.entry_key i ≡ Some (key, m)) × (expr b 0 m ≡ Some (deep x, a))
@@ -167,44 +167,44 @@ mutual
   goes-entries : {xs : Entries} {i a : Input} → DerivesEntries xs i a → kind a ≡ k.RightBrace → (b n : ℕ) (found : Entries) (d : ℕ) → entries_depth xs ≤ b → left i ≤ n
       → r.entries_from (suc b) (expr b) n found d i ≡ Some ((join_entries found xs, max d (entries_depth xs)), next a)
   goes-entries (no_entries {i = i}) g b zero found d le fu = let t1 = token k.RightBrace i g (λ e. cc) in absurd (omega arith)
-  goes-entries (no_entries {i = i}) g b (suc n) found d le fu = entry-none (suc b) (expr b) n found d i g ∙ row-nil found d (next i)
+  goes-entries (no_entries {i = i}) g b (suc n) found d le fu = entry-none (suc b) (expr b) n found d i g ∙ got-none d (next i) (join-no-entries found)
   goes-entries (one_entry {key = s} {x = x} {i = i} {j = a} q) g b zero found d le fu = let s1 = shorter-entry q in absurd (omega arith)
   goes-entries (one_entry {key = s} {x = x} {i = i} {j = a} q) g b (suc n) found d le fu =
-      let n1 = needs-at (kind a) k.RightBrace 12 g closing-kinds.6 in
+      let n1 = level-at needs (kind a) k.RightBrace 12 g closing-kinds.6 in
       let w = goes-entry q n1 (suc b) b (omega arith) in
-      entry-one (suc b) (expr b) n found d s x i w.0 a (entry-starts q) w.1 w.2 g ∙ row-one found s x d (next a)
+      entry-one (suc b) (expr b) n found d s x i w.0 a (entry-starts q) w.1 w.2 g ∙ got-one d (depth x) (next a)
   goes-entries (more_entries {key = s} {x = x} {xs = xs} {i = i} {a = v} {j = a} q h u) g b zero found d le fu = let s1 = shorter-entry q in absurd (omega arith)
   goes-entries (more_entries {key = s} {x = x} {xs = xs} {i = i} {a = v} {j = a} q h u) g b (suc n) found d le fu =
-      let n1 = needs-at (kind v) k.Comma 12 h closing-kinds.3 in
+      let n1 = level-at needs (kind v) k.Comma 12 h closing-kinds.3 in
       let s1 = shorter-entry q in let t1 = token k.Comma v h (λ e. cc) in
       let w = goes-entry q n1 (suc b) b (omega arith) in
       entry-more (suc b) (expr b) n found d s x i w.0 v (Some ((join_entries found (MoreEntries s x xs), max d (entries_depth (MoreEntries s x xs))), next a)) (entry-starts q) w.1 w.2 h
-      (goes-entries u g b n (join_entries found (r.one_entry s x)) (max d (depth x)) (omega arith) (omega arith) ∙ row-more found s x xs d (next a))
+      (goes-entries u g b n (join_entries found (r.one_entry s x)) (max d (depth x)) (omega arith) (omega arith) ∙ got-more d (depth x) (entries_depth xs) (next a) (join-entries found (r.one_entry s x) xs))
 
   -- the value of an attribute, as the attribute has it
   goes-value : {x : Expr} {i a : Input} → DerivesValue x i a → (limit b : ℕ) → depth x ≤ b → r.attribute_value limit (expr b) i ≡ Some (deep x, a)
   goes-value (text_value {t = t} {i = i} h e) limit b le = text-is limit (expr b) t i h e
   goes-value (braced_value {x = x} {i = i} {a = a} h d g) limit b le =
-      let n1 = needs-at (kind a) k.RightBrace 12 g closing-kinds.6 in
+      let n1 = level-at needs (kind a) k.RightBrace 12 g closing-kinds.6 in
       value-is limit (expr b) x i a h (whole 0 x (next i) a (goes d) (inr (omega arith)) (inr (omega arith)) (some-depth x) b le) g
 
   goes-attribute : {key : Option Key} {x : Expr} {i a : Input} → DerivesAttribute key x i a → (limit b : ℕ) → depth x ≤ b → (found : Entries)
       → r.any_attribute limit (expr b) found i ≡ Some ((join_entries found (r.one_entry key x), depth x), a)
   goes-attribute (named_attribute {x = x} {i = i} {j = a} h q v) limit b le found = named-is limit (expr b) found x i a h q (goes-value v limit b le)
   goes-attribute (spread_attribute {x = x} {i = i} {a = a} h q d g) limit b le found =
-      let n1 = needs-at (kind a) k.RightBrace 12 g closing-kinds.6 in
+      let n1 = level-at needs (kind a) k.RightBrace 12 g closing-kinds.6 in
       spread-is limit (expr b) found x i a h q (whole 0 x (next (next i)) a (goes d) (inr (omega arith)) (inr (omega arith)) (some-depth x) b le) g
 
   -- attributes are read behind others, where none follows
   pub goes-attributes : {xs : Entries} {i a : Input} → DerivesAttributes xs i a → begins_attribute (kind a) ≡ false → (limit b n : ℕ) (found : Entries) (d : ℕ) → entries_depth xs ≤ b → left i ≤ n
       → r.attributes_from limit (expr b) n found d i ≡ Some ((join_entries found xs, max d (entries_depth xs)), a)
-  goes-attributes (no_attributes {i = i}) g limit b n found d le fu = attributes-stop limit (expr b) n found d i g ∙ row-nil found d i
+  goes-attributes (no_attributes {i = i}) g limit b n found d le fu = attributes-stop limit (expr b) n found d i g ∙ got-none d i (join-no-entries found)
   goes-attributes (more_attributes q u) g limit b zero found d le fu = let s1 = shorter-attribute q in absurd (omega arith)
   goes-attributes (more_attributes {key = s} {x = x} {xs = xs} {i = i} {a = v} {j = a} q u) g limit b (suc n) found d le fu =
       let s1 = shorter-attribute q in
       attributes-more limit (expr b) n found d (join_entries found (r.one_entry s x), depth x) i v (Some ((join_entries found (MoreEntries s x xs), max d (entries_depth (MoreEntries s x xs))), a)) (attribute-begins q)
       (goes-attribute q limit b (omega arith) found)
-      (goes-attributes u g limit b n (join_entries found (r.one_entry s x)) (max d (depth x)) (omega arith) (omega arith) ∙ row-more found s x xs d a)
+      (goes-attributes u g limit b n (join_entries found (r.one_entry s x)) (max d (depth x)) (omega arith) (omega arith) ∙ got-more d (depth x) (entries_depth xs) a (join-entries found (r.one_entry s x) xs))
 
   -- an argument is read, and put
   goes-argument : {found all : Arguments} {i a : Input} → DerivesArgument found all i a → needs (kind a) ≡ 12 → (limit b : ℕ) → arguments_depth all ≤ b
@@ -219,12 +219,12 @@ mutual
   goes-arguments (no_arguments {found = found} {i = i}) g b (suc n) le fu = arguments-none (suc b) (expr b) n found (arguments_depth found) i g
   goes-arguments (one_argument q) g b zero le fu = let s1 = shorter-argument q in absurd (omega arith)
   goes-arguments (one_argument {found = found} {all = all} {i = i} {j = a} q) g b (suc n) le fu =
-      let n1 = needs-at (kind a) k.RightParenthesis 12 g closing-kinds.1 in
+      let n1 = level-at needs (kind a) k.RightParenthesis 12 g closing-kinds.1 in
       let w = goes-argument q n1 (suc b) b le in
       arguments-one (suc b) (expr b) n found (arguments_depth found) (all, w.0) i a (argument-starts q) w.1 g ∙ ap (λ m. Some ((all, m), next a)) (sym w.2)
   goes-arguments (more_arguments q h u) g b zero le fu = let s1 = shorter-argument q in absurd (omega arith)
   goes-arguments (more_arguments {found = found} {with_it = with_it} {all = all} {i = i} {a = v} {j = a} q h u) g b (suc n) le fu =
-      let n1 = needs-at (kind v) k.Comma 12 h closing-kinds.3 in
+      let n1 = level-at needs (kind v) k.Comma 12 h closing-kinds.3 in
       let s1 = shorter-argument q in let t1 = token k.Comma v h (λ e. cc) in
       let p = grown u in
       let w = goes-argument q n1 (suc b) b (omega arith) in
@@ -267,12 +267,12 @@ mutual
       → r.bracketed (suc b) (expr b) from i ≡ Some (deep (Array xs (span from (next a))), next a)
   goes-array (none {i = i}) g b from le = empty-is (suc b) (expr b) from i g (omega arith)
   goes-array (one {s = s} {x = x} {i = i} {j = a} q) g b from le =
-      let n1 = needs-at (kind a) k.RightBracket 12 g closing-kinds.2 in
+      let n1 = level-at needs (kind a) k.RightBracket 12 g closing-kinds.2 in
       let w = item-starts q in
       array-is (suc b) (expr b) from s x (MoreItems s x NoItems) i a (next a) w.0 w.1 (goes-item q n1 b (omega arith)) (differ k.For k.RightBracket (kind a) g (λ e. cc))
-      (behind-last (suc b) (expr b) (one_item s x) (depth x) a g ∙ list-only s x (next a)) le
+      (behind-last (suc b) (expr b) (one_item s x) (depth x) a g ∙ got-none (depth x) (next a) refl) le
   goes-array (more {s = s} {x = x} {xs = xs} {i = i} {a = v} {j = a} q h t) g b from le =
-      let n1 = needs-at (kind v) k.Comma 12 h closing-kinds.3 in
+      let n1 = level-at needs (kind v) k.Comma 12 h closing-kinds.3 in
       let w = item-starts q in
       array-is (suc b) (expr b) from s x (MoreItems s x xs) i v (next a) w.0 w.1 (goes-item q n1 b (omega arith)) (differ k.For k.Comma (kind v) h (λ e. cc))
       (behind-comma (suc b) (expr b) (one_item s x) (depth x) v h ∙ goes-all t g b (left (next v)) (one_item s x) (depth x) (omega arith) (omega arith)) le
@@ -280,23 +280,23 @@ mutual
   goes-all : {xs : Items} {i a : Input} → DerivesItems xs i a → kind a ≡ k.RightBracket → (b n : ℕ) (found : Items) (d : ℕ) → items_depth xs ≤ b → left i ≤ n
       → r.items_from (suc b) (expr b) n found d i ≡ Some ((join_items found xs, max d (items_depth xs)), next a)
   goes-all (none {i = i}) g b zero found d le fu = let t1 = token k.RightBracket i g (λ e. cc) in absurd (omega arith)
-  goes-all (none {i = i}) g b (suc n) found d le fu = item-none (suc b) (expr b) n found d i g ∙ list-nil found d (next i)
+  goes-all (none {i = i}) g b (suc n) found d le fu = item-none (suc b) (expr b) n found d i g ∙ got-none d (next i) (join-none found)
   goes-all (one {s = s} {x = x} {i = i} {j = a} q) g b zero found d le fu = let s1 = shorter-item q in absurd (omega arith)
   goes-all (one {s = s} {x = x} {i = i} {j = a} q) g b (suc n) found d le fu =
-      let n1 = needs-at (kind a) k.RightBracket 12 g closing-kinds.2 in
+      let n1 = level-at needs (kind a) k.RightBracket 12 g closing-kinds.2 in
       let w = item-starts q in
-      item-one (suc b) (expr b) n found d s x i a w.0 w.1 (goes-item q n1 b (omega arith)) g ∙ list-one found s x d (next a)
+      item-one (suc b) (expr b) n found d s x i a w.0 w.1 (goes-item q n1 b (omega arith)) g ∙ got-one d (depth x) (next a)
   goes-all (more {s = s} {x = x} {xs = xs} {i = i} {a = v} {j = a} q h w) g b zero found d le fu = let s1 = shorter-item q in absurd (omega arith)
   goes-all (more {s = s} {x = x} {xs = xs} {i = i} {a = v} {j = a} q h w) g b (suc n) found d le fu =
-      let n1 = needs-at (kind v) k.Comma 12 h closing-kinds.3 in
+      let n1 = level-at needs (kind v) k.Comma 12 h closing-kinds.3 in
       let s1 = shorter-item q in let t1 = token k.Comma v h (λ e. cc) in
       let u = item-starts q in
       item-more (suc b) (expr b) n found d s x i v (Some ((join_items found (MoreItems s x xs), max d (items_depth (MoreItems s x xs))), next a)) u.0 u.1
       (goes-item q n1 b (omega arith)) h
-      (goes-all w g b n (join_items found (one_item s x)) (max d (depth x)) (omega arith) (omega arith) ∙ list-more found s x xs d (next a))
+      (goes-all w g b n (join_items found (one_item s x)) (max d (depth x)) (omega arith) (omega arith) ∙ got-more d (depth x) (items_depth xs) (next a) (join-join found (one_item s x) xs))
 
 -- What is derived is read, where no operator follows.
 pub complete : (x : Expr) (i j : Input) → Derives 0 x i j → kind j ≡ k.End → (b : ℕ) → depth x ≤ b → expr b 0 i ≡ Some (deep x, j)
 complete x i j d h b le =
-    let n1 = needs-at (kind j) k.End 12 h closing-kinds.4 in
+    let n1 = level-at needs (kind j) k.End 12 h closing-kinds.4 in
     whole 0 x i j (goes d) (inr (omega arith)) (inr (omega arith)) (some-depth x) b le

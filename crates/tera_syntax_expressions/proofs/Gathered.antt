@@ -9,17 +9,11 @@ use Rattle.tera_syntax_expressions.specs.Grammar.{Derives, DerivesEntry, keyed, 
 use Rattle.tera_syntax_expressions.specs.Expressions as r
 use Rattle.tera_syntax_expressions.specs.Expressions.{join_items, one_item, join_entries}
 use Rattle.tera_syntax_expressions.proofs.Rows.{join-none, join-join, join-no-entries, join-entries}
-use Rattle.tera_syntax_expressions.proofs.Steps.{and_then-some, chosen, same-is, expect-some, some-pair, either}
+use Rattle.tera_syntax_expressions.proofs.Steps.{and_then-some, chosen, same-is, expect-some, either, at, same-value}
 
 -- the items of an array
 pub data GotItems : Items → ℕ → Input → Items × ℕ → Input → Type 0 where
   got_items : {found xs : Items} {d : ℕ} {i a : Input} {z : Items × ℕ} → DerivesItems xs i a → kind a ≡ k.RightBracket → z.0 ≡ join_items found xs → z.1 ≡ max d (items_depth xs) → GotItems found d i z (next a)
-
-abbrev pub taken : Items × ℕ → Input → Option ((Items × ℕ) × Input)
-taken z i = Some (z, i)
-
-pub same-items : (found : Items) (d : ℕ) (i : Input) (y z : Items × ℕ) (a j : Input) → taken y a ≡ taken z j → GotItems found d i y a → GotItems found d i z j
-same-items found d i y z a j h p = let q = some-pair (y, a) (z, j) h in subst (λ w. GotItems found d i w j) q.0 (subst (λ w. GotItems found d i y w) q.1 p)
 
 pub no-items : (found : Items) (d : ℕ) (i : Input) → kind i ≡ k.RightBracket → GotItems found d i (found, d) (next i)
 no-items found d i h = got_items none h (sym (join-none found)) (omega arith)
@@ -35,12 +29,6 @@ more-items found f s x d m i a j z ef em p h (got_items {xs = xs} q g e dz) = go
 pub data GotEntries : Entries → ℕ → Input → Entries × ℕ → Input → Type 0 where
   got_entries : {found xs : Entries} {d : ℕ} {i a : Input} {z : Entries × ℕ} → DerivesEntries xs i a → kind a ≡ k.RightBrace → z.0 ≡ join_entries found xs → z.1 ≡ max d (entries_depth xs) → GotEntries found d i z (next a)
 
-abbrev pub took : Entries × ℕ → Input → Option ((Entries × ℕ) × Input)
-took z i = Some (z, i)
-
-pub same-entries : (found : Entries) (d : ℕ) (i : Input) (y z : Entries × ℕ) (a j : Input) → took y a ≡ took z j → GotEntries found d i y a → GotEntries found d i z j
-same-entries found d i y z a j h p = let q = some-pair (y, a) (z, j) h in subst (λ w. GotEntries found d i w j) q.0 (subst (λ w. GotEntries found d i y w) q.1 p)
-
 pub no-more-entries : (found : Entries) (d : ℕ) (i : Input) → kind i ≡ k.RightBrace → GotEntries found d i (found, d) (next i)
 no-more-entries found d i h = got_entries no_entries h (sym (join-no-entries found)) (omega arith)
 
@@ -51,28 +39,22 @@ pub an-entry-more : (found : Entries) (s : Option Key) (x : Expr) (d : ℕ) (i a
     → GotEntries found d i z j
 an-entry-more found s x d i a j z p h (got_entries {xs = xs} q g e f) = got_entries (more_entries p h q) g (e ∙ join-entries found (r.one_entry s x) xs) (omega arith)
 
-abbrev pub at-key : Option Key → Input → Option (Option Key × Input)
-at-key key i = Some (key, i)
-
 -- what stands before the value of an entry
 abbrev pub Keyed : Option Key → Input → Input → Type 0
 Keyed key i m = (x : Expr) (a : Input) → Derives 0 x m a → DerivesEntry key x i a
 
-pub same-key : (i : Input) (key key' : Option Key) (m m' : Input) → at-key key m ≡ at-key key' m' → Keyed key i m → Keyed key' i m'
-same-key i key key' m m' h p = let q = some-pair (key, m) (key', m') h in subst (λ w. Keyed w i m') q.0 (subst (λ w. Keyed key i w) q.1 p)
-
 pub keyed-got : (o : Option Key) (i m : Input) (key : Option Key) → key_at i ≡ o → r.keyed o i ≡ Some (key, m) → Keyed key i m
 keyed-got None i m key e h = cc
 keyed-got (Some word) i m key e h =
-    let q = and_then-some (expect k.Colon (next i)) (λ _. λ j. at-key (Some word) j) (key, m) h in
+    let q = and_then-some (expect k.Colon (next i)) (λ _. λ j. at (Some word) j) (key, m) h in
     let u = expect-some k.Colon (next i) q.1 q.0 q.2 in
-    same-key i (Some word) key q.1 m q.3 (λ x a d. keyed e u.0 (subst (λ j. Derives 0 x j a) u.1 d))
+    same-value (λ key m. Keyed key i m) (Some word) key q.1 m q.3 (λ x a d. keyed e u.0 (subst (λ j. Derives 0 x j a) u.1 d))
 
 pub entry_key-got : (i m : Input) (key : Option Key) → r.entry_key i ≡ Some (key, m) → Keyed key i m
 unfolding r.entry_key
 entry_key-got i m key h =
-    either (chosen (same k.Spread (kind i)) (at-key None (next i)) (r.keyed (key_at i) i) (Some (key, m)) h)
-    (λ q. same-key i None key (next i) m q.1 (λ x a d. spread_map (same-is k.Spread (kind i) q.0) d))
+    either (chosen (same k.Spread (kind i)) (at None (next i)) (r.keyed (key_at i) i) (Some (key, m)) h)
+    (λ q. same-value (λ key m. Keyed key i m) None key (next i) m q.1 (λ x a d. spread_map (same-is k.Spread (kind i) q.0) d))
     (λ q. keyed-got (key_at i) i m key refl q.1)
 
 pub item-at : (t : Bool) (x : Expr) (i a : Input) → same k.Spread (kind i) ≡ t → Derives 0 x (if t then next i else i) a → DerivesItem t x i a

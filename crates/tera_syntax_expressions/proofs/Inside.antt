@@ -65,6 +65,26 @@ module _ (size : ℕ) where
   past : (i : Input) → Orderly size i → Onward size i (next i)
   past i o = onward_next size i o
 
+  -- what was read of an expression
+  whole : {x : Expr} {i j : Input} → Lies size x i j → Read size (ExprInside size x) i j
+  whole p = record { inside = p.inside; onward = p.onward }
+
+  -- nothing but what was there before
+  stays : {P : Type 0} (i : Input) → P → Orderly size i → Read size P i i
+  stays i p o = record { inside = p; onward = onward_none size i o }
+
+  -- what is read behind a token
+  behind : {P : Type 0} {j : Input} (i : Input) → Orderly size i → (Orderly size (next i) → Read size P (next i) j) → Read size P i j
+  behind i o read = let n = past i o in let p = read n.orderly in record { inside = p.inside; onward = onward_then n p.onward }
+
+  -- what was read, and a token that closes it
+  closed : {P : Type 0} {i : Input} (a : Input) → Read size P i a → Read size P i (next a)
+  closed a p = record { inside = p.inside; onward = onward_then p.onward (past a p.onward.orderly) }
+
+  -- one behind another
+  both : {P Q : Type 0} {i a j : Input} → Read size P i a → Read size Q a j → Read size (P × Q) i j
+  both p r = record { inside = (p.inside, r.inside); onward = onward_then p.onward r.onward }
+
   mutual
     pub expr_lies : {l : ℕ} {x : Expr} {i j : Input} → Derives l x i j → Orderly size i → Lies size x i j
     expr_lies (tighter d) o = expr_lies d o
@@ -77,35 +97,30 @@ module _ (size : ℕ) where
         goes_on p (onward_then n (onward_then r.onward (onward_then m s.onward))) (λ w. (p.inside, r.inside, s.inside, w))
     expr_lies (operation {a = a} op d h f) o =
         let p = expr_lies d o in
-        let n = past a p.onward.orderly in
-        let r = expr_lies f n.orderly in
-        goes_on p (onward_then n r.onward) (λ w. operated op _ _ p.inside r.inside w)
+        let r = behind a p.onward.orderly (λ o. whole (expr_lies f o)) in
+        goes_on p r.onward (λ w. operated op _ _ p.inside r.inside w)
     expr_lies (not {i = i} h d) o =
         let p = expr_lies d (past i o).orderly in
         begins k.Not i h (λ e. cc) o p.onward (λ w. (p.inside, w))
     expr_lies (not_in {a = a} d h g f) o =
         let p = expr_lies d o in
-        let n = past a p.onward.orderly in
-        let m = past (next a) n.orderly in
-        let r = expr_lies f m.orderly in
-        goes_on p (onward_then n (onward_then m r.onward)) (λ w. ((p.inside, r.inside, w), w))
+        let r = behind a p.onward.orderly (λ o. behind (next a) o (λ o. whole (expr_lies f o))) in
+        goes_on p r.onward (λ w. ((p.inside, r.inside, w), w))
     expr_lies (minus {i = i} h d) o =
         let p = expr_lies d (past i o).orderly in
         begins k.Minus i h (λ e. cc) o p.onward (λ w. (p.inside, w))
     expr_lies (power {a = a} d h f) o =
         let p = expr_lies d o in
-        let n = past a p.onward.orderly in
-        let r = expr_lies f n.orderly in
-        goes_on p (onward_then n r.onward) (λ w. (p.inside, r.inside, w))
+        let r = behind a p.onward.orderly (λ o. whole (expr_lies f o)) in
+        goes_on p r.onward (λ w. (p.inside, r.inside, w))
     expr_lies (attribute {a = a} dot d h g) o =
         let p = expr_lies d o in
         let n = past a p.onward.orderly in
         goes_on p (onward_then n (past (next a) n.orderly)) (λ w. (p.inside, w))
     expr_lies (index {a = a} {b = b} bracket d h f g) o =
         let p = expr_lies d o in
-        let n = past a p.onward.orderly in
-        let r = expr_lies f n.orderly in
-        goes_on p (onward_then n (onward_then r.onward (past b r.onward.orderly))) (λ w. (p.inside, r.inside, w))
+        let r = behind a p.onward.orderly (λ o. closed b (whole (expr_lies f o))) in
+        goes_on p r.onward (λ w. (p.inside, r.inside, w))
     expr_lies (slice {a = a} {b = b} {c = c} {d = e} bracket d h f g q t u) o =
         let p = expr_lies d o in
         let n = past a p.onward.orderly in
@@ -126,14 +141,14 @@ module _ (size : ℕ) where
         let m = past (next i) n.orderly in
         begins k.Name i h (λ e. cc) o (onward_then m (past (next (next i)) m.orderly)) (λ w. w)
     expr_lies (parentheses {i = i} {a = a} h d g) o =
-        let p = expr_lies d (past i o).orderly in
-        begins k.LeftParenthesis i h (λ e. cc) o (onward_then p.onward (past a p.onward.orderly)) (λ w. p.inside)
+        let p = closed a (whole (expr_lies d (past i o).orderly)) in
+        begins k.LeftParenthesis i h (λ e. cc) o p.onward (λ w. p.inside)
     expr_lies (array {i = i} {a = a} h d g) o =
-        let p = items_lie d (past i o).orderly in
-        begins k.LeftBracket i h (λ e. cc) o (onward_then p.onward (past a p.onward.orderly)) (λ w. (p.inside, w))
+        let p = closed a (items_lie d (past i o).orderly) in
+        begins k.LeftBracket i h (λ e. cc) o p.onward (λ w. (p.inside, w))
     expr_lies (map {i = i} {a = a} h d g) o =
-        let p = entries_lie d (past i o).orderly in
-        begins k.LeftBrace i h (λ e. cc) o (onward_then p.onward (past a p.onward.orderly)) (λ w. (p.inside, w))
+        let p = closed a (entries_lie d (past i o).orderly) in
+        begins k.LeftBrace i h (λ e. cc) o p.onward (λ w. (p.inside, w))
     expr_lies (comprehension {i = i} {a = a} {d = e} h d f c t q g) o =
         let p = expr_lies d (past i o).orderly in
         let n = past a p.onward.orderly in
@@ -143,69 +158,39 @@ module _ (size : ℕ) where
         begins k.LeftBracket i h (λ e. cc) o (onward_then p.onward (onward_then n (onward_then m (onward_then r.onward (onward_then s.onward (past e s.onward.orderly))))))
         (λ w. (p.inside, r.inside, s.inside, w))
     expr_lies (call {i = i} {a = a} h e d g) o =
-        let n = past i o in
-        let m = past (next i) n.orderly in
-        let p = arguments_lie d m.orderly tt in
-        begins k.Name i h (λ e. cc) o (onward_then m (onward_then p.onward (past a p.onward.orderly))) (λ w. call-inside size (text i) _ (span (start i) (next a)) p.inside w)
+        let p = behind (next i) (past i o).orderly (λ o. closed a (arguments_lie d o tt)) in
+        begins k.Name i h (λ e. cc) o p.onward (λ w. call-inside size (text i) _ (span (start i) (next a)) p.inside w)
     expr_lies (component {i = i} {a = a} h w d g) o =
-        let n = past i o in
-        let m = past (next i) n.orderly in
-        let p = attributes_lie d m.orderly in
-        begins k.Less i h (λ e. cc) o (onward_then m (onward_then p.onward (past a p.onward.orderly))) (λ w. (p.inside, w))
+        let p = behind (next i) (past i o).orderly (λ o. closed a (attributes_lie d o)) in
+        begins k.Less i h (λ e. cc) o p.onward (λ w. (p.inside, w))
     expr_lies (filter {a = a} d h g q) o =
         let p = expr_lies d o in
-        let n = past a p.onward.orderly in
-        let m = past (next a) n.orderly in
-        let r = given_lies q m.orderly in
-        goes_on p (onward_then n (onward_then m r.onward)) (λ w. (p.inside, r.inside, w))
+        let r = behind a p.onward.orderly (λ o. behind (next a) o (λ o. given_lies q o)) in
+        goes_on p r.onward (λ w. (p.inside, r.inside, w))
     expr_lies (test {a = a} d h g q) o =
         let p = expr_lies d o in
-        let n = past a p.onward.orderly in
-        let m = past (next a) n.orderly in
-        let r = given_lies q m.orderly in
-        goes_on p (onward_then n (onward_then m r.onward)) (λ w. (p.inside, r.inside, w))
+        let r = behind a p.onward.orderly (λ o. behind (next a) o (λ o. given_lies q o)) in
+        goes_on p r.onward (λ w. (p.inside, r.inside, w))
     expr_lies (not_test {a = a} d h f g q) o =
         let p = expr_lies d o in
-        let n = past a p.onward.orderly in
-        let m = past (next a) n.orderly in
-        let u = past (next (next a)) m.orderly in
-        let r = given_lies q u.orderly in
-        goes_on p (onward_then n (onward_then m (onward_then u r.onward))) (λ w. ((p.inside, r.inside, w), w))
+        let r = behind a p.onward.orderly (λ o. behind (next a) o (λ o. behind (next (next a)) o (λ o. given_lies q o))) in
+        goes_on p r.onward (λ w. ((p.inside, r.inside, w), w))
 
     value_lies : {x : Expr} {i j : Input} → DerivesValue x i j → Orderly size i → Read size (ExprInside size x) i j
-    value_lies (text_value {t = t} {i = i} h e) o =
-        let p : Lies size (Text t (span (start i) (next i))) i (next i) = leaf k.Text i h (λ e. cc) o (λ w. w) in
-        record { inside = p.inside; onward = p.onward }
-    value_lies (braced_value {i = i} {a = a} h d g) o =
-        let n = past i o in
-        let p = expr_lies d n.orderly in
-        record { inside = p.inside; onward = onward_then n (onward_then p.onward (past a p.onward.orderly)) }
+    value_lies (text_value {t = t} {i = i} h e) o = whole (leaf {y = Text t (span (start i) (next i))} k.Text i h (λ e. cc) o (λ w. w))
+    value_lies (braced_value {i = i} {a = a} h d g) o = behind i o (λ o. closed a (whole (expr_lies d o)))
 
     attribute_lies : {key : Option Key} {x : Expr} {i j : Input} → DerivesAttribute key x i j → Orderly size i → Read size (ExprInside size x) i j
-    attribute_lies (named_attribute {i = i} h q v) o =
-        let n = past i o in
-        let m = past (next i) n.orderly in
-        let p = value_lies v m.orderly in
-        record { inside = p.inside; onward = onward_then n (onward_then m p.onward) }
-    attribute_lies (spread_attribute {i = i} {a = a} h q d g) o =
-        let n = past i o in
-        let m = past (next i) n.orderly in
-        let p = expr_lies d m.orderly in
-        record { inside = p.inside; onward = onward_then n (onward_then m (onward_then p.onward (past a p.onward.orderly))) }
+    attribute_lies (named_attribute {i = i} h q v) o = behind i o (λ o. behind (next i) o (λ o. value_lies v o))
+    attribute_lies (spread_attribute {i = i} {a = a} h q d g) o = behind i o (λ o. behind (next i) o (λ o. closed a (whole (expr_lies d o))))
 
     pub attributes_lie : {xs : Entries} {i j : Input} → DerivesAttributes xs i j → Orderly size i → Read size (EntriesInside size xs) i j
-    attributes_lie (no_attributes {i = i}) o = record { inside = tt; onward = onward_none size i o }
-    attributes_lie (more_attributes d q) o =
-        let p = attribute_lies d o in
-        let r = attributes_lie q p.onward.orderly in
-        record { inside = (p.inside, r.inside); onward = onward_then p.onward r.onward }
+    attributes_lie (no_attributes {i = i}) o = stays i tt o
+    attributes_lie (more_attributes d q) o = let p = attribute_lies d o in both p (attributes_lie q p.onward.orderly)
 
     given_lies : {all : Arguments} {i j : Input} → DerivesGiven all i j → Orderly size i → Read size (ArgumentsInside size all) i j
-    given_lies (not_given {i = i} h) o = record { inside = tt; onward = onward_none size i o }
-    given_lies (given {i = i} {a = a} h d g) o =
-        let n = past i o in
-        let p = arguments_lie d n.orderly tt in
-        record { inside = p.inside; onward = onward_then n (onward_then p.onward (past a p.onward.orderly)) }
+    given_lies (not_given {i = i} h) o = stays i tt o
+    given_lies (given {i = i} {a = a} h d g) o = behind i o (λ o. closed a (arguments_lie d o tt))
 
     argument_lies : {found all : Arguments} {i j : Input} → DerivesArgument found all i j → Orderly size i → ArgumentsInside size found → Read size (ArgumentsInside size all) i j
     argument_lies (argument {found = found} {all = all} {x = x} {i = i} h q d e) o before =
@@ -215,67 +200,42 @@ module _ (size : ℕ) where
         record { inside = put-inside size (text i) x found all e p.inside before; onward = onward_then n (onward_then m p.onward) }
 
     arguments_lie : {found all : Arguments} {i j : Input} → DerivesArguments found all i j → Orderly size i → ArgumentsInside size found → Read size (ArgumentsInside size all) i j
-    arguments_lie (no_arguments {i = i}) o before = record { inside = before; onward = onward_none size i o }
+    arguments_lie (no_arguments {i = i}) o before = stays i before o
     arguments_lie (one_argument d) o before = argument_lies d o before
     arguments_lie (more_arguments {a = a} d h q) o before =
         let p = argument_lies d o before in
-        let n = past a p.onward.orderly in
-        let r = arguments_lie q n.orderly p.inside in
-        record { inside = r.inside; onward = onward_then p.onward (onward_then n r.onward) }
+        let r = behind a p.onward.orderly (λ o. arguments_lie q o p.inside) in
+        record { inside = r.inside; onward = onward_then p.onward r.onward }
 
     condition_lies : {p : Optional} {i j : Input} → DerivesCondition p i j → Orderly size i → Read size (OptionalInside size p) i j
-    condition_lies (no_condition {i = i}) o = record { inside = tt; onward = onward_none size i o }
-    condition_lies (condition {i = i} h d) o =
-        let n = past i o in
-        let p = expr_lies d n.orderly in
-        record { inside = p.inside; onward = onward_then n p.onward }
+    condition_lies (no_condition {i = i}) o = stays i tt o
+    condition_lies (condition {i = i} h d) o = behind i o (λ o. whole (expr_lies d o))
 
     part_lies : {p : Optional} {i j : Input} → DerivesPart p i j → Orderly size i → Read size (OptionalInside size p) i j
-    part_lies (absent {i = i}) o = record { inside = tt; onward = onward_none size i o }
-    part_lies (present d) o = let p = expr_lies d o in record { inside = p.inside; onward = p.onward }
+    part_lies (absent {i = i}) o = stays i tt o
+    part_lies (present d) o = whole (expr_lies d o)
 
     step_lies : {p : Optional} {i j : Input} → DerivesStep p i j → Orderly size i → Read size (OptionalInside size p) i j
-    step_lies (no_step {i = i}) o = record { inside = tt; onward = onward_none size i o }
-    step_lies (step {i = i} h f) o =
-        let n = past i o in
-        let p = part_lies f n.orderly in
-        record { inside = p.inside; onward = onward_then n p.onward }
+    step_lies (no_step {i = i}) o = stays i tt o
+    step_lies (step {i = i} h f) o = behind i o (λ o. part_lies f o)
 
     item_lies : {s : Bool} {x : Expr} {i j : Input} → DerivesItem s x i j → Orderly size i → Read size (ExprInside size x) i j
-    item_lies (plain d) o = let p = expr_lies d o in record { inside = p.inside; onward = p.onward }
-    item_lies (spread {i = i} h d) o =
-        let n = past i o in
-        let p = expr_lies d n.orderly in
-        record { inside = p.inside; onward = onward_then n p.onward }
+    item_lies (plain d) o = whole (expr_lies d o)
+    item_lies (spread {i = i} h d) o = behind i o (λ o. whole (expr_lies d o))
 
     items_lie : {xs : Items} {i j : Input} → DerivesItems xs i j → Orderly size i → Read size (ItemsInside size xs) i j
-    items_lie (none {i = i}) o = record { inside = tt; onward = onward_none size i o }
+    items_lie (none {i = i}) o = stays i tt o
     items_lie (one d) o = let p = item_lies d o in record { inside = (p.inside, tt); onward = p.onward }
-    items_lie (more {a = a} d h q) o =
-        let p = item_lies d o in
-        let n = past a p.onward.orderly in
-        let r = items_lie q n.orderly in
-        record { inside = (p.inside, r.inside); onward = onward_then p.onward (onward_then n r.onward) }
+    items_lie (more {a = a} d h q) o = let p = item_lies d o in both p (behind a p.onward.orderly (λ o. items_lie q o))
 
     entry_lies : {key : Option Key} {x : Expr} {i j : Input} → DerivesEntry key x i j → Orderly size i → Read size (ExprInside size x) i j
-    entry_lies (keyed {i = i} h q d) o =
-        let n = past i o in
-        let m = past (next i) n.orderly in
-        let p = expr_lies d m.orderly in
-        record { inside = p.inside; onward = onward_then n (onward_then m p.onward) }
-    entry_lies (spread_map {i = i} h d) o =
-        let n = past i o in
-        let p = expr_lies d n.orderly in
-        record { inside = p.inside; onward = onward_then n p.onward }
+    entry_lies (keyed {i = i} h q d) o = behind i o (λ o. behind (next i) o (λ o. whole (expr_lies d o)))
+    entry_lies (spread_map {i = i} h d) o = behind i o (λ o. whole (expr_lies d o))
 
     entries_lie : {xs : Entries} {i j : Input} → DerivesEntries xs i j → Orderly size i → Read size (EntriesInside size xs) i j
-    entries_lie (no_entries {i = i}) o = record { inside = tt; onward = onward_none size i o }
+    entries_lie (no_entries {i = i}) o = stays i tt o
     entries_lie (one_entry d) o = let p = entry_lies d o in record { inside = (p.inside, tt); onward = p.onward }
-    entries_lie (more_entries {a = a} d h q) o =
-        let p = entry_lies d o in
-        let n = past a p.onward.orderly in
-        let r = entries_lie q n.orderly in
-        record { inside = (p.inside, r.inside); onward = onward_then p.onward (onward_then n r.onward) }
+    entries_lie (more_entries {a = a} d h q) o = let p = entry_lies d o in both p (behind a p.onward.orderly (λ o. entries_lie q o))
 
   -- what begins with a word
   named : (i j : Input) → is_word (kind i) ≡ true → Orderly size i → Onward size (next i) j → Within size (span (start i) j)

@@ -63,7 +63,7 @@ pub between : (floor l : ℕ) (s : Kind) → Stops l s → l < 11 → goes_on fl
 between floor l s h lt = ap (λ b. nat_le floor (gives s) && b) (same-le l s h lt)
 
 pub closes : (have : ℕ) (s : Kind) → s ≡ k.RightParenthesis → have ≤ 11 → goes_on 0 have s ≡ false
-unfolding needs
+unfolding needs gives
 closes have s h le = let twelve : needs s ≡ 12 = ap needs h in ap (λ b. nat_le 0 (gives s) && b) (le-false (needs s) have (omega arith)) ∙ and-false _
 
 pub on : (floor have : ℕ) (s : Kind) → floor ≤ gives s → needs s ≤ have → goes_on floor have s ≡ true
@@ -120,19 +120,19 @@ bracket-needs bracket = (refl, refl, λ e. cc)
 bracket-needs optional_bracket = (refl, refl, λ e. cc)
 
 pub needs-some : (s : Kind) → 0 < needs s
-unfolding needs
+unfolding needs gives
 needs-some s = elim s as (λ s. 0 < needs s) [ k.If ↦ omega arith | _ ↦ omega arith ]
 
 pub not-three : (s : Kind) → 0 < (needs s - 3) + (3 - needs s)
-unfolding needs
+unfolding needs gives
 not-three s = elim s as (λ s. 0 < (needs s - 3) + (3 - needs s)) [ k.If ↦ omega arith | _ ↦ omega arith ]
 
 pub not-eight : (s : Kind) → 0 < (needs s - 8) + (8 - needs s)
-unfolding needs
+unfolding needs gives
 not-eight s = elim s as (λ s. 0 < (needs s - 8) + (8 - needs s)) [ k.If ↦ omega arith | _ ↦ omega arith ]
 
 pub not-nine : (s : Kind) → 0 < (needs s - 9) + (9 - needs s)
-unfolding needs
+unfolding needs gives
 not-nine s = elim s as (λ s. 0 < (needs s - 9) + (9 - needs s)) [ k.If ↦ omega arith | _ ↦ omega arith ]
 
 pub stops-up : (l : ℕ) (s : Kind) → Stops l s → Stops (suc l) s
@@ -152,51 +152,34 @@ eight-of-nine s (inl h) = let e = not-nine s in inl (omega arith)
 eight-of-nine s (inr h) = inr h
 
 -- the kinds that the lemmas below name
-pub if-kind : (needs k.If ≡ 1) × (gives k.If ≡ 0)
+pub needed-kinds : (needs k.If ≡ 1) × (needs k.Not ≡ 4) × (needs k.Is ≡ 4) × (needs k.Bar ≡ 10) × (needs k.Power ≡ 10)
 unfolding needs gives
-if-kind = (refl, refl)
+needed-kinds = (refl, refl, refl, refl, refl)
 
-pub not-kind : (needs k.Not ≡ 4) × (gives k.Not ≡ 4)
-unfolding needs gives
-not-kind = (refl, refl)
-
-pub is-kind : (needs k.Is ≡ 4) × (gives k.Is ≡ 4)
-unfolding needs gives
-is-kind = (refl, refl)
-
-pub bar-kind : (needs k.Bar ≡ 10) × (gives k.Bar ≡ 10)
-unfolding needs gives
-bar-kind = (refl, refl)
-
-pub power-kind : (needs k.Power ≡ 10) × (gives k.Power ≡ 9)
-unfolding needs gives
-power-kind = (refl, refl)
+pub given-kinds : (gives k.If ≡ 0) × (gives k.Not ≡ 4) × (gives k.Is ≡ 4) × (gives k.Bar ≡ 10) × (gives k.Power ≡ 9)
+unfolding gives
+given-kinds = (refl, refl, refl, refl, refl)
 
 pub closing-kinds : (needs k.Else ≡ 12) × (needs k.RightParenthesis ≡ 12) × (needs k.RightBracket ≡ 12) × (needs k.Comma ≡ 12) × (needs k.End ≡ 12) × (needs k.Colon ≡ 12) × (needs k.RightBrace ≡ 12) × (needs k.For ≡ 12)
-unfolding needs
+unfolding needs gives
 closing-kinds = (refl, refl, refl, refl, refl, refl, refl, refl)
 
-pub needs-at : (s t : Kind) (n : ℕ) → s ≡ t → needs t ≡ n → needs s ≡ n
-needs-at s t n h e = ap needs h ∙ e
-
-pub gives-at : (s t : Kind) (n : ℕ) → s ≡ t → gives t ≡ n → gives s ≡ n
-gives-at s t n h e = ap gives h ∙ e
-
-pub begins-at : (s t : Kind) (n : ℕ) → s ≡ t → begins t ≡ n → begins s ≡ n
-begins-at s t n h e = ap begins h ∙ e
+-- the level of a kind that is known
+pub level-at : (level : Kind → ℕ) (s t : Kind) (n : ℕ) → s ≡ t → level t ≡ n → level s ≡ n
+level-at level s t n h e = ap level h ∙ e
 
 pub begin-kinds : (begins k.Not ≡ 3) × (begins k.Minus ≡ 8) × (begins k.Int ≡ 11) × (begins k.Name ≡ 11) × (begins k.LeftBracket ≡ 11) × (begins k.True ≡ 11) × (begins k.False ≡ 11) × (begins k.Nothing ≡ 11) × (begins k.Text ≡ 11) × (begins k.LeftBrace ≡ 11) × (begins k.Less ≡ 11)
 unfolding begins
 begin-kinds = (refl, refl, refl, refl, refl, refl, refl, refl, refl, refl, refl)
 
 pub ends-bound : (s : Kind) → (s ≡ k.Colon) ⊎ (s ≡ k.RightBracket) → needs s ≡ 12
-ends-bound s (inl h) = needs-at s k.Colon 12 h closing-kinds.5
-ends-bound s (inr h) = needs-at s k.RightBracket 12 h closing-kinds.2
+ends-bound s (inl h) = level-at needs s k.Colon 12 h closing-kinds.5
+ends-bound s (inr h) = level-at needs s k.RightBracket 12 h closing-kinds.2
 
 -- A condition or a bracket ends what a comprehension goes over.
 pub ends-target : (s : Kind) → (s ≡ k.If) ⊎ (s ≡ k.RightBracket) → Stops 1 s × ((gives s < 1) ⊎ (1 < needs s))
-ends-target s (inl h) = let n = needs-at s k.If 1 h if-kind.0 in let g = gives-at s k.If 0 h if-kind.1 in (inl (omega arith), inl (omega arith))
-ends-target s (inr h) = let n = needs-at s k.RightBracket 12 h closing-kinds.2 in (inr (omega arith), inr (omega arith))
+ends-target s (inl h) = let n = level-at needs s k.If 1 h needed-kinds.0 in let g = level-at gives s k.If 0 h given-kinds.0 in (inl (omega arith), inl (omega arith))
+ends-target s (inr h) = let n = level-at needs s k.RightBracket 12 h closing-kinds.2 in (inr (omega arith), inr (omega arith))
 
 pub at-most : {l : ℕ} {x : Expr} {i j : Input} → Derives l x i j → l ≤ 11
 at-most (tighter d) = let p = at-most d in omega arith

@@ -3,7 +3,6 @@ use Rattle.std.proofs.Common.{◌≡◌, ℕ, zero, suc, ◌≤◌, max, ℤ, Li
 use Rattle.std.proofs.lemmas.Grind.{common_steps}
 use Rattle.tera_errors.specs.Site as site
 use Rattle.tera_errors.specs.declared.span.Span.{Span}
-use Rattle.tera_syntax_tree.specs.declared.expression.BinaryOperator.{BinaryOperator}
 use Rattle.tera_syntax_tree.specs.declared.expression.BinaryOperator.TheVariants as binary
 use Rattle.tera_syntax_tree.specs.Tree.{Expr, Nothing, Boolean, Integer, Text, Name, Attribute, Index, Slice, Optional, Absent, Present, Not, Negate, Binary, Ternary, Array, Items, NoItems, Map, Comprehension, Filter, Test, Key, Entries, NoEntries, NoArguments}
 use Rattle.tera_syntax_tree.specs.Depth.{depth, items_depth, entries_depth, optional_depth}
@@ -17,13 +16,13 @@ use Rattle.tera_syntax_expressions.specs.Headings.{Calls, calls}
 use Rattle.tera_syntax_expressions.specs.Arguments.{is_call, call_form, is_test_name}
 use Rattle.tera_syntax_expressions.specs.Expressions as r
 use Rattle.tera_syntax_expressions.specs.Expressions.{Deep, deep, needs, gives, begins, goes_on, floor_in, opened, climb, level, level_with, expr, head, node, prefixed, infixed, applied, behind_dots, join_items, one_item, join_entries}
-use Rattle.tera_syntax_expressions.proofs.Precedence.{gives-below, on-means, operator-depth}
+use Rattle.tera_syntax_expressions.proofs.Precedence.{gives-below, on-means, operator-depth, operator-needs}
 use Rattle.tera_syntax_expressions.proofs.Calls.{calls-got}
 use Rattle.tera_syntax_expressions.proofs.ArgumentRows.{Reads, arguments-got, call-depth}
 use Rattle.tera_syntax_expressions.proofs.Passing.{passed-got}
-use Rattle.tera_syntax_expressions.proofs.Gathered.{GotItems, got_items, taken, same-items, no-items, one-item, more-items, GotEntries, got_entries, took, same-entries, no-more-entries, last-entry, an-entry-more, Keyed, entry_key-got, item-at}
+use Rattle.tera_syntax_expressions.proofs.Gathered.{GotItems, got_items, no-items, one-item, more-items, GotEntries, got_entries, no-more-entries, last-entry, an-entry-more, Keyed, entry_key-got, item-at}
 use Rattle.tera_syntax_expressions.proofs.AttributeRows.{component-got}
-use Rattle.tera_syntax_expressions.proofs.Steps.{and_then-some, guard, chosen, same-is, expect-some, some-pair, either, same-value, node-got}
+use Rattle.tera_syntax_expressions.proofs.Steps.{and_then-some, guard, chosen, same-is, expect-some, either, at, same-value, node-got}
 
 data Got : ℕ → ℕ → Deep → Input → Input → Type 0 where
   got : {limit l : ℕ} {x : Expr} {i j : Input} → depth x ≤ limit → Derives l x i j → Got limit l (deep x) i j
@@ -45,21 +44,12 @@ data Opened : List ℕ → Input → Input → Type 0 where
   here : {i : Input} → Opened [] i i
   paren : {os : List ℕ} {i p : Input} → Opened os i p → kind p ≡ k.LeftParenthesis → Opened (start p ∷ os) i (next p)
 
-abbrev opens : List ℕ → Input → Option (List ℕ × Input)
-opens os i = Some (os, i)
-
-same-opens : (os os' : List ℕ) (i p j : Input) → Opened os i p → opens os p ≡ opens os' j → Opened os' i j
-same-opens os os' i p j w h = let q = some-pair (os, p) (os', j) h in subst (λ z. Opened z i j) q.0 (subst (λ z. Opened os i z) q.1 w)
-
 opened-got : (n : ℕ) (os os' : List ℕ) (i p j : Input) → Opened os i p → opened n os p ≡ Some (os', j) → Opened os' i j
 unfolding opened
-opened-got zero os os' i p j w h = same-opens os os' i p j w h
+opened-got zero os os' i p j w h = same-value (λ os j. Opened os i j) os os' p j h w
 opened-got (suc n) os os' i p j w h = either (chosen (same k.LeftParenthesis (kind p)) (opened n (start p ∷ os) (next p)) (Some (os, p)) (Some (os', j)) h)
     (λ q. opened-got n (start p ∷ os) os' i (next p) j (paren w (same-is k.LeftParenthesis (kind p) q.0)) q.1)
-    (λ q. same-opens os os' i p j w q.1)
-
-abbrev some-part : Optional × ℕ → Input → Option ((Optional × ℕ) × Input)
-some-part z i = Some (z, i)
+    (λ q. same-value (λ os j. Opened os i j) os os' p j q.1 w)
 
 module _ (limit b : ℕ) (part : ℕ → Parser Deep) (sound : Sound b part) where
   reads : Reads part
@@ -88,15 +78,6 @@ module _ (limit b : ℕ) (part : ℕ → Parser Deep) (sound : Sound b part) whe
     where
       go : {z : Deep} {a : Input} → Got b m z (next i) a → node limit (max (depth v) z.depth) (form v z.expr (span (start p) a)) a ≡ Some (y, j) → Got limit l y p j
       go (got {x = w} {j = a} _ f) n = node-got (λ y j. Got limit l y p j) limit (max (depth v) (depth w)) (form v w (span (start p) a)) a j y n (deeper v w (span (start p) a)) (λ le. got le (build v w a d f))
-
-  left-got : {s : Kind} {form : Expr → Expr → Span → Expr} {l : ℕ} → Operator s form l → (have : ℕ) (p i j : Input) (x y : Deep) → l ≤ have → suc l ≤ 11 → kind i ≡ s → Got limit have x p i
-      → infixed limit part (suc l) form (start p) x i ≡ Some (y, j) → Got limit l y p j
-  left-got {s} {form} {l} w have p i j x y le lt h g e = infixed-got (suc l) have l form (operator-depth w) p i j x y lt (λ _ _ _ d f. operation w (down have l le d) h f) g e
-
-  applied-got : {s : Kind} {op : BinaryOperator} {l : ℕ} → Operator s (Binary op) l → (have : ℕ) (p i j : Input) (x y : Deep) → l ≤ have → suc l ≤ 11 → kind i ≡ s → Got limit have x p i
-      → applied limit part (suc l) op (start p) x i ≡ Some (y, j) → Got limit l y p j
-  unfolding applied
-  applied-got w have p i j x y le lt h g e = left-got w have p i j x y le lt h g e
 
   power-got : (have : ℕ) (p i j : Input) (x y : Deep) → 10 ≤ have → kind i ≡ k.Power → Got limit have x p i → applied limit part 8 binary.Power (start p) x i ≡ Some (y, j) → Got limit 9 y p j
   unfolding applied
@@ -138,20 +119,18 @@ module _ (limit b : ℕ) (part : ℕ → Parser Deep) (sound : Sound b part) whe
       P : Optional × ℕ → Input → Type 0
       P z j = DerivesPart z.0 i j × (z.1 ≡ optional_depth z.0)
 
-      empty : some-part (Absent, 0) i ≡ some-part z j → P z j
-      empty h = let q = some-pair ((Absent, 0), i) (z, j) h in subst (λ w. P w j) q.0 (subst (λ w. P (Absent, 0) w) q.1 (absent, refl))
+      empty : at (Absent, 0) i ≡ at z j → P z j
+      empty h = same-value P (Absent, 0) z i j h (absent, refl)
 
       go : {x : Deep} {a : Input} → Got b 0 x i a → written x a ≡ Some (z, j) → P z j
-      go (got {x = v} {j = a} _ d) h = let q = some-pair ((Present v, depth v), a) (z, j) h in subst (λ w. P w j) q.0 (subst (λ w. P (Present v, depth v) w) q.1 (present d, refl))
+      go (got {x = v} {j = a} _ d) h = same-value P (Present v, depth v) z a j h (present d, refl)
 
   step-got : (i j : Input) (z : Optional × ℕ) → r.step limit part i ≡ Some (z, j) → DerivesStep z.0 i j × (z.1 ≡ optional_depth z.0)
   unfolding r.step
   step-got i j z hh =
       either (chosen (same k.Colon (kind i)) (r.part limit part (next i)) (Some ((Absent, 0), i)) (Some (z, j)) hh)
       (λ q. let t = part-got (next i) j z q.1 in (step (same-is k.Colon (kind i) q.0) t.0, t.1))
-      (λ q. let e = some-pair ((Absent, 0), i) (z, j) q.1 in
-      let P : Optional × ℕ → Input → Type 0 = λ z j. DerivesStep z.0 i j × (z.1 ≡ optional_depth z.0) in
-      subst (λ w. P w j) e.0 (subst (λ w. P (Absent, 0) w) e.1 (no_step, refl)))
+      (λ q. same-value (λ (z : Optional × ℕ) j. DerivesStep z.0 i j × (z.1 ≡ optional_depth z.0)) (Absent, 0) z i j q.1 (no_step, refl))
 
   index-at-got : {s : Kind} {optional : Bool} → Bracket s optional → (p i a j : Input) (v : Expr) (y : Deep) (o : Optional) (d : ℕ) → kind i ≡ s → Derives 11 v p i → DerivesPart o (next i) a → d ≡ optional_depth o → kind a ≡ k.RightBracket
       → r.index_at limit part optional (start p) (deep v) o d a ≡ Some (y, j) → Got limit 11 y p j
@@ -247,38 +226,49 @@ module _ (limit b : ℕ) (part : ℕ → Parser Deep) (sound : Sound b part) whe
   lowered : (m l : ℕ) (x : Deep) (i j : Input) → l ≤ m → Got limit m x i j → Got limit l x i j
   lowered m l x i j le (got ok d) = got ok (down m l le d)
 
-  operation-by-got : (s : Kind) (have : ℕ) (p i j : Input) (x y : Deep) → kind i ≡ s → needs s ≤ have → have ≤ 11 → Got limit have x p i → r.operation_by limit part (start p) x s i ≡ Some (y, j) → Got limit (gives s) y p j
-  unfolding needs gives
-  operation-by-got k.If have p i j x y h n b g hh = choice-got have p i j x y n h g hh
-  operation-by-got k.Or have p i j x y h n b g hh = left-got or have p i j x y n (omega arith) h g hh
-  operation-by-got k.And have p i j x y h n b g hh = left-got and have p i j x y n (omega arith) h g hh
-  operation-by-got k.Not have p i j x y h n b g hh = not_in-got have p i j x y n h g hh
-  operation-by-got k.Equal have p i j x y h n b g hh = applied-got equal have p i j x y n (omega arith) h g hh
-  operation-by-got k.NotEqual have p i j x y h n b g hh = applied-got not_equal have p i j x y n (omega arith) h g hh
-  operation-by-got k.Less have p i j x y h n b g hh = applied-got less have p i j x y n (omega arith) h g hh
-  operation-by-got k.Greater have p i j x y h n b g hh = applied-got greater have p i j x y n (omega arith) h g hh
-  operation-by-got k.LessOrEqual have p i j x y h n b g hh = applied-got less_or_equal have p i j x y n (omega arith) h g hh
-  operation-by-got k.GreaterOrEqual have p i j x y h n b g hh = applied-got greater_or_equal have p i j x y n (omega arith) h g hh
-  operation-by-got k.In have p i j x y h n b g hh = applied-got is_in have p i j x y n (omega arith) h g hh
-  operation-by-got k.Is have p i j x y h n b g hh = test-got have p i j x y n h g hh
-  operation-by-got k.Tilde have p i j x y h n b g hh = applied-got concat have p i j x y n (omega arith) h g hh
-  operation-by-got k.Plus have p i j x y h n b g hh = applied-got add have p i j x y n (omega arith) h g hh
-  operation-by-got k.Minus have p i j x y h n b g hh = applied-got subtract have p i j x y n (omega arith) h g hh
-  operation-by-got k.Star have p i j x y h n b g hh = applied-got multiply have p i j x y n (omega arith) h g hh
-  operation-by-got k.Slash have p i j x y h n b g hh = applied-got divide have p i j x y n (omega arith) h g hh
-  operation-by-got k.FloorSlash have p i j x y h n b g hh = applied-got floor_divide have p i j x y n (omega arith) h g hh
-  operation-by-got k.Percent have p i j x y h n b g hh = applied-got remainder have p i j x y n (omega arith) h g hh
-  operation-by-got k.Power have p i j x y h n b g hh = power-got have p i j x y n h g hh
-  operation-by-got k.Bar have p i j x y h n b g hh = filter-got have p i j x y n h g hh
-  operation-by-got k.Dot have p i j x y h n b g hh = attribute-got dot p i j x y h (lowered have 11 x p i n g) hh
-  operation-by-got k.OptionalDot have p i j x y h n b g hh = attribute-got optional_dot p i j x y h (lowered have 11 x p i n g) hh
-  operation-by-got k.LeftBracket have p i j x y h n b g hh = subscript-got bracket p i j x y h (lowered have 11 x p i n g) hh
-  operation-by-got k.OptionalBracket have p i j x y h n b g hh = subscript-got optional_bracket p i j x y h (lowered have 11 x p i n g) hh
-  operation-by-got _ have p i j x y h n b g hh = absurd (omega arith)
+  operation-by-got : (have : ℕ) (p i j : Input) (x y : Deep) → have ≤ 11 → Got limit have x p i → (s : Kind) → kind i ≡ s → needs s ≤ have → r.operation_by limit part (start p) x s i ≡ Some (y, j) → Got limit (gives s) y p j
+  unfolding needs gives applied
+  operation-by-got have p i j x y le g = behind
+    where
+      high : 11 ≤ have → Got limit 11 x p i
+      high n = lowered have 11 x p i n g
+
+      grouped : {s : Kind} {form : Expr → Expr → Span → Expr} {l : ℕ} → Operator s form l → kind i ≡ s → l ≤ have → infixed limit part (suc l) form (start p) x i ≡ Some (y, j) → Got limit l y p j
+      grouped {form = form} {l = l} w h n hh =
+          let v = operator-needs w in
+          infixed-got (suc l) have l form (operator-depth w) p i j x y (omega arith) (λ _ _ _ d f. operation w (down have l n d) h f) g hh
+
+      behind : (s : Kind) → kind i ≡ s → needs s ≤ have → r.operation_by limit part (start p) x s i ≡ Some (y, j) → Got limit (gives s) y p j
+      behind k.If h n hh = choice-got have p i j x y n h g hh
+      behind k.Or h n hh = grouped or h n hh
+      behind k.And h n hh = grouped and h n hh
+      behind k.Equal h n hh = grouped equal h n hh
+      behind k.NotEqual h n hh = grouped not_equal h n hh
+      behind k.Less h n hh = grouped less h n hh
+      behind k.Greater h n hh = grouped greater h n hh
+      behind k.LessOrEqual h n hh = grouped less_or_equal h n hh
+      behind k.GreaterOrEqual h n hh = grouped greater_or_equal h n hh
+      behind k.In h n hh = grouped is_in h n hh
+      behind k.Tilde h n hh = grouped concat h n hh
+      behind k.Plus h n hh = grouped add h n hh
+      behind k.Minus h n hh = grouped subtract h n hh
+      behind k.Star h n hh = grouped multiply h n hh
+      behind k.Slash h n hh = grouped divide h n hh
+      behind k.FloorSlash h n hh = grouped floor_divide h n hh
+      behind k.Percent h n hh = grouped remainder h n hh
+      behind k.Power h n hh = power-got have p i j x y n h g hh
+      behind k.Not h n hh = not_in-got have p i j x y n h g hh
+      behind k.Is h n hh = test-got have p i j x y n h g hh
+      behind k.Bar h n hh = filter-got have p i j x y n h g hh
+      behind k.Dot h n hh = attribute-got dot p i j x y h (high n) hh
+      behind k.OptionalDot h n hh = attribute-got optional_dot p i j x y h (high n) hh
+      behind k.LeftBracket h n hh = subscript-got bracket p i j x y h (high n) hh
+      behind k.OptionalBracket h n hh = subscript-got optional_bracket p i j x y h (high n) hh
+      behind _ h n hh = absurd (omega (arith, le))
 
   operation-got : (have : ℕ) (p i j : Input) (x y : Deep) → needs (kind i) ≤ have → have ≤ 11 → Got limit have x p i → r.operation limit part (start p) x i ≡ Some (y, j) → Got limit (gives (kind i)) y p j
   unfolding r.operation
-  operation-got have p i j x y n b g hh = operation-by-got (kind i) have p i j x y refl n b g hh
+  operation-got have p i j x y n b g hh = operation-by-got have p i j x y b g (kind i) refl n hh
 
   floor-small : (os : List ℕ) (floor : ℕ) → floor ≤ 11 → floor_in os floor ≤ 11
   floor-small [] floor h = h
@@ -310,19 +300,19 @@ module _ (limit b : ℕ) (part : ℕ → Parser Deep) (sound : Sound b part) whe
   rest-got : (further : Items → ℕ → Parser (Items × ℕ)) (found f : Items) (s : Bool) (x : Expr) (d m : ℕ) (i a j : Input) (z : Items × ℕ) → f ≡ join_items found (one_item s x) → m ≡ max d (depth x)
       → DerivesItem s x i a → (further f m (next a) ≡ Some (z, j) → GotItems f m (next a) z j) → r.behind_item limit part further f m a ≡ Some (z, j) → GotItems found d i z j
   rest-got further found f s x d m i a j z ef em w again hh =
-      either (chosen (same k.Comma (kind a)) (further f m (next a)) (and_then (expect k.RightBracket a) (λ _. λ o. taken (f, m) o)) (Some (z, j)) hh)
+      either (chosen (same k.Comma (kind a)) (further f m (next a)) (and_then (expect k.RightBracket a) (λ _. λ o. at (f, m) o)) (Some (z, j)) hh)
       (λ q. more-items found f s x d m i a j z ef em w (same-is k.Comma (kind a) q.0) (again q.1))
-      (λ q. let g = and_then-some (expect k.RightBracket a) (λ _. λ o. taken (f, m) o) (z, j) q.1 in
+      (λ q. let g = and_then-some (expect k.RightBracket a) (λ _. λ o. at (f, m) o) (z, j) q.1 in
       let u = expect-some k.RightBracket a g.1 g.0 g.2 in
       let P : Input → Type 0 = λ o. GotItems found d i (f, m) o in
-      same-items found d i (f, m) z g.1 j g.3 (subst P (sym u.1) (one-item found f s x d m i a ef em w u.0)))
+      same-value (λ y j. GotItems found d i y j) (f, m) z g.1 j g.3 (subst P (sym u.1) (one-item found f s x d m i a ef em w u.0)))
 
   items-got : (n : ℕ) (found : Items) (d : ℕ) (i j : Input) (z : Items × ℕ) → r.items_from limit part n found d i ≡ Some (z, j) → GotItems found d i z j
   unfolding r.items_from
   items-got zero found d i j z hh = cc
   items-got (suc n) found d i j z hh =
       either (chosen (same k.RightBracket (kind i)) (Some ((found, d), next i)) (and_then (part 0 (behind_dots i)) (behind n found d (same k.Spread (kind i)))) (Some (z, j)) hh)
-      (λ q. same-items found d i (found, d) z (next i) j q.1 (no-items found d i (same-is k.RightBracket (kind i) q.0)))
+      (λ q. same-value (λ y j. GotItems found d i y j) (found, d) z (next i) j q.1 (no-items found d i (same-is k.RightBracket (kind i) q.0)))
       (λ q. let t = and_then-some (part 0 (behind_dots i)) (behind n found d (same k.Spread (kind i))) (z, j) q.1 in
       go (λ found d i. items-got n found d i j z) (sound 0 (behind_dots i) t.1 t.0 (omega arith) t.2) t.3)
     where
@@ -355,9 +345,9 @@ module _ (limit b : ℕ) (part : ℕ → Parser Deep) (sound : Sound b part) whe
   condition-got : (i j : Input) (z : Optional × ℕ) → r.condition limit part i ≡ Some (z, j) → DerivesCondition z.0 i j × (z.1 ≡ optional_depth z.0)
   unfolding r.condition
   condition-got i j z hh =
-      either (chosen (same k.If (kind i)) (and_then (part 1 (next i)) written) (some-part (Absent, 0) i) (Some (z, j)) hh)
+      either (chosen (same k.If (kind i)) (and_then (part 1 (next i)) written) (at (Absent, 0) i) (Some (z, j)) hh)
       (λ q. let t = and_then-some (part 1 (next i)) written (z, j) q.1 in go (same-is k.If (kind i) q.0) (sound 1 (next i) t.1 t.0 (omega arith) t.2) t.3)
-      (λ q. let e = some-pair ((Absent, 0), i) (z, j) q.1 in subst (λ w. P w j) e.0 (subst (λ w. P (Absent, 0) w) e.1 (no_condition, refl)))
+      (λ q. same-value P (Absent, 0) z i j q.1 (no_condition, refl))
     where
       written : Deep → Parser (Optional × ℕ)
       written x j = Some ((Present x.expr, x.depth), j)
@@ -366,7 +356,7 @@ module _ (limit b : ℕ) (part : ℕ → Parser Deep) (sound : Sound b part) whe
       P z j = DerivesCondition z.0 i j × (z.1 ≡ optional_depth z.0)
 
       go : kind i ≡ k.If → {x : Deep} {a : Input} → Got b 1 x (next i) a → written x a ≡ Some (z, j) → P z j
-      go e (got {x = v} {j = a} _ d) h = let q = some-pair ((Present v, depth v), a) (z, j) h in subst (λ w. P w j) q.0 (subst (λ w. P (Present v, depth v) w) q.1 (condition e d, refl))
+      go e (got {x = v} {j = a} _ d) h = same-value P (Present v, depth v) z a j h (condition e d, refl)
 
   comprehension-got : (i a j : Input) (y : Deep) (v : Expr) → kind i ≡ k.LeftBracket → Derives 0 v (next i) a → kind a ≡ k.For → r.comprehension limit part (start i) (deep v) a ≡ Some (y, j) → Got limit 11 y i j
   unfolding r.comprehension r.comprehension_made
@@ -416,8 +406,8 @@ module _ (limit b : ℕ) (part : ℕ → Parser Deep) (sound : Sound b part) whe
   unfolding r.entries_from
   entries-got zero found d i j z hh = cc
   entries-got (suc n) found d i j z hh =
-      either (chosen (same k.RightBrace (kind i)) (took (found, d) (next i)) (and_then (r.entry_key i) behind) (Some (z, j)) hh)
-      (λ q. same-entries found d i (found, d) z (next i) j q.1 (no-more-entries found d i (same-is k.RightBrace (kind i) q.0)))
+      either (chosen (same k.RightBrace (kind i)) (at (found, d) (next i)) (and_then (r.entry_key i) behind) (Some (z, j)) hh)
+      (λ q. same-value (λ y j. GotEntries found d i y j) (found, d) z (next i) j q.1 (no-more-entries found d i (same-is k.RightBrace (kind i) q.0)))
       (λ q. let t = and_then-some (r.entry_key i) behind (z, j) q.1 in
       let u = and_then-some (part 0 t.1) (r.entry_rest limit part (r.entries_from limit part n) found d t.0) (z, j) t.3 in
       go (λ found d i. entries-got n found d i j z) t.0 t.1 (entry_key-got i t.1 t.0 t.2) (sound 0 t.1 u.1 u.0 (omega arith) u.2) u.3)
@@ -429,11 +419,11 @@ module _ (limit b : ℕ) (part : ℕ → Parser Deep) (sound : Sound b part) whe
           → r.entry_rest limit part (r.entries_from limit part n) found d key x a ≡ Some (z, j) → GotEntries found d i z j
       go again key m w (got {x = v} {j = a} _ p) h =
           either (chosen (same k.Comma (kind a)) (r.entries_from limit part n (join_entries found (r.one_entry key v)) (max d (depth v)) (next a))
-          (and_then (expect k.RightBrace a) (λ _. λ o. took (join_entries found (r.one_entry key v), max d (depth v)) o)) (Some (z, j)) h)
+          (and_then (expect k.RightBrace a) (λ _. λ o. at (join_entries found (r.one_entry key v), max d (depth v)) o)) (Some (z, j)) h)
           (λ q. an-entry-more found key v d i a j z (w v a p) (same-is k.Comma (kind a) q.0) (again (join_entries found (r.one_entry key v)) (max d (depth v)) (next a) q.1))
-          (λ q. let g = and_then-some (expect k.RightBrace a) (λ _. λ o. took (join_entries found (r.one_entry key v), max d (depth v)) o) (z, j) q.1 in
+          (λ q. let g = and_then-some (expect k.RightBrace a) (λ _. λ o. at (join_entries found (r.one_entry key v), max d (depth v)) o) (z, j) q.1 in
           let u = expect-some k.RightBrace a g.1 g.0 g.2 in
-          same-entries found d i (join_entries found (r.one_entry key v), max d (depth v)) z g.1 j g.3
+          same-value (λ y j. GotEntries found d i y j) (join_entries found (r.one_entry key v), max d (depth v)) z g.1 j g.3
           (let P : Input → Type 0 = λ o. GotEntries found d i (join_entries found (r.one_entry key v), max d (depth v)) o in subst P (sym u.1) (last-entry found key v d i a (w v a p) u.0)))
 
   map-got : (i j : Input) (y : Deep) → kind i ≡ k.LeftBrace → r.map limit part i ≡ Some (y, j) → Got limit 11 y i j

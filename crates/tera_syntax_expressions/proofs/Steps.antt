@@ -74,10 +74,11 @@ pub either : {A B C : Type 0} → A ⊎ B → (A → C) → (B → C) → C
 either (inl a) f g = f a
 either (inr b) f g = g b
 
-abbrev at : Deep → Input → Option (Deep × Input)
+-- what was read, and what stands behind it
+abbrev pub at : {A : Type 0} → A → Input → Option (A × Input)
 at x i = Some (x, i)
 
-pub same-value : (P : Deep → Input → Type 0) (x y : Deep) (i j : Input) → at x i ≡ at y j → P x i → P y j
+pub same-value : {A : Type 0} (P : A → Input → Type 0) (x y : A) (i j : Input) → at x i ≡ at y j → P x i → P y j
 same-value P x y i j h p = let q = some-pair (x, i) (y, j) h in subst (λ z. P z j) q.0 (subst (P x) q.1 p)
 
 pub node-got : (P : Deep → Input → Type 0) (limit d : ℕ) (x : Expr) (i j : Input) (y : Deep) → node limit d x i ≡ Some (y, j) → depth x ≡ suc d → (depth x ≤ limit → P (deep x) i) → P y j

@@ -8,7 +8,7 @@ use Rattle.tera_syntax_tokens.specs.Input.{Input, Parsed, Parser, and_then, same
 use Rattle.tera_syntax_expressions.specs.Expressions as r
 use Rattle.tera_syntax_expressions.specs.Expressions.{Deep, deep, needs, gives, begins, goes_on, floor_in, opened, climb, level, level_with, expr, head}
 use Rattle.tera_syntax_expressions.proofs.Steps as steps
-use Rattle.tera_syntax_expressions.proofs.Precedence.{Stops, le-true, between, closes, on, off, begins-at}
+use Rattle.tera_syntax_expressions.proofs.Precedence.{Stops, le-true, between, closes, on, off, level-at}
 use Rattle.tera_syntax_expressions.proofs.Extent.{next-left}
 
 pub if-mono : {A : Type 0} (c : Bool) (d e : Option A) (y : A) → (d ≡ Some y → e ≡ Some y) → (if c then d else None) ≡ Some y → (if c then e else None) ≡ Some y
@@ -122,7 +122,7 @@ goes-on b m n floor have have' os x z i a j y g dep fl le needs gives fu sh o c 
 pub goes-first : (b m n floor l : ℕ) (os : List ℕ) (s : Kind) (x : Expr) (i j : Input) (y : Deep × Input) → kind i ≡ s → (s ≡ k.LeftParenthesis → ⊥) → begins s ≡ l → floor_in os floor ≤ l → n ≤ m
     → head (suc b) (expr b) i ≡ Some (deep x, j) → climb (suc b) (expr b) n os floor l (start i) (deep x) j ≡ Some y → reading b m os floor i ≡ Some y
 goes-first b m n floor l os s x i j y h never be fl le e c =
-    let f : begins (kind i) ≡ l = begins-at (kind i) s l h be in
+    let f : begins (kind i) ≡ l = level-at begins (kind i) s l h be in
     reading-head b m floor os i (deep x) j y (λ p. never (sym h ∙ p)) (omega arith) e
     (rw f (mono (suc b) (expr b) n m os floor l (start i) (deep x) j y le c))
 

@@ -34,13 +34,21 @@ expr_none zero floor i h = refl
 expr_none (suc n) floor i h = absurd (omega arith)
 
 -- a turn of `climb`, by the count of open parentheses
-pub climb_here : (limit : ℕ) (sub : ℕ → Parser Deep) (n opens floor have from : ℕ) (run : List Token) (x : Deep) (i : Input)
-    → climb limit sub (suc n) (starts run opens) floor have from x i
-    ≡ (if goes_on (if nat_eq opens 0 then floor else 0) have (kind i) then and_then (operation limit sub from x i) (climb limit sub n (starts run opens) floor (gives (kind i)) from)
-    else (if nat_eq opens 0 then Some (x, i) else (if same RightParenthesis (kind i) then climb limit sub n (starts run (opens - 1)) floor 11 (start_of (drop (opens - 1) run)) x (next i) else None)))
+abbrev pub climb_turn : ℕ → (ℕ → Parser Deep) → ℕ → ℕ → ℕ → ℕ → ℕ → List Token → Deep → Input → Parsed Deep
+climb_turn limit sub n opens floor have from run x i =
+    if goes_on (if nat_eq opens 0 then floor else 0) have (kind i) then and_then (operation limit sub from x i) (climb limit sub n (starts run opens) floor (gives (kind i)) from)
+    else (if nat_eq opens 0 then Some (x, i) else (if same RightParenthesis (kind i) then climb limit sub n (starts run (opens - 1)) floor 11 (start_of (drop (opens - 1) run)) x (next i) else None))
+
+climb_here : (limit : ℕ) (sub : ℕ → Parser Deep) (n opens floor have from : ℕ) (run : List Token) (x : Deep) (i : Input)
+    → climb limit sub (suc n) (starts run opens) floor have from x i ≡ climb_turn limit sub n opens floor have from run x i
 unfolding climb
 climb_here limit sub n zero floor have from run x i = refl
 climb_here limit sub n (suc p) floor have from run x i = let e : suc p - 1 ≡ p = omega arith in let f : nat_eq (suc p) 0 ≡ false = grind (arith, common_steps) in rw (e, f) refl
+
+pub climb_once : {meant : Parsed Deep} (limit : ℕ) (sub : ℕ → Parser Deep) (n at opens floor have from : ℕ) (run : List Token) (x : Deep) (i : Input) → at < n
+    → meant ≡ climb limit sub (n - at) (starts run opens) floor have from x i → meant ≡ climb_turn limit sub (n - (at + 1)) opens floor have from run x i
+climb_once limit sub n at opens floor have from run x i lt turn =
+    one_more (λ n. climb limit sub n (starts run opens) floor have from x i) n at lt turn ∙ climb_here limit sub (n - (at + 1)) opens floor have from run x i
 
 pub floor_is : (run : List Token) (opens floor : ℕ) → floor_in (starts run opens) floor ≡ (if nat_eq opens 0 then floor else 0)
 floor_is run zero floor = refl
@@ -119,6 +127,11 @@ module _ (limit : ℕ) (sub : ℕ → Parser Deep) {meant : Parsed (Items × ℕ
 pub refused : {Y Z : Type 0} {part : Option Y} {meant : Option Z} (r : Refusal) → (part ≡ None → meant ≡ None) → Refuses part r → Refuses meant r
 refused (Syntax why place) f h = f h
 refused OutOfMemory f h = tt
+
+-- where nothing closes behind a part, the whole is refused
+pub refused_behind : {S : Type 0} {meant : Parsed S} {closing : Kind} {more : S → Parser S} {found : S} {j : Input} (r : Refusal) → Behind meant closing more found j → same Comma (kind j) ≡ false
+    → Refuses (expect closing j) r → Refuses meant r
+refused_behind r b h e = refused r (closes_behind b h) e
 
 -- rows of entries
 pub entries_of-push : (all : List entry.Entry) (i : entry.Entry) → entries_of (all ++ i ∷ []) ≡ join_entries (entries_of all) (one_entry (literal_option i.key) (expr_of i.value))

@@ -2,7 +2,7 @@
 use Rattle.std.proofs.Common.{◌≡◌, ℕ, zero, suc, ◌<◌, ◌≤◌, ℤ, neg_ℤ, true, false, Option, Some, None, refl, sym, ◌∙◌, ap, subst, arith}
 use Rattle.std.specs.Prelude.{option_map}
 use Rattle.tera_errors.specs.Site.{Text}
-use Rattle.tera_syntax_tree.specs.Tree.{Key, Literal, NothingLiteral, BooleanLiteral, IntegerLiteral, TextLiteral, ArrayLiteral, MapLiteral, Literals, NoLiterals, MoreLiterals, LiteralEntries, NoLiteralEntries, MoreLiteralEntries}
+use Rattle.tera_syntax_tree.specs.Tree.{Key, Literal, NothingLiteral, BooleanLiteral, IntegerLiteral, TextLiteral, ArrayLiteral, MapLiteral, Literals, NoLiterals, LiteralEntries, NoLiteralEntries}
 use Rattle.tera_syntax_tree.specs.Depth.{literal_depth, literals_depth, literal_entries_depth}
 use Rattle.tera_syntax_tokens.specs.declared.token.Kind.{Kind}
 use Rattle.tera_syntax_tokens.specs.declared.token.Kind.TheVariants as k
@@ -10,7 +10,7 @@ use Rattle.tera_syntax_tokens.specs.Input.{Input, Parser, and_then, same, kind, 
 use Rattle.tera_syntax_tokens.specs.Literal.{integer, literal}
 use Rattle.tera_syntax_expressions.specs.Keys.{key_at}
 use Rattle.tera_syntax_expressions.specs.Literals.{DerivesLiteral, plain, minus, array, map, DerivesLiterals, none, one, more, DerivesLiteralEntries, no_entries, one_entry, more_entries, DerivesLiteralEntry, entry, plain_by, plain_at, join_literals, one_literal, join_literal_entries, one_literal_entry, closed, behind_part, parts_from, literal_at, negative, keyed_by, written_key, written_item, written_entry, written_items, written_entries, written_by, written}
-use Rattle.tera_syntax_expressions.proofs.Steps.{and_then-some, guard, chosen, same-is, some-pair, either, alike, differ, unlike, expect-some}
+use Rattle.tera_syntax_expressions.proofs.Steps.{and_then-some, guard, chosen, same-is, some-pair, same-value, either, alike, differ, unlike, expect-some}
 use Rattle.tera_syntax_expressions.proofs.Extent.{token, key-left, key-kind}
 use Rattle.tera_syntax_expressions.proofs.PartRows.{parts_behind, parts_end, parts_next, parts_comma, parts_shut, join-no-literals, join-literals, join-no-literal-entries, join-literal-entries}
 
@@ -43,9 +43,8 @@ plain-got b i j x h = go (plain_at i) refl h
     go : (o : Option Literal) → plain_at i ≡ o → literal_at o i ≡ Some (x, j) → Reading (suc b) i x j
     go None e h = absurd (cc)
     go (Some y) e h =
-        let s = some-pair (y, next i) (x, j) h in
         let le = plain-leaf (kind i) (text i) y e in
-        subst (λ x. Reading (suc b) i x j) s.0 (subst (λ j. Reading (suc b) i y j) s.1 (plain e, omega (arith, le)))
+        same-value (λ x j. Reading (suc b) i x j) y x (next i) j h (plain e, omega (arith, le))
 
 minus-got : (b : ℕ) (i j : Input) (x : Literal) → kind i ≡ k.Minus → negative (next i) ≡ Some (x, j) → Reading (suc b) i x j
 unfolding negative
@@ -56,8 +55,7 @@ minus-got b i j x m h =
     go : (o : Option ℤ) → integer (text (next i)) ≡ o → kind (next i) ≡ k.Int → literal_at (option_map (λ z. IntegerLiteral (neg_ℤ z)) o) (next i) ≡ Some (x, j) → Reading (suc b) i x j
     go None e t h = absurd (cc)
     go (Some z) e t h =
-        let s = some-pair (IntegerLiteral (neg_ℤ z), next (next i)) (x, j) h in
-        subst (λ x. Reading (suc b) i x j) s.0 (subst (λ j. Reading (suc b) i (IntegerLiteral (neg_ℤ z)) j) s.1 (minus m t e, omega arith))
+        same-value (λ x j. Reading (suc b) i x j) (IntegerLiteral (neg_ℤ z)) x (next (next i)) j h (minus m t e, omega arith)
 
 key-got : (i j : Input) (key : Key) → written_key i ≡ Some (key, j) → (key_at i ≡ Some key) × (kind (next i) ≡ k.Colon) × (j ≡ next (next i))
 unfolding written_key
@@ -79,76 +77,64 @@ shut-got s step found z i j h =
     let e = some-pair (found, q.1) (z, j) q.3 in
     (u.0, e.0, sym u.1 ∙ e.1)
 
--- values behind those that were found, up to what closes
-record GotItems (b : ℕ) (found : Literals) (i : Input) (z : Literals) (j : Input) : Type 0 where
-  items : Literals
+-- parts behind those that were found, up to what closes
+record GotParts {A : Type 0} (Parts : A → Input → Input → Type 0) (join : A → A → A) (deepest : A → ℕ) (closing : Kind) (b : ℕ) (found : A) (i : Input) (z : A) (j : Input) : Type 0 where
+  parts : A
   place : Input
-  derived : DerivesLiterals items i place
-  shut : kind place ≡ k.RightBracket
+  derived : Parts parts i place
+  shut : kind place ≡ closing
   behind : next place ≡ j
-  joined : z ≡ join_literals found items
-  fits : literals_depth items ≤ b
+  joined : z ≡ join found parts
+  fits : deepest parts ≤ b
 
-record GotEntries (b : ℕ) (found : LiteralEntries) (i : Input) (z : LiteralEntries) (j : Input) : Type 0 where
-  entries : LiteralEntries
-  place : Input
-  derived : DerivesLiteralEntries entries i place
-  shut : kind place ≡ k.RightBrace
-  behind : next place ≡ j
-  joined : z ≡ join_literal_entries found entries
-  fits : literal_entries_depth entries ≤ b
+-- one of them, alone and before others
+record GotPart {A : Type 0} (Parts : A → Input → Input → Type 0) (join : A → A → A) (deepest : A → ℕ) (b : ℕ) (found : A) (i : Input) (z : A) (j : Input) : Type 0 where
+  part : A
+  alone : Parts part i j
+  before : (rest : A) (a : Input) → kind j ≡ k.Comma → Parts rest (next j) a → Parts (join part rest) i a
+  joined : z ≡ join found part
+  fits : deepest part ≤ b
+  fits_before : (rest : A) → deepest rest ≤ b → deepest (join part rest) ≤ b
 
--- one of them
-record GotItem (b : ℕ) (found : Literals) (i : Input) (z : Literals) (j : Input) : Type 0 where
-  value : Literal
-  derived : DerivesLiteral value i j
-  joined : z ≡ join_literals found (one_literal value)
-  fits : literal_depth value ≤ b
-
-record GotEntry (b : ℕ) (found : LiteralEntries) (i : Input) (z : LiteralEntries) (j : Input) : Type 0 where
-  key : Key
-  value : Literal
-  derived : DerivesLiteralEntry key value i j
-  joined : z ≡ join_literal_entries found (one_literal_entry key value)
-  fits : literal_depth value ≤ b
+module _ {A : Type 0} (closing : Kind) (step : A → Parser A) (Parts : A → Input → Input → Type 0) (join : A → A → A) (deepest : A → ℕ) (b : ℕ) (no_parts : A) (fits_none : deepest no_parts ≤ b)
+    (none_derived : (i : Input) → Parts no_parts i i) (join_none : (xs : A) → join xs no_parts ≡ xs) (join_join : (xs ys zs : A) → join (join xs ys) zs ≡ join xs (join ys zs))
+    (part_got : (found z : A) (i j : Input) → step found i ≡ Some (z, j) → GotPart Parts join deepest b found i z j) where
+  parts-got : (n : ℕ) (found z : A) (i j : Input) → parts_from closing step n found i ≡ Some (z, j) → GotParts Parts join deepest closing b found i z j
+  unfolding parts_from
+  parts-got zero found z i j h = absurd (cc)
+  parts-got (suc n) found z i j h =
+      let further = parts_from closing step n in
+      either (chosen (same closing (kind i)) (Some (found, next i)) (and_then (step found i) (behind_part closing step further)) (Some (z, j)) h)
+      (λ q. let s = some-pair (found, next i) (z, j) q.1 in
+      record { parts = no_parts; place = i; derived = none_derived i; shut = same-is closing (kind i) q.0; behind = s.1; joined = sym s.0 ∙ sym (join_none found); fits = fits_none })
+      (λ q. let t = and_then-some (step found i) (behind_part closing step further) (z, j) q.1 in
+      let w = part_got found t.0 i t.1 t.2 in
+      either (chosen (same k.Comma (kind t.1)) (further t.0 (next t.1)) (closed closing step t.0 t.1) (Some (z, j)) t.3)
+      (λ c. let v = parts-got n t.0 z (next t.1) j c.1 in
+      record {
+        parts = join w.part v.parts;
+        place = v.place;
+        derived = w.before v.parts v.place (same-is k.Comma (kind t.1) c.0) v.derived;
+        shut = v.shut;
+        behind = v.behind;
+        joined = v.joined ∙ ap (λ f. join f v.parts) w.joined ∙ join_join found w.part v.parts;
+        fits = w.fits_before v.parts v.fits;
+      })
+      (λ c. let u = shut-got closing step t.0 z t.1 j c.1 in
+      record { parts = w.part; place = t.1; derived = w.alone; shut = u.0; behind = u.2; joined = sym u.1 ∙ w.joined; fits = w.fits }))
 
 module _ (b : ℕ) (part : Parser Literal) (reads : Reads b part) where
-  item-got : (found z : Literals) (i j : Input) → written_item part found i ≡ Some (z, j) → GotItem b found i z j
+  item-got : (found z : Literals) (i j : Input) → written_item part found i ≡ Some (z, j) → GotPart DerivesLiterals join_literals literals_depth b found i z j
   unfolding written_item
   item-got found z i j h =
       let p = and_then-some (part i) (λ x. λ j. Some (join_literals found (one_literal x), j)) (z, j) h in
       let s = some-pair (join_literals found (one_literal p.0), p.1) (z, j) p.3 in
       let w = reads i p.1 p.0 p.2 in
-      record { value = p.0; derived = subst (λ a. DerivesLiteral p.0 i a) s.1 w.0; joined = sym s.0; fits = w.1 }
+      let d = subst (λ a. DerivesLiteral p.0 i a) s.1 w.0 in
+      let f = w.1 in
+      record { part = one_literal p.0; alone = one d; before = λ _ _ c q. more d c q; joined = sym s.0; fits = omega (arith, f); fits_before = λ _ g. omega (arith, f, g) }
 
-  items-got : (n : ℕ) (found z : Literals) (i j : Input) → parts_from k.RightBracket (written_item part) n found i ≡ Some (z, j) → GotItems b found i z j
-  unfolding parts_from
-  items-got zero found z i j h = absurd (cc)
-  items-got (suc n) found z i j h =
-      let step = written_item part in
-      let further = parts_from k.RightBracket step n in
-      either (chosen (same k.RightBracket (kind i)) (Some (found, next i)) (and_then (step found i) (behind_part k.RightBracket step further)) (Some (z, j)) h)
-      (λ q. let s = some-pair (found, next i) (z, j) q.1 in
-      record { items = NoLiterals; place = i; derived = none; shut = same-is k.RightBracket (kind i) q.0; behind = s.1; joined = sym s.0 ∙ sym (join-no-literals found); fits = omega arith })
-      (λ q. let t = and_then-some (step found i) (behind_part k.RightBracket step further) (z, j) q.1 in
-      let w = item-got found t.0 i t.1 t.2 in
-      let f = w.fits in
-      either (chosen (same k.Comma (kind t.1)) (further t.0 (next t.1)) (closed k.RightBracket step t.0 t.1) (Some (z, j)) t.3)
-      (λ c. let v = items-got n t.0 z (next t.1) j c.1 in
-      let g = v.fits in
-      record {
-        items = MoreLiterals w.value v.items;
-        place = v.place;
-        derived = more w.derived (same-is k.Comma (kind t.1) c.0) v.derived;
-        shut = v.shut;
-        behind = v.behind;
-        joined = v.joined ∙ ap (λ f. join_literals f v.items) w.joined ∙ join-literals found (one_literal w.value) v.items;
-        fits = omega (arith, f, g);
-      })
-      (λ c. let u = shut-got k.RightBracket step t.0 z t.1 j c.1 in
-      record { items = one_literal w.value; place = t.1; derived = one w.derived; shut = u.0; behind = u.2; joined = sym u.1 ∙ w.joined; fits = omega (arith, f) }))
-
-  entry-got : (found z : LiteralEntries) (i j : Input) → written_entry part found i ≡ Some (z, j) → GotEntry b found i z j
+  entry-got : (found z : LiteralEntries) (i j : Input) → written_entry part found i ≡ Some (z, j) → GotPart DerivesLiteralEntries join_literal_entries literal_entries_depth b found i z j
   unfolding written_entry
   entry-got found z i j h =
       let last : Key → Literal → Parser LiteralEntries = λ key x. λ a. Some (join_literal_entries found (one_literal_entry key x), a) in
@@ -157,55 +143,29 @@ module _ (b : ℕ) (part : Parser Literal) (reads : Reads b part) where
       let p = and_then-some (part q.1) (last q.0) (z, j) q.3 in
       let s = some-pair (join_literal_entries found (one_literal_entry q.0 p.0), p.1) (z, j) p.3 in
       let w = reads q.1 p.1 p.0 p.2 in
-      let d = subst (λ a. DerivesLiteral p.0 a p.1) u.2 w.0 in
-      record { key = q.0; value = p.0; derived = entry u.0 u.1 (subst (λ a. DerivesLiteral p.0 (next (next i)) a) s.1 d); joined = sym s.0; fits = w.1 }
-
-  entries-got : (n : ℕ) (found z : LiteralEntries) (i j : Input) → parts_from k.RightBrace (written_entry part) n found i ≡ Some (z, j) → GotEntries b found i z j
-  unfolding parts_from
-  entries-got zero found z i j h = absurd (cc)
-  entries-got (suc n) found z i j h =
-      let step = written_entry part in
-      let further = parts_from k.RightBrace step n in
-      either (chosen (same k.RightBrace (kind i)) (Some (found, next i)) (and_then (step found i) (behind_part k.RightBrace step further)) (Some (z, j)) h)
-      (λ q. let s = some-pair (found, next i) (z, j) q.1 in
-      record { entries = NoLiteralEntries; place = i; derived = no_entries; shut = same-is k.RightBrace (kind i) q.0; behind = s.1; joined = sym s.0 ∙ sym (join-no-literal-entries found); fits = omega arith })
-      (λ q. let t = and_then-some (step found i) (behind_part k.RightBrace step further) (z, j) q.1 in
-      let w = entry-got found t.0 i t.1 t.2 in
-      let f = w.fits in
-      either (chosen (same k.Comma (kind t.1)) (further t.0 (next t.1)) (closed k.RightBrace step t.0 t.1) (Some (z, j)) t.3)
-      (λ c. let v = entries-got n t.0 z (next t.1) j c.1 in
-      let g = v.fits in
-      record {
-        entries = MoreLiteralEntries w.key w.value v.entries;
-        place = v.place;
-        derived = more_entries w.derived (same-is k.Comma (kind t.1) c.0) v.derived;
-        shut = v.shut;
-        behind = v.behind;
-        joined = v.joined ∙ ap (λ f. join_literal_entries f v.entries) w.joined ∙ join-literal-entries found (one_literal_entry w.key w.value) v.entries;
-        fits = omega (arith, f, g);
-      })
-      (λ c. let u = shut-got k.RightBrace step t.0 z t.1 j c.1 in
-      record { entries = one_literal_entry w.key w.value; place = t.1; derived = one_entry w.derived; shut = u.0; behind = u.2; joined = sym u.1 ∙ w.joined; fits = omega (arith, f) }))
+      let d = entry u.0 u.1 (subst (λ a. DerivesLiteral p.0 (next (next i)) a) s.1 (subst (λ a. DerivesLiteral p.0 a p.1) u.2 w.0)) in
+      let f = w.1 in
+      record { part = one_literal_entry q.0 p.0; alone = one_entry d; before = λ _ _ c m. more_entries d c m; joined = sym s.0; fits = omega (arith, f); fits_before = λ _ g. omega (arith, f, g) }
 
   array-got : (i j : Input) (x : Literal) → kind i ≡ k.LeftBracket → and_then (written_items part (next i)) (λ xs. λ j. Some (ArrayLiteral xs, j)) ≡ Some (x, j) → Reading (suc b) i x j
   unfolding written_items
   array-got i j x e h =
       let q = and_then-some (written_items part (next i)) (λ xs. λ j. Some (ArrayLiteral xs, j)) (x, j) h in
       let s = some-pair (ArrayLiteral q.0, q.1) (x, j) q.3 in
-      let w = items-got (left (next i)) NoLiterals q.0 (next i) q.1 q.2 in
+      let w = parts-got k.RightBracket (written_item part) DerivesLiterals join_literals literals_depth b NoLiterals (omega arith) (λ _. none) join-no-literals join-literals item-got (left (next i)) NoLiterals q.0 (next i) q.1 q.2 in
       let f = w.fits in
-      let v : ArrayLiteral w.items ≡ x = ap ArrayLiteral (sym w.joined) ∙ s.0 in
-      subst (λ x. Reading (suc b) i x j) v (subst (λ j. Reading (suc b) i (ArrayLiteral w.items) j) (w.behind ∙ s.1) (array e w.derived w.shut, omega (arith, f)))
+      let v : ArrayLiteral w.parts ≡ x = ap ArrayLiteral (sym w.joined) ∙ s.0 in
+      subst (λ x. Reading (suc b) i x j) v (subst (λ j. Reading (suc b) i (ArrayLiteral w.parts) j) (w.behind ∙ s.1) (array e w.derived w.shut, omega (arith, f)))
 
   map-got : (i j : Input) (x : Literal) → kind i ≡ k.LeftBrace → and_then (written_entries part (next i)) (λ xs. λ j. Some (MapLiteral xs, j)) ≡ Some (x, j) → Reading (suc b) i x j
   unfolding written_entries
   map-got i j x e h =
       let q = and_then-some (written_entries part (next i)) (λ xs. λ j. Some (MapLiteral xs, j)) (x, j) h in
       let s = some-pair (MapLiteral q.0, q.1) (x, j) q.3 in
-      let w = entries-got (left (next i)) NoLiteralEntries q.0 (next i) q.1 q.2 in
+      let w = parts-got k.RightBrace (written_entry part) DerivesLiteralEntries join_literal_entries literal_entries_depth b NoLiteralEntries (omega arith) (λ _. no_entries) join-no-literal-entries join-literal-entries entry-got (left (next i)) NoLiteralEntries q.0 (next i) q.1 q.2 in
       let f = w.fits in
-      let v : MapLiteral w.entries ≡ x = ap MapLiteral (sym w.joined) ∙ s.0 in
-      subst (λ x. Reading (suc b) i x j) v (subst (λ j. Reading (suc b) i (MapLiteral w.entries) j) (w.behind ∙ s.1) (map e w.derived w.shut, omega (arith, f)))
+      let v : MapLiteral w.parts ≡ x = ap MapLiteral (sym w.joined) ∙ s.0 in
+      subst (λ x. Reading (suc b) i x j) v (subst (λ j. Reading (suc b) i (MapLiteral w.parts) j) (w.behind ∙ s.1) (map e w.derived w.shut, omega (arith, f)))
 
   by-got : (i j : Input) (x : Literal) (s : Kind) → kind i ≡ s → written_by part s i ≡ Some (x, j) → Reading (suc b) i x j
   by-got i j x k.LeftBracket e h = array-got i j x e h

@@ -23,36 +23,7 @@ pub record Deep : Type 0 where
 abbrev pub deep : Expr → Deep
 deep x = record { expr = x; depth = depth x }
 
--- The least level of an expression before this token that goes on with it, and 12 where none does.
-unfoldable pub needs : Kind → ℕ
-needs k.If = 1
-needs k.Or = 1
-needs k.And = 2
-needs k.Not = 4
-needs k.Equal = 4
-needs k.NotEqual = 4
-needs k.Less = 4
-needs k.Greater = 4
-needs k.LessOrEqual = 4
-needs k.GreaterOrEqual = 4
-needs k.In = 4
-needs k.Is = 4
-needs k.Tilde = 5
-needs k.Plus = 6
-needs k.Minus = 6
-needs k.Star = 7
-needs k.Slash = 7
-needs k.FloorSlash = 7
-needs k.Percent = 7
-needs k.Power = 10
-needs k.Bar = 10
-needs k.Dot = 11
-needs k.OptionalDot = 11
-needs k.LeftBracket = 11
-needs k.OptionalBracket = 11
-needs _ = 12
-
--- the level of what it goes on to
+-- The level of what an expression goes on to with this token, and 12 where none does.
 unfoldable pub gives : Kind → ℕ
 gives k.If = 0
 gives k.Or = 1
@@ -80,6 +51,12 @@ gives k.OptionalDot = 11
 gives k.LeftBracket = 11
 gives k.OptionalBracket = 11
 gives _ = 12
+
+-- the least level of an expression before it that goes on with it
+unfoldable pub needs : Kind → ℕ
+needs k.If = 1
+needs k.Power = 10
+needs kind = gives kind
 
 abbrev pub goes_on : ℕ → ℕ → Kind → Bool
 goes_on floor have kind = nat_le floor (gives kind) && nat_le (needs kind) have

@@ -1,5 +1,6 @@
 -- The steps of the cut of a tag.
 use Rattle.std.proofs.Common.{◌≡◌, ℕ, zero, suc, ◌+◌, ◌-◌, ◌<◌, ◌≤◌, List, [], ◌∷◌, ◌++◌, Bool, true, false, ◌==◌, ◌&&◌, length, drop, get_or, Option, Some, None, refl, ap, sym, ◌∙◌, arith, if◌then◌else◌, append_assoc}
+use Rattle.std.proofs.lemmas.Bool.{and_parts}
 use Rattle.std.proofs.lemmas.List.{drop_more, drop-drop, map-append}
 use Rattle.tera_errors.specs.Site.{Text}
 use Rattle.tera_syntax_tokens.specs.declared.inside.Ending.{Ending}
@@ -75,10 +76,6 @@ takes_token end opened at i text t l h k n =
     token_here end opened at i text l h k ∙ ap (λ o. token_then o (past end opened at i text)) n
     ∙ ap (prefixed (t ∷ [])) (past_is end (open_after opened t.kind) at i (length t.text) text (token_size (at + i) (drop i text) t n).0)
 
-and_right : (p q : Bool) → (p && q) ≡ true → q ≡ true
-and_right true q h = h
-and_right false q h = absurd (cc)
-
 abbrev size_of : Option Ending → ℕ
 size_of None = 0
 size_of (Some c) = c.size
@@ -88,7 +85,7 @@ boundary_by : (end text : Text) (i : ℕ) (c : Ending) → IsUtf8 text → IsUtf
     → (if p then Some (record { size = length end + 1; trims = true }) else (if q then Some (record { size = length end; trims = false }) else None)) ≡ Some c
     → IsCharBoundary text (i + c.size)
 boundary_by end text i c u v l true q hp hq h =
-    let b : begins end (drop 1 (drop i text)) ≡ true = and_right _ _ hp in
+    let b : begins end (drop 1 (drop i text)) ≡ true = (and_parts _ _ hp).1 in
     let e : c.size ≡ length end + 1 = sym (ap size_of h) in
     let f : begins end (drop (i + 1) text) ≡ true = ap (begins end) (sym (drop-drop 1 i text)) ∙ b in
     let k : i + c.size ≡ (i + 1) + length end = omega arith in
@@ -104,7 +101,7 @@ fits_by : (end text : Text) (i : ℕ) (c : Ending) → 0 < length end
     → (i < length text) × (i + c.size ≤ length text)
 fits_by end text i c l true q hp hq h =
     let e : c.size ≡ length end + 1 = sym (ap size_of h) in
-    let f : begins end (drop (i + 1) text) ≡ true = ap (begins end) (sym (drop-drop 1 i text)) ∙ and_right _ _ hp in
+    let f : begins end (drop (i + 1) text) ≡ true = ap (begins end) (sym (drop-drop 1 i text)) ∙ (and_parts _ _ hp).1 in
     let k = word_fits end text (i + 1) f l in
     (omega arith, omega arith)
 fits_by end text i c l false true hp hq h =

@@ -91,48 +91,57 @@ unfolding unescaped
 escape_none [] h = refl
 escape_none (b ∷ bs) h = rw (h, no_backslash b h) refl
 
--- what was written, and what is left to write
-pub wrote_run : (A W text : Text) (f n : ℕ) → A ++ unescaped false (drop f text) ≡ unescaped false text → n ≡ run is_plain (drop f text) → W ≡ A ++ take n (drop f text)
-    → W ++ unescaped false (drop (f + n) text) ≡ unescaped false text
-wrote_run A W text f n so e w =
-    let g : unescaped false (drop f text) ≡ take n (drop f text) ++ unescaped false (drop (f + n) text) =
-    rw e (free (drop f text) ∙ ap (λ t. take (run is_plain (drop f text)) (drop f text) ++ unescaped false t) (drop-drop (run is_plain (drop f text)) f text)) in
-    ap (λ t. t ++ unescaped false (drop (f + n) text)) w ∙ append_assoc A (take n (drop f text)) (unescaped false (drop (f + n) text)) ∙ ap (λ t. A ++ t) (sym g) ∙ so
+-- a run of plain bytes from a place on
+pub record Plain (f n : ℕ) (text : Text) : Type 0 where
+  pub fits : f + n ≤ length text
+  pub all : n ≡ run is_plain (drop f text)
 
-pub slash_at : (f n : ℕ) (text : Text) → n ≡ run is_plain (drop f text) → f + n < length text → get_or text (f + n) 0 ≡ 92
-slash_at f n text e l =
-    let m : n < length (drop f text) = omega (arith, length-drop f text) in
-    let k : run is_plain (drop f text) < length (drop f text) = omega arith in
+pub plain_from : {f n : ℕ} {text bytes rest : Text} → bytes ≡ text → f < length bytes → rest ≡ drop f bytes → n ≡ run is_plain rest → n ≤ length rest → Plain f n text
+plain_from {f} e l r p w =
+    let d = r ∙ ap (drop f) e in
+    record { fits = omega (arith, ap length e, l, w, ap length d ∙ length-drop f _); all = p ∙ ap (run is_plain) d }
+
+pub slash_at : {f n : ℕ} {text : Text} → Plain f n text → f + n < length text → get_or text (f + n) 0 ≡ 92
+slash_at {f} {n} {text} p l =
+    let e = p.all in
+    let k : run is_plain (drop f text) < length (drop f text) = omega (arith, e, length-drop f text) in
     sym (get_or-drop f text n 0) ∙ ap (λ i. get_or (drop f text) i 0) e ∙ stops (drop f text) k
+
+pub end_boundary : {f n : ℕ} {text : Text} → Plain f n text → IsCharBoundary text (f + n)
+end_boundary {f} {n} {text} p =
+    by_order (f + n) (length text)
+    (λ l. IsCharBoundary-before_ascii text (f + n) l (rw (slash_at p l) (lit< tt)))
+    (λ l. let z : f + n ≡ length text = omega (arith, p.fits) in rw z (IsCharBoundary-end text))
+
+-- what was written up to a place, and what is left to write, are the whole
+abbrev pub Wrote : Text → ℕ → Text → Type 0
+Wrote W e text = W ++ unescaped false (drop e text) ≡ unescaped false text
+
+pub wrote_run : (A : Text) {W word text : Text} {f n : ℕ} → Wrote A f text → Plain f n text → word ≡ take ((f + n) - f) (drop f text) → W ≡ A ++ word → Wrote W (f + n) text
+wrote_run A {W} {word} {text} {f} {n} so p t w =
+    let k : (f + n) - f ≡ n = omega arith in
+    let g : unescaped false (drop f text) ≡ take n (drop f text) ++ unescaped false (drop (f + n) text) =
+    rw p.all (free (drop f text) ∙ ap (λ t. take (run is_plain (drop f text)) (drop f text) ++ unescaped false t) (drop-drop (run is_plain (drop f text)) f text)) in
+    ap (λ t. t ++ unescaped false (drop (f + n) text)) (w ∙ ap (λ t. A ++ t) (t ∙ ap (λ i. take i (drop f text)) k))
+    ∙ append_assoc A (take n (drop f text)) (unescaped false (drop (f + n) text)) ∙ ap (λ t. A ++ t) (sym g) ∙ so
 
 behind_slash : (e : ℕ) (text : Text) → e < length text → get_or text e 0 ≡ 92 → unescaped false (drop e text) ≡ unescaped true (drop (e + 1) text)
 behind_slash e text l b = ap (unescaped false) (drop_more text e 0 l ∙ ap (λ x. x ∷ drop (e + 1) text) b) ∙ backslash (drop (e + 1) text)
 
-pub wrote_escape : (W V text : Text) (e c : ℕ) → W ++ unescaped false (drop e text) ≡ unescaped false text → e < length text → get_or text e 0 ≡ 92 → Some c ≡ escape_of (drop (e + 1) text) → V ≡ W ++ c ∷ []
-    → V ++ unescaped false (drop (e + 2) text) ≡ unescaped false text
-wrote_escape W V text e c so l b h v =
+pub wrote_escape : (W text : Text) {V : Text} {e c : ℕ} → Wrote W e text → e < length text → get_or text e 0 ≡ 92 → Some c ≡ escape_of (drop (e + 1) text) → V ≡ W ++ c ∷ [] → Wrote V (e + 2) text
+wrote_escape W text {V} {e} {c} so l b h v =
     let two : (e + 1) + 1 ≡ e + 2 = omega arith in
     let g : unescaped false (drop e text) ≡ c ∷ unescaped false (drop (e + 2) text) =
     behind_slash e text l b ∙ escape_some (drop (e + 1) text) c (sym h) ∙ ap (λ t. c ∷ unescaped false t) (drop-drop 1 (e + 1) text) ∙ ap (λ k. c ∷ unescaped false (drop k text)) two in
     ap (λ t. t ++ unescaped false (drop (e + 2) text)) v ∙ append_assoc W (c ∷ []) (unescaped false (drop (e + 2) text)) ∙ ap (λ t. W ++ t) (sym g) ∙ so
 
-pub wrote_slash : (W V text : Text) (e : ℕ) → W ++ unescaped false (drop e text) ≡ unescaped false text → e < length text → get_or text e 0 ≡ 92 → None ≡ escape_of (drop (e + 1) text) → V ≡ W ++ 92 ∷ []
-    → V ++ unescaped false (drop (e + 1) text) ≡ unescaped false text
-wrote_slash W V text e so l b h v =
+pub wrote_slash : (W text : Text) {V : Text} {e : ℕ} → Wrote W e text → e < length text → get_or text e 0 ≡ 92 → None ≡ escape_of (drop (e + 1) text) → V ≡ W ++ 92 ∷ [] → Wrote V (e + 1) text
+wrote_slash W text {V} {e} so l b h v =
     let g : unescaped false (drop e text) ≡ 92 ∷ unescaped false (drop (e + 1) text) = behind_slash e text l b ∙ escape_none (drop (e + 1) text) (sym h) in
     ap (λ t. t ++ unescaped false (drop (e + 1) text)) v ∙ append_assoc W (92 ∷ []) (unescaped false (drop (e + 1) text)) ∙ ap (λ t. W ++ t) (sym g) ∙ so
 
-pub wrote_all : (W text : Text) (e : ℕ) → length text ≤ e → W ++ unescaped false (drop e text) ≡ unescaped false text → W ≡ unescaped false text
+pub wrote_all : (text : Text) {W : Text} {e : ℕ} → Wrote W e text → length text ≤ e → W ≡ unescaped false text
 unfolding unescaped
-wrote_all W text e l so =
+wrote_all text {W} {e} so l =
     let d : unescaped false (drop e text) ≡ [] = rw (drop_all e text l) refl in
     sym (append-nil W) ∙ ap (λ t. W ++ t) (sym d) ∙ so
-
-pub nothing_written : (text : Text) → [] ++ unescaped false (drop 0 text) ≡ unescaped false text
-nothing_written text = refl
-
-pub end_boundary : (f n : ℕ) (text : Text) → f + n ≤ length text → n ≡ run is_plain (drop f text) → IsCharBoundary text (f + n)
-end_boundary f n text le e =
-    by_order (f + n) (length text)
-    (λ l. IsCharBoundary-before_ascii text (f + n) l (rw (slash_at f n text e l) (lit< tt)))
-    (λ l. let z : f + n ≡ length text = omega arith in rw z (IsCharBoundary-end text))

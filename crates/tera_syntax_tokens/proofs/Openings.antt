@@ -1,5 +1,6 @@
 -- Where a start delimiter begins.
-use Rattle.std.proofs.Common.{◌≡◌, ℕ, ◌+◌, ◌<◌, ◌≤◌, [], ◌∷◌, Bool, true, false, ◌&&◌, nat_lt, length, drop, get_or, Option, Some, None, is_some, string_bytes, refl, ap, ◌∙◌, arith, subst, if◌then◌else◌, IsTrue, IfSome}
+use Rattle.std.proofs.Common.{◌≡◌, ℕ, ◌+◌, ◌<◌, ◌≤◌, [], ◌∷◌, Bool, true, false, nat_lt, length, drop, get_or, Option, Some, None, is_some, string_bytes, refl, ap, ◌∙◌, arith, subst, if◌then◌else◌, IsTrue, IfSome}
+use Rattle.std.proofs.lemmas.Bool.{and_parts}
 use Rattle.std.proofs.lemmas.List.{drop_all}
 use Rattle.std.proofs.lemmas.Str.{IsUtf8-string_bytes, IsCharBoundary-end, IsUtf8-from_is_utf8}
 use Rattle.std.specs.Str.{IsUtf8, IsCharBoundary, is_utf8, chars}
@@ -47,14 +48,6 @@ filled_size : (text : Text) → is_filled text ≡ true → 0 < length text
 filled_size [] h = absurd (cc)
 filled_size (b ∷ bs) h = omega arith
 
-and_left : (p q : Bool) → (p && q) ≡ true → p ≡ true
-and_left true q h = refl
-and_left false q h = absurd (cc)
-
-and_right : (p q : Bool) → (p && q) ≡ true → q ≡ true
-and_right true q h = h
-and_right false q h = absurd (cc)
-
 -- the texts of delimiters that can be used are not empty
 pub record Filled (d : Delims) : Type 0 where
   pub block_start : 0 < length d.block_start
@@ -67,18 +60,19 @@ pub record Filled (d : Delims) : Type 0 where
 pub filled : (d : Delims) → IsTrue (accepted d) → Filled d
 unfolding accepted
 filled d h =
-    let six = and_left _ _ h in
-    let five = and_left _ _ six in
-    let four = and_left _ _ five in
-    let three = and_left _ _ four in
-    let two = and_left _ _ three in
+    let six = (and_parts _ _ h).0 in
+    let five = and_parts _ _ six in
+    let four = and_parts _ _ five.0 in
+    let three = and_parts _ _ four.0 in
+    let two = and_parts _ _ three.0 in
+    let one = and_parts _ _ two.0 in
     record {
-      block_start = filled_size d.block_start (and_left _ _ two);
-      block_end = filled_size d.block_end (and_right _ _ two);
-      variable_start = filled_size d.variable_start (and_right _ _ three);
-      variable_end = filled_size d.variable_end (and_right _ _ four);
-      comment_start = filled_size d.comment_start (and_right _ _ five);
-      comment_end = filled_size d.comment_end (and_right _ _ six);
+      block_start = filled_size d.block_start one.0;
+      block_end = filled_size d.block_end one.1;
+      variable_start = filled_size d.variable_start two.1;
+      variable_end = filled_size d.variable_end three.1;
+      comment_start = filled_size d.comment_start four.1;
+      comment_end = filled_size d.comment_end five.1;
     }
 
 pub opening_starts : (d : Delimiters) (text : Text) → IsTrue (accepted (delimiters_of d)) → Starts text (opening_at (delimiters_of d) text)

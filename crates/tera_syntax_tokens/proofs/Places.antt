@@ -31,7 +31,7 @@ place_later test i text l h =
     let d = drop_more text i 0 l in
     rw d (place_tail test (get_or text i 0) (drop (i + 1) text) (ap test (sym d) ∙ h))
 
-pub place_end : (test : Text → Bool) (i : ℕ) (text : Text) → length text ≤ i → place test (drop i text) ≡ 0
+place_end : (test : Text → Bool) (i : ℕ) (text : Text) → length text ≤ i → place test (drop i text) ≡ 0
 unfolding place
 place_end test i text l = let d = drop_all i text l in rw d refl
 
@@ -118,29 +118,41 @@ skips_by false false p q b bs e f s h =
     let n : suc (place p bs) + place q (drop (place p bs) bs) ≡ suc (place p bs + place q (drop (place p bs) bs)) = omega arith in
     rw (e, f) (ap suc h ∙ sym n)
 
-pub place_skips : (p q : Text → Bool) → ((text : Text) → q text ≡ true → p text ≡ true) → (text : Text) → place q text ≡ place p text + place q (drop (place p text) text)
+place_skips : (p q : Text → Bool) → ((text : Text) → q text ≡ true → p text ≡ true) → (text : Text) → place q text ≡ place p text + place q (drop (place p text) text)
 unfolding place
 place_skips p q s [] = refl
 place_skips p q s (b ∷ bs) = skips_by (p (b ∷ bs)) (q (b ∷ bs)) p q b bs refl refl (s (b ∷ bs)) (place_skips p q s bs)
 
-pub place_goes_on : (p q : Text → Bool) → ((text : Text) → q text ≡ true → p text ≡ true) → (i k : ℕ) (text : Text) → i < length text → q (drop i text) ≡ false
+place_goes_on : (p q : Text → Bool) → ((text : Text) → q text ≡ true → p text ≡ true) → (i k : ℕ) (text : Text) → i < length text → q (drop i text) ≡ false
     → k ≡ place p (drop (i + 1) text) → place q (drop i text) ≡ suc (k + place q (drop ((i + 1) + k) text))
 place_goes_on p q s i k text l h e =
     place_later q i text l h ∙ ap suc (place_skips p q s (drop (i + 1) text) ∙ rw (← e, drop-drop k (i + 1) text) refl)
-
-pub is_false : (q : Bool) → (q ≡ true → ⊥) → q ≡ false
-is_false true h = absurd (h refl)
-is_false false h = refl
 
 -- a text that begins with a word begins with its first byte
 pub heads_word : (test : ℕ → Bool) (word text : Text) → begins word text ≡ true → 0 < length word → test (get_or word 0 0) ≡ true → heads test text ≡ true
 heads_word test word [] h l e = let f = word_fits word [] 0 h l in absurd (omega arith)
 heads_word test word (b ∷ bs) h l e = let p : b ≡ get_or word 0 0 = word_lead word (b ∷ bs) 0 h l in rw p e
 
--- a step of a search that passes over what a weaker test does not pass
-pub place_step : (p q : Text → Bool) → ((text : Text) → q text ≡ true → p text ≡ true) → (i k n : ℕ) (text : Text) → i < length text → q (drop i text) ≡ false
-    → k ≡ place p (drop (i + 1) text) → n ≡ i + place q (drop i text) → (((i + 1) + k) ≤ length text) × (n ≡ ((i + 1) + k) + place q (drop ((i + 1) + k) text))
-place_step p q s i k n text l h e f =
+-- the test is passed nowhere before this place
+abbrev pub NoneBefore : (Text → Bool) → ℕ → Text → Type 0
+NoneBefore test i text = record {
+  within : i ≤ length text;
+  so_far : place test text ≡ i + place test (drop i text);
+}
+
+-- a search that passes over what a weaker test does not pass: its start, a step, and its two ends
+pub none_before-start : (p q : Text → Bool) → ((text : Text) → q text ≡ true → p text ≡ true) → (k : ℕ) (text : Text) → k ≡ place p text → NoneBefore q k text
+none_before-start p q s k text e = rw e (record { within = place_le p text; so_far = place_skips p q s text })
+
+pub none_before-step : (p q : Text → Bool) → ((text : Text) → q text ≡ true → p text ≡ true) → (i k : ℕ) (text : Text) → NoneBefore q i text → i < length text
+    → q (drop i text) ≡ false → k ≡ place p (drop (i + 1) text) → NoneBefore q ((i + 1) + k) text
+none_before-step p q s i k text n l h e =
     let g = place_goes_on p q s i k text l h e in
     let m = place_le p (drop (i + 1) text) in
-    (omega (arith, m, e, length-drop (i + 1) text), omega (arith, f, g))
+    record { within = omega (arith, m, e, length-drop (i + 1) text); so_far = omega (arith, n.so_far, g) }
+
+pub none_before-here : (test : Text → Bool) (i : ℕ) (text : Text) → NoneBefore test i text → i < length text → test (drop i text) ≡ true → i ≡ place test text
+none_before-here test i text n l h = omega (arith, n.so_far, place_here test i text l h)
+
+pub none_before-end : (test : Text → Bool) (i : ℕ) (text : Text) → NoneBefore test i text → length text ≤ i → i ≡ place test text
+none_before-end test i text n l = omega (arith, n.so_far, place_end test i text l)

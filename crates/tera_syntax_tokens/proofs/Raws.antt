@@ -1,10 +1,13 @@
 -- The tag `endraw`.
 use Rattle.std.proofs.Common.{◌≡◌, ℕ, suc, ◌+◌, ◌<◌, List, [], ◌∷◌, ◌++◌, Bool, true, false, not, ◌&&◌, ◌||◌, length, take, drop, get_or, Option, Some, None, is_some, option_map, bytes_eq, codes, refl, ap, sym, subst, ◌∙◌, arith, if◌then◌else◌, IsTrue}
+use Rattle.std.proofs.lemmas.Bool.{and_parts, not-true}
 use Rattle.std.proofs.lemmas.List.{drop_all, drop-drop, take-append-drop, length-take-le, length-drop, get_or-drop}
 use Rattle.std.proofs.lemmas.Slice.Eq.{bytes_eq-Decides}
 use Rattle.std.proofs.lemmas.Str.{IsCharBoundary-end}
 use Rattle.std.specs.Str.{IsUtf8, IsCharBoundary}
+use denote.Enum.Bare.{sameb}
 use Rattle.tera_errors.specs.Site.{Text}
+use Rattle.tera_syntax_tokens.specs.contracts.cut.Tag.{the_type}
 use Rattle.tera_syntax_tokens.specs.declared.inside.Ending.{Ending}
 use Rattle.tera_syntax_tokens.specs.declared.token.Kind.TheVariants as k
 use Rattle.tera_syntax_tokens.specs.declared.token.Measure.{Measure}
@@ -26,24 +29,11 @@ use Rattle.tera_syntax_tokens.proofs.Insides.{ends_here, no_token, takes_token, 
 abbrev pub word : Text
 word = codes "endraw"
 
+abbrev same : Tag → Tag → Bool
+same = sameb the_type
+
 abbrev pub names : Text → Bool
 names text = begins word text && not (is_name_byte (get_or text 6 0))
-
-and_left : (p q : Bool) → (p && q) ≡ true → p ≡ true
-and_left true q h = refl
-and_left false q h = absurd (cc)
-
-and_right : (p q : Bool) → (p && q) ≡ true → q ≡ true
-and_right true q h = h
-and_right false q h = absurd (cc)
-
-pub not_false : (p : Bool) → not p ≡ false → p ≡ true
-not_false true h = refl
-not_false false h = absurd (cc)
-
-not_true : (p : Bool) → not p ≡ true → p ≡ false
-not_true true h = absurd (cc)
-not_true false h = refl
 
 -- the name `endraw` is the first token just where it stands, with no byte of a name behind it
 no_more : (rest : Text) → is_name_byte (get_or rest 0 0) ≡ false → run is_name_byte rest ≡ 0
@@ -73,8 +63,8 @@ word_token at = record { kind = k.Name; text = word; span = record { start = at;
 pub first_token : (at : ℕ) (text : Text) → names text ≡ true → next_token at text ≡ Some (word_token at)
 unfolding next_token word_kind
 first_token at text h =
-    let e : text ≡ word ++ drop 6 text = begins_is word text (and_left _ _ h) in
-    let s : is_name_byte (get_or text 6 0) ≡ false = not_true _ (and_right _ _ h) in
+    let e : text ≡ word ++ drop 6 text = begins_is word text (and_parts _ _ h).0 in
+    let s : is_name_byte (get_or text 6 0) ≡ false = not-true _ (and_parts _ _ h).1 in
     let g : is_name_byte (get_or (drop 6 text) 0 0) ≡ false = ap (λ bs. is_name_byte (get_or bs 6 0)) (sym e) ∙ s in
     let r : run is_name_byte (drop 6 text) ≡ 0 = no_more (drop 6 text) g in
     let m : measured (word ++ drop 6 text) ≡ Some (record { kind = k.Name; size = 6 }) = measured_word (drop 6 text) ∙ ap (λ n. Some (record { kind = k.Name; size = 6 + n })) r in
@@ -113,7 +103,7 @@ Reached end text i = i < length text → (is_some (closing end (drop i text)) ||
 not_blank : (end text : Text) (i : ℕ) → i < length text → Reached end text i → closing end (drop i text) ≡ None → is_blank (get_or text i 0) ≡ false
 not_blank end text i l r h =
     let e : not (is_blank (get_or text i 0)) ≡ true = ap (λ o. is_some o || not (is_blank (get_or text i 0))) (sym h) ∙ r l in
-    not_true _ e
+    not-true _ e
 
 -- what is so of nothing, and of any token with what follows it, is so of a text with no end of the tag at its front
 goes_on : (P : Option Inside → Type 0) (end : Text) (at i : ℕ) (text : Text) → Reached end text i → closing end (drop i text) ≡ None
@@ -176,13 +166,17 @@ reached_in end text j m r l =
     let f : m < length (drop j text) = omega (arith, length-drop j text) in
     rw (← drop-drop m j text, ← get_or-drop j text m 0) (r f)
 
+-- what stands behind a part of what stands behind another
+pub behind_both : (i k : ℕ) (text : Text) {a b : Text} → a ≡ drop i text → b ≡ drop k a → b ≡ drop (i + k) text
+behind_both i k text e f = f ∙ ap (drop k) e ∙ drop-drop k i text
+
 -- behind blanks, the name, and blanks again
 pub reaches : (end : Text) (at n m : ℕ) (text : Text) → inside end 0 0 at text ≡ inside end 0 0 (at + n) (drop n text)
     → Reached end text n → closing end (drop n text) ≡ None → names (drop n text) ≡ true
     → ((from : ℕ) → inside end 0 0 from (drop (n + 6) text) ≡ inside end 0 0 (from + m) (drop m (drop (n + 6) text)))
     → inside end 0 0 at text ≡ prefixed (word_token (at + n) ∷ []) (inside end 0 0 (at + ((n + 6) + m)) (drop ((n + 6) + m) text))
 reaches end at n m text s r h w more =
-    let f = word_fits word text n (and_left _ _ w) (omega arith) in
+    let f = word_fits word text n (and_parts _ _ w).0 (omega arith) in
     let l : n < length text = omega arith in
     let e : (at + (n + 6)) + m ≡ at + ((n + 6) + m) = omega arith in
     let d = drop-drop m (n + 6) text in
@@ -216,21 +210,27 @@ pub no_opening : (d : Delims) (at : ℕ) (text : Text) → opening_at d text ≡
 unfolding endraw
 no_opening d at text h = rw h refl
 
-pub no_block : (d : Delims) (at : ℕ) (text : Text) (o : Opening) → opening_at d text ≡ Some o → (o.tag ≡ tag.Block → ⊥) → endraw d at text ≡ None
+pub no_block : (d : Delims) (at : ℕ) (text : Text) (o : Opening) → opening_at d text ≡ Some o → not (same o.tag tag.Block) ≡ true → endraw d at text ≡ None
 unfolding endraw
 no_block d at text o h n = rw h (go o.tag n)
   where
-    go : (kind : Tag) → (kind ≡ tag.Block → ⊥) → endraw_of d kind (at + start_size o text) (drop (start_size o text) text) ≡ None
+    go : (kind : Tag) → not (same kind tag.Block) ≡ true → endraw_of d kind (at + start_size o text) (drop (start_size o text) text) ≡ None
     go tag.Variable n = refl
-    go tag.Block n = absurd (n refl)
+    go tag.Block n = absurd (cc)
     go tag.Comment n = refl
 
-pub a_block : (d : Delims) (at : ℕ) (text : Text) (o : Opening) → opening_at d text ≡ Some o → o.tag ≡ tag.Block
+a_block : (d : Delims) (at : ℕ) (text : Text) (o : Opening) → opening_at d text ≡ Some o → not (same o.tag tag.Block) ≡ false
     → endraw d at text ≡ of_word word (inside d.block_end 0 0 (at + start_size o text) (drop (start_size o text) text))
 unfolding endraw
-a_block d at text o h e = rw h (ap (λ kind. endraw_of d kind (at + start_size o text) (drop (start_size o text) text)) e)
+a_block d at text o h k = rw h (go o.tag k)
+  where
+    go : (kind : Tag) → not (same kind tag.Block) ≡ false
+        → endraw_of d kind (at + start_size o text) (drop (start_size o text) text) ≡ of_word word (inside d.block_end 0 0 (at + start_size o text) (drop (start_size o text) text))
+    go tag.Variable k = absurd (cc)
+    go tag.Block k = refl
+    go tag.Comment k = absurd (cc)
 
-pub block_is : (d : Delims) (at : ℕ) (text : Text) (o : Opening) (n : ℕ) (end rest : Text) → opening_at d text ≡ Some o → o.tag ≡ tag.Block
+pub block_is : (d : Delims) (at : ℕ) (text : Text) (o : Opening) (n : ℕ) (end rest : Text) → opening_at d text ≡ Some o → not (same o.tag tag.Block) ≡ false
     → n ≡ start_size o text → end ≡ d.block_end → rest ≡ drop n text → of_word word (inside end 0 0 (at + n) rest) ≡ endraw d at text
 block_is d at text o n end rest h k s e r = rw (r, e, s) (sym (a_block d at text o h k))
 

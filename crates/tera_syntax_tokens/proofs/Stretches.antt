@@ -1,6 +1,7 @@
 -- The pieces of a text are stretches of it, and so are the tokens of its tags.
 use Rattle.std.proofs.Common.{◌≡◌, ℕ, zero, suc, ◌+◌, ◌-◌, ◌<◌, ◌≤◌, List, [], ◌∷◌, ◌==◌, ◌&&◌, Bool, true, false, cond, nat_lt, length, take, drop, codes, Option, Some, None, is_some, refl, ap, subst, arith, if◌then◌else◌, IsTrue, string_bytes}
 use Rattle.std.proofs.lemmas.List.{length-drop, length-take-le, length-append, drop-drop}
+use Rattle.std.proofs.lemmas.Bool.{and_parts}
 use Rattle.std.proofs.lemmas.Bool.Decides.{nat_tests}
 use Rattle.std.proofs.lemmas.Str.{encodes-chars, scalars-chars, IsUtf8-take, IsUtf8-drop, IsUtf8-string_bytes}
 use Rattle.std.specs.Str.{IsUtf8, IsCharBoundary, chars, trim_start, trim_end, skip_leading_whitespace, drop_trailing_whitespace}
@@ -26,13 +27,9 @@ use Rattle.tera_syntax_tokens.specs.Stretches.{InOrder, PieceInside}
 use Rattle.tera_syntax_tokens.proofs.Order.{in_order-wider, inside_cut}
 
 -- white space that is dropped makes a text no longer
-and_right : (p q : Bool) → (p && q) ≡ true → q ≡ true
-and_right true q h = h
-and_right false q h = absurd (cc)
-
 skipped_scalars : (cs : List ℕ) → scalars cs ≡ true → scalars (skip_leading_whitespace cs) ≡ true
 skipped_scalars [] h = h
-skipped_scalars (c ∷ cs) h = go (is_whitespace c) (skipped_scalars cs (and_right (scalar c) (scalars cs) h))
+skipped_scalars (c ∷ cs) h = go (is_whitespace c) (skipped_scalars cs (and_parts (scalar c) (scalars cs) h).1)
   where
     go : (q : Bool) → scalars (skip_leading_whitespace cs) ≡ true → scalars (cond q (skip_leading_whitespace cs) (c ∷ cs)) ≡ true
     go true more = more

@@ -1,6 +1,7 @@
 -- How long tokens are.
 use Rattle.std.proofs.Common.{◌≡◌, ℕ, zero, suc, ◌+◌, ◌-◌, ◌<◌, ◌≤◌, [], ◌∷◌, Bool, true, false, not, ◌&&◌, ◌==◌, length, take, drop, get_or, Option, Some, None, option_map, lit<, subst, refl, ap, sym, ◌∙◌, arith, if◌then◌else◌}
 use Rattle.std.proofs.lemmas.Grind.{common_steps}
+use Rattle.std.proofs.lemmas.Bool.{and_parts}
 use Rattle.std.proofs.lemmas.Bool.Decides.{Decides-eqb}
 use Rattle.std.proofs.lemmas.List.{drop_more, drop_all, get_or-drop, get_or_past, length-drop, length-take-le}
 use Rattle.std.proofs.lemmas.Str.{IsCharBoundary-before_ascii, IsCharBoundary-after_ascii}
@@ -17,14 +18,6 @@ pub run_le : (test : ℕ → Bool) (bs : Text) → run test bs ≤ length bs
 unfolding run
 run_le test [] = omega arith
 run_le test (b ∷ bs) = let h = run_le test bs in grind (arith, common_steps, h)
-
-and_left : (p q : Bool) → (p && q) ≡ true → p ≡ true
-and_left true q h = refl
-and_left false q h = absurd (cc)
-
-and_right : (p q : Bool) → (p && q) ≡ true → q ≡ true
-and_right true q h = h
-and_right false q h = absurd (cc)
 
 -- a test that only ASCII passes
 abbrev IsLow : (ℕ → Bool) → Type 0
@@ -93,7 +86,7 @@ closed_by : (t escaped : Bool) (b q n : ℕ) (bs : Text) (o : Option ℕ) → (n
 closed_by true escaped b q n bs o e f h =
     let s : 1 ≡ n = cc in
     let p : n - 1 ≡ 0 = omega arith in
-    (omega arith, omega arith, rw p ((Decides-eqb b q).0 (and_right _ _ e)))
+    (omega arith, omega arith, rw p ((Decides-eqb b q).0 (and_parts _ _ e).1))
 closed_by false escaped b q n bs o e f h = closed_more b q n bs o f h
 
 quoted_closed : (q : ℕ) (escaped : Bool) (bs : Text) (n : ℕ) → quoted q escaped bs ≡ Some n → Closed bs q n
@@ -122,8 +115,8 @@ low x b l e = let d = (Decides-eqb b x).0 e in omega arith
 
 low_pair : (x y b c : ℕ) → x < 128 → 0 < y → y < 128 → (b == x && c == y) ≡ true → (b < 128) × (0 < c) × (c < 128)
 low_pair x y b c l p m e =
-    let d = (Decides-eqb b x).0 (and_left _ _ e) in
-    let f = (Decides-eqb c y).0 (and_right _ _ e) in
+    let d = (Decides-eqb b x).0 (and_parts _ _ e).0 in
+    let f = (Decides-eqb c y).0 (and_parts _ _ e).1 in
     (omega (arith, d), omega (arith, f), omega (arith, f))
 
 pair_low : (b c : ℕ) (x : Kind) → pair b c ≡ Some x → (b < 128) × (0 < c) × (c < 128)
@@ -142,9 +135,9 @@ sign_by : (t : Bool) (b : ℕ) (bs : Text) (m : Measure) → ((b == 46 && get_or
     → (if t then Some (record { kind = k.Spread; size = 3 }) else or_else (of_size 2 (pair b (get_or bs 0 0))) (of_size 1 (single b))) ≡ Some m → Sized (b ∷ bs) m
 sign_by true b bs m e h =
     let s : record { kind = k.Spread; size = 3 } ≡ m = cc in
-    let two = and_left _ _ e in
-    let b0 = (Decides-eqb b 46).0 (and_left _ _ two) in
-    let b2 = (Decides-eqb (get_or bs 1 0) 46).0 (and_right _ _ e) in
+    let p = and_parts _ _ e in
+    let b0 = (Decides-eqb b 46).0 (and_parts _ _ p.0).0 in
+    let b2 = (Decides-eqb (get_or bs 1 0) 46).0 p.1 in
     let l : 1 < length bs = head_of bs 1 (omega arith) in
     let z : m.size ≡ 3 = ap (λ x. x.size) (sym s) in
     sized_at b bs m 2 z (omega arith) (omega arith) (λ i p. let q : i ≡ 1 = omega arith in rw q (omega arith))

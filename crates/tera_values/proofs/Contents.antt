@@ -6,7 +6,7 @@ use Rattle.std.specs.Map.{lookup, keys_of}
 use Rattle.std.specs.Str.{bytes_eq}
 use Rattle.std.specs.Ordering.{is_eq}
 use Rattle.std.specs.Cmp.Lexicographic.{bytes_decides}
-use Rattle.std.proofs.lemmas.Map.Keys.{IsDistinct-head}
+use Rattle.std.proofs.lemmas.Map.Keys.{IsDistinct-head, IsDistinct-tail}
 use Rattle.std.proofs.lemmas.Map.Lookups.{exact_bytes}
 use Rattle.tera_errors.specs.Site.{Name}
 use Rattle.tera_values_data.specs.Val.{KeyVal, ktext}
@@ -50,8 +50,40 @@ module _ {A : Type 0} where
   absent k (e ∷ es) h = ap (λ (b : Bool). cond b (Some e.1) (lookup (λ j. bytes_eq k j) es)) h.0 ∙ absent k es h.1
 
   -- the entries put one by one
-  pub put_first : (k : Name) (a : A) (es m : Named A) → IsDistinct bytes_eq (keys_of ((k, a) ∷ es)) → put_all (by_name ((k, a) ∷ es)) m ≡ put_all (by_name es) (put k a m)
+  put_first : (k : Name) (a : A) (es m : Named A) → IsDistinct bytes_eq (keys_of ((k, a) ∷ es)) → put_all (by_name ((k, a) ∷ es)) m ≡ put_all (by_name es) (put k a m)
   put_first k a es m h = put_all-put (by_name es) k a m (sym (found es k) ∙ absent k es (IsDistinct-head bytes_eq k (keys_of es) h))
+
+  -- those that are left, put into what is there so far, make what all of them make of the first
+  abbrev pub IsPut : (left so_far all first : Named A) → Type 0
+  IsPut left so_far all first = record {
+    once : IsDistinct bytes_eq (keys_of left);
+    same : put_all (by_name left) so_far ≡ put_all (by_name all) first;
+  }
+
+  pub put_none : (es all so_far first : Named A) → all ≡ es → IsDistinct bytes_eq (keys_of es) → so_far ≡ first → IsPut all so_far all first
+  put_none es all so_far first is once none = record {
+    once = subst (λ l. IsDistinct bytes_eq (keys_of l)) (sym is) once;
+    same = ap (put_all (by_name all)) none;
+  }
+
+  pub put_next : (k : Name) (a : A) (before left so_far more all first : Named A) → before ≡ (k, a) ∷ left → more ≡ put k a so_far → IsPut before so_far all first → IsPut left more all first
+  put_next k a before left so_far more all first next is h =
+      let once : IsDistinct bytes_eq (keys_of ((k, a) ∷ left)) = subst (λ es. IsDistinct bytes_eq (keys_of es)) next h.once in
+      record {
+        once = IsDistinct-tail bytes_eq k (keys_of left) once;
+        same =
+            ap (put_all (by_name left)) is
+            ∙ sym (put_first k a left so_far once)
+            ∙ sym (ap (λ es. put_all (by_name es) so_far) next)
+            ∙ h.same;
+      }
+
+  pub put_whole : (es m left so_far all first : Named A) → left ≡ [] → all ≡ es → by_name es ≡ m → IsPut left so_far all first → so_far ≡ put_all m first
+  put_whole es m left so_far all first none is view h =
+      sym (ap (λ l. put_all (by_name l) so_far) none)
+      ∙ h.same
+      ∙ ap (λ l. put_all (by_name l) first) is
+      ∙ ap (λ l. put_all l first) view
 
   pub among : (P : Name → Type 0) (pre : Named A) (e : Name × A) (post : Named A) → AllByRecursion P (map (λ d. d.0) (pre ++ e ∷ post)) → P e.0
   among P [] e post h = h.0

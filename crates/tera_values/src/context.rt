@@ -133,6 +133,7 @@ impl Context {
     }
 
     // The values at copies of their names, in byte order of these.
+    #[tactic(auto, using(crate::proofs::Contexts::named_ascend))]
     fn ordered(&self) -> TeraResult<BTreeMap<String, Value>>
         ensures all { Gives (λ m. map (λ e. (string_bytes e.0, e.1)) m.entries) result
             (Ok self.now) }

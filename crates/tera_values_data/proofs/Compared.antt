@@ -4,7 +4,7 @@ use Rattle.std.specs.Ordering.{ordering_then, nat_cmp, is_ne}
 use Rattle.std.proofs.lemmas.List.{get_or-map}
 use Rattle.std.specs.Cmp.Lexicographic.{slice_cmp}
 use Rattle.tera_values_data.specs.Val.{Val, kbool, undefined, vals, entries, val_size, entries_size}
-use Rattle.tera_values_data.specs.View.{entry_view, entry_views}
+use Rattle.tera_values_data.specs.View.{key_view, entry_view, entry_views}
 use Rattle.tera_values_data.specs.declared.value.Entry.{Entry}
 use Rattle.tera_values_data.proofs.Steps.{step, ends}
 use Rattle.tera_values_data.proofs.Entries.{place_below}
@@ -35,12 +35,12 @@ as_pairs (x ∷ a) (y ∷ b) = ap (ordering_then (pair_order x y)) (as_pairs a b
 pub as_entries : (ka kb : List ℕ) (a b : Pairs) → IsIndex ka a → IsIndex kb b → slice_cmp pair_order (picked ka a) (picked kb b) ≡ entries_cmp (plain_entries (entries a)) (plain_entries (entries b))
 as_entries ka kb a b ia ib = as_pairs (picked ka a) (picked kb b) ∙ sym (ap (λ e. entries_cmp e (plain_entries (entries b))) (in_order ka a ia) ∙ ap (entries_cmp (entries (map plain_pair (picked ka a)))) (in_order kb b ib))
 
-pub ne_then : (o p : Ordering) → is_ne o ≡ true → o ≡ ordering_then o p
+ne_then : (o p : Ordering) → is_ne o ≡ true → o ≡ ordering_then o p
 ne_then Less p h = refl
 ne_then Equal p h = cc
 ne_then Greater p h = refl
 
-pub eq_then : (o p : Ordering) → is_ne o ≡ false → ordering_then o p ≡ p
+eq_then : (o p : Ordering) → is_ne o ≡ false → ordering_then o p ≡ p
 eq_then Less p h = cc
 eq_then Equal p h = refl
 eq_then Greater p h = cc
@@ -51,8 +51,37 @@ picked_entry keys a ix p x h is =
     ∙ get_or-map entry_view a (get_or keys p 0) x (kbool false, undefined) (place_below keys a ix p h)
     ∙ ap entry_view (sym is))
 
-pub pairs_step : (ka kb : List ℕ) (a b : List Entry) → IsIndex ka (entry_views a) → IsIndex kb (entry_views b) → (p : ℕ) (x y : Entry) → p < length ka → p < length kb → x ≡ get_or a (get_or ka p 0) x → y ≡ get_or b (get_or kb p 0) y → slice_cmp pair_order (drop p (picked ka (entry_views a))) (drop p (picked kb (entry_views b))) ≡ ordering_then (pair_order (entry_view x) (entry_view y)) (slice_cmp pair_order (drop (suc p) (picked ka (entry_views a))) (drop (suc p) (picked kb (entry_views b))))
-pairs_step ka kb a b ia ib p x y h g is_x is_y = step pair_order (picked ka (entry_views a)) (picked kb (entry_views b)) p (entry_view x) (entry_view y) (omega (arith, h, picked_length ka (entry_views a))) (omega (arith, g, picked_length kb (entry_views b))) (picked_entry ka a ia p x h is_x) (picked_entry kb b ib p y g is_y)
+-- two walks at one place: there the keys tell, or else the values, or else the rest
+module _ (ka kb : List ℕ) (a b : List Entry) (ia : IsIndex ka (entry_views a)) (ib : IsIndex kb (entry_views b)) (p : ℕ) (x y : Entry) (h : p < length ka) (g : p < length kb) (is_x : x ≡ get_or a (get_or ka p 0) x) (is_y : y ≡ get_or b (get_or kb p 0) y) where
+  abbrev from : ℕ → Ordering
+  from i = slice_cmp pair_order (drop i (picked ka (entry_views a))) (drop i (picked kb (entry_views b)))
+
+  abbrev keys : Ordering
+  keys = key_cmp (key_view x.key) (key_view y.key)
+
+  abbrev values : Ordering
+  values = order x.value y.value
+
+  pairs_step : from p ≡ ordering_then (ordering_then keys values) (from (suc p))
+  pairs_step = step pair_order (picked ka (entry_views a)) (picked kb (entry_views b)) p (entry_view x) (entry_view y) (omega (arith, h, picked_length ka (entry_views a))) (omega (arith, g, picked_length kb (entry_views b))) (picked_entry ka a ia p x h is_x) (picked_entry kb b ib p y g is_y)
+
+  at_place : (o : Ordering) → o ≡ ordering_then keys values → ordering_then o (from (suc p)) ≡ from p
+  at_place o is = ap (λ q. ordering_then q (from (suc p))) is ∙ sym pairs_step
+
+  by_values : (k : Ordering) → k ≡ keys → ordering_then k values ≡ ordering_then keys values
+  by_values k is = ap (λ o. ordering_then o values) is
+
+  pub keys_tell : (k : Ordering) → k ≡ keys → is_ne k ≡ true → k ≡ from p
+  keys_tell k is ne = ne_then k (from (suc p)) ne ∙ at_place k (ne_then k values ne ∙ by_values k is)
+
+  same_keys : (k v : Ordering) → k ≡ keys → is_ne k ≡ false → v ≡ values → ordering_then v (from (suc p)) ≡ from p
+  same_keys k v is tie gives = at_place v (gives ∙ sym (eq_then k values tie) ∙ by_values k is)
+
+  pub values_tell : (k v : Ordering) → k ≡ keys → is_ne k ≡ false → v ≡ values → is_ne v ≡ true → v ≡ from p
+  values_tell k v is tie gives ne = ne_then v (from (suc p)) ne ∙ same_keys k v is tie gives
+
+  pub rest_tells : (k v : Ordering) → k ≡ keys → is_ne k ≡ false → v ≡ values → is_ne v ≡ false → from p ≡ from (suc p)
+  rest_tells k v is tie gives tied = sym (same_keys k v is tie gives) ∙ eq_then v (from (suc p)) tied
 
 pub pairs_end : (ka kb : List ℕ) (a b : Pairs) (p : ℕ) → p ≤ length ka → p ≤ length kb → (length ka ≤ p) ⊎ (length kb ≤ p) → nat_cmp (length ka) (length kb) ≡ slice_cmp pair_order (drop p (picked ka a)) (drop p (picked kb b))
 pairs_end ka kb a b p h g e =

@@ -1,5 +1,5 @@
 -- What an index says of the entries, and what an edit does to both.
-use Rattle.std.proofs.Common.{◌≡◌, inl, inr, ℕ, zero, suc, ◌+◌, ◌-◌, ◌<◌, ◌≤◌, true, false, List, [], ◌∷◌, ◌++◌, length, get_or, set, Some, None, refl, sym, ap, ◌∙◌, arith, Ordering, Less, Equal, Greater, is_eq}
+use Rattle.std.proofs.Common.{◌≡◌, inl, inr, ℕ, zero, suc, ◌+◌, ◌-◌, ◌<◌, ◌≤◌, true, false, List, [], ◌∷◌, ◌++◌, length, get_or, set, Some, None, refl, sym, ap, ◌∙◌, subst, arith, Ordering, Less, Equal, Greater, is_eq, is_some, true≢false}
 use Rattle.std.specs.List.{insert}
 use Rattle.std.proofs.lemmas.Bool.{cases_lt}
 use Rattle.std.proofs.Math.ListN.{length-set, get_or-append}
@@ -105,6 +105,10 @@ module _ (by_key : List ℕ) (es : Pairs) (ix : IsIndex by_key es) where
 
   pub not_found : (k : KeyVal) (p : ℕ) → IsGapFor by_key es k p → find k es ≡ None
   not_found k p gap = find_absent es k (none_in_gap k p gap)
+
+  -- so a key with a gap is not there
+  pub not_there : {w k : KeyVal} {p : ℕ} {now : Pairs} → w ≡ k → es ≡ now → IsGapFor by_key es w p → is_some (find k now) ≡ true → ⊥
+  not_there {w} {k} {p} is view gap some = true≢false (sym some ∙ ap (λ f. is_some f) (sym (ap (find k) view) ∙ not_found k p (subst (λ j. IsGapFor by_key es j p) is gap)))
 
   pub written : (k : KeyVal) (p : ℕ) (v : Val) → IsAt by_key es k p → insert_pair es k v ≡ set es (get_or by_key p 0) (key_at es (get_or by_key p 0), v)
   written k p v at = insert_present es k v _ (ix.below p at.in_range) (rw at.has_key (ap is_eq (key_tied k))) (first_at k p at)

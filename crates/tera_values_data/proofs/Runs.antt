@@ -9,6 +9,14 @@ use Rattle.std.proofs.lemmas.Bool.{eqb-true}
 use Rattle.tera_values_data.specs.Growth.{Keeps, IsPlain, by_byte}
 use Rattle.tera_values_data.specs.Escape.{escape_byte, escape_xml_byte}
 
+-- a walk from one place on is past bytes that stand for themselves alone
+abbrev pub IsPast : (ℕ → List ℕ) → List ℕ → ℕ → ℕ → Type 0
+IsPast form bytes from place = record {
+  low : from ≤ place;
+  high : place ≤ length bytes;
+  plain : IsPlain form bytes from place;
+}
+
 pub keeps_all : (t : List ℕ) → Keeps t t
 keeps_all t = record { more = []; is = sym (append-nil t) }
 

@@ -115,19 +115,38 @@ spelled_more ps cs i h =
     ∙ encodes-append (map pick (take i ps)) (c ∷ [])
     ∙ ap (λ (l : List ℕ). encode_utf8_all (map pick (take i ps)) ++ l) (append-nil (encode_utf8 c))
 
-pub places_up : (s e : Option ℤ) (z : ℤ) (n k : ℕ) → int_lt (pos 0) z ≡ true → k ≡ unsigned_abs z → upward n (bound (before n) 0 s) (bound (before n) n e) k ≡ places s e z n
+moves : (z : ℤ) → (z ≡ pos 0 → ⊥) → 0 < unsigned_abs z
+moves (pos zero) apart = absurd (apart refl)
+moves (pos (suc m)) apart = omega arith
+moves (negsuc m) apart = omega arith
+
+places_up : (s e : Option ℤ) (z : ℤ) (n k : ℕ) → int_lt (pos 0) z ≡ true → k ≡ unsigned_abs z → upward n (bound (before n) 0 s) (bound (before n) n e) k ≡ places s e z n
 places_up s e (pos m) n k h is = ap (λ (i : ℕ). upward n (bound (before n) 0 s) (bound (before n) n e) i) is
 places_up s e (negsuc m) n k h is = cc
 
-pub places_down : (s e : Option ℤ) (z : ℤ) (n k : ℕ) → (z ≡ pos 0 → ⊥) → int_lt (pos 0) z ≡ false → k ≡ unsigned_abs z → downward n (bound (through n) n s) (bound (through n) 0 e) k ≡ places s e z n
+places_down : (s e : Option ℤ) (z : ℤ) (n k : ℕ) → (z ≡ pos 0 → ⊥) → int_lt (pos 0) z ≡ false → k ≡ unsigned_abs z → downward n (bound (through n) n s) (bound (through n) 0 e) k ≡ places s e z n
 places_down s e (pos zero) n k apart h is = absurd (apart refl)
 places_down s e (pos (suc m)) n k apart h is = let t : int_lt (pos 0) (pos (suc m)) ≡ true = is_below 0 (suc m) (omega arith) in cc
 places_down s e (negsuc m) n k apart h is = ap (λ (i : ℕ). downward n (bound (through n) n s) (bound (through n) 0 e) i) is
 
-pub moves : (z : ℤ) → (z ≡ pos 0 → ⊥) → 0 < unsigned_abs z
-moves (pos zero) apart = absurd (apart refl)
-moves (pos (suc m)) apart = omega arith
-moves (negsuc m) apart = omega arith
+-- the places of a slice, by the bounds that were reckoned
+module _ (s e : Option ℤ) (z : ℤ) (n first last k : ℕ) (apart : z ≡ pos 0 → ⊥) (is : k ≡ unsigned_abs z) where
+  far : 0 < k
+  far = rw is (moves z apart)
+
+  pub up_places : int_lt (pos 0) z ≡ true → first ≡ bound (before n) 0 s → last ≡ bound (before n) n e → last ≤ n → upward last first last k ≡ places s e z n
+  up_places sign from to room =
+      up_same last n first last k far (omega arith) (omega arith)
+      ∙ ap (λ (i : ℕ). upward n i last k) from
+      ∙ ap (λ (i : ℕ). upward n (bound (before n) 0 s) i k) to
+      ∙ places_up s e z n k sign is
+
+  pub down_places : int_lt (pos 0) z ≡ false → first ≡ bound (through n) n s → last ≡ bound (through n) 0 e → first ≤ n → downward first first last k ≡ places s e z n
+  down_places sign from to room =
+      down_same first n first last k far (omega arith) (omega arith)
+      ∙ ap (λ (i : ℕ). downward n i last k) from
+      ∙ ap (λ (i : ℕ). downward n (bound (through n) n s) i k) to
+      ∙ places_down s e z n k apart sign is
 
 before_le : (n d : ℕ) (z : Option ℤ) → d ≤ n → bound (before n) d z ≤ n
 before_le n d None h = h

@@ -111,8 +111,7 @@ impl Value {
         ensures keeps { Keeps (string_bytes out.old) (string_bytes out.new) }
     {
         match self.shape() {
-            Shape::Undefined => append("", out),
-            Shape::None => append("", out),
+            Shape::Undefined | Shape::None => append("", out),
             Shape::Int(number) => append_integer(number, out),
             Shape::Text(content, _) => append(content, out),
             Shape::Bytes(content) => append_bytes(content, out),

@@ -1,5 +1,5 @@
 // Slices of arrays and texts, and their items the last one first.
-ghost use Rattle.std.specs.Prelude.{◌≡◌, ◌≢◌, pos, string_bytes, ◌<◌, ◌≤◌, ◌^◌, Ok, length, reverse, EachIndex, slice_index};
+ghost use Rattle.std.specs.Prelude.{◌≡◌, IsTrue, IsFalse, ◌≢◌, pos, string_bytes, ◌<◌, ◌≤◌, ◌^◌, Ok, length, reverse, EachIndex, slice_index};
 ghost use Rattle.std.specs.Str.{chars, encode_utf8_all};
 ghost use Rattle.tera_errors.specs.Answer.{Gives};
 ghost use Rattle.tera_values_data.specs.Slices.{before, through, bound, upward, downward, places, picked_items, picked_chars, slice, reversed};
@@ -9,53 +9,24 @@ use crate::value::Value;
 use std::alloc::Global;
 use tera_errors::{Error, TeraResult};
 
-/// How many of so many items stand before the place that the number names.
-fn before(number: i128, length: usize) -> usize
-    ensures value { result ≡ before length number }
+/// How many of so many items stand before the place that the number names, or before it and at it; the default where no
+/// number is given.
+fn bound(number: Option<i128>, default: usize, length: usize, at_it: bool) -> usize
+    requires { default ≤ length }
+    ensures before { IsFalse at_it → result ≡ bound (before length) default number }
+    ensures through { IsTrue at_it → result ≡ bound (through length) default number }
     ensures within { result ≤ length }
 {
+    let Some(number) = number else {
+        return default;
+    };
     let distance = number.unsigned_abs();
     let length = length as u128;
+    let more = at_it as u128;
     if number < 0 {
-        length.saturating_sub(distance) as usize
+        (length + more).saturating_sub(distance) as usize
     } else {
-        distance.min(length) as usize
-    }
-}
-
-/// How many of so many items stand before the place that the number names, and at it.
-fn through(number: i128, length: usize) -> usize
-    ensures value { result ≡ through length number }
-    ensures within { result ≤ length }
-{
-    let distance = number.unsigned_abs();
-    let length = length as u128;
-    if number < 0 {
-        (length + 1).saturating_sub(distance) as usize
-    } else {
-        (distance + 1).min(length) as usize
-    }
-}
-
-fn before_bound(number: Option<i128>, default: usize, length: usize) -> usize
-    requires { default ≤ length }
-    ensures value { result ≡ bound (before length) default number }
-    ensures within { result ≤ length }
-{
-    match number {
-        Some(number) => before(number, length),
-        None => default,
-    }
-}
-
-fn through_bound(number: Option<i128>, default: usize, length: usize) -> usize
-    requires { default ≤ length }
-    ensures value { result ≡ bound (through length) default number }
-    ensures within { result ≤ length }
-{
-    match number {
-        Some(number) => through(number, length),
-        None => default,
+        (distance + more).min(length) as usize
     }
 }
 
@@ -99,12 +70,12 @@ fn places(
 {
     let stride = step.unsigned_abs();
     if step > 0 {
-        let first = before_bound(start, 0, length);
-        let last = before_bound(end, length, length);
+        let first = bound(start, 0, length, false);
+        let last = bound(end, length, length, false);
         upward(alloc, first, last, stride)
     } else {
-        let first = through_bound(start, length, length);
-        let last = through_bound(end, 0, length);
+        let first = bound(start, length, length, true);
+        let last = bound(end, 0, length, true);
         downward(alloc, first, last, stride)
     }
 }

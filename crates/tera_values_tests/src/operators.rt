@@ -4,7 +4,9 @@ ghost use Rattle.std.specs.Prelude.{◌<◌};
 use crate::sample::Sample::{Int, Ints, Nothing, Pairs, Safe, Text, Truth, Undefined};
 use crate::sample::{Sample, value};
 use std::alloc::Global;
-use tera_operators::{Operand, array, attribute, binary, item, map, negative, not, slice};
+use tera_operators::{
+    Operand, array, attribute, binary, binary_in_place, item, map, negative, not, slice,
+};
 use tera_syntax_tree::{BinaryOperator as Op, OwnedKey};
 use tera_values::{Error, ErrorKind, Shape, Span, TeraResult};
 
@@ -171,6 +173,141 @@ fn operands_are_compared(rt: HostRuntime) {
         (Op::GreaterOrEqual, Nothing, Nothing, "fault in page 10-22"),
     ] {
         right = right && joins(alloc, operator, one, other, want);
+    }
+    assert!(rt; right);
+}
+
+/// The operator, done in place between operands from 10 to 12 and from 20 to 22: whether that is done, and the left operand after.
+fn changes(
+    alloc: Global,
+    operator: Op,
+    samples: (Sample, Sample),
+    is_due: bool,
+    want: &str,
+) -> bool {
+    match operands(alloc, &[samples.0, samples.1]) {
+        Some(mut both) => match (both.pop(), both.pop()) {
+            (Some(right), Some(mut left)) => {
+                let is_done = binary_in_place(operator, &mut left, &right);
+                is_done == is_due && reads(operand_in_words(alloc, &left), want)
+            }
+            _ => false,
+        },
+        None => false,
+    }
+}
+
+#[test]
+fn small_numbers_change_in_place(rt: HostRuntime) {
+    let alloc = rt.alloc();
+    let mut right = true;
+    for (operator, one, other, want) in [
+        (Op::Add, 2, 3, "int [5] 10-22"),
+        (Op::Subtract, 2, 3, "int [-1] 10-22"),
+        (Op::Multiply, 6, -7, "int [-42] 10-22"),
+        (Op::FloorDivide, 7, 2, "int [3] 10-22"),
+        (Op::FloorDivide, -7, 2, "int [-4] 10-22"),
+        (Op::FloorDivide, -8, 2, "int [-4] 10-22"),
+        (Op::Remainder, 7, 3, "int [1] 10-22"),
+        (Op::Remainder, -7, 3, "int [2] 10-22"),
+        (Op::Remainder, -6, 3, "int [0] 10-22"),
+        (Op::Equal, 2, 2, "bool [true] 10-22"),
+        (Op::NotEqual, 2, 2, "bool [false] 10-22"),
+        (Op::Less, -2, 1, "bool [true] 10-22"),
+        (Op::Greater, 2, 2, "bool [false] 10-22"),
+        (Op::LessOrEqual, 2, 2, "bool [true] 10-22"),
+        (Op::GreaterOrEqual, 1, 2, "bool [false] 10-22"),
+    ] {
+        right = right && changes(alloc, operator, (Int(one), Int(other)), true, want);
+    }
+    assert!(rt; right);
+}
+
+#[test]
+fn numbers_change_in_place_up_to_their_bounds(rt: HostRuntime) {
+    let alloc = rt.alloc();
+    let (least, most) = (i64::MIN as i128, i64::MAX as i128);
+    let mut right = true;
+    for (operator, one, other, want) in [
+        (Op::Less, i128::MIN, i128::MAX, "bool [true] 10-22"),
+        (Op::Add, i128::MAX, i128::MIN, "int [-1] 10-22"),
+        (Op::Subtract, i128::MIN, i128::MIN, "int [0] 10-22"),
+        (
+            Op::Multiply,
+            least,
+            least,
+            "int [85070591730234615865843651857942052864] 10-22",
+        ),
+        (
+            Op::FloorDivide,
+            least,
+            1,
+            "int [-9223372036854775808] 10-22",
+        ),
+        (Op::FloorDivide, least, most, "int [-2] 10-22"),
+        (
+            Op::Remainder,
+            least,
+            most,
+            "int [9223372036854775806] 10-22",
+        ),
+    ] {
+        right = right && changes(alloc, operator, (Int(one), Int(other)), true, want);
+    }
+    assert!(rt; right);
+}
+
+#[test]
+fn large_numbers_and_other_divisors_change_nothing(rt: HostRuntime) {
+    let alloc = rt.alloc();
+    let large: i128 = 9223372036854775808;
+    let mut right = true;
+    for (operator, one, other, want) in [
+        (
+            Op::Add,
+            i128::MAX,
+            1,
+            "int [170141183460469231731687303715884105727] 10-12",
+        ),
+        (
+            Op::Subtract,
+            i128::MIN,
+            1,
+            "int [-170141183460469231731687303715884105728] 10-12",
+        ),
+        (Op::Multiply, large, 0, "int [9223372036854775808] 10-12"),
+        (Op::Multiply, 2, large, "int [2] 10-12"),
+        (Op::FloorDivide, large, 2, "int [9223372036854775808] 10-12"),
+        (Op::FloorDivide, 7, large, "int [7] 10-12"),
+        (Op::FloorDivide, 7, 0, "int [7] 10-12"),
+        (Op::FloorDivide, 7, -2, "int [7] 10-12"),
+        (Op::Remainder, large, 2, "int [9223372036854775808] 10-12"),
+        (Op::Remainder, 7, large, "int [7] 10-12"),
+        (Op::Remainder, 7, 0, "int [7] 10-12"),
+        (Op::Remainder, 7, -2, "int [7] 10-12"),
+        (Op::Divide, 8, 2, "int [8] 10-12"),
+        (Op::Power, 2, 3, "int [2] 10-12"),
+        (Op::Concat, 2, 3, "int [2] 10-12"),
+    ] {
+        right = right && changes(alloc, operator, (Int(one), Int(other)), false, want);
+    }
+    assert!(rt; right);
+}
+
+#[test]
+fn what_is_no_number_changes_nothing(rt: HostRuntime) {
+    let alloc = rt.alloc();
+    let mut right = true;
+    for (operator, one, other, want) in [
+        (Op::Add, Text("a"), Int(1), "string [a] 10-12"),
+        (Op::Add, Int(1), Text("a"), "int [1] 10-12"),
+        (Op::Equal, Safe("a"), Safe("a"), "safe string [a] 10-12"),
+        (Op::NotEqual, Int(1), Text("1"), "int [1] 10-12"),
+        (Op::Less, Truth(false), Int(1), "bool [false] 10-12"),
+        (Op::Remainder, Undefined, Int(2), "undefined [] 10-12"),
+        (Op::In, Int(1), Ints(&[1]), "int [1] 10-12"),
+    ] {
+        right = right && changes(alloc, operator, (one, other), false, want);
     }
     assert!(rt; right);
 }

@@ -1,5 +1,6 @@
 -- Expressions with parts that are lent.
-use Rattle.std.proofs.Common.{◌≡◌, ℕ, suc, ◌+◌, ◌<◌, Bool, List, ◌∷◌, length, drop, get_or, Vec, Box, Global, Option, Some, None, Result, OnOk, refl, sym, ap, ap₂, ◌∙◌, add-one, drop-cons}
+use Rattle.std.proofs.Common.{◌≡◌, ◌⊎◌, inl, inr, ℕ, suc, ◌+◌, ◌<◌, ◌≤◌, Bool, List, [], ◌∷◌, length, drop, get_or, Vec, Box, Global, Result, OnOk, sym, ap, ap₂, ◌∙◌, add-one, drop-cons}
+use Rattle.std.proofs.lemmas.List.{at_drop_all}
 use Rattle.tera_errors.specs.declared.span.Span.{Span}
 use Rattle.tera_errors.specs.Answer.{SeenError}
 use Rattle.tera_syntax_tree.specs.declared.expression.Item.{Item}
@@ -10,22 +11,31 @@ use Rattle.tera_syntax_tree.specs.declared.expression.Called.{Called, out-Called
 use Rattle.tera_syntax_tree.specs.declared.expression.Collected.{Collected}
 use Rattle.tera_syntax_tree.specs.declared.expression.ComponentTag.{ComponentTag, out-ComponentTag}
 use Rattle.tera_syntax_tree.specs.declared.expression.BinaryOperator.{BinaryOperator}
-use Rattle.tera_syntax_tree.specs.declared.expression.Heading.{Heading}
 use Rattle.tera_syntax_tree.specs.declared.expression.Operands.{Operands}
 use Rattle.tera_syntax_tree.specs.declared.expression.Indexed.{Indexed}
 use Rattle.tera_syntax_tree.specs.declared.expression.Choice.{Choice}
 use Rattle.tera_syntax_tree.specs.declared.expression.Sliced.{Sliced}
 use Rattle.tera_syntax_tree.specs.declared.expression.Expression.{Expression}
 use Rattle.tera_syntax_tree.specs.declared.expression.Expression.TheVariants as expression
-use Rattle.tera_syntax_tree.specs.View.{comprehension_of, slice_of, expr_of, items_of, entries_of, arguments_of}
+use Rattle.tera_syntax_tree.specs.View.{expr_of, items_of, entries_of, arguments_of}
 use Rattle.tera_syntax_tree.proofs.Views.{view_array, view_map, view_super, view_filter, view_test, view_call, view_component, view_comprehension, view_slice}
-use Rattle.tera_variables.specs.Free.{Names, expr_free, items_free, entries_free, arguments_free, ◌∪◌}
+use Rattle.tera_variables.specs.Free.{Names, nobody, expr_free, items_free, entries_free, arguments_free, ◌∪◌}
 use Rattle.tera_variables.specs.Sets.{applied_free, collected_free, bounds_free}
-use Rattle.tera_variables.proofs.Unions.{ok-then}
+use Rattle.tera_variables.proofs.Unions.{ok-then, union-pass}
 
 pub drop-here : {A : Type 0} (xs : List A) (i : ℕ) (x : A) → i < length xs → x ≡ get_or xs i x → drop i xs ≡ x ∷ drop (i + 1) xs
 drop-here xs i x l e =
     drop-cons xs i x l ∙ ap (λ y. y ∷ drop (suc i) xs) (sym e) ∙ ap (λ n. x ∷ drop n xs) (sym (add-one i))
+
+-- of a row, one more is passed
+pub one-passed : {A : Type 0} (found_in : List A → Names) (xs : List A) (i : ℕ) (x : A) (e l m all : Names) → i < length xs → x ≡ get_or xs i x → found_in (x ∷ drop (i + 1) xs) ≡ e ∪ found_in (drop (i + 1) xs) → m ≡ e ∪ l → found_in (drop i xs) ∪ l ≡ all → found_in (drop (i + 1) xs) ∪ m ≡ all
+one-passed found_in xs i x e l m all lt is first h before =
+    union-pass _ _ _ _ _ (ap found_in (drop-here xs i x lt is) ∙ first) h ∙ before
+
+-- or all are
+pub all-passed : {A : Type 0} (found_in : List A → Names) (xs : List A) (i : ℕ) (l all : Names) → length xs ≤ i → found_in [] ≡ nobody → found_in (drop i xs) ∪ l ≡ all → l ≡ all
+all-passed found_in xs i l all end none before =
+    sym (ap (λ x. x ∪ l) (at_drop_all found_in xs i end ∙ none)) ∙ before
 
 -- what is added is that of the whole
 pub whole : (r : Result (Unit {0}) SeenError) (p q l n : Names) → p ≡ q → OnOk r (n ≡ p ∪ l) → OnOk r (n ≡ q ∪ l)
@@ -51,13 +61,11 @@ pub component : (e : Expression) (tag : Box ComponentTag Global) (span : Span) (
 component e tag span xs is a =
     ap (λ x. entries_free (entries_of x)) a ∙ sym (ap expr_free (ap expr_of is ∙ view_component tag span))
 
-pub filter : (e : Expression) (applied : Box Applied Global) (span : Span) (x : Applied) → e ≡ expression.Filter applied span → x ≡ applied.value → applied_free x ≡ expr_free (expr_of e)
-filter e applied span x is v =
-    ap applied_free v ∙ sym (ap expr_free (ap expr_of is ∙ view_filter applied span))
-
-pub test : (e : Expression) (applied : Box Applied Global) (span : Span) (x : Applied) → e ≡ expression.Test applied span → x ≡ applied.value → applied_free x ≡ expr_free (expr_of e)
-test e applied span x is v =
-    ap applied_free v ∙ sym (ap expr_free (ap expr_of is ∙ view_test applied span))
+pub applied : (e : Expression) (parts : Box Applied Global) (x : Applied) → ((s : Span) × (e ≡ expression.Filter parts s)) ⊎ ((s : Span) × (e ≡ expression.Test parts s)) → x ≡ parts.value → applied_free x ≡ expr_free (expr_of e)
+applied e parts x (inl p) v =
+    ap applied_free v ∙ sym (ap expr_free (ap expr_of p.1 ∙ view_filter parts p.0))
+applied e parts x (inr p) v =
+    ap applied_free v ∙ sym (ap expr_free (ap expr_of p.1 ∙ view_test parts p.0))
 
 pub comprehension : (e : Expression) (collected : Box Collected Global) (span : Span) (x : Collected) → e ≡ expression.Comprehension collected span → x ≡ collected.value → collected_free x ≡ expr_free (expr_of e)
 comprehension e collected span x is v =
@@ -71,17 +79,18 @@ pub index : (e : Expression) (optional : Bool) (parts : Box Indexed Global) (spa
 index e optional parts span x y is v w =
     ap₂ (λ s t. expr_free (expr_of s.target) ∪ expr_free (expr_of t.index)) v w ∙ sym (ap (λ z. expr_free (expr_of z)) is)
 
-pub binary : (e : Expression) (op : BinaryOperator) (operands : Box Operands Global) (span : Span) (x y : Operands) → e ≡ expression.Binary op operands span → x ≡ operands.value → y ≡ operands.value → expr_free (expr_of x.left) ∪ expr_free (expr_of y.right) ≡ expr_free (expr_of e)
-binary e op operands span x y is v w =
-    ap₂ (λ s t. expr_free (expr_of s.left) ∪ expr_free (expr_of t.right)) v w ∙ sym (ap (λ z. expr_free (expr_of z)) is)
+abbrev HasOperands : Expression → Box Operands Global → Type 0
+HasOperands e operands =
+    ((o : BinaryOperator) × (s : Span) × (e ≡ expression.Binary o operands s)) ⊎ (((s : Span) × (e ≡ expression.And operands s)) ⊎ ((s : Span) × (e ≡ expression.Or operands s)))
 
-pub both : (e : Expression) (operands : Box Operands Global) (span : Span) (x y : Operands) → e ≡ expression.And operands span → x ≡ operands.value → y ≡ operands.value → expr_free (expr_of x.left) ∪ expr_free (expr_of y.right) ≡ expr_free (expr_of e)
-both e operands span x y is v w =
-    ap₂ (λ s t. expr_free (expr_of s.left) ∪ expr_free (expr_of t.right)) v w ∙ sym (ap (λ z. expr_free (expr_of z)) is)
+in_operands : (e : Expression) (operands : Box Operands Global) → HasOperands e operands → expr_free (expr_of operands.value.left) ∪ expr_free (expr_of operands.value.right) ≡ expr_free (expr_of e)
+in_operands e operands (inl p) = sym (ap (λ z. expr_free (expr_of z)) p.2)
+in_operands e operands (inr (inl p)) = sym (ap (λ z. expr_free (expr_of z)) p.1)
+in_operands e operands (inr (inr p)) = sym (ap (λ z. expr_free (expr_of z)) p.1)
 
-pub either : (e : Expression) (operands : Box Operands Global) (span : Span) (x y : Operands) → e ≡ expression.Or operands span → x ≡ operands.value → y ≡ operands.value → expr_free (expr_of x.left) ∪ expr_free (expr_of y.right) ≡ expr_free (expr_of e)
-either e operands span x y is v w =
-    ap₂ (λ s t. expr_free (expr_of s.left) ∪ expr_free (expr_of t.right)) v w ∙ sym (ap (λ z. expr_free (expr_of z)) is)
+pub two_operands : (e : Expression) (operands : Box Operands Global) (x y : Operands) → HasOperands e operands → x ≡ operands.value → y ≡ operands.value → expr_free (expr_of x.left) ∪ expr_free (expr_of y.right) ≡ expr_free (expr_of e)
+two_operands e operands x y is v w =
+    ap₂ (λ s t. expr_free (expr_of s.left) ∪ expr_free (expr_of t.right)) v w ∙ in_operands e operands is
 
 pub ternary : (e : Expression) (choice : Box Choice Global) (span : Span) (x y z : Choice) → e ≡ expression.Ternary choice span → x ≡ choice.value → y ≡ choice.value → z ≡ choice.value → expr_free (expr_of x.value) ∪ (expr_free (expr_of y.condition) ∪ expr_free (expr_of z.other)) ≡ expr_free (expr_of e)
 ternary e choice span x y z is v w u =

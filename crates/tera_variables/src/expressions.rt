@@ -39,17 +39,12 @@ pub fn add_expression(
             add_bounds(alloc, &sliced.bounds, found)?;
             add_expression(alloc, &sliced.target, found)
         }
-        Expression::Not { operand, .. } => add_expression(alloc, operand, found),
-        Expression::Negate { operand, .. } => add_expression(alloc, operand, found),
-        Expression::Binary { operands, .. } => {
-            add_expression(alloc, &operands.right, found)?;
-            add_expression(alloc, &operands.left, found)
+        Expression::Not { operand, .. } | Expression::Negate { operand, .. } => {
+            add_expression(alloc, operand, found)
         }
-        Expression::And { operands, .. } => {
-            add_expression(alloc, &operands.right, found)?;
-            add_expression(alloc, &operands.left, found)
-        }
-        Expression::Or { operands, .. } => {
+        Expression::Binary { operands, .. }
+        | Expression::And { operands, .. }
+        | Expression::Or { operands, .. } => {
             add_expression(alloc, &operands.right, found)?;
             add_expression(alloc, &operands.left, found)
         }
@@ -62,8 +57,9 @@ pub fn add_expression(
         Expression::Map { entries, .. } => add_entries(alloc, entries.as_slice(), found),
         Expression::Comprehension { collected, .. } => add_collected(alloc, collected, found),
         Expression::Super { arguments, .. } => add_arguments(alloc, arguments.as_slice(), found),
-        Expression::Filter { applied, .. } => add_applied(alloc, applied, found),
-        Expression::Test { applied, .. } => add_applied(alloc, applied, found),
+        Expression::Filter { applied, .. } | Expression::Test { applied, .. } => {
+            add_applied(alloc, applied, found)
+        }
         Expression::Call { called, .. } => add_arguments(alloc, called.arguments.as_slice(), found),
         Expression::Component { tag, .. } => add_entries(alloc, tag.attributes.as_slice(), found),
     }

@@ -130,11 +130,7 @@ fn remove_globals_of(node: &Node, found: &mut BTreeSet<String>)
     ensures { names_in found.new ≡ names_in found.old ∖ node_binds true (node_of node.now) }
 {
     match node {
-        Node::If { body, other, .. } => {
-            remove_globals(body.as_slice(), found);
-            remove_globals(other.as_slice(), found);
-        }
-        Node::For { body, other, .. } => {
+        Node::If { body, other, .. } | Node::For { body, other, .. } => {
             remove_globals(body.as_slice(), found);
             remove_globals(other.as_slice(), found);
         }
@@ -151,9 +147,9 @@ fn remove_globals_of(node: &Node, found: &mut BTreeSet<String>)
             remove_if_global(captured.name, *is_global, found);
             remove_globals(body.as_slice(), found);
         }
-        Node::FilterSection { body, .. } => remove_globals(body.as_slice(), found),
-        Node::Block { body, .. } => remove_globals(body.as_slice(), found),
-        Node::ComponentCall { body, .. } => remove_globals(body.as_slice(), found),
+        Node::FilterSection { body, .. }
+        | Node::Block { body, .. }
+        | Node::ComponentCall { body, .. } => remove_globals(body.as_slice(), found),
         Node::Content { .. }
         | Node::Print { .. }
         | Node::PrintName { .. }

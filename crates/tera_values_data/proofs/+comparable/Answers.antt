@@ -1,4 +1,4 @@
-use Rattle.std.proofs.Common.{◌⊎◌, inl, inr, ◌≤◌, length, Some, None, Ordering, cond, ap, sym, ◌∙◌, arith}
+use Rattle.std.proofs.Common.{inl, inr, Some, None, Ordering, cond, ap, sym, ◌∙◌, arith}
 use Rattle.tera_values_data.specs.Val.{Val, array, vals}
 use Rattle.tera_values_data.specs.Order.{comparable_items, checked_order}
 use Rattle.tera_values_data.proofs.Sizes.{item_below}
@@ -12,11 +12,12 @@ order::checked_cmp_items-checked_cmp-requires t c = (let below = item_below c.ar
 
 pub order::checked_cmp_items-returns : goal.order::checked_cmp_items-returns
 order::checked_cmp_items-returns t c =
-    let done : (length c.args.a.now ≤ c.loop-place.place) ⊎ (length c.args.b.now ≤ c.loop-place.place) = elim c.loop-place-test.branch [
+    ap Some c.cmp.ensures
+    ∙ sym (checked_ends c.args.a.now c.args.b.now c.loop-place.place c.loop-place.invariant.in_a c.loop-place.invariant.in_b (elim c.loop-place-test.branch [
       | order::checked_cmp_items-then-loop-place-test+else-place-b w ↦ inr w.if-place-b.false
       | order::checked_cmp_items-else-loop-place-test w ↦ inl w.loop-place-test.false
-    ] in
-    ap Some c.cmp.ensures ∙ sym (checked_ends c.args.a.now c.args.b.now c.loop-place.place c.loop-place.invariant.in_a c.loop-place.invariant.in_b done) ∙ sym c.loop-place.invariant.rest
+    ]))
+    ∙ sym c.loop-place.invariant.rest
 
 pub value::Value::checked_cmp-returns-in-Array-shape : goal.value::Value::checked_cmp-returns-in-Array-shape
 value::Value::checked_cmp-returns-in-Array-shape t c =

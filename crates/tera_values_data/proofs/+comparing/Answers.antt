@@ -1,12 +1,10 @@
-use Rattle.std.proofs.Common.{◌≡◌, ◌⊎◌, inl, inr, suc, ◌≤◌, length, drop, sym, ap, subst, ◌∙◌, arith, true, false, add-one}
-use Rattle.std.specs.Ordering.{is_ne, ordering_then}
-use Rattle.std.specs.Cmp.Lexicographic.{slice_cmp}
+use Rattle.std.proofs.Common.{◌≡◌, inl, inr, sym, ap, subst, ◌∙◌, arith, add-one}
 use Rattle.tera_values_data.specs.Val.{array, map, vals, entries}
 use Rattle.tera_values_data.specs.Keys.{key_cmp}
 use Rattle.tera_values_data.specs.View.{key_view, entry_views}
-use Rattle.tera_values_data.specs.Index.{picked, IsIndex}
-use Rattle.tera_values_data.specs.Order.{order, pair_order}
-use Rattle.tera_values_data.proofs.Compared.{as_items, as_entries, ne_then, eq_then, pairs_step, pairs_end, entry_below}
+use Rattle.tera_values_data.specs.Index.{IsIndex}
+use Rattle.tera_values_data.specs.Order.{order}
+use Rattle.tera_values_data.proofs.Compared.{as_items, as_entries, keys_tell, values_tell, rest_tells, pairs_end, entry_below}
 use Rattle.tera_values_data.proofs.Entries.{place_below}
 use Rattle.tera_values_data.proofs.Steps.{ends}
 use Rattle.tera_values_data.proofs.Sizes.{item_below}
@@ -33,16 +31,8 @@ value::Value::compare-returns-in-Map-shape t c =
 
 pub order::compare_entries-returns-then-is_ne : goal.order::compare_entries-returns-then-is_ne
 order::compare_entries-returns-then-is_ne t c =
-    let p = c.loop-place.place in
-    let x = c.index-a-a_keys.result in
-    let y = c.index-b-b_keys.result in
-    let keys : c.compare_key-keys.result ≡ key_cmp (key_view x.key) (key_view y.key) = c.compare_key-keys.ensures ∙ ap (key_cmp (key_view x.key)) c.wanted.ensures in
-    let ne : is_ne c.compare_key-keys.result ≡ true = sym c.is_ne.ensures ∙ c.if-is_ne.true in
-    let after = slice_cmp pair_order (drop (suc p) (picked c.args.a_keys.now (entry_views c.args.a.now))) (drop (suc p) (picked c.args.b_keys.now (entry_views c.args.b.now))) in
-    let rest = pairs_step c.args.a_keys.now c.args.b_keys.now c.args.a.now c.args.b.now c.requires.first c.requires.second p x y c.loop-place-test.true c.if-place-b_keys.true c.index-a-a_keys.is c.index-b-b_keys.is in
-    let one = ne_then c.compare_key-keys.result (order x.value y.value) ne in
-    let two = ne_then c.compare_key-keys.result after ne in
-    two ∙ ap (λ o. ordering_then o after) (one ∙ ap (λ o. ordering_then o (order x.value y.value)) keys) ∙ sym rest ∙ sym c.loop-place.invariant.rest
+    let keys = c.compare_key-keys.ensures ∙ ap (key_cmp (key_view c.index-a-a_keys.result.key)) c.wanted.ensures in
+    keys_tell c.args.a_keys.now c.args.b_keys.now c.args.a.now c.args.b.now c.requires.first c.requires.second c.loop-place.place c.index-a-a_keys.result c.index-b-b_keys.result c.loop-place-test.true c.if-place-b_keys.true c.index-a-a_keys.is c.index-b-b_keys.is c.compare_key-keys.result keys (sym c.is_ne.ensures ∙ c.if-is_ne.true) ∙ sym c.loop-place.invariant.rest
 
 pub order::compare_entries-compare-values-requires : goal.order::compare_entries-compare-values-requires
 order::compare_entries-compare-values-requires t c =
@@ -50,47 +40,35 @@ order::compare_entries-compare-values-requires t c =
 
 pub order::compare_entries-returns-then-is_ne-2 : goal.order::compare_entries-returns-then-is_ne-2
 order::compare_entries-returns-then-is_ne-2 t c =
-    let p = c.loop-place.place in
-    let x = c.index-a-a_keys.result in
-    let y = c.index-b-b_keys.result in
-    let keys : c.compare_key-keys.result ≡ key_cmp (key_view x.key) (key_view y.key) = c.compare_key-keys.ensures ∙ ap (key_cmp (key_view x.key)) c.wanted.ensures in
-    let tie : is_ne (key_cmp (key_view x.key) (key_view y.key)) ≡ false = ap is_ne (sym keys) ∙ sym c.is_ne.ensures ∙ c.if-is_ne.false in
-    let ne : is_ne c.compare-values.result ≡ true = sym c.is_ne-in-loop-place.ensures ∙ c.if-is_ne-2.true in
-    let after = slice_cmp pair_order (drop (suc p) (picked c.args.a_keys.now (entry_views c.args.a.now))) (drop (suc p) (picked c.args.b_keys.now (entry_views c.args.b.now))) in
-    let rest = pairs_step c.args.a_keys.now c.args.b_keys.now c.args.a.now c.args.b.now c.requires.first c.requires.second p x y c.loop-place-test.true c.if-place-b_keys.true c.index-a-a_keys.is c.index-b-b_keys.is in
-    ne_then c.compare-values.result after ne ∙ ap (λ o. ordering_then o after) (c.compare-values.ensures ∙ sym (eq_then (key_cmp (key_view x.key) (key_view y.key)) (order x.value y.value) tie)) ∙ sym rest ∙ sym c.loop-place.invariant.rest
+    let keys = c.compare_key-keys.ensures ∙ ap (key_cmp (key_view c.index-a-a_keys.result.key)) c.wanted.ensures in
+    values_tell c.args.a_keys.now c.args.b_keys.now c.args.a.now c.args.b.now c.requires.first c.requires.second c.loop-place.place c.index-a-a_keys.result c.index-b-b_keys.result c.loop-place-test.true c.if-place-b_keys.true c.index-a-a_keys.is c.index-b-b_keys.is c.compare_key-keys.result c.compare-values.result keys (sym c.is_ne.ensures ∙ c.if-is_ne.false) c.compare-values.ensures (sym c.is_ne-in-loop-place.ensures ∙ c.if-is_ne-2.true) ∙ sym c.loop-place.invariant.rest
 
 pub order::compare_entries-loop-place-preserved : goal.order::compare_entries-loop-place-preserved
 order::compare_entries-loop-place-preserved t c =
-    let p = c.loop-place.place in
-    let x = c.index-a-a_keys.result in
-    let y = c.index-b-b_keys.result in
-    let keys : c.compare_key-keys.result ≡ key_cmp (key_view x.key) (key_view y.key) = c.compare_key-keys.ensures ∙ ap (key_cmp (key_view x.key)) c.wanted.ensures in
-    let tie : is_ne (key_cmp (key_view x.key) (key_view y.key)) ≡ false = ap is_ne (sym keys) ∙ sym c.is_ne.ensures ∙ c.if-is_ne.false in
-    let tied : is_ne (order x.value y.value) ≡ false = ap is_ne (sym c.compare-values.ensures) ∙ sym c.is_ne-in-loop-place.ensures ∙ c.if-is_ne-2.false in
-    let after = slice_cmp pair_order (drop (suc p) (picked c.args.a_keys.now (entry_views c.args.a.now))) (drop (suc p) (picked c.args.b_keys.now (entry_views c.args.b.now))) in
-    let rest = pairs_step c.args.a_keys.now c.args.b_keys.now c.args.a.now c.args.b.now c.requires.first c.requires.second p x y c.loop-place-test.true c.if-place-b_keys.true c.index-a-a_keys.is c.index-b-b_keys.is in
+    let keys = c.compare_key-keys.ensures ∙ ap (key_cmp (key_view c.index-a-a_keys.result.key)) c.wanted.ensures in
     record {
       in_a = omega arith;
       in_b = omega arith;
-      rest = rw add-one (c.loop-place.invariant.rest ∙ rest ∙ ap (λ o. ordering_then o after) (eq_then (key_cmp (key_view x.key) (key_view y.key)) (order x.value y.value) tie) ∙ eq_then (order x.value y.value) after tied);
+      rest = rw add-one (c.loop-place.invariant.rest ∙ rest_tells c.args.a_keys.now c.args.b_keys.now c.args.a.now c.args.b.now c.requires.first c.requires.second c.loop-place.place c.index-a-a_keys.result c.index-b-b_keys.result c.loop-place-test.true c.if-place-b_keys.true c.index-a-a_keys.is c.index-b-b_keys.is c.compare_key-keys.result c.compare-values.result keys (sym c.is_ne.ensures ∙ c.if-is_ne.false) c.compare-values.ensures (sym c.is_ne-in-loop-place.ensures ∙ c.if-is_ne-2.false));
     }
 
 pub order::compare_entries-returns : goal.order::compare_entries-returns
 order::compare_entries-returns t c =
-    let done : (length c.args.a_keys.now ≤ c.loop-place.place) ⊎ (length c.args.b_keys.now ≤ c.loop-place.place) = elim c.loop-place-test.branch [
+    c.cmp.ensures
+    ∙ pairs_end c.args.a_keys.now c.args.b_keys.now (entry_views c.args.a.now) (entry_views c.args.b.now) c.loop-place.place c.loop-place.invariant.in_a c.loop-place.invariant.in_b (elim c.loop-place-test.branch [
       | order::compare_entries-then-loop-place-test+else-place-b_keys w ↦ inr w.if-place-b_keys.false
       | order::compare_entries-else-loop-place-test w ↦ inl w.loop-place-test.false
-    ] in
-    c.cmp.ensures ∙ pairs_end c.args.a_keys.now c.args.b_keys.now (entry_views c.args.a.now) (entry_views c.args.b.now) c.loop-place.place c.loop-place.invariant.in_a c.loop-place.invariant.in_b done ∙ sym c.loop-place.invariant.rest
+    ])
+    ∙ sym c.loop-place.invariant.rest
 
 pub order::compare_items-compare-answer-requires : goal.order::compare_items-compare-answer-requires
 order::compare_items-compare-answer-requires t c = (let below = item_below c.args.a.now c.loop-place.place c.index-a-place.result c.loop-place-test.true c.index-a-place.is in omega (arith, below, c.decreases), tt)
 
 pub order::compare_items-returns : goal.order::compare_items-returns
 order::compare_items-returns t c =
-    let done : (length c.args.a.now ≤ c.loop-place.place) ⊎ (length c.args.b.now ≤ c.loop-place.place) = elim c.loop-place-test.branch [
+    c.cmp.ensures
+    ∙ sym (ends order c.args.a.now c.args.b.now c.loop-place.place c.loop-place.invariant.in_a c.loop-place.invariant.in_b (elim c.loop-place-test.branch [
       | order::compare_items-then-loop-place-test+else-place-b w ↦ inr w.if-place-b.false
       | order::compare_items-else-loop-place-test w ↦ inl w.loop-place-test.false
-    ] in
-    c.cmp.ensures ∙ sym (ends order c.args.a.now c.args.b.now c.loop-place.place c.loop-place.invariant.in_a c.loop-place.invariant.in_b done) ∙ sym c.loop-place.invariant.rest
+    ]))
+    ∙ sym c.loop-place.invariant.rest

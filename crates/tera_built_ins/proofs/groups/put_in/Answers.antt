@@ -1,5 +1,5 @@
-use Rattle.std.proofs.Common.{◌≡◌, ℕ, ◌+◌, ◌≤◌, pos, ◌^◌, ◌++◌, ◌∷◌, [], List, length, map, Some, None, sym, ap, ◌∙◌, arith}
-use Rattle.std.proofs.lemmas.List.{length-map}
+use Rattle.std.proofs.Common.{◌≡◌, ℕ, ◌+◌, ◌≤◌, pos, ◌^◌, ◌++◌, ◌∷◌, [], List, length, map, Some, None, sym, ap, ◌∙◌, arith, rules}
+use Rattle.std.proofs.lemmas.List.{length-map, map-append}
 use Rattle.tera_values.specs.Val.{Val, KeyVal, int}
 use Rattle.tera_values.specs.Access.{find, insert_pair}
 use Rattle.tera_values.specs.View.{key_view}
@@ -35,12 +35,18 @@ absent k places xs v is e h =
     let new = place-new k 0 (map group_view xs) v (ap (λ l. place_in (find k l)) (sym is) ∙ e) (omega (arith, h, many)) in
     (ap (λ l. insert_pair l k (int (pos (length xs)))) is ∙ ap (λ n. insert_pair (numbered 0 (map group_view xs)) k (int (pos n))) (sym many) ∙ new.0, new.1)
 
-pub returns-in_ok-begin-in-None-clause-places : goal.returns-in_ok-begin-in-None-clause-places
-returns-in_ok-begin-in-None-clause-places c =
-    let new = absent (key_view c.args.key) c.args.places.now c.args.gathered.now.items c.args.item c.requires (sym c.place_of.ensures ∙ c.in-None.is) (omega (arith, c.args.gathered.now.ok, c.args.gathered.now.small)) in
-    c.in_ok-begin-in-None.ensures.places ∙ new.0 ∙ ap (numbered 0) (sym c.in_ok-begin-in-None.ensures.groups)
+grown : (xs ys : List declared.Group) (g : declared.Group) (k : KeyVal) (v : Val) → ys ≡ xs ++ g ∷ [] → group_view g ≡ (k, v ∷ []) → map group_view ys ≡ map group_view xs ++ (k, v ∷ []) ∷ []
+grown xs ys g k v is one = ap (map group_view) is ∙ map-append group_view xs (g ∷ []) ∙ ap (λ (t : KeyVal × List Val). map group_view xs ++ t ∷ []) one
 
-pub returns-in_ok-begin-in-None-clause-groups : goal.returns-in_ok-begin-in-None-clause-groups
-returns-in_ok-begin-in-None-clause-groups c =
-    let new = absent (key_view c.args.key) c.args.places.now c.args.gathered.now.items c.args.item c.requires (sym c.place_of.ensures ∙ c.in-None.is) (omega (arith, c.args.gathered.now.ok, c.args.gathered.now.small)) in
-    c.in_ok-begin-in-None.ensures.groups ∙ sym new.1
+pub returns-in_ok-push-in-None-clause-places : goal.returns-in_ok-push-in-None-clause-places
+returns-in_ok-push-in-None-clause-places c =
+    let xs = c.args.gathered.now.items in
+    let new = absent (key_view c.args.key) c.args.places.now xs c.args.item c.requires (sym c.place_of.ensures ∙ c.in-None.is) (omega (arith, c.args.gathered.now.ok, c.args.gathered.now.small)) in
+    let placed : c.insert.new.self ≡ insert_pair c.args.places.now (key_view c.args.key) (int (pos (length c.args.gathered.now.items))) = search rules in
+    placed ∙ new.0 ∙ ap (numbered 0) (sym (grown xs _ c.in_ok-group_of_one-in-None.field-0 (key_view c.args.key) c.args.item c.in_ok-push-in-None.ensures.items (search rules)))
+
+pub returns-in_ok-push-in-None-clause-groups : goal.returns-in_ok-push-in-None-clause-groups
+returns-in_ok-push-in-None-clause-groups c =
+    let xs = c.args.gathered.now.items in
+    let new = absent (key_view c.args.key) c.args.places.now xs c.args.item c.requires (sym c.place_of.ensures ∙ c.in-None.is) (omega (arith, c.args.gathered.now.ok, c.args.gathered.now.small)) in
+    grown xs _ c.in_ok-group_of_one-in-None.field-0 (key_view c.args.key) c.args.item c.in_ok-push-in-None.ensures.items (search rules) ∙ sym new.1

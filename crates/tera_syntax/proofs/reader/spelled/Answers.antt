@@ -52,7 +52,7 @@ returns-in-Err-step-clause-points c =
     let found = found_of c.as_slice.result.now c.in-Ok.piece in
     let inside = piece_inside c.args.delimiters.now c.requires c.loop-rest.trims c.loop-rest.at c.loop-rest.rest.now found l c.loop-rest.invariant.utf8 (found_in _ _ _ c.in-Ok.piece (sym c.as_slice.ensures.value) c.in-Ok.ensures.value) in
     c.in-Err-step.ensures.points (length c.args.source.now)
-    (c.new-standing.ensures (length c.args.source.now) f.0 (omega (arith, f.1, c.loop-rest.invariant.place)))
+    (c.new-spans.ensures (length c.args.source.now) f.0 (omega (arith, f.1, c.loop-rest.invariant.place)))
     (subst (λ size. PieceInside size found.piece) c.loop-rest.invariant.place inside)
 
 pub loop-rest-preserved : goal.loop-rest-preserved

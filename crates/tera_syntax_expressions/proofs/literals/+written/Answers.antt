@@ -6,7 +6,7 @@ use Rattle.tera_syntax_tokens.specs.Input.{same}
 use Rattle.tera_syntax_tokens.specs.Takes.{input}
 use Rattle.tera_syntax_expressions.specs.Literals.{parts_from, written, written_item, written_items, written_entry, written_entries}
 use Rattle.tera_syntax_expressions.proofs.PartRows.{turn_first, turn_end, turn_part, turn_over, written_none, written_more, literals_of-push, literal_entries_of-push}
-use Rattle.tera_syntax_expressions.proofs.Turns.{tested, Behind, goes_on_behind, closes_behind, refused, refuses}
+use Rattle.tera_syntax_expressions.proofs.Turns.{tested, Behind, goes_on_behind, closes_behind, refused_behind, refused, refuses}
 use Rattle.tera_syntax_expressions.proofs.literals.+written.Goals.{items-In-Ok, entries-In-Ok}
 use Rattle.tera_syntax_expressions.proofs.literals.+written.Goals as goal
 
@@ -43,14 +43,10 @@ pub entries-returns-in-Ok-expect : goal.entries-returns-in-Ok-expect
 entries-returns-in-Ok-expect t c = closes_behind (behind-entry t (goal.at.entries-returns-in-Ok-expect t c).In-Ok) (tested (same Comma) c.kind-in-loop-turn.ensures c.same-in-loop-turn.ensures c.if-not-same.true) c.in-Ok-expect.ensures
 
 pub items-returns-in-Err-expect : goal.items-returns-in-Err-expect
-items-returns-in-Err-expect t c =
-    let b = behind-item t (goal.at.items-returns-in-Err-expect t c).In-Ok in
-    refused c.in-Err-expect.refusal (closes_behind b (tested (same Comma) c.kind-in-loop-turn.ensures c.same-in-loop-turn.ensures c.if-not-same.true)) c.in-Err-expect.ensures
+items-returns-in-Err-expect t c = refused_behind c.in-Err-expect.refusal (behind-item t (goal.at.items-returns-in-Err-expect t c).In-Ok) (tested (same Comma) c.kind-in-loop-turn.ensures c.same-in-loop-turn.ensures c.if-not-same.true) c.in-Err-expect.ensures
 
 pub entries-returns-in-Err-expect : goal.entries-returns-in-Err-expect
-entries-returns-in-Err-expect t c =
-    let b = behind-entry t (goal.at.entries-returns-in-Err-expect t c).In-Ok in
-    refused c.in-Err-expect.refusal (closes_behind b (tested (same Comma) c.kind-in-loop-turn.ensures c.same-in-loop-turn.ensures c.if-not-same.true)) c.in-Err-expect.ensures
+entries-returns-in-Err-expect t c = refused_behind c.in-Err-expect.refusal (behind-entry t (goal.at.entries-returns-in-Err-expect t c).In-Ok) (tested (same Comma) c.kind-in-loop-turn.ensures c.same-in-loop-turn.ensures c.if-not-same.true) c.in-Err-expect.ensures
 
 pub items-returns : goal.items-returns
 items-returns t c = refuses c.refuse.result c.refuse.ensures (turn_over RightBracket (written_item (written c.args.limit)) _ _ (literals_of c.loop-turn.found.items) (input c.loop-turn.tokens) c.loop-turn-test.false c.loop-turn.invariant)

@@ -1,5 +1,5 @@
-use Rattle.std.proofs.Common.{◌≡◌, ◌+◌, ◌<◌, drop, length, ap, sym, ◌∙◌, Some, None, ◌++◌, [], ◌∷◌, true, false, arith, append-nil, get_or}
-use Rattle.tera_syntax_tokens.specs.Token.{token_of, tokens_of, is_blank}
+use Rattle.std.proofs.Common.{◌≡◌, ◌+◌, ◌<◌, drop, length, ap, sym, ◌∙◌, Some, None, ◌++◌, [], ◌∷◌, arith, append-nil}
+use Rattle.tera_syntax_tokens.specs.Token.{token_of, tokens_of}
 use Rattle.tera_syntax_tokens.specs.Inside.{inside, closing_in, open_after, prefixed}
 use Rattle.tera_syntax_tokens.proofs.Tokens.{token_size}
 use Rattle.tera_syntax_tokens.proofs.Insides.{ends_here, passes_blank, no_token, takes_token, prefixed-append, ending_boundary, none_from, tokens_of-push, nothing, closing_found}
@@ -22,18 +22,14 @@ pub loop-i-preserved-then-is_blank : goal.loop-i-preserved-then-is_blank
 loop-i-preserved-then-is_blank c =
     let l : c.loop-i.i < length c.args.text.now = omega (arith, ap length c.as_bytes-bytes.ensures.value) in
     let n : c.closing_in.result ≡ None = none_from c.closing_in.result c.in_default.not-Some in
-    let h : closing_in c.loop-i.opened c.args.end.now (drop c.loop-i.i c.args.text.now) ≡ None = cc in
-    let b : is_blank (get_or c.args.text.now c.loop-i.i 0) ≡ true = cc in
-    let e = passes_blank c.args.end.now c.loop-i.opened c.args.at c.loop-i.i c.args.text.now l h b in
+    let e = passes_blank c.args.end.now c.loop-i.opened c.args.at c.loop-i.i c.args.text.now l (cc) (cc) in
     record { within = omega arith; few = omega (arith, c.loop-i.invariant.few); so_far = c.loop-i.invariant.so_far ∙ ap (prefixed (tokens_of c.loop-i.tokens.items)) e }
 
 pub returns-in_default-next_token-clause-value : goal.returns-in_default-next_token-clause-value
 returns-in_default-next_token-clause-value c =
     let l : c.loop-i.i < length c.args.text.now = omega (arith, ap length c.as_bytes-bytes.ensures.value) in
     let n : c.closing_in.result ≡ None = none_from c.closing_in.result c.in_default.not-Some in
-    let h : closing_in c.loop-i.opened c.args.end.now (drop c.loop-i.i c.args.text.now) ≡ None = cc in
-    let b : is_blank (get_or c.args.text.now c.loop-i.i 0) ≡ false = cc in
-    let e = no_token c.args.end.now c.loop-i.opened c.args.at c.loop-i.i c.args.text.now l h b (sym c.in_default-next_token.ensures) in
+    let e = no_token c.args.end.now c.loop-i.opened c.args.at c.loop-i.i c.args.text.now l (cc) (cc) (sym c.in_default-next_token.ensures) in
     c.loop-i.invariant.so_far ∙ ap (prefixed (tokens_of c.loop-i.tokens.items)) e
 
 pub loop-i-smaller : goal.loop-i-smaller
@@ -46,9 +42,7 @@ pub loop-i-preserved : goal.loop-i-preserved
 loop-i-preserved c =
     let l : c.loop-i.i < length c.args.text.now = omega (arith, ap length c.as_bytes-bytes.ensures.value) in
     let n : c.closing_in.result ≡ None = none_from c.closing_in.result c.in_default.not-Some in
-    let h : closing_in c.loop-i.opened c.args.end.now (drop c.loop-i.i c.args.text.now) ≡ None = cc in
-    let b : is_blank (get_or c.args.text.now c.loop-i.i 0) ≡ false = cc in
-    let e = takes_token c.args.end.now c.loop-i.opened c.args.at c.loop-i.i c.args.text.now (token_of c.in-Some-next_token.token) l h b (sym c.in-Some-next_token.ensures) in
+    let e = takes_token c.args.end.now c.loop-i.opened c.args.at c.loop-i.i c.args.text.now (token_of c.in-Some-next_token.token) l (cc) (cc) (sym c.in-Some-next_token.ensures) in
     let t = token_size (c.args.at + c.loop-i.i) (drop c.loop-i.i c.args.text.now) (token_of c.in-Some-next_token.token) (sym c.in-Some-next_token.ensures) in
     let p : tokens_of c.push.new.self.items ≡ tokens_of c.loop-i.tokens.items ++ token_of c.in-Some-next_token.token ∷ [] =
     ap tokens_of c.in_ok-push.ensures.items ∙ tokens_of-push c.loop-i.tokens.items c.in-Some-next_token.token in

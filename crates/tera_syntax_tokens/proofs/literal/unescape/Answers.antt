@@ -1,9 +1,7 @@
-use Rattle.std.proofs.Common.{◌≡◌, ◌<◌, ◌+◌, ◌-◌, ◌++◌, ◌∷◌, [], lit<, drop, take, get_or, length, ap, ◌∙◌, arith, false, string_bytes}
-use Rattle.std.proofs.lemmas.List.{length-drop}
+use Rattle.std.proofs.Common.{◌≡◌, ◌<◌, ◌+◌, ◌++◌, ◌∷◌, [], lit<, drop, get_or, length, ap, ◌∙◌, arith, false, string_bytes}
 use Rattle.std.proofs.lemmas.Str.{IsCharBoundary-start, IsCharBoundary-after_ascii}
-use Rattle.tera_syntax_tokens.specs.Bytes.{run}
-use Rattle.tera_syntax_tokens.specs.Literal.{unescaped, is_plain, escape_of}
-use Rattle.tera_syntax_tokens.proofs.Literals.{wrote_run, wrote_escape, wrote_slash, wrote_all, slash_at, end_boundary}
+use Rattle.tera_syntax_tokens.specs.Literal.{unescaped, escape_of}
+use Rattle.tera_syntax_tokens.proofs.Literals.{plain_from, slash_at, end_boundary, wrote_run, wrote_escape, wrote_slash, wrote_all}
 use Rattle.tera_syntax_tokens.proofs.literal.unescape.Goals as goal
 
 pub loop-from-init : goal.loop-from-init
@@ -14,78 +12,42 @@ loop-from-init c = record {
 
 pub range-requires-clause-end_boundary : goal.range-requires-clause-end_boundary
 range-requires-clause-end_boundary c =
-    let f = c.loop-from.from in
-    let n = c.plain_len.result in
-    let text = c.args.text.now in
-    let s = ap length c.as_bytes-bytes.ensures.value in
-    let p = c.after.ensures ∙ ap (drop f) c.as_bytes-bytes.ensures.value in
-    let e : n ≡ run is_plain (drop f text) = c.plain_len.ensures.value ∙ ap (run is_plain) p in
-    let w = c.plain_len.ensures.within in
-    let q = ap length p ∙ length-drop f text in
-    end_boundary f n text (omega (arith, s, w, q)) e
+    end_boundary (plain_from c.as_bytes-bytes.ensures.value c.loop-from-test.true c.after.ensures c.plain_len.ensures.value c.plain_len.ensures.within)
 
 pub returns-then-end-bytes : goal.returns-then-end-bytes
 returns-then-end-bytes c =
-    let f = c.loop-from.from in
-    let n = c.plain_len.result in
-    let text = c.args.text.now in
-    let s = ap length c.as_bytes-bytes.ensures.value in
-    let p = c.after.ensures ∙ ap (drop f) c.as_bytes-bytes.ensures.value in
-    let e : n ≡ run is_plain (drop f text) = c.plain_len.ensures.value ∙ ap (run is_plain) p in
-    let w = c.plain_len.ensures.within in
-    let q = ap length p ∙ length-drop f text in
-    let k : (f + n) - f ≡ n = omega arith in
-    let wrote = wrote_run (string_bytes c.loop-from.all) (string_bytes c.push_str.new.self) text f n c.loop-from.invariant.so_far e
-    (c.in_ok-push_str.ensures.bytes ∙ ap (λ t. string_bytes c.loop-from.all ++ t) (c.range.ensures.value ∙ ap (λ i. take i (drop f text)) k)) in
-    wrote_all (string_bytes c.push_str.new.self) text (f + n) (omega (arith, s, c.if-end-bytes.true)) wrote
+    let p = plain_from c.as_bytes-bytes.ensures.value c.loop-from-test.true c.after.ensures c.plain_len.ensures.value c.plain_len.ensures.within in
+    wrote_all c.args.text.now (wrote_run _ c.loop-from.invariant.so_far p c.range.ensures.value c.in_ok-push_str.ensures.bytes) (omega (arith, ap length c.as_bytes-bytes.ensures.value, c.if-end-bytes.true))
 
 pub loop-from-preserved-in-Some : goal.loop-from-preserved-in-Some
 loop-from-preserved-in-Some c =
-    let f = c.loop-from.from in
-    let n = c.plain_len.result in
+    let e = c.loop-from.from + c.plain_len.result in
     let text = c.args.text.now in
     let s = ap length c.as_bytes-bytes.ensures.value in
-    let p = c.after.ensures ∙ ap (drop f) c.as_bytes-bytes.ensures.value in
-    let e : n ≡ run is_plain (drop f text) = c.plain_len.ensures.value ∙ ap (run is_plain) p in
-    let w = c.plain_len.ensures.within in
-    let q = ap length p ∙ length-drop f text in
-    let k : (f + n) - f ≡ n = omega arith in
-    let wrote = wrote_run (string_bytes c.loop-from.all) (string_bytes c.push_str.new.self) text f n c.loop-from.invariant.so_far e
-    (c.in_ok-push_str.ensures.bytes ∙ ap (λ t. string_bytes c.loop-from.all ++ t) (c.range.ensures.value ∙ ap (λ i. take i (drop f text)) k)) in
-    let l : f + n < length text = omega (arith, s, w, q, c.if-end-bytes.false) in
-    let b = slash_at f n text e l in
+    let p = plain_from c.as_bytes-bytes.ensures.value c.loop-from-test.true c.after.ensures c.plain_len.ensures.value c.plain_len.ensures.within in
+    let l : e < length text = omega (arith, s, p.fits, c.if-end-bytes.false) in
     let d = c.in-Some.ensures.low in
-    let g = ap (λ t. get_or t (f + n + 1) 0) c.as_bytes-bytes.ensures.value in
-    let two : f + n + 2 ≡ (f + n + 1) + 1 = omega arith in
-    let ch = c.from.ensures in
+    let g = ap (λ t. get_or t (e + 1) 0) c.as_bytes-bytes.ensures.value in
+    let two : e + 2 ≡ (e + 1) + 1 = omega arith in
     record {
-      boundary = rw two (IsCharBoundary-after_ascii text (f + n + 1) c.utf8.text (omega (arith, s, d.1)) (omega (arith, g, d.2)));
-      so_far = wrote_escape (string_bytes c.push_str.new.self) (string_bytes c.push.new.self) text (f + n) c.in-Some.c wrote l b (c.in-Some.ensures.value ∙ ap (λ t. escape_of (drop (f + n + 1) t)) c.as_bytes-bytes.ensures.value)
-          (c.in_ok-push-in-Some.ensures.bytes ∙ ap (λ t. string_bytes c.push_str.new.self ++ t) (c.in_ok-push-in-Some.ensures.ascii (omega (arith, d.0)) ∙ ap (λ x. x ∷ []) ch));
+      boundary = rw two (IsCharBoundary-after_ascii text (e + 1) c.utf8.text (omega (arith, s, d.1)) (omega (arith, g, d.2)));
+      so_far = wrote_escape _ text (wrote_run _ c.loop-from.invariant.so_far p c.range.ensures.value c.in_ok-push_str.ensures.bytes) l (slash_at p l)
+          (c.in-Some.ensures.value ∙ ap (λ t. escape_of (drop (e + 1) t)) c.as_bytes-bytes.ensures.value)
+          (c.in_ok-push-in-Some.ensures.bytes ∙ ap (λ t. string_bytes c.push_str.new.self ++ t) (c.in_ok-push-in-Some.ensures.ascii (omega (arith, d.0)) ∙ ap (λ x. x ∷ []) c.from.ensures));
     }
 
 pub loop-from-preserved : goal.loop-from-preserved
 loop-from-preserved c =
-    let f = c.loop-from.from in
-    let n = c.plain_len.result in
-    let text = c.args.text.now in
-    let s = ap length c.as_bytes-bytes.ensures.value in
-    let p = c.after.ensures ∙ ap (drop f) c.as_bytes-bytes.ensures.value in
-    let e : n ≡ run is_plain (drop f text) = c.plain_len.ensures.value ∙ ap (run is_plain) p in
-    let w = c.plain_len.ensures.within in
-    let q = ap length p ∙ length-drop f text in
-    let k : (f + n) - f ≡ n = omega arith in
-    let wrote = wrote_run (string_bytes c.loop-from.all) (string_bytes c.push_str.new.self) text f n c.loop-from.invariant.so_far e
-    (c.in_ok-push_str.ensures.bytes ∙ ap (λ t. string_bytes c.loop-from.all ++ t) (c.range.ensures.value ∙ ap (λ i. take i (drop f text)) k)) in
-    let l : f + n < length text = omega (arith, s, w, q, c.if-end-bytes.false) in
-    let b = slash_at f n text e l in
+    let e = c.loop-from.from + c.plain_len.result in
+    let p = plain_from c.as_bytes-bytes.ensures.value c.loop-from-test.true c.after.ensures c.plain_len.ensures.value c.plain_len.ensures.within in
+    let l : e < length c.args.text.now = omega (arith, ap length c.as_bytes-bytes.ensures.value, p.fits, c.if-end-bytes.false) in
+    let b = slash_at p l in
     record {
-      boundary = IsCharBoundary-after_ascii text (f + n) c.utf8.text l (rw b (lit< tt));
-      so_far = wrote_slash (string_bytes c.push_str.new.self) (string_bytes c.push-in-None.new.self) text (f + n) wrote l b (c.in-None.ensures.value ∙ ap (λ t. escape_of (drop (f + n + 1) t)) c.as_bytes-bytes.ensures.value)
+      boundary = IsCharBoundary-after_ascii c.args.text.now e c.utf8.text l (rw b (lit< tt));
+      so_far = wrote_slash _ c.args.text.now (wrote_run _ c.loop-from.invariant.so_far p c.range.ensures.value c.in_ok-push_str.ensures.bytes) l b
+          (c.in-None.ensures.value ∙ ap (λ t. escape_of (drop (e + 1) t)) c.as_bytes-bytes.ensures.value)
           (c.in_ok-push-in-None.ensures.bytes ∙ ap (λ t. string_bytes c.push_str.new.self ++ t) (c.in_ok-push-in-None.ensures.ascii (lit< tt)));
     }
 
 pub returns : goal.returns
-returns c =
-    let s = ap length c.as_bytes-bytes.ensures.value in
-    wrote_all (string_bytes c.loop-from.all) c.args.text.now c.loop-from.from (omega (arith, s, c.loop-from-test.false)) c.loop-from.invariant.so_far
+returns c = wrote_all c.args.text.now c.loop-from.invariant.so_far (omega (arith, ap length c.as_bytes-bytes.ensures.value, c.loop-from-test.false))

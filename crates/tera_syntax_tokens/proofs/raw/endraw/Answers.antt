@@ -1,15 +1,12 @@
-use Rattle.std.proofs.Common.{◌≡◌, ◌+◌, drop, length, ap, sym, ◌∙◌, Some, option_map, not, false, arith, rules}
+use Rattle.std.proofs.Common.{◌≡◌, ◌+◌, drop, length, ap, sym, ◌∙◌, Some, option_map, arith}
 use Rattle.std.proofs.lemmas.List.{length-drop}
 use Rattle.std.proofs.lemmas.Str.{IsUtf8-string_bytes, IsUtf8-drop, IsCharBoundary-from_rest}
 use Rattle.std.specs.Str.{IsUtf8, IsCharBoundary}
-use denote.Enum.Bare.{same_true, sameb}
 use Rattle.tera_syntax_tree.specs.Delimiters.{delimiters_of}
-use Rattle.tera_syntax_tokens.specs.contracts.cut.Tag.{the_type}
-use Rattle.tera_syntax_tokens.specs.declared.cut.Tag.TheVariants as tag
 use Rattle.tera_syntax_tokens.specs.Cut.{opening_at, start_size}
 use Rattle.tera_syntax_tokens.specs.Found.{end_of}
 use Rattle.tera_syntax_tokens.proofs.Openings.{filled, start_of, start_fits, start_boundary, start_size_fits}
-use Rattle.tera_syntax_tokens.proofs.Raws.{no_opening, no_block, block_is, end_moves, not_false}
+use Rattle.tera_syntax_tokens.proofs.Raws.{no_opening, no_block, block_is, end_moves}
 use Rattle.tera_syntax_tokens.proofs.raw.endraw.Goals as goal
 
 pub returns-in-None-clause-value : goal.returns-in-None-clause-value
@@ -18,9 +15,7 @@ returns-in-None-clause-value c at =
 
 pub returns-then-ne-clause-value : goal.returns-then-ne-clause-value
 returns-then-ne-clause-value c at =
-    let h : opening_at (delimiters_of c.args.delimiters.now) c.args.text.now ≡ Some c.in-Some.opening = cc in
-    sym (ap (option_map end_of) (no_block (delimiters_of c.args.delimiters.now) at c.args.text.now c.in-Some.opening h
-    (λ e. let f : not (sameb the_type c.in-Some.opening.tag tag.Block) ≡ false = ap (λ t. not (sameb the_type t tag.Block)) e in cc)))
+    sym (ap (option_map end_of) (no_block (delimiters_of c.args.delimiters.now) at c.args.text.now c.in-Some.opening (cc) (sym c.ne.ensures ∙ c.if-ne.true)))
 
 pub start_size-size-requires : goal.start_size-size-requires
 start_size-size-requires c =
@@ -38,17 +33,13 @@ ending-requires c = record { some = rw c.as_bytes.ensures.value (filled (delimit
 
 pub returns-in-Some-ending-clause-value : goal.returns-in-Some-ending-clause-value
 returns-in-Some-ending-clause-value c at =
-    let h : opening_at (delimiters_of c.args.delimiters.now) c.args.text.now ≡ Some c.in-Some.opening = cc in
-    let k = same_true the_type (search rules) _ _ (not_false _ (sym c.ne.ensures ∙ c.if-ne.false)) in
-    let b = block_is (delimiters_of c.args.delimiters.now) at c.args.text.now c.in-Some.opening c.start_size-size.result c.as_bytes.result.now c.after.result.now h k
+    let b = block_is (delimiters_of c.args.delimiters.now) at c.args.text.now c.in-Some.opening c.start_size-size.result c.as_bytes.result.now c.after.result.now (cc) (sym c.ne.ensures ∙ c.if-ne.false)
     c.start_size-size.ensures c.as_bytes.ensures.value c.after.ensures in
     sym (ap Some (end_moves at c.start_size-size.result c.in-Some-ending.ending)) ∙ c.in-Some-ending.ensures.value (at + c.start_size-size.result) ∙ ap (option_map end_of) b
 
 pub returns-in-None-ending-clause-value : goal.returns-in-None-ending-clause-value
 returns-in-None-ending-clause-value c at =
-    let h : opening_at (delimiters_of c.args.delimiters.now) c.args.text.now ≡ Some c.in-Some.opening = cc in
-    let k = same_true the_type (search rules) _ _ (not_false _ (sym c.ne.ensures ∙ c.if-ne.false)) in
-    let b = block_is (delimiters_of c.args.delimiters.now) at c.args.text.now c.in-Some.opening c.start_size-size.result c.as_bytes.result.now c.after.result.now h k
+    let b = block_is (delimiters_of c.args.delimiters.now) at c.args.text.now c.in-Some.opening c.start_size-size.result c.as_bytes.result.now c.after.result.now (cc) (sym c.ne.ensures ∙ c.if-ne.false)
     c.start_size-size.ensures c.as_bytes.ensures.value c.after.ensures in
     c.in-None-ending.ensures.value (at + c.start_size-size.result) ∙ ap (option_map end_of) b
 

@@ -1,4 +1,4 @@
-use Rattle.std.proofs.Common.{◌≡◌, ◌+◌, ◌-◌, ◌/◌, ◌<◌, length, sym, ◌∙◌, arith, Less, Equal, Greater}
+use Rattle.std.proofs.Common.{◌≡◌, ◌+◌, ◌-◌, ◌/◌, sym, ◌∙◌, arith, Less, Equal, Greater}
 use Rattle.tera_values_data.specs.View.{wanted_view, entry_views}
 use Rattle.tera_values_data.specs.Keys.{key_cmp}
 use Rattle.tera_values_data.specs.Index.{nth_key}
@@ -10,27 +10,24 @@ use Rattle.tera_values_data.proofs.table.search.Goals as goal
 pub loop-low-preserved-in-Less : goal.loop-low-preserved-in-Less
 loop-low-preserved-in-Less c =
     let m = c.loop-low.low + (c.loop-low.high - c.loop-low.low) / 2 in
-    let h : m < length c.args.by_key.now = omega arith in
-    let tested : key_cmp (nth_key c.args.by_key.now (entry_views c.args.all.now) m) (wanted_view c.args.wanted.now) ≡ Less = rw (nth_key_of c.args.by_key.now c.args.all.now c.requires m c.index-all-by_key.result h) (sym c.compare_key.ensures ∙ c.in-Less.is) in
+    let tested : key_cmp (nth_key c.args.by_key.now (entry_views c.args.all.now) m) (wanted_view c.args.wanted.now) ≡ Less = rw (nth_key_of c.args.by_key.now c.args.all.now c.requires m c.index-all-by_key.result (omega arith)) (sym c.compare_key.ensures ∙ c.in-Less.is) in
     record {
       ordered = omega arith;
       in_range = omega arith;
-      smaller = less_before c.args.by_key.now (entry_views c.args.all.now) c.requires (wanted_view c.args.wanted.now) m h tested;
+      smaller = less_before c.args.by_key.now (entry_views c.args.all.now) c.requires (wanted_view c.args.wanted.now) m (omega arith) tested;
       greater = c.loop-low.invariant.greater;
     }
 
 pub returns-in-Equal-clause-found : goal.returns-in-Equal-clause-found
 returns-in-Equal-clause-found c =
     let m = c.loop-low.low + (c.loop-low.high - c.loop-low.low) / 2 in
-    let h : m < length c.args.by_key.now = omega arith in
-    let tested : key_cmp (nth_key c.args.by_key.now (entry_views c.args.all.now) m) (wanted_view c.args.wanted.now) ≡ Equal = rw (nth_key_of c.args.by_key.now c.args.all.now c.requires m c.index-all-by_key.result h) (sym c.compare_key.ensures ∙ c.in-Equal.is) in
-    record { in_range = h; has_key = key_exact (nth_key c.args.by_key.now (entry_views c.args.all.now) m) (wanted_view c.args.wanted.now) tested }
+    let tested : key_cmp (nth_key c.args.by_key.now (entry_views c.args.all.now) m) (wanted_view c.args.wanted.now) ≡ Equal = rw (nth_key_of c.args.by_key.now c.args.all.now c.requires m c.index-all-by_key.result (omega arith)) (sym c.compare_key.ensures ∙ c.in-Equal.is) in
+    record { in_range = omega arith; has_key = key_exact (nth_key c.args.by_key.now (entry_views c.args.all.now) m) (wanted_view c.args.wanted.now) tested }
 
 pub loop-low-preserved : goal.loop-low-preserved
 loop-low-preserved c =
     let m = c.loop-low.low + (c.loop-low.high - c.loop-low.low) / 2 in
-    let h : m < length c.args.by_key.now = omega arith in
-    let tested : key_cmp (nth_key c.args.by_key.now (entry_views c.args.all.now) m) (wanted_view c.args.wanted.now) ≡ Greater = rw (nth_key_of c.args.by_key.now c.args.all.now c.requires m c.index-all-by_key.result h) (sym c.compare_key.ensures ∙ c.in-Greater.is) in
+    let tested : key_cmp (nth_key c.args.by_key.now (entry_views c.args.all.now) m) (wanted_view c.args.wanted.now) ≡ Greater = rw (nth_key_of c.args.by_key.now c.args.all.now c.requires m c.index-all-by_key.result (omega arith)) (sym c.compare_key.ensures ∙ c.in-Greater.is) in
     record {
       ordered = omega arith;
       in_range = omega arith;

@@ -1,12 +1,11 @@
-use Rattle.std.proofs.Common.{◌∙◌, ap, refl, sym, arith}
+use Rattle.std.proofs.Common.{◌∙◌, ap, refl, arith}
 use Rattle.tera_syntax_tree.specs.declared.expression.Called.{out-Called}
 use Rattle.tera_syntax_tree.specs.declared.expression.ComponentTag.{out-ComponentTag}
 use Rattle.tera_syntax_tree.specs.View.{items_of, entries_of, arguments_of}
-use Rattle.std.proofs.lemmas.List.{drop_all}
 use Rattle.tera_variables.specs.Free.{items_free, entries_free, arguments_free, ◌∪◌}
 use Rattle.tera_variables.specs.Sets.{names_in}
-use Rattle.tera_variables.proofs.Unions.{empty, union-more, union-pass, two, comprehended}
-use Rattle.tera_variables.proofs.Forms.{drop-here, whole, array, map, super, call, component, filter, test, comprehension, slice, index, binary, both, either, ternary}
+use Rattle.tera_variables.proofs.Unions.{empty, union-more, two, comprehended}
+use Rattle.tera_variables.proofs.Forms.{one-passed, all-passed, whole, array, map, super, call, component, applied, comprehension, slice, index, two_operands, ternary}
 use Rattle.tera_variables.proofs.expressions.+expressions.Goals as goal
 
 pub add_expression-returns-in_ok-add_expression-in-Index-clause-ok : goal.add_expression-returns-in_ok-add_expression-in-Index-clause-ok
@@ -15,15 +14,7 @@ add_expression-returns-in_ok-add_expression-in-Index-clause-ok t c =
 
 pub add_expression-returns-in_ok-add_expression-in-Binary-clause-ok : goal.add_expression-returns-in_ok-add_expression-in-Binary-clause-ok
 add_expression-returns-in_ok-add_expression-in-Binary-clause-ok t c =
-    whole _ _ _ _ _ (binary _ c.in-Binary.operator c.in-Binary.operands c.in-Binary.span _ _ c.in-Binary.is c.deref-in-Binary-2.ensures c.deref-in-Binary.ensures) (two _ _ _ _ _ _ c.in_ok-add_expression-in-Binary.ensures.ok c.add_expression-in-Binary-2.ensures.ok)
-
-pub add_expression-returns-in_ok-add_expression-in-And-clause-ok : goal.add_expression-returns-in_ok-add_expression-in-And-clause-ok
-add_expression-returns-in_ok-add_expression-in-And-clause-ok t c =
-    whole _ _ _ _ _ (both _ c.in-And.operands c.in-And.span _ _ c.in-And.is c.deref-in-And-2.ensures c.deref-in-And.ensures) (two _ _ _ _ _ _ c.in_ok-add_expression-in-And.ensures.ok c.add_expression-in-And-2.ensures.ok)
-
-pub add_expression-returns-in_ok-add_expression-in-Or-clause-ok : goal.add_expression-returns-in_ok-add_expression-in-Or-clause-ok
-add_expression-returns-in_ok-add_expression-in-Or-clause-ok t c =
-    whole _ _ _ _ _ (either _ c.in-Or.operands c.in-Or.span _ _ c.in-Or.is c.deref-in-Or-2.ensures c.deref-in-Or.ensures) (two _ _ _ _ _ _ c.in_ok-add_expression-in-Or.ensures.ok c.add_expression-in-Or-2.ensures.ok)
+    whole _ _ _ _ _ (two_operands _ c.in-Binary.operands _ _ c.in-Binary.is c.deref-in-Binary-2.ensures c.deref-in-Binary.ensures) (two _ _ _ _ _ _ c.in_ok-add_expression-in-Binary.ensures.ok c.add_expression-in-Binary-2.ensures.ok)
 
 pub add_expression-returns-in_ok-add_bounds-in-Slice-clause-ok : goal.add_expression-returns-in_ok-add_bounds-in-Slice-clause-ok
 add_expression-returns-in_ok-add_bounds-in-Slice-clause-ok t c =
@@ -51,11 +42,7 @@ add_expression-returns-in-Super-clause-ok t c =
 
 pub add_expression-returns-in-Filter-clause-ok : goal.add_expression-returns-in-Filter-clause-ok
 add_expression-returns-in-Filter-clause-ok t c =
-    whole _ _ _ _ _ (filter _ c.in-Filter.applied c.in-Filter.span _ c.in-Filter.is c.deref-in-Filter.ensures) c.add_applied.ensures.ok
-
-pub add_expression-returns-in-Test-clause-ok : goal.add_expression-returns-in-Test-clause-ok
-add_expression-returns-in-Test-clause-ok t c =
-    whole _ _ _ _ _ (test _ c.in-Test.applied c.in-Test.span _ c.in-Test.is c.deref-in-Test.ensures) c.add_applied-in-Test.ensures.ok
+    whole _ _ _ _ _ (applied _ c.in-Filter.applied _ c.in-Filter.is c.deref-in-Filter.ensures) c.add_applied.ensures.ok
 
 pub add_expression-returns-in-Call-clause-ok : goal.add_expression-returns-in-Call-clause-ok
 add_expression-returns-in-Call-clause-ok t c =
@@ -75,27 +62,27 @@ add_applied-returns-clause-ok t c =
 
 pub add_items-loop-item-preserved : goal.add_items-loop-item-preserved
 add_items-loop-item-preserved t c =
-    union-pass _ _ _ _ _ (ap (λ xs. items_free (items_of xs)) (drop-here c.args.items.now c.loop-item.item-index c.item-item.result c.loop-item-test.true c.item-item.is)) c.in_ok-add_expression.ensures.ok ∙ c.loop-item.invariant
+    one-passed (λ xs. items_free (items_of xs)) _ _ _ _ _ _ _ c.loop-item-test.true c.item-item.is refl c.in_ok-add_expression.ensures.ok c.loop-item.invariant
 
 pub add_items-returns-clause-ok : goal.add_items-returns-clause-ok
 add_items-returns-clause-ok t c =
-    sym (ap (λ xs. items_free (items_of xs) ∪ names_in c.loop-item.found) (drop_all c.loop-item.item-index c.args.items.now (omega (arith, c.loop-item-test.false)))) ∙ c.loop-item.invariant
+    all-passed (λ xs. items_free (items_of xs)) c.args.items.now c.loop-item.item-index _ _ (omega (arith, c.loop-item-test.false)) refl c.loop-item.invariant
 
 pub add_entries-loop-entry-preserved : goal.add_entries-loop-entry-preserved
 add_entries-loop-entry-preserved t c =
-    union-pass _ _ _ _ _ (ap (λ xs. entries_free (entries_of xs)) (drop-here c.args.entries.now c.loop-entry.entry-index c.entry-item.result c.loop-entry-test.true c.entry-item.is)) c.in_ok-add_expression.ensures.ok ∙ c.loop-entry.invariant
+    one-passed (λ xs. entries_free (entries_of xs)) _ _ _ _ _ _ _ c.loop-entry-test.true c.entry-item.is refl c.in_ok-add_expression.ensures.ok c.loop-entry.invariant
 
 pub add_entries-returns-clause-ok : goal.add_entries-returns-clause-ok
 add_entries-returns-clause-ok t c =
-    sym (ap (λ xs. entries_free (entries_of xs) ∪ names_in c.loop-entry.found) (drop_all c.loop-entry.entry-index c.args.entries.now (omega (arith, c.loop-entry-test.false)))) ∙ c.loop-entry.invariant
+    all-passed (λ xs. entries_free (entries_of xs)) c.args.entries.now c.loop-entry.entry-index _ _ (omega (arith, c.loop-entry-test.false)) refl c.loop-entry.invariant
 
 pub add_arguments-loop-argument-preserved : goal.add_arguments-loop-argument-preserved
 add_arguments-loop-argument-preserved t c =
-    union-pass _ _ _ _ _ (ap (λ xs. arguments_free (arguments_of xs)) (drop-here c.args.arguments.now c.loop-argument.argument-index c.argument-item.result c.loop-argument-test.true c.argument-item.is)) c.in_ok-add_expression.ensures.ok ∙ c.loop-argument.invariant
+    one-passed (λ xs. arguments_free (arguments_of xs)) _ _ _ _ _ _ _ c.loop-argument-test.true c.argument-item.is refl c.in_ok-add_expression.ensures.ok c.loop-argument.invariant
 
 pub add_arguments-returns-clause-ok : goal.add_arguments-returns-clause-ok
 add_arguments-returns-clause-ok t c =
-    sym (ap (λ xs. arguments_free (arguments_of xs) ∪ names_in c.loop-argument.found) (drop_all c.loop-argument.argument-index c.args.arguments.now (omega (arith, c.loop-argument-test.false)))) ∙ c.loop-argument.invariant
+    all-passed (λ xs. arguments_free (arguments_of xs)) c.args.arguments.now c.loop-argument.argument-index _ _ (omega (arith, c.loop-argument-test.false)) refl c.loop-argument.invariant
 
 pub add_bounds-returns-clause-ok : goal.add_bounds-returns-clause-ok
 add_bounds-returns-clause-ok t c =

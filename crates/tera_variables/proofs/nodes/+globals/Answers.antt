@@ -5,7 +5,7 @@ use Rattle.tera_variables.specs.Free.{binds, node_binds, ◌∖◌}
 use Rattle.tera_variables.specs.Sets.{names_in}
 use Rattle.tera_variables.proofs.Unions.{without-pass}
 use Rattle.tera_variables.proofs.Forms.{drop-here}
-use Rattle.tera_variables.proofs.Bodies.{node_if, node_for, node_capture, node_section, node_block, node_call}
+use Rattle.tera_variables.proofs.Bodies.{node_capture, binds_of_body, binds_of_both}
 use Rattle.tera_variables.proofs.nodes.+globals.Goals as goal
 
 pub remove_globals-loop-node-preserved : goal.remove_globals-loop-node-preserved
@@ -18,24 +18,12 @@ remove_globals-returns t c =
 
 pub remove_globals_of-returns-in-If : goal.remove_globals_of-returns-in-If
 remove_globals_of-returns-in-If t c =
-    c.remove_globals-in-If.ensures ∙ without-pass _ _ _ _ _ (ap (node_binds true) (node_if _ c.in-If.condition c.in-If.body c.in-If.other _ _ c.in-If.is c.as_slice.ensures.value c.as_slice-in-If.ensures.value)) c.remove_globals.ensures
-
-pub remove_globals_of-returns-in-For : goal.remove_globals_of-returns-in-For
-remove_globals_of-returns-in-For t c =
-    c.remove_globals-in-For-2.ensures ∙ without-pass _ _ _ _ _ (ap (node_binds true) (node_for _ c.in-For.heading c.in-For.body c.in-For.other _ _ c.in-For.is c.as_slice-in-For.ensures.value c.as_slice-in-For-2.ensures.value)) c.remove_globals-in-For.ensures
+    c.remove_globals-in-If-2.ensures ∙ without-pass _ _ _ _ _ (binds_of_both _ c.in-If.body c.in-If.other _ _ c.in-If.is c.as_slice-in-If.ensures.value c.as_slice-in-If-2.ensures.value) c.remove_globals-in-If.ensures
 
 pub remove_globals_of-returns-in-Capture : goal.remove_globals_of-returns-in-Capture
 remove_globals_of-returns-in-Capture t c =
-    c.remove_globals-in-Capture.ensures ∙ without-pass _ _ _ _ _ (ap (node_binds true) (node_capture _ c.in-Capture.is_global c.in-Capture.captured c.in-Capture.body _ _ c.in-Capture.is c.deref.ensures c.as_slice-in-Capture.ensures.value)) c.remove_if_global-in-Capture.ensures
+    c.remove_globals.ensures ∙ without-pass _ _ _ _ _ (ap (node_binds true) (node_capture _ c.in-Capture.is_global c.in-Capture.captured c.in-Capture.body _ _ c.in-Capture.is c.deref.ensures c.as_slice.ensures.value)) c.remove_if_global-in-Capture.ensures
 
 pub remove_globals_of-returns-in-FilterSection : goal.remove_globals_of-returns-in-FilterSection
 remove_globals_of-returns-in-FilterSection t c =
-    c.remove_globals-in-FilterSection.ensures ∙ ap (λ x. names_in c.args.found.now ∖ x) (sym (ap (node_binds true) (node_section _ c.in-FilterSection.filters c.in-FilterSection.body _ c.in-FilterSection.is c.as_slice-in-FilterSection.ensures.value)))
-
-pub remove_globals_of-returns-in-Block : goal.remove_globals_of-returns-in-Block
-remove_globals_of-returns-in-Block t c =
-    c.remove_globals-in-Block.ensures ∙ ap (λ x. names_in c.args.found.now ∖ x) (sym (ap (node_binds true) (node_block _ c.in-Block.name c.in-Block.body c.in-Block.span _ c.in-Block.is c.as_slice-in-Block.ensures.value)))
-
-pub remove_globals_of-returns-in-ComponentCall : goal.remove_globals_of-returns-in-ComponentCall
-remove_globals_of-returns-in-ComponentCall t c =
-    c.remove_globals-in-ComponentCall.ensures ∙ ap (λ x. names_in c.args.found.now ∖ x) (sym (ap (node_binds true) (node_call _ c.in-ComponentCall.tag c.in-ComponentCall.body c.in-ComponentCall.span _ c.in-ComponentCall.is c.as_slice-in-ComponentCall.ensures.value)))
+    c.remove_globals-in-FilterSection.ensures ∙ ap (λ x. names_in c.args.found.now ∖ x) (sym (binds_of_body _ c.in-FilterSection.body _ c.in-FilterSection.is c.as_slice-in-FilterSection.ensures.value))

@@ -1,4 +1,4 @@
-use Rattle.std.proofs.Common.{rules, ◌≤◌, ◌<◌, ◌∙◌, sym, ap, arith, length}
+use Rattle.std.proofs.Common.{rules, ◌∙◌, sym, ap, arith}
 use Rattle.tera_values.specs.Named.{at_name}
 use Rattle.tera_state.specs.Found.{found_value}
 use Rattle.tera_state.specs.Stack.{lower}
@@ -23,28 +23,14 @@ returns-in-Called t c =
 
 pub returns-then-is_undefined : goal.returns-then-is_undefined
 returns-then-is_undefined t c =
-    let n = c.args.name.now in
-    let bs = c.args.self.now.bindings in
-    let below = c.args.self.now.below in
-    let h = c.args.height in
-    let positive : 0 < h = search rules in
-    let within : h ≤ length below = omega (arith, c.requires) in
-    from_beyond n bs h c.args.body.now (lower h below) _ c.in-Nothing.ensures
-    (from_context n bs below h c.args.body.now.standing c.in-Some.includer.now positive within c.in-Included.is c.in-Some.ensures (found_value c.bound_at-found.result) c.bound_at-found.ensures _
+    from_context c.args.name.now c.args.self.now.bindings c.args.self.now.below c.args.height c.args.body.now c.in-Some.includer.now c.in-Nothing.ensures (search rules) c.requires c.in-Included.is c.in-Some.ensures (found_value c.bound_at-found.result) c.bound_at-found.ensures _
     (sym c.is_undefined.ensures ∙ c.if-is_undefined.true)
-    (c.kept-then-is_undefined.ensures ∙ c.get-then-is_undefined.ensures ∙ ap (at_name n) c.context_at.ensures))
+    (c.kept-then-is_undefined.ensures ∙ c.get-then-is_undefined.ensures ∙ ap (at_name c.args.name.now) c.context_at.ensures)
 
 pub returns-else-is_undefined : goal.returns-else-is_undefined
 returns-else-is_undefined t c =
-    let n = c.args.name.now in
-    let bs = c.args.self.now.bindings in
-    let below = c.args.self.now.below in
-    let h = c.args.height in
-    let positive : 0 < h = search rules in
-    let within : h ≤ length below = omega (arith, c.requires) in
-    from_beyond n bs h c.args.body.now (lower h below) _ c.in-Nothing.ensures
-    (from_includer n bs below h c.args.body.now.standing c.in-Some.includer.now positive within c.in-Included.is c.in-Some.ensures (found_value c.bound_at-found.result) c.bound_at-found.ensures
-    (sym c.is_undefined.ensures ∙ c.if-is_undefined.false))
+    from_includer c.args.name.now c.args.self.now.bindings c.args.self.now.below c.args.height c.args.body.now c.in-Some.includer.now c.in-Nothing.ensures (search rules) c.requires c.in-Included.is c.in-Some.ensures (found_value c.bound_at-found.result) c.bound_at-found.ensures
+    (sym c.is_undefined.ensures ∙ c.if-is_undefined.false)
 
 pub returns-in-None : goal.returns-in-None
 returns-in-None t c = missing c.args.self.now.below c.args.height (search rules) (omega (arith, c.requires)) c.in-None.ensures

@@ -6,7 +6,7 @@ use Rattle.tera_syntax_tokens.specs.Input.{same, left}
 use Rattle.tera_syntax_tokens.specs.Takes.{input}
 use Rattle.tera_syntax_expressions.specs.Expressions.{arguments_from, expr}
 use Rattle.tera_syntax_expressions.proofs.Placed.{arguments_end, arguments_next, arguments_read}
-use Rattle.tera_syntax_expressions.proofs.Turns.{tested, Behind, goes_on_behind, closes_behind, refused}
+use Rattle.tera_syntax_expressions.proofs.Turns.{tested, Behind, goes_on_behind, closes_behind, refused_behind, refused}
 use Rattle.tera_syntax_expressions.proofs.reader.Reader.arguments.Given.{Over}
 use Rattle.tera_syntax_expressions.proofs.reader.Reader.arguments.Goals.{After-larger-depth}
 use Rattle.tera_syntax_expressions.proofs.reader.Reader.arguments.Goals as goal
@@ -32,6 +32,4 @@ pub returns-in-Ok-expect : goal.returns-in-Ok-expect
 returns-in-Ok-expect g c = closes_behind (behind-argument g (goal.at.returns-in-Ok-expect g c).After-larger-depth) (tested (same Comma) c.kind-in-loop-turn.ensures c.same-in-loop-turn.ensures c.if-not-same.true) c.in-Ok-expect.ensures
 
 pub returns-in-Err-expect : goal.returns-in-Err-expect
-returns-in-Err-expect g c =
-    let b = behind-argument g (goal.at.returns-in-Err-expect g c).After-larger-depth in
-    refused c.in-Err-expect.refusal (closes_behind b (tested (same Comma) c.kind-in-loop-turn.ensures c.same-in-loop-turn.ensures c.if-not-same.true)) c.in-Err-expect.ensures
+returns-in-Err-expect g c = refused_behind c.in-Err-expect.refusal (behind-argument g (goal.at.returns-in-Err-expect g c).After-larger-depth) (tested (same Comma) c.kind-in-loop-turn.ensures c.same-in-loop-turn.ensures c.if-not-same.true) c.in-Err-expect.ensures

@@ -5,7 +5,7 @@ use Rattle.tera_syntax_tokens.specs.declared.token.Kind.TheVariants.{RightBracke
 use Rattle.tera_syntax_tokens.specs.Input.{same, left}
 use Rattle.tera_syntax_tokens.specs.Takes.{input}
 use Rattle.tera_syntax_expressions.specs.Expressions.{items_from, expr}
-use Rattle.tera_syntax_expressions.proofs.Turns.{tested, Behind, goes_on_behind, closes_behind, items_end, items_next, items_read, refused}
+use Rattle.tera_syntax_expressions.proofs.Turns.{tested, Behind, goes_on_behind, closes_behind, refused_behind, items_end, items_next, items_read, refused}
 use Rattle.tera_syntax_expressions.proofs.reader.Reader.items.Given.{Over}
 use Rattle.tera_syntax_expressions.proofs.reader.Reader.items.Goals.{After-larger-depth}
 use Rattle.tera_syntax_expressions.proofs.reader.Reader.items.Goals as goal
@@ -33,6 +33,4 @@ pub returns-in-Ok-expect : goal.returns-in-Ok-expect
 returns-in-Ok-expect g c = closes_behind (behind-item g (goal.at.returns-in-Ok-expect g c).After-larger-depth) (tested (same Comma) c.kind-in-loop-turn.ensures c.same-in-loop-turn.ensures c.if-not-same.true) c.in-Ok-expect.ensures
 
 pub returns-in-Err-expect : goal.returns-in-Err-expect
-returns-in-Err-expect g c =
-    let b = behind-item g (goal.at.returns-in-Err-expect g c).After-larger-depth in
-    refused c.in-Err-expect.refusal (closes_behind b (tested (same Comma) c.kind-in-loop-turn.ensures c.same-in-loop-turn.ensures c.if-not-same.true)) c.in-Err-expect.ensures
+returns-in-Err-expect g c = refused_behind c.in-Err-expect.refusal (behind-item g (goal.at.returns-in-Err-expect g c).After-larger-depth) (tested (same Comma) c.kind-in-loop-turn.ensures c.same-in-loop-turn.ensures c.if-not-same.true) c.in-Err-expect.ensures

@@ -3,12 +3,10 @@ use Rattle.std.specs.List.{insert}
 use Rattle.std.proofs.lemmas.List.{get_or_default}
 use Rattle.std.proofs.lemmas.Grind.{common_steps}
 use Rattle.tera_values_data.specs.View.{wanted_view, key_view, entry_views}
-use Rattle.tera_values_data.specs.Access.{find, insert_pair}
-use mathlib.Core.Bool.{true≢false}
-use Rattle.std.proofs.Common.{None, is_some}
+use Rattle.tera_values_data.specs.Access.{insert_pair}
 use Rattle.tera_values_data.specs.Index.{IsAt, IsGapFor, key_at}
 use Rattle.tera_values_data.specs.declared.value.Entry.{Entry}
-use Rattle.tera_values_data.proofs.Places.{not_found, kept, grown, written, pushed}
+use Rattle.tera_values_data.proofs.Places.{not_there, kept, grown, written, pushed}
 use Rattle.tera_values_data.proofs.Entries.{views_length, place_below, write_views, push_views}
 use Rattle.tera_values_data.proofs.value.Table.insert.Goals as goal
 
@@ -61,21 +59,11 @@ returns-in-Ok-insert-clause-ok c =
     step ∙ ap (λ es. insert_pair es (key_view c.args.key) c.args.value) c.self.view_is
 
 pub returns-in_err-push-in-Err-clause-there : goal.returns-in_err-push-in-Err-clause-there
-returns-in_err-push-in-Err-clause-there c =
-    let all = c.self.inside.all.items in
-    let by_key = c.self.inside.by_key.items in
-    let p = c.in-Err.at in
-    let gap0 : IsGapFor by_key (entry_views all) (wanted_view c.wanted.result) p = rw (c.as_slice.ensures.value, c.as_slice-2.ensures.value) at c.in-Err.ensures.absent in
-    let gap : IsGapFor by_key (entry_views all) (key_view c.args.key) p = subst (λ k. IsGapFor by_key (entry_views all) k p) c.wanted.ensures gap0 in
-    let none : find (key_view c.args.key) c.args.self.now ≡ None = ap (find (key_view c.args.key)) (sym c.self.view_is) ∙ not_found by_key (entry_views all) c.self.invariant (key_view c.args.key) p gap in
-    λ some. absurd (true≢false (sym some ∙ ap is_some none))
+returns-in_err-push-in-Err-clause-there c some =
+    let gap : IsGapFor c.self.inside.by_key.items (entry_views c.self.inside.all.items) (wanted_view c.wanted.result) c.in-Err.at = rw (c.as_slice.ensures.value, c.as_slice-2.ensures.value) at c.in-Err.ensures.absent in
+    absurd (not_there _ _ c.self.invariant c.wanted.ensures c.self.view_is gap some)
 
 pub returns-in-Err-insert-clause-there : goal.returns-in-Err-insert-clause-there
-returns-in-Err-insert-clause-there c =
-    let all = c.self.inside.all.items in
-    let by_key = c.self.inside.by_key.items in
-    let p = c.in-Err.at in
-    let gap0 : IsGapFor by_key (entry_views all) (wanted_view c.wanted.result) p = rw (c.as_slice.ensures.value, c.as_slice-2.ensures.value) at c.in-Err.ensures.absent in
-    let gap : IsGapFor by_key (entry_views all) (key_view c.args.key) p = subst (λ k. IsGapFor by_key (entry_views all) k p) c.wanted.ensures gap0 in
-    let none : find (key_view c.args.key) c.args.self.now ≡ None = ap (find (key_view c.args.key)) (sym c.self.view_is) ∙ not_found by_key (entry_views all) c.self.invariant (key_view c.args.key) p gap in
-    λ some. absurd (true≢false (sym some ∙ ap is_some none))
+returns-in-Err-insert-clause-there c some =
+    let gap : IsGapFor c.self.inside.by_key.items (entry_views c.self.inside.all.items) (wanted_view c.wanted.result) c.in-Err.at = rw (c.as_slice.ensures.value, c.as_slice-2.ensures.value) at c.in-Err.ensures.absent in
+    absurd (not_there _ _ c.self.invariant c.wanted.ensures c.self.view_is gap some)

@@ -1,0 +1,16 @@
+// What an attribute is of an item.
+ghost use Rattle.tera_errors.specs.Answer.{Gives};
+ghost use Rattle.tera_built_ins.specs.Attributes.{attribute_of};
+
+use std::alloc::Global;
+use tera_values::{Error, TeraResult, Value};
+
+/// What stands at the end of a path; a `Message` where nothing does.
+pub(crate) fn attribute_of<'a>(alloc: Global, item: &'a Value, path: &str) -> TeraResult<&'a Value>
+    ensures { Gives (λ v. v.now) result (attribute_of path.now item.now) }
+{
+    match item.get_from_path(path) {
+        Some(attribute) => Ok(attribute),
+        None => Err(Error::message(alloc, "an item has no such attribute")),
+    }
+}

@@ -1,5 +1,5 @@
 // What an argument is read as.
-ghost use Rattle.std.specs.Prelude.{◌^◌, pos, false, string_bytes, Result, Ok, IsErr};
+ghost use Rattle.std.specs.Prelude.{◌^◌, ◌+◌, ◌≤◌, pos, false, string_bytes, Result, Ok, IfOk, IsErr};
 ghost use Rattle.tera_errors.specs.Fault.{Fault};
 ghost use Rattle.tera_errors.specs.Answer.{Gives, MemorySuffices};
 ghost use Rattle.tera_values_data.specs.Val.{Val, bool, int, text, array, map, vals, entries};
@@ -78,15 +78,8 @@ impl ArgFromValue for u32 {
     ghost is_ready = { λ _. Unit {0} };
 
     fn from_value(_alloc: Global, value: &Value) -> TeraResult<u32> {
-        match value.shape() {
-            Shape::Int(number) => {
-                if number < 0 || number > u32::MAX as i128 {
-                    return Err(Error::invalid_argument());
-                }
-                Ok(number as u32)
-            }
-            _ => Err(Error::invalid_argument()),
-        }
+        let number = natural(value, u32::MAX as u64)?;
+        Ok(number as u32)
     }
 }
 
@@ -98,15 +91,8 @@ impl ArgFromValue for usize {
     ghost is_ready = { λ _. Unit {0} };
 
     fn from_value(_alloc: Global, value: &Value) -> TeraResult<usize> {
-        match value.shape() {
-            Shape::Int(number) => {
-                if number < 0 || number > usize::MAX as i128 {
-                    return Err(Error::invalid_argument());
-                }
-                Ok(number as usize)
-            }
-            _ => Err(Error::invalid_argument()),
-        }
+        let number = natural(value, usize::MAX as u64)?;
+        Ok(number as usize)
     }
 }
 
@@ -146,6 +132,19 @@ impl ArgFromValue for Map {
             Shape::Map(all) => all.try_clone(),
             _ => Err(Error::invalid_argument()),
         }
+    }
+}
+
+/// The integer from 0 to the greatest that is taken; `InvalidArgument` for any other value.
+#[inline(always)]
+fn natural(value: &Value, greatest: u64) -> TeraResult<u64>
+    ensures read { Gives (λ n. int (pos n)) result (as_natural (greatest + 1) value.now) }
+    ensures high { IfOk result (λ n. n ≤ greatest) }
+    ensures ready { MemorySuffices result }
+{
+    match value.shape() {
+        Shape::Int(number) if 0 <= number && number <= greatest as i128 => Ok(number as u64),
+        _ => Err(Error::invalid_argument()),
     }
 }
 

@@ -1,7 +1,9 @@
 // Arithmetic. What is not an integer is refused, and so is what no `i128` holds: a `Message` each time.
-ghost use Rattle.std.specs.Prelude.{◌≡◌, pos, ◌≤ℤ◌, pos, Option, IsOk};
+ghost use Rattle.std.specs.Prelude.{◌≡◌, ℤ, pos, ◌≤ℤ◌, Option, Result, IsOk};
 ghost use Rattle.tera_errors.specs.Answer.{Gives};
-ghost use Rattle.tera_values.specs.Number.{told, integers, sum, difference, product, quotient, remainder, exact_quotient, power, add, sub, mul, div, floor_div, rem, pow, negate};
+ghost use Rattle.tera_errors.specs.Fault.{Fault};
+ghost use Rattle.tera_values_data.specs.Val.{Val};
+ghost use Rattle.tera_values.specs.Number.{told, integers, on_integers, sum, difference, product, quotient, remainder, exact_quotient, power, add, sub, mul, div, floor_div, rem, pow, negate};
 
 use std::alloc::Global;
 use tera_errors::{Error, TeraResult};
@@ -30,6 +32,29 @@ fn answer(alloc: Global, number: Option<i128>) -> TeraResult<Value>
     match number {
         Some(number) => Ok(Value::from_int(number)),
         None => Err(Error::message(alloc, "no integer is the result")),
+    }
+}
+
+/// What is calculated from the two integers, or a refusal in these words where there are not two.
+#[inline(always)]
+fn calculated<F: FnOnce(i128, i128) -> Option<i128>>(
+    alloc: Global,
+    left: &Value,
+    right: &Value,
+    refusal: &str,
+    calculate: F,
+) -> TeraResult<Value>
+    requires { F.IsAlwaysCallable calculate }
+    ensures value { (meant : ℤ → ℤ → Result Val Fault) →
+        ((a b : ℤ) (r : Option ℤ) → F.post calculate a b r → told r ≡ meant a b) →
+        Gives (λ v. v) result (on_integers meant (integers left.now right.now)) }
+    ensures ready { (meant : ℤ → ℤ → Result Val Fault) →
+        ((a b : ℤ) (r : Option ℤ) → F.post calculate a b r → told r ≡ meant a b) →
+        IsOk (on_integers meant (integers left.now right.now)) → IsOk result }
+{
+    match integers(left, right) {
+        Some((a, b)) => answer(alloc, calculate(a, b)),
+        None => Err(Error::message(alloc, refusal)),
     }
 }
 
@@ -125,10 +150,7 @@ pub fn add(alloc: Global, left: &Value, right: &Value) -> TeraResult<Value>
     ensures value { Gives (λ v. v) result (add left.now right.now) }
     ensures ready { IsOk (add left.now right.now) → IsOk result }
 {
-    match integers(left, right) {
-        Some((a, b)) => answer(alloc, sum(a, b)),
-        None => Err(Error::message(alloc, "only integers are added")),
-    }
+    calculated(alloc, left, right, "only integers are added", sum)
 }
 
 /// The difference.
@@ -137,10 +159,13 @@ pub fn sub(alloc: Global, left: &Value, right: &Value) -> TeraResult<Value>
     ensures value { Gives (λ v. v) result (sub left.now right.now) }
     ensures ready { IsOk (sub left.now right.now) → IsOk result }
 {
-    match integers(left, right) {
-        Some((a, b)) => answer(alloc, difference(a, b)),
-        None => Err(Error::message(alloc, "only integers are subtracted")),
-    }
+    calculated(
+        alloc,
+        left,
+        right,
+        "only integers are subtracted",
+        difference,
+    )
 }
 
 /// The product.
@@ -149,10 +174,7 @@ pub fn mul(alloc: Global, left: &Value, right: &Value) -> TeraResult<Value>
     ensures value { Gives (λ v. v) result (mul left.now right.now) }
     ensures ready { IsOk (mul left.now right.now) → IsOk result }
 {
-    match integers(left, right) {
-        Some((a, b)) => answer(alloc, product(a, b)),
-        None => Err(Error::message(alloc, "only integers are multiplied")),
-    }
+    calculated(alloc, left, right, "only integers are multiplied", product)
 }
 
 /// The exact quotient; a refusal where it is not whole, as at a zero divisor.
@@ -160,10 +182,13 @@ pub fn div(alloc: Global, left: &Value, right: &Value) -> TeraResult<Value>
     ensures value { Gives (λ v. v) result (div left.now right.now) }
     ensures ready { IsOk (div left.now right.now) → IsOk result }
 {
-    match integers(left, right) {
-        Some((a, b)) => answer(alloc, exact_quotient(a, b)),
-        None => Err(Error::message(alloc, "only integers are divided")),
-    }
+    calculated(
+        alloc,
+        left,
+        right,
+        "only integers are divided",
+        exact_quotient,
+    )
 }
 
 /// Euclid's quotient; a refusal at a zero divisor.
@@ -171,10 +196,7 @@ pub fn floor_div(alloc: Global, left: &Value, right: &Value) -> TeraResult<Value
     ensures value { Gives (λ v. v) result (floor_div left.now right.now) }
     ensures ready { IsOk (floor_div left.now right.now) → IsOk result }
 {
-    match integers(left, right) {
-        Some((a, b)) => answer(alloc, quotient(a, b)),
-        None => Err(Error::message(alloc, "only integers are divided")),
-    }
+    calculated(alloc, left, right, "only integers are divided", quotient)
 }
 
 /// Euclid's remainder, which is never negative; a refusal at a zero divisor.
@@ -182,10 +204,7 @@ pub fn rem(alloc: Global, left: &Value, right: &Value) -> TeraResult<Value>
     ensures value { Gives (λ v. v) result (rem left.now right.now) }
     ensures ready { IsOk (rem left.now right.now) → IsOk result }
 {
-    match integers(left, right) {
-        Some((a, b)) => answer(alloc, remainder(a, b)),
-        None => Err(Error::message(alloc, "only integers are divided")),
-    }
+    calculated(alloc, left, right, "only integers are divided", remainder)
 }
 
 /// The power; a refusal at a negative exponent. `0 ** 0` is 1.
@@ -193,10 +212,13 @@ pub fn pow(alloc: Global, left: &Value, right: &Value) -> TeraResult<Value>
     ensures value { Gives (λ v. v) result (pow left.now right.now) }
     ensures ready { IsOk (pow left.now right.now) → IsOk result }
 {
-    match integers(left, right) {
-        Some((a, b)) => answer(alloc, power(a, b)),
-        None => Err(Error::message(alloc, "only integers are raised to powers")),
-    }
+    calculated(
+        alloc,
+        left,
+        right,
+        "only integers are raised to powers",
+        power,
+    )
 }
 
 /// The number with the other sign.

@@ -3,7 +3,7 @@ ghost use Rattle.std.specs.Prelude.{◌≡◌, ℤ, pos, ◌≤ℤ◌, Option, R
 ghost use Rattle.tera_errors.specs.Answer.{Gives};
 ghost use Rattle.tera_errors.specs.Fault.{Fault};
 ghost use Rattle.tera_values_data.specs.Val.{Val};
-ghost use Rattle.tera_values.specs.Number.{told, integers, on_integers, sum, difference, product, quotient, remainder, exact_quotient, power, add, sub, mul, div, floor_div, rem, pow, negate};
+ghost use Rattle.tera_values.specs.Number.{told, integers, on_integers, quotient, remainder, exact_quotient, power, add, sub, mul, div, floor_div, rem, pow, negate};
 
 use std::alloc::Global;
 use tera_errors::{Error, TeraResult};
@@ -56,27 +56,6 @@ fn calculated<F: FnOnce(i128, i128) -> Option<i128>>(
         Some((a, b)) => answer(alloc, calculate(a, b)),
         None => Err(Error::message(alloc, refusal)),
     }
-}
-
-#[inline(always)]
-fn sum(a: i128, b: i128) -> Option<i128>
-    ensures { told result ≡ sum a b }
-{
-    a.checked_add(b)
-}
-
-#[inline(always)]
-fn difference(a: i128, b: i128) -> Option<i128>
-    ensures { told result ≡ difference a b }
-{
-    a.checked_sub(b)
-}
-
-#[inline(always)]
-fn product(a: i128, b: i128) -> Option<i128>
-    ensures { told result ≡ product a b }
-{
-    a.checked_mul(b)
 }
 
 /// Euclid's quotient.
@@ -150,7 +129,13 @@ pub fn add(alloc: Global, left: &Value, right: &Value) -> TeraResult<Value>
     ensures value { Gives (λ v. v) result (add left.now right.now) }
     ensures ready { IsOk (add left.now right.now) → IsOk result }
 {
-    calculated(alloc, left, right, "only integers are added", sum)
+    calculated(
+        alloc,
+        left,
+        right,
+        "only integers are added",
+        i128::checked_add,
+    )
 }
 
 /// The difference.
@@ -164,7 +149,7 @@ pub fn sub(alloc: Global, left: &Value, right: &Value) -> TeraResult<Value>
         left,
         right,
         "only integers are subtracted",
-        difference,
+        i128::checked_sub,
     )
 }
 
@@ -174,7 +159,13 @@ pub fn mul(alloc: Global, left: &Value, right: &Value) -> TeraResult<Value>
     ensures value { Gives (λ v. v) result (mul left.now right.now) }
     ensures ready { IsOk (mul left.now right.now) → IsOk result }
 {
-    calculated(alloc, left, right, "only integers are multiplied", product)
+    calculated(
+        alloc,
+        left,
+        right,
+        "only integers are multiplied",
+        i128::checked_mul,
+    )
 }
 
 /// The exact quotient; a refusal where it is not whole, as at a zero divisor.

@@ -1,5 +1,5 @@
 -- The tests that every engine has.
-use Rattle.std.specs.Prelude.{Bool, [], ◌∷◌, Option, Some, None, Result, Err, codes}
+use Rattle.std.specs.Prelude.{Bool, [], ◌∷◌, Option, Some, None, Result, Ok, Err, codes}
 use Rattle.tera_errors.specs.Site.{Name}
 use Rattle.tera_errors.specs.Fault.{Fault, message}
 use Rattle.tera_values.specs.Val.{ValOf}
@@ -7,7 +7,7 @@ use Rattle.tera_values.specs.Alphabet.{Alphabet}
 use Rattle.tera_values.specs.Named.{Named, at_name}
 use Rattle.tera_built_ins.specs.declared.test.BuiltInTest.{BuiltInTest}
 use Rattle.tera_built_ins.specs.declared.test.BuiltInTest.TheVariants as test
-use Rattle.tera_built_ins.specs.Tests.{string_test, number_test, map_test, bool_test, array_test, integer_test, none_test, iterable_test, defined_test, undefined_test, odd_test, even_test, divisible_by_test, starting_with_test, ending_with_test, containing_test}
+use Rattle.tera_built_ins.specs.Tests.{is_text, is_integer, is_map, is_bool, is_array, is_none, is_iterable, defined_test, undefined_test, odd_test, even_test, divisible_by_test, starting_with_test, ending_with_test, containing_test}
 
 -- their names
 abbrev pub tests : Named BuiltInTest
@@ -36,14 +36,14 @@ test_named n = at_name n tests
 module _ {C : Type 0} (alphabet : Alphabet C) where
   -- what a test says of a value and arguments
   abbrev pub test_of : BuiltInTest → ValOf C → Named (ValOf C) → Result Bool Fault
-  test_of test.String v given = string_test alphabet v given
-  test_of test.Number v given = number_test alphabet v given
-  test_of test.Map v given = map_test alphabet v given
-  test_of test.Bool v given = bool_test alphabet v given
-  test_of test.Array v given = array_test alphabet v given
-  test_of test.Integer v given = integer_test alphabet v given
-  test_of test.None v given = none_test alphabet v given
-  test_of test.Iterable v given = iterable_test alphabet v given
+  test_of test.String v given = Ok (is_text (alphabet.bare v))
+  test_of test.Number v given = Ok (is_integer (alphabet.bare v))
+  test_of test.Map v given = Ok (is_map (alphabet.bare v))
+  test_of test.Bool v given = Ok (is_bool (alphabet.bare v))
+  test_of test.Array v given = Ok (is_array (alphabet.bare v))
+  test_of test.Integer v given = Ok (is_integer (alphabet.bare v))
+  test_of test.None v given = Ok (is_none (alphabet.bare v))
+  test_of test.Iterable v given = Ok (is_iterable (alphabet.bare v))
   test_of test.Defined v given = defined_test alphabet v given
   test_of test.Undefined v given = undefined_test alphabet v given
   test_of test.Odd v given = odd_test alphabet v given

@@ -48,30 +48,6 @@ abbrev pub divides : ℤ → ℤ → Bool
 divides d z = not (int_eq d (pos 0)) && nat_eq (unsigned_abs z % unsigned_abs d) 0
 
 module _ {C : Type 0} (alphabet : Alphabet C) (v : ValOf C) (given : Named (ValOf C)) where
-  abbrev pub string_test : Result Bool Fault
-  string_test = Ok (is_text (alphabet.bare v))
-
-  abbrev pub number_test : Result Bool Fault
-  number_test = Ok (is_integer (alphabet.bare v))
-
-  abbrev pub map_test : Result Bool Fault
-  map_test = Ok (is_map (alphabet.bare v))
-
-  abbrev pub bool_test : Result Bool Fault
-  bool_test = Ok (is_bool (alphabet.bare v))
-
-  abbrev pub array_test : Result Bool Fault
-  array_test = Ok (is_array (alphabet.bare v))
-
-  abbrev pub integer_test : Result Bool Fault
-  integer_test = Ok (is_integer (alphabet.bare v))
-
-  abbrev pub none_test : Result Bool Fault
-  none_test = Ok (is_none (alphabet.bare v))
-
-  abbrev pub iterable_test : Result Bool Fault
-  iterable_test = Ok (is_iterable (alphabet.bare v))
-
   abbrev pub defined_test : Result Bool Fault
   defined_test = Ok (not (is_undefined v))
 

@@ -4,3 +4,4 @@ pub mod Contexts
 pub mod Contents
 pub mod Powers
 pub mod Division
+pub mod Hashes

@@ -1,18 +1,27 @@
 -- What is known of a name beside its text.
-use Rattle.std.specs.Prelude.{◌≡◌, ℕ, Option, Some, None, cond, codes, IsTrue}
+use Rattle.std.specs.Prelude.{◌≡◌, ℕ, ◌+◌, ◌/◌, ◌^◌, nat_lt, length, Option, Some, None, cond, codes, IsTrue}
 use Rattle.std.proofs.Common.{ap}
 use Rattle.std.specs.Cmp.Lexicographic.{bytes_decides}
 use Rattle.std.specs.List.{fold}
 use Rattle.std.specs.Str.{bytes_eq}
+use Rattle.std.specs.Int.Digits.{number_from_digits_after}
 use Rattle.std.specs.Hash as fed
 use Rattle.std.specs.Hash.FoldHasher as folding
 use Rattle.tera_errors.specs.Site.{Name}
 use Rattle.tera_values.specs.declared.counter.Counter.{Counter}
 use Rattle.tera_values.specs.declared.counter.Counter.TheVariants as counter
 
--- the hash of a text
+-- a short text as a number: its bytes as the digits behind a 1
+abbrev pub packed : Name → ℕ
+packed n = number_from_digits_after 256 1 n
+
+-- a long text's hash, which is greater than any short text as a number
+abbrev pub long_hash : Name → ℕ
+long_hash n = 2 ^ 63 + folding.finish (fold folding.write folding.initial (fed.str n)) / 2
+
+-- what is kept of a text, to tell it from others: of a short one it tells the whole text
 unfoldable pub name_hash : Name → ℕ
-name_hash n = folding.finish (fold folding.write folding.initial (fed.str n))
+name_hash n = cond (nat_lt (length n) 8) (packed n) (long_hash n)
 
 -- what a map that hashes a name takes in: its hash alone
 abbrev pub hashed : Name → fed.HashWrites

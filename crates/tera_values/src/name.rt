@@ -1,9 +1,9 @@
 // Names, shared by all that hold them, and what is known of them beside their text.
-ghost use Rattle.std.specs.Prelude.{◌≡◌, Ok, bytes_eq};
+ghost use Rattle.std.specs.Prelude.{◌≡◌, ◌<◌, length, Ok, bytes_eq};
 ghost use Rattle.std.specs.Cmp.{partial_equiv_from_equiv};
 ghost use Rattle.std.specs.Cmp.Lexicographic.{nat_list_eq_equiv};
 ghost use Rattle.tera_errors.specs.Answer.{Gives};
-ghost use Rattle.tera_values.specs.Naming.{counter_of, hashed, name_hash, same_hashed};
+ghost use Rattle.tera_values.specs.Naming.{counter_of, hashed, long_hash, name_hash, packed, same_hashed};
 
 use crate::counter::Counter;
 use indexmap::Equivalent;
@@ -82,14 +82,19 @@ impl Name {
     }
 }
 
-// Two names are the same where their texts are, which are compared only where the hashes are the same.
+// Two names are the same where their texts are.
 impl PartialEq for Name {
     ghost eq = { bytes_eq };
 
     ghost laws = { partial_equiv_from_equiv nat_list_eq_equiv };
 
     fn eq(&self, other: &Name) -> bool {
-        self.hash == other.hash && are_same(self.text.as_str(), other.text.as_str())
+        is_text(
+            self.hash,
+            self.text.as_str(),
+            other.hash,
+            other.text.as_str(),
+        )
     }
 }
 
@@ -109,7 +114,7 @@ impl Hash for Name {
 }
 
 /// A name that is looked for. Its text lies elsewhere; its hash and what it counts are found once, so that a look-up
-/// compares texts only where their hashes are the same. Takes no memory.
+/// compares texts only where they are long and their hashes are the same. Takes no memory.
 #[derive(Drop)]
 pub struct Sought<'a> {
     text: &'a str,
@@ -166,7 +171,7 @@ impl<'a> Sought<'a> {
     pub fn is(&self, name: &Name) -> bool
         ensures { result ≡ bytes_eq self.now name.now }
     {
-        self.hash == name.hash && are_same(self.text, name.text.as_str())
+        is_text(self.hash, self.text, name.hash, name.text.as_str())
     }
 }
 
@@ -176,7 +181,7 @@ impl<'a> PartialEq for Sought<'a> {
     ghost laws = { partial_equiv_from_equiv nat_list_eq_equiv };
 
     fn eq(&self, other: &Sought<'a>) -> bool {
-        self.hash == other.hash && are_same(self.text, other.text)
+        is_text(self.hash, self.text, other.hash, other.text)
     }
 }
 
@@ -207,7 +212,19 @@ impl<'a, 's> Equivalent<Name> for &'s Sought<'a> {
     }
 }
 
-// Not inlined, so that only the hashes are compared where a name is looked for.
+// The least hash of a long text, which is one of eight bytes or more. A hash below it is that of one text alone.
+const LONG: u64 = 1 << 63;
+
+// Whether two texts, each with its hash, are the same. Only long texts with the same hash are compared byte by byte.
+#[inline(always)]
+fn is_text(hash: u64, text: &str, other_hash: u64, other: &str) -> bool
+    requires { (hash ≡ name_hash text.now) × (other_hash ≡ name_hash other.now) }
+    ensures { result ≡ bytes_eq text.now other.now }
+{
+    hash == other_hash && (hash < LONG || are_same(text, other))
+}
+
+// Not inlined, so that only the hashes are compared where a short name is looked for.
 #[inline(never)]
 fn are_same(a: &str, b: &str) -> bool
     ensures { result ≡ bytes_eq a.now b.now }
@@ -215,10 +232,36 @@ fn are_same(a: &str, b: &str) -> bool
     a == b
 }
 
+// The hash of a short text is its bytes as a number, so that it tells the text.
+#[inline(always)]
 fn hash_of(text: &str) -> u64
     ensures { result ≡ name_hash text.now }
 {
+    if text.len() < 8 {
+        packed(text)
+    } else {
+        long_hash(text)
+    }
+}
+
+// A short text as a number: its bytes as digits behind a 1, which tells how many they are.
+#[inline(always)]
+fn packed(text: &str) -> u64
+    requires { length text.now < 8 }
+    ensures { result ≡ packed text.now }
+{
+    let mut number: u64 = 1;
+    for byte in text.as_bytes() {
+        number = number * 256 + u64::from(*byte);
+    }
+    number
+}
+
+// A long text's hash, from `LONG` on.
+fn long_hash(text: &str) -> u64
+    ensures { result ≡ long_hash text.now }
+{
     let mut state = FoldHasher::default();
     text.hash(&mut state);
-    state.finish()
+    LONG + state.finish() / 2
 }

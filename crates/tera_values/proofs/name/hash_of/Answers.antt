@@ -1,12 +1,16 @@
-use Rattle.std.proofs.Common.{◌∙◌, ap}
-use Rattle.std.specs.List.{fold}
-use Rattle.std.specs.Hash as fed
-use Rattle.std.specs.Hash.FoldHasher as folding
-use Rattle.tera_values.specs.Naming.{name_hash}
+use Rattle.std.proofs.Common.{cond, length, ap, sym, ◌∙◌}
+use Rattle.std.proofs.lemmas.Bool.{lt-ltb, le-ltb}
+use Rattle.tera_values.specs.Naming.{name_hash, packed, long_hash}
 use Rattle.tera_values.proofs.name.hash_of.Goals as goal
 
-pub returns : goal.returns
+pub returns-then-text-lt8 : goal.returns-then-text-lt8
 unfolding name_hash
-returns c =
-    c.finish.ensures
-    ∙ ap folding.finish (c.hash.ensures ∙ ap (λ s. fold folding.write s (fed.str c.args.text.now)) c.default-state.ensures)
+returns-then-text-lt8 c =
+    let text = c.args.text.now in
+    c.packed.ensures ∙ sym (ap (λ short. cond short (packed text) (long_hash text)) (lt-ltb (length text) 8 c.if-text-lt8.true))
+
+pub returns-else-text-lt8 : goal.returns-else-text-lt8
+unfolding name_hash
+returns-else-text-lt8 c =
+    let text = c.args.text.now in
+    c.long_hash.ensures ∙ sym (ap (λ short. cond short (packed text) (long_hash text)) (le-ltb (length text) 8 c.if-text-lt8.false))

@@ -1,9 +1,9 @@
 -- The hash of a short text tells the whole text.
-use Rattle.std.proofs.Common.{◌≡◌, ℕ, suc, ◌+◌, ◌*◌, ◌^◌, ◌≤◌, ◌<◌, Bool, true, false, cond, nat_lt, List, [], ◌∷◌, drop, get_or, length, Fits, w8, refl, ap, sym, ◌∙◌, drop-cons, arith}
+use Rattle.std.proofs.Common.{◌≡◌, ℕ, suc, ◌+◌, ◌*◌, ◌%◌, ◌^◌, ◌≤◌, ◌<◌, Bool, true, false, cond, nat_lt, List, [], ◌∷◌, drop, get_or, length, Fits, w8, refl, ap, ◌∙◌, drop-cons, arith}
 use Rattle.std.specs.Int.Digits.{number_from_digits_after, AllBelowBase}
 use Rattle.std.proofs.lemmas.Int.Digits.{number_after_ge, number_after_lt}
 use Rattle.std.proofs.Math.Nat.{pow-le-pow_right}
-use Rattle.tera_values.specs.Naming.{name_hash, packed}
+use Rattle.tera_values.specs.Naming.{name_hash, packed, short_hash}
 
 abbrev pub IsText : List ℕ → Type 0
 IsText a = (i : ℕ) → Fits w8 (get_or a i 0)
@@ -27,26 +27,29 @@ all_below : (a : List ℕ) → IsText a → AllBelowBase 256 a
 all_below [] f = tt
 all_below (x ∷ a) f = ((f 0).fits, all_below a (λ l. f (suc l)))
 
-packed_lt : (a : List ℕ) → IsText a → length a < 8 → packed a < 2 ^ 63
+pub packed_lt : (a : List ℕ) → IsText a → length a < 8 → packed a < 2 ^ 57
 packed_lt a f h =
     let k : length a ≤ 7 = omega (arith, h) in
     let p : 256 ^ length a ≤ 256 ^ 7 = pow-le-pow_right (omega arith) k in
     omega (arith, number_after_lt 256 1 a (all_below a f), p)
 
 -- what is made of the first bytes has room for one more
-pub packed_next : (a : List ℕ) (i n : ℕ) → IsText a → length a < 8 → i < length a → packed a ≡ number_from_digits_after 256 n (drop i a) → n * 256 + get_or a i 0 < 2 ^ 63
+pub packed_next : (a : List ℕ) (i n : ℕ) → IsText a → length a < 8 → i < length a → packed a ≡ number_from_digits_after 256 n (drop i a) → n * 256 + get_or a i 0 < 2 ^ 57
 packed_next a i n f h l e =
     let next = n * 256 + get_or a i 0 in
     let rest : packed a ≡ number_from_digits_after 256 next (drop (suc i) a) = e ∙ ap (number_from_digits_after 256 n) (drop-cons a i 0 l) in
     omega (arith, rest, number_after_ge 256 next (drop (suc i) a) (omega arith), packed_lt a f h)
 
-packed_by : (short : Bool) (m n : ℕ) → cond short m (2 ^ 63 + n) < 2 ^ 63 → cond short m (2 ^ 63 + n) ≡ m
-packed_by true m n h = refl
-packed_by false m n h = absurd (omega (arith, h))
+short_by : (is_short : Bool) (m n : ℕ) → cond is_short m (2 ^ 63 + n) < 2 ^ 63 → cond is_short m (2 ^ 63 + n) ≡ m
+short_by true m n h = refl
+short_by false m n h = absurd (omega (arith, h))
 
-is_packed : (a : List ℕ) → name_hash a < 2 ^ 63 → name_hash a ≡ packed a
+is_short : (a : List ℕ) → name_hash a < 2 ^ 63 → name_hash a ≡ short_hash a
 unfolding name_hash
-is_packed a h = packed_by (nat_lt (length a) 8) (packed a) _ h
+is_short a h = short_by (nat_lt (length a) 8) (short_hash a) _ h
 
 pub same_from_hash : (a b : List ℕ) (n : ℕ) → IsText a → IsText b → n < 2 ^ 63 → n ≡ name_hash a → n ≡ name_hash b → a ≡ b
-same_from_hash a b n f g h s t = same_packed a b f g (sym (is_packed a (omega (arith, s, h))) ∙ sym s ∙ t ∙ is_packed b (omega (arith, t, h)))
+same_from_hash a b n f g h s t =
+    let i : n ≡ packed a * 64 + packed a % 63 = s ∙ is_short a (omega (arith, s, h)) in
+    let j : n ≡ packed b * 64 + packed b % 63 = t ∙ is_short b (omega (arith, t, h)) in
+    same_packed a b f g (omega (arith, i, j))

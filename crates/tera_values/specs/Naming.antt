@@ -1,5 +1,5 @@
 -- What is known of a name beside its text.
-use Rattle.std.specs.Prelude.{◌≡◌, ℕ, ◌+◌, ◌/◌, ◌^◌, nat_lt, length, Option, Some, None, cond, codes, IsTrue}
+use Rattle.std.specs.Prelude.{◌≡◌, ℕ, ◌+◌, ◌*◌, ◌/◌, ◌%◌, ◌^◌, nat_lt, length, Option, Some, None, cond, codes, IsTrue}
 use Rattle.std.proofs.Common.{ap}
 use Rattle.std.specs.Cmp.Lexicographic.{bytes_decides}
 use Rattle.std.specs.List.{fold}
@@ -15,13 +15,17 @@ use Rattle.tera_values.specs.declared.counter.Counter.TheVariants as counter
 abbrev pub packed : Name → ℕ
 packed n = number_from_digits_after 256 1 n
 
--- a long text's hash, which is greater than any short text as a number
+-- a short text's hash: the number, and for maps of few places a remainder in the low bits, to which each byte adds
+abbrev pub short_hash : Name → ℕ
+short_hash n = packed n * 64 + packed n % 63
+
+-- a long text's hash, which is greater than any short text's
 abbrev pub long_hash : Name → ℕ
 long_hash n = 2 ^ 63 + folding.finish (fold folding.write folding.initial (fed.str n)) / 2
 
 -- what is kept of a text, to tell it from others: of a short one it tells the whole text
 unfoldable pub name_hash : Name → ℕ
-name_hash n = cond (nat_lt (length n) 8) (packed n) (long_hash n)
+name_hash n = cond (nat_lt (length n) 8) (short_hash n) (long_hash n)
 
 -- what a map that hashes a name takes in: its hash alone
 abbrev pub hashed : Name → fed.HashWrites

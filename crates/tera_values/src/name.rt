@@ -3,7 +3,7 @@ ghost use Rattle.std.specs.Prelude.{◌≡◌, ◌<◌, length, Ok, bytes_eq};
 ghost use Rattle.std.specs.Cmp.{partial_equiv_from_equiv};
 ghost use Rattle.std.specs.Cmp.Lexicographic.{nat_list_eq_equiv};
 ghost use Rattle.tera_errors.specs.Answer.{Gives};
-ghost use Rattle.tera_values.specs.Naming.{counter_of, hashed, long_hash, name_hash, packed, same_hashed};
+ghost use Rattle.tera_values.specs.Naming.{counter_of, hashed, long_hash, name_hash, packed, same_hashed, short_hash};
 
 use crate::counter::Counter;
 use indexmap::Equivalent;
@@ -232,16 +232,27 @@ fn are_same(a: &str, b: &str) -> bool
     a == b
 }
 
-// The hash of a short text is its bytes as a number, so that it tells the text.
+// The hash of a short text tells the text.
 #[inline(always)]
 fn hash_of(text: &str) -> u64
     ensures { result ≡ name_hash text.now }
 {
     if text.len() < 8 {
-        packed(text)
+        short_hash(text)
     } else {
         long_hash(text)
     }
+}
+
+// A short text's hash: the text as a number, and in the six bits below it, for those who take only low bits of a hash,
+// a remainder to which each byte adds.
+#[inline(always)]
+fn short_hash(text: &str) -> u64
+    requires { length text.now < 8 }
+    ensures { result ≡ short_hash text.now }
+{
+    let number = packed(text);
+    number * 64 + number % 63
 }
 
 // A short text as a number: its bytes as digits behind a 1, which tells how many they are.

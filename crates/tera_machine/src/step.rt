@@ -186,6 +186,28 @@ impl<'c> Configuration<'c> {
             (name_written (here_of O.engine machine.now site.file self.old) name.now site.span)
             self.old (going_on_if site result) self.new }
     {
+        match self.scopes.value_of(name) {
+            Some(value) if value.is_undefined() => Ok(false),
+            Some(value) => {
+                self.texts
+                    .append_value(machine.alloc, machine.objects, machine.autoescape, value)?;
+                Ok(true)
+            }
+            None => self.put_sought(machine, name),
+        }
+    }
+
+    // The same of a name that the innermost turn may not bind. What it looks for takes no room where the turn does.
+    #[inline(never)]
+    fn put_sought<O: Objects>(
+        &mut self,
+        machine: &VirtualMachine<'_, O>,
+        name: &Name,
+    ) -> Result<bool, AllocError>
+        ensures { (site : Site) → Does
+            (name_written (here_of O.engine machine.now site.file self.old) name.now site.span)
+            self.old (going_on_if site result) self.new }
+    {
         self.put_name(machine, &name.sought())
     }
 

@@ -15,8 +15,9 @@ use crate::marked::marked_if;
 use crate::over::CallerObjects;
 use std::alloc::{AllocError, Global};
 use tera_built_ins::{BuiltInFilter, BuiltInFunction, BuiltInTest, EscapeFn, Escaping};
+use tera_errors::lacking;
 use tera_state::{Filter, Function, Scopes, State, StateOver, Test, write_value};
-use tera_values::{Error, Kwargs, TeraResult, Value};
+use tera_values::{Error, Kwargs, TeraResult, Value, escape_html};
 
 /// The state that an object of these sees: the scopes, the escape, and the built-in filters but those whose names are taken.
 pub(crate) fn lent<'a, 'c>(
@@ -45,6 +46,24 @@ fn lent_escape<'a>(escape: &'a Option<Box<dyn EscapeFn>>) -> Option<&'a dyn Esca
     match escape {
         Some(escape) => Some(&**escape),
         None => None,
+    }
+}
+
+/// Puts a text behind another, escaped by this.
+#[inline(never)]
+pub(crate) fn escape_by(
+    escape: &Option<Box<dyn EscapeFn>>,
+    text: &str,
+    out: &mut String,
+) -> Result<(), AllocError>
+    ensures ok { OnOk result (string_bytes out.new ≡ string_bytes out.old
+        ++ escape_or_html (λ b. (⟦<dyn EscapeFn as EscapeFn>⟧ b.vtable).escaped b.value) escape.now
+        text.now) }
+    ensures err { OnErr result (string_bytes out.new ≡ string_bytes out.old) }
+{
+    match escape {
+        None => lacking(escape_html(text, out)),
+        Some(escape) => lacking(escape.escape(text, out)),
     }
 }
 

@@ -1,6 +1,6 @@
 // What renders asks the caller's boxes.
 use crate::boxes::{
-    built_in_answer, built_in_function_answer, built_in_test_answer, filter_answer,
+    built_in_answer, built_in_function_answer, built_in_test_answer, escape_by, filter_answer,
     function_answer, lent, test_answer, write_by,
 };
 use crate::objects::Objects;
@@ -8,7 +8,7 @@ use crate::over::ObjectsOver;
 use std::alloc::{AllocError, Global};
 use tera_built_ins::EscapeFn;
 use tera_state::{Filter, Function, Scopes, Test};
-use tera_values::{Kwargs, TeraResult, Value};
+use tera_values::{Kwargs, Shape, TeraResult, Value};
 
 impl Objects for ObjectsOver<Box<dyn EscapeFn>, Box<dyn Filter>, Box<dyn Test>, Box<dyn Function>> {
     ghost use Rattle.tera_objects.specs.Kept.{engine_of};
@@ -35,13 +35,11 @@ impl Objects for ObjectsOver<Box<dyn EscapeFn>, Box<dyn Filter>, Box<dyn Test>, 
         value: &Value,
         out: &mut String,
     ) -> Result<(), AllocError> {
-        if value.as_i128().is_some() {
-            return value.print_to(out);
+        match value.shape() {
+            Shape::Int(_) => value.print_to(out),
+            Shape::Text(text, false) if autoescape => escape_by(&self.escape, text, out),
+            _ => write_by(&self.escape, alloc, autoescape, value, out),
         }
-        if !autoescape || value.is_safe() {
-            return value.print_to(out);
-        }
-        write_by(&self.escape, alloc, autoescape, value, out)
     }
 
     fn has_filter(&self, name: &str) -> bool {

@@ -1,5 +1,5 @@
 -- What a body reads of those above it.
-use Rattle.std.proofs.Common.{◌≡◌, ℕ, ◌-◌, ◌<◌, ◌≤◌, List, [], ◌∷◌, Bool, true, false, cond, Option, Some, None, length, reverse, refl, sym, ap, ap₂, ◌∙◌, true≢false, arith}
+use Rattle.std.proofs.Common.{◌≡◌, ℕ, ◌-◌, ◌<◌, ◌≤◌, List, [], ◌∷◌, Bool, true, false, cond, Option, Some, None, IfSome, length, reverse, refl, sym, ap, ap₂, ◌∙◌, true≢false, arith}
 use Rattle.std.specs.Prelude.{slice_get, unwrap_or}
 use Rattle.std.specs.Option.{option_or}
 use Rattle.tera_errors.specs.Site.{Name}
@@ -49,6 +49,22 @@ turn_first r n (t ∷ ts) some e = kept_first r (in_turn n t) (in_turns n ts) so
 pub innermost_first : (r : Found) (n : Name) (f : FrameMeant) (us : List (FrameMeant × Variables)) (v : Variables) → (r ≡ found.Nothing → ⊥) → found_value r ≡ in_innermost n v.turns → found_value r ≡ bound n f us v
 innermost_first r n f us v some e =
     kept_first r _ _ some (kept_first r _ _ some (turn_first r n v.turns some e)) ∙ sym (bound_split n f us v)
+
+-- the same of a value that is told by itself
+turn_bound : (n : Name) (ts : List Turn) (x : Val) → in_innermost n ts ≡ Some x → in_turns n ts ≡ Some x
+turn_bound n [] x e = e
+turn_bound n (t ∷ ts) x e = sym (first (Some x) (in_turn n t) (in_turns n ts) (sym e) x refl)
+
+innermost_bound : (n : Name) (f : FrameMeant) (us : List (FrameMeant × Variables)) (v : Variables) (x : Val) → in_innermost n v.turns ≡ Some x → bound n f us v ≡ Some x
+innermost_bound n f us v x e =
+    let turns = sym (turn_bound n v.turns x e) in
+    let variables = first (Some x) (in_turns n v.turns) (at_name n v.sets) turns x refl in
+    bound_split n f us v ∙ sym (first (Some x) (in_variables n v) (beyond n f us) variables x refl)
+
+-- and of one that is lent
+pub innermost_lent : {B : Type 0} (o : Option B) (now : B → Val) (n : Name) (f : FrameMeant) (us : List (FrameMeant × Variables)) (v : Variables) → IfSome o (λ b. in_innermost n v.turns ≡ Some (now b)) → IfSome o (λ b. unwrap_or (bound n f us v) undefined ≡ now b)
+innermost_lent None now n f us v h = tt
+innermost_lent (Some b) now n f us v h = ap (λ (o : Option Val). unwrap_or o undefined) (innermost_bound n f us v (now b) h)
 
 module _ (n : Name) (bs : List Binding) where
   abbrev pub at : Standing → List Frame → Option Val

@@ -1,5 +1,5 @@
 -- What look-ups find.
-use Rattle.std.proofs.Common.{◌≡◌, inl, inr, ℕ, suc, ◌+◌, ◌-◌, ◌<◌, ◌≤◌, List, [], ◌∷◌, Option, Some, None, length, drop, reverse, sym, ap, ap₂, ◌∙◌, arith, get_or}
+use Rattle.std.proofs.Common.{◌≡◌, inl, inr, ℕ, suc, ◌+◌, ◌-◌, ◌<◌, ◌≤◌, List, [], ◌∷◌, Option, Some, None, IfSome, length, drop, reverse, sym, ap, ap₂, ◌∙◌, arith, get_or}
 use Rattle.std.specs.Prelude.{slice_get}
 use Rattle.std.specs.Option.{option_or}
 use Rattle.std.proofs.lemmas.List.{drop_more, get_or-reverse, length-reverse, drop_all, length-drop}
@@ -21,6 +21,11 @@ first x a b e v h = h ∙ ap (λ (y : Option Val). option_or y b) (sym h ∙ e)
 
 pub second : (x a b : Option Val) → None ≡ a → x ≡ b → x ≡ option_or a b
 second x a b none e = e ∙ ap (λ (y : Option Val). option_or y b) none
+
+-- what is lent under one of two names for the same is lent under the other
+pub lent_as : {B : Type 0} (o : Option B) (now : B → Val) {x y : Option Val} → x ≡ y → IfSome o (λ b. y ≡ Some (now b)) → IfSome o (λ b. x ≡ Some (now b))
+lent_as None now e h = tt
+lent_as (Some b) now e h = e ∙ h
 
 module _ {X : Type 0} where
   pub lower_step : (xs : List X) (k : ℕ) (x : X) → slice_get (reverse xs) k ≡ Some x → lower (suc k) xs ≡ x ∷ lower k xs

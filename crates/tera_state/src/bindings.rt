@@ -78,6 +78,25 @@ impl Bindings {
         find(self.items.as_slice(), frame, layer, name)
     }
 
+    /// The same for a name that is kept.
+    #[inline(always)]
+    pub fn value_of(&self, frame: usize, layer: usize, name: &Name) -> Option<&Value>
+        ensures { option_copied result ≡ value_in self.now frame layer name.now }
+    {
+        if is_beyond(frame, layer, self.end) {
+            return None;
+        }
+        self.found(frame, layer, name)
+    }
+
+    // The same in a layer that may bind something. What it looks for takes no room where the layer binds nothing.
+    #[inline(never)]
+    fn found(&self, frame: usize, layer: usize, name: &Name) -> Option<&Value>
+        ensures { option_copied result ≡ value_in self.now frame layer name.now }
+    {
+        find(self.items.as_slice(), frame, layer, &name.sought())
+    }
+
     /// Binds the name in the layer, in place of an older binding of it, which takes no memory.
     pub fn put(
         &mut self,

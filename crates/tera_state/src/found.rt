@@ -1,5 +1,5 @@
 // What a look-up hands out.
-ghost use Rattle.std.specs.Prelude.{◌≡◌, Ok, unwrap_or};
+ghost use Rattle.std.specs.Prelude.{◌≡◌, Ok, Some, IfSome, unwrap_or};
 ghost use Rattle.tera_errors.specs.Answer.{Gives};
 ghost use Rattle.tera_values.specs.Val.{undefined};
 ghost use Rattle.tera_values.specs.Access.{is_undefined};
@@ -40,6 +40,17 @@ impl<'a> Found<'a> {
             Found::Kept(value) => value.is_undefined(),
             Found::Nothing => true,
             _ => false,
+        }
+    }
+
+    /// The value that is kept elsewhere, if it is one.
+    #[inline(always)]
+    pub fn value(self) -> Option<&'a Value>
+        ensures { IfSome result (λ value. found_value self.entry ≡ Some value.now) }
+    {
+        match self {
+            Found::Kept(value) => Some(value),
+            _ => None,
         }
     }
 

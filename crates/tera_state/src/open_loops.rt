@@ -1,5 +1,5 @@
 // The open loops of a body.
-ghost use Rattle.std.specs.Prelude.{◌≡◌, ◌≤◌, ◌∷◌, ◌<◌, [], length, drop, OnOk};
+ghost use Rattle.std.specs.Prelude.{◌≡◌, ◌≤◌, ◌∷◌, ◌<◌, [], Some, length, drop, OnOk, IfSome};
 ghost use Rattle.tera_state.specs.Bound.{layer_of};
 ghost use Rattle.tera_state.specs.Found.{found_value};
 ghost use Rattle.tera_state.specs.Opened.{turn_of, turns_of, InnermostGoesOn};
@@ -12,7 +12,7 @@ use crate::loops::ForLoop;
 use crate::stack::Stack;
 use std::alloc::{AllocError, Global};
 use std::marker::Model;
-use tera_values::{Sought, TeraResult};
+use tera_values::{Name, Sought, TeraResult, Value};
 
 /// The open loops of a body. A contract sees the list of them, the innermost first. The innermost stands apart, so that
 /// its turns are found first and one loop alone takes no memory.
@@ -105,6 +105,23 @@ impl OpenLoops {
         }
     }
 
+    /// The same, where it is a value that lies elsewhere: most names are of such.
+    #[inline(always)]
+    pub fn value_of<'a>(
+        &'a self,
+        bindings: &'a Bindings,
+        frame: usize,
+        name: &Name,
+    ) -> Option<&'a Value>
+        ensures { IfSome result (λ value. in_innermost name.now
+            (turns_of bindings.now frame self.now) ≡ Some value.now) }
+    {
+        match &self.innermost {
+            Some(turn) => value_in_turn(bindings, frame, self.around.len() + 1, turn, name),
+            None => None,
+        }
+    }
+
     /// What the turns of the loops of this frame bind. Takes no memory.
     #[inline(always)]
     pub fn look<'a>(&'a self, bindings: &'a Bindings, frame: usize, name: &Sought<'_>) -> Found<'a>
@@ -143,6 +160,27 @@ fn in_turn<'a>(
             None => turn.named(name),
         },
         counted => counted,
+    }
+}
+
+// The same, where it is a value that lies elsewhere.
+#[inline(always)]
+fn value_in_turn<'a>(
+    bindings: &'a Bindings,
+    frame: usize,
+    layer: usize,
+    turn: &'a ForLoop,
+    name: &Name,
+) -> Option<&'a Value>
+    ensures { IfSome result (λ value. in_turn name.now
+        (turn_of (layer_of bindings.now frame layer) turn.now) ≡ Some value.now) }
+{
+    match turn.counter(&name.sought()) {
+        Found::Nothing => match bindings.value_of(frame, layer, name) {
+            Some(value) => Some(value),
+            None => turn.named(&name.sought()).value(),
+        },
+        _ => None,
     }
 }
 

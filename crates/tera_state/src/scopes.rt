@@ -1,5 +1,5 @@
 // All that a rendering has open, and all that it binds.
-ghost use Rattle.std.specs.Prelude.{◌≡◌, Ok, ◌≤◌, ◌≢◌, ◌↔◌, ◌∷◌, [], suc, OnOk, OnErr, IfErr, IsTrue, length, drop, unwrap_or, option_copied, None};
+ghost use Rattle.std.specs.Prelude.{◌≡◌, Ok, ◌≤◌, ◌≢◌, ◌↔◌, ◌∷◌, [], suc, OnOk, OnErr, IfErr, IfSome, IsTrue, length, drop, unwrap_or, option_copied, None};
 ghost use Rattle.tera_errors.specs.Answer.{Gives, Lacks};
 ghost use Rattle.tera_values.specs.Val.{undefined};
 ghost use Rattle.tera_state.specs.Found.{found_value};
@@ -74,6 +74,17 @@ impl<'c> Scopes<'c> {
             Found::Nothing => self.look_beyond(height, name),
             found => found,
         }
+    }
+
+    /// The same, where it is a value that the innermost turn binds: most names are of such. What else may be meant is told by
+    /// `look`.
+    #[inline(always)]
+    pub fn value_of(&self, name: &Name) -> Option<&Value>
+        ensures { IfSome result (λ value.
+            look name.now (around_of self.now) (variables_of self.now) ≡ value.now) }
+    {
+        let height = self.below.len();
+        self.frame.loops.value_of(&self.bindings, height, name)
     }
 
     // The same of a name that the innermost turn does not bind. Where no other loop is open and nothing is set, a

@@ -1,5 +1,5 @@
 -- Entries that lie as they were evaluated, beside the map that is made of them.
-use Rattle.std.proofs.Common.{◌≡◌, Bool, true, false, ◌&&◌, cond, List, [], ◌∷◌, ◌++◌, Option, Some, None, is_some, refl, ap, sym, ◌∙◌, ◌<◌, ◌+◌, ℕ, length, get_or, take, map as map_list, arith}
+use Rattle.std.proofs.Common.{◌≡◌, Bool, true, false, ◌&&◌, cond, List, [], ◌∷◌, ◌++◌, Option, Some, None, is_some, refl, ap, sym, ◌∙◌, ◌<◌, ◌≤◌, ◌+◌, ◌-◌, ℕ, length, get_or, take, map as map_list, arith}
 use Rattle.std.specs.List.{zip, list_all}
 use Rattle.std.proofs.lemmas.List.{take_more, get_or_default, length-map, length-take-le, get_or-map}
 use Rattle.tera_syntax_tree.specs.View.{key_of, key_option}
@@ -49,26 +49,32 @@ listed_more keys xs i key x lt n k e =
     ∙ from_left_last [] (zip ks before) (get_or ks (length before) (key_option key), x)
     ∙ ap (λ (o : Option Key). inserted (listed keys before) o x.value) at
 
-found_more : (j : KeyVal) (keys : List (Option OwnedKey)) (xs : List Evaluated) (i : ℕ) (key : Option OwnedKey) (x : Evaluated) → i < length xs → length keys ≡ length xs → key ≡ get_or keys i key → x ≡ get_or xs i x →
-    find j (listed keys (take (i + 1) xs)) ≡ cond (is_at j (key_option key)) (Some x.value) (find j (listed keys (take i xs)))
-found_more j keys xs i key x lt n k e =
-    ap (find j) (listed_more keys xs i key x lt n k e) ∙ find_put j (key_option key) x.value (listed keys (take i xs))
+-- what is found among the operands before a place, by the last one of them
+found_more : (j : KeyVal) (keys : List (Option OwnedKey)) (xs : List Evaluated) (left : ℕ) (key : Option OwnedKey) (x : Evaluated) → 0 < left → left ≤ length xs → length keys ≡ length xs → key ≡ get_or keys (left - 1) key → x ≡ get_or xs (left - 1) x →
+    find j (listed keys (take left xs)) ≡ cond (is_at j (key_option key)) (Some x.value) (find j (listed keys (take (left - 1) xs)))
+found_more j keys xs left key x some within n k e =
+    let i = left - 1 in
+    let more : left ≡ i + 1 = omega (arith, some) in
+    ap (λ (m : ℕ). find j (listed keys (take m xs))) more
+    ∙ ap (find j) (listed_more keys xs i key x (omega (arith, some, within)) n k e)
+    ∙ find_put j (key_option key) x.value (listed keys (take i xs))
 
 -- the last operand counts, where its key is the one looked for
-pub found_last : (j : KeyVal) (keys : List (Option OwnedKey)) (xs : List Evaluated) (i : ℕ) (key : Option OwnedKey) (x : Evaluated) → i < length xs → length keys ≡ length xs → key ≡ get_or keys i key → x ≡ get_or xs i x →
-    is_at j (key_option key) ≡ true → find j (listed keys (take (i + 1) xs)) ≡ Some x.value
-found_last j keys xs i key x lt n k e it =
-    found_more j keys xs i key x lt n k e ∙ ap (λ (b : Bool). cond b (Some x.value) (find j (listed keys (take i xs)))) it
+pub found_last : (j : KeyVal) (keys : List (Option OwnedKey)) (xs : List Evaluated) (left : ℕ) (key : Option OwnedKey) (x : Evaluated) → 0 < left → left ≤ length xs → length keys ≡ length xs → key ≡ get_or keys (left - 1) key → x ≡ get_or xs (left - 1) x →
+    is_at j (key_option key) ≡ true → find j (listed keys (take left xs)) ≡ Some x.value
+found_last j keys xs left key x some within n k e it =
+    found_more j keys xs left key x some within n k e ∙ ap (λ (b : Bool). cond b (Some x.value) (find j (listed keys (take (left - 1) xs)))) it
 
 unread : Evaluated
 unread = record { value = undefined; span = record { start = 0; end = 0 } }
 
 -- and else those before it
-pub found_before : (j : KeyVal) (keys : List (Option OwnedKey)) (xs : List Evaluated) (i : ℕ) (key : Option OwnedKey) → i < length xs → length keys ≡ length xs → key ≡ get_or keys i key →
-    is_at j (key_option key) ≡ false → find j (listed keys (take (i + 1) xs)) ≡ find j (listed keys (take i xs))
-found_before j keys xs i key lt n k other =
-    let x = get_or xs i unread in
-    found_more j keys xs i key x lt n k (get_or_default xs i unread x lt) ∙ ap (λ (b : Bool). cond b (Some x.value) (find j (listed keys (take i xs)))) other
+pub found_before : (j : KeyVal) (keys : List (Option OwnedKey)) (xs : List Evaluated) (left : ℕ) (key : Option OwnedKey) → 0 < left → left ≤ length xs → length keys ≡ length xs → key ≡ get_or keys (left - 1) key →
+    is_at j (key_option key) ≡ false → find j (listed keys (take left xs)) ≡ find j (listed keys (take (left - 1) xs))
+found_before j keys xs left key some within n k other =
+    let x = get_or xs (left - 1) unread in
+    found_more j keys xs left key x some within n k (get_or_default xs (left - 1) unread x (omega (arith, some, within)))
+    ∙ ap (λ (b : Bool). cond b (Some x.value) (find j (listed keys (take (left - 1) xs)))) other
 
 and_last : (a b : Bool) → (a && b) ≡ ((a && b) && a)
 and_last true true = refl

@@ -1,8 +1,11 @@
 -- What is undefined is the same as nothing else, and stands in no order to anything.
-use Rattle.std.proofs.Common.{◌≡◌, None, refl}
+use Rattle.std.proofs.Common.{◌≡◌, Bool, cond, Some, None, refl, ap, ◌∙◌}
+use Rattle.std.proofs.lemmas.Cmp.{eq_by_cmp_equiv}
 use Rattle.tera_values.specs.Val.{Val, undefined, none, bool, int, text, bytes, array, map}
 use Rattle.tera_values.specs.Access.{is_undefined}
-use Rattle.tera_values.specs.Order.{checked_order, same}
+use Rattle.tera_values.specs.Order.{checked_order, order, same}
+use Rattle.tera_values.specs.Laws.{order_total}
+use Rattle.tera_values_data.proofs.Symmetric.{comparable_sym}
 
 pub undefined_is_same : (v : Val) → same undefined v ≡ is_undefined v
 undefined_is_same undefined = refl
@@ -15,24 +18,10 @@ undefined_is_same (array vs) = refl
 undefined_is_same (map es) = refl
 
 pub same_undefined : (v : Val) → same v undefined ≡ is_undefined v
-same_undefined undefined = refl
-same_undefined none = refl
-same_undefined (bool b) = refl
-same_undefined (int z) = refl
-same_undefined (text t s) = refl
-same_undefined (bytes t) = refl
-same_undefined (array vs) = refl
-same_undefined (map es) = refl
+same_undefined v = (eq_by_cmp_equiv order_total).symm v undefined ∙ undefined_is_same v
 
 pub undefined_stands : (v : Val) → checked_order undefined v ≡ None
 undefined_stands v = refl
 
 pub stands_undefined : (v : Val) → checked_order v undefined ≡ None
-stands_undefined undefined = refl
-stands_undefined none = refl
-stands_undefined (bool b) = refl
-stands_undefined (int z) = refl
-stands_undefined (text t s) = refl
-stands_undefined (bytes t) = refl
-stands_undefined (array vs) = refl
-stands_undefined (map es) = refl
+stands_undefined v = ap (λ (b : Bool). cond b (Some (order v undefined)) None) (comparable_sym v undefined)

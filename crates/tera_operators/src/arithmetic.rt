@@ -44,65 +44,60 @@ fn divisor(alloc: Global, file: &str, left: &Operand, right: &Operand) -> TeraRe
     Ok(divisor)
 }
 
-/// The number, or the fault, at the combined span.
-#[inline(always)]
-pub(crate) fn combined(
-    alloc: Global,
-    file: &str,
-    answer: TeraResult<Value>,
-    left: &Operand,
-    right: &Operand,
-) -> TeraResult<Operand>
-    ensures value { (meant : Result Val Fault) → Gives (λ v. v) answer meant →
-        Gives (λ o. o) result (combined file.now left.now right.now meant) }
-    ensures ready { IsOk answer → IsOk result }
-{
-    let span = spanning(left, right);
-    operand_or_fault(alloc, file, answer, span, span)
+/// The operands of an operator, and the file that they stand in.
+#[derive(Clone, Copy)]
+pub(crate) struct Operands<'a> {
+    pub file: &'a str,
+    pub left: &'a Operand,
+    pub right: &'a Operand,
 }
 
-/// The same of a calculation with two numbers: an operand that is none is the fault before all else. Only where the number was
-/// refused are the operands looked at, since what gives a number was given two.
-#[inline(always)]
-pub(crate) fn calculated(
-    alloc: Global,
-    file: &str,
-    answer: TeraResult<Value>,
-    left: &Operand,
-    right: &Operand,
-) -> TeraResult<Operand>
-    ensures value { (f : ℤ → ℤ → Result Val Fault) →
-        Gives (λ v. v) answer (on_integers f (integers left.now.value right.now.value)) →
-        Gives (λ o. o) result (calculated file.now (λ v w. on_integers f (integers v w))
-        left.now right.now) }
-    ensures ready { IsOk answer → IsOk result }
-{
-    if answer.is_err() {
-        numbers(alloc, file, left, right)?;
+impl<'a> Operands<'a> {
+    /// The number, or the fault, at the combined span.
+    #[inline(always)]
+    pub(crate) fn combined(self, alloc: Global, answer: TeraResult<Value>) -> TeraResult<Operand>
+        ensures value { (meant : Result Val Fault) → Gives (λ v. v) answer meant →
+            Gives (λ o. o) result (combined self.entry.file.now
+            self.entry.left.now self.entry.right.now meant) }
+        ensures ready { IsOk answer → IsOk result }
+    {
+        let span = spanning(self.left, self.right);
+        operand_or_fault(alloc, self.file, answer, span, span)
     }
-    combined(alloc, file, answer, left, right)
-}
 
-/// The same of a division, at whose zero divisor the fault is at the right operand.
-#[inline(always)]
-pub(crate) fn divided(
-    alloc: Global,
-    file: &str,
-    answer: TeraResult<Value>,
-    left: &Operand,
-    right: &Operand,
-) -> TeraResult<Operand>
-    ensures value { (f : ℤ → ℤ → Result Val Fault) →
-        let divide : Val → Val → Result Val Fault =
-        λ v w. on_integers (λ a b. unless_zero b (f a b)) (integers v w) in
-        Gives (λ v. v) answer (divide left.now.value right.now.value) →
-        Gives (λ o. o) result (divided file.now divide left.now right.now) }
-    ensures ready { IsOk answer → IsOk result }
-{
-    if answer.is_err() {
-        divisor(alloc, file, left, right)?;
+    /// The same of a calculation with two numbers: an operand that is none is the fault before all else. Only where the number
+    /// was refused are the operands looked at, since what gives a number was given two.
+    #[inline(always)]
+    pub(crate) fn calculated(self, alloc: Global, answer: TeraResult<Value>) -> TeraResult<Operand>
+        ensures value { (f : ℤ → ℤ → Result Val Fault) →
+            Gives (λ v. v) answer
+            (on_integers f (integers self.entry.left.now.value self.entry.right.now.value)) →
+            Gives (λ o. o) result (calculated self.entry.file.now
+            (λ v w. on_integers f (integers v w)) self.entry.left.now self.entry.right.now) }
+        ensures ready { IsOk answer → IsOk result }
+    {
+        if answer.is_err() {
+            numbers(alloc, self.file, self.left, self.right)?;
+        }
+        self.combined(alloc, answer)
     }
-    combined(alloc, file, answer, left, right)
+
+    /// The same of a division, at whose zero divisor the fault is at the right operand.
+    #[inline(always)]
+    pub(crate) fn divided(self, alloc: Global, answer: TeraResult<Value>) -> TeraResult<Operand>
+        ensures value { (f : ℤ → ℤ → Result Val Fault) →
+            let divide : Val → Val → Result Val Fault =
+            λ v w. on_integers (λ a b. unless_zero b (f a b)) (integers v w) in
+            Gives (λ v. v) answer (divide self.entry.left.now.value self.entry.right.now.value) →
+            Gives (λ o. o) result (divided self.entry.file.now divide
+            self.entry.left.now self.entry.right.now) }
+        ensures ready { IsOk answer → IsOk result }
+    {
+        if answer.is_err() {
+            divisor(alloc, self.file, self.left, self.right)?;
+        }
+        self.combined(alloc, answer)
+    }
 }
 
 /// `-operand`, at the operand's span, as its faults are.

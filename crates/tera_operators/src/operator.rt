@@ -3,7 +3,7 @@ ghost use Rattle.std.specs.Prelude.{◌≢◌, IsOk};
 ghost use Rattle.tera_errors.specs.Answer.{Gives};
 ghost use Rattle.tera_operators.specs.Operators.{binary_of};
 
-use crate::arithmetic::{calculated, combined, divided};
+use crate::arithmetic::Operands;
 use crate::membership::is_in;
 use crate::operand::Operand;
 use crate::text::concatenate;
@@ -28,14 +28,15 @@ pub fn binary(
         IsOk (binary_of file.now operator left.now right.now span) → IsOk result }
 {
     let (a, b) = (left.value(), right.value());
+    let operands = Operands { file, left, right };
     match operator {
-        BinaryOperator::Add => combined(alloc, file, add(alloc, a, b), left, right),
-        BinaryOperator::Subtract => calculated(alloc, file, sub(alloc, a, b), left, right),
-        BinaryOperator::Multiply => calculated(alloc, file, mul(alloc, a, b), left, right),
-        BinaryOperator::Power => calculated(alloc, file, pow(alloc, a, b), left, right),
-        BinaryOperator::Divide => divided(alloc, file, div(alloc, a, b), left, right),
-        BinaryOperator::FloorDivide => divided(alloc, file, floor_div(alloc, a, b), left, right),
-        BinaryOperator::Remainder => divided(alloc, file, rem(alloc, a, b), left, right),
+        BinaryOperator::Add => operands.combined(alloc, add(alloc, a, b)),
+        BinaryOperator::Subtract => operands.calculated(alloc, sub(alloc, a, b)),
+        BinaryOperator::Multiply => operands.calculated(alloc, mul(alloc, a, b)),
+        BinaryOperator::Power => operands.calculated(alloc, pow(alloc, a, b)),
+        BinaryOperator::Divide => operands.divided(alloc, div(alloc, a, b)),
+        BinaryOperator::FloorDivide => operands.divided(alloc, floor_div(alloc, a, b)),
+        BinaryOperator::Remainder => operands.divided(alloc, rem(alloc, a, b)),
         BinaryOperator::Concat => concatenate(alloc, left, right),
         BinaryOperator::Equal
         | BinaryOperator::NotEqual

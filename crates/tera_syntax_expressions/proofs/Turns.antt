@@ -12,6 +12,7 @@ use Rattle.tera_syntax_tokens.specs.Token.{Token}
 use Rattle.tera_syntax_tokens.specs.declared.token.Kind.{Kind}
 use Rattle.tera_syntax_tokens.specs.declared.token.Kind.TheVariants.{LeftParenthesis, RightParenthesis, RightBracket, RightBrace, Comma, Spread}
 use Rattle.tera_syntax_tokens.specs.Input.{Input, Parsed, Parser, and_then, kind, next, after, same, start, starts, start_of, expect}
+use Rattle.tera_syntax_expressions.specs.Commas.{comma_or}
 use Rattle.tera_syntax_expressions.specs.Expressions.{Deep, join_items, one_item, join_entries, one_entry, entry_key, entry_rest, entries_from, behind_dots, behind_item, items_from, expr, level, climb, goes_on, gives, operation, floor_in, opened}
 
 pub one_more : {X : Type 0} {x : X} (f : ℕ → X) (n at : ℕ) → at < n → x ≡ f (n - at) → x ≡ f (suc (n - (at + 1)))
@@ -98,13 +99,19 @@ pub behind_these : {A : Type 0} {meant : Parsed (A × ℕ)} (closing : Kind) (mo
     → all ≡ found → most ≡ d → Behind meant closing (λ (p : A × ℕ). more p.0 p.1) (all, most) j
 behind_these closing more j e f g = record { is = e ∙ ap₂ (λ found d. behind closing (λ (p : _ × ℕ). more p.0 p.1) (found, d) j) (sym f) (sym g) }
 
-pub goes_on_behind : {S : Type 0} {meant : Parsed S} {closing : Kind} {more : S → Parser S} {found : S} {j a : Input} → Behind meant closing more found j → same Comma (kind j) ≡ true → a ≡ next j
-    → meant ≡ more found a
-goes_on_behind {more = more} {found = found} b h e = b.is ∙ rw h (ap (more found) (sym e))
+-- what is read behind it
+pub read_behind : {S : Type 0} {meant : Parsed S} {closing : Kind} {more : S → Parser S} {found : S} {j : Input} {o : Parsed Bool} → Behind meant closing more found j → comma_or closing j ≡ o
+    → meant ≡ and_then o (λ is_comma. λ a. if is_comma then more found a else Some (found, a))
+unfolding comma_or
+read_behind {S = S} {closing = closing} {more = more} {found = found} {j = j} b e = b.is ∙ go (same Comma (kind j)) (expect closing j) ∙ ap (λ o. and_then o rest) e
+  where
+    rest : Bool → Parser S
+    rest is_comma = λ a. if is_comma then more found a else Some (found, a)
 
-pub closes_behind : {S : Type 0} {meant : Parsed S} {closing : Kind} {more : S → Parser S} {found : S} {j : Input} {o : Parsed (Unit {0})} → Behind meant closing more found j → same Comma (kind j) ≡ false
-    → expect closing j ≡ o → meant ≡ and_then o (λ done. λ a. Some (found, a))
-closes_behind {found = found} b h e = b.is ∙ rw h (ap (λ o. and_then o (λ done. λ a. Some (found, a))) e)
+    go : (c : Bool) (o : Parsed (Unit {0})) → (if c then more found (next j) else and_then o (λ done. λ a. Some (found, a))) ≡ and_then (if c then Some (true, next j) else and_then o (λ done. λ a. Some (false, a))) rest
+    go true o = refl
+    go false None = refl
+    go false (Some p) = refl
 
 -- A turn of the loop over items: what closes, no item, and an item with what is behind it
 module _ (limit : ℕ) (sub : ℕ → Parser Deep) {meant : Parsed (Items × ℕ)} (n at : ℕ) (found : Items) (d : ℕ) (i : Input) (lt : at < n) (turn : meant ≡ items_from limit sub (n - at) found d i) where
@@ -127,11 +134,6 @@ module _ (limit : ℕ) (sub : ℕ → Parser Deep) {meant : Parsed (Items × ℕ
 pub refused : {Y Z : Type 0} {part : Option Y} {meant : Option Z} (r : Refusal) → (part ≡ None → meant ≡ None) → Refuses part r → Refuses meant r
 refused (Syntax why place) f h = f h
 refused OutOfMemory f h = tt
-
--- where nothing closes behind a part, the whole is refused
-pub refused_behind : {S : Type 0} {meant : Parsed S} {closing : Kind} {more : S → Parser S} {found : S} {j : Input} (r : Refusal) → Behind meant closing more found j → same Comma (kind j) ≡ false
-    → Refuses (expect closing j) r → Refuses meant r
-refused_behind r b h e = refused r (closes_behind b h) e
 
 -- rows of entries
 pub entries_of-push : (all : List entry.Entry) (i : entry.Entry) → entries_of (all ++ i ∷ []) ≡ join_entries (entries_of all) (one_entry (literal_option i.key) (expr_of i.value))

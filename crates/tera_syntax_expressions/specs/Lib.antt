@@ -1,5 +1,6 @@
 pub mod Applications
 pub mod Keys
+pub mod Commas
 pub mod Loops
 pub mod Headings
 pub mod Arguments

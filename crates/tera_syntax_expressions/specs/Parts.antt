@@ -47,6 +47,10 @@ pub record Nests (limit : ℕ) (pre : Global → MutBor Tokens → ℕ → ℕ �
   pub reads : (alloc : Global) (old new : MutBor Tokens) (floor : ℕ) (r : Result declared.Deep Refusal) → post alloc old limit floor r new
       → Takes deep_of (expr limit floor (input old.now)) r new.now
 
+-- a part was put among those that were there, and its depth is the answer
+abbrev pub TakesPart : {A S : Type 0} → (List A → S) → (S → Parser (S × ℕ)) → Vec A Global → Vec A Global → Input → Result ℕ Refusal → Tokens → Type 0
+TakesPart view meant old parts i r new = Takes (λ d. (view parts.items, d)) (meant (view old.items) i) r new
+
 -- an item was read behind those that were there, and its depth is the answer
 abbrev pub TakesItem : Parsed Deep → Bool → List item.Item → List item.Item → Result ℕ Refusal → Tokens → Type 0
 TakesItem meant is_spread old items (Ok d) new = (x : Deep) × (meant ≡ Some (x, input new)) × (x.depth ≡ d) × (items_of items ≡ join_items (items_of old) (one_item is_spread x.expr))

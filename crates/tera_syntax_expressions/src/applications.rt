@@ -6,7 +6,7 @@ ghost use Rattle.tera_syntax_expressions.specs.Arguments as call;
 ghost use Rattle.tera_syntax_expressions.specs.Expressions as spec;
 ghost use Rattle.tera_syntax_expressions.specs.Parts.{Nests, deep_of};
 
-use crate::expressions::{Deep, Read};
+use crate::expressions::{Deep, Read, Row};
 use crate::making::Application;
 use crate::reader::Reader;
 use std::alloc::Global;
@@ -61,10 +61,7 @@ impl<'s, F: Fn(Global, &mut Tokens<'_, 's>, usize, u8) -> Read<'s>> Reader<F> {
 
     /// The arguments behind a name, if they are written, and the greatest depth.
     #[tactic(auto, unfolding(crate::specs::Expressions::given))]
-    pub(crate) fn given(
-        &self,
-        tokens: &mut Tokens<'_, 's>,
-    ) -> Result<(Vec<Argument<'s>>, usize), Refusal>
+    pub(crate) fn given(&self, tokens: &mut Tokens<'_, 's>) -> Row<Argument<'s>>
         requires { Nests self.now.below (F.pre self.now.expr) (F.post self.now.expr) }
         ensures { let meant = spec.given self.now.limit (spec.expr self.now.below) in
             Takes (λ p. (arguments_of p.0.items, p.1)) (meant (input tokens.old))

@@ -6,9 +6,10 @@ ghost use Rattle.tera_syntax_tokens.specs.Input.{left, text};
 ghost use Rattle.tera_syntax_tokens.specs.Takes.{Takes, input};
 ghost use Rattle.tera_syntax_expressions.specs.Arguments as call;
 ghost use Rattle.tera_syntax_expressions.specs.Expressions as spec;
-ghost use Rattle.tera_syntax_expressions.specs.Parts.{Nests, deep_of, place_of};
+ghost use Rattle.tera_syntax_expressions.specs.Parts.{Nests, TakesPart, deep_of, place_of};
 
-use crate::expressions::{Deep, Read};
+use crate::collections::take_comma;
+use crate::expressions::{Deep, Depth, Read, Row};
 use crate::levels::kinds;
 use crate::reader::{Reader, larger};
 use std::alloc::{AllocError, Global};
@@ -38,10 +39,7 @@ impl<'s, F: Fn(Global, &mut Tokens<'_, 's>, usize, u8) -> Read<'s>> Reader<F> {
 
     /// Arguments with commas between, up to a parenthesis, and the greatest depth.
     #[tactic(auto, unfolding(crate::specs::Expressions::arguments_from))]
-    pub(crate) fn arguments(
-        &self,
-        tokens: &mut Tokens<'_, 's>,
-    ) -> Result<(Vec<Argument<'s>>, usize), Refusal>
+    pub(crate) fn arguments(&self, tokens: &mut Tokens<'_, 's>) -> Row<Argument<'s>>
         requires { Nests self.now.below (F.pre self.now.expr) (F.post self.now.expr) }
         ensures { let meant = spec.arguments_from self.now.limit (spec.expr self.now.below)
             (left (input tokens.old)) NoArguments 0 (input tokens.old) in
@@ -59,28 +57,21 @@ impl<'s, F: Fn(Global, &mut Tokens<'_, 's>, usize, u8) -> Read<'s>> Reader<F> {
                 Err(refusal) => return Err(refusal),
             };
             depth = larger(depth, x);
-            if !same(Kind::Comma, tokens.kind()) {
-                match tokens.expect(Kind::RightParenthesis) {
-                    Ok(()) => return Ok((found, depth)),
-                    Err(refusal) => return Err(refusal),
-                }
+            match take_comma(tokens, Kind::RightParenthesis) {
+                Ok(true) => {}
+                Ok(false) => return Ok((found, depth)),
+                Err(refusal) => return Err(refusal),
             }
-            tokens.take();
         }
         Err(tokens.refuse(Reason::Expected(Kind::RightParenthesis)))
     }
 
     /// An argument, at its place among those that were read, and its depth.
     #[tactic(auto, unfolding(crate::specs::Expressions::argument))]
-    pub(crate) fn argument(
-        &self,
-        tokens: &mut Tokens<'_, 's>,
-        found: &mut Vec<Argument<'s>>,
-    ) -> Result<usize, Refusal>
+    fn argument(&self, tokens: &mut Tokens<'_, 's>, found: &mut Vec<Argument<'s>>) -> Depth
         requires { Nests self.now.below (F.pre self.now.expr) (F.post self.now.expr) }
-        ensures { let meant = spec.argument self.now.limit (spec.expr self.now.below)
-            (arguments_of found.old.items) (input tokens.old) in
-            Takes (λ d. (arguments_of found.new.items, d)) meant result tokens.new }
+        ensures { TakesPart arguments_of (spec.argument self.now.limit (spec.expr self.now.below))
+            found.old found.new (input tokens.old) result tokens.new }
     {
         let name = tokens.text();
         let at = match place(found.as_slice(), name) {

@@ -4,11 +4,12 @@ ghost use Rattle.tera_syntax_tree.specs.Tree.{NoEntries};
 ghost use Rattle.tera_syntax_tree.specs.View.{items_of, entries_of, literal_option};
 ghost use Rattle.tera_syntax_tokens.specs.Input.{kind, left, same};
 ghost use Rattle.tera_syntax_tokens.specs.Takes.{Takes, input};
+ghost use Rattle.tera_syntax_expressions.specs.Commas.{comma_or};
 ghost use Rattle.tera_syntax_expressions.specs.Expressions as spec;
 ghost use Rattle.tera_syntax_expressions.specs.Keys.{key_at};
 ghost use Rattle.tera_syntax_expressions.specs.Parts.{TakesItem, TakesEntry, Nests, deep_of};
 
-use crate::expressions::{Deep, Read};
+use crate::expressions::{Deep, Depth, Read, Row};
 use crate::reader::{Reader, larger};
 use std::alloc::{AllocError, Global};
 use tera_syntax_tokens::input::{Tokens, same};
@@ -19,7 +20,7 @@ use tera_syntax_tree::{Entry, Expression, Item, LiteralKey};
 
 impl<'s, F: Fn(Global, &mut Tokens<'_, 's>, usize, u8) -> Read<'s>> Reader<F> {
     /// What stands behind a bracket: an array, or a comprehension where `for` follows the first expression.
-    #[tactic(auto, unfolding(crate::specs::Expressions::bracketed))]
+    #[tactic(auto, unfolding(crate::specs::Expressions::bracketed, crate::specs::Expressions::array))]
     pub(crate) fn bracketed(&self, tokens: &mut Tokens<'_, 's>, start: usize) -> Read<'s>
         requires { Nests self.now.below (F.pre self.now.expr) (F.post self.now.expr) }
         ensures { let meant = spec.bracketed self.now.limit (spec.expr self.now.below) start in
@@ -33,25 +34,8 @@ impl<'s, F: Fn(Global, &mut Tokens<'_, 's>, usize, u8) -> Read<'s>> Reader<F> {
         let is_spread = take_dots(tokens);
         let x = self.sub(tokens, 0)?;
         if !is_spread && same(Kind::For, tokens.kind()) {
-            self.comprehension(tokens, start, x)
-        } else {
-            self.array(tokens, start, is_spread, x)
+            return self.comprehension(tokens, start, x);
         }
-    }
-
-    /// `[x, ..]`, from behind the first item.
-    #[tactic(auto, unfolding(crate::specs::Expressions::array))]
-    pub(crate) fn array(
-        &self,
-        tokens: &mut Tokens<'_, 's>,
-        start: usize,
-        is_spread: bool,
-        x: Deep<'s>,
-    ) -> Read<'s>
-        requires { Nests self.now.below (F.pre self.now.expr) (F.post self.now.expr) }
-        ensures { let meant = spec.array self.now.limit (spec.expr self.now.below) start is_spread
-            (deep_of x.entry) in Takes deep_of (meant (input tokens.old)) result tokens.new }
-    {
         let mut found = Vec::new(self.alloc);
         let depth = x.depth;
         found.push(Item {
@@ -70,7 +54,7 @@ impl<'s, F: Fn(Global, &mut Tokens<'_, 's>, usize, u8) -> Read<'s>> Reader<F> {
         tokens: &mut Tokens<'_, 's>,
         found: Vec<Item<'s>>,
         depth: usize,
-    ) -> Result<(Vec<Item<'s>>, usize), Refusal>
+    ) -> Row<Item<'s>>
         requires { Nests self.now.below (F.pre self.now.expr) (F.post self.now.expr) }
         ensures { let meant = spec.items_behind self.now.limit (spec.expr self.now.below)
             (items_of found.entry.items) depth in
@@ -91,7 +75,7 @@ impl<'s, F: Fn(Global, &mut Tokens<'_, 's>, usize, u8) -> Read<'s>> Reader<F> {
         tokens: &mut Tokens<'_, 's>,
         mut found: Vec<Item<'s>>,
         mut depth: usize,
-    ) -> Result<(Vec<Item<'s>>, usize), Refusal>
+    ) -> Row<Item<'s>>
         requires { Nests self.now.below (F.pre self.now.expr) (F.post self.now.expr) }
         ensures { let meant = spec.items_from self.now.limit (spec.expr self.now.below)
             (left (input tokens.old)) (items_of found.entry.items) depth in
@@ -107,23 +91,17 @@ impl<'s, F: Fn(Global, &mut Tokens<'_, 's>, usize, u8) -> Read<'s>> Reader<F> {
                 Err(refusal) => return Err(refusal),
             };
             depth = larger(depth, x);
-            if !same(Kind::Comma, tokens.kind()) {
-                match tokens.expect(Kind::RightBracket) {
-                    Ok(()) => return Ok((found, depth)),
-                    Err(refusal) => return Err(refusal),
-                }
+            match take_comma(tokens, Kind::RightBracket) {
+                Ok(true) => {}
+                Ok(false) => return Ok((found, depth)),
+                Err(refusal) => return Err(refusal),
             }
-            tokens.take();
         }
         Err(tokens.refuse(Reason::Expected(Kind::RightBracket)))
     }
 
     /// An item, behind those that were read, and its depth.
-    pub(crate) fn item(
-        &self,
-        tokens: &mut Tokens<'_, 's>,
-        found: &mut Vec<Item<'s>>,
-    ) -> Result<usize, Refusal>
+    fn item(&self, tokens: &mut Tokens<'_, 's>, found: &mut Vec<Item<'s>>) -> Depth
         requires { Nests self.now.below (F.pre self.now.expr) (F.post self.now.expr) }
         ensures { TakesItem (spec.expr self.now.below 0 (spec.behind_dots (input tokens.old)))
             (same Kind.Spread (kind (input tokens.old)))
@@ -154,10 +132,7 @@ impl<'s, F: Fn(Global, &mut Tokens<'_, 's>, usize, u8) -> Read<'s>> Reader<F> {
 
     /// Entries with commas between, up to a brace, and the greatest depth.
     #[tactic(auto, unfolding(crate::specs::Expressions::entries_from))]
-    pub(crate) fn entries(
-        &self,
-        tokens: &mut Tokens<'_, 's>,
-    ) -> Result<(Vec<Entry<'s>>, usize), Refusal>
+    pub(crate) fn entries(&self, tokens: &mut Tokens<'_, 's>) -> Row<Entry<'s>>
         requires { Nests self.now.below (F.pre self.now.expr) (F.post self.now.expr) }
         ensures { Takes (λ p. (entries_of p.0.items, p.1))
             (spec.entries_from self.now.limit (spec.expr self.now.below) (left (input tokens.old))
@@ -175,23 +150,17 @@ impl<'s, F: Fn(Global, &mut Tokens<'_, 's>, usize, u8) -> Read<'s>> Reader<F> {
                 Err(refusal) => return Err(refusal),
             };
             depth = larger(depth, x);
-            if !same(Kind::Comma, tokens.kind()) {
-                match tokens.expect(Kind::RightBrace) {
-                    Ok(()) => return Ok((found, depth)),
-                    Err(refusal) => return Err(refusal),
-                }
+            match take_comma(tokens, Kind::RightBrace) {
+                Ok(true) => {}
+                Ok(false) => return Ok((found, depth)),
+                Err(refusal) => return Err(refusal),
             }
-            tokens.take();
         }
         Err(tokens.refuse(Reason::Expected(Kind::RightBrace)))
     }
 
     /// An entry, behind those that were read, and its depth.
-    pub(crate) fn entry(
-        &self,
-        tokens: &mut Tokens<'_, 's>,
-        found: &mut Vec<Entry<'s>>,
-    ) -> Result<usize, Refusal>
+    fn entry(&self, tokens: &mut Tokens<'_, 's>, found: &mut Vec<Entry<'s>>) -> Depth
         requires { Nests self.now.below (F.pre self.now.expr) (F.post self.now.expr) }
         ensures { TakesEntry (spec.entry_key (input tokens.old)) (spec.expr self.now.below 0)
             found.old.items found.new.items result tokens.new }
@@ -268,4 +237,18 @@ pub(crate) fn take_dots(tokens: &mut Tokens<'_, '_>) -> bool
     } else {
         false
     }
+}
+
+/// Takes the comma behind a part, and otherwise what closes: whether it was a comma.
+#[inline(always)]
+#[tactic(auto, unfolding(crate::specs::Commas::comma_or))]
+pub(crate) fn take_comma(tokens: &mut Tokens<'_, '_>, closing: Kind) -> Result<bool, Refusal>
+    ensures { Takes (λ more. more) (comma_or closing (input tokens.old)) result tokens.new }
+{
+    if same(Kind::Comma, tokens.kind()) {
+        tokens.take();
+        return Ok(true);
+    }
+    tokens.expect(closing)?;
+    Ok(false)
 }

@@ -6,10 +6,10 @@ ghost use Rattle.tera_syntax_tokens.specs.Input.{left};
 ghost use Rattle.tera_syntax_tokens.specs.Takes.{Takes, input};
 ghost use Rattle.tera_syntax_expressions.specs.Arguments as call;
 ghost use Rattle.tera_syntax_expressions.specs.Expressions as spec;
-ghost use Rattle.tera_syntax_expressions.specs.Parts.{Nests, deep_of};
+ghost use Rattle.tera_syntax_expressions.specs.Parts.{Nests, TakesPart, deep_of};
 
 use crate::arguments::argument_name;
-use crate::expressions::{Deep, Read, expr};
+use crate::expressions::{Deep, Depth, Read, Row, expr};
 use crate::reader::{Reader, larger};
 use std::alloc::Global;
 use tera_syntax_tokens::input::{Tokens, is_word, same};
@@ -86,10 +86,7 @@ impl<'s, F: Fn(Global, &mut Tokens<'_, 's>, usize, u8) -> Read<'s>> Reader<F> {
 
     /// Attributes up to where none begins, and the greatest depth.
     #[tactic(auto, unfolding(crate::specs::Expressions::attributes_from))]
-    pub(crate) fn attributes(
-        &self,
-        tokens: &mut Tokens<'_, 's>,
-    ) -> Result<(Vec<Entry<'s>>, usize), Refusal>
+    pub(crate) fn attributes(&self, tokens: &mut Tokens<'_, 's>) -> Row<Entry<'s>>
         requires { Nests self.now.below (F.pre self.now.expr) (F.post self.now.expr) }
         ensures { let meant = spec.attributes_from self.now.limit (spec.expr self.now.below)
             (left (input tokens.old)) NoEntries 0 (input tokens.old) in
@@ -112,15 +109,10 @@ impl<'s, F: Fn(Global, &mut Tokens<'_, 's>, usize, u8) -> Read<'s>> Reader<F> {
 
     /// An attribute, behind those that were read, and its depth.
     #[tactic(auto, unfolding(crate::specs::Expressions::any_attribute))]
-    pub(crate) fn any_attribute(
-        &self,
-        tokens: &mut Tokens<'_, 's>,
-        found: &mut Vec<Entry<'s>>,
-    ) -> Result<usize, Refusal>
+    fn any_attribute(&self, tokens: &mut Tokens<'_, 's>, found: &mut Vec<Entry<'s>>) -> Depth
         requires { Nests self.now.below (F.pre self.now.expr) (F.post self.now.expr) }
-        ensures { let meant = spec.any_attribute self.now.limit (spec.expr self.now.below)
-            (entries_of found.old.items) (input tokens.old) in
-            Takes (λ d. (entries_of found.new.items, d)) meant result tokens.new }
+        ensures { let meant = spec.any_attribute self.now.limit (spec.expr self.now.below) in
+            TakesPart entries_of meant found.old found.new (input tokens.old) result tokens.new }
     {
         if same(Kind::LeftBrace, tokens.kind()) {
             tokens.take();
@@ -132,15 +124,10 @@ impl<'s, F: Fn(Global, &mut Tokens<'_, 's>, usize, u8) -> Read<'s>> Reader<F> {
 
     /// `name="text"` or `name={x}`
     #[tactic(auto, unfolding(crate::specs::Expressions::named_attribute))]
-    pub(crate) fn named_attribute(
-        &self,
-        tokens: &mut Tokens<'_, 's>,
-        found: &mut Vec<Entry<'s>>,
-    ) -> Result<usize, Refusal>
+    fn named_attribute(&self, tokens: &mut Tokens<'_, 's>, found: &mut Vec<Entry<'s>>) -> Depth
         requires { Nests self.now.below (F.pre self.now.expr) (F.post self.now.expr) }
-        ensures { let meant = spec.named_attribute self.now.limit (spec.expr self.now.below)
-            (entries_of found.old.items) (input tokens.old) in
-            Takes (λ d. (entries_of found.new.items, d)) meant result tokens.new }
+        ensures { let meant = spec.named_attribute self.now.limit (spec.expr self.now.below) in
+            TakesPart entries_of meant found.old found.new (input tokens.old) result tokens.new }
     {
         let name = tokens.text();
         match argument_name(tokens) {
@@ -159,15 +146,10 @@ impl<'s, F: Fn(Global, &mut Tokens<'_, 's>, usize, u8) -> Read<'s>> Reader<F> {
 
     /// `{...x}`, from behind its brace.
     #[tactic(auto, unfolding(crate::specs::Expressions::spread_attribute))]
-    pub(crate) fn spread_attribute(
-        &self,
-        tokens: &mut Tokens<'_, 's>,
-        found: &mut Vec<Entry<'s>>,
-    ) -> Result<usize, Refusal>
+    fn spread_attribute(&self, tokens: &mut Tokens<'_, 's>, found: &mut Vec<Entry<'s>>) -> Depth
         requires { Nests self.now.below (F.pre self.now.expr) (F.post self.now.expr) }
-        ensures { let meant = spec.spread_attribute self.now.limit (spec.expr self.now.below)
-            (entries_of found.old.items) (input tokens.old) in
-            Takes (λ d. (entries_of found.new.items, d)) meant result tokens.new }
+        ensures { let meant = spec.spread_attribute self.now.limit (spec.expr self.now.below) in
+            TakesPart entries_of meant found.old found.new (input tokens.old) result tokens.new }
     {
         match tokens.expect(Kind::Spread) {
             Ok(()) => {}

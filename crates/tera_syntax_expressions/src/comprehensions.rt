@@ -3,7 +3,7 @@ ghost use Rattle.std.specs.Prelude.{◌≡◌, option_copied};
 ghost use Rattle.tera_syntax_tree.specs.View.{expr_of};
 ghost use Rattle.tera_syntax_tokens.specs.Takes.{Takes, input};
 ghost use Rattle.tera_syntax_expressions.specs.Expressions as spec;
-ghost use Rattle.tera_syntax_expressions.specs.Parts.{Nests, deep_of, names_of, part_of};
+ghost use Rattle.tera_syntax_expressions.specs.Parts.{Nests, deep_of, part_of};
 
 use crate::expressions::{Deep, Read};
 use crate::headings::{LoopNames, names};
@@ -17,7 +17,7 @@ use tera_syntax_tree::{Collected, Expression, Heading};
 
 impl<'s, F: Fn(Global, &mut Tokens<'_, 's>, usize, u8) -> Read<'s>> Reader<F> {
     /// `[x for name in y]`, from `for` on.
-    #[tactic(auto, unfolding(crate::specs::Expressions::comprehension))]
+    #[tactic(auto, unfolding(crate::specs::Expressions::comprehension, crate::specs::Expressions::comprehension_made))]
     pub(crate) fn comprehension(
         &self,
         tokens: &mut Tokens<'_, 's>,
@@ -32,7 +32,20 @@ impl<'s, F: Fn(Global, &mut Tokens<'_, 's>, usize, u8) -> Read<'s>> Reader<F> {
         let names = names(tokens)?;
         let target = self.sub(tokens, 1)?;
         let only = self.condition(tokens)?;
-        self.comprehension_made(tokens, start, x, names, target, only)
+        tokens.expect(Kind::RightBracket)?;
+        let (a, b, c) = (x.depth, target.depth, only.depth);
+        let depth = larger(a, larger(b, c));
+        let collected = Collected {
+            value: x.expression,
+            heading: heading(names, target.expression),
+            condition: only.expression,
+        };
+        let collected = Box::new(self.alloc, collected)?;
+        self.node(
+            tokens,
+            depth,
+            Expression::comprehension(collected, tokens.span(start)),
+        )
     }
 
     /// The condition of a comprehension, if it is written, and how deep it is.
@@ -48,38 +61,6 @@ impl<'s, F: Fn(Global, &mut Tokens<'_, 's>, usize, u8) -> Read<'s>> Reader<F> {
         tokens.take();
         let x = self.sub(tokens, 1)?;
         Ok(present(self.alloc, x)?)
-    }
-
-    /// A comprehension whose parts were read, up to its bracket.
-    #[tactic(auto, unfolding(crate::specs::Expressions::comprehension_made))]
-    pub(crate) fn comprehension_made(
-        &self,
-        tokens: &mut Tokens<'_, 's>,
-        start: usize,
-        x: Deep<'s>,
-        names: LoopNames<'s>,
-        target: Deep<'s>,
-        only: Part<'s>,
-    ) -> Read<'s>
-        ensures { let meant = spec.comprehension_made self.now.limit (spec.expr self.now.below)
-            start (deep_of x.entry) (names_of names.entry)
-            (deep_of target.entry) (part_of only.entry) in
-            Takes deep_of (meant (input tokens.old)) result tokens.new }
-    {
-        tokens.expect(Kind::RightBracket)?;
-        let (a, b, c) = (x.depth, target.depth, only.depth);
-        let depth = larger(a, larger(b, c));
-        let collected = Collected {
-            value: x.expression,
-            heading: heading(names, target.expression),
-            condition: only.expression,
-        };
-        let collected = Box::new(self.alloc, collected)?;
-        self.node(
-            tokens,
-            depth,
-            Expression::comprehension(collected, tokens.span(start)),
-        )
     }
 }
 

@@ -4,9 +4,9 @@ ghost use Rattle.tera_syntax_tree.specs.View.{filters_of};
 ghost use Rattle.tera_syntax_tokens.specs.Input.{left};
 ghost use Rattle.tera_syntax_tokens.specs.Takes.{Takes, input};
 ghost use Rattle.tera_syntax_expressions.specs.Expressions as spec;
-ghost use Rattle.tera_syntax_expressions.specs.Parts.{Nests};
+ghost use Rattle.tera_syntax_expressions.specs.Parts.{Nests, TakesPart};
 
-use crate::expressions::{Deep, Read, expr};
+use crate::expressions::{Deep, Depth, Read, Row, expr};
 use crate::reader::{Reader, larger};
 use std::alloc::Global;
 use tera_syntax_tokens::input::{Tokens, is_word, same};
@@ -39,10 +39,7 @@ pub fn filters<'s>(
 impl<'s, F: Fn(Global, &mut Tokens<'_, 's>, usize, u8) -> Read<'s>> Reader<F> {
     /// Filters with bars between, and the greatest depth.
     #[tactic(auto, unfolding(crate::specs::Expressions::filters_from))]
-    pub(crate) fn filters(
-        &self,
-        tokens: &mut Tokens<'_, 's>,
-    ) -> Result<(Vec<SectionFilter<'s>>, usize), Refusal>
+    pub(crate) fn filters(&self, tokens: &mut Tokens<'_, 's>) -> Row<SectionFilter<'s>>
         requires { Nests self.now.below (F.pre self.now.expr) (F.post self.now.expr) }
         ensures { let meant = spec.filters_from self.now.limit (spec.expr self.now.below)
             (left (input tokens.old)) NoFilters 0 (input tokens.old) in
@@ -66,15 +63,14 @@ impl<'s, F: Fn(Global, &mut Tokens<'_, 's>, usize, u8) -> Read<'s>> Reader<F> {
 
     /// A filter, behind those that were read, and its depth.
     #[tactic(auto, unfolding(crate::specs::Expressions::section_filter))]
-    pub(crate) fn section_filter(
+    fn section_filter(
         &self,
         tokens: &mut Tokens<'_, 's>,
         found: &mut Vec<SectionFilter<'s>>,
-    ) -> Result<usize, Refusal>
+    ) -> Depth
         requires { Nests self.now.below (F.pre self.now.expr) (F.post self.now.expr) }
-        ensures { let meant = spec.section_filter self.now.limit (spec.expr self.now.below)
-            (filters_of found.old.items) (input tokens.old) in
-            Takes (λ d. (filters_of found.new.items, d)) meant result tokens.new }
+        ensures { let meant = spec.section_filter self.now.limit (spec.expr self.now.below) in
+            TakesPart filters_of meant found.old found.new (input tokens.old) result tokens.new }
     {
         if !is_word(tokens.kind()) {
             return Err(tokens.refuse(Reason::Expected(Kind::Name)));

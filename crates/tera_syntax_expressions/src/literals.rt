@@ -6,7 +6,7 @@ ghost use Rattle.tera_syntax_tokens.specs.Input.{kind};
 ghost use Rattle.tera_syntax_tokens.specs.Takes.{Takes, input};
 ghost use Rattle.tera_syntax_expressions.specs.Literals as spec;
 
-use crate::collections::key_at;
+use crate::collections::{key_at, take_comma};
 use std::alloc::{AllocError, Global};
 use tera_syntax_tokens::input::{Tokens, same};
 use tera_syntax_tokens::literal::{integer, literal};
@@ -78,13 +78,11 @@ fn items<'s>(
             Ok(()) => {}
             Err(refusal) => return Err(refusal),
         }
-        if !same(Kind::Comma, tokens.kind()) {
-            match tokens.expect(Kind::RightBracket) {
-                Ok(()) => return Ok(found),
-                Err(refusal) => return Err(refusal),
-            }
+        match take_comma(tokens, Kind::RightBracket) {
+            Ok(true) => {}
+            Ok(false) => return Ok(found),
+            Err(refusal) => return Err(refusal),
         }
-        tokens.take();
     }
     Err(tokens.refuse(Reason::Expected(Kind::RightBracket)))
 }
@@ -128,13 +126,11 @@ fn entries<'s>(
             Ok(()) => {}
             Err(refusal) => return Err(refusal),
         }
-        if !same(Kind::Comma, tokens.kind()) {
-            match tokens.expect(Kind::RightBrace) {
-                Ok(()) => return Ok(found),
-                Err(refusal) => return Err(refusal),
-            }
+        match take_comma(tokens, Kind::RightBrace) {
+            Ok(true) => {}
+            Ok(false) => return Ok(found),
+            Err(refusal) => return Err(refusal),
         }
-        tokens.take();
     }
     Err(tokens.refuse(Reason::Expected(Kind::RightBrace)))
 }

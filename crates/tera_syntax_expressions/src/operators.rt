@@ -98,7 +98,7 @@ impl<'s, F: Fn(Global, &mut Tokens<'_, 's>, usize, u8) -> Read<'s>> Reader<F> {
     }
 
     /// `x if y else z`, from `if` on.
-    #[tactic(auto, unfolding(crate::specs::Expressions::choice))]
+    #[tactic(auto, unfolding(crate::specs::Expressions::choice, crate::specs::Expressions::other))]
     pub(crate) fn choice(&self, tokens: &mut Tokens<'_, 's>, start: usize, x: Deep<'s>) -> Read<'s>
         requires { Nests self.now.below (F.pre self.now.expr) (F.post self.now.expr) }
         ensures { Takes deep_of (spec.choice self.now.limit (spec.expr self.now.below) start
@@ -107,22 +107,6 @@ impl<'s, F: Fn(Global, &mut Tokens<'_, 's>, usize, u8) -> Read<'s>> Reader<F> {
         tokens.take();
         let y = self.sub(tokens, 1)?;
         tokens.expect(Kind::Else)?;
-        self.other(tokens, start, x, y)
-    }
-
-    /// What stands behind `else`.
-    #[tactic(auto, unfolding(crate::specs::Expressions::other))]
-    pub(crate) fn other(
-        &self,
-        tokens: &mut Tokens<'_, 's>,
-        start: usize,
-        x: Deep<'s>,
-        y: Deep<'s>,
-    ) -> Read<'s>
-        requires { Nests self.now.below (F.pre self.now.expr) (F.post self.now.expr) }
-        ensures { Takes deep_of (spec.other self.now.limit (spec.expr self.now.below) start
-            (deep_of x.entry) (deep_of y.entry) (input tokens.old)) result tokens.new }
-    {
         let z = self.sub(tokens, 0)?;
         let (a, b, c) = (x.depth, y.depth, z.depth);
         let depth = larger(a, larger(b, c));

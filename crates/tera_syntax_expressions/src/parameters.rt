@@ -17,6 +17,9 @@ use tera_syntax_tokens::refusal::{Reason, Refusal};
 use tera_syntax_tokens::token::Kind;
 use tera_syntax_tree::{ArgumentType, Literal, Parameter, Signature};
 
+/// What reading parameters gives: each, and the name of what takes all other arguments.
+type Parameters<'s> = Result<(Vec<Parameter<'s>>, Option<&'s str>), Refusal>;
+
 /// A component's name and its parameters in parentheses, with defaults no deeper than `limit`.
 #[tactic(auto, unfolding(crate::specs::Parameters::signature, crate::specs::Parameters::signature_from))]
 pub fn signature<'s>(
@@ -47,11 +50,7 @@ pub fn signature<'s>(
 
 /// What stands in the parentheses.
 #[tactic(auto, unfolding(crate::specs::Parameters::all_parameters))]
-fn all_parameters<'s>(
-    alloc: Global,
-    tokens: &mut Tokens<'_, 's>,
-    limit: usize,
-) -> Result<(Vec<Parameter<'s>>, Option<&'s str>), Refusal>
+fn all_parameters<'s>(alloc: Global, tokens: &mut Tokens<'_, 's>, limit: usize) -> Parameters<'s>
     ensures { let meant = spec.all_parameters limit (input tokens.old) in
         Takes parameters_of meant result tokens.new }
 {
@@ -63,11 +62,7 @@ fn all_parameters<'s>(
 
 /// Parameters with commas between, and last at will the name of what takes all other arguments.
 #[tactic(auto, unfolding(crate::specs::Parameters::parameters_from))]
-fn parameters<'s>(
-    alloc: Global,
-    tokens: &mut Tokens<'_, 's>,
-    limit: usize,
-) -> Result<(Vec<Parameter<'s>>, Option<&'s str>), Refusal>
+fn parameters<'s>(alloc: Global, tokens: &mut Tokens<'_, 's>, limit: usize) -> Parameters<'s>
     ensures { let i = input tokens.old in
         Takes parameters_of (spec.parameters_from limit (left i) [] i) result tokens.new }
 {

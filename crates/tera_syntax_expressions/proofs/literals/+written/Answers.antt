@@ -1,12 +1,12 @@
 use Rattle.std.proofs.Common.{◌-◌, ◌+◌, ap, sym, ◌∙◌, Some, refl}
 use Rattle.tera_syntax_tree.specs.Tree.{NoLiterals, NoLiteralEntries}
 use Rattle.tera_syntax_tree.specs.View.{literal_entries_of, literals_of}
-use Rattle.tera_syntax_tokens.specs.declared.token.Kind.TheVariants.{RightBracket, RightBrace, Comma}
+use Rattle.tera_syntax_tokens.specs.declared.token.Kind.TheVariants.{RightBracket, RightBrace}
 use Rattle.tera_syntax_tokens.specs.Input.{same}
 use Rattle.tera_syntax_tokens.specs.Takes.{input}
 use Rattle.tera_syntax_expressions.specs.Literals.{parts_from, written, written_item, written_items, written_entry, written_entries}
 use Rattle.tera_syntax_expressions.proofs.PartRows.{turn_first, turn_end, turn_part, turn_over, written_none, written_more, literals_of-push, literal_entries_of-push}
-use Rattle.tera_syntax_expressions.proofs.Turns.{tested, Behind, goes_on_behind, closes_behind, refused_behind, refused, refuses}
+use Rattle.tera_syntax_expressions.proofs.Turns.{tested, Behind, read_behind, refused, refuses}
 use Rattle.tera_syntax_expressions.proofs.literals.+written.Goals.{items-In-Ok, entries-In-Ok}
 use Rattle.tera_syntax_expressions.proofs.literals.+written.Goals as goal
 
@@ -31,22 +31,22 @@ pub entries-returns-in-Err : goal.entries-returns-in-Err
 entries-returns-in-Err t c = refused c.in-Err.refusal (turn_part RightBrace (written_entry (written c.args.limit)) _ _ (literal_entries_of c.loop-turn.found.items) (input c.loop-turn.tokens) c.loop-turn-test.true c.loop-turn.invariant (tested (same RightBrace) c.kind.ensures c.same.ensures c.if-same.false)) c.in-Err.ensures
 
 pub items-loop-turn-preserved : goal.items-loop-turn-preserved
-items-loop-turn-preserved t c = goes_on_behind (behind-item t (goal.at.items-loop-turn-preserved t c).In-Ok) (tested (same Comma) c.kind-in-loop-turn.ensures c.same-in-loop-turn.ensures c.if-not-same.false) c.take-in-loop-turn.ensures
+items-loop-turn-preserved t c = read_behind (behind-item t (goal.at.items-loop-turn-preserved t c).In-Ok) (rw c.in-Ok-true.field-0-test at c.in-Ok-true.ensures)
 
 pub entries-loop-turn-preserved : goal.entries-loop-turn-preserved
-entries-loop-turn-preserved t c = goes_on_behind (behind-entry t (goal.at.entries-loop-turn-preserved t c).In-Ok) (tested (same Comma) c.kind-in-loop-turn.ensures c.same-in-loop-turn.ensures c.if-not-same.false) c.take-in-loop-turn.ensures
+entries-loop-turn-preserved t c = read_behind (behind-entry t (goal.at.entries-loop-turn-preserved t c).In-Ok) (rw c.in-Ok-true.field-0-test at c.in-Ok-true.ensures)
 
-pub items-returns-in-Ok-expect : goal.items-returns-in-Ok-expect
-items-returns-in-Ok-expect t c = closes_behind (behind-item t (goal.at.items-returns-in-Ok-expect t c).In-Ok) (tested (same Comma) c.kind-in-loop-turn.ensures c.same-in-loop-turn.ensures c.if-not-same.true) c.in-Ok-expect.ensures
+pub items-returns-in-Ok-false : goal.items-returns-in-Ok-false
+items-returns-in-Ok-false t c = read_behind (behind-item t (goal.at.items-returns-in-Ok-false t c).In-Ok) (rw c.in-Ok-false.field-0-test at c.in-Ok-false.ensures)
 
-pub entries-returns-in-Ok-expect : goal.entries-returns-in-Ok-expect
-entries-returns-in-Ok-expect t c = closes_behind (behind-entry t (goal.at.entries-returns-in-Ok-expect t c).In-Ok) (tested (same Comma) c.kind-in-loop-turn.ensures c.same-in-loop-turn.ensures c.if-not-same.true) c.in-Ok-expect.ensures
+pub entries-returns-in-Ok-false : goal.entries-returns-in-Ok-false
+entries-returns-in-Ok-false t c = read_behind (behind-entry t (goal.at.entries-returns-in-Ok-false t c).In-Ok) (rw c.in-Ok-false.field-0-test at c.in-Ok-false.ensures)
 
-pub items-returns-in-Err-expect : goal.items-returns-in-Err-expect
-items-returns-in-Err-expect t c = refused_behind c.in-Err-expect.refusal (behind-item t (goal.at.items-returns-in-Err-expect t c).In-Ok) (tested (same Comma) c.kind-in-loop-turn.ensures c.same-in-loop-turn.ensures c.if-not-same.true) c.in-Err-expect.ensures
+pub items-returns-in-Err-take_comma : goal.items-returns-in-Err-take_comma
+items-returns-in-Err-take_comma t c = refused c.in-Err-take_comma.refusal (read_behind (behind-item t (goal.at.items-returns-in-Err-take_comma t c).In-Ok)) c.in-Err-take_comma.ensures
 
-pub entries-returns-in-Err-expect : goal.entries-returns-in-Err-expect
-entries-returns-in-Err-expect t c = refused_behind c.in-Err-expect.refusal (behind-entry t (goal.at.entries-returns-in-Err-expect t c).In-Ok) (tested (same Comma) c.kind-in-loop-turn.ensures c.same-in-loop-turn.ensures c.if-not-same.true) c.in-Err-expect.ensures
+pub entries-returns-in-Err-take_comma : goal.entries-returns-in-Err-take_comma
+entries-returns-in-Err-take_comma t c = refused c.in-Err-take_comma.refusal (read_behind (behind-entry t (goal.at.entries-returns-in-Err-take_comma t c).In-Ok)) c.in-Err-take_comma.ensures
 
 pub items-returns : goal.items-returns
 items-returns t c = refuses c.refuse.result c.refuse.ensures (turn_over RightBracket (written_item (written c.args.limit)) _ _ (literals_of c.loop-turn.found.items) (input c.loop-turn.tokens) c.loop-turn-test.false c.loop-turn.invariant)

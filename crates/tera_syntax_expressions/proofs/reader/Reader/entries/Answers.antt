@@ -1,11 +1,11 @@
 use Rattle.std.proofs.Common.{ℕ, ◌-◌, ◌+◌, max, ap, sym, ◌∙◌}
 use Rattle.tera_syntax_tree.specs.Tree.{Entries, NoEntries}
 use Rattle.tera_syntax_tree.specs.View.{entries_of}
-use Rattle.tera_syntax_tokens.specs.declared.token.Kind.TheVariants.{RightBrace, Comma}
+use Rattle.tera_syntax_tokens.specs.declared.token.Kind.TheVariants.{RightBrace}
 use Rattle.tera_syntax_tokens.specs.Input.{same, left}
 use Rattle.tera_syntax_tokens.specs.Takes.{input}
 use Rattle.tera_syntax_expressions.specs.Expressions.{entries_from, expr}
-use Rattle.tera_syntax_expressions.proofs.Turns.{tested, Behind, goes_on_behind, closes_behind, refused_behind, entries_end, entries_none, entries_read, refused}
+use Rattle.tera_syntax_expressions.proofs.Turns.{tested, Behind, read_behind, entries_end, entries_none, entries_read, refused}
 use Rattle.tera_syntax_expressions.proofs.reader.Reader.entries.Given.{Over}
 use Rattle.tera_syntax_expressions.proofs.reader.Reader.entries.Goals.{After-larger-depth}
 use Rattle.tera_syntax_expressions.proofs.reader.Reader.entries.Goals as goal
@@ -27,10 +27,10 @@ returns-in-Err g c = refused c.in-Err.refusal (entries_none c.args.self.now.limi
     (tested (same RightBrace) c.kind.ensures c.same.ensures c.if-same.false)) c.in-Err.ensures
 
 pub loop-turn-preserved : goal.loop-turn-preserved
-loop-turn-preserved g c = goes_on_behind (behind-entry g (goal.at.loop-turn-preserved g c).After-larger-depth) (tested (same Comma) c.kind-in-loop-turn.ensures c.same-in-loop-turn.ensures c.if-not-same.false) c.take-in-loop-turn.ensures
+loop-turn-preserved g c = read_behind (behind-entry g (goal.at.loop-turn-preserved g c).After-larger-depth) (rw c.in-Ok-true.field-0-test at c.in-Ok-true.ensures)
 
-pub returns-in-Ok-expect : goal.returns-in-Ok-expect
-returns-in-Ok-expect g c = closes_behind (behind-entry g (goal.at.returns-in-Ok-expect g c).After-larger-depth) (tested (same Comma) c.kind-in-loop-turn.ensures c.same-in-loop-turn.ensures c.if-not-same.true) c.in-Ok-expect.ensures
+pub returns-in-Ok-false : goal.returns-in-Ok-false
+returns-in-Ok-false g c = read_behind (behind-entry g (goal.at.returns-in-Ok-false g c).After-larger-depth) (rw c.in-Ok-false.field-0-test at c.in-Ok-false.ensures)
 
-pub returns-in-Err-expect : goal.returns-in-Err-expect
-returns-in-Err-expect g c = refused_behind c.in-Err-expect.refusal (behind-entry g (goal.at.returns-in-Err-expect g c).After-larger-depth) (tested (same Comma) c.kind-in-loop-turn.ensures c.same-in-loop-turn.ensures c.if-not-same.true) c.in-Err-expect.ensures
+pub returns-in-Err-take_comma : goal.returns-in-Err-take_comma
+returns-in-Err-take_comma g c = refused c.in-Err-take_comma.refusal (read_behind (behind-entry g (goal.at.returns-in-Err-take_comma g c).After-larger-depth)) c.in-Err-take_comma.ensures

@@ -1,10 +1,12 @@
 -- What an engine means when something was registered.
-use Rattle.std.proofs.Common.{◌≡◌, ℕ, take, ap, ◌∙◌, Result, Ok, Err, OnOk, OnErr, Bool}
+use Rattle.std.proofs.Common.{◌≡◌, ℕ, take, ap, ◌∙◌, Result, Ok, Err, OnOk, OnErr, IfErr, Bool}
+use Rattle.tera_errors.specs.Answer.{SeenError, Lacks}
 use Rattle.tera_errors.specs.Site.{Name, Text}
 use Rattle.tera_values.specs.Named.{Named, put}
 use Rattle.tera_objects.specs.Engine.{Engine, OwnFilter, OwnTest, OwnFunction}
-use Rattle.tera_objects.specs.Kept.{each}
+use Rattle.tera_objects.specs.Kept.{Meanings, Registers, each, engine_of}
 use Rattle.tera_objects.specs.Table.{moved}
+use Rattle.tera_objects.specs.declared.over.ObjectsOver.{ObjectsOver}
 use Rattle.tera_objects.proofs.Each.{each-put, each-take, each-moved}
 
 -- what follows where something was done, or was refused
@@ -19,6 +21,13 @@ on_err (Err e) go h = go h
 pub where_err : {T E P : Type 0} (r : Result T E) → P → OnErr r P
 where_err (Ok x) p = tt
 where_err (Err e) p = p
+
+-- what one call puts or leaves as it is, is registered
+pub registers : {E F T G P Q : Type 0} {old new : ObjectsOver E F T G} {change : Meanings E F T G → Engine → Engine} (r : Result (Unit {0}) SeenError)
+    → ((m : Meanings E F T G) → P → engine_of m new ≡ change m (engine_of m old)) → ((m : Meanings E F T G) → Q → engine_of m new ≡ engine_of m old)
+    → OnOk r P → OnErr r Q → IfErr r Lacks → Registers r old new change
+registers r put same ok err lacks =
+    record { ok = λ m. on_ok r (put m) ok; err = λ m. on_err r (same m) err; lacks = lacks }
 
 -- an engine of these, and the same engine of what is the same
 abbrev pub engine : (Text → Text) → Named OwnFilter → Named OwnTest → Named OwnFunction → Engine

@@ -91,11 +91,3 @@ impl<F: Drop> OwnFilters<F> {
         self.table.move_from::<BuiltInFilter>(table)
     }
 }
-
-impl Standard for BuiltInFilter {
-    ghost stands = { λ name. is_some (filter_named name) };
-
-    fn is_one(name: &str) -> bool {
-        BuiltInFilter::named(name).is_some()
-    }
-}

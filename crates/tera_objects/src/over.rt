@@ -29,7 +29,7 @@ pub type CallerObjects = ObjectsOver<
 
 impl<E: Drop, F: Drop, T: Drop, G: Drop> ObjectsOver<E, F, T, G> {
     ghost use Rattle.tera_objects.specs.Engine.{standard_engine, has_filter, has_test, has_function, with_escape, with_filter, with_test, with_function};
-    ghost use Rattle.tera_objects.specs.Kept.{Meanings, engine_of};
+    ghost use Rattle.tera_objects.specs.Kept.{Meanings, Registers, engine_of};
     ghost use Rattle.tera_objects.specs.Moving.{with_those_of, MovedInPart};
 
     /// No objects: `escape_html`, and what is built in. Takes no memory.
@@ -63,34 +63,22 @@ impl<E: Drop, F: Drop, T: Drop, G: Drop> ObjectsOver<E, F, T, G> {
     /// The name stands for this filter from now on. The caller's filter that it stood for is dropped. Want of memory leaves all
     /// as it was.
     pub fn register_filter(&mut self, name: &str, filter: F) -> TeraResult<()>
-        ensures ok { (m : Meanings E F T G) → OnOk result
-            (engine_of m self.new ≡ with_filter name.now (m.filter filter) (engine_of m self.old)) }
-        ensures err { (m : Meanings E F T G) → OnErr result
-            (engine_of m self.new ≡ engine_of m self.old) }
-        ensures lacks { IfErr result Lacks }
+        ensures { Registers result self.old self.new (λ m. with_filter name.now (m.filter filter)) }
     {
         self.filters.put(name, filter)
     }
 
     /// The name stands for this test from now on, as for a filter.
     pub fn register_test(&mut self, name: &str, test: T) -> TeraResult<()>
-        ensures ok { (m : Meanings E F T G) → OnOk result
-            (engine_of m self.new ≡ with_test name.now (m.test test) (engine_of m self.old)) }
-        ensures err { (m : Meanings E F T G) → OnErr result
-            (engine_of m self.new ≡ engine_of m self.old) }
-        ensures lacks { IfErr result Lacks }
+        ensures { Registers result self.old self.new (λ m. with_test name.now (m.test test)) }
     {
         self.tests.put(name, test)
     }
 
     /// The name stands for this function from now on, as for a filter.
     pub fn register_function(&mut self, name: &str, function: G) -> TeraResult<()>
-        ensures ok { (m : Meanings E F T G) → OnOk result
-            (engine_of m self.new
-            ≡ with_function name.now (m.function function) (engine_of m self.old)) }
-        ensures err { (m : Meanings E F T G) → OnErr result
-            (engine_of m self.new ≡ engine_of m self.old) }
-        ensures lacks { IfErr result Lacks }
+        ensures { Registers result self.old self.new
+            (λ m. with_function name.now (m.function function)) }
     {
         self.functions.put(name, function)
     }

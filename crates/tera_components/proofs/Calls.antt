@@ -11,8 +11,11 @@ use Rattle.tera_syntax_tree.specs.Tree.{Parameter, Signature}
 use Rattle.tera_values.specs.Alphabet.{plain}
 use Rattle.tera_values.specs.Val.{Val}
 use Rattle.tera_values.specs.Named.{Named, put}
+use Rattle.tera_state.specs.Scope.{look_implicit}
+use Rattle.tera_state.specs.Scopes.{around_of, variables_of}
+use Rattle.tera_state.specs.declared.scopes.Scopes.{Scopes}
 use Rattle.tera_components.specs.Context.{parameter_value_in, with_parameters_in, with_rest, with_body, others, component_context}
-use Rattle.tera_components.specs.Definition.{Formal, Definition, formal_of, definition_of, left_over, formal_value, with_formals, call_context, or_message}
+use Rattle.tera_components.specs.Definition.{Formal, Definition, formal_of, definition_of, left_over, formal_value, with_formals, or_message, Binds}
 
 and_then_same : {A B : Type 0} (f g : A → Option B) (o : Option A) → ((a : A) → f a ≡ g a) → option_and_then f o ≡ option_and_then g o
 and_then_same f g None h = refl
@@ -30,6 +33,11 @@ names_are (p ∷ ps) = ap (λ (ns : List Name). p.name ∷ ns) (names_are ps)
 
 left_over-is : (s : Signature) (given : List (Name × Val)) → left_over (definition_of s) given ≡ others s given
 left_over-is s given = ap (λ (ns : List Name). filter (λ a. not (is_among a.0 ns)) given) (names_are s.parameters)
+
+-- the context of a call, by what is kept
+abbrev pub call_context : Definition → List (Name × Val) → Option Val → (Name → Val) → Option (Named Val)
+call_context d given body look =
+    option_and_then (with_rest d.rest (left_over d given)) (with_formals look given d.formals (with_body body []))
 
 -- a definition gives what its signature says
 pub call_context-is : (s : Signature) (given : List (Name × Val)) (body : Option Val) (look : Name → Val) → call_context (definition_of s) given body look ≡ component_context s given body look
@@ -69,8 +77,8 @@ module _ (look : Name → Val) (given : List (Name × Val)) where
       ∙ ap (λ (o : Option Val). option_and_then (λ w. with_formals look given rest (put f.name w context)) o) (or_message_some (formal_value look given f) v takes)
       ∙ ap (with_formals look given rest) (sym (is ∙ ap (λ n. put n v context) named))
 
-pub gives_called : (r : Result (Named Val) SeenError) (d : Definition) (given : List (Name × Val)) (body : Option Val) (look : Name → Val) →
-    Gives (λ (c : Named Val). c) r (or_message (call_context d given body look)) →
-    (s : Signature) → d ≡ definition_of s → Gives (λ (c : Named Val). c) r (or_message (component_context s given body look))
-gives_called r d given body look h s is =
-    subst (λ (o : Option (Named Val)). Gives (λ (c : Named Val). c) r (or_message o)) (ap (λ e. call_context e given body look) is ∙ call_context-is s given body look) h
+-- the answer of a call that gives the context by what is kept
+pub gives_called : (r : Result (Named Val) SeenError) (d : Definition) (given : List (Name × Val)) (body : Option Val) (scopes : Scopes) →
+    Gives (λ (c : Named Val). c) r (or_message (call_context d given body (λ n. look_implicit n (around_of scopes) (variables_of scopes)))) → Binds d given body scopes r
+gives_called r d given body scopes h s is =
+    subst (λ (o : Option (Named Val)). Gives (λ (c : Named Val). c) r (or_message o)) (ap (λ e. call_context e given body (λ n. look_implicit n (around_of scopes) (variables_of scopes))) is ∙ call_context-is s given body _) h

@@ -3,6 +3,7 @@ use Rattle.std.specs.Prelude.{◌≡◌, Bool, false, not, if◌then◌else◌, 
 use Rattle.std.specs.Option.{option_or}
 use Rattle.std.specs.List.{filter_map}
 use Rattle.std.specs.Coded.{Coded, code_by, coded×, coded_ℕ, coded_bool, coded_list, coded_option}
+use Rattle.tera_errors.specs.Answer.{SeenError, Gives}
 use Rattle.tera_errors.specs.Fault.{Fault, message}
 use Rattle.tera_errors.specs.Site.{Name}
 use Rattle.tera_syntax_tree.specs.declared.component.ArgumentType.{ArgumentType}
@@ -13,7 +14,10 @@ use Rattle.tera_values.specs.Val.{ValOf, Val, KeyVal, kbool, kint, ktext}
 use Rattle.tera_values.specs.Code.{val_code}
 use Rattle.tera_values.specs.Access.{find, insert_pair}
 use Rattle.tera_values.specs.Named.{Named, at_name, put}
-use Rattle.tera_components.specs.Context.{literal_value, fitting, looked_up, with_rest, with_body}
+use Rattle.tera_state.specs.Scope.{look_implicit}
+use Rattle.tera_state.specs.Scopes.{around_of, variables_of}
+use Rattle.tera_state.specs.declared.scopes.Scopes.{Scopes}
+use Rattle.tera_components.specs.Context.{literal_value, fitting, looked_up, component_context}
 
 -- a parameter whose default is a value
 pub record Formal : Type 0 where
@@ -106,7 +110,9 @@ module _ (look : Name → Val) (given : List (Name × Val)) where
   with_formals [] context = Some context
   with_formals (f ∷ fs) context = option_and_then (λ v. with_formals fs (put f.name v context)) (formal_value f)
 
--- the context of a call, as `component_context` has it
-abbrev pub call_context : Definition → List (Name × Val) → Option Val → (Name → Val) → Option (Named Val)
-call_context d given body look =
-    option_and_then (with_rest d.rest (left_over d given)) (with_formals look given d.formals (with_body body []))
+-- how a call ends that binds these arguments and at will a body, where implicit parameters are looked up in these scopes: with
+-- the context that the signature means, or a refusal in words
+abbrev pub Binds : Definition → List (Name × Val) → Option Val → Scopes → Result (Named Val) SeenError → Type 0
+Binds d given body scopes answer =
+    (s : Signature) → d ≡ definition_of s →
+    Gives (λ c. c) answer (or_message (component_context s given body (λ n. look_implicit n (around_of scopes) (variables_of scopes))))

@@ -2,7 +2,6 @@
 ghost use Rattle.std.specs.Prelude.{◌≡◌, Ok, List, [], OnOk, IfErr};
 ghost use Rattle.tera_errors.specs.Answer.{Gives, Lacks};
 ghost use Rattle.tera_errors.specs.Site.{Name};
-ghost use Rattle.tera_syntax_tree.specs.Tree.{Signature as Signed};
 ghost use Rattle.tera_syntax_tree.specs.View.{signature_of};
 ghost use Rattle.tera_syntax_tree.specs.Blocks.{is_among};
 ghost use Rattle.tera_values.specs.Val.{Val};
@@ -10,8 +9,8 @@ ghost use Rattle.tera_values.specs.View.{key_view};
 ghost use Rattle.tera_values.specs.Named.{text_keys};
 ghost use Rattle.tera_state.specs.Scope.{look_implicit};
 ghost use Rattle.tera_state.specs.Scopes.{around_of, variables_of};
-ghost use Rattle.tera_components.specs.Context.{component_context, with_rest, with_body};
-ghost use Rattle.tera_components.specs.Definition.{definition_of, formal_names, named_arguments, left_over, is_left, kept_over, with_formals, call_context, or_message};
+ghost use Rattle.tera_components.specs.Context.{with_rest, with_body};
+ghost use Rattle.tera_components.specs.Definition.{definition_of, formal_names, named_arguments, left_over, is_left, kept_over, with_formals, or_message, Binds};
 
 use crate::argument::ComponentArg;
 use crate::faults;
@@ -177,24 +176,6 @@ impl ComponentDefinition {
         }
     }
 
-    fn context(
-        &self,
-        alloc: Global,
-        given: &Entries<'_>,
-        caller: &Scopes<'_>,
-        body: Option<Value>,
-    ) -> TeraResult<Kwargs>
-        ensures { Gives (λ c. c) result (or_message (call_context self.now
-            (named_arguments given.now) body
-            (λ n. look_implicit n (around_of caller.now) (variables_of caller.now)))) }
-    {
-        let others = self.others(alloc, given)?;
-        let mut context = begun(alloc, self.arguments.len(), body)?;
-        self.put_arguments(alloc, given, caller, &mut context)?;
-        self.put_others(alloc, others, &mut context)?;
-        Ok(context)
-    }
-
     /// What the body of a call with these arguments reads; a `Message` where they do not fit. A key that is no text names no
     /// argument.
     pub fn bind(
@@ -204,12 +185,13 @@ impl ComponentDefinition {
         caller: &Scopes<'_>,
         body: Option<Value>,
     ) -> TeraResult<Kwargs>
-        ensures { (s : Signed) → self.now ≡ definition_of s →
-            Gives (λ c. c) result (or_message (component_context s
-            (named_arguments given.now) body
-            (λ n. look_implicit n (around_of caller.now) (variables_of caller.now)))) }
+        ensures { Binds self.now (named_arguments given.now) body caller.now result }
     {
-        self.context(alloc, given, caller, body)
+        let others = self.others(alloc, given)?;
+        let mut context = begun(alloc, self.arguments.len(), body)?;
+        self.put_arguments(alloc, given, caller, &mut context)?;
+        self.put_others(alloc, others, &mut context)?;
+        Ok(context)
     }
 
     /// The same where the arguments are values by name, in byte order of these.
@@ -220,9 +202,7 @@ impl ComponentDefinition {
         caller: &Scopes<'_>,
         body: Option<Value>,
     ) -> TeraResult<Kwargs>
-        ensures { (s : Signed) → self.now ≡ definition_of s →
-            Gives (λ c. c) result (or_message (component_context s given.now body
-            (λ n. look_implicit n (around_of caller.now) (variables_of caller.now)))) }
+        ensures { Binds self.now given.now body caller.now result }
     {
         let given = given.to_value()?;
         match given.shape() {
@@ -242,10 +222,7 @@ impl ComponentDefinition {
         caller: &Scopes<'_>,
         body: Option<Value>,
     ) -> TeraResult<Context>
-        ensures { (s : Signed) → self.now ≡ definition_of s →
-            Gives (λ c. c) result (or_message (component_context s
-            (named_arguments given.now) body
-            (λ n. look_implicit n (around_of caller.now) (variables_of caller.now)))) }
+        ensures { Binds self.now (named_arguments given.now) body caller.now result }
     {
         self.bind(alloc, &Entries::of_map(given), caller, body)?
             .to_context()

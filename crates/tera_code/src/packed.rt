@@ -340,15 +340,6 @@ impl Tables {
         Ok(Packed::MakeMap { keys, span })
     }
 
-    fn store(&mut self, name: &LentName<'_>, is_global: bool) -> Result<Packed, AllocError>
-        ensures grows { Grows (shelf_of self.old) (shelf_of self.new) }
-        ensures ok { IfOk result (λ p. Packs (shelf_of self.new) p
-            (instruction.Store name.now is_global)) }
-    {
-        let name = number(&mut self.names, lacking(name.share())?)?;
-        Ok(Packed::Store { name, is_global })
-    }
-
     fn take_block(&mut self, name: &LentName<'_>, span: Span) -> Result<Packed, AllocError>
         ensures grows { Grows (shelf_of self.old) (shelf_of self.new) }
         ensures ok { IfOk result (λ p. Packs (shelf_of self.new) p
@@ -405,27 +396,21 @@ impl Tables {
         })
     }
 
-    fn start_loop(
+    /// Puts what a loop calls its items beside the others, and tells its place.
+    fn add_loop(
         &mut self,
         key: &Option<LentName<'_>>,
         name: &LentName<'_>,
-        counts: bool,
-        size: usize,
-    ) -> Result<Packed, AllocError>
+    ) -> Result<u32, AllocError>
         ensures grows { Grows (shelf_of self.old) (shelf_of self.new) }
-        ensures ok { IfOk result (λ p. Packs (shelf_of self.new) p
-            (instruction.StartLoop key.now name.now counts size)) }
+        ensures ok { IfOk result (λ n. IsAt (shelf_of self.new).loops n
+            (record { key = key.now; name = name.now })) }
     {
         let names = LoopNames {
             key: lacking(LentName::share_option(key))?,
             name: lacking(name.share())?,
         };
-        let names = number(&mut self.loops, names)?;
-        Ok(Packed::StartLoop {
-            counts,
-            names,
-            size,
-        })
+        number(&mut self.loops, names)
     }
 
     /// A call of this kind by numbers: its names and its span are put beside the others.
@@ -508,13 +493,23 @@ impl Tables {
             }
             Instruction::MakeArray(spreads, span) => self.make_array(&spreads, span),
             Instruction::MakeMap(keys, span) => self.make_map(alloc, &keys, span),
-            Instruction::Store { name, is_global } => self.store(&name, is_global),
+            Instruction::Store { name, is_global } => {
+                let name = number(&mut self.names, lacking(name.share())?)?;
+                Ok(Packed::Store { name, is_global })
+            }
             Instruction::StartLoop {
                 key,
                 name,
                 counts,
                 size,
-            } => self.start_loop(&key, &name, counts, size),
+            } => {
+                let names = self.add_loop(&key, &name)?;
+                Ok(Packed::StartLoop {
+                    counts,
+                    names,
+                    size,
+                })
+            }
             Instruction::NextTurn => Ok(Packed::NextTurn),
             Instruction::EndLoop(skip) => Ok(Packed::EndLoop(skip)),
             Instruction::Keep => Ok(Packed::Keep),

@@ -90,11 +90,13 @@ loop_written l m n o p q r front body other place leave count h e at g w t left 
     ∙ ap (lengthened l) (append_assoc front (start ∷ (body ++ instruction.NextTurn ∷ [])) end ∙ ap (λ code. front ++ start ∷ code) (append_assoc body (instruction.NextTurn ∷ []) end))
 
 -- the turns of a comprehension are written behind the front
-pub comprehension_written : (l m n o : Listing) (front turn : Code) (place : ℕ) (h : Heading) (span : Span) → m ≡ lengthened l front → place ≡ length m.code → n ≡ lengthened m kept → o ≡ lengthened n turn
-    → lengthened (looped place h false o) (instruction.EndComprehension span ∷ instruction.MakeArray [] span ∷ []) ≡ lengthened l (front ++ comprehension_tail (option_copied h.key) h.name.now turn span)
-comprehension_written l m n o front turn place h span e at g w =
+pub comprehension_written : (l m n o p q : Listing) (front turn : Code) (place : ℕ) (h : Heading) (span : Span) → m ≡ lengthened l front → place ≡ length m.code → n ≡ lengthened m kept → o ≡ lengthened n turn
+    → p ≡ looped place h false o → q ≡ lengthened p (instruction.EndComprehension span ∷ []) → lengthened q (instruction.MakeArray [] span ∷ []) ≡ lengthened l (front ++ comprehension_tail (option_copied h.key) h.name.now turn span)
+comprehension_written l m n o p q front turn place h span e at g w t v =
     let start = start_loop h false (length turn) in
     let end = instruction.EndComprehension span ∷ instruction.MakeArray [] span ∷ [] in
-    ap (λ k. lengthened k end) (looped_written l m n o front turn place h false e at g w)
+    ap (λ k. lengthened k (instruction.MakeArray [] span ∷ [])) v
+    ∙ lengthened-lengthened p (instruction.EndComprehension span ∷ []) (instruction.MakeArray [] span ∷ [])
+    ∙ ap (λ k. lengthened k end) (t ∙ looped_written l m n o front turn place h false e at g w)
     ∙ lengthened-lengthened l (front ++ start ∷ (turn ++ instruction.NextTurn ∷ [])) end
     ∙ ap (lengthened l) (append_assoc front (start ∷ (turn ++ instruction.NextTurn ∷ [])) end ∙ ap (λ code. front ++ start ∷ code) (append_assoc turn (instruction.NextTurn ∷ []) end))

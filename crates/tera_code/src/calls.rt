@@ -43,9 +43,10 @@ impl Compiler {
         ensures ok { OnOk result (self.new ≡ lengthened self.old
             (applied_code kind applied.now span)) }
     {
+        let arguments = applied.arguments.as_slice();
         self.expression(&applied.value)?;
-        self.arguments(applied.arguments.as_slice())?;
-        self.call(kind, applied.name, applied.arguments.as_slice(), span)
+        self.arguments(arguments)?;
+        self.call(kind, applied.name, arguments, span)
     }
 
     #[cycle(expressions)]
@@ -54,13 +55,9 @@ impl Compiler {
         ensures ok { OnOk result (self.new ≡ lengthened self.old
             (expr_code (called_of called.now span))) }
     {
-        self.arguments(called.arguments.as_slice())?;
-        self.call(
-            CallKind::Function,
-            called.name,
-            called.arguments.as_slice(),
-            span,
-        )
+        let arguments = called.arguments.as_slice();
+        self.arguments(arguments)?;
+        self.call(CallKind::Function, called.name, arguments, span)
     }
 
     #[cycle(expressions)]

@@ -8,7 +8,7 @@ ghost use Rattle.tera_syntax_tree.specs.View.{capture_of, component_call_of, exp
 use crate::compiler::Compiler;
 use crate::content::LentName;
 use crate::instruction::Instruction;
-use std::alloc::{AllocError, Global};
+use std::alloc::AllocError;
 use tera_syntax_tree::{Captured, ComponentTag, Expression, Node, SectionFilter};
 use tera_values::Span;
 

@@ -9,7 +9,7 @@ use crate::call_kind::CallKind;
 use crate::compiler::Compiler;
 use crate::constant::Constant;
 use crate::instruction::Instruction;
-use std::alloc::{AllocError, Global};
+use std::alloc::AllocError;
 use tera_syntax_tree::{
     BinaryOperator, Bounds, Choice, Entry, Expression, Indexed, Item, Operands,
 };
@@ -50,8 +50,8 @@ impl Compiler {
                 self.expression(&sliced.target)?;
                 self.slice(&sliced.bounds, *optional, *span)
             }
-            Expression::Not { operand, .. } => self.not(operand),
-            Expression::Negate { operand, .. } => self.negate(operand),
+            Expression::Not { operand, .. } => self.unary(operand, true),
+            Expression::Negate { operand, .. } => self.unary(operand, false),
             Expression::Binary {
                 operator,
                 operands,
@@ -96,24 +96,19 @@ impl Compiler {
         self.emit(Instruction::Slice { optional, span })
     }
 
+    // The operand, and what turns its truth value or its sign around.
     #[cycle(expressions)]
     #[inline(never)]
-    fn not(&mut self, operand: &Expression) -> Result<(), AllocError>
-        ensures ok { (span : Span) → OnOk result (self.new ≡ lengthened self.old
-            (expr_code (Not (expr_of operand.now) span))) }
+    fn unary(&mut self, operand: &Expression, is_not: bool) -> Result<(), AllocError>
+        ensures ok { (span : Span) → OnOk result (self.new ≡ lengthened self.old (expr_code
+            (cond is_not (Not (expr_of operand.now) span) (Negate (expr_of operand.now) span)))) }
     {
         self.expression(operand)?;
-        self.emit(Instruction::Not)
-    }
-
-    #[cycle(expressions)]
-    #[inline(never)]
-    fn negate(&mut self, operand: &Expression) -> Result<(), AllocError>
-        ensures ok { (span : Span) → OnOk result (self.new ≡ lengthened self.old
-            (expr_code (Negate (expr_of operand.now) span))) }
-    {
-        self.expression(operand)?;
-        self.emit(Instruction::Negate)
+        if is_not {
+            self.emit(Instruction::Not)
+        } else {
+            self.emit(Instruction::Negate)
+        }
     }
 
     #[cycle(expressions)]
@@ -173,7 +168,9 @@ impl Compiler {
         ensures ok { OnOk result (self.new ≡ lengthened self.old
             (expr_code (Array (items_of items.now) span))) }
     {
-        self.items(items)?;
+        for item in items {
+            self.expression(&item.value)?;
+        }
         self.make_array(items, span)
     }
 
@@ -196,17 +193,6 @@ impl Compiler {
             None => self.constant(Constant::none(), Span { start: 0, end: 0 }),
             Some(expression) => self.expression(expression),
         }
-    }
-
-    #[cycle(expressions)]
-    fn items(&mut self, items: &[Item]) -> Result<(), AllocError>
-        ensures ok { OnOk result (self.new ≡ lengthened self.old
-            (items_code (items_of items.now))) }
-    {
-        for item in items {
-            self.expression(&item.value)?;
-        }
-        Ok(())
     }
 
     #[cycle(expressions)]

@@ -29,7 +29,9 @@ impl Compiler {
         self.expression(&heading.target)?;
         let start = self.keep_place()?;
         self.turn(collected)?;
-        self.end_comprehension(start, heading, span)
+        self.end_turns(start, heading, false)?;
+        self.emit(Instruction::EndComprehension(span))?;
+        self.emit(Instruction::MakeArray(Spreads::new(&[]), span))
     }
 
     // What a turn keeps: the value, where there is no condition or that is truthy.
@@ -51,21 +53,6 @@ impl Compiler {
                 self.fill(place, Instruction::PopJumpIfFalse(self.behind(place)))
             }
         }
-    }
-
-    fn end_comprehension(
-        &mut self,
-        start: usize,
-        heading: &Heading,
-        span: Span,
-    ) -> Result<(), AllocError>
-        requires { start < length self.old.code }
-        ensures ok { OnOk result (self.new ≡ lengthened (looped start heading.now false self.old)
-            (instruction.EndComprehension span ∷ instruction.MakeArray [] span ∷ [])) }
-    {
-        self.end_turns(start, heading, false)?;
-        self.emit(Instruction::EndComprehension(span))?;
-        self.emit(Instruction::MakeArray(Spreads::new(&[]), span))
     }
 
     // The turns of a loop end, which stand behind the place that was kept for its start.

@@ -1,4 +1,4 @@
-use Rattle.std.proofs.Common.{false, refl, ◌∙◌, ◌∷◌, [], ◌++◌, length, ap, sym}
+use Rattle.std.proofs.Common.{rules, ◌≡◌, false, refl, ◌∙◌, ◌∷◌, [], ◌++◌, length, ap, sym}
 use Rattle.tera_syntax_tree.specs.declared.expression.Applied.{out-Applied}
 use Rattle.tera_syntax_tree.specs.declared.expression.Called.{out-Called}
 use Rattle.tera_syntax_tree.specs.declared.expression.Choice.{Choice}
@@ -16,11 +16,11 @@ use Rattle.tera_code.proofs.compiler.Compiler.+expressions.Goals as goal
 
 pub expression-returns-in-Not : goal.expression-returns-in-Not
 expression-returns-in-Not t c =
-    record { ok = seen expr_code _ _ _ _ _ (ap (λ x. Not (expr_of x) c.in-Not.span) c.deref-in-Not.ensures ∙ sym (ap expr_of c.in-Not.is)) (c.not.ensures.ok c.in-Not.span) }
+    record { ok = seen expr_code _ _ _ _ _ (ap (λ x. Not (expr_of x) c.in-Not.span) c.deref-in-Not.ensures ∙ sym (ap expr_of c.in-Not.is)) (c.unary.ensures.ok c.in-Not.span) }
 
 pub expression-returns-in-Negate : goal.expression-returns-in-Negate
 expression-returns-in-Negate t c =
-    record { ok = seen expr_code _ _ _ _ _ (ap (λ x. Negate (expr_of x) c.in-Negate.span) c.deref-in-Negate.ensures ∙ sym (ap expr_of c.in-Negate.is)) (c.negate.ensures.ok c.in-Negate.span) }
+    record { ok = seen expr_code _ _ _ _ _ (ap (λ x. Negate (expr_of x) c.in-Negate.span) c.deref-in-Negate.ensures ∙ sym (ap expr_of c.in-Negate.is)) (c.unary-in-Negate.ensures.ok c.in-Negate.span) }
 
 pub expression-returns-in-And : goal.expression-returns-in-And
 expression-returns-in-And t c =
@@ -84,7 +84,8 @@ ternary-returns t c =
 
 pub comprehension-returns : goal.comprehension-returns
 comprehension-returns t c =
-    record { ok = on_ok_by _ _ _ _ (comprehension_written _ _ _ _ _ _ _ c.args.collected.now.heading c.args.span c.in_ok-expression.ensures.ok c.in_ok-start.ensures.place c.in_ok-start.ensures.ok c.in_ok-turn.ensures.ok) c.end_comprehension.ensures.ok }
+    let none : c.new.result ≡ [] = search (rules, c.new.ensures) in
+    record { ok = on_ok_by _ _ _ _ (ap (λ xs. lengthened c.emit.new.self (instruction.MakeArray xs c.args.span ∷ [])) none ∙ comprehension_written _ _ _ _ _ _ _ _ _ c.args.collected.now.heading c.args.span c.in_ok-expression.ensures.ok c.in_ok-start.ensures.place c.in_ok-start.ensures.ok c.in_ok-turn.ensures.ok c.in_ok-end_turns.ensures.ok c.in_ok-emit.ensures.ok) c.emit-2.ensures.ok }
 
 pub turn-returns-in_ok-expression-in-None : goal.turn-returns-in_ok-expression-in-None
 turn-returns-in_ok-expression-in-None t c =
@@ -100,11 +101,11 @@ above-returns t c =
 
 pub applied-returns : goal.applied-returns
 applied-returns t c =
-    record { ok = applied_written _ _ _ _ _ _ _ (out-Applied c.args.applied.now).arguments.items (λ all. call_of c.args.kind (out-Applied c.args.applied.now).name.now (argument_names all) c.args.span) _ c.as_slice.ensures.value c.as_slice-2.ensures.value c.in_ok-expression.ensures.ok c.in_ok-arguments.ensures.ok c.call.ensures.ok }
+    record { ok = applied_written _ _ _ _ _ _ _ (out-Applied c.args.applied.now).arguments.items (λ all. call_of c.args.kind (out-Applied c.args.applied.now).name.now (argument_names all) c.args.span) _ c.as_slice-arguments.ensures.value c.as_slice-arguments.ensures.value c.in_ok-expression.ensures.ok c.in_ok-arguments.ensures.ok c.call.ensures.ok }
 
 pub called-returns : goal.called-returns
 called-returns t c =
-    record { ok = taken_written _ _ _ _ _ (out-Called c.args.called.now).arguments.items (λ x. arguments_code (arguments_of x)) (λ y. instruction.CallFunction (out-Called c.args.called.now).name.now (argument_names (arguments_of y)) c.args.span) _ c.as_slice.ensures.value c.as_slice-2.ensures.value c.in_ok-arguments.ensures.ok c.call.ensures.ok }
+    record { ok = taken_written _ _ _ _ _ (out-Called c.args.called.now).arguments.items (λ x. arguments_code (arguments_of x)) (λ y. instruction.CallFunction (out-Called c.args.called.now).name.now (argument_names (arguments_of y)) c.args.span) _ c.as_slice-arguments.ensures.value c.as_slice-arguments.ensures.value c.in_ok-arguments.ensures.ok c.call.ensures.ok }
 
 pub tag-returns : goal.tag-returns
 tag-returns t c =

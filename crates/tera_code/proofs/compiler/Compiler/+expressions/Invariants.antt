@@ -3,8 +3,8 @@ use Rattle.tera_syntax_tree.specs.View.{items_of, entries_of, arguments_of}
 use Rattle.tera_code.specs.Code.{items_code, entries_code, arguments_code, lengthened}
 use Rattle.tera_code.proofs.compiler.Compiler.+expressions.Given as goal
 
-abbrev pub invariant-items-loop-item : goal.invariant-items-loop-item
-invariant-items-loop-item l =
+abbrev pub invariant-array-loop-item : goal.invariant-array-loop-item
+invariant-array-loop-item l =
     lengthened l.self (items_code (items_of (drop l.item-index l.items))) ≡ lengthened l.initial.self (items_code (items_of l.items))
 
 abbrev pub invariant-entries-loop-entry : goal.invariant-entries-loop-entry

@@ -1,6 +1,5 @@
 // Loops and comprehensions.
-ghost use Rattle.std.specs.Prelude.{◌≡◌, ◌<◌, ◌∷◌, [], OnOk, IfOk, length, option_copied, false};
-ghost use Rattle.tera_code.specs.declared.instruction.Instruction.TheVariants as instruction;
+ghost use Rattle.std.specs.Prelude.{◌≡◌, ◌<◌, OnOk, IfOk, length, option_copied};
 ghost use Rattle.tera_code.specs.Code.{expr_code, turn_code, lengthened};
 ghost use Rattle.tera_code.specs.Places.{looped};
 ghost use Rattle.tera_syntax_tree.specs.View.{comprehension_of, expr_of, optional_of};

@@ -18,6 +18,7 @@ use std::sync::ledger::Ledger;
 use tera_code::{Chunk, LentInstruction, Steps};
 use tera_objects::Objects;
 use tera_operators::Operand;
+use tera_state::Found;
 use tera_values::{Name, Span, TeraResult, Value};
 
 impl<'c> Configuration<'c> {
@@ -214,6 +215,21 @@ impl<'c> Configuration<'c> {
     // A name that nothing is read with.
     #[inline(never)]
     fn load_named(&mut self, alloc: Global, name: &Name, span: Span) -> Result<(), AllocError>
+        ensures { Does (name_loaded (around_of self.old.scopes) name.now span)
+            self.old (going_on result) self.new }
+    {
+        match self.scopes.value_of(name) {
+            Some(value) => match Found::Kept(value).to_value(alloc) {
+                Ok(value) => self.operands.push(Operand::new(value, span)),
+                Err(_) => Err(AllocError),
+            },
+            None => self.load_sought(alloc, name, span),
+        }
+    }
+
+    // The same of a name that the innermost turn may not bind.
+    #[inline(never)]
+    fn load_sought(&mut self, alloc: Global, name: &Name, span: Span) -> Result<(), AllocError>
         ensures { Does (name_loaded (around_of self.old.scopes) name.now span)
             self.old (going_on result) self.new }
     {

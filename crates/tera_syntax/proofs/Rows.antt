@@ -1,5 +1,5 @@
 -- Rows of nodes, and what is open around them.
-use Rattle.std.proofs.Common.{◌≡◌, ℕ, ◌-◌, ◌≤◌, ◌<◌, max, List, [], ◌∷◌, Bool, true, false, ◌==◌, Some, None, refl, sym, ap, ◌∙◌, arith, length, drop, get_or, reverse, ◌++◌, map}
+use Rattle.std.proofs.Common.{◌≡◌, ℕ, ◌-◌, ◌≤◌, ◌<◌, max, List, [], ◌∷◌, Bool, true, false, ◌==◌, Option, Some, None, refl, sym, ap, ◌∙◌, arith, length, drop, get_or, reverse, ◌++◌, map}
 use Rattle.tera_errors.specs.Site.{Text}
 use Rattle.std.proofs.lemmas.List.{drop_more, get_or-reverse, length-reverse, reverse-append}
 use Rattle.std.proofs.lemmas.Option.{get_or_from_slice_get, slice_get-get_or, slice_get_within}
@@ -38,25 +38,31 @@ innermost fs f e =
     let d : reverse fs ≡ get_or (reverse fs) 0 f ∷ drop 1 (reverse fs) = drop_more (reverse fs) 0 f (omega (arith, length-reverse fs)) in
     (map statement_of (drop 1 (reverse fs)), ap (map statement_of) (d ∙ ap (λ x. x ∷ drop 1 (reverse fs)) r))
 
--- so two answers are the same where they are the same whatever stands around it
-at_innermost : {A : Type 0} (one other : List OpenStatement → A) (fs : List statement.OpenStatement) (f : statement.OpenStatement) → Some f ≡ slice_get fs (length fs - 1) → ((rest : List OpenStatement) → one (statement_of f ∷ rest) ≡ other (statement_of f ∷ rest)) → one (statements_of fs) ≡ other (statements_of fs)
-at_innermost one other fs f e same = let t = innermost fs f e in ap one t.1 ∙ same t.0 ∙ sym (ap other t.1)
-
-pub turned_innermost : (may : Head → Bool) (fs : List statement.OpenStatement) (f : statement.OpenStatement) (found : Nodes) → Some f ≡ slice_get fs (length fs - 1) → may (head_of f.head) ≡ true → turned (λ head. true) (statements_of fs) found ≡ turned may (statements_of fs) found
-turned_innermost may fs f found e h = at_innermost (λ fs. turned (λ head. true) fs found) (λ fs. turned may fs found) fs f e (λ rest. rw h refl)
-
-pub shut_innermost : (tokens : List Token) (fs : List statement.OpenStatement) (f : statement.OpenStatement) (found : Nodes) → Some f ≡ slice_get fs (length fs - 1) → ends (head_of f.head) tokens ≡ true → closed (statements_of fs) found ≡ shut tokens (statements_of fs) found
-shut_innermost tokens fs f found e h = at_innermost (λ fs. closed fs found) (λ fs. shut tokens fs found) fs f e (λ rest. rw h refl)
-
-pub turned_otherwise : (may : Head → Bool) (fs : List statement.OpenStatement) (f : statement.OpenStatement) (found : Nodes) → Some f ≡ slice_get fs (length fs - 1) → may (head_of f.head) ≡ false → turned may (statements_of fs) found ≡ None
-turned_otherwise may fs f found e h = at_innermost (λ fs. turned may fs found) (λ fs. None) fs f e (λ rest. rw h refl)
-
-pub shut_otherwise : (tokens : List Token) (fs : List statement.OpenStatement) (f : statement.OpenStatement) (found : Nodes) → Some f ≡ slice_get fs (length fs - 1) → ends (head_of f.head) tokens ≡ false → shut tokens (statements_of fs) found ≡ None
-shut_otherwise tokens fs f found e h = at_innermost (λ fs. shut tokens fs found) (λ fs. None) fs f e (λ rest. rw h refl)
-
 pub nothing_open : (fs : List statement.OpenStatement) → None ≡ slice_get fs (length fs - 1) → statements_of fs ≡ []
 nothing_open [] e = refl
 nothing_open (f ∷ fs) e = let s = slice_get-get_or (f ∷ fs) (length (f ∷ fs) - 1) f (omega arith) in absurd (cc)
+
+-- what stands last in memory, where the same stands elsewhere
+pub last_of : {o : Option statement.OpenStatement} {gs : List statement.OpenStatement} (fs : List statement.OpenStatement) → gs ≡ fs → o ≡ slice_get gs (length gs - 1) → o ≡ slice_get fs (length fs - 1)
+last_of fs same last = last ∙ ap (λ fs. slice_get fs (length fs - 1)) same
+
+-- this is open innermost
+module _ (fs : List statement.OpenStatement) {f : statement.OpenStatement} (last : Some f ≡ slice_get fs (length fs - 1)) where
+  -- two answers are the same where they are the same whatever stands around it
+  at_innermost : {A : Type 0} (one other : List OpenStatement → A) → ((rest : List OpenStatement) → one (statement_of f ∷ rest) ≡ other (statement_of f ∷ rest)) → one (statements_of fs) ≡ other (statements_of fs)
+  at_innermost one other same = let t = innermost fs f last in ap one t.1 ∙ same t.0 ∙ sym (ap other t.1)
+
+  pub turned_innermost : (may : Head → Bool) (found : Nodes) → may (head_of f.head) ≡ true → turned (λ head. true) (statements_of fs) found ≡ turned may (statements_of fs) found
+  turned_innermost may found h = at_innermost (λ fs. turned (λ head. true) fs found) (λ fs. turned may fs found) (λ rest. rw h refl)
+
+  pub shut_innermost : (tokens : List Token) (found : Nodes) → ends (head_of f.head) tokens ≡ true → closed (statements_of fs) found ≡ shut tokens (statements_of fs) found
+  shut_innermost tokens found h = at_innermost (λ fs. closed fs found) (λ fs. shut tokens fs found) (λ rest. rw h refl)
+
+  pub turned_otherwise : (may : Head → Bool) (found : Nodes) → may (head_of f.head) ≡ false → turned may (statements_of fs) found ≡ None
+  turned_otherwise may found h = at_innermost (λ fs. turned may fs found) (λ fs. None) (λ rest. rw h refl)
+
+  pub shut_otherwise : (tokens : List Token) (found : Nodes) → ends (head_of f.head) tokens ≡ false → shut tokens (statements_of fs) found ≡ None
+  shut_otherwise tokens found h = at_innermost (λ fs. shut tokens fs found) (λ fs. None) (λ rest. rw h refl)
 
 -- how deep rows are
 deepest : (limit a b : ℕ) → a ≤ limit → b ≤ limit → max a b ≤ limit

@@ -1,7 +1,7 @@
 // The names of a tree's blocks and components.
-ghost use Rattle.std.specs.Prelude.{ℕ, ◌≡◌, ◌≤◌, OnOk, IfOk, IfErr, IfSome, Some, None, is_some, not, if◌then◌else◌};
+ghost use Rattle.std.specs.Prelude.{ℕ, ◌≡◌, ◌≤◌, IfOk, IfErr, IfSome, Some, None, is_some, not, if◌then◌else◌};
 ghost use Rattle.tera_syntax.specs.File as spec;
-ghost use Rattle.tera_syntax.specs.Places.{NamesWithin};
+ghost use Rattle.tera_syntax.specs.Places.{NamesWithin, StayWithin};
 ghost use Rattle.tera_syntax.specs.View.{Gathers, names_of, node_components, node_names};
 ghost use Rattle.tera_syntax_tokens.specs.Answers.{Answers};
 ghost use Rattle.tera_syntax_tokens.specs.Points.{PointsWithin};
@@ -29,9 +29,8 @@ struct PlacedName<'s> {
 fn gather<'s>(names: &mut Vec<PlacedName<'s>>, nodes: &[Node<'s>]) -> Result<(), Refusal>
     ensures gathered { let more = block_names (nodes_of nodes.now) in
         Gathers more names.old.items result names.new.items }
-    ensures points { (size : ℕ) → NodesInside size (nodes_of nodes.now)
-        → NamesWithin size names.old.items
-        → OnOk result (NamesWithin size names.new.items) }
+    ensures points { StayWithin (λ size. NodesInside size (nodes_of nodes.now))
+        names.old.items result names.new.items }
 {
     for node in nodes {
         gather_node(names, node)?;
@@ -43,9 +42,8 @@ fn gather<'s>(names: &mut Vec<PlacedName<'s>>, nodes: &[Node<'s>]) -> Result<(),
 fn gather_node<'s>(names: &mut Vec<PlacedName<'s>>, node: &Node<'s>) -> Result<(), Refusal>
     ensures gathered { let more = node_names (node_of node.now) in
         Gathers more names.old.items result names.new.items }
-    ensures points { (size : ℕ) → NodeInside size (node_of node.now)
-        → NamesWithin size names.old.items
-        → OnOk result (NamesWithin size names.new.items) }
+    ensures points { StayWithin (λ size. NodeInside size (node_of node.now))
+        names.old.items result names.new.items }
 {
     match node {
         Node::If { body, other, .. } | Node::For { body, other, .. } => {
@@ -70,9 +68,8 @@ fn gather_node<'s>(names: &mut Vec<PlacedName<'s>>, node: &Node<'s>) -> Result<(
 fn gather_components<'s>(names: &mut Vec<PlacedName<'s>>, nodes: &[Node<'s>]) -> Result<(), Refusal>
     ensures gathered { let more = component_names (nodes_of nodes.now) in
         Gathers more names.old.items result names.new.items }
-    ensures points { (size : ℕ) → NodesInside size (nodes_of nodes.now)
-        → NamesWithin size names.old.items
-        → OnOk result (NamesWithin size names.new.items) }
+    ensures points { StayWithin (λ size. NodesInside size (nodes_of nodes.now))
+        names.old.items result names.new.items }
 {
     let mut at = 0;
     for node in nodes {
@@ -89,8 +86,7 @@ fn gather_component<'s>(
 ) -> Result<(), Refusal>
     ensures gathered { let more = node_components (node_of node.now) in
         Gathers more names.old.items result names.new.items }
-    ensures points { (size : ℕ) → at ≤ size → NamesWithin size names.old.items
-        → OnOk result (NamesWithin size names.new.items) }
+    ensures points { StayWithin (λ size. at ≤ size) names.old.items result names.new.items }
 {
     if let Node::Definition { signature, body: _ } = node {
         names.push(PlacedName {

@@ -1,4 +1,4 @@
-// Components that are defined, and those that are handed a body.
+// Components that are handed a body.
 ghost use Rattle.std.specs.Prelude.{option_and_then};
 ghost use Rattle.tera_syntax.specs.Reader as spec;
 ghost use Rattle.tera_syntax.specs.View.{Becomes, head_of, progress_of};
@@ -6,51 +6,15 @@ ghost use Rattle.tera_syntax_tokens.specs.Answers.{Answers};
 ghost use Rattle.tera_syntax_tokens.specs.Input.{begin};
 ghost use Rattle.tera_syntax_tokens.specs.Takes.{input};
 ghost use Rattle.tera_syntax_tokens.specs.Token.{tokens_of};
-ghost use Rattle.tera_syntax_tree.specs.View.{signature_of};
 
 use crate::heads::Head;
-use crate::progress::{Progress, refused};
+use crate::progress::Progress;
 use std::alloc::Global;
 use tera_syntax_expressions::components::attributes;
-use tera_syntax_expressions::parameters::signature;
 use tera_syntax_tokens::input::{Tokens, is_word, same};
 use tera_syntax_tokens::refusal::{Reason, Refusal};
 use tera_syntax_tokens::token::{Kind, Token};
-use tera_syntax_tree::{ComponentTag, Signature};
-
-/// Behind `component`.
-pub(crate) fn define<'s>(
-    progress: &mut Progress<'s>,
-    alloc: Global,
-    tag: &[Token<'_>],
-    ahead: &mut Tokens<'_, 's>,
-) -> Result<(), Refusal>
-    ensures { let s = progress_of progress.old in
-        let meant = spec.defining s.surroundings.is_top (spec.room 200 s) (input ahead.old) in
-        Becomes (option_and_then (spec.taken 200 s (tokens_of tag.now)) meant) result progress.new }
-{
-    if !progress.surroundings.is_top {
-        return Err(refused(tag, Reason::OutOfPlace));
-    }
-    let signature = signed(alloc, ahead, progress.room())?;
-    progress.open(alloc, false, Head::Definition(signature), tag)
-}
-
-/// A signature that is all from here to the end of the tag.
-#[tactic(auto, unfolding(crate::specs::Reader::signed))]
-fn signed<'s>(
-    alloc: Global,
-    ahead: &mut Tokens<'_, 's>,
-    limit: usize,
-) -> Result<Box<Signature<'s>>, Refusal>
-    ensures { Answers (λ b. signature_of b.value) (spec.signed limit (input ahead.old)) result }
-{
-    let signature = signature(alloc, ahead, limit)?;
-    if !same(Kind::End, ahead.kind()) {
-        return Err(ahead.refuse(Reason::TagGoesOn));
-    }
-    Ok(Box::new(alloc, signature)?)
-}
+use tera_syntax_tree::ComponentTag;
 
 /// A tag that begins with `<`.
 pub(crate) fn call<'s>(

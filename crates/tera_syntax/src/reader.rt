@@ -41,15 +41,15 @@ fn ended<'s>(
     }
 }
 
-/// The tree that a text spells, in which two blocks may have one name.
-fn spelled<'s>(
+/// The tree of a text.
+fn read<'s>(
     alloc: Global,
     delimiters: &Delimiters,
     source: &'s str,
 ) -> Result<ParserOutput<'s>, Refusal>
     requires { IsTrue (accepted (delimiters_of delimiters.now)) }
     ensures value { let all = pieces (delimiters_of delimiters.now) source.now in
-        Answers tree_of (spec.spelled 200 all) result }
+        Answers tree_of (spec.file 200 all) result }
     ensures points { IfErr result (PointsWithin (length source.now)) }
 {
     let mut file = File::begin(alloc);
@@ -73,21 +73,7 @@ fn spelled<'s>(
             Err(refusal) => return Err(refusal),
         }
     }
-    ended(&mut tokens, delimiters, source, file)
-}
-
-/// The tree of a text.
-fn read<'s>(
-    alloc: Global,
-    delimiters: &Delimiters,
-    source: &'s str,
-) -> Result<ParserOutput<'s>, Refusal>
-    requires { IsTrue (accepted (delimiters_of delimiters.now)) }
-    ensures value { let all = pieces (delimiters_of delimiters.now) source.now in
-        Answers tree_of (spec.file 200 all) result }
-    ensures points { IfErr result (PointsWithin (length source.now)) }
-{
-    let output = spelled(alloc, delimiters, source)?;
+    let output = ended(&mut tokens, delimiters, source, file)?;
     once(alloc, output)
 }
 

@@ -26,7 +26,7 @@ use tera_syntax_tree::{Expression, Heading, Node, SectionFilter};
 
 /// An expression that is all from here to the end of the tag.
 #[tactic(auto, unfolding(crate::specs::Reader::whole))]
-fn whole<'s>(
+pub(crate) fn whole<'s>(
     alloc: Global,
     tokens: &mut Tokens<'_, 's>,
     limit: usize,
@@ -39,18 +39,6 @@ fn whole<'s>(
     } else {
         Err(tokens.refuse(Reason::TagGoesOn))
     }
-}
-
-/// The same in a box.
-pub(crate) fn whole_in_box<'s>(
-    alloc: Global,
-    tokens: &mut Tokens<'_, 's>,
-    limit: usize,
-) -> Result<Box<Expression<'s>>, Refusal>
-    ensures { Answers (λ b. expr_of b.value) (spec.whole limit (input tokens.old)) result }
-{
-    let value = whole(alloc, tokens, limit)?;
-    Ok(Box::new(alloc, value)?)
 }
 
 /// Filters that are all from here to the end of the tag.
@@ -120,7 +108,8 @@ fn statement<'s>(
     match first(tag) {
         Kind::If => {
             let mut ahead = behind(tag, progress.surroundings.in_loop);
-            let condition = whole_in_box(alloc, &mut ahead, progress.room())?;
+            let condition = whole(alloc, &mut ahead, progress.room())?;
+            let condition = Box::new(alloc, condition)?;
             progress.open(alloc, false, Head::If(condition), tag)
         }
         Kind::For => {
@@ -130,7 +119,8 @@ fn statement<'s>(
         }
         Kind::Elif => {
             let mut ahead = behind(tag, progress.around().in_loop);
-            let condition = whole_in_box(alloc, &mut ahead, progress.room())?;
+            let condition = whole(alloc, &mut ahead, progress.room())?;
+            let condition = Box::new(alloc, condition)?;
             progress.go_on(alloc, tag)?;
             progress.open(alloc, true, Head::If(condition), tag)
         }
@@ -184,24 +174,12 @@ fn print<'s>(progress: &mut Progress<'s>, alloc: Global, tag: &[Token<'s>]) -> R
             name: token.text,
             span: token.span,
         }),
-        _ => print_value(progress, alloc, tag),
+        _ => {
+            let mut ahead = Tokens::begin(tag, progress.surroundings.in_loop);
+            let value = whole(alloc, &mut ahead, progress.room())?;
+            progress.add(Node::Print { value })
+        }
     }
-}
-
-/// The same of any value.
-fn print_value<'s>(
-    progress: &mut Progress<'s>,
-    alloc: Global,
-    tag: &[Token<'s>],
-) -> Result<(), Refusal>
-    ensures { let s = progress_of progress.old in
-        let tokens = tokens_of tag.now in
-        let value = spec.whole (spec.room 200 s) (begin s.surroundings.in_loop tokens) in
-        Becomes (spec.printed 200 s value) result progress.new }
-{
-    let mut ahead = Tokens::begin(tag, progress.surroundings.in_loop);
-    let value = whole(alloc, &mut ahead, progress.room())?;
-    progress.add(Node::Print { value })
 }
 
 /// Takes a piece more to what was read. The tokens are those of a tag.

@@ -1,18 +1,18 @@
 // Statements that begin with a word which is not reserved, and ends.
-ghost use Rattle.std.specs.Prelude.{◌≡◌, IfOk, get_or, option_and_then};
+ghost use Rattle.std.specs.Prelude.{◌≡◌, IfOk, false, get_or, option_and_then};
 ghost use Rattle.tera_syntax.specs.Reader as spec;
 ghost use Rattle.tera_syntax.specs.View.{Becomes, progress_of};
 ghost use Rattle.tera_syntax_tokens.specs.Answers.{Answers};
-ghost use Rattle.tera_syntax_tokens.specs.Input.{next};
+ghost use Rattle.tera_syntax_tokens.specs.Input.{begin, next};
 ghost use Rattle.tera_syntax_tokens.specs.Takes.{input};
 ghost use Rattle.tera_syntax_tokens.specs.Token.{Token, tokens_of};
 ghost use Rattle.tera_syntax_tree.specs.View.{node_of, quoted_of};
 
-use crate::components::define;
 use crate::heads::Head;
 use crate::progress::{Progress, refused};
-use crate::statements::{behind, pipe, put, whole_in_box};
+use crate::statements::{behind, pipe, put, whole};
 use std::alloc::Global;
+use tera_syntax_expressions::parameters::signature;
 use tera_syntax_tokens::cut::is_alone;
 use tera_syntax_tokens::input::{Tokens, is_word, same};
 use tera_syntax_tokens::literal::literal;
@@ -20,18 +20,20 @@ use tera_syntax_tokens::refusal::{Reason, Refusal};
 use tera_syntax_tokens::token::{Kind, Token};
 use tera_syntax_tree::{Captured, Node, Quoted};
 
-/// Behind `set` or `set_global`.
+/// A tag that begins with `set` or `set_global`.
 fn set<'s>(
     progress: &mut Progress<'s>,
     alloc: Global,
-    tag: &[Token<'_>],
-    ahead: &mut Tokens<'_, 's>,
+    tag: &[Token<'s>],
     is_global: bool,
 ) -> Result<(), Refusal>
     ensures { let s = progress_of progress.old in
-        let meant = spec.setting (spec.room 200 s) is_global (input ahead.old) in
-        Becomes (option_and_then (spec.taken 200 s (tokens_of tag.now)) meant) result progress.new }
+        let tokens = tokens_of tag.now in
+        let behind = next (begin s.surroundings.in_loop tokens) in
+        let meant = spec.setting (spec.room 200 s) is_global behind in
+        Becomes (option_and_then (spec.taken 200 s tokens) meant) result progress.new }
 {
+    let mut ahead = behind(tag, progress.surroundings.in_loop);
     if !same(Kind::Name, ahead.kind()) {
         return Err(ahead.refuse(Reason::Expected(Kind::Name)));
     }
@@ -40,13 +42,14 @@ fn set<'s>(
     let filters = match ahead.kind() {
         Kind::Assign => {
             ahead.take();
-            let value = whole_in_box(alloc, ahead, progress.room())?;
+            let value = whole(alloc, &mut ahead, progress.room())?;
+            let value = Box::new(alloc, value)?;
             return put(progress, Node::set(name, value, is_global), tag);
         }
         Kind::End => Vec::new(alloc),
         Kind::Bar => {
             ahead.take();
-            pipe(alloc, ahead, progress.room())?
+            pipe(alloc, &mut ahead, progress.room())?
         }
         _ => return Err(ahead.refuse(Reason::Expected(Kind::Assign))),
     };
@@ -54,35 +57,31 @@ fn set<'s>(
     progress.open(alloc, false, Head::Set(captured, is_global), tag)
 }
 
-/// Behind `filter`.
-fn section<'s>(
-    progress: &mut Progress<'s>,
-    alloc: Global,
-    tag: &[Token<'_>],
-    ahead: &mut Tokens<'_, 's>,
-) -> Result<(), Refusal>
+/// A tag that begins with `filter`.
+fn section<'s>(progress: &mut Progress<'s>, alloc: Global, tag: &[Token<'s>]) -> Result<(), Refusal>
     ensures { let s = progress_of progress.old in
-        let meant = spec.sectioning (spec.room 200 s) (input ahead.old) in
-        Becomes (option_and_then (spec.taken 200 s (tokens_of tag.now)) meant) result progress.new }
+        let tokens = tokens_of tag.now in
+        let behind = next (begin s.surroundings.in_loop tokens) in
+        let meant = spec.sectioning (spec.room 200 s) behind in
+        Becomes (option_and_then (spec.taken 200 s tokens) meant) result progress.new }
 {
-    let filters = pipe(alloc, ahead, progress.room())?;
+    let mut ahead = behind(tag, progress.surroundings.in_loop);
+    let filters = pipe(alloc, &mut ahead, progress.room())?;
     progress.open(alloc, false, Head::Section(filters), tag)
 }
 
-/// Behind `block`, whose name may be a reserved word.
-fn block<'s>(
-    progress: &mut Progress<'s>,
-    alloc: Global,
-    tag: &[Token<'_>],
-    ahead: &mut Tokens<'_, 's>,
-) -> Result<(), Refusal>
+/// A tag that begins with `block`. The block's name may be a reserved word.
+fn block<'s>(progress: &mut Progress<'s>, alloc: Global, tag: &[Token<'s>]) -> Result<(), Refusal>
     ensures { let s = progress_of progress.old in
-        let meant = spec.blocking s.surroundings.may_have_blocks (input ahead.old) in
-        Becomes (option_and_then (spec.taken 200 s (tokens_of tag.now)) meant) result progress.new }
+        let tokens = tokens_of tag.now in
+        let behind = next (begin s.surroundings.in_loop tokens) in
+        let meant = spec.blocking s.surroundings.may_have_blocks behind in
+        Becomes (option_and_then (spec.taken 200 s tokens) meant) result progress.new }
 {
     if !progress.surroundings.may_have_blocks {
         return Err(refused(tag, Reason::OutOfPlace));
     }
+    let mut ahead = behind(tag, progress.surroundings.in_loop);
     if !is_word(ahead.kind()) {
         return Err(ahead.refuse(Reason::Expected(Kind::Name)));
     }
@@ -93,6 +92,27 @@ fn block<'s>(
         return Err(ahead.refuse(Reason::TagGoesOn));
     }
     progress.open(alloc, false, Head::Block(name, ahead.span(start)), tag)
+}
+
+/// A tag that begins with `component`.
+#[tactic(auto, unfolding(crate::specs::Reader::signed))]
+fn define<'s>(progress: &mut Progress<'s>, alloc: Global, tag: &[Token<'s>]) -> Result<(), Refusal>
+    ensures { let s = progress_of progress.old in
+        let tokens = tokens_of tag.now in
+        let behind = next (begin false tokens) in
+        let meant = spec.defining s.surroundings.is_top (spec.room 200 s) behind in
+        Becomes (option_and_then (spec.taken 200 s tokens) meant) result progress.new }
+{
+    if !progress.surroundings.is_top {
+        return Err(refused(tag, Reason::OutOfPlace));
+    }
+    let mut ahead = behind(tag, false);
+    let signature = signature(alloc, &mut ahead, progress.room())?;
+    if !same(Kind::End, ahead.kind()) {
+        return Err(ahead.refuse(Reason::TagGoesOn));
+    }
+    let signature = Box::new(alloc, signature)?;
+    progress.open(alloc, false, Head::Definition(signature), tag)
 }
 
 /// The name in quotes that ends a tag.
@@ -117,19 +137,16 @@ pub(crate) fn quoted_name<'s>(
     }
 }
 
-/// Behind `include`.
-fn include<'s>(
-    progress: &mut Progress<'s>,
-    alloc: Global,
-    tag: &[Token<'_>],
-    ahead: &mut Tokens<'_, 's>,
-) -> Result<(), Refusal>
+/// A tag that begins with `include`.
+fn include<'s>(progress: &mut Progress<'s>, alloc: Global, tag: &[Token<'s>]) -> Result<(), Refusal>
     ensures { let s = progress_of progress.old in
-        let meant = spec.including (input ahead.old) in
-        Becomes (option_and_then (spec.taken 200 s (tokens_of tag.now)) meant) result progress.new }
+        let tokens = tokens_of tag.now in
+        let meant = spec.including (next (begin false tokens)) in
+        Becomes (option_and_then (spec.taken 200 s tokens) meant) result progress.new }
 {
+    let mut ahead = behind(tag, false);
     let start = ahead.start();
-    let name = quoted_name(alloc, ahead)?;
+    let name = quoted_name(alloc, &mut ahead)?;
     let span = ahead.span(start);
     put(progress, Node::Include { name, span }, tag)
 }
@@ -182,6 +199,7 @@ fn first_byte(text: &str) -> u8
 }
 
 /// A tag that begins with this word.
+#[tactic(auto, unfolding(crate::specs::Reader::named))]
 pub(crate) fn named<'s>(
     progress: &mut Progress<'s>,
     alloc: Global,
@@ -193,47 +211,15 @@ pub(crate) fn named<'s>(
         let meant = spec.named (spec.room 200 s) s.surroundings tokens word.now in
         Becomes (option_and_then (spec.taken 200 s tokens) meant) result progress.new }
 {
-    if may_begin(first_byte(word), word.len()) {
-        begun(progress, alloc, tag, word)
-    } else {
-        progress.shut(alloc, tag)
+    if !may_begin(first_byte(word), word.len()) {
+        return progress.shut(alloc, tag);
     }
-}
-
-/// The same by comparing the word with each that begins a statement.
-#[tactic(auto, unfolding(crate::specs::Reader::named))]
-fn begun<'s>(
-    progress: &mut Progress<'s>,
-    alloc: Global,
-    tag: &[Token<'s>],
-    word: &str,
-) -> Result<(), Refusal>
-    ensures { let s = progress_of progress.old in
-        let tokens = tokens_of tag.now in
-        let meant = spec.named (spec.room 200 s) s.surroundings tokens word.now in
-        Becomes (option_and_then (spec.taken 200 s tokens) meant) result progress.new }
-{
     match word {
-        "set" | "set_global" => {
-            let mut ahead = behind(tag, progress.surroundings.in_loop);
-            set(progress, alloc, tag, &mut ahead, word != "set")
-        }
-        "filter" => {
-            let mut ahead = behind(tag, progress.surroundings.in_loop);
-            section(progress, alloc, tag, &mut ahead)
-        }
-        "block" => {
-            let mut ahead = behind(tag, progress.surroundings.in_loop);
-            block(progress, alloc, tag, &mut ahead)
-        }
-        "component" => {
-            let mut ahead = behind(tag, false);
-            define(progress, alloc, tag, &mut ahead)
-        }
-        "include" => {
-            let mut ahead = behind(tag, false);
-            include(progress, alloc, tag, &mut ahead)
-        }
+        "set" | "set_global" => set(progress, alloc, tag, word != "set"),
+        "filter" => section(progress, alloc, tag),
+        "block" => block(progress, alloc, tag),
+        "component" => define(progress, alloc, tag),
+        "include" => include(progress, alloc, tag),
         "break" => leave(progress, tag, "break", Node::Break),
         "continue" => leave(progress, tag, "continue", Node::Continue),
         _ => progress.shut(alloc, tag),

@@ -6,8 +6,8 @@ use Rattle.tera_syntax.specs.View.{Becomes, progress_of}
 use Rattle.tera_syntax.proofs.Begun.{hint, none_begun}
 use Rattle.tera_syntax.proofs.words.named.Goals as goal
 
-pub returns-else-may_begin : goal.returns-else-may_begin
-returns-else-may_begin c =
+pub returns-then-not-may_begin : goal.returns-then-not-may_begin
+returns-then-not-may_begin c =
     let s = progress_of c.args.progress.now in
     let tokens = tokens_of c.args.tag.now in
     let h : hint c.args.word.now ≡ false = cc in

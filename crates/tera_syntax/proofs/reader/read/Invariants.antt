@@ -5,7 +5,7 @@ use Rattle.tera_syntax_tokens.specs.Cut.{Knows, cut, pieces}
 use Rattle.tera_syntax_tree.specs.Delimiters.{delimiters_of}
 use Rattle.tera_syntax.specs.File as spec
 use Rattle.tera_syntax.specs.View.{file_of}
-use Rattle.tera_syntax.proofs.reader.spelled.Given as goal
+use Rattle.tera_syntax.proofs.reader.read.Given as goal
 
 abbrev pub invariant-loop-rest : goal.invariant-loop-rest
 invariant-loop-rest l = record {

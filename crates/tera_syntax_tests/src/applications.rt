@@ -1,5 +1,5 @@
 //! Texts with filters, tests and calls in expressions.
-use crate::rows::{Nest, Row, Text};
+use crate::rows::{Row, Text};
 
 /// Between the standard delimiters.
 pub static APPLICATIONS: [Row; 24] = [
@@ -102,29 +102,4 @@ pub static UNREAD_APPLICATIONS: [Text; 39] = [
     Text("{{ 'f'(a=1) }}"),
     Text("{% for v in e %}{{ loop.index(a=1) }}{% endfor %}"),
     Text("{{ {a | f: 1} }}"),
-];
-
-const FILTERS: [&str; 5] = ["{{ a", " | f", "", "", " }}"];
-
-const TESTS: [&str; 5] = ["{{ a", " is b", "", "", " }}"];
-
-const UNTRUE_TESTS: [&str; 5] = ["{{ a", " is not b", "", "", " }}"];
-
-const CALLS: [&str; 5] = ["{{ ", "f(a=", "b", ")", " }}"];
-
-const ARGUMENTS: [&str; 5] = ["{{ ", "a | f(b=", "c", ")", " }}"];
-
-pub static APPLICATION_NESTS: [Nest; 10] = [
-    // the name, the filters and the node
-    Nest(FILTERS, 198, true),
-    Nest(FILTERS, 199, false),
-    Nest(TESTS, 198, true),
-    Nest(TESTS, 199, false),
-    // each is a test and a `not`
-    Nest(UNTRUE_TESTS, 99, true),
-    Nest(UNTRUE_TESTS, 100, false),
-    Nest(CALLS, 198, true),
-    Nest(CALLS, 199, false),
-    Nest(ARGUMENTS, 198, true),
-    Nest(ARGUMENTS, 199, false),
 ];

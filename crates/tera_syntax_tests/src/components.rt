@@ -1,5 +1,5 @@
 //! Texts that define components, and that hand them a body.
-use crate::rows::{Nest, Row, Text};
+use crate::rows::{Row, Text};
 
 /// Between the standard delimiters.
 pub static DEFINITIONS: [Row; 20] = [
@@ -248,36 +248,4 @@ pub static UNREAD_CALLS: [Text; 39] = [
     Text("{{ < X }}"),
     Text("{{ <X/ > }}"),
     Text("{{ <X/><Y/> }}"),
-];
-
-const CALL: [&str; 5] = ["", "{% <X> %}", "a", "{% </X> %}", ""];
-
-const IN_COMPONENT: [&str; 5] = [
-    "{% component A() %}",
-    "{% <X> %}",
-    "a",
-    "{% </X> %}",
-    "{% endcomponent %}",
-];
-
-const DEFAULT: [&str; 5] = [
-    "{% component A(a = ",
-    "[",
-    "1",
-    "]",
-    ") %}{% endcomponent %}",
-];
-
-const ATTRIBUTE: [&str; 5] = ["{% <X a={", "[", "1", "]", "}> %}{% </X> %}"];
-
-/// A default and an attribute are parts of a node.
-pub static COMPONENT_NESTS: [Nest; 8] = [
-    Nest(CALL, 199, true),
-    Nest(CALL, 200, false),
-    Nest(IN_COMPONENT, 198, true),
-    Nest(IN_COMPONENT, 199, false),
-    Nest(DEFAULT, 198, true),
-    Nest(DEFAULT, 199, false),
-    Nest(ATTRIBUTE, 198, true),
-    Nest(ATTRIBUTE, 199, false),
 ];

@@ -1,5 +1,5 @@
 //! Texts with includes.
-use crate::rows::{Nest, Row, Text};
+use crate::rows::{Row, Text};
 
 /// Between the standard delimiters.
 pub static INCLUDES: [Row; 17] = [
@@ -83,7 +83,3 @@ pub static UNREAD_INCLUDES: [Text; 26] = [
     Text("{% include 'a' %}{% extends 'b' %}"),
     Text("{% if a %}{% include 'b' %}"),
 ];
-
-const INCLUDE: [&str; 5] = ["", "{% set a %}", "{% include 'b' %}", "{% endset %}", ""];
-
-pub static INCLUDE_NESTS: [Nest; 2] = [Nest(INCLUDE, 199, true), Nest(INCLUDE, 200, false)];

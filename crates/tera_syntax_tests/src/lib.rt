@@ -8,6 +8,8 @@ mod components;
 #[cfg(test)]
 mod includes;
 #[cfg(test)]
+mod nests;
+#[cfg(test)]
 mod places;
 #[cfg(test)]
 mod readings;

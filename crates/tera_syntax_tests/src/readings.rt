@@ -1,19 +1,29 @@
 //! Readings of small texts.
-ghost use Rattle.std.specs.Prelude.{IsTrue, IfSome};
+ghost use Rattle.std.specs.Prelude.{IsTrue};
 ghost use Rattle.tera_syntax_tree.specs.Delimiters.{accepted, delimiters_of};
 
-use crate::applications::{APPLICATION_NESTS, APPLICATIONS, UNREAD_APPLICATIONS};
-use crate::components::{CALLS, COMPONENT_NESTS, DEFINITIONS, UNREAD_CALLS, UNREAD_DEFINITIONS};
-use crate::includes::{INCLUDE_NESTS, INCLUDES, UNREAD_INCLUDES};
+use crate::applications::{APPLICATIONS, UNREAD_APPLICATIONS};
+use crate::components::{CALLS, DEFINITIONS, UNREAD_CALLS, UNREAD_DEFINITIONS};
+use crate::includes::{INCLUDES, UNREAD_INCLUDES};
+use crate::nests::{Depth, NESTS, Nest};
 use crate::places::{PLACES, Place};
-use crate::rows::{NESTS, Nest, OTHERS, Other, REFUSED, Row, TREES, Text, UNUSABLE, Unusable};
-use crate::sections::{SECTION_NESTS, SECTIONS, UNREAD_SECTIONS};
+use crate::rows::{OTHERS, Other, REFUSED, Row, TREES, Text, UNUSABLE, Unusable};
+use crate::sections::{SECTIONS, UNREAD_SECTIONS};
 use crate::shown::Shown;
 use std::alloc::Global;
-use tera_errors::{ErrorKind, Span};
+use tera_errors::{ErrorKind, Span, TeraResult};
 use tera_syntax::{Delimiters, ParserOutput, parse};
 
-fn is_shown(alloc: Global, output: &ParserOutput, want: &str) -> bool {
+/// The tree of a text between the standard delimiters.
+fn parsed(alloc: Global, text: &str) -> TeraResult<ParserOutput<'_>> {
+    let delimiters = Delimiters::standard(alloc)?;
+    parse(alloc, "t", text, &delimiters)
+}
+
+fn is_shown(alloc: Global, read: TeraResult<ParserOutput<'_>>, want: &str) -> bool {
+    let Ok(output) = read else {
+        return false;
+    };
     let mut shown = Shown::new(alloc);
     if let Some(parent) = &output.parent {
         shown.parent(parent.as_str());
@@ -22,20 +32,13 @@ fn is_shown(alloc: Global, output: &ParserOutput, want: &str) -> bool {
     shown.is(want)
 }
 
-fn agrees(alloc: Global, delimiters: &Delimiters, row: Row) -> bool
-    requires { IsTrue (accepted (delimiters_of delimiters.now)) }
-{
-    match parse(alloc, "t", row.0, delimiters) {
-        Ok(output) => is_shown(alloc, &output, row.1),
-        Err(_) => false,
-    }
+fn agrees(alloc: Global, row: Row) -> bool {
+    is_shown(alloc, parsed(alloc, row.0), row.1)
 }
 
 /// Whether the text is a syntax error, at a stretch of it.
-fn is_refused(alloc: Global, delimiters: &Delimiters, text: &str) -> bool
-    requires { IsTrue (accepted (delimiters_of delimiters.now)) }
-{
-    match parse(alloc, "t", text, delimiters) {
+fn is_refused(alloc: Global, text: &str) -> bool {
+    match parsed(alloc, text) {
         Ok(_) => false,
         Err(error) => match error.kind() {
             ErrorKind::SyntaxError(report) => report.span().end <= text.len(),
@@ -45,11 +48,9 @@ fn is_refused(alloc: Global, delimiters: &Delimiters, text: &str) -> bool
 }
 
 /// Whether the text is a syntax error that points there and says so.
-fn is_placed(alloc: Global, delimiters: &Delimiters, place: &Place) -> bool
-    requires { IsTrue (accepted (delimiters_of delimiters.now)) }
-{
-    let Place(text, start, end, words) = *place;
-    match parse(alloc, "t", text, delimiters) {
+fn is_placed(alloc: Global, place: Place) -> bool {
+    let Place(text, start, end, words) = place;
+    match parsed(alloc, text) {
         Ok(_) => false,
         Err(error) => match error.kind() {
             ErrorKind::SyntaxError(report) => {
@@ -58,17 +59,6 @@ fn is_placed(alloc: Global, delimiters: &Delimiters, place: &Place) -> bool
             _ => false,
         },
     }
-}
-
-fn first_misplaced(alloc: Global, delimiters: &Delimiters, places: &[Place]) -> Option<&'static str>
-    requires { IsTrue (accepted (delimiters_of delimiters.now)) }
-{
-    for place in places {
-        if !is_placed(alloc, delimiters, place) {
-            return Some(place.0);
-        }
-    }
-    None
 }
 
 fn put(all: &mut String, text: &str) -> bool {
@@ -84,8 +74,8 @@ fn put_often(all: &mut String, text: &str, count: usize) -> bool {
     true
 }
 
-fn put_nest(all: &mut String, nest: &Nest) -> bool {
-    let Nest([start, before, middle, after, end], count, _) = *nest;
+fn put_nest(all: &mut String, texts: [&str; 5], count: usize) -> bool {
+    let [start, before, middle, after, end] = texts;
     put(all, start)
         && put_often(all, before, count)
         && put(all, middle)
@@ -93,220 +83,81 @@ fn put_nest(all: &mut String, nest: &Nest) -> bool {
         && put(all, end)
 }
 
-fn is_as_deep(alloc: Global, delimiters: &Delimiters, nest: &Nest) -> bool
-    requires { IsTrue (accepted (delimiters_of delimiters.now)) }
-{
+/// Whether the texts are read with so many parts in one another, or else are a syntax error.
+fn is_answered(alloc: Global, texts: [&str; 5], count: usize, is_read: bool) -> bool {
     let mut all = String::new(alloc);
-    put_nest(&mut all, nest) && is_refused(alloc, delimiters, all.as_str()) != nest.2
+    put_nest(&mut all, texts, count) && is_refused(alloc, all.as_str()) != is_read
 }
 
-/// The first tree that is another, or text that is read though it spells none, or nest that is answered otherwise.
-fn first_wrong(alloc: Global, delimiters: &Delimiters, rows: &'static [Row]) -> Option<&'static str>
-    requires { IsTrue (accepted (delimiters_of delimiters.now)) }
-{
+fn is_as_deep(alloc: Global, nest: Nest) -> bool {
+    let Nest(texts, depth) = nest;
+    match depth {
+        Depth::Deepest(count) => {
+            is_answered(alloc, texts, count, true)
+                && is_answered(alloc, texts, count.saturating_add(1), false)
+        }
+        Depth::Read(count) => is_answered(alloc, texts, count, true),
+        Depth::Refused(count) => is_answered(alloc, texts, count, false),
+    }
+}
+
+/// The first text whose tree is another.
+fn first_wrong(alloc: Global, rows: &[Row]) -> Option<&'static str> {
     for row in rows {
-        if !agrees(alloc, delimiters, *row) {
+        if !agrees(alloc, *row) {
             return Some(row.0);
         }
     }
     None
 }
 
-fn first_read(
-    alloc: Global,
-    delimiters: &Delimiters,
-    texts: &'static [Text],
-) -> Option<&'static str>
-    requires { IsTrue (accepted (delimiters_of delimiters.now)) }
-{
+/// The first text that is read though it spells no tree.
+fn first_read(alloc: Global, texts: &[Text]) -> Option<&'static str> {
     for text in texts {
-        if !is_refused(alloc, delimiters, text.0) {
+        if !is_refused(alloc, text.0) {
             return Some(text.0);
         }
     }
     None
 }
 
-fn first_deep(alloc: Global, delimiters: &Delimiters, nests: &[Nest]) -> Option<usize>
-    requires { IsTrue (accepted (delimiters_of delimiters.now)) }
-{
-    for (row, nest) in nests.iter().enumerate() {
-        if !is_as_deep(alloc, delimiters, nest) {
-            return Some(row);
-        }
-    }
-    None
-}
-
-fn standard(alloc: Global) -> Option<Delimiters>
-    ensures { IfSome result (λ d. IsTrue (accepted (delimiters_of d))) }
-{
-    match Delimiters::standard(alloc) {
-        Ok(delimiters) => Some(delimiters),
-        Err(_) => None,
+/// The first text of two tables that is answered otherwise.
+fn first_other(alloc: Global, trees: &[Row], refused: &[Text]) -> Option<&'static str> {
+    match first_wrong(alloc, trees) {
+        Some(wrong) => Some(wrong),
+        None => first_read(alloc, refused),
     }
 }
 
 #[test]
-fn trees(rt: HostRuntime) {
-    let wrong = match standard(rt.alloc()) {
-        Some(delimiters) => first_wrong(rt.alloc(), &delimiters, &TREES),
-        None => Some("want of memory"),
-    };
-    assert_eq!(rt; wrong, None);
-}
-
-#[test]
-fn refusals(rt: HostRuntime) {
-    let wrong = match standard(rt.alloc()) {
-        Some(delimiters) => first_read(rt.alloc(), &delimiters, &REFUSED),
-        None => Some("want of memory"),
-    };
-    assert_eq!(rt; wrong, None);
+fn texts(rt: HostRuntime) {
+    let alloc = rt.alloc();
+    let tables: [(&[Row], &[Text]); 6] = [
+        (&TREES, &REFUSED),
+        (&SECTIONS, &UNREAD_SECTIONS),
+        (&APPLICATIONS, &UNREAD_APPLICATIONS),
+        (&INCLUDES, &UNREAD_INCLUDES),
+        (&DEFINITIONS, &UNREAD_DEFINITIONS),
+        (&CALLS, &UNREAD_CALLS),
+    ];
+    let other = tables
+        .iter()
+        .find_map(|tables| first_other(alloc, tables.0, tables.1));
+    assert_eq!(rt; other, None);
 }
 
 #[test]
 fn places(rt: HostRuntime) {
-    let wrong = match standard(rt.alloc()) {
-        Some(delimiters) => first_misplaced(rt.alloc(), &delimiters, &PLACES),
-        None => Some("want of memory"),
-    };
-    assert_eq!(rt; wrong, None);
+    let alloc = rt.alloc();
+    let misplaced = PLACES.iter().position(|place| !is_placed(alloc, *place));
+    assert_eq!(rt; misplaced, None);
 }
 
 #[test]
 fn depths(rt: HostRuntime) {
-    let wrong = match standard(rt.alloc()) {
-        Some(delimiters) => first_deep(rt.alloc(), &delimiters, &NESTS),
-        None => Some(NESTS.len()),
-    };
-    assert_eq!(rt; wrong, None);
-}
-
-#[test]
-fn sections(rt: HostRuntime) {
-    let wrong = match standard(rt.alloc()) {
-        Some(delimiters) => first_wrong(rt.alloc(), &delimiters, &SECTIONS),
-        None => Some("want of memory"),
-    };
-    assert_eq!(rt; wrong, None);
-}
-
-#[test]
-fn unread_sections(rt: HostRuntime) {
-    let wrong = match standard(rt.alloc()) {
-        Some(delimiters) => first_read(rt.alloc(), &delimiters, &UNREAD_SECTIONS),
-        None => Some("want of memory"),
-    };
-    assert_eq!(rt; wrong, None);
-}
-
-#[test]
-fn deep_sections(rt: HostRuntime) {
-    let wrong = match standard(rt.alloc()) {
-        Some(delimiters) => first_deep(rt.alloc(), &delimiters, &SECTION_NESTS),
-        None => Some(SECTION_NESTS.len()),
-    };
-    assert_eq!(rt; wrong, None);
-}
-
-#[test]
-fn applications(rt: HostRuntime) {
-    let wrong = match standard(rt.alloc()) {
-        Some(delimiters) => first_wrong(rt.alloc(), &delimiters, &APPLICATIONS),
-        None => Some("want of memory"),
-    };
-    assert_eq!(rt; wrong, None);
-}
-
-#[test]
-fn unread_applications(rt: HostRuntime) {
-    let wrong = match standard(rt.alloc()) {
-        Some(delimiters) => first_read(rt.alloc(), &delimiters, &UNREAD_APPLICATIONS),
-        None => Some("want of memory"),
-    };
-    assert_eq!(rt; wrong, None);
-}
-
-#[test]
-fn deep_applications(rt: HostRuntime) {
-    let wrong = match standard(rt.alloc()) {
-        Some(delimiters) => first_deep(rt.alloc(), &delimiters, &APPLICATION_NESTS),
-        None => Some(APPLICATION_NESTS.len()),
-    };
-    assert_eq!(rt; wrong, None);
-}
-
-#[test]
-fn includes(rt: HostRuntime) {
-    let wrong = match standard(rt.alloc()) {
-        Some(delimiters) => first_wrong(rt.alloc(), &delimiters, &INCLUDES),
-        None => Some("want of memory"),
-    };
-    assert_eq!(rt; wrong, None);
-}
-
-#[test]
-fn unread_includes(rt: HostRuntime) {
-    let wrong = match standard(rt.alloc()) {
-        Some(delimiters) => first_read(rt.alloc(), &delimiters, &UNREAD_INCLUDES),
-        None => Some("want of memory"),
-    };
-    assert_eq!(rt; wrong, None);
-}
-
-#[test]
-fn deep_includes(rt: HostRuntime) {
-    let wrong = match standard(rt.alloc()) {
-        Some(delimiters) => first_deep(rt.alloc(), &delimiters, &INCLUDE_NESTS),
-        None => Some(INCLUDE_NESTS.len()),
-    };
-    assert_eq!(rt; wrong, None);
-}
-
-#[test]
-fn definitions(rt: HostRuntime) {
-    let wrong = match standard(rt.alloc()) {
-        Some(delimiters) => first_wrong(rt.alloc(), &delimiters, &DEFINITIONS),
-        None => Some("want of memory"),
-    };
-    assert_eq!(rt; wrong, None);
-}
-
-#[test]
-fn unread_definitions(rt: HostRuntime) {
-    let wrong = match standard(rt.alloc()) {
-        Some(delimiters) => first_read(rt.alloc(), &delimiters, &UNREAD_DEFINITIONS),
-        None => Some("want of memory"),
-    };
-    assert_eq!(rt; wrong, None);
-}
-
-#[test]
-fn component_calls(rt: HostRuntime) {
-    let wrong = match standard(rt.alloc()) {
-        Some(delimiters) => first_wrong(rt.alloc(), &delimiters, &CALLS),
-        None => Some("want of memory"),
-    };
-    assert_eq!(rt; wrong, None);
-}
-
-#[test]
-fn unread_component_calls(rt: HostRuntime) {
-    let wrong = match standard(rt.alloc()) {
-        Some(delimiters) => first_read(rt.alloc(), &delimiters, &UNREAD_CALLS),
-        None => Some("want of memory"),
-    };
-    assert_eq!(rt; wrong, None);
-}
-
-#[test]
-fn deep_components(rt: HostRuntime) {
-    let wrong = match standard(rt.alloc()) {
-        Some(delimiters) => first_deep(rt.alloc(), &delimiters, &COMPONENT_NESTS),
-        None => Some(COMPONENT_NESTS.len()),
-    };
-    assert_eq!(rt; wrong, None);
+    let alloc = rt.alloc();
+    let other = NESTS.iter().position(|nest| !is_as_deep(alloc, *nest));
+    assert_eq!(rt; other, None);
 }
 
 /// Blocks without a body, each with its number for its name.
@@ -325,31 +176,18 @@ fn put_blocks(alloc: Global, all: &mut String, count: usize) -> bool {
     true
 }
 
-fn are_read(alloc: Global, delimiters: &Delimiters, text: &str) -> bool
-    requires { IsTrue (accepted (delimiters_of delimiters.now)) }
-{
-    parse(alloc, "t", text, delimiters).is_ok()
-}
-
 /// Whether many blocks are read, and refused with one more that has a name of theirs.
-fn are_told_apart(alloc: Global, delimiters: &Delimiters) -> bool
-    requires { IsTrue (accepted (delimiters_of delimiters.now)) }
-{
+fn are_told_apart(alloc: Global) -> bool {
     let mut all = String::new(alloc);
     put_blocks(alloc, &mut all, 2_000)
-        && are_read(alloc, delimiters, all.as_str())
+        && parsed(alloc, all.as_str()).is_ok()
         && put(&mut all, "{% block block_1999 %}{% endblock %}")
-        && is_refused(alloc, delimiters, all.as_str())
+        && is_refused(alloc, all.as_str())
 }
 
 #[test]
 fn many_blocks(rt: HostRuntime) {
-    let alloc = rt.alloc();
-    let are_told = match standard(alloc) {
-        Some(delimiters) => are_told_apart(alloc, &delimiters),
-        None => false,
-    };
-    assert!(rt; are_told);
+    assert!(rt; are_told_apart(rt.alloc()));
 }
 
 /// Delimiters of which no text is written yet.
@@ -383,7 +221,7 @@ fn agrees_by(alloc: Global, other: Other) -> bool {
     let mut delimiters = unwritten(alloc);
     are_written(&mut delimiters, other.0, other.1)
         && are_usable(alloc, &delimiters)
-        && agrees(alloc, &delimiters, other.2)
+        && is_shown(alloc, parse(alloc, "t", other.2.0, &delimiters), other.2.1)
 }
 
 fn are_refused(alloc: Global, unusable: Unusable) -> bool {

@@ -8,10 +8,6 @@ pub struct Row(pub &'static str, pub &'static str);
 #[derive(Clone, Copy)]
 pub struct Text(pub &'static str);
 
-/// Five texts, of which the second and the fourth stand so many times, and whether all of them are read.
-#[derive(Clone, Copy)]
-pub struct Nest(pub [&'static str; 5], pub usize, pub bool);
-
 /// A start and an end of comments beside `<% %>` and `<< >>`, and a text with its tree.
 #[derive(Clone, Copy)]
 pub struct Other(pub &'static str, pub &'static str, pub Row);
@@ -419,67 +415,6 @@ pub static REFUSED: [Text; 162] = [
     Text("{% block a %}{% continue %}{% endblock %}"),
     Text("{% extends 'a' %}{% block b %}{% endblock %}{% block b %}{% endblock %}"),
     Text("{% block a %}{% extends 'a' %}{% endblock %}"),
-];
-
-const PARENTHESES: [&str; 5] = ["{{ ", "(", "a", ")", " }}"];
-
-const OPEN_PARENTHESES: [&str; 5] = ["{{ ", "(", "a", "", " }}"];
-
-const NOTS: [&str; 5] = ["{{ ", "not ", "a", "", " }}"];
-
-const ARRAYS: [&str; 5] = ["{{ ", "[", "a", "]", " }}"];
-
-const CHOICES: [&str; 5] = ["", "{% if a %}", "x", "{% endif %}", ""];
-
-const ELIFS: [&str; 5] = ["{% if a %}x", "{% elif a %}x", "", "", "{% endif %}"];
-
-const LOOPS: [&str; 5] = ["", "{% for v in e %}", "x", "{% endfor %}", ""];
-
-const EMPTY_LOOPS: [&str; 5] = ["", "{% for v in e %}", "", "{% endfor %}", ""];
-
-const LEFT_LOOPS: [&str; 5] = ["", "{% for v in e %}", "{% break %}", "{% endfor %}", ""];
-
-const CAPTURES: [&str; 5] = ["", "{% set a %}", "x", "{% endset %}", ""];
-
-const EMPTY_CAPTURES: [&str; 5] = ["", "{% set a %}", "", "{% endset %}", ""];
-
-const EMPTY_BLOCKS: [&str; 5] = [
-    "",
-    "{% set a %}",
-    "{% block b %}{% endblock %}",
-    "{% endset %}",
-    "",
-];
-
-const CONDITIONS: [&str; 5] = ["{% if ", "not ", "a", "", " %}x{% endif %}"];
-
-pub static NESTS: [Nest; 24] = [
-    Nest(PARENTHESES, 20_000, true),
-    Nest(OPEN_PARENTHESES, 20_000, false),
-    Nest(NOTS, 198, true),
-    Nest(NOTS, 199, false),
-    Nest(ARRAYS, 198, true),
-    Nest(ARRAYS, 199, false),
-    Nest(CHOICES, 199, true),
-    Nest(CHOICES, 200, false),
-    // the first condition is an `if`
-    Nest(ELIFS, 198, true),
-    Nest(ELIFS, 199, false),
-    Nest(CONDITIONS, 198, true),
-    Nest(CONDITIONS, 199, false),
-    Nest(LOOPS, 199, true),
-    Nest(LOOPS, 200, false),
-    Nest(EMPTY_LOOPS, 199, true),
-    Nest(EMPTY_LOOPS, 200, false),
-    Nest(LEFT_LOOPS, 199, true),
-    Nest(LEFT_LOOPS, 200, false),
-    Nest(CAPTURES, 199, true),
-    Nest(CAPTURES, 200, false),
-    // a statement without an expression may stand at the limit
-    Nest(EMPTY_CAPTURES, 200, true),
-    Nest(EMPTY_CAPTURES, 201, false),
-    Nest(EMPTY_BLOCKS, 199, true),
-    Nest(EMPTY_BLOCKS, 200, false),
 ];
 
 pub static OTHERS: [Other; 3] = [

@@ -1,5 +1,5 @@
 //! Texts with filter sections, and with filters behind the name that `set` binds.
-use crate::rows::{Nest, Row, Text};
+use crate::rows::{Row, Text};
 
 /// Between the standard delimiters.
 pub static SECTIONS: [Row; 16] = [
@@ -120,28 +120,4 @@ pub static UNREAD_SECTIONS: [Text; 48] = [
     Text("{% set x | f %}{% endset_global %}"),
     Text("{% set_global x | %}{% endset_global %}"),
     Text("{{ filter f }}"),
-];
-
-const SECTION: [&str; 5] = ["", "{% filter f %}", "x", "{% endfilter %}", ""];
-
-const EMPTY_SECTION: [&str; 5] = ["", "{% filter f %}", "", "{% endfilter %}", ""];
-
-const ARGUMENT: [&str; 5] = ["{% filter f(a=", "not ", "b", "", ") %}{% endfilter %}"];
-
-const FILTERED: [&str; 5] = ["", "{% set a | f(b=1) %}", "", "{% endset %}", ""];
-
-const ROW: [&str; 5] = ["{% filter f", " | f", "", "", " %}{% endfilter %}"];
-
-pub static SECTION_NESTS: [Nest; 9] = [
-    Nest(SECTION, 199, true),
-    Nest(SECTION, 200, false),
-    // a filter is one deep
-    Nest(EMPTY_SECTION, 199, true),
-    Nest(EMPTY_SECTION, 200, false),
-    // the name, the filter and the section
-    Nest(ARGUMENT, 197, true),
-    Nest(ARGUMENT, 198, false),
-    Nest(FILTERED, 198, true),
-    Nest(FILTERED, 199, false),
-    Nest(ROW, 20_000, true),
 ];

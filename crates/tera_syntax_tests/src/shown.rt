@@ -74,6 +74,13 @@ impl Shown {
         self.put_span(span);
     }
 
+    /// What stands before the value of an argument or an attribute.
+    fn put_named(&mut self, name: &str) {
+        self.put(" ");
+        self.put(name);
+        self.put("=");
+    }
+
     #[cycle(expression)]
     fn put_bound(&mut self, bound: &Option<Box<Expression>>) {
         match bound {
@@ -98,9 +105,7 @@ impl Shown {
     #[cycle(expression)]
     fn arguments(&mut self, arguments: &[Argument]) {
         for argument in arguments {
-            self.put(" ");
-            self.put(argument.name);
-            self.put("=");
+            self.put_named(argument.name);
             self.expression(&argument.value);
         }
     }
@@ -110,11 +115,7 @@ impl Shown {
     fn attributes(&mut self, attributes: &[Entry]) {
         for attribute in attributes {
             match &attribute.key {
-                Some(LiteralKey::Text(name)) => {
-                    self.put(" ");
-                    self.put(name.as_str());
-                    self.put("=");
-                }
+                Some(LiteralKey::Text(name)) => self.put_named(name.as_str()),
                 _ => self.put(" ..."),
             }
             self.expression(&attribute.value);

@@ -1,4 +1,4 @@
-use Rattle.std.proofs.Common.{◌≡◌, ◌-◌, ◌==◌, ℕ, Bool, true, length, List, [], Option, Some, ap, sym, ◌∙◌, subst, arith}
+use Rattle.std.proofs.Common.{rules, ◌≡◌, ◌-◌, ◌==◌, ℕ, Bool, true, length, List, [], Option, Some, ap, sym, ◌∙◌, subst, arith}
 use Rattle.std.specs.Prelude.{option_and_then}
 use Rattle.std.proofs.lemmas.List.{length-drop}
 use Rattle.std.proofs.lemmas.Bool.Decides.{Decides-eqb}
@@ -6,7 +6,7 @@ use Rattle.tera_errors.specs.Site.{Text}
 use Rattle.tera_syntax_tokens.specs.Cut.{cut, FoundPiece, pieces}
 use Rattle.tera_syntax_tokens.specs.declared.cut.FoundPiece as found
 use Rattle.tera_syntax_tokens.specs.declared.token.Token.{Token}
-use Rattle.tera_syntax_tokens.specs.Answers.{Answers}
+use Rattle.tera_syntax_tokens.specs.Answers.{Answers, Refuses}
 use Rattle.tera_syntax_tree.specs.Delimiters.{Delims, delimiters_of}
 use Rattle.tera_syntax_tree.specs.View.{tree_of}
 use Rattle.tera_syntax_tokens.specs.Found.{found_of}
@@ -83,7 +83,9 @@ loop-rest-preserved c =
 pub returns-in_err-output-clause-value : goal.returns-in_err-output-clause-value
 returns-in_err-output-clause-value c =
     let all = all_read (delimiters_of c.args.delimiters.now) c.args.source.now c.loop-rest.rest.now (file_of c.loop-rest.file) c.loop-rest.trims c.loop-rest.at c.loop-rest.invariant.so_far (sym c.is_empty.ensures ∙ c.loop-rest-test.false) in
-    refused c.in_err-output.refusal (λ n. ap (option_and_then spec.once) (all ∙ n)) c.in_err-output.ensures.value
+    let handed : Refuses (spec.file 200 (pieces (delimiters_of c.args.delimiters.now) c.args.source.now)) c.in_err-output.field-0.0 =
+    refused c.in_err-output.field-0.0 (λ n. ap (option_and_then spec.once) (all ∙ n)) c.in_err-output.ensures.value in
+    search rules
 
 pub returns-clause-value : goal.returns-clause-value
 returns-clause-value c =

@@ -121,12 +121,18 @@ fn first_read(alloc: Global, texts: &[Text]) -> Option<&'static str> {
     None
 }
 
-/// The first text of two tables that is answered otherwise.
-fn first_other(alloc: Global, trees: &[Row], refused: &[Text]) -> Option<&'static str> {
-    match first_wrong(alloc, trees) {
-        Some(wrong) => Some(wrong),
-        None => first_read(alloc, refused),
+/// The first text of these tables that is answered otherwise.
+fn first_other(alloc: Global, tables: &[(&[Row], &[Text])]) -> Option<&'static str> {
+    for (trees, refused) in tables {
+        let other = match first_wrong(alloc, trees) {
+            Some(wrong) => Some(wrong),
+            None => first_read(alloc, refused),
+        };
+        if other.is_some() {
+            return other;
+        }
     }
+    None
 }
 
 #[test]
@@ -140,10 +146,7 @@ fn texts(rt: HostRuntime) {
         (&DEFINITIONS, &UNREAD_DEFINITIONS),
         (&CALLS, &UNREAD_CALLS),
     ];
-    let other = tables
-        .iter()
-        .find_map(|tables| first_other(alloc, tables.0, tables.1));
-    assert_eq!(rt; other, None);
+    assert_eq!(rt; first_other(alloc, &tables), None);
 }
 
 #[test]

@@ -15,6 +15,9 @@ const CASES: &str = r#"
 {% for x in [1] %}{% set x = 5 %}{{ x }}{% endfor %} => 5
 {% for x in [1, 2] %}{{ x }}{% set x = 5 %}{{ x }}{% endfor %} => 1525
 {% for x in [1] %}{% set x = 5 %}{% endfor %}{{ x or "none" }} => none
+{% set abcdefg = 1 %}{% set abcdefgh = 2 %}{% set abcdefgi = 3 %}{{ abcdefg }}{{ abcdefgh }}{{ abcdefgi }} => 123
+{% for abcdefgh in [1] %}{% for abcdefg in [2] %}{{ abcdefgh }}{{ abcdefg }}{% endfor %}{% endfor %} => 12
+{% for a in [1] %}{% set aa = 2 %}{{ a }}{{ aa }}{{ aaa or 3 }}{% endfor %} => 123
 {% for x in [] %}{% else %}{% set y = 1 %}{% endfor %}{{ y }} => 1
 {% for x in [1] %}{% for z in [] %}{% else %}{% set y = 1 %}{% endfor %}{{ y }}{% endfor %}{{ y or 2 }} => 12
 {% if 1 %}{% set y = 1 %}{% endif %}{{ y }} => 1

@@ -238,7 +238,7 @@ impl Chunk {
     pub(crate) fn emit(
         &mut self,
         alloc: Global,
-        seen: &mut [u32; 64],
+        seen: &mut [u32; 251],
         instruction: Instruction<'_>,
     ) -> Result<(), AllocError>
         ensures { OnOk result (self.new ≡ lengthened self.old (instruction.entry ∷ [])) }
@@ -266,7 +266,7 @@ impl Chunk {
     pub(crate) fn emit_name(
         &mut self,
         alloc: Global,
-        seen: &mut [u32; 64],
+        seen: &mut [u32; 251],
         name: &Sought<'_>,
         span: Span,
     ) -> Result<(), AllocError>
@@ -293,7 +293,7 @@ impl Chunk {
     pub(crate) fn fill(
         &mut self,
         alloc: Global,
-        seen: &mut [u32; 64],
+        seen: &mut [u32; 251],
         place: usize,
         instruction: Instruction<'_>,
     ) -> Result<(), AllocError>

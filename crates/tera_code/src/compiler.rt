@@ -22,7 +22,7 @@ pub struct Compiler {
     alloc: Global,
     chunk: Chunk,
     // where names of a kind were found last
-    seen: [u32; 64],
+    seen: [u32; 251],
 }
 
 impl Model for Compiler {
@@ -48,7 +48,7 @@ impl Compiler {
         Ok(Compiler {
             alloc,
             chunk: Chunk::new(alloc, file),
-            seen: [0; 64],
+            seen: [0; 251],
         })
     }
 

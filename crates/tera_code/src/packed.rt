@@ -192,13 +192,13 @@ fn number<T: Drop>(items: &mut Vec<T>, item: T) -> Result<u32, AllocError>
 fn name_number(
     alloc: Global,
     names: &mut Vec<Name>,
-    seen: &mut [u32; 64],
+    seen: &mut [u32; 251],
     name: &Sought<'_>,
 ) -> Result<u32, AllocError>
     ensures grows { Longer names.old.items names.new.items }
     ensures ok { IfOk result (λ n. IsAt names.new.items n name.now) }
 {
-    let slot = (name.hash() % 64) as usize;
+    let slot = (name.hash() % 251) as usize;
     let place = seen[slot];
     if let Some(known) = names.get(place as usize) {
         if name.is(known) {
@@ -275,7 +275,7 @@ impl Tables {
     fn name_and_span(
         &mut self,
         alloc: Global,
-        seen: &mut [u32; 64],
+        seen: &mut [u32; 251],
         name: &Sought<'_>,
         span: Span,
     ) -> Result<(u32, u32), AllocError>
@@ -292,7 +292,7 @@ impl Tables {
     pub(crate) fn written_name(
         &mut self,
         alloc: Global,
-        seen: &mut [u32; 64],
+        seen: &mut [u32; 251],
         name: &Sought<'_>,
         span: Span,
     ) -> Result<Packed, AllocError>
@@ -445,7 +445,7 @@ impl Tables {
     pub(crate) fn pack(
         &mut self,
         alloc: Global,
-        seen: &mut [u32; 64],
+        seen: &mut [u32; 251],
         instruction: Instruction<'_>,
     ) -> Result<Packed, AllocError>
         ensures grows { Grows (shelf_of self.old) (shelf_of self.new) }

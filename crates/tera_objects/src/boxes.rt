@@ -17,7 +17,7 @@ use std::alloc::{AllocError, Global};
 use tera_built_ins::{BuiltInFilter, BuiltInFunction, BuiltInTest, EscapeFn, Escaping};
 use tera_errors::lacking;
 use tera_state::{Filter, Function, Scopes, State, StateOver, Test, write_value};
-use tera_values::{Error, Kwargs, TeraResult, Value, escape_html};
+use tera_values::{Error, Kwargs, TeraResult, Value};
 
 /// The state that an object of these sees: the scopes, the escape, and the built-in filters but those whose names are taken.
 pub(crate) fn lent<'a, 'c>(
@@ -61,10 +61,7 @@ pub(crate) fn escape_by(
         text.now) }
     ensures err { OnErr result (string_bytes out.new ≡ string_bytes out.old) }
 {
-    match escape {
-        None => lacking(escape_html(text, out)),
-        Some(escape) => lacking(escape.escape(text, out)),
-    }
+    lacking(lent_escape(escape).escape(text, out))
 }
 
 /// Puts a value behind a text: its printed text, escaped by this where texts are escaped and the value is not safe.

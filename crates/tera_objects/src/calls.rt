@@ -26,7 +26,7 @@ impl Objects for ObjectsOver<Box<dyn EscapeFn>, Box<dyn Filter>, Box<dyn Test>, 
       };
     }) };
 
-    // What needs no escape, as an integer, is printed without a call.
+    // One look at the shape tells how it is written: an integer is printed without a call.
     #[inline(always)]
     fn write(
         &self,

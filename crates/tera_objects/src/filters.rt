@@ -1,4 +1,4 @@
-// Filters: which every engine has, and those of the caller.
+// Filters of the caller.
 ghost use Rattle.std.specs.Prelude.{◌≡◌, ◌&&◌, not, ℕ, [], take, is_some, OnOk, OnErr, IfErr};
 ghost use Rattle.tera_errors.specs.Answer.{Lacks};
 ghost use Rattle.tera_values.specs.Named.{at_name, put};

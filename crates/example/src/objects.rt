@@ -1,6 +1,6 @@
 // A filter, a test, a function and an escape of this program.
 ghost use Rattle.std.specs.Prelude.{Ok, true, false, codes, string_bytes};
-ghost use Rattle.tera.specs.Val.{text};
+ghost use Rattle.tera.specs.Prelude.{text};
 ghost use Rattle.example.specs.Objects.{strong, is_adult};
 
 use std::alloc::Global;

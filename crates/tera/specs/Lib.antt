@@ -17,3 +17,4 @@ pub use Rattle.tera_state.specs.View
 pub use Rattle.tera_components.specs.Definition
 pub use Rattle.tera_meaning.specs.Components
 pub use Rattle.tera_registry.specs.Batch
+pub mod Prelude

@@ -1,15 +1,12 @@
 // Components by name.
 ghost use Rattle.std.specs.Prelude.{◌≡◌, Some, Ok, true, map, option_map, string_bytes, IfOk, IfErr};
-ghost use Rattle.tera_errors.specs.Answer.{Gives, GivesOneOf, Lacks};
-ghost use Rattle.tera_values.specs.Val.{text};
-ghost use Rattle.tera_state.specs.Scope.{nothing_set};
-ghost use Rattle.tera_state.specs.Scopes.{around_of, variables_of};
-ghost use Rattle.tera_code.specs.Code.{listing_of};
-ghost use Rattle.tera_meaning.specs.Accepted.{is_component};
-ghost use Rattle.tera_meaning.specs.Components.{AreComponentNames, component};
-ghost use Rattle.tera_meaning.specs.Rendering.{render_component};
-ghost use Rattle.tera_registry.specs.Templates.{IsDefined};
-ghost use Rattle.tera_machine.specs.Subject.{Subject};
+ghost use Rattle.tera_errors.specs.Prelude.{Gives, GivesOneOf, Lacks};
+ghost use Rattle.tera_values.specs.Prelude.{text};
+ghost use Rattle.tera_state.specs.Prelude.{nothing_set, around_of, variables_of};
+ghost use Rattle.tera_code.specs.Prelude.{listing_of};
+ghost use Rattle.tera_meaning.specs.Prelude.{is_component, AreComponentNames, component, render_component};
+ghost use Rattle.tera_registry.specs.Prelude.{IsDefined};
+ghost use Rattle.tera_machine.specs.Prelude.{Subject};
 ghost use Rattle.tera.specs.Lent.{lent_text};
 ghost use Rattle.tera.specs.Rendering.{ComponentByName, AppendsOneOf};
 

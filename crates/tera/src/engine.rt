@@ -1,11 +1,10 @@
 // An engine, and what it renders.
 ghost use Rattle.std.specs.Prelude.{◌≡◌, [], Ok, IsTrue, OnOk, IfErr, false, string_bytes};
 ghost use Rattle.std.specs.Borrow.{sem};
-ghost use Rattle.tera_errors.specs.Answer.{Gives, GivesOneOf, Tells};
-ghost use Rattle.tera_errors.specs.Fault.{message};
-ghost use Rattle.tera_syntax_tree.specs.Delimiters.{delimiters_of, accepted};
-ghost use Rattle.tera_meaning.specs.Registry.{new_registry};
-ghost use Rattle.tera_registry.specs.Templates.{is_empty};
+ghost use Rattle.tera_errors.specs.Prelude.{Gives, GivesOneOf, Tells, message};
+ghost use Rattle.tera_syntax_tree.specs.Prelude.{delimiters_of, accepted};
+ghost use Rattle.tera_meaning.specs.Prelude.{new_registry};
+ghost use Rattle.tera_registry.specs.Prelude.{is_empty};
 ghost use Rattle.tera.specs.Rendering.{OneOff, AppendsOneOf};
 ghost use Rattle.tera.specs.Configuring.{Configures, with_delimiters, with_prefixes, with_suffixes};
 ghost use Rattle.tera.specs.Lent.{texts_of};

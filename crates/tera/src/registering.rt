@@ -1,8 +1,7 @@
 // The caller's filters, tests, functions and escape.
 ghost use Rattle.std.specs.Prelude.{◌≡◌, Ok};
-ghost use Rattle.tera_values.specs.Escape.{escape_html};
-ghost use Rattle.tera_objects.specs.Engine.{with_escape, with_filter, with_test, with_function};
-ghost use Rattle.tera_objects.specs.Kept.{Meanings, engine_of};
+ghost use Rattle.tera_values.specs.Prelude.{escape_html};
+ghost use Rattle.tera_objects.specs.Prelude.{with_escape, with_filter, with_test, with_function, Meanings, engine_of};
 ghost use Rattle.tera.specs.Configuring.{Configures};
 ghost use Rattle.tera.specs.Registering.{with_engine, MovesFrom};
 

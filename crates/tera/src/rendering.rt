@@ -1,15 +1,13 @@
 // From a text, or the code of a body, to what it renders to.
 ghost use Rattle.std.specs.Prelude.{◌≡◌, [], IfOk, OnOk, string_bytes};
-ghost use Rattle.tera_errors.specs.Answer.{Gives, GivesOneOf};
-ghost use Rattle.tera_syntax_tree.specs.Blocks.{blocks};
-ghost use Rattle.tera_syntax_tree.specs.View.{nodes_of, tree_of};
-ghost use Rattle.tera_state.specs.Scope.{nothing_set};
-ghost use Rattle.tera_state.specs.Scopes.{around_of, variables_of};
-ghost use Rattle.tera_meaning.specs.Rendering.{outermost};
-ghost use Rattle.tera_code.specs.Code.{nodes_code};
-ghost use Rattle.tera_registry.specs.Templates.{with_templates};
+ghost use Rattle.tera_errors.specs.Prelude.{Gives, GivesOneOf};
+ghost use Rattle.tera_syntax_tree.specs.Prelude.{blocks, nodes_of, tree_of};
+ghost use Rattle.tera_state.specs.Prelude.{nothing_set, around_of, variables_of};
+ghost use Rattle.tera_meaning.specs.Prelude.{outermost};
+ghost use Rattle.tera_code.specs.Prelude.{nodes_code};
+ghost use Rattle.tera_registry.specs.Prelude.{with_templates};
 ghost use Rattle.tera.specs.Rendering.{OneOff, allowed};
-ghost use Rattle.tera_machine.specs.Subject.{Subject, IsLinked, engine_of, template_of};
+ghost use Rattle.tera_machine.specs.Prelude.{Subject, IsLinked, engine_of, template_of};
 
 use crate::engine::TeraOver;
 use std::alloc::{AllocError, Global};

@@ -1,10 +1,8 @@
 // Templates by name.
 ghost use Rattle.std.specs.Prelude.{◌≡◌, Ok, [], ◌∷◌, is_some, map, string_bytes};
-ghost use Rattle.tera_errors.specs.Answer.{Gives, GivesOneOf};
-ghost use Rattle.tera_meaning.specs.Rendering.{autoescapes};
-ghost use Rattle.tera_meaning.specs.Resolve.{resolve};
-ghost use Rattle.tera_meaning.specs.Variables.{AnswersVariables};
-ghost use Rattle.tera_registry.specs.Batch.{Adds, ConfiguresOneOf, pairs_of};
+ghost use Rattle.tera_errors.specs.Prelude.{Gives, GivesOneOf};
+ghost use Rattle.tera_meaning.specs.Prelude.{autoescapes, resolve, AnswersVariables};
+ghost use Rattle.tera_registry.specs.Prelude.{Adds, ConfiguresOneOf, pairs_of};
 ghost use Rattle.tera.specs.Rendering.{ByName, BlockByName, AppendsOneOf};
 
 use crate::engine::TeraOver;

@@ -1,8 +1,8 @@
 // Texts that an engine keeps.
 ghost use Rattle.std.specs.Prelude.{◌≡◌, Ok, map, nat_eq, string_bytes};
 ghost use Rattle.std.specs.List.{list_any, ends_with};
-ghost use Rattle.tera_errors.specs.Answer.{Gives};
-ghost use Rattle.tera_meaning.specs.Registry.{standard_suffixes};
+ghost use Rattle.tera_errors.specs.Prelude.{Gives};
+ghost use Rattle.tera_meaning.specs.Prelude.{standard_suffixes};
 ghost use Rattle.tera.specs.Lent.{texts_of};
 
 use std::alloc::Global;

@@ -29,3 +29,4 @@ pub mod Sorting
 pub mod Ranks
 pub mod Groups
 pub mod Gathering
+pub mod Prelude

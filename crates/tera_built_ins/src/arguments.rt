@@ -1,7 +1,7 @@
 // What a built-in is given, as it is read.
 ghost use Rattle.std.specs.Prelude.{◌+◌, ◌^◌, option_map, false};
-ghost use Rattle.tera_errors.specs.Answer.{Gives};
-ghost use Rattle.tera_values.specs.Alphabet.{plain};
+ghost use Rattle.tera_errors.specs.Prelude.{Gives};
+ghost use Rattle.tera_values.specs.Prelude.{plain};
 ghost use Rattle.tera_built_ins.specs.Arguments as spec;
 ghost use Rattle.tera_built_ins.specs.Reading.{given_of};
 

@@ -1,5 +1,5 @@
 // What an attribute is of an item.
-ghost use Rattle.tera_errors.specs.Answer.{Gives};
+ghost use Rattle.tera_errors.specs.Prelude.{Gives};
 ghost use Rattle.tera_built_ins.specs.Attributes.{attribute_of};
 
 use std::alloc::Global;

@@ -1,5 +1,5 @@
 // What stands in for a value.
-ghost use Rattle.tera_errors.specs.Answer.{Gives};
+ghost use Rattle.tera_errors.specs.Prelude.{Gives};
 ghost use Rattle.tera_built_ins.specs.Defaults.{default_of};
 
 use crate::arguments::{flag, needed_value};

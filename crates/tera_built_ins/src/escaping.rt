@@ -1,7 +1,6 @@
 // By what texts are escaped, and what a built-in sees of a rendering.
 ghost use Rattle.std.specs.Prelude.{◌≡◌, ◌++◌, string_bytes, OnOk, OnErr, IfErr};
-ghost use Rattle.tera_errors.specs.Site.{Text};
-ghost use Rattle.tera_errors.specs.Answer.{Lacks};
+ghost use Rattle.tera_errors.specs.Prelude.{Text, Lacks};
 
 use tera_values::{TeraResult, escape_html};
 

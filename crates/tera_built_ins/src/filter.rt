@@ -1,7 +1,7 @@
 // The filters by their names.
 ghost use Rattle.std.specs.Prelude.{◌≡◌};
-ghost use Rattle.tera_errors.specs.Answer.{Gives};
-ghost use Rattle.tera_values.specs.Alphabet.{plain};
+ghost use Rattle.tera_errors.specs.Prelude.{Gives};
+ghost use Rattle.tera_values.specs.Prelude.{plain};
 ghost use Rattle.tera_built_ins.specs.Escaping.{escaping_of};
 ghost use Rattle.tera_built_ins.specs.Filters.{filter_named, filter_of, filtered_in};
 

@@ -1,7 +1,7 @@
 // The functions by their names.
 ghost use Rattle.std.specs.Prelude.{◌≡◌};
-ghost use Rattle.tera_errors.specs.Answer.{Gives};
-ghost use Rattle.tera_values.specs.Alphabet.{plain};
+ghost use Rattle.tera_errors.specs.Prelude.{Gives};
+ghost use Rattle.tera_values.specs.Prelude.{plain};
 ghost use Rattle.tera_built_ins.specs.FunctionTable.{function_named, function_of};
 
 use crate::functions;

@@ -1,6 +1,6 @@
 // What templates call by name.
 ghost use Rattle.std.specs.Prelude.{◌≡◌, ◌<◌, ◌≤◌, ◌^◌, ◌≤ℤ◌, ◌-ℤ◌, Ok, IfSome};
-ghost use Rattle.tera_errors.specs.Answer.{Gives};
+ghost use Rattle.tera_errors.specs.Prelude.{Gives};
 ghost use Rattle.tera_built_ins.specs.Numbers.{there};
 ghost use Rattle.tera_built_ins.specs.Functions.{range_of, throw_of, counted, strides, stepping};
 ghost use Rattle.tera_built_ins.specs.Rooms.{HasRoom, EachIsBelow};

@@ -1,11 +1,8 @@
 // Items by an attribute.
 ghost use Rattle.std.specs.Prelude.{◌≡◌, [], ◌∷◌, Ok, OnOk, IfErr, map as each, option_map};
 ghost use Rattle.std.specs.List.{filter_map};
-ghost use Rattle.tera_errors.specs.Answer.{Gives, Lacks};
-ghost use Rattle.tera_values.specs.Alphabet.{plain};
-ghost use Rattle.tera_values.specs.Access.{find};
-ghost use Rattle.tera_values.specs.Val.{map as map_of, entries};
-ghost use Rattle.tera_values.specs.View.{key_view};
+ghost use Rattle.tera_errors.specs.Prelude.{Gives, Lacks};
+ghost use Rattle.tera_values.specs.Prelude.{plain, find, map as map_of, entries, key_view};
 ghost use Rattle.tera_built_ins.specs.Arguments.{◌▸◌};
 ghost use Rattle.tera_built_ins.specs.Attributes.{all_of};
 ghost use Rattle.tera_built_ins.specs.Gathering.{AllOther, keyed_view, group_view, numbered, put_in, place_in};

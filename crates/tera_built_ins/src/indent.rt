@@ -2,8 +2,8 @@
 ghost use Rattle.std.specs.Prelude.{◌≡◌, nat_eq, length, Ok, OnOk, IfErr, cond, codes, ◌++◌, string_bytes, option_map};
 ghost use Rattle.std.specs.List.{repeat};
 ghost use Rattle.std.specs.Str.{chars};
-ghost use Rattle.tera_errors.specs.Answer.{Gives, Lacks};
-ghost use Rattle.tera_values.specs.Alphabet.{plain};
+ghost use Rattle.tera_errors.specs.Prelude.{Gives, Lacks};
+ghost use Rattle.tera_values.specs.Prelude.{plain};
 ghost use Rattle.tera_built_ins.specs.Escaping.{escaping_of};
 ghost use Rattle.tera_built_ins.specs.Reading.{given_of};
 ghost use Rattle.tera_built_ins.specs.Indent as spec;

@@ -1,6 +1,6 @@
 // Filters of arrays that answer one item.
 ghost use Rattle.std.specs.Prelude.{option_copied, Ok};
-ghost use Rattle.tera_errors.specs.Answer.{Gives};
+ghost use Rattle.tera_errors.specs.Prelude.{Gives};
 ghost use Rattle.tera_built_ins.specs.Items.{or_none, first_of, last_of, nth_of};
 
 use crate::arguments::{as_array, needed_size};

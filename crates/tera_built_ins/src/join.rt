@@ -2,8 +2,8 @@
 ghost use Rattle.std.specs.Prelude.{◌≡◌, ◌++◌, OnOk, IfErr, Ok, string_bytes, option_map};
 ghost use Rattle.std.specs.List.{list_any, join_by};
 ghost use Rattle.std.specs.Cow.{cow_str_bytes};
-ghost use Rattle.tera_errors.specs.Answer.{Gives, Lacks};
-ghost use Rattle.tera_values.specs.Alphabet.{plain};
+ghost use Rattle.tera_errors.specs.Prelude.{Gives, Lacks};
+ghost use Rattle.tera_values.specs.Prelude.{plain};
 ghost use Rattle.tera_built_ins.specs.Escaping.{escaping_of};
 ghost use Rattle.tera_built_ins.specs.Reading.{given_of};
 ghost use Rattle.tera_built_ins.specs.Join.{is_safe_text, item_part, separator_part, join_of};

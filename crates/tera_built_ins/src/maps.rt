@@ -1,9 +1,7 @@
 // Filters of maps.
 ghost use Rattle.std.specs.Prelude.{Ok};
-ghost use Rattle.tera_errors.specs.Answer.{Gives};
-ghost use Rattle.tera_values.specs.Alphabet.{plain};
-ghost use Rattle.tera_values.specs.Val.{Val, KeyVal};
-ghost use Rattle.tera_values.specs.View.{key_view};
+ghost use Rattle.tera_errors.specs.Prelude.{Gives};
+ghost use Rattle.tera_values.specs.Prelude.{plain, Val, KeyVal, key_view};
 ghost use Rattle.tera_built_ins.specs.Maps.{each_of, pair_of, values_of, keys_of, pairs_of, get_of};
 
 use crate::arguments::{as_map, needed_text};

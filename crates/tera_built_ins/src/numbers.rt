@@ -1,6 +1,6 @@
 // Filters of integers.
-ghost use Rattle.tera_errors.specs.Answer.{Gives};
-ghost use Rattle.tera_values.specs.Alphabet.{plain};
+ghost use Rattle.tera_errors.specs.Prelude.{Gives};
+ghost use Rattle.tera_values.specs.Prelude.{plain};
 ghost use Rattle.tera_built_ins.specs.Numbers.{abs_of, pluralize_of};
 
 use crate::arguments::text_or;

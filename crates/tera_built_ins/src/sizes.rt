@@ -1,6 +1,6 @@
 // How much a value holds, and what it holds the other way round.
-ghost use Rattle.tera_errors.specs.Answer.{Gives};
-ghost use Rattle.tera_values.specs.Alphabet.{plain};
+ghost use Rattle.tera_errors.specs.Prelude.{Gives};
+ghost use Rattle.tera_values.specs.Prelude.{plain};
 ghost use Rattle.tera_built_ins.specs.Sizes.{length_of, reverse_of};
 
 use std::alloc::Global;

@@ -1,7 +1,7 @@
 // Texts cut into their pieces.
 ghost use Rattle.std.specs.Prelude.{◌≢◌, [], Ok};
-ghost use Rattle.tera_errors.specs.Answer.{Gives};
-ghost use Rattle.tera_values.specs.Alphabet.{plain};
+ghost use Rattle.tera_errors.specs.Prelude.{Gives};
+ghost use Rattle.tera_values.specs.Prelude.{plain};
 ghost use Rattle.tera_built_ins.specs.Pieces.{pieces, letters};
 ghost use Rattle.tera_built_ins.specs.Split.{made_texts, split_of};
 

@@ -1,7 +1,7 @@
 // The tests by their names.
 ghost use Rattle.std.specs.Prelude.{◌≡◌};
-ghost use Rattle.tera_errors.specs.Answer.{Gives};
-ghost use Rattle.tera_values.specs.Alphabet.{plain};
+ghost use Rattle.tera_errors.specs.Prelude.{Gives};
+ghost use Rattle.tera_values.specs.Prelude.{plain};
 ghost use Rattle.tera_built_ins.specs.TestTable.{test_named, test_of};
 
 use crate::tests;

@@ -1,8 +1,7 @@
 // Texts cut short.
 ghost use Rattle.std.specs.Prelude.{Ok, false};
-ghost use Rattle.tera_errors.specs.Answer.{Gives};
-ghost use Rattle.tera_values.specs.Alphabet.{plain};
-ghost use Rattle.tera_values.specs.Val.{text};
+ghost use Rattle.tera_errors.specs.Prelude.{Gives};
+ghost use Rattle.tera_values.specs.Prelude.{plain, text};
 ghost use Rattle.tera_built_ins.specs.Truncate.{truncated, truncate_of};
 
 use crate::arguments::{as_text, needed_size, text_or};

@@ -1,7 +1,7 @@
 // The words of a text.
 ghost use Rattle.std.specs.Prelude.{◌≡◌};
-ghost use Rattle.tera_errors.specs.Answer.{Gives};
-ghost use Rattle.tera_values.specs.Alphabet.{plain};
+ghost use Rattle.tera_errors.specs.Prelude.{Gives};
+ghost use Rattle.tera_values.specs.Prelude.{plain};
 ghost use Rattle.tera_built_ins.specs.Words.{word_count, wordcount_of};
 
 use crate::arguments::as_text;

@@ -1,8 +1,8 @@
 // The law: what a rendering answers after a list of calls.
 ghost use Rattle.std.specs.Prelude.{IfOk, IfErr, string_bytes};
-ghost use Rattle.tera.specs.Registry.{registry_of};
+ghost use Rattle.tera.specs.Prelude.{registry_of};
 ghost use Rattle.tera_calls.specs.After.{RendersAfter};
-ghost use Rattle.tera_errors.specs.Answer.{GivesOneOf, Lacks};
+ghost use Rattle.tera_errors.specs.Prelude.{GivesOneOf, Lacks};
 
 use crate::call::{Call, make_calls};
 use crate::rendering::{Rendering, rendered};

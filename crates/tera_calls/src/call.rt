@@ -1,9 +1,8 @@
 // Calls that configure an engine and add to it, one after another.
 ghost use Rattle.std.specs.Prelude.{◌≡◌, Ok, IfOk, IfErr, OnErr};
-ghost use Rattle.tera.specs.Configuring.{Configures};
-ghost use Rattle.tera.specs.Registry.{registry_of};
+ghost use Rattle.tera.specs.Prelude.{Configures, registry_of};
 ghost use Rattle.tera_calls.specs.Calls.{Ends, Leads, with_global};
-ghost use Rattle.tera_errors.specs.Answer.{Lacks};
+ghost use Rattle.tera_errors.specs.Prelude.{Lacks};
 
 use std::alloc::Global;
 use tera::{

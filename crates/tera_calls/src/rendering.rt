@@ -1,8 +1,8 @@
 // Calls that render.
 ghost use Rattle.std.specs.Prelude.{string_bytes};
-ghost use Rattle.tera.specs.Registry.{registry_of};
+ghost use Rattle.tera.specs.Prelude.{registry_of};
 ghost use Rattle.tera_calls.specs.Renders.{Answers, Renders};
-ghost use Rattle.tera_errors.specs.Answer.{GivesOneOf};
+ghost use Rattle.tera_errors.specs.Prelude.{GivesOneOf};
 
 use tera::{Context, Objects, TeraOver, TeraResult};
 

@@ -7,3 +7,4 @@ pub mod Blocks
 pub mod Asked
 pub mod Called
 pub mod Calls
+pub mod Prelude

@@ -1,8 +1,7 @@
 // The blocks of a template, each with code of its own.
 ghost use Rattle.std.specs.Prelude.{◌≡◌, ◌++◌, [], ◌∷◌, map, OnOk, IfOk};
 ghost use Rattle.tera_code.specs.Blocks.{block_of, block_listings};
-ghost use Rattle.tera_syntax_tree.specs.Blocks.{blocks, node_blocks};
-ghost use Rattle.tera_syntax_tree.specs.View.{node_of, nodes_of};
+ghost use Rattle.tera_syntax_tree.specs.Prelude.{blocks, node_blocks, node_of, nodes_of};
 
 use crate::chunk::Chunk;
 use crate::nodes::compiled;

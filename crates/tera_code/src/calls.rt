@@ -3,8 +3,7 @@ ghost use Rattle.std.specs.Prelude.{◌≡◌, [], ◌∷◌, OnOk, IfOk};
 ghost use Rattle.tera_code.specs.declared.instruction.Instruction.TheVariants as instruction;
 ghost use Rattle.tera_code.specs.Calls.{applied_code, call_of};
 ghost use Rattle.tera_code.specs.Code.{expr_code, arguments_code, argument_names, filters_code, keys_in, lengthened};
-ghost use Rattle.tera_syntax_tree.specs.Tree.{Super, MoreFilters, NoFilters};
-ghost use Rattle.tera_syntax_tree.specs.View.{called_of, tag_of, entries_of, arguments_of, filters_of};
+ghost use Rattle.tera_syntax_tree.specs.Prelude.{Super, MoreFilters, NoFilters, called_of, tag_of, entries_of, arguments_of, filters_of};
 
 use crate::call_kind::CallKind;
 use crate::compiler::Compiler;

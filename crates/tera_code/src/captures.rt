@@ -2,8 +2,7 @@
 ghost use Rattle.std.specs.Prelude.{◌≡◌, [], ◌∷◌, suc, OnOk, IfOk};
 ghost use Rattle.tera_code.specs.declared.instruction.Instruction.TheVariants as instruction;
 ghost use Rattle.tera_code.specs.Code.{node_code, nodes_code, section_code, captured_code, lengthened};
-ghost use Rattle.tera_syntax_tree.specs.Tree.{FilterSection, Set, first_span};
-ghost use Rattle.tera_syntax_tree.specs.View.{capture_of, component_call_of, expr_of, filters_of, nodes_of};
+ghost use Rattle.tera_syntax_tree.specs.Prelude.{FilterSection, Set, first_span, capture_of, component_call_of, expr_of, filters_of, nodes_of};
 
 use crate::compiler::Compiler;
 use crate::content::LentName;

@@ -5,7 +5,7 @@ ghost use Rattle.tera_code.specs.Called.{callee_of, called_by};
 ghost use Rattle.tera_code.specs.Code.{lengthened, spreads_of};
 ghost use Rattle.tera_code.specs.declared.instruction.Instruction.TheVariants as instruction;
 ghost use Rattle.tera_code.specs.Places.{filled};
-ghost use Rattle.tera_syntax_tree.specs.View.{items_of};
+ghost use Rattle.tera_syntax_tree.specs.Prelude.{items_of};
 
 use crate::callee::Callee;
 use crate::comparison::Comparison;

@@ -1,7 +1,7 @@
 // Values that are written out.
 ghost use Rattle.std.specs.Prelude.{◌≡◌, Ok, IsOk, IfSome, IfNone};
-ghost use Rattle.tera_errors.specs.Answer.{Gives};
-ghost use Rattle.tera_values.specs.Access.{IsScalar};
+ghost use Rattle.tera_errors.specs.Prelude.{Gives};
+ghost use Rattle.tera_values.specs.Prelude.{IsScalar};
 ghost use Rattle.tera_values.specs.Val as val;
 ghost use Rattle.tera_code.specs.Constant.{small_integer};
 

@@ -1,6 +1,6 @@
 // What instructions lend from their chunk.
 ghost use Rattle.std.specs.Prelude.{◌≡◌, None, Ok, IsOk, length};
-ghost use Rattle.tera_errors.specs.Answer.{Gives};
+ghost use Rattle.tera_errors.specs.Prelude.{Gives};
 
 use std::marker::Model;
 use tera_syntax_tree::OwnedKey;

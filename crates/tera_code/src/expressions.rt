@@ -2,8 +2,7 @@
 ghost use Rattle.std.specs.Prelude.{◌≡◌, ◌∷◌, [], ◌++◌, OnOk, cond};
 ghost use Rattle.tera_code.specs.declared.instruction.Instruction.TheVariants as instruction;
 ghost use Rattle.tera_code.specs.Code.{expr_code, bound_code, entries_code, lengthened};
-ghost use Rattle.tera_syntax_tree.specs.Tree.{Index, Not, Negate, Binary, And, Or, Ternary, Array, Map};
-ghost use Rattle.tera_syntax_tree.specs.View.{expr_of, optional_of, items_of, entries_of};
+ghost use Rattle.tera_syntax_tree.specs.Prelude.{Index, Not, Negate, Binary, And, Or, Ternary, Array, Map, expr_of, optional_of, items_of, entries_of};
 
 use crate::call_kind::CallKind;
 use crate::compiler::Compiler;

@@ -2,7 +2,7 @@
 ghost use Rattle.std.specs.Prelude.{◌≡◌, ◌<◌, OnOk, IfOk, length, option_copied};
 ghost use Rattle.tera_code.specs.Code.{expr_code, turn_code, lengthened};
 ghost use Rattle.tera_code.specs.Places.{looped};
-ghost use Rattle.tera_syntax_tree.specs.View.{comprehension_of, expr_of, optional_of};
+ghost use Rattle.tera_syntax_tree.specs.Prelude.{comprehension_of, expr_of, optional_of};
 
 use crate::compiler::Compiler;
 use crate::content::{LentName, Spreads};

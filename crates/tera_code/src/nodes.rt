@@ -3,7 +3,7 @@ ghost use Rattle.std.specs.Prelude.{◌≡◌, [], ◌∷◌, OnOk, IfOk};
 ghost use Rattle.tera_code.specs.declared.instruction.Instruction.TheVariants as instruction;
 ghost use Rattle.tera_code.specs.Code.{handed_code, node_code, nodes_code, listing_of, lengthened};
 ghost use Rattle.tera_syntax_tree.specs.Tree as tree;
-ghost use Rattle.tera_syntax_tree.specs.View.{expr_of, entries_of, for_of, node_of, nodes_of};
+ghost use Rattle.tera_syntax_tree.specs.Prelude.{expr_of, entries_of, for_of, node_of, nodes_of};
 
 use crate::chunk::Chunk;
 use crate::compiler::Compiler;

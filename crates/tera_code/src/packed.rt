@@ -3,7 +3,7 @@ ghost use Rattle.std.specs.Prelude.{◌≡◌, ◌<◌, ◌-◌, IfOk};
 ghost use Rattle.tera_code.specs.Calls.{call_of};
 ghost use Rattle.tera_code.specs.Code.{spreads_of};
 ghost use Rattle.tera_code.specs.Packed.{Grows, Longer, IsAt, Packs, shelf_of};
-ghost use Rattle.tera_syntax_tree.specs.View.{items_of, keys_of};
+ghost use Rattle.tera_syntax_tree.specs.Prelude.{items_of, keys_of};
 ghost use Rattle.tera_code.specs.declared.instruction.Instruction.TheVariants as instruction;
 
 use crate::call_kind::CallKind;

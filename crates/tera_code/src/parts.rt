@@ -5,7 +5,7 @@ ghost use Rattle.tera_code.specs.declared.instruction.Instruction.TheVariants as
 ghost use Rattle.tera_code.specs.Code.{lengthened, is_context, name_code, spreads_of, keys_in};
 ghost use Rattle.tera_code.specs.Packed.{Longer};
 ghost use Rattle.tera_code.specs.Places.{divided};
-ghost use Rattle.tera_syntax_tree.specs.View.{items_of, entries_of, keys_of, key_option, literal_option};
+ghost use Rattle.tera_syntax_tree.specs.Prelude.{items_of, entries_of, keys_of, key_option, literal_option};
 
 use crate::compiler::Compiler;
 use crate::constant::Constant;

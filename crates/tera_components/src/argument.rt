@@ -1,10 +1,9 @@
 // Parameters of components, and the values that they take.
 ghost use Rattle.std.specs.Prelude.{◌≡◌, Ok, option_copied};
-ghost use Rattle.tera_errors.specs.Answer.{Gives};
-ghost use Rattle.tera_syntax_tree.specs.View.{parameter_of};
-ghost use Rattle.tera_values.specs.Named.{at_name};
-ghost use Rattle.tera_state.specs.Scope.{look_implicit};
-ghost use Rattle.tera_state.specs.Scopes.{around_of, variables_of};
+ghost use Rattle.tera_errors.specs.Prelude.{Gives};
+ghost use Rattle.tera_syntax_tree.specs.Prelude.{parameter_of};
+ghost use Rattle.tera_values.specs.Prelude.{at_name};
+ghost use Rattle.tera_state.specs.Prelude.{look_implicit, around_of, variables_of};
 ghost use Rattle.tera_components.specs.Context.{is_of_type, looked_up};
 ghost use Rattle.tera_components.specs.Definition.{formal_of, named_arguments, offered, formal_value, or_message};
 

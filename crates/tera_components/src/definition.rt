@@ -1,14 +1,9 @@
 // Components as they are kept, and the contexts of their calls.
 ghost use Rattle.std.specs.Prelude.{◌≡◌, Ok, List, [], OnOk, IfErr};
-ghost use Rattle.tera_errors.specs.Answer.{Gives, Lacks};
-ghost use Rattle.tera_errors.specs.Site.{Name};
-ghost use Rattle.tera_syntax_tree.specs.View.{signature_of};
-ghost use Rattle.tera_syntax_tree.specs.Blocks.{is_among};
-ghost use Rattle.tera_values.specs.Val.{Val};
-ghost use Rattle.tera_values.specs.View.{key_view};
-ghost use Rattle.tera_values.specs.Named.{text_keys};
-ghost use Rattle.tera_state.specs.Scope.{look_implicit};
-ghost use Rattle.tera_state.specs.Scopes.{around_of, variables_of};
+ghost use Rattle.tera_errors.specs.Prelude.{Gives, Lacks, Name};
+ghost use Rattle.tera_syntax_tree.specs.Prelude.{signature_of, is_among};
+ghost use Rattle.tera_values.specs.Prelude.{Val, key_view, text_keys};
+ghost use Rattle.tera_state.specs.Prelude.{look_implicit, around_of, variables_of};
 ghost use Rattle.tera_components.specs.Context.{with_rest, with_body};
 ghost use Rattle.tera_components.specs.Definition.{definition_of, formal_names, named_arguments, left_over, is_left, kept_over, with_formals, or_message, Binds};
 

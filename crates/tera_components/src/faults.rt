@@ -1,6 +1,5 @@
 // Why a component is refused its arguments, in words.
-ghost use Rattle.tera_errors.specs.Answer.{Tells};
-ghost use Rattle.tera_errors.specs.Fault.{message};
+ghost use Rattle.tera_errors.specs.Prelude.{Tells, message};
 
 use std::alloc::{AllocError, Global};
 use tera_syntax_tree::ArgumentType;

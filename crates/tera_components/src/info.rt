@@ -1,6 +1,6 @@
 // What is told of a component.
 ghost use Rattle.std.specs.Prelude.{◌≡◌, Ok};
-ghost use Rattle.tera_errors.specs.Answer.{Gives};
+ghost use Rattle.tera_errors.specs.Prelude.{Gives};
 ghost use Rattle.tera_components.specs.Definition.{info_of};
 
 use crate::argument::ComponentArg;

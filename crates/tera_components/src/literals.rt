@@ -1,10 +1,9 @@
 // Values that are written out, as values.
 ghost use Rattle.std.specs.Prelude.{[], Ok, map as map_list};
-ghost use Rattle.tera_errors.specs.Answer.{Gives};
-ghost use Rattle.tera_syntax_tree.specs.View.{written_of, literal_of, literal_entries_of};
-ghost use Rattle.tera_values.specs.Alphabet.{plain};
-ghost use Rattle.tera_values.specs.View.{key_view};
-ghost use Rattle.tera_operators.specs.Literals.{key_val};
+ghost use Rattle.tera_errors.specs.Prelude.{Gives};
+ghost use Rattle.tera_syntax_tree.specs.Prelude.{written_of, literal_of, literal_entries_of};
+ghost use Rattle.tera_values.specs.Prelude.{plain, key_view};
+ghost use Rattle.tera_operators.specs.Prelude.{key_val};
 ghost use Rattle.tera_components.specs.Context.{literal_value, literal_pairs_in};
 
 use std::alloc::Global;

@@ -16,3 +16,4 @@ pub mod Bodies
 pub mod Includes
 pub mod Apart
 pub mod Components
+pub mod Prelude

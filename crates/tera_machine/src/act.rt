@@ -1,14 +1,12 @@
 // One instruction, by groups.
 ghost use Rattle.std.specs.Prelude.{◌≡◌, ◌≢◌, Ok, Some, None, true, false, IfOk, IfErr};
-ghost use Rattle.tera_errors.specs.Answer.{Tells, Lacks};
-ghost use Rattle.tera_errors.specs.Site.{Site};
-ghost use Rattle.tera_errors.specs.Fault.{rendering_error};
+ghost use Rattle.tera_errors.specs.Prelude.{Tells, Lacks, Site, rendering_error};
 ghost use Rattle.tera_machine.specs.Config.{config_of};
 ghost use Rattle.tera_machine.specs.Did.{pushed, holding};
 ghost use Rattle.tera_machine.specs.Act.{act, IsReady, IsSmall, Does, going_on, going_on_if, text_written, outcome_put, top_written, name_written, name_loaded, context_loaded, stored, attribute_loaded, item_loaded, sliced, denied, negated, operated, handed, component_taken, popped_branch, kept_if_falsy, kept_if_truthy, above_taken, topmost};
 ghost use Rattle.tera_machine.specs.Subject.{here_of};
 ghost use Rattle.tera_machine.specs.declared.machine.Flow.TheVariants as flow;
-ghost use Rattle.tera_state.specs.Scopes.{around_of};
+ghost use Rattle.tera_state.specs.Prelude.{around_of};
 
 use crate::asked::{Asked, AskedComponent, AskedTemplate};
 use crate::configuration::Configuration;

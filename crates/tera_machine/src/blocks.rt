@@ -1,8 +1,8 @@
 // What is open around the body that runs.
 ghost use Rattle.std.specs.Prelude.{◌≡◌, [], ◌∷◌, OnOk, IfOk, IfErr};
-ghost use Rattle.tera_errors.specs.Answer.{Lacks};
-ghost use Rattle.tera_syntax_tree.specs.Blocks.{is_among};
-ghost use Rattle.tera_registry.specs.Templates.{definers_of};
+ghost use Rattle.tera_errors.specs.Prelude.{Lacks};
+ghost use Rattle.tera_syntax_tree.specs.Prelude.{is_among};
+ghost use Rattle.tera_registry.specs.Prelude.{definers_of};
 ghost use Rattle.tera_machine.specs.Bodies.{opened_by, closed_by};
 ghost use Rattle.tera_machine.specs.Included.{names_in};
 

@@ -1,9 +1,9 @@
 // Bodies of blocks: how the machine enters them, and how it leaves them.
 ghost use Rattle.std.specs.Prelude.{◌≡◌, ◌≢◌, [], OnOk, IfOk, IfErr};
-ghost use Rattle.tera_errors.specs.Answer.{Lacks};
-ghost use Rattle.tera_state.specs.Scopes.{coming_of};
-ghost use Rattle.tera_meaning.specs.Lineage.{definers};
-ghost use Rattle.tera_registry.specs.Templates.{definers_of};
+ghost use Rattle.tera_errors.specs.Prelude.{Lacks};
+ghost use Rattle.tera_state.specs.Prelude.{coming_of};
+ghost use Rattle.tera_meaning.specs.Prelude.{definers};
+ghost use Rattle.tera_registry.specs.Prelude.{definers_of};
 ghost use Rattle.tera_machine.specs.Config.{config_of, loops_at};
 ghost use Rattle.tera_machine.specs.Exec.{entered};
 ghost use Rattle.tera_machine.specs.Flow.{request_of, use_of};

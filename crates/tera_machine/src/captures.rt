@@ -2,7 +2,7 @@
 ghost use Rattle.tera_machine.specs.Config.{config_of};
 ghost use Rattle.tera_machine.specs.Act.{IsReady, IsSmall, Does, beneath};
 ghost use Rattle.std.specs.Prelude.{◌≡◌};
-ghost use Rattle.tera_state.specs.Scopes.{around_of};
+ghost use Rattle.tera_state.specs.Prelude.{around_of};
 ghost use Rattle.tera_machine.specs.Loops.{innermost};
 ghost use Rattle.tera_machine.specs.Captures.{capture_started, capture_ended, dropped, loop_left, turn_left};
 

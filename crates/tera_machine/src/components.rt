@@ -1,12 +1,9 @@
 // Components: how the machine finds them, enters their bodies, and leaves them.
 ghost use Rattle.std.specs.Prelude.{◌≡◌, ◌≢◌, [], map, option_map, OnOk, IfOk, IfErr};
-ghost use Rattle.tera_errors.specs.Answer.{Lacks};
-ghost use Rattle.tera_state.specs.Scope.{in_component};
-ghost use Rattle.tera_state.specs.Scopes.{around_of, variables_of};
-ghost use Rattle.tera_meaning.specs.Components.{component};
-ghost use Rattle.tera_meaning.specs.Whole.{component_at};
-ghost use Rattle.tera_registry.specs.Components.{kept_of};
-ghost use Rattle.tera_registry.specs.Templates.{IsDefined};
+ghost use Rattle.tera_errors.specs.Prelude.{Lacks};
+ghost use Rattle.tera_state.specs.Prelude.{in_component, around_of, variables_of};
+ghost use Rattle.tera_meaning.specs.Prelude.{component, component_at};
+ghost use Rattle.tera_registry.specs.Prelude.{kept_of, IsDefined};
 ghost use Rattle.tera_machine.specs.declared.blocks.OpenBlocks.{OpenBlocks};
 ghost use Rattle.tera_machine.specs.Config.{config_of};
 ghost use Rattle.tera_machine.specs.Flow.{Pushed, component_request};

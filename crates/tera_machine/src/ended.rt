@@ -1,7 +1,7 @@
 // The blocks that ended, for contracts alone.
 ghost use Rattle.std.specs.Prelude.{◌≡◌, ◌++◌, [], ◌∷◌, List};
 ghost use Rattle.std.specs.Borrow.{ftrue};
-ghost use Rattle.tera_errors.specs.Site.{Name, Text};
+ghost use Rattle.tera_errors.specs.Prelude.{Name, Text};
 
 use std::marker::Model;
 

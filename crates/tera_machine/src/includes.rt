@@ -1,11 +1,10 @@
 // Templates that are included: how the machine enters their bodies, and how it leaves them.
 ghost use Rattle.std.specs.Prelude.{◌≡◌, ◌≢◌, [], OnOk, IfOk, IfErr};
-ghost use Rattle.tera_errors.specs.Answer.{Lacks};
-ghost use Rattle.tera_syntax_tree.specs.Blocks.{is_among};
-ghost use Rattle.tera_state.specs.Scope.{in_include};
-ghost use Rattle.tera_state.specs.Scopes.{around_of, variables_of};
-ghost use Rattle.tera_meaning.specs.Run.{AnInclude};
-ghost use Rattle.tera_registry.specs.Templates.{Finds};
+ghost use Rattle.tera_errors.specs.Prelude.{Lacks};
+ghost use Rattle.tera_syntax_tree.specs.Prelude.{is_among};
+ghost use Rattle.tera_state.specs.Prelude.{in_include, around_of, variables_of};
+ghost use Rattle.tera_meaning.specs.Prelude.{AnInclude};
+ghost use Rattle.tera_registry.specs.Prelude.{Finds};
 ghost use Rattle.tera_machine.specs.Config.{config_of};
 ghost use Rattle.tera_machine.specs.Flow.{Written};
 ghost use Rattle.tera_machine.specs.Included.{names_in};

@@ -1,10 +1,8 @@
 // Instructions of loops.
 ghost use Rattle.std.specs.Prelude.{◌≡◌, ◌≢◌, [], option_copied};
-ghost use Rattle.tera_errors.specs.Answer.{Gives};
-ghost use Rattle.tera_operators.specs.Operand.{placed};
-ghost use Rattle.tera_state.specs.Scope.{Heading, loop_turns};
-ghost use Rattle.tera_state.specs.Scopes.{around_of};
-ghost use Rattle.tera_state.specs.Opened.{turns_left};
+ghost use Rattle.tera_errors.specs.Prelude.{Gives};
+ghost use Rattle.tera_operators.specs.Prelude.{placed};
+ghost use Rattle.tera_state.specs.Prelude.{Heading, loop_turns, around_of, turns_left};
 ghost use Rattle.tera_machine.specs.Config.{config_of};
 ghost use Rattle.tera_machine.specs.Act.{IsReady, IsSmall, Does, beneath};
 ghost use Rattle.tera_machine.specs.Loops.{loop_started, turned, loop_ended, kept, comprehension_ended, innermost, Closes, first_of};

@@ -1,13 +1,10 @@
 // A run of a body, and of those that it takes.
 ghost use Rattle.std.specs.Prelude.{◌≡◌, ℕ, ◌+◌, ◌-◌, ◌*◌, ◌≤◌, [], None, Some, IsTrue, OnOk, string_bytes, map};
-ghost use Rattle.tera_meaning.specs.Run.{AnInclude, visits_of};
-ghost use Rattle.tera_meaning.specs.Registry.{new_registry};
-ghost use Rattle.tera_errors.specs.Answer.{Gives};
-ghost use Rattle.tera_meaning.specs.Rendering.{alone, block_of};
-ghost use Rattle.tera_meaning.specs.Whole.{World};
-ghost use Rattle.tera_state.specs.Scopes.{around_of};
-ghost use Rattle.tera_code.specs.Code.{nodes_code};
-ghost use Rattle.tera_registry.specs.Components.{kept_of};
+ghost use Rattle.tera_meaning.specs.Prelude.{AnInclude, visits_of, new_registry, alone, block_of, World};
+ghost use Rattle.tera_errors.specs.Prelude.{Gives};
+ghost use Rattle.tera_state.specs.Prelude.{around_of};
+ghost use Rattle.tera_code.specs.Prelude.{nodes_code};
+ghost use Rattle.tera_registry.specs.Prelude.{kept_of};
 ghost use Rattle.tera_machine.specs.Config.{config_of};
 ghost use Rattle.tera_machine.specs.Exec.{EndsWithin, Ran};
 ghost use Rattle.tera_machine.specs.Flow.{Written, request_of, use_of, component_request, component_use};

@@ -1,11 +1,11 @@
 // Names and the attributes behind them, read where they lie.
 ghost use Rattle.std.specs.Prelude.{◌≡◌, ◌+◌, ◌-◌, ◌<◌, ◌^◌, Some, suc, length, slice_get, IfOk, IfErr, IfSome, IfNone, IsTrue, unwrap_or};
-ghost use Rattle.tera_errors.specs.Answer.{Gives};
+ghost use Rattle.tera_errors.specs.Prelude.{Gives};
 ghost use Rattle.tera_code.specs.declared.instruction.Instruction.TheVariants as instruction;
-ghost use Rattle.tera_values.specs.Val.{undefined};
-ghost use Rattle.tera_operators.specs.Operators.{is_comparison};
-ghost use Rattle.tera_state.specs.Found.{found_value};
-ghost use Rattle.tera_meaning.specs.Meaning.{output};
+ghost use Rattle.tera_values.specs.Prelude.{undefined};
+ghost use Rattle.tera_operators.specs.Prelude.{is_comparison};
+ghost use Rattle.tera_state.specs.Prelude.{found_value};
+ghost use Rattle.tera_meaning.specs.Prelude.{output};
 ghost use Rattle.tera_machine.specs.declared.configuration.Configuration.{Configuration as Whole};
 ghost use Rattle.tera_machine.specs.Config.{Config, config_of};
 ghost use Rattle.tera_machine.specs.Flow.{flow_of};

@@ -1,14 +1,14 @@
 // One instruction, as it lies in its chunk.
 ghost use Rattle.std.specs.Prelude.{◌≡◌, ◌+◌, ◌-◌, ◌<◌, ◌^◌, Some, suc, length, slice_get};
-ghost use Rattle.tera_errors.specs.Site.{Site};
-ghost use Rattle.tera_values.specs.Val.{int};
+ghost use Rattle.tera_errors.specs.Prelude.{Site};
+ghost use Rattle.tera_values.specs.Prelude.{int};
 ghost use Rattle.tera_machine.specs.Config.{config_of};
 ghost use Rattle.tera_machine.specs.Did.{pushed};
 ghost use Rattle.tera_machine.specs.Act.{act, IsReady, IsSmall, Does, going_on, going_on_if, name_written, name_loaded};
 ghost use Rattle.tera_machine.specs.Together.{done};
 ghost use Rattle.tera_machine.specs.Paths.{Stands, start_at};
 ghost use Rattle.tera_machine.specs.Subject.{here_of};
-ghost use Rattle.tera_state.specs.Scopes.{around_of};
+ghost use Rattle.tera_state.specs.Prelude.{around_of};
 
 use crate::act::{going_on, going_on_if};
 use crate::configuration::Configuration;

@@ -1,9 +1,8 @@
 // What a rendering puts out, and what is captured of it.
 ghost use Rattle.std.specs.Prelude.{◌≡◌, ◌≢◌, ◌++◌, ◌∷◌, [], Ok, OnOk, IfErr, string_bytes, drop, unwrap_or};
-ghost use Rattle.tera_errors.specs.Answer.{Gives, Lacks};
-ghost use Rattle.tera_values.specs.Val.{text, undefined};
-ghost use Rattle.tera_state.specs.Found.{found_value};
-ghost use Rattle.tera_state.specs.Rendered.{rendered};
+ghost use Rattle.tera_errors.specs.Prelude.{Gives, Lacks};
+ghost use Rattle.tera_values.specs.Prelude.{text, undefined};
+ghost use Rattle.tera_state.specs.Prelude.{found_value, rendered};
 ghost use Rattle.tera_machine.specs.Layers.{around_layers, joined};
 
 use std::alloc::{AllocError, Global};

@@ -1,6 +1,6 @@
 // The block whose text is wanted.
 ghost use Rattle.std.specs.Prelude.{◌≡◌, [], ◌∷◌, None, Some, OnOk, IfOk, IfErr, string_bytes, unwrap_or};
-ghost use Rattle.tera_errors.specs.Answer.{Lacks};
+ghost use Rattle.tera_errors.specs.Prelude.{Lacks};
 ghost use Rattle.tera_machine.specs.Wanted.{is_wanted, Noted, text_kept};
 
 use std::alloc::Global;

@@ -11,3 +11,4 @@ pub mod Adding
 pub mod Whole
 pub mod Rendering
 pub mod Variables
+pub mod Prelude

@@ -4,3 +4,4 @@ pub mod Table
 pub mod Taken
 pub mod Kept
 pub mod Moving
+pub mod Prelude

@@ -1,13 +1,10 @@
 // Filters, tests and functions, called with operands.
 ghost use Rattle.std.specs.Prelude.{◌≡◌, Bool, Ok, Result, length};
 ghost use Rattle.std.specs.List.{zip};
-ghost use Rattle.tera_errors.specs.Answer.{Gives};
-ghost use Rattle.tera_errors.specs.Fault.{Fault};
-ghost use Rattle.tera_values.specs.Alphabet.{plain};
-ghost use Rattle.tera_values.specs.Val.{bool};
-ghost use Rattle.tera_operators.specs.Operand.{then};
-ghost use Rattle.tera_operators.specs.Calls.{filter_applied_by, test_applied_by, function_called_by};
-ghost use Rattle.tera_state.specs.Scopes.{around_of, variables_of};
+ghost use Rattle.tera_errors.specs.Prelude.{Gives, Fault};
+ghost use Rattle.tera_values.specs.Prelude.{plain, bool};
+ghost use Rattle.tera_operators.specs.Prelude.{then, filter_applied_by, test_applied_by, function_called_by};
+ghost use Rattle.tera_state.specs.Prelude.{around_of, variables_of};
 ghost use Rattle.tera_objects.specs.Calling.{seen_in, filtered_by, tested_by, called_by};
 
 use crate::objects::Objects;

@@ -1,14 +1,9 @@
 // The caller's boxes, and what they are lent.
 ghost use Rattle.std.specs.Prelude.{◌≡◌, ◌++◌, Some, string_bytes, OnOk, OnErr};
-ghost use Rattle.tera_errors.specs.Answer.{Gives};
-ghost use Rattle.tera_values.specs.Alphabet.{plain};
-ghost use Rattle.tera_built_ins.specs.Filters.{filtered_in};
-ghost use Rattle.tera_built_ins.specs.TestTable.{tested_in};
-ghost use Rattle.tera_built_ins.specs.FunctionTable.{called_in};
-ghost use Rattle.tera_state.specs.Rendered.{rendered};
-ghost use Rattle.tera_built_ins.specs.Escaping.{escape_or_html};
-ghost use Rattle.tera_state.specs.View.{view_of, view_at, filters_left};
-ghost use Rattle.tera_state.specs.Scopes.{around_of, variables_of};
+ghost use Rattle.tera_errors.specs.Prelude.{Gives};
+ghost use Rattle.tera_values.specs.Prelude.{plain};
+ghost use Rattle.tera_built_ins.specs.Prelude.{filtered_in, tested_in, called_in, escape_or_html};
+ghost use Rattle.tera_state.specs.Prelude.{rendered, view_of, view_at, filters_left, around_of, variables_of};
 ghost use Rattle.tera_objects.specs.Calling.{answer_of};
 
 use crate::marked::marked_if;

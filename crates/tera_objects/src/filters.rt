@@ -1,8 +1,8 @@
 // Filters of the caller.
 ghost use Rattle.std.specs.Prelude.{◌≡◌, ◌&&◌, not, ℕ, [], take, is_some, OnOk, OnErr, IfErr};
-ghost use Rattle.tera_errors.specs.Answer.{Lacks};
-ghost use Rattle.tera_values.specs.Named.{at_name, put};
-ghost use Rattle.tera_built_ins.specs.Filters.{filter_named};
+ghost use Rattle.tera_errors.specs.Prelude.{Lacks};
+ghost use Rattle.tera_values.specs.Prelude.{at_name, put};
+ghost use Rattle.tera_built_ins.specs.Prelude.{filter_named};
 ghost use Rattle.tera_objects.specs.Table.{listed, moved};
 ghost use Rattle.tera_objects.specs.Taken.{AreTaken};
 ghost use Rattle.std.proofs.Props.{props};

@@ -1,8 +1,7 @@
 // Answers that are marked safe.
 ghost use Rattle.std.specs.Prelude.{Result};
-ghost use Rattle.tera_errors.specs.Answer.{Gives};
-ghost use Rattle.tera_errors.specs.Fault.{Fault};
-ghost use Rattle.tera_values.specs.Val.{Val};
+ghost use Rattle.tera_errors.specs.Prelude.{Gives, Fault};
+ghost use Rattle.tera_values.specs.Prelude.{Val};
 ghost use Rattle.tera_objects.specs.Calling.{answer_of};
 
 use tera_values::{TeraResult, Value};

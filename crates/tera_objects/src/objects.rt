@@ -1,9 +1,8 @@
 // What a rendering asks of an engine's objects.
 ghost use Rattle.std.specs.Prelude.{◌≡◌, ◌++◌, string_bytes, OnOk, OnErr};
-ghost use Rattle.tera_errors.specs.Answer.{Gives};
-ghost use Rattle.tera_values.specs.Alphabet.{plain};
-ghost use Rattle.tera_state.specs.Rendered.{rendered};
-ghost use Rattle.tera_state.specs.Scopes.{around_of, variables_of};
+ghost use Rattle.tera_errors.specs.Prelude.{Gives};
+ghost use Rattle.tera_values.specs.Prelude.{plain};
+ghost use Rattle.tera_state.specs.Prelude.{rendered, around_of, variables_of};
 ghost use Rattle.tera_objects.specs.Engine.{Engine, has_filter, has_test, has_function};
 ghost use Rattle.tera_objects.specs.Calling.{seen_in, filtered_by, tested_by, called_by};
 

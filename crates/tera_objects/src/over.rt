@@ -1,7 +1,7 @@
 // What is registered.
 ghost use Rattle.std.specs.Prelude.{◌≡◌, OnOk, OnErr, IfErr};
-ghost use Rattle.tera_errors.specs.Answer.{Lacks};
-ghost use Rattle.tera_values.specs.Escape.{escape_html};
+ghost use Rattle.tera_errors.specs.Prelude.{Lacks};
+ghost use Rattle.tera_values.specs.Prelude.{escape_html};
 
 use crate::filters::OwnFilters;
 use crate::table::Table;

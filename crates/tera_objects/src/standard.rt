@@ -1,8 +1,6 @@
 // Which filters, tests and functions every engine has.
 ghost use Rattle.std.specs.Prelude.{is_some};
-ghost use Rattle.tera_built_ins.specs.Filters.{filter_named};
-ghost use Rattle.tera_built_ins.specs.TestTable.{test_named};
-ghost use Rattle.tera_built_ins.specs.FunctionTable.{function_named};
+ghost use Rattle.tera_built_ins.specs.Prelude.{filter_named, test_named, function_named};
 
 use crate::table::Standard;
 use tera_built_ins::{BuiltInFilter, BuiltInFunction, BuiltInTest};

@@ -1,8 +1,7 @@
 // Things by name.
 ghost use Rattle.std.specs.Prelude.{◌≡◌, ◌||◌, ℕ, Bool, [], take, is_some, OnOk, OnErr, IfErr, option_copied};
-ghost use Rattle.tera_errors.specs.Answer.{Lacks};
-ghost use Rattle.tera_errors.specs.Site.{Name};
-ghost use Rattle.tera_values.specs.Named.{at_name, put};
+ghost use Rattle.tera_errors.specs.Prelude.{Lacks, Name};
+ghost use Rattle.tera_values.specs.Prelude.{at_name, put};
 
 use std::alloc::Global;
 use std::collections::BTreeMap;

@@ -4,3 +4,4 @@ pub mod Operators
 pub mod Literals
 pub mod Entries
 pub mod Calls
+pub mod Prelude

@@ -1,7 +1,7 @@
 // Attributes, items and slices.
 ghost use Rattle.std.specs.Prelude.{◌≡◌, IsTrue, IsOk, IsOkAnd};
-ghost use Rattle.tera_errors.specs.Answer.{Gives};
-ghost use Rattle.tera_values.specs.Access.{IsScalar};
+ghost use Rattle.tera_errors.specs.Prelude.{Gives};
+ghost use Rattle.tera_values.specs.Prelude.{IsScalar};
 ghost use Rattle.tera_operators.specs.Accesses.{is_missing, part_of, Decides, attribute_of, item_of, bound_at, slice_of};
 
 use crate::operand::{LentOperand, Operand};

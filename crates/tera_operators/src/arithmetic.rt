@@ -1,9 +1,7 @@
 // Arithmetic, with each fault at its place.
 ghost use Rattle.std.specs.Prelude.{ℤ, Result, IsOk};
-ghost use Rattle.tera_errors.specs.Fault.{Fault};
-ghost use Rattle.tera_errors.specs.Answer.{Gives};
-ghost use Rattle.tera_values.specs.Val.{Val};
-ghost use Rattle.tera_values.specs.Number.{integers, on_integers, unless_zero};
+ghost use Rattle.tera_errors.specs.Prelude.{Fault, Gives};
+ghost use Rattle.tera_values.specs.Prelude.{Val, integers, on_integers, unless_zero};
 ghost use Rattle.tera_operators.specs.Operators.{number_at, numbers, divisor_of, combined, calculated, divided, negative_of};
 
 use crate::operand::Operand;

@@ -1,7 +1,7 @@
 // Arrays that are written out.
 ghost use Rattle.std.specs.Prelude.{◌≡◌, ◌++◌, length, OnOk, IfErr, option_copied};
 ghost use Rattle.std.specs.List.{zip};
-ghost use Rattle.tera_errors.specs.Answer.{Gives, Lacks};
+ghost use Rattle.tera_errors.specs.Prelude.{Gives, Lacks};
 ghost use Rattle.tera_operators.specs.Literals.{items_of, array_of};
 
 use crate::operand::Operand;

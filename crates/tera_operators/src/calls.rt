@@ -1,9 +1,8 @@
 // What calls of filters, tests and functions make of operands: their arguments, and an operand of what they answer.
 ghost use Rattle.std.specs.Prelude.{◌≡◌, Ok, Result, length};
 ghost use Rattle.std.specs.List.{zip};
-ghost use Rattle.tera_errors.specs.Answer.{Gives};
-ghost use Rattle.tera_errors.specs.Fault.{Fault};
-ghost use Rattle.tera_values.specs.Val.{Val};
+ghost use Rattle.tera_errors.specs.Prelude.{Gives, Fault};
+ghost use Rattle.tera_values.specs.Prelude.{Val};
 ghost use Rattle.tera_operators.specs.Operand.{at_span, then};
 ghost use Rattle.tera_operators.specs.Calls.{by_name, placed_call};
 

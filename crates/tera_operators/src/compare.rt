@@ -1,9 +1,8 @@
 // Truth, equality and order.
 ghost use Rattle.std.specs.Prelude.{◌≡◌, Bool, IsOk, IsTrue};
 ghost use Rattle.tera_errors.specs.declared.span.Span.{Span};
-ghost use Rattle.tera_errors.specs.Answer.{Gives};
-ghost use Rattle.tera_values.specs.Val.{bool};
-ghost use Rattle.tera_values.specs.Order.{checked_order, same};
+ghost use Rattle.tera_errors.specs.Prelude.{Gives};
+ghost use Rattle.tera_values.specs.Prelude.{bool, checked_order, same};
 ghost use Rattle.tera_operators.specs.Operand.{spanning};
 ghost use Rattle.tera_operators.specs.Operators.{not_of, standing_of, compared, is_comparison, binary_of};
 

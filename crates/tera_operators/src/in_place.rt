@@ -1,10 +1,9 @@
 // The small calculations: with two integers, done where the left operand lies.
 ghost use Rattle.std.specs.Prelude.{◌≡◌, ◌*ℤ◌, Ok, IfSome};
 ghost use Rattle.std.specs.Bool.{OnFalse, OnTrue};
-ghost use Rattle.tera_errors.specs.Site.{Name};
+ghost use Rattle.tera_errors.specs.Prelude.{Name};
 ghost use Rattle.tera_errors.specs.declared.span.Span.{Span};
-ghost use Rattle.tera_values.specs.Val.{int};
-ghost use Rattle.tera_values.specs.Number.{sum, difference, product, quotient, remainder};
+ghost use Rattle.tera_values.specs.Prelude.{int, sum, difference, product, quotient, remainder};
 ghost use Rattle.tera_operators.specs.Operators.{Makes, binary_of};
 
 use crate::operand::Operand;

@@ -1,11 +1,9 @@
 // The entries of a map that is written out, as they lie.
 ghost use Rattle.std.specs.Prelude.{◌≡◌, true, Ok, IfSome, length, option_copied};
 ghost use Rattle.std.specs.List.{list_all};
-ghost use Rattle.tera_errors.specs.Answer.{Gives};
-ghost use Rattle.tera_syntax_tree.specs.View.{key_option};
-ghost use Rattle.tera_values.specs.Val.{ktext};
-ghost use Rattle.tera_values.specs.View.{key_view};
-ghost use Rattle.tera_values.specs.Access.{find};
+ghost use Rattle.tera_errors.specs.Prelude.{Gives};
+ghost use Rattle.tera_syntax_tree.specs.Prelude.{key_option};
+ghost use Rattle.tera_values.specs.Prelude.{ktext, key_view, find};
 ghost use Rattle.tera_operators.specs.Entries.{listed, is_at, is_key_named, is_named, are_named, AreAmong};
 
 use crate::maps::key_from;

@@ -1,9 +1,9 @@
 // Maps that are written out.
 ghost use Rattle.std.specs.Prelude.{◌≡◌, [], ◌∷◌, Ok, length, map as map_list, OnOk, IfErr, option_copied, is_none};
 ghost use Rattle.std.specs.List.{zip, list_any};
-ghost use Rattle.tera_errors.specs.Answer.{Gives, Lacks};
-ghost use Rattle.tera_syntax_tree.specs.View.{key_of, key_option};
-ghost use Rattle.tera_values.specs.View.{key_view};
+ghost use Rattle.tera_errors.specs.Prelude.{Gives, Lacks};
+ghost use Rattle.tera_syntax_tree.specs.Prelude.{key_of, key_option};
+ghost use Rattle.tera_values.specs.Prelude.{key_view};
 ghost use Rattle.tera_operators.specs.Literals.{key_val, pairs_of, kept, entry_after, from_left, map_entries, map_of};
 
 use crate::listed::Entries;

@@ -1,6 +1,6 @@
 // What a container has in it.
 ghost use Rattle.std.specs.Prelude.{IsOk};
-ghost use Rattle.tera_errors.specs.Answer.{Gives};
+ghost use Rattle.tera_errors.specs.Prelude.{Gives};
 ghost use Rattle.tera_operators.specs.Operators.{contained};
 
 use crate::operand::Operand;

@@ -1,8 +1,7 @@
 // Values that were evaluated.
 ghost use Rattle.std.specs.Prelude.{◌≡◌, Ok, IsOk, option_copied, unwrap_or};
-ghost use Rattle.tera_errors.specs.Answer.{Gives};
-ghost use Rattle.tera_values.specs.Access.{IsScalar, is_undefined, truthy};
-ghost use Rattle.tera_values.specs.Val.{undefined};
+ghost use Rattle.tera_errors.specs.Prelude.{Gives};
+ghost use Rattle.tera_values.specs.Prelude.{IsScalar, is_undefined, truthy, undefined};
 ghost use Rattle.tera_operators.specs.Operand.{Evaluated, spanning};
 
 use std::marker::Model;

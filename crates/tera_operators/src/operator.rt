@@ -1,6 +1,6 @@
 // Operators between two operands.
 ghost use Rattle.std.specs.Prelude.{◌≢◌, IsOk};
-ghost use Rattle.tera_errors.specs.Answer.{Gives};
+ghost use Rattle.tera_errors.specs.Prelude.{Gives};
 ghost use Rattle.tera_operators.specs.Operators.{binary_of};
 
 use crate::arithmetic::Operands;

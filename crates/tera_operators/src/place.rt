@@ -1,8 +1,7 @@
 // Answers and refusals, put at their places.
 ghost use Rattle.std.specs.Prelude.{◌≡◌, Result, IsOk};
-ghost use Rattle.tera_errors.specs.Fault.{Fault, rendering_error};
-ghost use Rattle.tera_errors.specs.Answer.{Gives};
-ghost use Rattle.tera_values.specs.Val.{Val};
+ghost use Rattle.tera_errors.specs.Prelude.{Fault, rendering_error, Gives};
+ghost use Rattle.tera_values.specs.Prelude.{Val};
 ghost use Rattle.tera_operators.specs.Operand.{Retells, at_span, placed, spanning, then};
 
 use crate::operand::Operand;

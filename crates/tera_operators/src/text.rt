@@ -1,8 +1,7 @@
 // Texts that are joined.
 ghost use Rattle.std.specs.Prelude.{◌++◌, false};
-ghost use Rattle.tera_errors.specs.Answer.{Gives};
-ghost use Rattle.tera_values.specs.Val.{text};
-ghost use Rattle.tera_values.specs.Printed.{printed};
+ghost use Rattle.tera_errors.specs.Prelude.{Gives};
+ghost use Rattle.tera_values.specs.Prelude.{text, printed};
 ghost use Rattle.tera_operators.specs.Operand.{at_span, spanning};
 
 use crate::operand::Operand;

@@ -17,3 +17,4 @@ pub mod Definers
 pub mod References
 pub mod LinkTable
 pub mod Templates
+pub mod Prelude

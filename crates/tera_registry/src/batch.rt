@@ -1,11 +1,9 @@
 // A batch of texts that is read, and put among templates.
 ghost use Rattle.std.specs.Prelude.{◌≡◌, IfOk, IfErr, IsTrue, map, option_map, string_bytes};
-ghost use Rattle.tera_errors.specs.Answer.{GivesOneOf, Lacks};
+ghost use Rattle.tera_errors.specs.Prelude.{GivesOneOf, Lacks};
 ghost use Rattle.tera_syntax_tree.specs.Blocks as in_tree;
-ghost use Rattle.tera_syntax_tree.specs.Delimiters.{delimiters_of, accepted};
-ghost use Rattle.tera_syntax_tree.specs.View.{nodes_of, quoted_option, tree_of};
-ghost use Rattle.tera_code.specs.Blocks.{block_of, block_listings};
-ghost use Rattle.tera_code.specs.Code.{listing_of};
+ghost use Rattle.tera_syntax_tree.specs.Prelude.{delimiters_of, accepted, nodes_of, quoted_option, tree_of};
+ghost use Rattle.tera_code.specs.Prelude.{block_of, block_listings, listing_of};
 ghost use Rattle.tera_registry.specs.Order.{Rises};
 ghost use Rattle.tera_registry.specs.Batch.{pairs_of};
 ghost use Rattle.tera_registry.specs.Put.{Makes, Puts};

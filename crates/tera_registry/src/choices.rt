@@ -2,7 +2,7 @@
 ghost use Rattle.std.specs.Prelude.{◌≡◌, OnOk, IfOk, bytes_eq, Option, if◌then◌else◌};
 ghost use Rattle.std.specs.List.{list_any};
 ghost use Rattle.std.specs.Option.{option_or};
-ghost use Rattle.tera_errors.specs.Site.{Name};
+ghost use Rattle.tera_errors.specs.Prelude.{Name};
 ghost use Rattle.tera_registry.specs.Choices.{chosen, improves, better_choice, is_tied, chosen_in, AreChosen, IsFirstTie};
 ghost use Rattle.tera_registry.specs.Components.{kept_names};
 ghost use Rattle.tera_registry.specs.Kept.{seen};

@@ -1,8 +1,7 @@
 // The components of a template, as they are kept.
 ghost use Rattle.std.specs.Prelude.{◌≡◌, ◌++◌, map, OnOk, IfOk, IfErr};
-ghost use Rattle.tera_errors.specs.Answer.{Lacks};
-ghost use Rattle.tera_syntax_tree.specs.Definitions.{node_definitions};
-ghost use Rattle.tera_syntax_tree.specs.View.{node_of, nodes_of};
+ghost use Rattle.tera_errors.specs.Prelude.{Lacks};
+ghost use Rattle.tera_syntax_tree.specs.Prelude.{node_definitions, node_of, nodes_of};
 ghost use Rattle.tera_registry.specs.Components.{kept_of, kept_as, kept_all};
 
 use std::alloc::Global;

@@ -1,11 +1,7 @@
 // Who defines a block for a template, and which blocks are lost.
 ghost use Rattle.std.specs.Prelude.{◌≡◌, ◌<◌, [], ◌∷◌, length, slice_get, Some};
 ghost use Rattle.std.specs.List.{list_any};
-ghost use Rattle.tera_meaning.specs.Accepted.{loses_a_block, lacks_something, is_component, includes_of, misses_an_include};
-ghost use Rattle.tera_meaning.specs.Known.{lacks_a_callee};
-ghost use Rattle.tera_meaning.specs.Lineage.{ancestors, definers_in};
-ghost use Rattle.tera_meaning.specs.Registry.{Entry, Registry};
-ghost use Rattle.tera_meaning.specs.Resolve.{entry_at};
+ghost use Rattle.tera_meaning.specs.Prelude.{loses_a_block, lacks_something, is_component, includes_of, misses_an_include, lacks_a_callee, ancestors, definers_in, Entry, Registry, entry_at};
 ghost use Rattle.tera_registry.specs.Choices.{AreChosen};
 ghost use Rattle.tera_registry.specs.Definers.{IsFirst, Climbable, blocks_of};
 ghost use Rattle.tera_registry.specs.Edges.{AreEdges};

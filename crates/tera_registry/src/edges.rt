@@ -1,6 +1,6 @@
 // What templates include, by place.
 ghost use Rattle.std.specs.Prelude.{◌≡◌, length, IfOk};
-ghost use Rattle.tera_meaning.specs.Accepted.{includes_of};
+ghost use Rattle.tera_meaning.specs.Prelude.{includes_of};
 ghost use Rattle.tera_registry.specs.Edges.{all_at, AreThere, AreEdges};
 ghost use Rattle.tera_registry.specs.Order.{Rises};
 ghost use Rattle.tera_registry.specs.Kept.{entry_of, entries_of, seen};

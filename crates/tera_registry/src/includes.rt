@@ -1,11 +1,9 @@
 // What the nodes of a template include.
 ghost use Rattle.std.specs.Prelude.{◌≡◌, ◌++◌, OnOk, IfOk, IfErr, is_none};
 ghost use Rattle.std.specs.List.{list_any};
-ghost use Rattle.tera_errors.specs.Answer.{Lacks};
-ghost use Rattle.tera_syntax_tree.specs.Includes.{includes, node_includes};
-ghost use Rattle.tera_syntax_tree.specs.View.{node_of, nodes_of};
-ghost use Rattle.tera_meaning.specs.Accepted.{misses_an_include};
-ghost use Rattle.tera_meaning.specs.Resolve.{resolve};
+ghost use Rattle.tera_errors.specs.Prelude.{Lacks};
+ghost use Rattle.tera_syntax_tree.specs.Prelude.{includes, node_includes, node_of, nodes_of};
+ghost use Rattle.tera_meaning.specs.Prelude.{misses_an_include, resolve};
 ghost use Rattle.tera_registry.specs.Order.{Rises};
 ghost use Rattle.tera_registry.specs.Kept.{entries_of, seen};
 

@@ -1,8 +1,8 @@
 // What is called and is not there.
 ghost use Rattle.std.specs.Prelude.{◌≡◌, bytes_eq, option_and_then, slice_get};
 ghost use Rattle.std.specs.List.{list_any};
-ghost use Rattle.tera_code.specs.Called.{callee_of, called_by};
-ghost use Rattle.tera_meaning.specs.Known.{is_known};
+ghost use Rattle.tera_code.specs.Prelude.{callee_of, called_by};
+ghost use Rattle.tera_meaning.specs.Prelude.{is_known};
 ghost use Rattle.tera_registry.specs.Known.{is_there, is_missing, code_lacks};
 
 use crate::choices::Choice;

@@ -1,7 +1,7 @@
 // Which template stands at the top above each, by place.
 ghost use Rattle.std.specs.Prelude.{◌≡◌, ◌≢◌, ◌<◌, ◌≤◌, length, slice_get, IfOk, Some, true, false};
-ghost use Rattle.tera_errors.specs.Answer.{Gives};
-ghost use Rattle.tera_meaning.specs.Registry.{Registry, Entry};
+ghost use Rattle.tera_errors.specs.Prelude.{Gives};
+ghost use Rattle.tera_meaning.specs.Prelude.{Registry, Entry};
 ghost use Rattle.tera_registry.specs.Choices.{IsFirstTie};
 ghost use Rattle.tera_registry.specs.Edges.{IsFirstCircle};
 ghost use Rattle.tera_registry.specs.Order.{Rises};

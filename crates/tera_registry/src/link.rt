@@ -1,8 +1,7 @@
 // Links templates, and refuses those that do not go together.
 ghost use Rattle.std.specs.Prelude.{◌≡◌, length, IfOk};
-ghost use Rattle.tera_errors.specs.Answer.{Gives};
-ghost use Rattle.tera_meaning.specs.Adding.{accepted};
-ghost use Rattle.tera_meaning.specs.Registry.{Registry};
+ghost use Rattle.tera_errors.specs.Prelude.{Gives};
+ghost use Rattle.tera_meaning.specs.Prelude.{accepted, Registry};
 ghost use Rattle.tera_registry.specs.Order.{Rises};
 ghost use Rattle.tera_registry.specs.Choices.{AreChosen};
 ghost use Rattle.tera_registry.specs.Links.{AreUps, AreRoots};

@@ -2,8 +2,8 @@
 ghost use Rattle.std.specs.Prelude.{◌≡◌, [], OnOk, IfOk, IfErr, IfSome, String};
 ghost use Rattle.std.specs.declared.alloc.Global.{Global};
 ghost use Rattle.std.specs.declared.collections.BTreeMap.{BTreeMap};
-ghost use Rattle.tera_errors.specs.Answer.{Lacks};
-ghost use Rattle.tera_meaning.specs.Registry.{Registry};
+ghost use Rattle.tera_errors.specs.Prelude.{Lacks};
+ghost use Rattle.tera_meaning.specs.Prelude.{Registry};
 ghost use Rattle.tera_registry.specs.declared.choices.Choice.{Choice};
 ghost use Rattle.tera_registry.specs.References.{LeadsTo, AreAllRight};
 ghost use Rattle.tera_registry.specs.LinkTable.{LeadsThere, AreLinks, AreTables};

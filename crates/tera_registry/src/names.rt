@@ -1,8 +1,8 @@
 // Names in byte order: where one stands among templates.
 ghost use Rattle.std.specs.Prelude.{◌≡◌, ◌++◌, IfErr, OnOk, OnErr};
-ghost use Rattle.tera_errors.specs.Answer.{Lacks};
-ghost use Rattle.tera_values.specs.Named.{name_cmp, put};
-ghost use Rattle.tera_meaning.specs.Resolve.{resolve};
+ghost use Rattle.tera_errors.specs.Prelude.{Lacks};
+ghost use Rattle.tera_values.specs.Prelude.{name_cmp, put};
+ghost use Rattle.tera_meaning.specs.Prelude.{resolve};
 ghost use Rattle.tera_registry.specs.Order.{Rises};
 ghost use Rattle.tera_registry.specs.Places.{IsFound, IsPlace};
 ghost use Rattle.tera_registry.specs.Kept.{entry_of, entries_of, seen};

@@ -1,12 +1,10 @@
 // What a template needs of others: what it calls that is not built in.
 ghost use Rattle.std.specs.Prelude.{◌≡◌, ◌++◌, [], map, slice_get, option_and_then, OnOk, IfOk, IfErr};
 ghost use Rattle.std.specs.List.{flat_map, cons_option};
-ghost use Rattle.tera_errors.specs.Answer.{Lacks};
+ghost use Rattle.tera_errors.specs.Prelude.{Lacks};
 ghost use Rattle.tera_syntax_tree.specs.Blocks as in_tree;
-ghost use Rattle.tera_syntax_tree.specs.View.{nodes_of};
-ghost use Rattle.tera_code.specs.Blocks.{block_of, block_listings};
-ghost use Rattle.tera_code.specs.Called.{callee_of};
-ghost use Rattle.tera_code.specs.Code.{listing_of};
+ghost use Rattle.tera_syntax_tree.specs.Prelude.{nodes_of};
+ghost use Rattle.tera_code.specs.Prelude.{block_of, block_listings, callee_of, listing_of};
 ghost use Rattle.tera_registry.specs.Components.{kept_of, kept_all};
 ghost use Rattle.tera_registry.specs.Needs.{is_built_in, as_need, callee_needed, needed_by, needs_of, code_needs, bodies_need};
 

@@ -1,6 +1,6 @@
 // How good the definitions of components are that a template has.
 ghost use Rattle.std.specs.Prelude.{◌≡◌, []};
-ghost use Rattle.tera_meaning.specs.Components.{priority};
+ghost use Rattle.tera_meaning.specs.Prelude.{priority};
 ghost use Rattle.tera_registry.specs.Kept.{seen};
 
 /// 0 where no prefix begins the name of the template, else 1 and the place of the first that does. Less is better.

@@ -1,14 +1,8 @@
 // All templates of an engine, linked.
 ghost use Rattle.std.specs.Prelude.{◌≡◌, ◌<◌, IfOk, IfErr, Some, None, Ok, map, length, slice_get, is_some, string_bytes, IsTrue, [], ◌∷◌};
-ghost use Rattle.tera_errors.specs.Answer.{Gives, GivesOneOf, Lacks};
-ghost use Rattle.tera_syntax_tree.specs.Delimiters.{delimiters_of, accepted};
-ghost use Rattle.tera_syntax_tree.specs.View.{nodes_of};
-ghost use Rattle.tera_meaning.specs.Accepted.{first_fault, is_component, misses_an_include};
-ghost use Rattle.tera_meaning.specs.Lineage.{ancestors, definers_in};
-ghost use Rattle.tera_meaning.specs.Components.{AreComponentNames};
-ghost use Rattle.tera_meaning.specs.Variables.{AnswersVariables};
-ghost use Rattle.tera_meaning.specs.Resolve.{resolve};
-ghost use Rattle.tera_meaning.specs.Registry.{Entry, Registry};
+ghost use Rattle.tera_errors.specs.Prelude.{Gives, GivesOneOf, Lacks};
+ghost use Rattle.tera_syntax_tree.specs.Prelude.{delimiters_of, accepted, nodes_of};
+ghost use Rattle.tera_meaning.specs.Prelude.{first_fault, is_component, misses_an_include, ancestors, definers_in, AreComponentNames, AnswersVariables, resolve, Entry, Registry};
 ghost use Rattle.std.specs.Coded.{codes};
 ghost use Rattle.tera_code.specs.contracts.chunk.Chunk as chunk;
 ghost use Rattle.tera_registry.specs.contracts.choices.Choice as choice;

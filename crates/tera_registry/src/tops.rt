@@ -1,8 +1,7 @@
 // The blocks of a template that are inside no other block.
 ghost use Rattle.std.specs.Prelude.{◌≡◌, ◌++◌, OnOk, IfOk, IfErr};
-ghost use Rattle.tera_errors.specs.Answer.{Lacks};
-ghost use Rattle.tera_syntax_tree.specs.Blocks.{top_blocks, node_top_blocks};
-ghost use Rattle.tera_syntax_tree.specs.View.{node_of, nodes_of};
+ghost use Rattle.tera_errors.specs.Prelude.{Lacks};
+ghost use Rattle.tera_syntax_tree.specs.Prelude.{top_blocks, node_top_blocks, node_of, nodes_of};
 
 use std::alloc::Global;
 use tera_errors::TeraResult;

@@ -2,13 +2,9 @@
 ghost use Rattle.std.specs.Prelude.{◌≡◌, ◌<◌, ◌∷◌, [], length, slice_get, IfOk, OnOk, IfErr, Some};
 ghost use Rattle.std.specs.BTreeSet.{IsOrdered};
 ghost use Rattle.std.specs.String.{string_cmp};
-ghost use Rattle.tera_errors.specs.Answer.{Lacks};
-ghost use Rattle.tera_meaning.specs.Accepted.{includes_of};
-ghost use Rattle.tera_meaning.specs.Lineage.{ancestors};
-ghost use Rattle.tera_meaning.specs.Registry.{Entry};
-ghost use Rattle.tera_meaning.specs.Variables.{given, if_given, given_in, variables};
-ghost use Rattle.tera_variables.specs.Free.{only, ◌∪◌};
-ghost use Rattle.tera_variables.specs.Sets.{names_in};
+ghost use Rattle.tera_errors.specs.Prelude.{Lacks};
+ghost use Rattle.tera_meaning.specs.Prelude.{includes_of, ancestors, Entry, given, if_given, given_in, variables};
+ghost use Rattle.tera_variables.specs.Prelude.{only, ◌∪◌, names_in};
 ghost use Rattle.tera_registry.specs.Definers.{Grounded};
 ghost use Rattle.tera_registry.specs.Edges.{all_at, AreThere};
 ghost use Rattle.tera_registry.specs.Order.{Rises};

@@ -1,10 +1,8 @@
 // Entries of a context, by their names.
 ghost use Rattle.std.specs.Prelude.{◌≡◌, Ok, OnOk, IfErr, bytes_eq};
 ghost use Rattle.std.specs.List.{list_any};
-ghost use Rattle.tera.specs.Lent.{texts_of};
-ghost use Rattle.tera.specs.Answer.{Gives, Lacks};
+ghost use Rattle.tera.specs.Prelude.{texts_of, Gives, Lacks, at_name};
 ghost use Rattle.tera_run_script.specs.Entries.{keeps, kept, put_found};
-ghost use Rattle.tera.specs.Named.{at_name};
 
 use tera::{Context, TeraResult};
 

@@ -1,17 +1,11 @@
 // Commands on an engine.
 ghost use Rattle.std.specs.Prelude.{◌≡◌, None, string_bytes, IfOk, IfErr, OnOk, OnErr, ◌++◌, ◌∷◌, []};
-ghost use Rattle.tera.specs.Lent.{texts_of};
-ghost use Rattle.tera.specs.Registry.{registry_of};
-ghost use Rattle.tera.specs.Rendering.{ComponentByName};
-ghost use Rattle.tera.specs.Answer.{GivesOneOf, Lacks};
-ghost use Rattle.tera.specs.Batch.{Adds, ConfiguresOneOf, pairs_of};
+ghost use Rattle.tera.specs.Prelude.{texts_of, registry_of, ComponentByName, GivesOneOf, Lacks, Adds, ConfiguresOneOf, pairs_of, put, text};
 ghost use Rattle.tera_run_script.specs.Act.{act_of, acts_of};
 ghost use Rattle.tera_run_script.specs.Entries.{with_names, without_names};
 ghost use Rattle.tera_run_script.specs.Reply.{reply_seen, replies_seen, done_seen, rendered_seen};
 ghost use Rattle.tera_run_script.specs.Seen.{session_of};
 ghost use Rattle.tera_run_script.specs.Session.{Answers, Leads};
-ghost use Rattle.tera.specs.Named.{put};
-ghost use Rattle.tera.specs.Val.{text};
 
 use crate::command::Command;
 use crate::entries::entries;

@@ -1,8 +1,6 @@
 // Each component by itself.
 ghost use Rattle.std.specs.Prelude.{◌≡◌, Ok, IfErr, IfOk, string_bytes, map, true};
-ghost use Rattle.tera.specs.Lent.{texts_of};
-ghost use Rattle.tera.specs.Registry.{registry_of, info_at};
-ghost use Rattle.tera.specs.Answer.{Gives, GivesOneOf, Lacks};
+ghost use Rattle.tera.specs.Prelude.{texts_of, registry_of, info_at, Gives, GivesOneOf, Lacks};
 ghost use Rattle.tera_run_script.specs.Preview.{arguments_for, shown, Previews};
 
 use crate::entries::entries;

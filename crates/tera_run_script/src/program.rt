@@ -1,7 +1,7 @@
 // A whole run, from the bytes of a script to the bytes of its replies.
 ghost use Rattle.std.specs.Prelude.{OnOk};
 ghost use Rattle.std.specs.List.{flat_map};
-ghost use Rattle.tera.specs.Registry.{registry_of};
+ghost use Rattle.tera.specs.Prelude.{registry_of};
 ghost use Rattle.tera_run_script.specs.Device.{FromDevice, HasEnded, ToDevice, Writes};
 ghost use Rattle.tera_run_script.specs.Reply.{line_of, reply_seen};
 ghost use Rattle.tera_run_script.specs.Run.{Ran};

@@ -1,7 +1,6 @@
 // What commands are answered, and how it is written.
 ghost use Rattle.std.specs.Prelude.{◌≡◌, ◌++◌, codes, Some, OnOk, IfErr, string_bytes, is_some, true};
-ghost use Rattle.tera.specs.Answer.{Lacks};
-ghost use Rattle.tera.specs.Fault.{fault_of};
+ghost use Rattle.tera.specs.Prelude.{Lacks, fault_of};
 ghost use Rattle.tera_run_script.specs.Device.{Writes};
 ghost use Rattle.tera_run_script.specs.Reply.{line_of, reply_seen, fault_line, word_of, site_of, place};
 ghost use Rattle.tera_run_script.specs.Seen.{site_seen};

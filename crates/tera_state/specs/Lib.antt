@@ -12,3 +12,4 @@ pub mod Scopes
 pub mod Rendered
 pub mod View
 pub mod Inputs
+pub mod Prelude

@@ -1,7 +1,7 @@
 // All names that a rendering has set, in one list.
 ghost use Rattle.std.specs.Prelude.{◌≡◌, ◌↔◌, [], IsTrue, OnOk, OnErr, IfErr, option_copied};
-ghost use Rattle.tera_errors.specs.Answer.{Lacks};
-ghost use Rattle.tera_values.specs.Named.{put_all};
+ghost use Rattle.tera_errors.specs.Prelude.{Lacks};
+ghost use Rattle.tera_values.specs.Prelude.{put_all};
 ghost use Rattle.tera_state.specs.Bound.{value_in, with_binding, without, without_frame, place_from, layer_of, is_beyond, end_with, end_without};
 
 use std::alloc::{AllocError, Global};

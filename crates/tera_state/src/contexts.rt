@@ -1,8 +1,8 @@
 // The contexts of a template, and what is known of their names.
 ghost use Rattle.std.specs.Prelude.{◌≡◌, IfSome, option_copied};
 ghost use Rattle.std.specs.Option.{option_or};
-ghost use Rattle.tera_values.specs.Named.{at_name};
-ghost use Rattle.tera_errors.specs.Answer.{Gives};
+ghost use Rattle.tera_values.specs.Prelude.{at_name};
+ghost use Rattle.tera_errors.specs.Prelude.{Gives};
 
 use crate::lent::Lent;
 use std::alloc::{AllocError, Global};

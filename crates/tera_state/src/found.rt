@@ -1,8 +1,7 @@
 // What a look-up hands out.
 ghost use Rattle.std.specs.Prelude.{◌≡◌, Ok, Some, IfSome, unwrap_or};
-ghost use Rattle.tera_errors.specs.Answer.{Gives};
-ghost use Rattle.tera_values.specs.Val.{undefined};
-ghost use Rattle.tera_values.specs.Access.{is_undefined};
+ghost use Rattle.tera_errors.specs.Prelude.{Gives};
+ghost use Rattle.tera_values.specs.Prelude.{undefined, is_undefined};
 ghost use Rattle.tera_state.specs.Found.{found_value};
 
 use std::alloc::Global;

@@ -1,8 +1,7 @@
 // What an open loop goes over, by place.
 ghost use Rattle.std.specs.Prelude.{◌≡◌, ◌&&◌, Ok, drop, length, not, slice_get};
-ghost use Rattle.tera_errors.specs.Answer.{Gives};
-ghost use Rattle.tera_values.specs.Alphabet.{plain};
-ghost use Rattle.tera_values.specs.Val.{array, vals};
+ghost use Rattle.tera_errors.specs.Prelude.{Gives};
+ghost use Rattle.tera_values.specs.Prelude.{plain, array, vals};
 ghost use Rattle.tera_state.specs.Found.{found_value};
 ghost use Rattle.tera_state.specs.Items.{clusters_in};
 ghost use Rattle.tera_state.specs.Scope.{is_map};

@@ -1,6 +1,6 @@
 // Names that belong to someone else.
 ghost use Rattle.std.specs.Prelude.{◌≡◌, Ok, OnOk, IfErr, option_copied};
-ghost use Rattle.tera_errors.specs.Answer.{Gives, Lacks};
+ghost use Rattle.tera_errors.specs.Prelude.{Gives, Lacks};
 
 use std::alloc::Global;
 use std::marker::Model;

@@ -1,8 +1,7 @@
 // Open loops.
 ghost use Rattle.std.specs.Prelude.{◌≡◌, IfOk, Some, drop, length, true, false};
-ghost use Rattle.tera_errors.specs.Answer.{Gives};
-ghost use Rattle.tera_values.specs.Alphabet.{plain};
-ghost use Rattle.tera_values.specs.Named.{at_name};
+ghost use Rattle.tera_errors.specs.Prelude.{Gives};
+ghost use Rattle.tera_values.specs.Prelude.{plain, at_name};
 ghost use Rattle.tera_state.specs.Found.{found_value};
 ghost use Rattle.tera_state.specs.Items.{items_in};
 ghost use Rattle.tera_state.specs.Lending.{items_left};

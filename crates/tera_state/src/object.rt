@@ -1,9 +1,7 @@
 // What an object of the caller is: a filter, a test or a function.
 ghost use Rattle.std.specs.Prelude.{◌≡◌, Bool, Result};
-ghost use Rattle.tera_errors.specs.Answer.{Gives};
-ghost use Rattle.tera_errors.specs.Fault.{Fault};
-ghost use Rattle.tera_values.specs.Named.{Named};
-ghost use Rattle.tera_values.specs.Val.{Val};
+ghost use Rattle.tera_errors.specs.Prelude.{Gives, Fault};
+ghost use Rattle.tera_values.specs.Prelude.{Named, Val};
 ghost use Rattle.tera_state.specs.View.{View, view_of};
 
 use crate::state::State;

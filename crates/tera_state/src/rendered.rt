@@ -1,7 +1,7 @@
 // The text that a value is rendered as.
 ghost use Rattle.std.specs.Prelude.{◌≡◌, ◌++◌, string_bytes, OnOk, OnErr};
-ghost use Rattle.tera_values.specs.Printed.{printed};
-ghost use Rattle.tera_built_ins.specs.Escaping.{escaping_of};
+ghost use Rattle.tera_values.specs.Prelude.{printed};
+ghost use Rattle.tera_built_ins.specs.Prelude.{escaping_of};
 ghost use Rattle.tera_state.specs.Rendered.{written_by};
 
 use std::alloc::{AllocError, Global};

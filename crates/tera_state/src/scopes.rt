@@ -1,7 +1,7 @@
 // All that a rendering has open, and all that it binds.
 ghost use Rattle.std.specs.Prelude.{◌≡◌, Ok, ◌≤◌, ◌≢◌, ◌↔◌, ◌∷◌, [], suc, OnOk, OnErr, IfErr, IfSome, IsTrue, length, drop, unwrap_or, option_copied, None};
-ghost use Rattle.tera_errors.specs.Answer.{Gives, Lacks};
-ghost use Rattle.tera_values.specs.Val.{undefined};
+ghost use Rattle.tera_errors.specs.Prelude.{Gives, Lacks};
+ghost use Rattle.tera_values.specs.Prelude.{undefined};
 ghost use Rattle.tera_state.specs.Found.{found_value};
 ghost use Rattle.tera_state.specs.Bound.{without_frame};
 ghost use Rattle.tera_state.specs.Lent.{names_of};

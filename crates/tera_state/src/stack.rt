@@ -1,7 +1,7 @@
 // A stack.
 ghost use Rattle.std.specs.Prelude.{◌≡◌, ◌≢◌, ◌<◌, ◌≤◌, ◌^◌, [], ◌∷◌, length, reverse, take, drop, slice_get, MatchOption, IfOk, OnOk, OnErr, IfErr, None, Some};
 ghost use Rattle.std.specs.Borrow.{sem};
-ghost use Rattle.tera_errors.specs.Answer.{Lacks};
+ghost use Rattle.tera_errors.specs.Prelude.{Lacks};
 
 use std::alloc::{AllocError, Global};
 use std::marker::Model;

@@ -1,13 +1,9 @@
 // What an object of the caller is lent of a rendering.
 ghost use Rattle.std.specs.Prelude.{◌≡◌, [], true, Some, None, Ok, option_map, string_bytes, bytes_eq, unwrap_or, IsTrue, IsOk};
 ghost use Rattle.std.specs.List.{list_any};
-ghost use Rattle.tera_errors.specs.Answer.{Gives};
-ghost use Rattle.tera_values.specs.Val.{undefined};
-ghost use Rattle.tera_values.specs.Access.{is_undefined};
-ghost use Rattle.tera_values.specs.Alphabet.{plain};
-ghost use Rattle.tera_values.specs.Escape.{escape_html};
-ghost use Rattle.tera_built_ins.specs.Escaping.{escape_or_html, escaping_of};
-ghost use Rattle.tera_built_ins.specs.Filters.{filter_in};
+ghost use Rattle.tera_errors.specs.Prelude.{Gives};
+ghost use Rattle.tera_values.specs.Prelude.{undefined, is_undefined, plain, escape_html};
+ghost use Rattle.tera_built_ins.specs.Prelude.{escape_or_html, escaping_of, filter_in};
 ghost use Rattle.tera_state.specs.Found.{found_value};
 ghost use Rattle.tera_state.specs.View.{filters_left};
 

@@ -1,9 +1,8 @@
 // A text with its mark, as an argument.
 ghost use Rattle.std.specs.Prelude.{◌≡◌, Ok, Some, IsTrue, string_bytes};
-ghost use Rattle.tera_errors.specs.Answer.{Gives};
-ghost use Rattle.tera_values.specs.Val.{text};
-ghost use Rattle.tera_values.specs.Access.{is_safe, text_of};
-ghost use Rattle.tera_built_ins.specs.Tests.{is_text};
+ghost use Rattle.tera_errors.specs.Prelude.{Gives};
+ghost use Rattle.tera_values.specs.Prelude.{text, is_safe, text_of};
+ghost use Rattle.tera_built_ins.specs.Prelude.{is_text};
 ghost use Rattle.tera_state.specs.Inputs.{as_marked_text};
 
 use crate::state::StateOver;

@@ -3,13 +3,9 @@ ghost use Rattle.std.specs.Prelude.{ℕ, ◌≡◌, ◌≤◌, IfOk, IfErr, IfSo
 ghost use Rattle.tera_syntax.specs.File as spec;
 ghost use Rattle.tera_syntax.specs.Places.{NamesWithin, StayWithin};
 ghost use Rattle.tera_syntax.specs.View.{Gathers, names_of, node_components, node_names};
-ghost use Rattle.tera_syntax_tokens.specs.Answers.{Answers};
-ghost use Rattle.tera_syntax_tokens.specs.Points.{PointsWithin};
+ghost use Rattle.tera_syntax_tokens.specs.Prelude.{Answers, PointsWithin};
 ghost use Rattle.tera_syntax_tokens.specs.declared.refusal.Refusal.TheVariants.{OutOfMemory};
-ghost use Rattle.tera_syntax_tree.specs.Blocks.{are_distinct, block_names};
-ghost use Rattle.tera_syntax_tree.specs.Definitions.{component_names};
-ghost use Rattle.tera_syntax_tree.specs.Inside.{Inside, NodeInside, NodesInside, Within};
-ghost use Rattle.tera_syntax_tree.specs.View.{node_of, nodes_of, tree_of};
+ghost use Rattle.tera_syntax_tree.specs.Prelude.{are_distinct, block_names, component_names, Inside, NodeInside, NodesInside, Within, node_of, nodes_of, tree_of};
 
 use std::alloc::Global;
 use std::collections::HashMap;

@@ -2,10 +2,7 @@
 ghost use Rattle.std.specs.Prelude.{option_and_then};
 ghost use Rattle.tera_syntax.specs.Reader as spec;
 ghost use Rattle.tera_syntax.specs.View.{Becomes, head_of, progress_of};
-ghost use Rattle.tera_syntax_tokens.specs.Answers.{Answers};
-ghost use Rattle.tera_syntax_tokens.specs.Input.{begin};
-ghost use Rattle.tera_syntax_tokens.specs.Takes.{input};
-ghost use Rattle.tera_syntax_tokens.specs.Token.{tokens_of};
+ghost use Rattle.tera_syntax_tokens.specs.Prelude.{Answers, begin, input, tokens_of};
 
 use crate::heads::Head;
 use crate::progress::Progress;

@@ -5,13 +5,9 @@ ghost use Rattle.tera_syntax.specs.Grammar.{is_space};
 ghost use Rattle.tera_syntax.specs.Places.{StandsWithin};
 ghost use Rattle.tera_syntax.specs.Reader.{quoted_name};
 ghost use Rattle.tera_syntax.specs.View.{FileBecomes, file_of};
-ghost use Rattle.tera_syntax_tokens.specs.Answers.{Answers, IsSyntax};
-ghost use Rattle.tera_syntax_tokens.specs.Found.{piece_of};
-ghost use Rattle.tera_syntax_tokens.specs.Points.{PointsWithin};
-ghost use Rattle.tera_syntax_tokens.specs.Stretches.{PieceInside};
-ghost use Rattle.tera_syntax_tokens.specs.Token.{tokens_of};
+ghost use Rattle.tera_syntax_tokens.specs.Prelude.{Answers, IsSyntax, piece_of, PointsWithin, PieceInside, tokens_of};
 ghost use Rattle.tera_syntax_tokens.specs.declared.token.Token as token;
-ghost use Rattle.tera_syntax_tree.specs.View.{tree_of};
+ghost use Rattle.tera_syntax_tree.specs.Prelude.{tree_of};
 
 use crate::heads::is_extends;
 use crate::places::PieceSpans;

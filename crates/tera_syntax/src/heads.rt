@@ -2,8 +2,8 @@
 ghost use Rattle.std.specs.Prelude.{◌≡◌};
 ghost use Rattle.tera_syntax.specs.Heads as spec;
 ghost use Rattle.tera_syntax.specs.View.{head_of};
-ghost use Rattle.tera_syntax_tokens.specs.Token.{tokens_of};
-ghost use Rattle.tera_syntax_tree.specs.View.{node_of, nodes_of};
+ghost use Rattle.tera_syntax_tokens.specs.Prelude.{tokens_of};
+ghost use Rattle.tera_syntax_tree.specs.Prelude.{node_of, nodes_of};
 
 use tera_errors::Span;
 use tera_syntax_tokens::cut::is_alone;

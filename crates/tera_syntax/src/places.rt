@@ -1,13 +1,8 @@
 // Where a refusal points: at the tag, or at what in it is wrong.
 ghost use Rattle.std.specs.Prelude.{ℕ, ◌<◌, ◌≤◌, ◌+◌, ◌^◌, length, IfSome, IsTrue};
 ghost use Rattle.tera_syntax.specs.Places.{StandsWithin};
-ghost use Rattle.tera_syntax_tokens.specs.Answers.{IsSyntax};
-ghost use Rattle.tera_syntax_tokens.specs.Found.{piece_of};
-ghost use Rattle.tera_syntax_tokens.specs.Points.{PointsInto, PointsWithin};
-ghost use Rattle.tera_syntax_tokens.specs.Stretches.{InOrder, PieceInside};
-ghost use Rattle.tera_syntax_tokens.specs.Token.{tokens_of};
-ghost use Rattle.tera_syntax_tree.specs.Delimiters.{accepted, delimiters_of};
-ghost use Rattle.tera_syntax_tree.specs.Inside.{Within};
+ghost use Rattle.tera_syntax_tokens.specs.Prelude.{IsSyntax, piece_of, PointsInto, PointsWithin, InOrder, PieceInside, tokens_of};
+ghost use Rattle.tera_syntax_tree.specs.Prelude.{accepted, delimiters_of, Within};
 
 use tera_errors::Span;
 use tera_syntax_tokens::cut::{FoundPiece, Piece, block_end};

@@ -3,9 +3,8 @@ ghost use Rattle.std.specs.Prelude.{◌≡◌, ◌-◌, true, Some, IfErr, optio
 ghost use Rattle.tera_syntax.specs.Heads as heads;
 ghost use Rattle.tera_syntax.specs.Reader as spec;
 ghost use Rattle.tera_syntax.specs.View.{Becomes, body_of, statement_of, head_of, progress_of};
-ghost use Rattle.tera_syntax_tokens.specs.Answers.{Answers, IsSyntax};
-ghost use Rattle.tera_syntax_tokens.specs.Token.{tokens_of};
-ghost use Rattle.tera_syntax_tree.specs.View.{node_of, nodes_of};
+ghost use Rattle.tera_syntax_tokens.specs.Prelude.{Answers, IsSyntax, tokens_of};
+ghost use Rattle.tera_syntax_tree.specs.Prelude.{node_of, nodes_of};
 
 use crate::heads::{Head, Surroundings, is_extends};
 use std::alloc::Global;

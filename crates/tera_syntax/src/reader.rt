@@ -1,15 +1,11 @@
 // From a template's text to its tree.
 ghost use Rattle.std.specs.Prelude.{IfErr, IfOk, IsTrue, length};
-ghost use Rattle.tera_errors.specs.Answer.{GivesOneOf};
+ghost use Rattle.tera_errors.specs.Prelude.{GivesOneOf};
 ghost use Rattle.tera_syntax.specs.File as spec;
 ghost use Rattle.tera_syntax.specs.Reads.{Reads, ReadsPlainText};
 ghost use Rattle.tera_syntax.specs.View.{file_of};
-ghost use Rattle.tera_syntax_tokens.specs.Answers.{Answers};
-ghost use Rattle.tera_syntax_tokens.specs.Cut.{pieces};
-ghost use Rattle.tera_syntax_tokens.specs.Points.{PointsWithin};
-ghost use Rattle.tera_syntax_tree.specs.Delimiters.{accepted, delimiters_of};
-ghost use Rattle.tera_syntax_tree.specs.Inside.{Inside};
-ghost use Rattle.tera_syntax_tree.specs.View.{tree_of};
+ghost use Rattle.tera_syntax_tokens.specs.Prelude.{Answers, pieces, PointsWithin};
+ghost use Rattle.tera_syntax_tree.specs.Prelude.{accepted, delimiters_of, Inside, tree_of};
 
 use crate::blocks::once;
 use crate::file::File;

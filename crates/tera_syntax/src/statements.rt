@@ -2,12 +2,8 @@
 ghost use Rattle.std.specs.Prelude.{◌≡◌, ◌∷◌, [], IfSome};
 ghost use Rattle.tera_syntax.specs.Reader as spec;
 ghost use Rattle.tera_syntax.specs.View.{Becomes, heading_of, progress_of};
-ghost use Rattle.tera_syntax_tokens.specs.Answers.{Answers};
-ghost use Rattle.tera_syntax_tokens.specs.Found.{piece_of};
-ghost use Rattle.tera_syntax_tokens.specs.Input.{begin, next};
-ghost use Rattle.tera_syntax_tokens.specs.Takes.{input};
-ghost use Rattle.tera_syntax_tokens.specs.Token.{token_of, tokens_of};
-ghost use Rattle.tera_syntax_tree.specs.View.{expr_of, filters_of, node_of};
+ghost use Rattle.tera_syntax_tokens.specs.Prelude.{Answers, piece_of, begin, next, input, token_of, tokens_of};
+ghost use Rattle.tera_syntax_tree.specs.Prelude.{expr_of, filters_of, node_of};
 
 use crate::components::call;
 use crate::heads::{Head, first};

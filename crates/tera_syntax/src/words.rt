@@ -2,11 +2,8 @@
 ghost use Rattle.std.specs.Prelude.{◌≡◌, IfOk, false, get_or, option_and_then};
 ghost use Rattle.tera_syntax.specs.Reader as spec;
 ghost use Rattle.tera_syntax.specs.View.{Becomes, progress_of};
-ghost use Rattle.tera_syntax_tokens.specs.Answers.{Answers};
-ghost use Rattle.tera_syntax_tokens.specs.Input.{begin, next};
-ghost use Rattle.tera_syntax_tokens.specs.Takes.{input};
-ghost use Rattle.tera_syntax_tokens.specs.Token.{Token, tokens_of};
-ghost use Rattle.tera_syntax_tree.specs.View.{node_of, quoted_of};
+ghost use Rattle.tera_syntax_tokens.specs.Prelude.{Answers, begin, next, input, Token, tokens_of};
+ghost use Rattle.tera_syntax_tree.specs.Prelude.{node_of, quoted_of};
 
 use crate::heads::Head;
 use crate::progress::{Progress, refused};

@@ -1,7 +1,6 @@
 // Attributes, indices and slices.
-ghost use Rattle.tera_syntax_tree.specs.Tree.{Present};
-ghost use Rattle.tera_syntax_tree.specs.View.{optional_of};
-ghost use Rattle.tera_syntax_tokens.specs.Takes.{Takes, input};
+ghost use Rattle.tera_syntax_tree.specs.Prelude.{Present, optional_of};
+ghost use Rattle.tera_syntax_tokens.specs.Prelude.{Takes, input};
 ghost use Rattle.tera_syntax_expressions.specs.Expressions as spec;
 ghost use Rattle.tera_syntax_expressions.specs.Parts.{Nests, deep_of, part_of};
 

@@ -1,7 +1,7 @@
 // Filters and tests of a value.
 ghost use Rattle.std.specs.Prelude.{◌≡◌};
-ghost use Rattle.tera_syntax_tree.specs.View.{arguments_of};
-ghost use Rattle.tera_syntax_tokens.specs.Takes.{Takes, input};
+ghost use Rattle.tera_syntax_tree.specs.Prelude.{arguments_of};
+ghost use Rattle.tera_syntax_tokens.specs.Prelude.{Takes, input};
 ghost use Rattle.tera_syntax_expressions.specs.Arguments as call;
 ghost use Rattle.tera_syntax_expressions.specs.Expressions as spec;
 ghost use Rattle.tera_syntax_expressions.specs.Parts.{Nests, deep_of};

@@ -1,9 +1,7 @@
 // Calls and their arguments.
 ghost use Rattle.std.specs.Prelude.{◌≡◌, IfOk};
-ghost use Rattle.tera_syntax_tree.specs.Tree.{NoArguments};
-ghost use Rattle.tera_syntax_tree.specs.View.{arguments_of, expr_of};
-ghost use Rattle.tera_syntax_tokens.specs.Input.{left, text};
-ghost use Rattle.tera_syntax_tokens.specs.Takes.{Takes, input};
+ghost use Rattle.tera_syntax_tree.specs.Prelude.{NoArguments, arguments_of, expr_of};
+ghost use Rattle.tera_syntax_tokens.specs.Prelude.{left, text, Takes, input};
 ghost use Rattle.tera_syntax_expressions.specs.Arguments as call;
 ghost use Rattle.tera_syntax_expressions.specs.Expressions as spec;
 ghost use Rattle.tera_syntax_expressions.specs.Parts.{Nests, TakesPart, deep_of, place_of};

@@ -1,8 +1,6 @@
 // The climb from operator to operator. Open parentheses are counted, and cost no call.
 ghost use Rattle.std.specs.Prelude.{◌≡◌, [], Some};
-ghost use Rattle.tera_syntax_tokens.specs.Input.{left, starts};
-ghost use Rattle.tera_syntax_tokens.specs.Takes.{Takes, input};
-ghost use Rattle.tera_syntax_tokens.specs.Token.{tokens_of};
+ghost use Rattle.tera_syntax_tokens.specs.Prelude.{left, starts, Takes, input, tokens_of};
 ghost use Rattle.tera_syntax_expressions.specs.Expressions as spec;
 ghost use Rattle.tera_syntax_expressions.specs.Parts.{Nests, deep_of};
 

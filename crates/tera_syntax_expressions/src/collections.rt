@@ -1,9 +1,7 @@
 // Arrays and maps.
 ghost use Rattle.std.specs.Prelude.{◌≡◌, IfOk};
-ghost use Rattle.tera_syntax_tree.specs.Tree.{NoEntries};
-ghost use Rattle.tera_syntax_tree.specs.View.{items_of, entries_of, literal_option};
-ghost use Rattle.tera_syntax_tokens.specs.Input.{kind, left, same};
-ghost use Rattle.tera_syntax_tokens.specs.Takes.{Takes, input};
+ghost use Rattle.tera_syntax_tree.specs.Prelude.{NoEntries, items_of, entries_of, literal_option};
+ghost use Rattle.tera_syntax_tokens.specs.Prelude.{kind, left, same, Takes, input};
 ghost use Rattle.tera_syntax_expressions.specs.Commas.{comma_or};
 ghost use Rattle.tera_syntax_expressions.specs.Expressions as spec;
 ghost use Rattle.tera_syntax_expressions.specs.Keys.{key_at};

@@ -1,9 +1,7 @@
 // Components that are called, and their attributes.
 ghost use Rattle.std.specs.Prelude.{◌≡◌};
-ghost use Rattle.tera_syntax_tree.specs.Tree.{NoEntries};
-ghost use Rattle.tera_syntax_tree.specs.View.{entries_of};
-ghost use Rattle.tera_syntax_tokens.specs.Input.{left};
-ghost use Rattle.tera_syntax_tokens.specs.Takes.{Takes, input};
+ghost use Rattle.tera_syntax_tree.specs.Prelude.{NoEntries, entries_of};
+ghost use Rattle.tera_syntax_tokens.specs.Prelude.{left, Takes, input};
 ghost use Rattle.tera_syntax_expressions.specs.Arguments as call;
 ghost use Rattle.tera_syntax_expressions.specs.Expressions as spec;
 ghost use Rattle.tera_syntax_expressions.specs.Parts.{Nests, TakesPart, deep_of};

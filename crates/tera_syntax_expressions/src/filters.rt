@@ -1,8 +1,6 @@
 // Filters of what a body puts out, as the head of a section has them.
-ghost use Rattle.tera_syntax_tree.specs.Tree.{NoFilters};
-ghost use Rattle.tera_syntax_tree.specs.View.{filters_of};
-ghost use Rattle.tera_syntax_tokens.specs.Input.{left};
-ghost use Rattle.tera_syntax_tokens.specs.Takes.{Takes, input};
+ghost use Rattle.tera_syntax_tree.specs.Prelude.{NoFilters, filters_of};
+ghost use Rattle.tera_syntax_tokens.specs.Prelude.{left, Takes, input};
 ghost use Rattle.tera_syntax_expressions.specs.Expressions as spec;
 ghost use Rattle.tera_syntax_expressions.specs.Parts.{Nests, TakesPart};
 

@@ -1,6 +1,6 @@
 // What a loop calls its items.
 ghost use Rattle.std.specs.Prelude.{option_copied};
-ghost use Rattle.tera_syntax_tokens.specs.Takes.{Takes, input};
+ghost use Rattle.tera_syntax_tokens.specs.Prelude.{Takes, input};
 ghost use Rattle.tera_syntax_expressions.specs.Headings as spec;
 ghost use Rattle.tera_syntax_expressions.specs.Parts.{names_of};
 

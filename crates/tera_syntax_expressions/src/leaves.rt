@@ -1,7 +1,6 @@
 // What stands before the first operator.
-ghost use Rattle.tera_syntax_tree.specs.Tree.{Boolean};
-ghost use Rattle.tera_syntax_tokens.specs.Input.{next, span, start};
-ghost use Rattle.tera_syntax_tokens.specs.Takes.{Takes, input};
+ghost use Rattle.tera_syntax_tree.specs.Prelude.{Boolean};
+ghost use Rattle.tera_syntax_tokens.specs.Prelude.{next, span, start, Takes, input};
 ghost use Rattle.tera_syntax_expressions.specs.Expressions as spec;
 ghost use Rattle.tera_syntax_expressions.specs.Loops as loops;
 ghost use Rattle.std.specs.Prelude.{◌≡◌, option_map};

@@ -1,8 +1,7 @@
 // Levels of precedence: which tokens go on with an expression, and to what.
 ghost use Rattle.std.specs.Prelude.{◌≡◌, ◌&&◌, ◌||◌, ℕ, IsTrue, nat_le, not};
-ghost use Rattle.tera_syntax_tokens.specs.Input.{Parser, kind, next, same as spec_same};
+ghost use Rattle.tera_syntax_tokens.specs.Prelude.{Parser, kind, next, same as spec_same, input};
 ghost use Rattle.tera_syntax_tokens.specs.declared.token.Kind.TheVariants as Kind;
-ghost use Rattle.tera_syntax_tokens.specs.Takes.{input};
 ghost use Rattle.tera_syntax_expressions.specs.Expressions as spec;
 
 use tera_syntax_tokens::input::{Tokens, same};

@@ -1,9 +1,7 @@
 // Values that are written out.
 ghost use Rattle.std.specs.Prelude.{◌≡◌, IfOk};
-ghost use Rattle.tera_syntax_tree.specs.View.{literal_entries_of, literal_of, literals_of};
-ghost use Rattle.tera_syntax_tree.specs.View.{written_of, written_option};
-ghost use Rattle.tera_syntax_tokens.specs.Input.{kind};
-ghost use Rattle.tera_syntax_tokens.specs.Takes.{Takes, input};
+ghost use Rattle.tera_syntax_tree.specs.Prelude.{literal_entries_of, literal_of, literals_of, written_of, written_option};
+ghost use Rattle.tera_syntax_tokens.specs.Prelude.{kind, Takes, input};
 ghost use Rattle.tera_syntax_expressions.specs.Literals as spec;
 
 use crate::collections::{key_at, take_comma};

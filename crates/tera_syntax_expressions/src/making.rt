@@ -1,9 +1,7 @@
 // Forms that more than one rule makes.
 ghost use Rattle.std.specs.Prelude.{◌≡◌, IfOk};
-ghost use Rattle.tera_syntax_tree.specs.Tree.{Absent, Not, Present};
-ghost use Rattle.tera_syntax_tree.specs.View.{applied_of, expr_of};
-ghost use Rattle.tera_syntax_tokens.specs.Input.{span};
-ghost use Rattle.tera_syntax_tokens.specs.Takes.{Takes, input};
+ghost use Rattle.tera_syntax_tree.specs.Prelude.{Absent, Not, Present, applied_of, expr_of};
+ghost use Rattle.tera_syntax_tokens.specs.Prelude.{span, Takes, input};
 ghost use Rattle.tera_syntax_expressions.specs.Applications.{application_of};
 ghost use Rattle.tera_syntax_expressions.specs.Expressions as spec;
 ghost use Rattle.tera_syntax_expressions.specs.Parts.{Nests, deep_of, part_of};

@@ -1,9 +1,7 @@
 // Signatures of components.
 ghost use Rattle.std.specs.Prelude.{◌≡◌, [], map, IfOk, IfErr};
-ghost use Rattle.tera_syntax_tree.specs.Definitions.{has_fit_parameters};
-ghost use Rattle.tera_syntax_tree.specs.View.{parameter_of, signature_of, written_option};
-ghost use Rattle.tera_syntax_tokens.specs.Input.{left};
-ghost use Rattle.tera_syntax_tokens.specs.Takes.{Takes, input};
+ghost use Rattle.tera_syntax_tree.specs.Prelude.{has_fit_parameters, parameter_of, signature_of, written_option};
+ghost use Rattle.tera_syntax_tokens.specs.Prelude.{left, Takes, input};
 ghost use Rattle.tera_syntax_tokens.specs.declared.refusal.Refusal.TheVariants.{OutOfMemory};
 ghost use Rattle.tera_syntax_expressions.specs.Parameters as spec;
 ghost use Rattle.tera_syntax_expressions.specs.Parts.{parameters_of};

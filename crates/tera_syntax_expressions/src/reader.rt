@@ -1,7 +1,7 @@
 // What every form is read with.
 ghost use Rattle.std.specs.Prelude.{◌≡◌, max};
-ghost use Rattle.tera_syntax_tree.specs.View.{expr_of};
-ghost use Rattle.tera_syntax_tokens.specs.Takes.{Takes, input};
+ghost use Rattle.tera_syntax_tree.specs.Prelude.{expr_of};
+ghost use Rattle.tera_syntax_tokens.specs.Prelude.{Takes, input};
 ghost use Rattle.tera_syntax_expressions.specs.Expressions as spec;
 ghost use Rattle.tera_syntax_expressions.specs.Parts.{Nests, deep_of};
 

@@ -1,6 +1,6 @@
 //! Readings of small texts.
 ghost use Rattle.std.specs.Prelude.{IsTrue};
-ghost use Rattle.tera_syntax_tree.specs.Delimiters.{accepted, delimiters_of};
+ghost use Rattle.tera_syntax_tree.specs.Prelude.{accepted, delimiters_of};
 
 use crate::applications::{APPLICATIONS, UNREAD_APPLICATIONS};
 use crate::components::{CALLS, DEFINITIONS, UNREAD_CALLS, UNREAD_DEFINITIONS};

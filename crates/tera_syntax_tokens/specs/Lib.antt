@@ -9,3 +9,4 @@ pub mod Takes
 pub mod Literal
 pub mod Points
 pub mod Stretches
+pub mod Prelude

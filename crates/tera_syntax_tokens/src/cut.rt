@@ -5,7 +5,7 @@ ghost use Rattle.tera_syntax_tokens.specs.Answers.{Answers, Follows};
 ghost use Rattle.tera_syntax_tokens.specs.Bytes.{place};
 ghost use Rattle.tera_syntax_tokens.specs.Cut as spec;
 ghost use Rattle.tera_syntax_tokens.specs.Cut.{Knows};
-ghost use Rattle.tera_syntax_tree.specs.Delimiters.{accepted, delimiters_of};
+ghost use Rattle.tera_syntax_tree.specs.Prelude.{accepted, delimiters_of};
 ghost use Rattle.std.specs.Str.{IsCharBoundary};
 ghost use Rattle.tera_syntax_tokens.specs.Found.{found_of, piece_of};
 ghost use Rattle.tera_syntax_tokens.specs.Inside.{inside};

@@ -1,6 +1,6 @@
 // What literals stand for.
 ghost use Rattle.std.specs.Prelude.{◌≡◌, ◌<◌, ◌≤◌, ◌+◌, ◌-◌, drop, length, false, Some, IfOk, IfSome, string_bytes, get_or, option_map, IsTrue};
-ghost use Rattle.tera_syntax_tree.specs.View.{quoted_of};
+ghost use Rattle.tera_syntax_tree.specs.Prelude.{quoted_of};
 ghost use Rattle.tera_syntax_tokens.specs.Bytes.{run};
 ghost use Rattle.tera_syntax_tokens.specs.Literal as spec;
 

@@ -10,7 +10,7 @@ ghost use Rattle.tera_syntax_tokens.specs.Inside as tag;
 ghost use Rattle.tera_syntax_tokens.specs.Points.{PointsInto};
 ghost use Rattle.tera_syntax_tokens.specs.Token as token;
 ghost use Rattle.tera_syntax_tokens.specs.declared.token.Token.{Token};
-ghost use Rattle.tera_syntax_tree.specs.Delimiters.{accepted, delimiters_of};
+ghost use Rattle.tera_syntax_tree.specs.Prelude.{accepted, delimiters_of};
 
 use crate::bytes::{after, begins};
 use crate::cut::{FoundPiece, Tag, next_opening, opening_at, start_size, trimmed, trims_before};

@@ -8,3 +8,4 @@ pub mod Calls
 pub mod Includes
 pub mod Depth
 pub mod Inside
+pub mod Prelude

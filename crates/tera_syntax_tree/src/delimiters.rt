@@ -1,6 +1,6 @@
 // What begins and ends a tag.
 ghost use Rattle.std.specs.Prelude.{◌≡◌, Ok, IfOk, OnOk, IsTrue};
-ghost use Rattle.tera_errors.specs.Answer.{Gives};
+ghost use Rattle.tera_errors.specs.Prelude.{Gives};
 ghost use Rattle.tera_syntax_tree.specs.Delimiters.{accepted, are_filled, delimiters_of, do_differ, standard, validated};
 
 use std::alloc::Global;

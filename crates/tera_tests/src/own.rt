@@ -1,12 +1,9 @@
 //! Filters, tests, functions and escapes of a caller, which the tests of objects register.
 ghost use Rattle.std.specs.Prelude.{Ok, Err, true, false, not, codes, string_bytes};
-ghost use Rattle.tera_errors.specs.Answer.{Gives};
-ghost use Rattle.tera_errors.specs.Fault.{message, invalid_argument, missing_argument, template_not_found};
-ghost use Rattle.tera_values.specs.Access.{is_undefined};
-ghost use Rattle.tera_values.specs.Val.{bool, text};
-ghost use Rattle.tera_values.specs.Alphabet.{plain};
-ghost use Rattle.tera_built_ins.specs.Replace.{replaced};
-ghost use Rattle.tera_state.specs.View.{view_of};
+ghost use Rattle.tera_errors.specs.Prelude.{Gives, message, invalid_argument, missing_argument, template_not_found};
+ghost use Rattle.tera_values.specs.Prelude.{is_undefined, bool, text, plain};
+ghost use Rattle.tera_built_ins.specs.Prelude.{replaced};
+ghost use Rattle.tera_state.specs.Prelude.{view_of};
 ghost use Rattle.tera_tests.specs.Own.{shown, trimmed_by, asked, written_text};
 
 use std::alloc::Global;

@@ -26,3 +26,4 @@ pub mod Contexts
 pub mod Arguments
 pub mod Number
 pub mod Division
+pub mod Prelude

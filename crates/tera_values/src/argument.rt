@@ -1,9 +1,7 @@
 // What an argument is read as.
 ghost use Rattle.std.specs.Prelude.{◌^◌, ◌+◌, ◌≤◌, pos, false, string_bytes, Result, Ok, IfOk, IsErr};
-ghost use Rattle.tera_errors.specs.Fault.{Fault};
-ghost use Rattle.tera_errors.specs.Answer.{Gives, MemorySuffices};
-ghost use Rattle.tera_values_data.specs.Val.{Val, bool, int, text, array, map, vals, entries};
-ghost use Rattle.tera_values_data.specs.Access.{IsScalar};
+ghost use Rattle.tera_errors.specs.Prelude.{Fault, Gives, MemorySuffices};
+ghost use Rattle.tera_values_data.specs.Prelude.{Val, bool, int, text, array, map, vals, entries, IsScalar};
 ghost use Rattle.tera_values.specs.Arguments.{as_bool, as_int, as_natural, as_text, as_array, as_map};
 
 use std::alloc::Global;

@@ -1,7 +1,7 @@
 // What a rendering is given: values by name.
 ghost use Rattle.std.specs.Prelude.{◌≡◌, [], Ok, IfErr, OnOk, OnErr, map, option_copied, string_bytes};
-ghost use Rattle.tera_errors.specs.Answer.{Gives, Lacks};
-ghost use Rattle.tera_values_data.specs.Val.{entries, map as map_of};
+ghost use Rattle.tera_errors.specs.Prelude.{Gives, Lacks};
+ghost use Rattle.tera_values_data.specs.Prelude.{entries, map as map_of};
 ghost use Rattle.tera_values.specs.Named.{at_name, put, put_all, text_keys, IsAscending};
 
 use crate::name::{Name, Sought};

@@ -1,6 +1,6 @@
 // Arguments by name.
 ghost use Rattle.std.specs.Prelude.{◌≡◌, [], Ok, IfErr, IfSome, IsErr, OnOk, OnErr, option_copied, option_map};
-ghost use Rattle.tera_errors.specs.Answer.{Gives, Lacks, MemorySuffices};
+ghost use Rattle.tera_errors.specs.Prelude.{Gives, Lacks, MemorySuffices};
 ghost use Rattle.tera_values.specs.Named.{at_name, name_cmp, place, put, put_all, IsAscending};
 ghost use Rattle.tera_values.specs.Arguments.{read, read_needed};
 

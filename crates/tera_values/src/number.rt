@@ -1,8 +1,7 @@
 // Arithmetic. What is not an integer is refused, and so is what no `i128` holds: a `Message` each time.
 ghost use Rattle.std.specs.Prelude.{◌≡◌, ℤ, pos, ◌≤ℤ◌, Option, Result, IsOk};
-ghost use Rattle.tera_errors.specs.Answer.{Gives};
-ghost use Rattle.tera_errors.specs.Fault.{Fault};
-ghost use Rattle.tera_values_data.specs.Val.{Val};
+ghost use Rattle.tera_errors.specs.Prelude.{Gives, Fault};
+ghost use Rattle.tera_values_data.specs.Prelude.{Val};
 ghost use Rattle.tera_values.specs.Number.{told, integers, on_integers, quotient, remainder, exact_quotient, power, add, sub, mul, div, floor_div, rem, pow, negate};
 
 use std::alloc::Global;

@@ -17,3 +17,4 @@ pub mod Items
 pub mod Paths
 pub mod Slices
 pub mod Promises
+pub mod Prelude

@@ -1,7 +1,7 @@
 // What is asked of a value as a whole.
 ghost use Rattle.std.specs.Prelude.{◌≡◌, Ok, length, option_copied, IsOk};
 ghost use Rattle.std.specs.Str.{chars};
-ghost use Rattle.tera_errors.specs.Answer.{Gives};
+ghost use Rattle.tera_errors.specs.Prelude.{Gives};
 ghost use Rattle.tera_values_data.specs.View.{key_view};
 ghost use Rattle.tera_values_data.specs.Access.{IsScalar, is_undefined, is_safe, kind_of, kind_name, int_of, text_of, truthy, count, key_of, value_of_key, attr};
 

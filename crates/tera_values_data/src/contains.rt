@@ -1,6 +1,6 @@
 // Whether a value holds another one.
 ghost use Rattle.std.specs.Prelude.{◌≡◌, IsOk};
-ghost use Rattle.tera_errors.specs.Answer.{Gives};
+ghost use Rattle.tera_errors.specs.Prelude.{Gives};
 ghost use Rattle.tera_values_data.specs.Val.{vals};
 ghost use Rattle.tera_values_data.specs.Access.{key_of};
 ghost use Rattle.tera_values_data.specs.Slices.{is_part, has_item, has_key, contains};

@@ -1,6 +1,6 @@
 // The same value once more, and the form in which that is a count.
 ghost use Rattle.std.specs.Prelude.{◌≡◌, Ok, OnOk, IfErr, IsOk};
-ghost use Rattle.tera_errors.specs.Answer.{Gives, Lacks};
+ghost use Rattle.tera_errors.specs.Prelude.{Gives, Lacks};
 ghost use Rattle.tera_values_data.specs.Access.{IsScalar, IsFlat};
 ghost use Rattle.tera_values_data.specs.View.{entry_views};
 

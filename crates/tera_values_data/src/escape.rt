@@ -1,6 +1,6 @@
 // Texts in which some bytes stand in another form: markup, and quoted texts.
 ghost use Rattle.std.specs.Prelude.{◌≡◌, ◌++◌, [], ◌+◌, ◌<◌, ◌≤◌, ℕ, List, length, IsSome, OnOk, OnErr, IfErr, string_bytes, option_map};
-ghost use Rattle.tera_errors.specs.Answer.{Lacks};
+ghost use Rattle.tera_errors.specs.Prelude.{Lacks};
 ghost use Rattle.tera_values_data.specs.Escape.{escape_byte, escape_html, escape_xml_byte, escape_xml};
 ghost use Rattle.tera_values_data.specs.Printed.{quoted, quoted_byte};
 ghost use Rattle.tera_values_data.specs.Growth.{Keeps, IsPlain, IsNever, by_byte, form_or_byte, is_one_of};

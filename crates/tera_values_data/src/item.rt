@@ -1,7 +1,7 @@
 // Items, characters, bytes and values at an index.
 ghost use Rattle.std.specs.Prelude.{◌≡◌, Ok, length, slice_get, IsOk, IsOkAnd};
 ghost use Rattle.std.specs.Str.{chars};
-ghost use Rattle.tera_errors.specs.Answer.{Gives};
+ghost use Rattle.tera_errors.specs.Prelude.{Gives};
 ghost use Rattle.tera_values_data.specs.View.{wanted_view};
 ghost use Rattle.tera_values_data.specs.Access.{IsScalar, find, key_of};
 ghost use Rattle.tera_values_data.specs.Items.{place_of, char_text, item_at, byte_at, char_from, found_at, or_undefined, get_item};

@@ -1,6 +1,6 @@
 // Keys of maps.
 ghost use Rattle.std.specs.Prelude.{◌≡◌, Ok, IsOk};
-ghost use Rattle.tera_errors.specs.Answer.{Gives};
+ghost use Rattle.tera_errors.specs.Prelude.{Gives};
 ghost use Rattle.tera_values_data.specs.Access.{IsScalar, value_of_key};
 ghost use Rattle.tera_values_data.specs.Keys.{key_cmp};
 ghost use Rattle.tera_values_data.specs.View.{key_view, wanted_view};

@@ -1,6 +1,6 @@
 // Maps: a table, from the first entry on.
 ghost use Rattle.std.specs.Prelude.{◌≡◌, [], OnOk, OnErr, IfErr, IsSome, IsOk, length, option_copied, option_map, slice_get};
-ghost use Rattle.tera_errors.specs.Answer.{Lacks};
+ghost use Rattle.tera_errors.specs.Prelude.{Lacks};
 ghost use Rattle.tera_values_data.specs.Val.{ktext};
 ghost use Rattle.tera_values_data.specs.View.{key_view, wanted_view, entry_views};
 ghost use Rattle.tera_values_data.specs.Index.{IsIndex, IsDistinct};

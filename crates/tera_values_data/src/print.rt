@@ -2,7 +2,7 @@
 ghost use Rattle.std.specs.Prelude.{◌≡◌, ◌++◌, Ok, OnOk, OnErr, string_bytes};
 ghost use Rattle.std.specs.Fmt.{signed_decimal};
 ghost use Rattle.std.specs.Str.Lossy.{utf8_lossy};
-ghost use Rattle.tera_errors.specs.Answer.{Gives};
+ghost use Rattle.tera_errors.specs.Prelude.{Gives};
 ghost use Rattle.tera_values_data.specs.Val.{array, map, vals, entries};
 ghost use Rattle.tera_values_data.specs.View.{key_view, entry_views};
 ghost use Rattle.tera_values_data.specs.Growth.{Keeps};

@@ -1,7 +1,7 @@
 // Slices of arrays and texts, and their items the last one first.
 ghost use Rattle.std.specs.Prelude.{◌≡◌, IsTrue, IsFalse, ◌≢◌, pos, string_bytes, ◌<◌, ◌≤◌, ◌^◌, Ok, length, reverse, EachIndex, slice_index};
 ghost use Rattle.std.specs.Str.{chars, encode_utf8_all};
-ghost use Rattle.tera_errors.specs.Answer.{Gives};
+ghost use Rattle.tera_errors.specs.Prelude.{Gives};
 ghost use Rattle.tera_values_data.specs.Slices.{before, through, bound, upward, downward, places, picked_items, picked_chars, slice, reversed};
 
 use crate::shape::Shape;

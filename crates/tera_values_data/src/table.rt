@@ -1,6 +1,6 @@
 // The table of a map: entries in order of insertion, found by key.
 ghost use Rattle.std.specs.Prelude.{◌≡◌, [], IfOk, IfErr, OnOk, OnErr, IsSome, IsOk, length, option_copied, option_map, slice_get};
-ghost use Rattle.tera_errors.specs.Answer.{Lacks};
+ghost use Rattle.tera_errors.specs.Prelude.{Lacks};
 ghost use Rattle.tera_values_data.specs.Val.{ktext};
 ghost use Rattle.tera_values_data.specs.View.{key_view, wanted_view, entry_views};
 ghost use Rattle.tera_values_data.specs.Index.{IsIndex, IsAt, IsGapFor, IsDistinct};

@@ -1,6 +1,6 @@
 // What a value is, and how it is kept.
 ghost use Rattle.std.specs.Prelude.{◌≡◌, false, true, Ok};
-ghost use Rattle.tera_errors.specs.Answer.{Gives};
+ghost use Rattle.tera_errors.specs.Prelude.{Gives};
 ghost use Rattle.tera_values_data.specs.Val.{Val, bool, bytes, array, map, undefined, none, int, text, vals, entries};
 ghost use Rattle.tera_values_data.specs.Access.{marked};
 ghost use Rattle.tera_values_data.specs.View.{node_view};

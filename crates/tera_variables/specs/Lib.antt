@@ -1,2 +1,3 @@
 pub mod Free
 pub mod Sets
+pub mod Prelude

@@ -1,7 +1,7 @@
 // The names that expressions look up. They are found from the right to the left.
 ghost use Rattle.std.specs.Prelude.{◌≡◌, OnOk, IfErr};
-ghost use Rattle.tera_errors.specs.Answer.{Lacks};
-ghost use Rattle.tera_syntax_tree.specs.View.{expr_of, optional_of, items_of, entries_of, arguments_of, filters_of};
+ghost use Rattle.tera_errors.specs.Prelude.{Lacks};
+ghost use Rattle.tera_syntax_tree.specs.Prelude.{expr_of, optional_of, items_of, entries_of, arguments_of, filters_of};
 ghost use Rattle.tera_variables.specs.Free.{expr_free, optional_free, items_free, entries_free, arguments_free, filters_free, ◌∪◌};
 ghost use Rattle.tera_variables.specs.Sets.{names_in, applied_free, collected_free, bounds_free};
 

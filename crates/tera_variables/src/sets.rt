@@ -1,6 +1,6 @@
 // Sets of names. Each text is copied once.
 ghost use Rattle.std.specs.Prelude.{◌≡◌, OnOk, IfErr, option_copied};
-ghost use Rattle.tera_errors.specs.Answer.{Lacks};
+ghost use Rattle.tera_errors.specs.Prelude.{Lacks};
 ghost use Rattle.tera_variables.specs.Free.{only, loop_names, ◌∪◌, ◌∖◌};
 ghost use Rattle.tera_variables.specs.Sets.{names_in};
 

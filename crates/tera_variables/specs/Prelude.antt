@@ -1,0 +1,3 @@
+-- The definitions that contracts of other crates name, passed on from one place.
+pub use Rattle.tera_variables.specs.Free.{only, ◌∪◌}
+pub use Rattle.tera_variables.specs.Sets.{names_in}

@@ -1,5 +1,5 @@
 // Parts of a text, by bytes.
-ghost use Rattle.std.specs.Prelude.{◌≡◌, ◌≤◌, length, drop, take, IsTrue};
+ghost use Rattle.std.specs.Prelude.{◌≡◌, ◌≤◌, ℕ, Bool, length, drop, take, IsTrue};
 ghost use Rattle.memchr.specs.Find.{is_byte, is_byte3};
 ghost use Rattle.tera_syntax_tokens.specs.Bytes as spec;
 
@@ -45,6 +45,24 @@ fn begins_any(word: &[u8], bytes: &[u8]) -> bool
         }
     }
     true
+}
+
+/// How many bytes at the front of the text pass the test.
+#[inline(always)]
+#[tactic(auto, unfolding(crate::specs::Bytes::run))]
+pub(crate) fn run_len<F: Fn(u8) -> bool>(text: &[u8], passes: F) -> usize
+    requires { F.IsAlwaysCallable passes }
+    ensures value { (test : ℕ → Bool) →
+        ((b : _) (answer : Bool) → F.post passes b answer → answer ≡ test b) →
+        result ≡ spec.run test text.now }
+    ensures within { result ≤ length text.now }
+{
+    for (i, b) in text.iter().enumerate() {
+        if !passes(*b) {
+            return i;
+        }
+    }
+    text.len()
 }
 
 /// The first place where a word begins, or the end.

@@ -4,7 +4,7 @@ ghost use Rattle.tera_syntax_tree.specs.Prelude.{quoted_of};
 ghost use Rattle.tera_syntax_tokens.specs.Bytes.{run};
 ghost use Rattle.tera_syntax_tokens.specs.Literal as spec;
 
-use crate::bytes::after;
+use crate::bytes::{after, run_len};
 use crate::token::is_quote;
 use std::alloc::{AllocError, Global};
 use tera_syntax_tree::Quoted;
@@ -25,14 +25,8 @@ fn small(digits: &str) -> Option<u64>
 {
     let mut number: u64 = 0;
     for b in digits.as_bytes() {
-        number = match number.checked_mul(10) {
-            Some(number) => number,
-            None => return None,
-        };
-        number = match number.checked_add(u64::from(b.saturating_sub(b'0'))) {
-            Some(number) => number,
-            None => return None,
-        };
+        let digit = u64::from(b.saturating_sub(b'0'));
+        number = number.checked_mul(10)?.checked_add(digit)?;
     }
     Some(number)
 }
@@ -43,14 +37,8 @@ fn large(digits: &str) -> Option<i128>
 {
     let mut number: u128 = 0;
     for b in digits.as_bytes() {
-        number = match number.checked_mul(10) {
-            Some(number) => number,
-            None => return None,
-        };
-        number = match number.checked_add(u128::from(b.saturating_sub(b'0'))) {
-            Some(number) => number,
-            None => return None,
-        };
+        let digit = u128::from(b.saturating_sub(b'0'));
+        number = number.checked_mul(10)?.checked_add(digit)?;
     }
     match i128::try_from(number) {
         Ok(number) => Some(number),
@@ -73,17 +61,11 @@ fn escaped(b: u8) -> Option<u8>
 }
 
 /// How many bytes there are before the first backslash.
-#[tactic(auto, unfolding(crate::specs::Bytes::run))]
 fn plain_len(text: &[u8]) -> usize
     ensures value { result ≡ run spec.is_plain text.now }
     ensures within { result ≤ length text.now }
 {
-    for (i, b) in text.iter().enumerate() {
-        if *b == b'\\' {
-            return i;
-        }
-    }
-    text.len()
+    run_len(text, |b| b != b'\\')
 }
 
 /// What a backslash before this place stands for, with the byte there.

@@ -4,7 +4,7 @@ ghost use Rattle.tera_syntax_tokens.specs.Bytes.{run};
 ghost use Rattle.tera_syntax_tokens.specs.Token as spec;
 ghost use Rattle.tera_syntax_tokens.specs.Token.{token_of};
 
-use crate::bytes::after;
+use crate::bytes::{after, run_len};
 use tera_errors::Span;
 
 /// What a token is: a word, a number, a text or a sign. A reserved word has a kind of its own.
@@ -120,31 +120,19 @@ pub(crate) fn is_quote(b: u8) -> bool
 }
 
 /// How many bytes of a name the text begins with.
-#[tactic(auto, unfolding(crate::specs::Bytes::run))]
 fn name_len(text: &[u8]) -> usize
     ensures value { result ≡ run spec.is_name_byte text.now }
     ensures within { result ≤ length text.now }
 {
-    for (i, b) in text.iter().enumerate() {
-        if !is_name_byte(*b) {
-            return i;
-        }
-    }
-    text.len()
+    run_len(text, is_name_byte)
 }
 
 /// How many digits the text begins with.
-#[tactic(auto, unfolding(crate::specs::Bytes::run))]
 fn digits_len(text: &[u8]) -> usize
     ensures value { result ≡ run spec.is_digit text.now }
     ensures within { result ≤ length text.now }
 {
-    for (i, b) in text.iter().enumerate() {
-        if !is_digit(*b) {
-            return i;
-        }
-    }
-    text.len()
+    run_len(text, is_digit)
 }
 
 /// The byte is this one, and no backslash takes it along.

@@ -1,5 +1,5 @@
 -- Views of what holds a Vec, by the Vec's items.
-use Rattle.std.proofs.Common.{◌≡◌, Vec, Box, Bool, Bor, Global, Option, None, Some, option_copied, refl, sym, ap, ap₂, ◌∙◌}
+use Rattle.std.proofs.Common.{◌≡◌, Vec, Box, Bool, Bor, Global, List, Option, None, Some, option_copied, refl, sym, ap, ap₂, ◌∙◌}
 use mathlib.Core.Former.{Count}
 use Rattle.tera_errors.specs.Site.{Text}
 use Rattle.tera_errors.specs.declared.span.Span.{Span}
@@ -108,40 +108,28 @@ view_super all span =
     let r = arguments_in (expression.Super all span) in
     ap (λ x. Super x span) (arguments_row r.0 r.1 ∙ ap arguments_of (items_hidden-the_row-Argument-2 all))
 
-arguments_are : (r : (n : Count) × Row_of-Argument n) (all : Vec argument.Argument Global) → items-the_row-Argument r.0 r.1 ≡ all.items → row_arguments r.1 ≡ arguments_of all.items
-arguments_are r all e = arguments_row r.0 r.1 ∙ ap arguments_of e
+arguments_are : (m : Count) (row : Row_of-Argument m) (all : List argument.Argument) → all ≡ items-the_row-Argument m row → row_arguments row ≡ arguments_of all
+arguments_are m row all e = arguments_row m row ∙ ap arguments_of (sym e)
 
 pub view_filter : (a : Box Applied Global) (span : Span) → expr_of (expression.Filter a span) ≡ applied_of Filter a.value span
 unfolding out-Applied denote.Hole.Carrier.out
-view_filter a span =
-    by_parts a.ptr a.alloc a.value
-  where
-    by_parts : (p : _) (al : Global) (x : Applied) → expr_of (expression.Filter (record { ptr = p; alloc = al; value = x }) span) ≡ applied_of Filter x span
-    by_parts p al (Applied' e t m all) = ap (λ y. Filter (expr_of e) t.now y span) (arguments_row _ all ∙ ap arguments_of (sym (items_shown-the_row-Argument-2 m all)))
+view_filter a span = elim a.value as (λ x. expr_of (expression.Filter (record { ptr = a.ptr; alloc = a.alloc; value = x }) span) ≡ applied_of Filter x span)
+    [ Applied' e t m all ↦ ap (λ y. Filter (expr_of e) t.now y span) (arguments_are _ all _ (items_shown-the_row-Argument-2 m all)) ]
 
 pub view_test : (a : Box Applied Global) (span : Span) → expr_of (expression.Test a span) ≡ applied_of Test a.value span
 unfolding out-Applied denote.Hole.Carrier.out
-view_test a span =
-    by_parts a.ptr a.alloc a.value
-  where
-    by_parts : (p : _) (al : Global) (x : Applied) → expr_of (expression.Test (record { ptr = p; alloc = al; value = x }) span) ≡ applied_of Test x span
-    by_parts p al (Applied' e t m all) = ap (λ y. Test (expr_of e) t.now y span) (arguments_row _ all ∙ ap arguments_of (sym (items_shown-the_row-Argument-2 m all)))
+view_test a span = elim a.value as (λ x. expr_of (expression.Test (record { ptr = a.ptr; alloc = a.alloc; value = x }) span) ≡ applied_of Test x span)
+    [ Applied' e t m all ↦ ap (λ y. Test (expr_of e) t.now y span) (arguments_are _ all _ (items_shown-the_row-Argument-2 m all)) ]
 
 pub view_call : (c : Box Called Global) (span : Span) → expr_of (expression.Call c span) ≡ called_of c.value span
 unfolding out-Called denote.Hole.Carrier.out
-view_call c span =
-    by_parts c.ptr c.alloc c.value
-  where
-    by_parts : (p : _) (al : Global) (x : Called) → expr_of (expression.Call (record { ptr = p; alloc = al; value = x }) span) ≡ called_of x span
-    by_parts p al (Called' t m all) = ap (λ y. Call t.now y span) (arguments_row _ all ∙ ap arguments_of (sym (items_shown-the_row-Argument-2 m all)))
+view_call c span = elim c.value as (λ x. expr_of (expression.Call (record { ptr = c.ptr; alloc = c.alloc; value = x }) span) ≡ called_of x span)
+    [ Called' t m all ↦ ap (λ y. Call t.now y span) (arguments_are _ all _ (items_shown-the_row-Argument-2 m all)) ]
 
 pub view_component : (t : Box ComponentTag Global) (span : Span) → expr_of (expression.Component t span) ≡ tag_of t.value span
 unfolding out-ComponentTag denote.Hole.Carrier.out
-view_component t span =
-    by_parts t.ptr t.alloc t.value
-  where
-    by_parts : (p : _) (al : Global) (x : ComponentTag) → expr_of (expression.Component (record { ptr = p; alloc = al; value = x }) span) ≡ tag_of x span
-    by_parts p al (ComponentTag' n m all) = ap (λ y. Component n.now y span) (entries_row _ all ∙ ap entries_of (sym (items_shown-the_row-Entry-1 m all)))
+view_component t span = elim t.value as (λ x. expr_of (expression.Component (record { ptr = t.ptr; alloc = t.alloc; value = x }) span) ≡ tag_of x span)
+    [ ComponentTag' n m all ↦ ap (λ y. Component n.now y span) (entries_row _ all ∙ ap entries_of (sym (items_shown-the_row-Entry-1 m all))) ]
 
 pub view_comprehension : (c : Box Collected Global) (span : Span) → expr_of (expression.Comprehension c span) ≡ comprehension_of c.value span
 view_comprehension c span =

@@ -14,12 +14,7 @@ use tera_errors::Span;
 
 impl<'s> Expression<'s> {
     /// `target.name`, or `target?.name` where it is optional.
-    pub fn attribute(
-        target: Box<Expression<'s>>,
-        name: &'s str,
-        optional: bool,
-        span: Span,
-    ) -> Expression<'s>
+    pub fn attribute(target: Box<Expression<'s>>, name: &'s str, optional: bool, span: Span) -> Self
         ensures { expr_of result ≡ Attribute (expr_of target.entry.value) name.now
             optional span }
     {
@@ -32,7 +27,7 @@ impl<'s> Expression<'s> {
     }
 
     /// `target[index]`, or `target?[index]` where it is optional.
-    pub fn index(parts: Box<Indexed<'s>>, optional: bool, span: Span) -> Expression<'s>
+    pub fn index(parts: Box<Indexed<'s>>, optional: bool, span: Span) -> Self
         ensures { expr_of result ≡ Index (expr_of parts.entry.value.target)
             (expr_of parts.entry.value.index)
             optional span }
@@ -45,7 +40,7 @@ impl<'s> Expression<'s> {
     }
 
     /// The bounds are those that are written, each in its place.
-    pub fn slice(sliced: Box<Sliced<'s>>, optional: bool, span: Span) -> Expression<'s>
+    pub fn slice(sliced: Box<Sliced<'s>>, optional: bool, span: Span) -> Self
         ensures { expr_of result ≡ slice_of sliced.entry.value optional span }
     {
         Expression::Slice {
@@ -56,11 +51,7 @@ impl<'s> Expression<'s> {
     }
 
     /// `not operand`, with the operand in a box.
-    pub fn not(
-        alloc: Global,
-        operand: Expression<'s>,
-        span: Span,
-    ) -> Result<Expression<'s>, AllocError>
+    pub fn not(alloc: Global, operand: Self, span: Span) -> Result<Self, AllocError>
         ensures { IfOk result (λ e. expr_of e ≡ Not (expr_of operand.entry) span) }
     {
         let operand = Box::new(alloc, operand)?;
@@ -68,11 +59,7 @@ impl<'s> Expression<'s> {
     }
 
     /// `-operand`, with the operand in a box.
-    pub fn negate(
-        alloc: Global,
-        operand: Expression<'s>,
-        span: Span,
-    ) -> Result<Expression<'s>, AllocError>
+    pub fn negate(alloc: Global, operand: Self, span: Span) -> Result<Self, AllocError>
         ensures { IfOk result (λ e. expr_of e ≡ Negate (expr_of operand.entry) span) }
     {
         let operand = Box::new(alloc, operand)?;
@@ -80,11 +67,7 @@ impl<'s> Expression<'s> {
     }
 
     /// The operator between two operands.
-    pub fn binary(
-        operator: BinaryOperator,
-        operands: Box<Operands<'s>>,
-        span: Span,
-    ) -> Expression<'s>
+    pub fn binary(operator: BinaryOperator, operands: Box<Operands<'s>>, span: Span) -> Self
         ensures { expr_of result ≡ Binary operator (expr_of operands.entry.value.left)
             (expr_of operands.entry.value.right)
             span }
@@ -97,7 +80,7 @@ impl<'s> Expression<'s> {
     }
 
     /// `left and right`
-    pub fn and(operands: Box<Operands<'s>>, span: Span) -> Expression<'s>
+    pub fn and(operands: Box<Operands<'s>>, span: Span) -> Self
         ensures { expr_of result ≡ And (expr_of operands.entry.value.left)
             (expr_of operands.entry.value.right)
             span }
@@ -106,7 +89,7 @@ impl<'s> Expression<'s> {
     }
 
     /// `left or right`
-    pub fn or(operands: Box<Operands<'s>>, span: Span) -> Expression<'s>
+    pub fn or(operands: Box<Operands<'s>>, span: Span) -> Self
         ensures { expr_of result ≡ Or (expr_of operands.entry.value.left)
             (expr_of operands.entry.value.right)
             span }
@@ -115,7 +98,7 @@ impl<'s> Expression<'s> {
     }
 
     /// `value if condition else other`
-    pub fn ternary(choice: Box<Choice<'s>>, span: Span) -> Expression<'s>
+    pub fn ternary(choice: Box<Choice<'s>>, span: Span) -> Self
         ensures { expr_of result ≡ Ternary (expr_of choice.entry.value.value)
             (expr_of choice.entry.value.condition)
             (expr_of choice.entry.value.other) span }
@@ -124,56 +107,56 @@ impl<'s> Expression<'s> {
     }
 
     /// `[item, ..]`
-    pub fn array(items: Vec<Item<'s>>, span: Span) -> Expression<'s>
+    pub fn array(items: Vec<Item<'s>>, span: Span) -> Self
         ensures { expr_of result ≡ Array (items_of items.entry.items) span }
     {
         Expression::Array { items, span }
     }
 
     /// `{key: value, ..}`
-    pub fn map(entries: Vec<Entry<'s>>, span: Span) -> Expression<'s>
+    pub fn map(entries: Vec<Entry<'s>>, span: Span) -> Self
         ensures { expr_of result ≡ Map (entries_of entries.entry.items) span }
     {
         Expression::Map { entries, span }
     }
 
     /// `[value for heading if condition]`
-    pub fn comprehension(collected: Box<Collected<'s>>, span: Span) -> Expression<'s>
+    pub fn comprehension(collected: Box<Collected<'s>>, span: Span) -> Self
         ensures { expr_of result ≡ comprehension_of collected.entry.value span }
     {
         Expression::Comprehension { collected, span }
     }
 
     /// `super(name = value, ..)`
-    pub fn above(arguments: Vec<Argument<'s>>, span: Span) -> Expression<'s>
+    pub fn above(arguments: Vec<Argument<'s>>, span: Span) -> Self
         ensures { expr_of result ≡ Super (arguments_of arguments.entry.items) span }
     {
         Expression::Super { arguments, span }
     }
 
     /// `value | name(name = value, ..)`
-    pub fn filter(applied: Box<Applied<'s>>, span: Span) -> Expression<'s>
+    pub fn filter(applied: Box<Applied<'s>>, span: Span) -> Self
         ensures { expr_of result ≡ applied_of Filter applied.entry.value span }
     {
         Expression::Filter { applied, span }
     }
 
     /// `value is name(name = value, ..)`
-    pub fn test(applied: Box<Applied<'s>>, span: Span) -> Expression<'s>
+    pub fn test(applied: Box<Applied<'s>>, span: Span) -> Self
         ensures { expr_of result ≡ applied_of Test applied.entry.value span }
     {
         Expression::Test { applied, span }
     }
 
     /// `name(name = value, ..)`
-    pub fn call(called: Box<Called<'s>>, span: Span) -> Expression<'s>
+    pub fn call(called: Box<Called<'s>>, span: Span) -> Self
         ensures { expr_of result ≡ called_of called.entry.value span }
     {
         Expression::Call { called, span }
     }
 
     /// `<name attributes/>`
-    pub fn component(tag: Box<ComponentTag<'s>>, span: Span) -> Expression<'s>
+    pub fn component(tag: Box<ComponentTag<'s>>, span: Span) -> Self
         ensures { expr_of result ≡ tag_of tag.entry.value span }
     {
         Expression::Component { tag, span }
@@ -182,14 +165,14 @@ impl<'s> Expression<'s> {
 
 impl<'s> Literal<'s> {
     /// `[value, ..]`
-    pub fn array(items: Vec<Literal<'s>>) -> Literal<'s>
+    pub fn array(items: Vec<Literal<'s>>) -> Self
         ensures { written_of result ≡ ArrayLiteral (literals_of items.entry.items) }
     {
         Literal::Array(items)
     }
 
     /// `{key: value, ..}`
-    pub fn map(entries: Vec<LiteralEntry<'s>>) -> Literal<'s>
+    pub fn map(entries: Vec<LiteralEntry<'s>>) -> Self
         ensures { written_of result ≡ MapLiteral (literal_entries_of entries.entry.items) }
     {
         Literal::Map(entries)
@@ -199,11 +182,7 @@ impl<'s> Literal<'s> {
 impl<'s> Node<'s> {
     /// `{% if condition %}body{% else %}other{% endif %}`
     #[tactic(auto, using(crate::proofs::Views::view_if))]
-    pub fn choice(
-        condition: Box<Expression<'s>>,
-        body: Vec<Node<'s>>,
-        other: Vec<Node<'s>>,
-    ) -> Node<'s>
+    pub fn choice(condition: Box<Expression<'s>>, body: Vec<Node<'s>>, other: Vec<Node<'s>>) -> Self
         ensures { node_of result ≡ If (expr_of condition.entry.value) (nodes_of body.entry.items)
             (nodes_of other.entry.items) }
     {
@@ -215,7 +194,7 @@ impl<'s> Node<'s> {
     }
 
     /// `{% set name = value %}`, or `{% set_global name = value %}` where it is global.
-    pub fn set(name: &'s str, value: Box<Expression<'s>>, is_global: bool) -> Node<'s>
+    pub fn set(name: &'s str, value: Box<Expression<'s>>, is_global: bool) -> Self
         ensures { node_of result ≡ Set name.now (expr_of value.entry.value) is_global }
     {
         Node::Set {
@@ -226,7 +205,7 @@ impl<'s> Node<'s> {
     }
 
     /// `{% set name | filter %}body{% endset %}`, or the same with `set_global` where it is global.
-    pub fn capture(captured: Box<Captured<'s>>, body: Vec<Node<'s>>, is_global: bool) -> Node<'s>
+    pub fn capture(captured: Box<Captured<'s>>, body: Vec<Node<'s>>, is_global: bool) -> Self
         ensures { node_of result
             ≡ capture_of captured.entry.value (nodes_of body.entry.items) is_global }
     {
@@ -238,7 +217,7 @@ impl<'s> Node<'s> {
     }
 
     /// `{% filter filters %}body{% endfilter %}`
-    pub fn filter_section(filters: Vec<SectionFilter<'s>>, body: Vec<Node<'s>>) -> Node<'s>
+    pub fn filter_section(filters: Vec<SectionFilter<'s>>, body: Vec<Node<'s>>) -> Self
         ensures { node_of result ≡ FilterSection (filters_of filters.entry.items)
             (nodes_of body.entry.items) }
     {
@@ -246,14 +225,14 @@ impl<'s> Node<'s> {
     }
 
     /// `{% block name %}body{% endblock %}`
-    pub fn block(name: &'s str, body: Vec<Node<'s>>, span: Span) -> Node<'s>
+    pub fn block(name: &'s str, body: Vec<Node<'s>>, span: Span) -> Self
         ensures { node_of result ≡ Block name.now (nodes_of body.entry.items) span }
     {
         Node::Block { name, body, span }
     }
 
     /// `{% <name attributes> %}body{% </name> %}`
-    pub fn component_call(tag: Box<ComponentTag<'s>>, body: Vec<Node<'s>>, span: Span) -> Node<'s>
+    pub fn component_call(tag: Box<ComponentTag<'s>>, body: Vec<Node<'s>>, span: Span) -> Self
         ensures { node_of result
             ≡ component_call_of tag.entry.value (nodes_of body.entry.items) span }
     {
@@ -261,7 +240,7 @@ impl<'s> Node<'s> {
     }
 
     /// `{% component signature %}body{% endcomponent %}`
-    pub fn definition(signature: Box<Signature<'s>>, body: Vec<Node<'s>>) -> Node<'s>
+    pub fn definition(signature: Box<Signature<'s>>, body: Vec<Node<'s>>) -> Self
         ensures { node_of result ≡ Definition (signature_of signature.entry.value)
             (nodes_of body.entry.items) }
     {
@@ -270,7 +249,7 @@ impl<'s> Node<'s> {
 
     /// `{% for heading %}body{% else %}other{% endfor %}`
     #[tactic(auto, using(crate::proofs::Views::view_for))]
-    pub fn each(heading: Box<Heading<'s>>, body: Vec<Node<'s>>, other: Vec<Node<'s>>) -> Node<'s>
+    pub fn each(heading: Box<Heading<'s>>, body: Vec<Node<'s>>, other: Vec<Node<'s>>) -> Self
         ensures { node_of result ≡ for_of heading.entry.value body.entry.items other.entry.items }
     {
         Node::For {

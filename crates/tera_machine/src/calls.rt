@@ -29,30 +29,28 @@ impl<'c> Configuration<'c> {
         let names = names.as_slice();
         let (alloc, objects, autoescape) = (machine.alloc, machine.objects, machine.autoescape);
         let operands = self.take_topmost(names.len())?;
-        match kind {
+        let operand = match kind {
             CallKind::Function => {
                 let scopes = &self.scopes;
-                let operand = function(
+                function(
                     alloc, file, objects, scopes, autoescape, name, names, operands, span,
-                )?;
-                self.put(operand)
+                )?
             }
             CallKind::Filter => {
                 let target = self.operands.take();
                 let scopes = &self.scopes;
-                let operand = filter(
+                filter(
                     alloc, file, objects, scopes, autoescape, name, &target, names, operands, span,
-                )?;
-                self.put(operand)
+                )?
             }
             CallKind::Test => {
                 let target = self.operands.take();
                 let scopes = &self.scopes;
-                let operand = test(
+                test(
                     alloc, file, objects, scopes, autoescape, name, &target, names, operands, span,
-                )?;
-                self.put(operand)
+                )?
             }
-        }
+        };
+        self.put(operand)
     }
 }

@@ -143,12 +143,8 @@ impl<'t, O: Objects> VirtualMachine<'t, O> {
             span,
         } = asked;
         let Some(component) = self.named::<M>(name, home, number) else {
-            return Err(Error::rendering(
-                self.alloc,
-                "no component has this name",
-                chunk.file(),
-                span,
-            ));
+            let words = "no component has this name";
+            return Err(Error::rendering(self.alloc, words, chunk.file(), span));
         };
         let scopes = &configuration.scopes;
         let context = match component.definition.bind(self.alloc, &given, scopes, body) {

@@ -96,20 +96,12 @@ impl<'t, O: Objects> VirtualMachine<'t, O> {
     {
         let AskedTemplate { name, number, span } = asked;
         let Some(found) = self.found::<M>(name, home, number) else {
-            return Err(Error::rendering(
-                self.alloc,
-                "no template has this name",
-                chunk.file(),
-                span,
-            ));
+            let words = "no template has this name";
+            return Err(Error::rendering(self.alloc, words, chunk.file(), span));
         };
         if blocks.included.has(found.name) {
-            return Err(Error::rendering(
-                self.alloc,
-                "a template is included inside itself",
-                chunk.file(),
-                span,
-            ));
+            let words = "a template is included inside itself";
+            return Err(Error::rendering(self.alloc, words, chunk.file(), span));
         }
         Ok(found)
     }

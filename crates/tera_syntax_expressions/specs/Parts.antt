@@ -9,19 +9,22 @@ use Rattle.tera_syntax_tree.specs.declared.expression.Item as item
 use Rattle.tera_syntax_tree.specs.declared.expression.Entry as entry
 use Rattle.tera_syntax_tree.specs.declared.component.Parameter as parameter
 use Rattle.tera_syntax_tree.specs.Definitions.{rest_names}
-use Rattle.tera_syntax_tree.specs.Tree.{Expr, Parameter, Key, Optional, And, Or, Binary, Arguments, NoArguments, MoreArguments}
+use Rattle.tera_syntax_tree.specs.Tree.{Expr, Parameter, Key, Optional, Not, Negate, And, Or, Binary, Arguments, NoArguments, MoreArguments}
 use Rattle.tera_syntax_tree.specs.View.{expr_of, optional_of, items_of, entries_of, parameter_of}
 use Rattle.tera_syntax_tokens.specs.declared.refusal.Refusal.{Refusal}
 use Rattle.tera_syntax_tokens.specs.declared.refusal.Refusal.TheVariants.{Syntax, OutOfMemory}
 use Rattle.tera_syntax_tokens.specs.declared.input.Tokens.{Tokens}
 use Rattle.tera_syntax_tokens.specs.Answers.{Refuses}
-use Rattle.tera_syntax_tokens.specs.Input.{Input, Parsed, Parser, and_then}
+use Rattle.tera_syntax_tokens.specs.Input.{Input, Parsed, Parser, and_then, left}
 use Rattle.tera_syntax_tokens.specs.Takes.{Takes, input}
 use Rattle.tera_syntax_expressions.specs.declared.expressions.Deep as declared
 use Rattle.tera_syntax_expressions.specs.declared.headings.LoopNames.{LoopNames}
 use Rattle.tera_syntax_expressions.specs.declared.reader.Part.{Part}
-use Rattle.tera_syntax_expressions.specs.declared.operators.Infix.{Infix}
-use Rattle.tera_syntax_expressions.specs.declared.operators.Infix.TheVariants as form
+use Rattle.tera_syntax_expressions.specs.declared.reader.Reader.{Reader}
+use Rattle.tera_syntax_expressions.specs.declared.signs.Prefix.{Prefix}
+use Rattle.tera_syntax_expressions.specs.declared.signs.Prefix.TheVariants as sign
+use Rattle.tera_syntax_expressions.specs.declared.signs.Infix.{Infix}
+use Rattle.tera_syntax_expressions.specs.declared.signs.Infix.TheVariants as form
 use Rattle.std.specs.Ordering.{match_ordering}
 use Rattle.tera_syntax_expressions.specs.Arguments.{name_cmp}
 use Rattle.tera_syntax_expressions.specs.Expressions.{Deep, expr, join_items, one_item, join_entries, one_entry}
@@ -35,6 +38,10 @@ part_of p = (optional_of p.expression, p.depth)
 abbrev pub names_of : LoopNames → Option Name × Name
 names_of n = (option_copied n.key, n.name.now)
 
+abbrev pub prefix_of : Prefix → Expr → Span → Expr
+prefix_of sign.Negate = Negate
+prefix_of sign.Not = Not
+
 abbrev pub infix_of : Infix → Expr → Expr → Span → Expr
 infix_of form.And = And
 infix_of form.Or = Or
@@ -46,6 +53,18 @@ pub record Nests (limit : ℕ) (pre : Global → MutBor Tokens → ℕ → ℕ �
   pub callable : (alloc : Global) (old : MutBor Tokens) (floor : ℕ) → pre alloc old limit floor
   pub reads : (alloc : Global) (old new : MutBor Tokens) (floor : ℕ) (r : Result declared.Deep Refusal) → post alloc old limit floor r new
       → Takes deep_of (expr limit floor (input old.now)) r new.now
+
+-- What a rule gives was read, seen by view: a rule is given how deep a form may be, and what reads its parts.
+abbrev pub Follows : {X Y F : Type 0} → (X → Y) → (ℕ → (ℕ → Parser Deep) → Parser Y) → Reader F → Tokens → Result X Refusal → Tokens → Type 0
+Follows view rule reader old r new = Takes view (rule reader.limit (expr reader.below) (input old)) r new
+
+-- the same of a rule that goes on from an operand, which starts at a place
+abbrev pub GoesOn : {F : Type 0} → (ℕ → (ℕ → Parser Deep) → ℕ → Deep → Parser Deep) → Reader F → ℕ → declared.Deep → Tokens → Result declared.Deep Refusal → Tokens → Type 0
+GoesOn rule reader start x old r new = Takes deep_of (rule reader.limit (expr reader.below) start (deep_of x) (input old)) r new
+
+-- the same of a rule for a row, seen by view, from its first part on: the rule is given how often it may turn, what was found, and how deep that is
+abbrev pub FollowsRow : {A S F : Type 0} → (List A → S) → (ℕ → (ℕ → Parser Deep) → ℕ → S → ℕ → Parser (S × ℕ)) → S → Reader F → Tokens → Result (Vec A Global × ℕ) Refusal → Tokens → Type 0
+FollowsRow view rule none reader old r new = Takes (λ p. (view p.0.items, p.1)) (rule reader.limit (expr reader.below) (left (input old)) none 0 (input old)) r new
 
 -- a part was put among those that were there, and its depth is the answer
 abbrev pub TakesPart : {A S : Type 0} → (List A → S) → (S → Parser (S × ℕ)) → Vec A Global → Vec A Global → Input → Result ℕ Refusal → Tokens → Type 0

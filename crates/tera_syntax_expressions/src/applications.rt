@@ -1,14 +1,13 @@
 // Filters and tests of a value.
 ghost use Rattle.std.specs.Prelude.{◌≡◌};
 ghost use Rattle.tera_syntax_tree.specs.Prelude.{arguments_of};
-ghost use Rattle.tera_syntax_tokens.specs.Prelude.{Takes, input};
 ghost use Rattle.tera_syntax_expressions.specs.Arguments as call;
 ghost use Rattle.tera_syntax_expressions.specs.Expressions as spec;
-ghost use Rattle.tera_syntax_expressions.specs.Parts.{Nests, deep_of};
+ghost use Rattle.tera_syntax_expressions.specs.Parts.{Follows, GoesOn, Nests};
 
 use crate::expressions::{Deep, Read, Row};
-use crate::making::Application;
 use crate::reader::Reader;
+use crate::signs::Application;
 use std::alloc::Global;
 use tera_syntax_tokens::input::{Tokens, is_word, same};
 use tera_syntax_tokens::refusal::{Reason, Refusal};
@@ -20,8 +19,7 @@ impl<'s, F: Fn(Global, &mut Tokens<'_, 's>, usize, u8) -> Read<'s>> Reader<F> {
     #[tactic(auto, unfolding(crate::specs::Expressions::filter))]
     pub(crate) fn filter(&self, tokens: &mut Tokens<'_, 's>, start: usize, x: Deep<'s>) -> Read<'s>
         requires { Nests self.now.below (F.pre self.now.expr) (F.post self.now.expr) }
-        ensures { let meant = spec.filter self.now.limit (spec.expr self.now.below) start
-            (deep_of x.entry) in Takes deep_of (meant (input tokens.old)) result tokens.new }
+        ensures { GoesOn spec.filter self.now start x.entry tokens.old result tokens.new }
     {
         tokens.take();
         if !is_word(tokens.kind()) {
@@ -34,8 +32,7 @@ impl<'s, F: Fn(Global, &mut Tokens<'_, 's>, usize, u8) -> Read<'s>> Reader<F> {
     #[tactic(auto, unfolding(crate::specs::Expressions::tested))]
     pub(crate) fn test(&self, tokens: &mut Tokens<'_, 's>, start: usize, x: Deep<'s>) -> Read<'s>
         requires { Nests self.now.below (F.pre self.now.expr) (F.post self.now.expr) }
-        ensures { let meant = spec.tested self.now.limit (spec.expr self.now.below) start
-            (deep_of x.entry) in Takes deep_of (meant (input tokens.old)) result tokens.new }
+        ensures { GoesOn spec.tested self.now start x.entry tokens.old result tokens.new }
     {
         tokens.take();
         if !same(Kind::Not, tokens.kind()) {
@@ -50,8 +47,7 @@ impl<'s, F: Fn(Global, &mut Tokens<'_, 's>, usize, u8) -> Read<'s>> Reader<F> {
     #[tactic(auto, unfolding(crate::specs::Expressions::test_by_name))]
     fn test_by_name(&self, tokens: &mut Tokens<'_, 's>, start: usize, x: Deep<'s>) -> Read<'s>
         requires { Nests self.now.below (F.pre self.now.expr) (F.post self.now.expr) }
-        ensures { let meant = spec.test_by_name self.now.limit (spec.expr self.now.below) start
-            (deep_of x.entry) in Takes deep_of (meant (input tokens.old)) result tokens.new }
+        ensures { GoesOn spec.test_by_name self.now start x.entry tokens.old result tokens.new }
     {
         if !is_test_name(tokens.kind()) {
             return Err(tokens.refuse(Reason::Expected(Kind::Name)));
@@ -63,9 +59,8 @@ impl<'s, F: Fn(Global, &mut Tokens<'_, 's>, usize, u8) -> Read<'s>> Reader<F> {
     #[tactic(auto, unfolding(crate::specs::Expressions::given))]
     pub(crate) fn given(&self, tokens: &mut Tokens<'_, 's>) -> Row<Argument<'s>>
         requires { Nests self.now.below (F.pre self.now.expr) (F.post self.now.expr) }
-        ensures { let meant = spec.given self.now.limit (spec.expr self.now.below) in
-            Takes (λ p. (arguments_of p.0.items, p.1)) (meant (input tokens.old))
-            result tokens.new }
+        ensures { Follows (λ p. (arguments_of p.0.items, p.1)) spec.given self.now
+            tokens.old result tokens.new }
     {
         if !same(Kind::LeftParenthesis, tokens.kind()) {
             return Ok((Vec::new(self.alloc), 0));

@@ -1,12 +1,12 @@
 // Calls and their arguments.
 ghost use Rattle.std.specs.Prelude.{◌≡◌, IfOk};
 ghost use Rattle.tera_syntax_tree.specs.Prelude.{NoArguments, arguments_of, expr_of};
-ghost use Rattle.tera_syntax_tokens.specs.Prelude.{left, text, Takes, input};
+ghost use Rattle.tera_syntax_tokens.specs.Prelude.{text, Takes, input};
 ghost use Rattle.tera_syntax_expressions.specs.Arguments as call;
 ghost use Rattle.tera_syntax_expressions.specs.Expressions as spec;
-ghost use Rattle.tera_syntax_expressions.specs.Parts.{Nests, TakesPart, deep_of, place_of};
+ghost use Rattle.tera_syntax_expressions.specs.Parts.{FollowsRow, Nests, TakesPart, deep_of, place_of};
 
-use crate::collections::take_comma;
+use crate::commas::{between_commas, take_comma};
 use crate::expressions::{Deep, Depth, Read, Row};
 use crate::levels::kinds;
 use crate::reader::{Reader, larger};
@@ -39,29 +39,11 @@ impl<'s, F: Fn(Global, &mut Tokens<'_, 's>, usize, u8) -> Read<'s>> Reader<F> {
     #[tactic(auto, unfolding(crate::specs::Expressions::arguments_from))]
     pub(crate) fn arguments(&self, tokens: &mut Tokens<'_, 's>) -> Row<Argument<'s>>
         requires { Nests self.now.below (F.pre self.now.expr) (F.post self.now.expr) }
-        ensures { let meant = spec.arguments_from self.now.limit (spec.expr self.now.below)
-            (left (input tokens.old)) NoArguments 0 (input tokens.old) in
-            Takes (λ p. (arguments_of p.0.items, p.1)) meant result tokens.new }
+        ensures { FollowsRow arguments_of spec.arguments_from NoArguments self.now
+            tokens.old result tokens.new }
     {
-        let mut found = Vec::new(self.alloc);
-        let mut depth = 0usize;
-        for _turn in 0..tokens.left() {
-            if same(Kind::RightParenthesis, tokens.kind()) {
-                tokens.take();
-                return Ok((found, depth));
-            }
-            let x = match self.argument(tokens, &mut found) {
-                Ok(x) => x,
-                Err(refusal) => return Err(refusal),
-            };
-            depth = larger(depth, x);
-            match take_comma(tokens, Kind::RightParenthesis) {
-                Ok(true) => {}
-                Ok(false) => return Ok((found, depth)),
-                Err(refusal) => return Err(refusal),
-            }
-        }
-        Err(tokens.refuse(Reason::Expected(Kind::RightParenthesis)))
+        between_commas!(tokens, Kind::RightParenthesis, self.argument(tokens, &mut found);
+            found = Vec::new(self.alloc), depth = 0)
     }
 
     /// An argument, at its place among those that were read, and its depth.

@@ -2,12 +2,13 @@
 ghost use Rattle.std.specs.Prelude.{◌≡◌, [], Some};
 ghost use Rattle.tera_syntax_tokens.specs.Prelude.{left, starts, Takes, input, tokens_of};
 ghost use Rattle.tera_syntax_expressions.specs.Expressions as spec;
-ghost use Rattle.tera_syntax_expressions.specs.Parts.{Nests, deep_of};
+ghost use Rattle.tera_syntax_expressions.specs.Parts.{GoesOn, Nests, deep_of};
 
+use crate::access::Access;
 use crate::expressions::{Deep, Read};
 use crate::levels::{begins, gives, goes_on};
-use crate::operators::Infix::{self, Binary};
 use crate::reader::Reader;
+use crate::signs::Infix::{self, Binary};
 use std::alloc::Global;
 use tera_syntax_tokens::input::{Tokens, same, start_at};
 use tera_syntax_tokens::refusal::{Reason, Refusal};
@@ -77,8 +78,7 @@ impl<'s, F: Fn(Global, &mut Tokens<'_, 's>, usize, u8) -> Read<'s>> Reader<F> {
     #[tactic(auto, unfolding(crate::specs::Expressions::operation, crate::specs::Expressions::applied, crate::specs::Expressions::suffixed))]
     fn operation(&self, tokens: &mut Tokens<'_, 's>, start: usize, x: Deep<'s>) -> Read<'s>
         requires { Nests self.now.below (F.pre self.now.expr) (F.post self.now.expr) }
-        ensures { Takes deep_of (spec.operation self.now.limit (spec.expr self.now.below) start
-            (deep_of x.entry) (input tokens.old)) result tokens.new }
+        ensures { GoesOn spec.operation self.now start x.entry tokens.old result tokens.new }
     {
         let (level, op) = match tokens.kind() {
             Kind::Or => (2, Infix::Or),
@@ -109,18 +109,17 @@ impl<'s, F: Fn(Global, &mut Tokens<'_, 's>, usize, u8) -> Read<'s>> Reader<F> {
     #[tactic(auto, unfolding(crate::specs::Expressions::suffixed))]
     fn suffixed(&self, tokens: &mut Tokens<'_, 's>, start: usize, x: Deep<'s>) -> Read<'s>
         requires { Nests self.now.below (F.pre self.now.expr) (F.post self.now.expr) }
-        ensures { Takes deep_of (spec.suffixed self.now.limit (spec.expr self.now.below) start
-            (deep_of x.entry) (input tokens.old)) result tokens.new }
+        ensures { GoesOn spec.suffixed self.now start x.entry tokens.old result tokens.new }
     {
         match tokens.kind() {
             Kind::If => self.choice(tokens, start, x),
             Kind::Not => self.not_in(tokens, start, x),
             Kind::Is => self.test(tokens, start, x),
             Kind::Bar => self.filter(tokens, start, x),
-            Kind::Dot => self.attribute(tokens, false, start, x),
-            Kind::OptionalDot => self.attribute(tokens, true, start, x),
-            Kind::LeftBracket => self.subscript(tokens, false, start, x),
-            Kind::OptionalBracket => self.subscript(tokens, true, start, x),
+            Kind::Dot => self.attribute(tokens, Access::new(start, false), x),
+            Kind::OptionalDot => self.attribute(tokens, Access::new(start, true), x),
+            Kind::LeftBracket => self.subscript(tokens, Access::new(start, false), x),
+            Kind::OptionalBracket => self.subscript(tokens, Access::new(start, true), x),
             _ => Err(tokens.refuse(Reason::NoOperation)),
         }
     }

@@ -2,11 +2,11 @@
 ghost use Rattle.std.specs.Prelude.{◌≡◌, IfOk};
 ghost use Rattle.tera_syntax_tree.specs.Prelude.{NoEntries, items_of, entries_of, literal_option};
 ghost use Rattle.tera_syntax_tokens.specs.Prelude.{kind, left, same, Takes, input};
-ghost use Rattle.tera_syntax_expressions.specs.Commas.{comma_or};
 ghost use Rattle.tera_syntax_expressions.specs.Expressions as spec;
 ghost use Rattle.tera_syntax_expressions.specs.Keys.{key_at};
-ghost use Rattle.tera_syntax_expressions.specs.Parts.{TakesItem, TakesEntry, Nests, deep_of};
+ghost use Rattle.tera_syntax_expressions.specs.Parts.{FollowsRow, TakesItem, TakesEntry, Nests, deep_of};
 
+use crate::commas::{between_commas, take_comma};
 use crate::expressions::{Deep, Depth, Read, Row};
 use crate::reader::{Reader, larger};
 use std::alloc::{AllocError, Global};
@@ -68,34 +68,14 @@ impl<'s, F: Fn(Global, &mut Tokens<'_, 's>, usize, u8) -> Read<'s>> Reader<F> {
 
     /// Items with commas between, up to a bracket, behind those that were read.
     #[tactic(auto, unfolding(crate::specs::Expressions::items_from))]
-    pub(crate) fn items(
-        &self,
-        tokens: &mut Tokens<'_, 's>,
-        mut found: Vec<Item<'s>>,
-        mut depth: usize,
-    ) -> Row<Item<'s>>
+    fn items(&self, tokens: &mut Tokens<'_, 's>, all: Vec<Item<'s>>, depth: usize) -> Row<Item<'s>>
         requires { Nests self.now.below (F.pre self.now.expr) (F.post self.now.expr) }
         ensures { let meant = spec.items_from self.now.limit (spec.expr self.now.below)
-            (left (input tokens.old)) (items_of found.entry.items) depth in
+            (left (input tokens.old)) (items_of all.entry.items) depth in
             Takes (λ p. (items_of p.0.items, p.1)) (meant (input tokens.old)) result tokens.new }
     {
-        for _turn in 0..tokens.left() {
-            if same(Kind::RightBracket, tokens.kind()) {
-                tokens.take();
-                return Ok((found, depth));
-            }
-            let x = match self.item(tokens, &mut found) {
-                Ok(x) => x,
-                Err(refusal) => return Err(refusal),
-            };
-            depth = larger(depth, x);
-            match take_comma(tokens, Kind::RightBracket) {
-                Ok(true) => {}
-                Ok(false) => return Ok((found, depth)),
-                Err(refusal) => return Err(refusal),
-            }
-        }
-        Err(tokens.refuse(Reason::Expected(Kind::RightBracket)))
+        between_commas!(tokens, Kind::RightBracket, self.item(tokens, &mut found);
+            found = all, depth = depth)
     }
 
     /// An item, behind those that were read, and its depth.
@@ -130,31 +110,13 @@ impl<'s, F: Fn(Global, &mut Tokens<'_, 's>, usize, u8) -> Read<'s>> Reader<F> {
 
     /// Entries with commas between, up to a brace, and the greatest depth.
     #[tactic(auto, unfolding(crate::specs::Expressions::entries_from))]
-    pub(crate) fn entries(&self, tokens: &mut Tokens<'_, 's>) -> Row<Entry<'s>>
+    fn entries(&self, tokens: &mut Tokens<'_, 's>) -> Row<Entry<'s>>
         requires { Nests self.now.below (F.pre self.now.expr) (F.post self.now.expr) }
-        ensures { Takes (λ p. (entries_of p.0.items, p.1))
-            (spec.entries_from self.now.limit (spec.expr self.now.below) (left (input tokens.old))
-            NoEntries 0 (input tokens.old)) result tokens.new }
+        ensures { FollowsRow entries_of spec.entries_from NoEntries self.now
+            tokens.old result tokens.new }
     {
-        let mut found = Vec::new(self.alloc);
-        let mut depth = 0usize;
-        for _turn in 0..tokens.left() {
-            if same(Kind::RightBrace, tokens.kind()) {
-                tokens.take();
-                return Ok((found, depth));
-            }
-            let x = match self.entry(tokens, &mut found) {
-                Ok(x) => x,
-                Err(refusal) => return Err(refusal),
-            };
-            depth = larger(depth, x);
-            match take_comma(tokens, Kind::RightBrace) {
-                Ok(true) => {}
-                Ok(false) => return Ok((found, depth)),
-                Err(refusal) => return Err(refusal),
-            }
-        }
-        Err(tokens.refuse(Reason::Expected(Kind::RightBrace)))
+        between_commas!(tokens, Kind::RightBrace, self.entry(tokens, &mut found);
+            found = Vec::new(self.alloc), depth = 0)
     }
 
     /// An entry, behind those that were read, and its depth.
@@ -235,18 +197,4 @@ pub(crate) fn take_dots(tokens: &mut Tokens<'_, '_>) -> bool
     } else {
         false
     }
-}
-
-/// Takes the comma behind a part, and otherwise what closes: whether it was a comma.
-#[inline(always)]
-#[tactic(auto, unfolding(crate::specs::Commas::comma_or))]
-pub(crate) fn take_comma(tokens: &mut Tokens<'_, '_>, closing: Kind) -> Result<bool, Refusal>
-    ensures { Takes (λ more. more) (comma_or closing (input tokens.old)) result tokens.new }
-{
-    if same(Kind::Comma, tokens.kind()) {
-        tokens.take();
-        return Ok(true);
-    }
-    tokens.expect(closing)?;
-    Ok(false)
 }

@@ -1,10 +1,10 @@
 // Components that are called, and their attributes.
 ghost use Rattle.std.specs.Prelude.{◌≡◌};
 ghost use Rattle.tera_syntax_tree.specs.Prelude.{NoEntries, entries_of};
-ghost use Rattle.tera_syntax_tokens.specs.Prelude.{left, Takes, input};
+ghost use Rattle.tera_syntax_tokens.specs.Prelude.{Takes, input};
 ghost use Rattle.tera_syntax_expressions.specs.Arguments as call;
 ghost use Rattle.tera_syntax_expressions.specs.Expressions as spec;
-ghost use Rattle.tera_syntax_expressions.specs.Parts.{Nests, TakesPart, deep_of};
+ghost use Rattle.tera_syntax_expressions.specs.Parts.{Follows, FollowsRow, Nests, TakesPart, deep_of};
 
 use crate::arguments::argument_name;
 use crate::expressions::{Deep, Depth, Read, Row, expr};
@@ -18,11 +18,7 @@ use tera_syntax_tree::{ComponentTag, Entry, Expression, LiteralKey, Quoted};
 
 /// Attributes up to where none begins, no deeper than `limit`, and the greatest depth.
 #[tactic(auto, unfolding(crate::specs::Expressions::attributes))]
-pub fn attributes<'s>(
-    alloc: Global,
-    tokens: &mut Tokens<'_, 's>,
-    limit: usize,
-) -> Result<(Vec<Entry<'s>>, usize), Refusal>
+pub fn attributes<'s>(alloc: Global, tokens: &mut Tokens<'_, 's>, limit: usize) -> Row<Entry<'s>>
     ensures { let meant = spec.attributes limit (input tokens.old) in
         Takes (λ p. (entries_of p.0.items, p.1)) meant result tokens.new }
 {
@@ -44,8 +40,7 @@ impl<'s, F: Fn(Global, &mut Tokens<'_, 's>, usize, u8) -> Read<'s>> Reader<F> {
     #[tactic(auto, unfolding(crate::specs::Expressions::component))]
     pub(crate) fn component(&self, tokens: &mut Tokens<'_, 's>) -> Read<'s>
         requires { Nests self.now.below (F.pre self.now.expr) (F.post self.now.expr) }
-        ensures { let meant = spec.component self.now.limit (spec.expr self.now.below) in
-            Takes deep_of (meant (input tokens.old)) result tokens.new }
+        ensures { Follows deep_of spec.component self.now tokens.old result tokens.new }
     {
         let start = tokens.start();
         tokens.take();
@@ -86,12 +81,10 @@ impl<'s, F: Fn(Global, &mut Tokens<'_, 's>, usize, u8) -> Read<'s>> Reader<F> {
     #[tactic(auto, unfolding(crate::specs::Expressions::attributes_from))]
     pub(crate) fn attributes(&self, tokens: &mut Tokens<'_, 's>) -> Row<Entry<'s>>
         requires { Nests self.now.below (F.pre self.now.expr) (F.post self.now.expr) }
-        ensures { let meant = spec.attributes_from self.now.limit (spec.expr self.now.below)
-            (left (input tokens.old)) NoEntries 0 (input tokens.old) in
-            Takes (λ p. (entries_of p.0.items, p.1)) meant result tokens.new }
+        ensures { FollowsRow entries_of spec.attributes_from NoEntries self.now
+            tokens.old result tokens.new }
     {
-        let mut found = Vec::new(self.alloc);
-        let mut depth = 0usize;
+        let (mut found, mut depth) = (Vec::new(self.alloc), 0usize);
         for _turn in 0..tokens.left() {
             if !begins_attribute(tokens.kind()) {
                 return Ok((found, depth));

@@ -1,9 +1,8 @@
 // Comprehensions.
 ghost use Rattle.std.specs.Prelude.{◌≡◌, option_copied};
 ghost use Rattle.tera_syntax_tree.specs.Prelude.{expr_of};
-ghost use Rattle.tera_syntax_tokens.specs.Prelude.{Takes, input};
 ghost use Rattle.tera_syntax_expressions.specs.Expressions as spec;
-ghost use Rattle.tera_syntax_expressions.specs.Parts.{Nests, deep_of, part_of};
+ghost use Rattle.tera_syntax_expressions.specs.Parts.{Follows, GoesOn, Nests, part_of};
 
 use crate::expressions::{Deep, Read};
 use crate::headings::{LoopNames, names};
@@ -25,8 +24,7 @@ impl<'s, F: Fn(Global, &mut Tokens<'_, 's>, usize, u8) -> Read<'s>> Reader<F> {
         x: Deep<'s>,
     ) -> Read<'s>
         requires { Nests self.now.below (F.pre self.now.expr) (F.post self.now.expr) }
-        ensures { let meant = spec.comprehension self.now.limit (spec.expr self.now.below) start
-            (deep_of x.entry) in Takes deep_of (meant (input tokens.old)) result tokens.new }
+        ensures { GoesOn spec.comprehension self.now start x.entry tokens.old result tokens.new }
     {
         tokens.take();
         let names = names(tokens)?;
@@ -52,8 +50,7 @@ impl<'s, F: Fn(Global, &mut Tokens<'_, 's>, usize, u8) -> Read<'s>> Reader<F> {
     #[tactic(auto, unfolding(crate::specs::Expressions::condition))]
     pub(crate) fn condition(&self, tokens: &mut Tokens<'_, 's>) -> Result<Part<'s>, Refusal>
         requires { Nests self.now.below (F.pre self.now.expr) (F.post self.now.expr) }
-        ensures { let meant = spec.condition self.now.limit (spec.expr self.now.below) in
-            Takes part_of (meant (input tokens.old)) result tokens.new }
+        ensures { Follows part_of spec.condition self.now tokens.old result tokens.new }
     {
         if !same(Kind::If, tokens.kind()) {
             return Ok(absent());

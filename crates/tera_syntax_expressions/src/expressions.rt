@@ -23,7 +23,7 @@ pub struct Deep<'s> {
 pub(crate) type Read<'s> = Result<Deep<'s>, Refusal>;
 
 /// What reading a row gives: its parts, and how deep the deepest is.
-pub(crate) type Row<T> = Result<(Vec<T>, usize), Refusal>;
+pub type Row<T> = Result<(Vec<T>, usize), Refusal>;
 
 /// What reading one part of a row gives, which is put among the others: how deep it is.
 pub(crate) type Depth = Result<usize, Refusal>;

@@ -1,8 +1,8 @@
 // Filters of what a body puts out, as the head of a section has them.
 ghost use Rattle.tera_syntax_tree.specs.Prelude.{NoFilters, filters_of};
-ghost use Rattle.tera_syntax_tokens.specs.Prelude.{left, Takes, input};
+ghost use Rattle.tera_syntax_tokens.specs.Prelude.{Takes, input};
 ghost use Rattle.tera_syntax_expressions.specs.Expressions as spec;
-ghost use Rattle.tera_syntax_expressions.specs.Parts.{Nests, TakesPart};
+ghost use Rattle.tera_syntax_expressions.specs.Parts.{FollowsRow, Nests, TakesPart};
 
 use crate::expressions::{Deep, Depth, Read, Row, expr};
 use crate::reader::{Reader, larger};
@@ -18,7 +18,7 @@ pub fn filters<'s>(
     alloc: Global,
     tokens: &mut Tokens<'_, 's>,
     limit: usize,
-) -> Result<(Vec<SectionFilter<'s>>, usize), Refusal>
+) -> Row<SectionFilter<'s>>
     ensures { let meant = spec.filters limit (input tokens.old) in
         Takes (λ p. (filters_of p.0.items, p.1)) meant result tokens.new }
 {
@@ -37,14 +37,12 @@ pub fn filters<'s>(
 impl<'s, F: Fn(Global, &mut Tokens<'_, 's>, usize, u8) -> Read<'s>> Reader<F> {
     /// Filters with bars between, and the greatest depth.
     #[tactic(auto, unfolding(crate::specs::Expressions::filters_from))]
-    pub(crate) fn filters(&self, tokens: &mut Tokens<'_, 's>) -> Row<SectionFilter<'s>>
+    fn filters(&self, tokens: &mut Tokens<'_, 's>) -> Row<SectionFilter<'s>>
         requires { Nests self.now.below (F.pre self.now.expr) (F.post self.now.expr) }
-        ensures { let meant = spec.filters_from self.now.limit (spec.expr self.now.below)
-            (left (input tokens.old)) NoFilters 0 (input tokens.old) in
-            Takes (λ p. (filters_of p.0.items, p.1)) meant result tokens.new }
+        ensures { FollowsRow filters_of spec.filters_from NoFilters self.now
+            tokens.old result tokens.new }
     {
-        let mut found = Vec::new(self.alloc);
-        let mut depth = 0usize;
+        let (mut found, mut depth) = (Vec::new(self.alloc), 0usize);
         for _turn in 0..tokens.left() {
             let x = match self.section_filter(tokens, &mut found) {
                 Ok(x) => x,

@@ -4,11 +4,12 @@ ghost use Rattle.tera_syntax_tokens.specs.Prelude.{next, span, start, Takes, inp
 ghost use Rattle.tera_syntax_expressions.specs.Expressions as spec;
 ghost use Rattle.tera_syntax_expressions.specs.Loops as loops;
 ghost use Rattle.std.specs.Prelude.{◌≡◌, option_map};
-ghost use Rattle.tera_syntax_expressions.specs.Parts.{Nests, deep_of};
+ghost use Rattle.tera_syntax_expressions.specs.Parts.{Follows, Nests, deep_of};
 
 use crate::arguments::is_call;
 use crate::expressions::{Deep, Read};
 use crate::reader::Reader;
+use crate::signs::Prefix;
 use std::alloc::Global;
 use tera_syntax_tokens::input::{Tokens, same};
 use tera_syntax_tokens::literal::{integer, literal};
@@ -21,12 +22,11 @@ impl<'s, F: Fn(Global, &mut Tokens<'_, 's>, usize, u8) -> Read<'s>> Reader<F> {
     #[tactic(auto, unfolding(crate::specs::Expressions::head))]
     pub(crate) fn head(&self, tokens: &mut Tokens<'_, 's>) -> Read<'s>
         requires { Nests self.now.below (F.pre self.now.expr) (F.post self.now.expr) }
-        ensures { Takes deep_of (spec.head self.now.limit (spec.expr self.now.below)
-            (input tokens.old)) result tokens.new }
+        ensures { Follows deep_of spec.head self.now tokens.old result tokens.new }
     {
         match tokens.kind() {
-            Kind::Minus => self.negated(tokens),
-            Kind::Not => self.inverted(tokens),
+            Kind::Minus => self.prefixed(tokens, 8, Prefix::Negate),
+            Kind::Not => self.prefixed(tokens, 3, Prefix::Not),
             Kind::Int => self.int(tokens),
             Kind::Text => self.text(tokens),
             Kind::True => self.constant(tokens, true),
@@ -53,8 +53,7 @@ impl<'s, F: Fn(Global, &mut Tokens<'_, 's>, usize, u8) -> Read<'s>> Reader<F> {
     #[tactic(auto, unfolding(crate::specs::Expressions::head))]
     pub(crate) fn leaf(&self, tokens: &mut Tokens<'_, 's>) -> Read<'s>
         requires { Nests self.now.below (F.pre self.now.expr) (F.post self.now.expr) }
-        ensures { Takes deep_of (spec.head self.now.limit (spec.expr self.now.below)
-            (input tokens.old)) result tokens.new }
+        ensures { Follows deep_of spec.head self.now tokens.old result tokens.new }
     {
         match tokens.kind() {
             Kind::Name => self.name(tokens),

@@ -6,6 +6,7 @@ mod applications;
 mod arguments;
 mod climb;
 mod collections;
+mod commas;
 /// Components that are called, and their attributes.
 pub mod components;
 mod comprehensions;
@@ -23,3 +24,4 @@ mod operators;
 /// Signatures of components.
 pub mod parameters;
 mod reader;
+mod signs;

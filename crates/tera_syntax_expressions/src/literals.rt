@@ -4,7 +4,8 @@ ghost use Rattle.tera_syntax_tree.specs.Prelude.{literal_entries_of, literal_of,
 ghost use Rattle.tera_syntax_tokens.specs.Prelude.{kind, Takes, input};
 ghost use Rattle.tera_syntax_expressions.specs.Literals as spec;
 
-use crate::collections::{key_at, take_comma};
+use crate::collections::key_at;
+use crate::commas::take_comma;
 use std::alloc::{AllocError, Global};
 use tera_syntax_tokens::input::{Tokens, same};
 use tera_syntax_tokens::literal::{integer, literal};

@@ -1,6 +1,6 @@
 // Forms that more than one rule makes.
 ghost use Rattle.std.specs.Prelude.{◌≡◌, IfOk};
-ghost use Rattle.tera_syntax_tree.specs.Prelude.{Absent, Not, Present, applied_of, expr_of};
+ghost use Rattle.tera_syntax_tree.specs.Prelude.{Absent, Not, Present, expr_of};
 ghost use Rattle.tera_syntax_tokens.specs.Prelude.{span, Takes, input};
 ghost use Rattle.tera_syntax_expressions.specs.Applications.{application_of};
 ghost use Rattle.tera_syntax_expressions.specs.Expressions as spec;
@@ -8,20 +8,11 @@ ghost use Rattle.tera_syntax_expressions.specs.Parts.{Nests, deep_of, part_of};
 
 use crate::expressions::{Deep, Read};
 use crate::reader::{Part, Reader, larger};
+use crate::signs::{Application, make_application};
 use std::alloc::{AllocError, Global};
-use tera_errors::Span;
 use tera_syntax_tokens::input::Tokens;
 use tera_syntax_tokens::refusal::Refusal;
 use tera_syntax_tree::{Applied, Expression};
-
-/// What a name behind a value makes of it.
-#[derive(Clone, Copy)]
-pub(crate) enum Application {
-    /// `x | name`
-    Filter,
-    /// `x is name`
-    Test,
-}
 
 impl<'s, F: Fn(Global, &mut Tokens<'_, 's>, usize, u8) -> Read<'s>> Reader<F> {
     /// What was read, inverted.
@@ -54,30 +45,15 @@ impl<'s, F: Fn(Global, &mut Tokens<'_, 's>, usize, u8) -> Read<'s>> Reader<F> {
         let name = tokens.text();
         tokens.take();
         let (arguments, b) = self.given(tokens)?;
-        let a = x.depth;
-        let depth = larger(a, b);
+        let depth = larger(x.depth, b);
         let applied = Applied {
             value: x.expression,
             name,
             arguments,
         };
         let applied = Box::new(self.alloc, applied)?;
-        self.node(
-            tokens,
-            depth,
-            make_application(form, applied, tokens.span(start)),
-        )
-    }
-}
-
-/// The form that a name and arguments make of a value.
-#[inline(always)]
-fn make_application<'s>(form: Application, applied: Box<Applied<'s>>, span: Span) -> Expression<'s>
-    ensures { expr_of result ≡ applied_of (application_of form) applied.entry.value span }
-{
-    match form {
-        Application::Filter => Expression::filter(applied, span),
-        Application::Test => Expression::test(applied, span),
+        let expression = make_application(form, applied, tokens.span(start));
+        self.node(tokens, depth, expression)
     }
 }
 

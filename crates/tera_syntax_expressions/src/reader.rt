@@ -43,20 +43,15 @@ impl<'s, F: Fn(Global, &mut Tokens<'_, 's>, usize, u8) -> Read<'s>> Reader<F> {
     /// A form over parts of this depth.
     #[inline(always)]
     #[tactic(auto, unfolding(crate::specs::Expressions::node))]
-    pub(crate) fn node(
-        &self,
-        tokens: &mut Tokens<'_, 's>,
-        depth: usize,
-        expression: Expression<'s>,
-    ) -> Read<'s>
-        ensures { Takes deep_of (spec.node self.now.limit depth (expr_of expression.entry)
-            (input tokens.old)) result tokens.new }
+    pub(crate) fn node(&self, tokens: &Tokens<'_, 's>, depth: usize, x: Expression<'s>) -> Read<'s>
+        ensures { Takes deep_of (spec.node self.now.limit depth (expr_of x.entry)
+            (input tokens.now)) result tokens.now }
     {
         if depth >= self.limit {
             return Err(tokens.refuse(Reason::TooDeep));
         }
         Ok(Deep {
-            expression,
+            expression: x,
             depth: depth + 1,
         })
     }

@@ -11,7 +11,7 @@ use Rattle.tera_syntax_expressions.proofs.reader.Reader.items.Goals.{After-large
 use Rattle.tera_syntax_expressions.proofs.reader.Reader.items.Goals as goal
 
 -- an item was read behind those that were found: what the loop stands for is what is behind it
-behind-item : (g : Over) (c : After-larger-depth g) → Behind (items_from c.args.self.now.limit (expr c.args.self.now.below) (left (input c.args.tokens.now)) (items_of c.args.found.items) c.args.depth (input c.args.tokens.now)) RightBracket
+behind-item : (g : Over) (c : After-larger-depth g) → Behind (items_from c.args.self.now.limit (expr c.args.self.now.below) (left (input c.args.tokens.now)) (items_of c.args.all.items) c.args.depth (input c.args.tokens.now)) RightBracket
     (λ (p : Items × ℕ). items_from c.args.self.now.limit (expr c.args.self.now.below) (c.left-turn-end.result - (c.loop-turn._turn + 1)) p.0 p.1) (items_of c.item.new.found.items, c.larger-depth.result) (input c.item.new.tokens)
 behind-item g c =
     let x = c.in-Ok.ensures in

@@ -1,0 +1,49 @@
+// Rows of parts with commas between.
+ghost use Rattle.tera_syntax_tokens.specs.Prelude.{Takes, input};
+ghost use Rattle.tera_syntax_expressions.specs.Commas.{comma_or};
+
+use tera_syntax_tokens::input::{Tokens, same};
+use tera_syntax_tokens::refusal::Refusal;
+use tera_syntax_tokens::token::Kind;
+
+/// Parts with commas between, and one behind the last at will, up to the token that closes: all that were found, and how deep
+/// the deepest is. Each turn reads a part, puts it among the others and tells how deep it is.
+macro_rules! between_commas {
+    ($tokens:ident, $closing:expr, $read:expr; $found:ident = $none:expr, $depth:ident = $least:expr) => {{
+        let mut $found = $none;
+        let mut $depth = $least;
+        for _turn in 0..$tokens.left() {
+            if same($closing, $tokens.kind()) {
+                $tokens.take();
+                return Ok(($found, $depth));
+            }
+            let x = match $read {
+                Ok(x) => x,
+                Err(refusal) => return Err(refusal),
+            };
+            $depth = larger($depth, x);
+            match take_comma($tokens, $closing) {
+                Ok(true) => {}
+                Ok(false) => return Ok(($found, $depth)),
+                Err(refusal) => return Err(refusal),
+            }
+        }
+        Err($tokens.refuse(Reason::Expected($closing)))
+    }};
+}
+
+pub(crate) use between_commas;
+
+/// Takes the comma behind a part, and otherwise what closes: whether it was a comma.
+#[inline(always)]
+#[tactic(auto, unfolding(crate::specs::Commas::comma_or))]
+pub(crate) fn take_comma(tokens: &mut Tokens<'_, '_>, closing: Kind) -> Result<bool, Refusal>
+    ensures { Takes (λ more. more) (comma_or closing (input tokens.old)) result tokens.new }
+{
+    if same(Kind::Comma, tokens.kind()) {
+        tokens.take();
+        return Ok(true);
+    }
+    tokens.expect(closing)?;
+    Ok(false)
+}

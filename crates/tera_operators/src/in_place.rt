@@ -1,5 +1,5 @@
 // The small calculations: with two integers, done where the left operand lies.
-ghost use Rattle.std.specs.Prelude.{◌≡◌, ◌*ℤ◌, Ok, IfSome};
+ghost use Rattle.std.specs.Prelude.{◌≡◌, ◌*ℤ◌, ◌<ℤ◌, pos, Ok, IfSome};
 ghost use Rattle.std.specs.Bool.{OnFalse, OnTrue};
 ghost use Rattle.tera_errors.specs.Prelude.{Name};
 ghost use Rattle.tera_errors.specs.declared.span.Span.{Span};
@@ -56,20 +56,14 @@ fn made(operator: BinaryOperator, a: i128, b: i128) -> Option<Value>
 fn sum(a: i128, b: i128) -> Option<Value>
     ensures { IfSome result (λ v. sum a b ≡ Ok v) }
 {
-    match a.checked_add(b) {
-        Some(number) => Some(Value::from_int(number)),
-        None => None,
-    }
+    Some(Value::from_int(a.checked_add(b)?))
 }
 
 #[inline(always)]
 fn difference(a: i128, b: i128) -> Option<Value>
     ensures { IfSome result (λ v. difference a b ≡ Ok v) }
 {
-    match a.checked_sub(b) {
-        Some(number) => Some(Value::from_int(number)),
-        None => None,
-    }
+    Some(Value::from_int(a.checked_sub(b)?))
 }
 
 /// The product of two numbers that a machine word holds each; none of larger ones, which take more than one step.
@@ -96,10 +90,8 @@ fn word_product(a: i64, b: i64) -> i128
 fn small_quotient(a: i128, b: i128) -> Option<Value>
     ensures { IfSome result (λ v. quotient a b ≡ Ok v) }
 {
-    match (i64::try_from(a), i64::try_from(b)) {
-        (Ok(a), Ok(b)) if b > 0 => Some(Value::from_int(a.div_euclid(b) as i128)),
-        _ => None,
-    }
+    let (a, b) = dividable(a, b)?;
+    Some(Value::from_int(a.div_euclid(b) as i128))
 }
 
 /// Euclid's remainder of two numbers that a machine word holds each, by a positive one; none of others.
@@ -107,8 +99,17 @@ fn small_quotient(a: i128, b: i128) -> Option<Value>
 fn small_remainder(a: i128, b: i128) -> Option<Value>
     ensures { IfSome result (λ v. remainder a b ≡ Ok v) }
 {
+    let (a, b) = dividable(a, b)?;
+    Some(Value::from_int(a.rem_euclid(b) as i128))
+}
+
+// Both numbers, where a machine word holds each and the second is positive.
+#[inline(always)]
+fn dividable(a: i128, b: i128) -> Option<(i64, i64)>
+    ensures { IfSome result (λ words. (words.0 ≡ a) × (words.1 ≡ b) × (pos 0 <ℤ b)) }
+{
     match (i64::try_from(a), i64::try_from(b)) {
-        (Ok(a), Ok(b)) if b > 0 => Some(Value::from_int(a.rem_euclid(b) as i128)),
+        (Ok(a), Ok(b)) if b > 0 => Some((a, b)),
         _ => None,
     }
 }

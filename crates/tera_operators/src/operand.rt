@@ -145,10 +145,7 @@ impl<'v> LentOperand<'v> {
     pub fn is_truthy(&self) -> bool
         ensures { result ≡ truthy self.now.value }
     {
-        match self.value {
-            Some(value) => value.is_truthy(),
-            None => false,
-        }
+        matches!(self.value, Some(value) if value.is_truthy())
     }
 
     /// An operand of its own. Only what is not in shared form is copied.

@@ -25,25 +25,25 @@ pub fn write_value<E: EscapeFn>(
     if !escaping.autoescape || value.is_safe() {
         return value.print_to(out);
     }
-    write_escaped(alloc, escaping, value, out)
+    write_escaped(alloc, escaping.escape, value, out)
 }
 
 // The printed text of a value, escaped.
 fn write_escaped<E: EscapeFn>(
     alloc: Global,
-    escaping: Escaping<'_, E>,
+    escape: &E,
     value: &Value,
     out: &mut String,
 ) -> Result<(), AllocError>
     ensures ok { OnOk result (string_bytes out.new ≡ string_bytes out.old
-        ++ (escaping_of E.escaped escaping.entry).escape (printed value.now)) }
+        ++ E.escaped escape.now (printed value.now)) }
     ensures err { OnErr result (string_bytes out.new ≡ string_bytes out.old) }
 {
     match value.as_str() {
-        Some(text) => lacking(escaping.escape.escape(text, out)),
+        Some(text) => lacking(escape.escape(text, out)),
         None => {
             let text = lacking(value.printed(alloc))?;
-            lacking(escaping.escape.escape(text.as_str(), out))
+            lacking(escape.escape(text.as_str(), out))
         }
     }
 }

@@ -34,13 +34,17 @@ abbrev pub names_of : Heading → Option Item → Bindings
 names_of h None = []
 names_of h (Some i) = named_item h.key h.name i
 
+-- the names that the loop binds at its turn, and what it counts there
+abbrev pub names_at : ForLoop → Bindings
+names_at l = names_of (heading_of l) (item_at l)
+
 abbrev pub counters_of : ForLoop → Bindings
 counters_of l = cond l.counts (counters (length (items_of l)) l.index) []
 
 -- the turn that the loop is at, with what was set in it
 abbrev pub turn_of : Bindings → ForLoop → Turn
 turn_of sets l =
-    record { counters = counters_of l; sets = sets; names = names_of (heading_of l) (item_at l) }
+    record { counters = counters_of l; sets = sets; names = names_at l }
 
 -- the turns that are still to come
 abbrev pub to_come : ForLoop → List Turn

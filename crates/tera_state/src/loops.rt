@@ -6,7 +6,7 @@ ghost use Rattle.tera_state.specs.Found.{found_value};
 ghost use Rattle.tera_state.specs.Items.{items_in};
 ghost use Rattle.tera_state.specs.Lending.{items_left};
 ghost use Rattle.tera_state.specs.Scope.{loop_turns};
-ghost use Rattle.tera_state.specs.Opened.{items_of, item_at, heading, heading_of, names_of, items_over, turns_left, counters_of, GoesOn};
+ghost use Rattle.tera_state.specs.Opened.{items_of, heading, names_at, items_over, turns_left, counters_of, GoesOn};
 
 use crate::found::Found;
 use crate::items::{ForLoopIterator, gone_over, key_at, size_of, value_at};
@@ -124,8 +124,7 @@ impl ForLoop {
     /// The value and the key of the turn, by their names. Takes no memory.
     #[inline(always)]
     pub fn named(&self, name: &Sought<'_>) -> Found<'_>
-        ensures { found_value result
-            ≡ at_name name.now (names_of (heading_of self.now) (item_at self.now)) }
+        ensures { found_value result ≡ at_name name.now (names_at self.now) }
     {
         if name.is(&self.name) {
             return value_at(&self.items, self.index);

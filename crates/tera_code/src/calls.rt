@@ -116,23 +116,7 @@ impl Compiler {
         let names = argument_names(self.alloc(), arguments)?;
         let name = LentName::new(&name);
         let arguments = Names::new(names.as_slice());
-        self.emit(match kind {
-            CallKind::Filter => Instruction::ApplyFilter {
-                name,
-                arguments,
-                span,
-            },
-            CallKind::Test => Instruction::ApplyTest {
-                name,
-                arguments,
-                span,
-            },
-            CallKind::Function => Instruction::CallFunction {
-                name,
-                arguments,
-                span,
-            },
-        })
+        self.emit(kind.instruction(name, arguments, span))
     }
 
     pub(crate) fn take_component(

@@ -15,6 +15,7 @@ use crate::lent::LentInstruction;
 use crate::packed::{Packed, Tables};
 use crate::reference::Reference;
 use crate::room::Room;
+use crate::seen::Seen;
 use crate::steps::Steps;
 use std::alloc::{AllocError, Global};
 use std::marker::Model;
@@ -237,13 +238,12 @@ impl Chunk {
     #[inline(always)]
     pub(crate) fn emit(
         &mut self,
-        alloc: Global,
-        seen: &mut [u32; 251],
+        seen: &mut Seen,
         instruction: Instruction<'_>,
     ) -> Result<(), AllocError>
         ensures { OnOk result (self.new ≡ lengthened self.old (instruction.entry ∷ [])) }
     {
-        let packed = self.tables.pack(alloc, seen, instruction)?;
+        let packed = self.tables.pack(seen, instruction)?;
         self.code.push(packed)?;
         Ok(())
     }
@@ -265,15 +265,14 @@ impl Chunk {
     #[inline(always)]
     pub(crate) fn emit_name(
         &mut self,
-        alloc: Global,
-        seen: &mut [u32; 251],
-        name: &Sought<'_>,
+        seen: &mut Seen,
+        name: Sought<'_>,
         span: Span,
     ) -> Result<(), AllocError>
         ensures { OnOk result
-            (self.new ≡ lengthened self.old (instruction.WriteName name.now span ∷ [])) }
+            (self.new ≡ lengthened self.old (instruction.WriteName name.entry span ∷ [])) }
     {
-        let packed = self.tables.written_name(alloc, seen, name, span)?;
+        let packed = self.tables.written_name(seen, &name, span)?;
         self.code.push(packed)?;
         Ok(())
     }
@@ -292,15 +291,14 @@ impl Chunk {
     #[inline(always)]
     pub(crate) fn fill(
         &mut self,
-        alloc: Global,
-        seen: &mut [u32; 251],
+        seen: &mut Seen,
         place: usize,
         instruction: Instruction<'_>,
     ) -> Result<(), AllocError>
         requires { place < length self.old.code }
         ensures { OnOk result (self.new ≡ filled place instruction.entry self.old) }
     {
-        let packed = self.tables.pack(alloc, seen, instruction)?;
+        let packed = self.tables.pack(seen, instruction)?;
         self.code[place] = packed;
         Ok(())
     }

@@ -10,6 +10,7 @@ use crate::chunk::Chunk;
 use crate::constant::Constant;
 use crate::instruction::Instruction;
 use crate::room::Room;
+use crate::seen::Seen;
 use std::alloc::{AllocError, Global};
 use std::marker::Model;
 use tera_errors::lacking;
@@ -19,10 +20,8 @@ use tera_values::{Name, Sought, Span, Value};
 /// Writes the instructions of one body. A contract sees those that are written so far.
 #[derive(Drop)]
 pub struct Compiler {
-    alloc: Global,
     chunk: Chunk,
-    // where names of a kind were found last
-    seen: [u32; 251],
+    seen: Seen,
 }
 
 impl Model for Compiler {
@@ -46,9 +45,8 @@ impl Compiler {
     {
         let file = lacking(Name::new(alloc, file))?;
         Ok(Compiler {
-            alloc,
             chunk: Chunk::new(alloc, file),
-            seen: [0; 251],
+            seen: Seen::new(alloc),
         })
     }
 
@@ -56,23 +54,19 @@ impl Compiler {
     pub fn into_chunk(self) -> Chunk
         ensures { result ≡ self }
     {
-        let Compiler {
-            alloc: _,
-            chunk,
-            seen: _,
-        } = self;
+        let Compiler { chunk, seen: _ } = self;
         chunk
     }
 
     pub(crate) fn alloc(&self) -> Global {
-        self.alloc
+        self.seen.alloc
     }
 
     // A name of its own, which an instruction lends where it is emitted.
     pub(crate) fn name(&self, name: &str) -> Result<Name, AllocError>
         ensures { IfOk result (λ n. n ≡ name.now) }
     {
-        lacking(Name::new(self.alloc, name))
+        lacking(Name::new(self.seen.alloc, name))
     }
 
     // So that what is written moves less often as it grows.
@@ -86,7 +80,7 @@ impl Compiler {
     pub(crate) fn emit(&mut self, instruction: Instruction<'_>) -> Result<(), AllocError>
         ensures ok { OnOk result (self.new ≡ lengthened self.old (instruction.entry ∷ [])) }
     {
-        self.chunk.emit(self.alloc, &mut self.seen, instruction)
+        self.chunk.emit(&mut self.seen, instruction)
     }
 
     #[inline(always)]
@@ -103,7 +97,7 @@ impl Compiler {
             (self.new ≡ lengthened self.old (instruction.WriteName name.now span ∷ [])) }
     {
         self.chunk
-            .emit_name(self.alloc, &mut self.seen, &Sought::new(name), span)
+            .emit_name(&mut self.seen, Sought::new(name), span)
     }
 
     // The array of these items, which are loaded already.
@@ -144,8 +138,7 @@ impl Compiler {
         requires { place < length self.old.code }
         ensures ok { OnOk result (self.new ≡ filled place instruction.entry self.old) }
     {
-        self.chunk
-            .fill(self.alloc, &mut self.seen, place, instruction)
+        self.chunk.fill(&mut self.seen, place, instruction)
     }
 
     #[inline(always)]

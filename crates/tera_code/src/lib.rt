@@ -21,6 +21,7 @@ mod packed;
 mod parts;
 pub mod reference;
 mod room;
+mod seen;
 pub mod steps;
 mod unpack;
 

@@ -13,7 +13,7 @@ use crate::content::{Keys, Text};
 use crate::instruction::Instruction;
 use std::alloc::{AllocError, Global};
 use tera_errors::lacking;
-use tera_syntax_tree::{Entry, Item, LiteralKey, OwnedKey};
+use tera_syntax_tree::{Entry, Item, LiteralKey, OwnedKey, Quoted};
 use tera_values::{Sought, Span, Value};
 
 impl Compiler {
@@ -116,16 +116,22 @@ fn owned(alloc: Global, key: &Option<LiteralKey<'_>>) -> Result<Option<OwnedKey>
     }
 }
 
+// The key with a text of its own, like the other's.
 pub(crate) fn copied(alloc: Global, key: &Option<OwnedKey>) -> Result<Option<OwnedKey>, AllocError>
     ensures { IfOk result (λ k. key_option k ≡ key_option key.now) }
 {
+    let key = lent(key);
+    owned(alloc, &key)
+}
+
+// The key with the same text, which is not copied.
+fn lent(key: &Option<OwnedKey>) -> Option<LiteralKey<'_>>
+    ensures { literal_option result ≡ key_option key.now }
+{
     match key {
-        None => Ok(None),
-        Some(OwnedKey::Bool(flag)) => Ok(Some(OwnedKey::Bool(*flag))),
-        Some(OwnedKey::Int(number)) => Ok(Some(OwnedKey::Int(*number))),
-        Some(OwnedKey::Text(text)) => {
-            let text = String::from_str(alloc, text.as_str())?;
-            Ok(Some(OwnedKey::Text(text)))
-        }
+        None => None,
+        Some(OwnedKey::Bool(flag)) => Some(LiteralKey::Bool(*flag)),
+        Some(OwnedKey::Int(number)) => Some(LiteralKey::Int(*number)),
+        Some(OwnedKey::Text(text)) => Some(LiteralKey::Text(Quoted::Lent(text.as_str()))),
     }
 }

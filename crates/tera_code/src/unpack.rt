@@ -1,8 +1,10 @@
 // What packed instructions mean.
-ghost use Rattle.std.specs.Prelude.{◌≡◌, ◌<◌, ◌≤◌, ◌-◌, length, take, drop, string_bytes};
+ghost use Rattle.std.specs.Prelude.{◌≡◌, ◌<◌, ◌≤◌, ◌-◌, [], get_or, length, take, drop, string_bytes};
 ghost use Rattle.std.specs.Str.{IsCharBoundary};
+ghost use Rattle.tera_code.specs.Calls.{call_of};
 ghost use Rattle.tera_code.specs.Packed.{Within, shelf_of, span_at, name_at, call_at, loop_at, reference_at, constant_of, unpacked};
 
+use crate::call_kind::CallKind;
 use crate::constant::Constant;
 use crate::content::{Keys, LentName, Names, Spreads, Text};
 use crate::instruction::Instruction;
@@ -101,6 +103,30 @@ impl Tables {
         Names::new(self.calls[number as usize].arguments.as_slice())
     }
 
+    // The instruction that calls by the name, and with the arguments, that stand at this place.
+    #[inline(always)]
+    fn call_of(&self, kind: CallKind, call: u32, span: u32) -> Instruction<'_>
+        requires call { call < length self.now.calls.items }
+        requires span { span < length self.now.spans.items }
+        ensures { result ≡ call_of kind (call_at (shelf_of self.now) call).0
+            (call_at (shelf_of self.now) call).1 (span_at (shelf_of self.now) span) }
+    {
+        kind.instruction(
+            self.called_name(call),
+            self.argument_names(call),
+            self.span(span),
+        )
+    }
+
+    // The keys of a map, or of a component's attributes.
+    #[inline(always)]
+    fn lent_keys(&self, number: u32) -> Keys<'_>
+        requires { number < length self.now.keys.items }
+        ensures { result ≡ get_or (shelf_of self.now).keys number [] }
+    {
+        Keys::new(self.keys[number as usize].as_slice())
+    }
+
     #[inline(always)]
     pub(crate) fn text_between(&self, start: u32, end: u32) -> &str
         requires order { start ≤ end }
@@ -159,8 +185,7 @@ impl Tables {
                 Instruction::MakeArray(Spreads::new(spreads), self.span(span))
             }
             Packed::MakeMap { keys, span } => {
-                let keys = &self.keys[keys as usize];
-                Instruction::MakeMap(Keys::new(keys.as_slice()), self.span(span))
+                Instruction::MakeMap(self.lent_keys(keys), self.span(span))
             }
             Packed::Store { name, is_global } => Instruction::Store {
                 name: LentName::new(self.whole_name(name)),
@@ -204,34 +229,19 @@ impl Tables {
                 reference,
                 keys,
                 span,
-            } => {
-                let keys = &self.keys[keys as usize];
-                Instruction::TakeComponent {
-                    name: self.reference(reference),
-                    keys: Keys::new(keys.as_slice()),
-                    has_body,
-                    span: self.span(span),
-                }
-            }
+            } => Instruction::TakeComponent {
+                name: self.reference(reference),
+                keys: self.lent_keys(keys),
+                has_body,
+                span: self.span(span),
+            },
             Packed::TakeAbove { span, arguments } => Instruction::TakeAbove {
                 arguments,
                 span: self.span(span),
             },
-            Packed::ApplyFilter { call, span } => Instruction::ApplyFilter {
-                name: self.called_name(call),
-                arguments: self.argument_names(call),
-                span: self.span(span),
-            },
-            Packed::ApplyTest { call, span } => Instruction::ApplyTest {
-                name: self.called_name(call),
-                arguments: self.argument_names(call),
-                span: self.span(span),
-            },
-            Packed::CallFunction { call, span } => Instruction::CallFunction {
-                name: self.called_name(call),
-                arguments: self.argument_names(call),
-                span: self.span(span),
-            },
+            Packed::ApplyFilter { call, span } => self.call_of(CallKind::Filter, call, span),
+            Packed::ApplyTest { call, span } => self.call_of(CallKind::Test, call, span),
+            Packed::CallFunction { call, span } => self.call_of(CallKind::Function, call, span),
         }
     }
 }

@@ -4,7 +4,7 @@ use Rattle.tera_code.proofs.chunk.Chunk.emit_name.Goals as goal
 
 pub invariant_of-self-2 : goal.invariant_of-self-2
 invariant_of-self-2 c =
-    all_grow c.self.inside.tables c.written_name.new.self c.in_ok-packed.ensures.grows c.self.inside.code.items c.self.invariant _ _ (instruction.WriteName c.args.name.now c.args.span) c.in_ok-packed.ensures.ok c.in_ok-push.ensures.items
+    all_grow c.self.inside.tables c.written_name.new.self c.in_ok-packed.ensures.grows c.self.inside.code.items c.self.invariant _ _ (instruction.WriteName c.args.name c.args.span) c.in_ok-packed.ensures.ok c.in_ok-push.ensures.items
 
 pub returns : goal.returns
 returns c =

@@ -81,11 +81,12 @@ pub next-ancestors : (r : Registry) (t v : Entry) (next : ℕ) → parents r t �
 next-ancestors r t v next ok above at = next-above r t v above.0 ok above.1 (above.2.0 ∙ at)
 
 -- it has one parent less
-pub fewer : (r : Registry) (t v : Entry) (last next : ℕ) → slice_get r.templates last ≡ Some t → slice_get r.templates next ≡ Some v → ancestors r t ≡ v ∷ ancestors r v → length (ancestors_at r (slice_get r.templates next)) < length (ancestors_at r (slice_get r.templates last))
-fewer r t v last next t_at v_at e =
-    let a : length (ancestors_at r (slice_get r.templates next)) ≡ length (ancestors r v) = ap (λ o. length (ancestors_at r o)) v_at in
+pub fewer : (r : Registry) (t : Entry) (last next : ℕ) → slice_get r.templates last ≡ Some t → parents r t ≡ Ok (ancestors r t) → IsUp r (which.At next) t.1.tree.parent → length (ancestors_at r (slice_get r.templates next)) < length (ancestors_at r (slice_get r.templates last))
+fewer r t last next t_at ok above =
+    let v = element r.templates next above.2.1 in
+    let a : length (ancestors_at r (slice_get r.templates next)) ≡ length (ancestors r v.0) = ap (λ o. length (ancestors_at r o)) v.1 in
     let b : length (ancestors_at r (slice_get r.templates last)) ≡ length (ancestors r t) = ap (λ o. length (ancestors_at r o)) t_at in
-    let c : length (ancestors r t) ≡ suc (length (ancestors r v)) = ap length e in
+    let c : length (ancestors r t) ≡ suc (length (ancestors r v.0)) = ap length (next-ancestors r t v.0 next ok above v.1) in
     omega (arith, a, b, c)
 
 -- Templates without a fault have all their parents.

@@ -17,6 +17,9 @@ use Rattle.tera_syntax_tree.specs.Tree.{Nodes}
 use Rattle.tera_syntax_tree.specs.View.{node_of, nodes_of}
 use Rattle.tera_syntax_tree.specs.Includes.{includes, node_includes}
 use Rattle.tera_syntax_tree.specs.Blocks.{top_blocks, node_top_blocks}
+use Rattle.tera_registry.specs.declared.naming.Naming.{Naming}
+use Rattle.tera_registry.specs.declared.naming.Naming.TheVariants as naming
+use Rattle.tera_registry.specs.Naming.{named, node_named}
 use Rattle.tera_syntax_tree.proofs.Views.{view_block, view_capture, view_component_call, view_definition, view_for, view_if, view_section}
 
 abbrev found_by_both : tree.Node → List site.Name × List site.Name
@@ -63,3 +66,15 @@ pub in_both : (node : Node) (body other : Vec Node Global) → ((x : Box Express
     → (includes (nodes_of body.items) ++ includes (nodes_of other.items), top_blocks (nodes_of body.items) ++ top_blocks (nodes_of other.items)) ≡ found_by_both (node_of node)
 in_both node body other (inl p) = ap found_by_both (sym (ap node_of p.1 ∙ view_if p.0 body other))
 in_both node body other (inr p) = ap found_by_both (sym (ap node_of p.1 ∙ view_for p.0 body other))
+
+-- each walk by itself
+pub named_in_body : (walk : Naming) (node : Node) (body : Vec Node Global) → HasBody node body → named walk (nodes_of body.items) ≡ node_named walk (node_of node)
+named_in_body naming.Includes node body p = ap (λ x. x.0) (in_body node body p)
+named_in_body naming.TopBlocks node body p = ap (λ x. x.1) (in_body node body p)
+
+pub named_in_block : (walk : Naming) (node : Node) (name : Bor (List ℕ)) (body : Vec Node Global) (span : Span) → walk ≡ naming.Includes → node ≡ variant.Block name body span → named walk (nodes_of body.items) ≡ node_named walk (node_of node)
+named_in_block walk node name body span is e = rw is (includes_in_body node body (inl (name, span, e)))
+
+pub named_in_both : (walk : Naming) (node : Node) (body other : Vec Node Global) → ((x : Box Expression Global) × (node ≡ variant.If x body other)) ⊎ ((x : Box Heading Global) × (node ≡ variant.For x body other)) → named walk (nodes_of body.items) ++ named walk (nodes_of other.items) ≡ node_named walk (node_of node)
+named_in_both naming.Includes node body other p = ap (λ x. x.0) (in_both node body other p)
+named_in_both naming.TopBlocks node body other p = ap (λ x. x.1) (in_both node body other p)

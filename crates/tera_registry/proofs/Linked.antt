@@ -74,6 +74,10 @@ ups-inside r ups a = record {
       omega (arith, a.as_many, above.2.1));
 }
 
+pub next-inside : (ups : List Up) (i next : ℕ) → Inside ups → i < length ups → get_or ups i up.Nothing ≡ up.At next → next < length ups
+next-inside ups i next a lt is =
+    a.inside i next (slice_get-get_or ups i up.Nothing lt ∙ ap Some is)
+
 -- a template, and what it extends
 pub up-there : (r : Registry) (ups : List Up) (i : ℕ) (u : Up) → AreUps r ups (length r.templates) → i < length ups → get_or ups i up.Nothing ≡ u → (t : Entry) × (slice_get r.templates i ≡ Some t) × IsUp r u t.1.tree.parent
 up-there r ups i u a lt is =

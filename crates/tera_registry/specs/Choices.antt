@@ -9,6 +9,8 @@ use Rattle.tera_meaning.specs.Registry.{Entry, Registry}
 use Rattle.tera_meaning.specs.Components.{priority, has_a_tie}
 use Rattle.tera_registry.specs.First.{IsFirstOne}
 use Rattle.tera_registry.specs.declared.choices.Choice.{Choice}
+use Rattle.tera_registry.specs.declared.components.Component.{Component}
+use Rattle.tera_registry.specs.Components.{kept_names}
 
 -- what stands at a name
 abbrev pub chosen : BTreeMap (String Global) Choice Global → Name → Option Choice
@@ -38,6 +40,10 @@ abbrev pub chosen_in : Name → ℕ → ℕ → ℕ → List Name → Option Cho
 chosen_in name place p k [] old = old
 chosen_in name place p k (n ∷ ns) old =
     chosen_in name place p (suc k) ns (if bytes_eq name n then better_choice old (record { template = place; component = k; priority = p }) else old)
+
+-- what is taken of a name after all these components of the template at a place
+abbrev pub chosen_among : Name → ℕ → ℕ → List Component → Option Choice → Option Choice
+chosen_among name place p components = chosen_in name place p 0 (kept_names components)
 
 -- what is taken of a name after these templates, the first of which stands at this place
 abbrev pub chosen_from : Registry → Name → ℕ → List Entry → Option Choice → Option Choice

@@ -5,6 +5,7 @@ pub mod Kept
 pub mod Components
 pub mod Choices
 pub mod Known
+pub mod Naming
 pub mod Needs
 pub mod Batch
 pub mod Put

@@ -1,7 +1,10 @@
 -- The table of links while it is made.
-use Rattle.std.specs.Prelude.{List}
+use Rattle.std.specs.Prelude.{List, Option, IfSome, String}
+use Rattle.std.specs.declared.alloc.Global.{Global}
+use Rattle.std.specs.declared.collections.BTreeMap.{BTreeMap}
 use Rattle.tera_errors.specs.Site.{Name}
 use Rattle.tera_meaning.specs.Registry.{Registry}
+use Rattle.tera_registry.specs.declared.choices.Choice.{Choice}
 use Rattle.tera_registry.specs.declared.links.Destination.{Destination}
 use Rattle.tera_registry.specs.declared.links.Link.{Link}
 use Rattle.tera_registry.specs.declared.links.LinkTable.{LinkTable}
@@ -20,3 +23,8 @@ AreLinks to = AreRight (seen to.templates.now to.prefixes.now) to.choices.now
 -- and so are all in this table
 abbrev pub AreTables : Targets → LinkTable → Type 0
 AreTables to table = AreAllRight (seen to.templates.now to.prefixes.now) to.choices.now table.bodies.items
+
+-- Where all links of a table are right, what is found of a name in it, if something is, is where the name leads.
+abbrev pub FoundLeads : {X : Type 0} → (X → Destination) → LinkTable → Name → Option X → Type 0
+FoundLeads to table name found =
+    (r : Registry) (choices : BTreeMap (String Global) Choice Global) → AreAllRight r choices table.bodies.items → IfSome found (λ x. LeadsTo r choices name (to x))

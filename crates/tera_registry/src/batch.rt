@@ -12,9 +12,9 @@ ghost use Rattle.tera_registry.specs.Kept.{entry_of, entries_of};
 ghost use Rattle.tera_registry.specs.Needs.{needs_of};
 
 use crate::components::{Component, components};
-use crate::includes::includes;
 use crate::meant::Meant;
 use crate::names::put;
+use crate::naming::{Naming, names_in};
 use crate::needs::{Need, needs};
 use crate::template::Template;
 use crate::tops::top_blocks;
@@ -136,7 +136,7 @@ fn assembled(
         needs,
     } = code;
     let tops = top_blocks(alloc, nodes)?;
-    let includes = includes(alloc, nodes)?;
+    let includes = names_in(alloc, Naming::Includes, nodes)?;
     let free = free(alloc, nodes)?;
     Ok(Template {
         name: String::from_str(alloc, name)?,

@@ -3,8 +3,7 @@ ghost use Rattle.std.specs.Prelude.{◌≡◌, OnOk, IfOk, bytes_eq, Option, if�
 ghost use Rattle.std.specs.List.{list_any};
 ghost use Rattle.std.specs.Option.{option_or};
 ghost use Rattle.tera_errors.specs.Prelude.{Name};
-ghost use Rattle.tera_registry.specs.Choices.{chosen, improves, better_choice, is_tied, chosen_in, AreChosen, IsFirstTie};
-ghost use Rattle.tera_registry.specs.Components.{kept_names};
+ghost use Rattle.tera_registry.specs.Choices.{chosen, improves, better_choice, is_tied, chosen_among, AreChosen, IsFirstTie};
 ghost use Rattle.tera_registry.specs.Kept.{seen};
 
 use crate::priority::priority;
@@ -84,7 +83,7 @@ fn choose_all(
     priority: usize,
 ) -> Result<(), AllocError>
     ensures { OnOk result ((q : Name) → chosen taken.new q
-        ≡ chosen_in q place priority 0 (kept_names of.now.components.items) (chosen taken.old q)) }
+        ≡ chosen_among q place priority of.now.components.items (chosen taken.old q)) }
 {
     for number in 0..of.components.len() {
         let choice = Choice {

@@ -1,24 +1,20 @@
 // What the references of code lead to, found once when templates are linked.
-ghost use Rattle.std.specs.Prelude.{◌≡◌, [], OnOk, IfOk, IfErr, IfSome, String};
-ghost use Rattle.std.specs.declared.alloc.Global.{Global};
-ghost use Rattle.std.specs.declared.collections.BTreeMap.{BTreeMap};
+ghost use Rattle.std.specs.Prelude.{◌≡◌, [], OnOk, IfOk, IfErr, IfSome};
 ghost use Rattle.tera_errors.specs.Prelude.{Lacks};
-ghost use Rattle.tera_meaning.specs.Prelude.{Registry};
-ghost use Rattle.tera_registry.specs.declared.choices.Choice.{Choice};
-ghost use Rattle.tera_registry.specs.References.{LeadsTo, AreAllRight};
-ghost use Rattle.tera_registry.specs.LinkTable.{LeadsThere, AreLinks, AreTables};
+ghost use Rattle.tera_registry.specs.References.{AreAllRight};
+ghost use Rattle.tera_registry.specs.LinkTable.{FoundLeads, LeadsThere, AreLinks, AreTables};
 ghost use Rattle.tera_registry.specs.declared.links.Destination.TheVariants as destination;
 ghost use Rattle.tera_registry.specs.Order.{Rises};
 ghost use Rattle.tera_registry.specs.Kept.{entries_of, seen};
 
 use crate::choices::Choice;
-use crate::components::Component;
+use crate::has_body::HasBody;
 use crate::names::resolve;
 use crate::template::Template;
 use std::alloc::Global;
 use std::collections::BTreeMap;
 use std::rc::Rc;
-use tera_code::{Block, Chunk, Reference};
+use tera_code::{Chunk, Reference};
 use tera_errors::TeraResult;
 use tera_values::Name;
 
@@ -96,9 +92,7 @@ impl LinkTable {
 
     // The link at this number of the body, if it is one for this name.
     fn link(&self, name: &Name, home: Home, number: usize) -> Option<Destination>
-        ensures { (r : Registry) (choices : BTreeMap (String Global) Choice Global)
-            → AreAllRight r choices self.now.bodies.items
-            → IfSome result (λ to. LeadsTo r choices name.now to) }
+        ensures { FoundLeads (λ to. to) self.now name.now result }
     {
         let links = self.bodies.get(home.body)?;
         let link = links.get(number)?;
@@ -111,9 +105,7 @@ impl LinkTable {
 
     /// The place of the template to which the name of a reference leads, as far as it is linked.
     pub fn place(&self, name: &Name, home: Home, number: usize) -> Option<usize>
-        ensures { (r : Registry) (choices : BTreeMap (String Global) Choice Global)
-            → AreAllRight r choices self.now.bodies.items
-            → IfSome result (λ place. LeadsTo r choices name.now (destination.Template place)) }
+        ensures { FoundLeads destination.Template self.now name.now result }
     {
         match self.link(name, home, number) {
             Some(Destination::Template(place)) => Some(place),
@@ -123,9 +115,7 @@ impl LinkTable {
 
     /// What is taken of the component to which the name of a reference leads, as far as it is linked.
     pub fn choice(&self, name: &Name, home: Home, number: usize) -> Option<Choice>
-        ensures { (r : Registry) (choices : BTreeMap (String Global) Choice Global)
-            → AreAllRight r choices self.now.bodies.items
-            → IfSome result (λ taken. LeadsTo r choices name.now (destination.Component taken)) }
+        ensures { FoundLeads destination.Component self.now name.now result }
     {
         match self.link(name, home, number) {
             Some(Destination::Component(choice)) => Some(choice),
@@ -175,33 +165,15 @@ impl<'t> Targets<'t> {
 }
 
 impl LinkTable {
-    // Puts the links of blocks behind those of other bodies.
-    fn add_blocks(&mut self, alloc: Global, to: &Targets<'_>, blocks: &[Block]) -> TeraResult<()>
+    // Puts the links of the body of each behind those of other bodies.
+    fn add_all<B: HasBody>(&mut self, alloc: Global, to: &Targets<'_>, all: &[B]) -> TeraResult<()>
         requires rises { Rises (entries_of to.now.templates.now) }
         requires right { AreTables to.now self.old }
         ensures right { OnOk result (AreTables to.now self.new) }
         ensures lacks { IfErr result Lacks }
     {
-        for block in blocks {
-            self.bodies.push(to.links(alloc, &block.code)?)?;
-        }
-        Ok(())
-    }
-
-    // The same for those of components.
-    fn add_components(
-        &mut self,
-        alloc: Global,
-        to: &Targets<'_>,
-        components: &[Component],
-    ) -> TeraResult<()>
-        requires rises { Rises (entries_of to.now.templates.now) }
-        requires right { AreTables to.now self.old }
-        ensures right { OnOk result (AreTables to.now self.new) }
-        ensures lacks { IfErr result Lacks }
-    {
-        for component in components {
-            self.bodies.push(to.links(alloc, &component.code)?)?;
+        for one in all {
+            self.bodies.push(to.links(alloc, one.body())?)?;
         }
         Ok(())
     }
@@ -215,8 +187,8 @@ impl LinkTable {
     {
         self.starts.push(self.bodies.len())?;
         self.bodies.push(to.links(alloc, &template.body)?)?;
-        self.add_blocks(alloc, to, template.blocks.as_slice())?;
-        self.add_components(alloc, to, template.components.as_slice())
+        self.add_all(alloc, to, template.blocks.as_slice())?;
+        self.add_all(alloc, to, template.components.as_slice())
     }
 }
 

@@ -9,6 +9,7 @@ ghost use Rattle.tera_registry.specs.Components.{kept_of, kept_all};
 ghost use Rattle.tera_registry.specs.Needs.{is_built_in, as_need, callee_needed, needed_by, needs_of, code_needs, bodies_need};
 
 use crate::components::Component;
+use crate::has_body::HasBody;
 use std::alloc::Global;
 use tera_built_ins::{BuiltInFilter, BuiltInFunction, BuiltInTest};
 use tera_code::{Block, Callee, Chunk};
@@ -91,30 +92,13 @@ fn add_needs(alloc: Global, chunk: &Chunk, needs: &mut Vec<Need>) -> TeraResult<
     Ok(())
 }
 
-/// Puts what the code of blocks needs behind what was found.
-fn add_of_blocks(alloc: Global, blocks: &[Block], needs: &mut Vec<Need>) -> TeraResult<()>
-    ensures ok { OnOk result (needs.new.items
-        ≡ needs.old.items ++ flat_map (λ b. code_needs b.code.code) blocks.now) }
+/// Puts what the code of each needs behind what was found.
+fn add_all<B: HasBody>(alloc: Global, all: &[B], needs: &mut Vec<Need>) -> TeraResult<()>
+    ensures ok { OnOk result (needs.new.items ≡ needs.old.items ++ flat_map B.needs all.now) }
     ensures lacks { IfErr result Lacks }
 {
-    for block in blocks {
-        add_needs(alloc, &block.code, needs)?;
-    }
-    Ok(())
-}
-
-/// Puts what the code of components needs behind what was found.
-fn add_of_components(
-    alloc: Global,
-    components: &[Component],
-    needs: &mut Vec<Need>,
-) -> TeraResult<()>
-    ensures ok { OnOk result (needs.new.items
-        ≡ needs.old.items ++ flat_map (λ c. code_needs c.code.code) components.now) }
-    ensures lacks { IfErr result Lacks }
-{
-    for component in components {
-        add_needs(alloc, &component.code, needs)?;
+    for one in all {
+        add_needs(alloc, one.body(), needs)?;
     }
     Ok(())
 }
@@ -131,8 +115,8 @@ fn code_needs(
 {
     let mut needs = Vec::new(alloc);
     add_needs(alloc, body, &mut needs)?;
-    add_of_blocks(alloc, blocks, &mut needs)?;
-    add_of_components(alloc, components, &mut needs)?;
+    add_all(alloc, blocks, &mut needs)?;
+    add_all(alloc, components, &mut needs)?;
     Ok(needs)
 }
 

@@ -2,7 +2,6 @@ use Rattle.std.proofs.Common.{◌≡◌, ◌∷◌, Some, sym, ap, ◌∙◌}
 use Rattle.tera_registry.specs.declared.lineage.Up.TheVariants as up
 use Rattle.tera_meaning.specs.Lineage.{ancestors, definers_in}
 use Rattle.tera_registry.specs.Kept.{entry_of}
-use Rattle.tera_registry.proofs.Element.{element}
 use Rattle.tera_registry.proofs.Kept.{entry-among}
 use Rattle.tera_registry.proofs.Ancestors.{first-own, first-moved, pass-own, nobody, next-ancestors, fewer, not-missing, listed, among, up-at}
 use Rattle.tera_registry.proofs.definers.first.Goals as goal
@@ -26,12 +25,8 @@ returns-in-Some g c =
 pub up-smaller : goal.up-smaller
 up-smaller g c =
     let r = g.registry in
-    let u = entry_of c.deref-template.result.now in
     let here = entry-among r c.args.templates.now c.up.last _ _ c.requires.0.same c.up.invariant.there c.index-templates-last.is c.deref-template.ensures in
-    let above = up-at r _ c.args.ups.now c.up.last (up.At c.in-At.next) u c.requires.0 c.up.invariant.there c.in-At.is here in
-    let v = element r.templates c.in-At.next above.2.1 in
-    let behind = next-ancestors r u v.0 c.in-At.next (c.requires.0.grounded.each c.up.last u here) above v.1 in
-    fewer r u v.0 c.up.last c.in-At.next here v.1 behind
+    fewer r _ c.up.last c.in-At.next here (c.requires.0.grounded.each c.up.last _ here) (up-at r _ c.args.ups.now c.up.last (up.At c.in-At.next) _ c.requires.0 c.up.invariant.there c.in-At.is here)
 
 pub up-preserved : goal.up-preserved
 up-preserved g c =

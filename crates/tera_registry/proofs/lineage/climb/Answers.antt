@@ -1,9 +1,8 @@
 use Rattle.std.proofs.Common.{◌≡◌, ◌-◌, ◌+◌, suc, length, Some, None, sym, ap, ◌∙◌, arith}
 use Rattle.std.proofs.lemmas.Option.{slice_get-get_or}
-use Rattle.tera_registry.specs.declared.lineage.Up.TheVariants as up
 use Rattle.tera_registry.proofs.Element.{element}
 use Rattle.tera_registry.proofs.Climb.{climb-begins, climb-ends, climb-misses, climb-on, climb-again, climb-meets}
-use Rattle.tera_registry.proofs.Linked.{up-there}
+use Rattle.tera_registry.proofs.Linked.{up-there, next-inside}
 use Rattle.tera_registry.proofs.lineage.climb.Goals as goal
 
 pub loop-step-init : goal.loop-step-init
@@ -29,9 +28,8 @@ returns-in-Missing c = λ r t a known at.
 pub loop-step-preserved : goal.loop-step-preserved
 loop-step-preserved c =
     let i = c.loop-step.invariant in
-    let got = slice_get-get_or c.args.ups.now c.loop-step.last up.Nothing i.last_there ∙ ap Some c.in-At.is in
     record {
-      last_there = c.requires.inside.inside _ c.in-At.next got;
+      last_there = next-inside c.args.ups.now c.loop-step.last c.in-At.next c.requires.inside i.last_there c.in-At.is;
       climbed = λ r t v a at v_at.
           (let e = up-there r c.args.ups.now c.loop-step.last _ a i.last_there c.in-At.is in
           let left : length c.args.ups.now - c.loop-step.step ≡ suc (length c.args.ups.now - (c.loop-step.step + 1)) = omega (arith, c.loop-step-test.true) in

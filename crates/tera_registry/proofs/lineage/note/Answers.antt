@@ -1,18 +1,15 @@
-use Rattle.std.proofs.Common.{◌≡◌, ◌-◌, ◌+◌, suc, Some, ap, ◌∙◌, arith}
-use Rattle.std.proofs.lemmas.Option.{slice_get-get_or}
-use Rattle.tera_registry.specs.declared.lineage.Up.TheVariants as up
+use Rattle.std.proofs.Common.{◌≡◌, ◌-◌, ◌+◌, suc, ◌∙◌, arith}
 use Rattle.tera_registry.specs.Links.{Stands}
 use Rattle.tera_registry.proofs.Element.{element}
-use Rattle.tera_registry.proofs.Linked.{up-there}
+use Rattle.tera_registry.proofs.Linked.{up-there, next-inside}
 use Rattle.tera_registry.proofs.Noted.{noted, one-nearer, length-set}
 use Rattle.tera_registry.proofs.lineage.note.Goals as goal
 
 pub loop-passed-preserved : goal.loop-passed-preserved
 loop-passed-preserved c =
     let i = c.loop-passed.invariant in
-    let got = slice_get-get_or c.args.ups.now c.loop-passed.last up.Nothing i.last_there ∙ ap Some c.in-At.is in
     record {
-      last_there = c.requires.inside.inside _ c.in-At.next got;
+      last_there = next-inside c.args.ups.now c.loop-passed.last c.in-At.next c.requires.inside i.last_there c.in-At.is;
       as_many = length-set c.loop-passed.tops c.loop-passed.last _ ∙ i.as_many;
       known = λ r t a k at s.
           (let e = element r.templates c.loop-passed.last (omega (arith, i.last_there, a.as_many)) in

@@ -1,6 +1,5 @@
 use Rattle.std.proofs.Common.{refl, arith}
 use Rattle.tera_registry.specs.Kept.{entry_of, seen}
-use Rattle.tera_registry.proofs.Element.{element}
 use Rattle.tera_registry.proofs.Filled.{AreThere-push}
 use Rattle.tera_registry.proofs.Kept.{entry-among, length-entries}
 use Rattle.tera_registry.proofs.Ancestors.{next-ancestors, fewer, not-missing}
@@ -12,9 +11,7 @@ up-smaller c =
     let r = seen c.args.templates.now c.args.prefixes.now in
     let u = entry_of c.deref-template.result.now in
     let here = entry-among r c.args.templates.now c.up.last _ _ refl c.up.invariant.there c.index-templates-last.is c.deref-template.ensures in
-    let v = element r.templates c.in-At.next c.in-At.ensures.2.1 in
-    let behind = next-ancestors r u v.0 c.in-At.next (c.requires.grounded.each c.up.last u here) c.in-At.ensures v.1 in
-    fewer r u v.0 c.up.last c.in-At.next here v.1 behind
+    fewer r u c.up.last c.in-At.next here (c.requires.grounded.each c.up.last u here) c.in-At.ensures
 
 pub up-preserved : goal.up-preserved
 up-preserved c =

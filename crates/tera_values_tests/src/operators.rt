@@ -2,7 +2,7 @@
 ghost use Rattle.std.specs.Prelude.{◌<◌};
 
 use crate::sample::Sample::{Int, Ints, Nothing, Pairs, Safe, Text, Truth, Undefined};
-use crate::sample::{Sample, value};
+use crate::sample::{Sample, first_wrong, value};
 use std::alloc::Global;
 use tera_operators::{
     Operand, array, attribute, binary, binary_in_place, item, map, negative, not, slice,
@@ -12,15 +12,27 @@ use tera_values::{Error, ErrorKind, Shape, Span, TeraResult};
 
 const NODE: Span = Span { start: 1, end: 99 };
 
-fn push(all: &mut Vec<Operand>, alloc: Global, sample: Sample, start: usize) -> bool
+/// An operand whose two bytes begin here.
+fn placed(alloc: Global, sample: Sample, start: usize) -> Option<Operand>
     requires { start < 1000 }
 {
     let span = Span {
         start,
         end: start + 2,
     };
-    match value(alloc, sample) {
-        Some(value) => all.push(Operand::new(value, span)).is_ok(),
+    Some(Operand::new(value(alloc, sample)?, span))
+}
+
+/// Operands from 10 to 12 and from 20 to 22.
+fn pair(alloc: Global, left: Sample, right: Sample) -> Option<(Operand, Operand)> {
+    Some((placed(alloc, left, 10)?, placed(alloc, right, 20)?))
+}
+
+fn push(all: &mut Vec<Operand>, alloc: Global, sample: Sample, start: usize) -> bool
+    requires { start < 1000 }
+{
+    match placed(alloc, sample, start) {
+        Some(operand) => all.push(operand).is_ok(),
         None => false,
     }
 }
@@ -75,328 +87,288 @@ fn answers(alloc: Global, answer: TeraResult<Operand>, want: &str) -> bool {
     }
 }
 
-/// The operator between operands from 10 to 12 and from 20 to 22.
-fn joins(alloc: Global, operator: Op, left: Sample, right: Sample, want: &str) -> bool {
-    match operands(alloc, &[left, right]) {
-        Some(both) => match both.as_slice() {
-            [left, right] => {
-                let answer = binary(alloc, "page", operator, left, right, NODE);
-                answers(alloc, answer, want)
-            }
-            _ => false,
-        },
+/// An operator between operands from 10 to 12 and from 20 to 22, and what it comes to.
+#[derive(Clone, Copy)]
+struct Between(Op, Sample, Sample, &'static str);
+
+fn joins(alloc: Global, row: Between) -> bool {
+    let Between(operator, left, right, want) = row;
+    match pair(alloc, left, right) {
+        Some((left, right)) => {
+            let answer = binary(alloc, "page", operator, &left, &right, NODE);
+            answers(alloc, answer, want)
+        }
         None => false,
     }
 }
 
-#[test]
-fn numbers_are_reckoned(rt: HostRuntime) {
-    let alloc = rt.alloc();
-    let mut right = true;
-    for (operator, one, other, want) in [
-        (Op::Add, Int(2), Int(3), "int [5] 10-22"),
-        (Op::Add, Text("a"), Int(1), "fault in page 10-22"),
-        (Op::Add, Int(i128::MAX), Int(1), "fault in page 10-22"),
-        (Op::Subtract, Int(2), Int(3), "int [-1] 10-22"),
-        (Op::Subtract, Nothing, Text("a"), "fault in page 10-12"),
-        (Op::Subtract, Int(2), Text("a"), "fault in page 20-22"),
-        (Op::Subtract, Int(i128::MIN), Int(1), "fault in page 10-22"),
-        (Op::Multiply, Int(6), Int(-7), "int [-42] 10-22"),
-        (Op::Divide, Int(8), Int(2), "int [4] 10-22"),
-        (Op::Divide, Int(7), Int(2), "fault in page 10-22"),
-        (Op::Divide, Text("a"), Int(0), "fault in page 10-12"),
-        (Op::FloorDivide, Int(-7), Int(2), "int [-4] 10-22"),
-        (Op::FloorDivide, Int(7), Int(0), "fault in page 20-22"),
-        (
-            Op::FloorDivide,
-            Int(i128::MIN),
-            Int(-1),
-            "fault in page 10-22",
-        ),
-        (Op::Remainder, Int(-7), Int(2), "int [1] 10-22"),
-        (Op::Remainder, Int(7), Nothing, "fault in page 20-22"),
-        (Op::Power, Int(2), Int(10), "int [1024] 10-22"),
-        (Op::Power, Int(0), Int(0), "int [1] 10-22"),
-        (Op::Power, Int(2), Int(-1), "fault in page 10-22"),
-        (Op::Power, Int(2), Int(127), "fault in page 10-22"),
-    ] {
-        right = right && joins(alloc, operator, one, other, want);
-    }
-    assert!(rt; right);
-}
+const JOINED: [Between; 35] = [
+    Between(Op::Add, Int(2), Int(3), "int [5] 10-22"),
+    Between(Op::Add, Text("a"), Int(1), "fault in page 10-22"),
+    Between(Op::Add, Int(i128::MAX), Int(1), "fault in page 10-22"),
+    Between(Op::Subtract, Int(2), Int(3), "int [-1] 10-22"),
+    Between(Op::Subtract, Nothing, Text("a"), "fault in page 10-12"),
+    Between(Op::Subtract, Int(2), Text("a"), "fault in page 20-22"),
+    Between(Op::Subtract, Int(i128::MIN), Int(1), "fault in page 10-22"),
+    Between(Op::Multiply, Int(6), Int(-7), "int [-42] 10-22"),
+    Between(Op::Divide, Int(8), Int(2), "int [4] 10-22"),
+    Between(Op::Divide, Int(7), Int(2), "fault in page 10-22"),
+    Between(Op::Divide, Text("a"), Int(0), "fault in page 10-12"),
+    Between(Op::FloorDivide, Int(-7), Int(2), "int [-4] 10-22"),
+    Between(Op::FloorDivide, Int(7), Int(0), "fault in page 20-22"),
+    Between(
+        Op::FloorDivide,
+        Int(i128::MIN),
+        Int(-1),
+        "fault in page 10-22",
+    ),
+    Between(Op::Remainder, Int(-7), Int(2), "int [1] 10-22"),
+    Between(Op::Remainder, Int(7), Nothing, "fault in page 20-22"),
+    Between(Op::Power, Int(2), Int(10), "int [1024] 10-22"),
+    Between(Op::Power, Int(0), Int(0), "int [1] 10-22"),
+    Between(Op::Power, Int(2), Int(-1), "fault in page 10-22"),
+    Between(Op::Power, Int(2), Int(127), "fault in page 10-22"),
+    Between(Op::Concat, Int(1024), Text("x"), "string [1024x] 10-22"),
+    Between(Op::Concat, Safe("a"), Safe("b"), "string [ab] 10-22"),
+    Between(
+        Op::Concat,
+        Undefined,
+        Ints(&[1, 2]),
+        "string [[1, 2]] 10-22",
+    ),
+    Between(Op::In, Int(2), Ints(&[1, 2]), "bool [true] 1-99"),
+    Between(Op::In, Text("x"), Text("abc"), "bool [false] 1-99"),
+    Between(Op::In, Text("b"), Pairs(&[("b", 1)]), "bool [true] 1-99"),
+    Between(Op::In, Int(1), Int(2), "fault in page 20-22"),
+    Between(Op::Equal, Safe("a"), Text("a"), "bool [true] 10-22"),
+    Between(Op::NotEqual, Int(1), Text("1"), "bool [true] 10-22"),
+    Between(Op::Less, Int(1), Int(2), "bool [true] 10-22"),
+    Between(Op::Less, Text("a"), Int(2), "fault in page 10-22"),
+    Between(Op::Greater, Ints(&[1, 2]), Ints(&[1]), "bool [true] 10-22"),
+    Between(
+        Op::LessOrEqual,
+        Truth(false),
+        Truth(false),
+        "bool [true] 10-22",
+    ),
+    Between(
+        Op::GreaterOrEqual,
+        Text("a"),
+        Text("b"),
+        "bool [false] 10-22",
+    ),
+    Between(Op::GreaterOrEqual, Nothing, Nothing, "fault in page 10-22"),
+];
 
 #[test]
-fn texts_and_containers_are_joined(rt: HostRuntime) {
-    let alloc = rt.alloc();
-    let mut right = true;
-    for (operator, one, other, want) in [
-        (Op::Concat, Int(1024), Text("x"), "string [1024x] 10-22"),
-        (Op::Concat, Safe("a"), Safe("b"), "string [ab] 10-22"),
-        (
-            Op::Concat,
-            Undefined,
-            Ints(&[1, 2]),
-            "string [[1, 2]] 10-22",
-        ),
-        (Op::In, Int(2), Ints(&[1, 2]), "bool [true] 1-99"),
-        (Op::In, Text("x"), Text("abc"), "bool [false] 1-99"),
-        (Op::In, Text("b"), Pairs(&[("b", 1)]), "bool [true] 1-99"),
-        (Op::In, Int(1), Int(2), "fault in page 20-22"),
-    ] {
-        right = right && joins(alloc, operator, one, other, want);
-    }
-    assert!(rt; right);
+fn operators_between_operands(rt: HostRuntime) {
+    let row = first_wrong(&JOINED, |row| joins(rt.alloc(), row));
+    assert!(rt; row.is_none(), "at row {row:?}");
 }
 
-#[test]
-fn operands_are_compared(rt: HostRuntime) {
-    let alloc = rt.alloc();
-    let mut right = true;
-    for (operator, one, other, want) in [
-        (Op::Equal, Safe("a"), Text("a"), "bool [true] 10-22"),
-        (Op::NotEqual, Int(1), Text("1"), "bool [true] 10-22"),
-        (Op::Less, Int(1), Int(2), "bool [true] 10-22"),
-        (Op::Less, Text("a"), Int(2), "fault in page 10-22"),
-        (Op::Greater, Ints(&[1, 2]), Ints(&[1]), "bool [true] 10-22"),
-        (
-            Op::LessOrEqual,
-            Truth(false),
-            Truth(false),
-            "bool [true] 10-22",
-        ),
-        (
-            Op::GreaterOrEqual,
-            Text("a"),
-            Text("b"),
-            "bool [false] 10-22",
-        ),
-        (Op::GreaterOrEqual, Nothing, Nothing, "fault in page 10-22"),
-    ] {
-        right = right && joins(alloc, operator, one, other, want);
-    }
-    assert!(rt; right);
-}
-
-/// The operator, done in place between operands from 10 to 12 and from 20 to 22: whether that is done, and the left operand after.
-fn changes(
-    alloc: Global,
-    operator: Op,
-    samples: (Sample, Sample),
-    is_due: bool,
-    want: &str,
-) -> bool {
-    match operands(alloc, &[samples.0, samples.1]) {
-        Some(mut both) => match (both.pop(), both.pop()) {
-            (Some(right), Some(mut left)) => {
-                let is_done = binary_in_place(operator, &mut left, &right);
-                is_done == is_due && reads(operand_in_words(alloc, &left), want)
-            }
-            _ => false,
-        },
+/// The operator, done in place: whether that is done where it is due, and what the left operand is after.
+fn changes(alloc: Global, row: Between, is_due: bool) -> bool {
+    let Between(operator, left, right, want) = row;
+    match pair(alloc, left, right) {
+        Some((mut left, right)) => {
+            let is_done = binary_in_place(operator, &mut left, &right);
+            is_done == is_due && reads(operand_in_words(alloc, &left), want)
+        }
         None => false,
     }
 }
 
-#[test]
-fn small_numbers_change_in_place(rt: HostRuntime) {
-    let alloc = rt.alloc();
-    let mut right = true;
-    for (operator, one, other, want) in [
-        (Op::Add, 2, 3, "int [5] 10-22"),
-        (Op::Subtract, 2, 3, "int [-1] 10-22"),
-        (Op::Multiply, 6, -7, "int [-42] 10-22"),
-        (Op::FloorDivide, 7, 2, "int [3] 10-22"),
-        (Op::FloorDivide, -7, 2, "int [-4] 10-22"),
-        (Op::FloorDivide, -8, 2, "int [-4] 10-22"),
-        (Op::Remainder, 7, 3, "int [1] 10-22"),
-        (Op::Remainder, -7, 3, "int [2] 10-22"),
-        (Op::Remainder, -6, 3, "int [0] 10-22"),
-        (Op::Equal, 2, 2, "bool [true] 10-22"),
-        (Op::NotEqual, 2, 2, "bool [false] 10-22"),
-        (Op::Less, -2, 1, "bool [true] 10-22"),
-        (Op::Greater, 2, 2, "bool [false] 10-22"),
-        (Op::LessOrEqual, 2, 2, "bool [true] 10-22"),
-        (Op::GreaterOrEqual, 1, 2, "bool [false] 10-22"),
-    ] {
-        right = right && changes(alloc, operator, (Int(one), Int(other)), true, want);
-    }
-    assert!(rt; right);
+fn of_numbers(row: (Op, i128, i128, &'static str)) -> Between {
+    Between(row.0, Int(row.1), Int(row.2), row.3)
 }
 
-#[test]
-fn numbers_change_in_place_up_to_their_bounds(rt: HostRuntime) {
-    let alloc = rt.alloc();
-    let (least, most) = (i64::MIN as i128, i64::MAX as i128);
-    let mut right = true;
-    for (operator, one, other, want) in [
-        (Op::Less, i128::MIN, i128::MAX, "bool [true] 10-22"),
-        (Op::Add, i128::MAX, i128::MIN, "int [-1] 10-22"),
-        (Op::Subtract, i128::MIN, i128::MIN, "int [0] 10-22"),
-        (
-            Op::Multiply,
-            least,
-            least,
-            "int [85070591730234615865843651857942052864] 10-22",
-        ),
-        (
-            Op::FloorDivide,
-            least,
-            1,
-            "int [-9223372036854775808] 10-22",
-        ),
-        (Op::FloorDivide, least, most, "int [-2] 10-22"),
-        (
-            Op::Remainder,
-            least,
-            most,
-            "int [9223372036854775806] 10-22",
-        ),
-    ] {
-        right = right && changes(alloc, operator, (Int(one), Int(other)), true, want);
-    }
-    assert!(rt; right);
-}
+/// The bounds of 64 bits, and one number beyond them.
+const LEAST: i128 = -9223372036854775808;
+
+const MOST: i128 = 9223372036854775807;
+
+const LARGE: i128 = 9223372036854775808;
+
+/// Numbers that change in place: small ones, and those at the bounds.
+const CHANGED: [(Op, i128, i128, &str); 22] = [
+    (Op::Add, 2, 3, "int [5] 10-22"),
+    (Op::Subtract, 2, 3, "int [-1] 10-22"),
+    (Op::Multiply, 6, -7, "int [-42] 10-22"),
+    (Op::FloorDivide, 7, 2, "int [3] 10-22"),
+    (Op::FloorDivide, -7, 2, "int [-4] 10-22"),
+    (Op::FloorDivide, -8, 2, "int [-4] 10-22"),
+    (Op::Remainder, 7, 3, "int [1] 10-22"),
+    (Op::Remainder, -7, 3, "int [2] 10-22"),
+    (Op::Remainder, -6, 3, "int [0] 10-22"),
+    (Op::Equal, 2, 2, "bool [true] 10-22"),
+    (Op::NotEqual, 2, 2, "bool [false] 10-22"),
+    (Op::Less, -2, 1, "bool [true] 10-22"),
+    (Op::Greater, 2, 2, "bool [false] 10-22"),
+    (Op::LessOrEqual, 2, 2, "bool [true] 10-22"),
+    (Op::GreaterOrEqual, 1, 2, "bool [false] 10-22"),
+    (Op::Less, i128::MIN, i128::MAX, "bool [true] 10-22"),
+    (Op::Add, i128::MAX, i128::MIN, "int [-1] 10-22"),
+    (Op::Subtract, i128::MIN, i128::MIN, "int [0] 10-22"),
+    (
+        Op::Multiply,
+        LEAST,
+        LEAST,
+        "int [85070591730234615865843651857942052864] 10-22",
+    ),
+    (
+        Op::FloorDivide,
+        LEAST,
+        1,
+        "int [-9223372036854775808] 10-22",
+    ),
+    (Op::FloorDivide, LEAST, MOST, "int [-2] 10-22"),
+    (
+        Op::Remainder,
+        LEAST,
+        MOST,
+        "int [9223372036854775806] 10-22",
+    ),
+];
 
 #[test]
-fn large_numbers_and_other_divisors_change_nothing(rt: HostRuntime) {
-    let alloc = rt.alloc();
-    let large: i128 = 9223372036854775808;
-    let mut right = true;
-    for (operator, one, other, want) in [
-        (
-            Op::Add,
-            i128::MAX,
-            1,
-            "int [170141183460469231731687303715884105727] 10-12",
-        ),
-        (
-            Op::Subtract,
-            i128::MIN,
-            1,
-            "int [-170141183460469231731687303715884105728] 10-12",
-        ),
-        (Op::Multiply, large, 0, "int [9223372036854775808] 10-12"),
-        (Op::Multiply, 2, large, "int [2] 10-12"),
-        (Op::FloorDivide, large, 2, "int [9223372036854775808] 10-12"),
-        (Op::FloorDivide, 7, large, "int [7] 10-12"),
-        (Op::FloorDivide, 7, 0, "int [7] 10-12"),
-        (Op::FloorDivide, 7, -2, "int [7] 10-12"),
-        (Op::Remainder, large, 2, "int [9223372036854775808] 10-12"),
-        (Op::Remainder, 7, large, "int [7] 10-12"),
-        (Op::Remainder, 7, 0, "int [7] 10-12"),
-        (Op::Remainder, 7, -2, "int [7] 10-12"),
-        (Op::Divide, 8, 2, "int [8] 10-12"),
-        (Op::Power, 2, 3, "int [2] 10-12"),
-        (Op::Concat, 2, 3, "int [2] 10-12"),
-    ] {
-        right = right && changes(alloc, operator, (Int(one), Int(other)), false, want);
-    }
-    assert!(rt; right);
+fn numbers_change_in_place(rt: HostRuntime) {
+    let row = first_wrong(&CHANGED, |row| changes(rt.alloc(), of_numbers(row), true));
+    assert!(rt; row.is_none(), "at row {row:?}");
 }
+
+/// Large numbers, and divisors that are not above zero.
+const UNCHANGED: [(Op, i128, i128, &str); 15] = [
+    (
+        Op::Add,
+        i128::MAX,
+        1,
+        "int [170141183460469231731687303715884105727] 10-12",
+    ),
+    (
+        Op::Subtract,
+        i128::MIN,
+        1,
+        "int [-170141183460469231731687303715884105728] 10-12",
+    ),
+    (Op::Multiply, LARGE, 0, "int [9223372036854775808] 10-12"),
+    (Op::Multiply, 2, LARGE, "int [2] 10-12"),
+    (Op::FloorDivide, LARGE, 2, "int [9223372036854775808] 10-12"),
+    (Op::FloorDivide, 7, LARGE, "int [7] 10-12"),
+    (Op::FloorDivide, 7, 0, "int [7] 10-12"),
+    (Op::FloorDivide, 7, -2, "int [7] 10-12"),
+    (Op::Remainder, LARGE, 2, "int [9223372036854775808] 10-12"),
+    (Op::Remainder, 7, LARGE, "int [7] 10-12"),
+    (Op::Remainder, 7, 0, "int [7] 10-12"),
+    (Op::Remainder, 7, -2, "int [7] 10-12"),
+    (Op::Divide, 8, 2, "int [8] 10-12"),
+    (Op::Power, 2, 3, "int [2] 10-12"),
+    (Op::Concat, 2, 3, "int [2] 10-12"),
+];
+
+/// What is no number.
+const OTHERS: [Between; 7] = [
+    Between(Op::Add, Text("a"), Int(1), "string [a] 10-12"),
+    Between(Op::Add, Int(1), Text("a"), "int [1] 10-12"),
+    Between(Op::Equal, Safe("a"), Safe("a"), "safe string [a] 10-12"),
+    Between(Op::NotEqual, Int(1), Text("1"), "int [1] 10-12"),
+    Between(Op::Less, Truth(false), Int(1), "bool [false] 10-12"),
+    Between(Op::Remainder, Undefined, Int(2), "undefined [] 10-12"),
+    Between(Op::In, Int(1), Ints(&[1]), "int [1] 10-12"),
+];
 
 #[test]
-fn what_is_no_number_changes_nothing(rt: HostRuntime) {
-    let alloc = rt.alloc();
-    let mut right = true;
-    for (operator, one, other, want) in [
-        (Op::Add, Text("a"), Int(1), "string [a] 10-12"),
-        (Op::Add, Int(1), Text("a"), "int [1] 10-12"),
-        (Op::Equal, Safe("a"), Safe("a"), "safe string [a] 10-12"),
-        (Op::NotEqual, Int(1), Text("1"), "int [1] 10-12"),
-        (Op::Less, Truth(false), Int(1), "bool [false] 10-12"),
-        (Op::Remainder, Undefined, Int(2), "undefined [] 10-12"),
-        (Op::In, Int(1), Ints(&[1]), "int [1] 10-12"),
-    ] {
-        right = right && changes(alloc, operator, (one, other), false, want);
-    }
-    assert!(rt; right);
+fn what_changes_nothing(rt: HostRuntime) {
+    let row = first_wrong(
+        &UNCHANGED,
+        |row| changes(rt.alloc(), of_numbers(row), false),
+    );
+    assert!(rt; row.is_none(), "at row {row:?} of numbers");
+    let row = first_wrong(&OTHERS, |row| changes(rt.alloc(), row, false));
+    assert!(rt; row.is_none(), "at row {row:?} of others");
 }
 
-fn turns(alloc: Global, sample: Sample, inverse: &str, minus: &str) -> bool {
-    match operands(alloc, &[sample]) {
-        Some(alone) => match alone.as_slice() {
-            [operand] => {
-                answers(alloc, Ok(not(operand)), inverse)
-                    && answers(alloc, negative(alloc, "page", operand), minus)
-            }
-            _ => false,
-        },
+fn turns(alloc: Global, row: (Sample, &str, &str)) -> bool {
+    let (sample, inverse, minus) = row;
+    match placed(alloc, sample, 10) {
+        Some(operand) => {
+            answers(alloc, Ok(not(&operand)), inverse)
+                && answers(alloc, negative(alloc, "page", &operand), minus)
+        }
         None => false,
     }
 }
+
+const SIGNS: [(Sample, &str, &str); 4] = [
+    (Int(2), "bool [false] 10-12", "int [-2] 10-12"),
+    (Int(0), "bool [true] 10-12", "int [0] 10-12"),
+    (Int(i128::MIN), "bool [false] 10-12", "fault in page 10-12"),
+    (Undefined, "bool [true] 10-12", "fault in page 10-12"),
+];
 
 #[test]
 fn signs_are_turned(rt: HostRuntime) {
-    let alloc = rt.alloc();
-    let mut right = true;
-    for (sample, inverse, minus) in [
-        (Int(2), "bool [false] 10-12", "int [-2] 10-12"),
-        (Int(0), "bool [true] 10-12", "int [0] 10-12"),
-        (Int(i128::MIN), "bool [false] 10-12", "fault in page 10-12"),
-        (Undefined, "bool [true] 10-12", "fault in page 10-12"),
-    ] {
-        right = right && turns(alloc, sample, inverse, minus);
-    }
-    assert!(rt; right);
+    let row = first_wrong(&SIGNS, |row| turns(rt.alloc(), row));
+    assert!(rt; row.is_none(), "at row {row:?}");
 }
 
 fn has_attribute(alloc: Global, target: Sample, name: &str, optional: bool, want: &str) -> bool {
-    match operands(alloc, &[target]) {
-        Some(alone) => match alone.as_slice() {
-            [target] => {
-                let answer = attribute(alloc, "page", target, name, optional, NODE);
-                answers(alloc, answer, want)
-            }
-            _ => false,
-        },
+    match placed(alloc, target, 10) {
+        Some(target) => {
+            let answer = attribute(alloc, "page", &target, name, optional, NODE);
+            answers(alloc, answer, want)
+        }
         None => false,
     }
 }
 
 fn has_item(alloc: Global, target: Sample, index: Sample, optional: bool, want: &str) -> bool {
-    match operands(alloc, &[target, index]) {
-        Some(both) => match both.as_slice() {
-            [target, index] => {
-                let answer = item(alloc, "page", target, index, optional, NODE);
-                answers(alloc, answer, want)
-            }
-            _ => false,
-        },
+    match pair(alloc, target, index) {
+        Some((target, index)) => {
+            let answer = item(alloc, "page", &target, &index, optional, NODE);
+            answers(alloc, answer, want)
+        }
         None => false,
     }
 }
 
+const ATTRIBUTES: [(Sample, &str, bool, &str); 6] = [
+    (Pairs(&[("a", 1)]), "a", false, "int [1] 1-99"),
+    (Pairs(&[("a", 1)]), "b", false, "undefined [] 1-99"),
+    (Nothing, "a", false, "undefined [] 1-99"),
+    (Undefined, "a", false, "fault in page 10-12"),
+    (Undefined, "a", true, "undefined [] 1-99"),
+    (Pairs(&[("a", 1)]), "a", true, "int [1] 1-99"),
+];
+
+const ITEMS: [(Sample, Sample, bool, &str); 9] = [
+    (Ints(&[1, 2, 3]), Int(-1), false, "int [3] 10-22"),
+    (Ints(&[1, 2, 3]), Int(3), true, "undefined [] 10-22"),
+    (Pairs(&[("a", 1)]), Text("a"), false, "int [1] 10-22"),
+    (Safe("aé"), Int(1), false, "string [é] 10-22"),
+    (Ints(&[1]), Text("a"), false, "fault in page 20-22"),
+    (Nothing, Int(0), false, "fault in page 20-22"),
+    (Nothing, Int(0), true, "undefined [] 1-99"),
+    (Undefined, Undefined, false, "fault in page 10-12"),
+    (Ints(&[1]), Undefined, true, "fault in page 20-22"),
+];
+
 #[test]
 fn parts_are_reached(rt: HostRuntime) {
     let alloc = rt.alloc();
-    let mut right = true;
-    for (target, name, optional, want) in [
-        (Pairs(&[("a", 1)]), "a", false, "int [1] 1-99"),
-        (Pairs(&[("a", 1)]), "b", false, "undefined [] 1-99"),
-        (Nothing, "a", false, "undefined [] 1-99"),
-        (Undefined, "a", false, "fault in page 10-12"),
-        (Undefined, "a", true, "undefined [] 1-99"),
-        (Pairs(&[("a", 1)]), "a", true, "int [1] 1-99"),
-    ] {
-        right = right && has_attribute(alloc, target, name, optional, want);
-    }
-    for (target, index, optional, want) in [
-        (Ints(&[1, 2, 3]), Int(-1), false, "int [3] 10-22"),
-        (Ints(&[1, 2, 3]), Int(3), true, "undefined [] 10-22"),
-        (Pairs(&[("a", 1)]), Text("a"), false, "int [1] 10-22"),
-        (Safe("aé"), Int(1), false, "string [é] 10-22"),
-        (Ints(&[1]), Text("a"), false, "fault in page 20-22"),
-        (Nothing, Int(0), false, "fault in page 20-22"),
-        (Nothing, Int(0), true, "undefined [] 1-99"),
-        (Undefined, Undefined, false, "fault in page 10-12"),
-        (Ints(&[1]), Undefined, true, "fault in page 20-22"),
-    ] {
-        right = right && has_item(alloc, target, index, optional, want);
-    }
-    assert!(rt; right);
+    let row = first_wrong(
+        &ATTRIBUTES,
+        |(target, name, optional, want)| has_attribute(alloc, target, name, optional, want),
+    );
+    assert!(rt; row.is_none(), "at attribute {row:?}");
+    let row = first_wrong(
+        &ITEMS,
+        |(target, index, optional, want)| has_item(alloc, target, index, optional, want),
+    );
+    assert!(rt; row.is_none(), "at item {row:?}");
 }
 
-fn slices(alloc: Global, samples: [Sample; 4], optional: bool, want: &str) -> bool {
+fn slices(alloc: Global, row: ([Sample; 4], bool, &str)) -> bool {
+    let (samples, optional, want) = row;
     match operands(alloc, &samples) {
         Some(all) => match all.as_slice() {
             [target, start, end, step] => {
@@ -409,59 +381,63 @@ fn slices(alloc: Global, samples: [Sample; 4], optional: bool, want: &str) -> bo
     }
 }
 
+const SLICES: [([Sample; 4], bool, &str); 9] = [
+    (
+        [Ints(&[1, 2, 3]), Int(-1), Int(0), Int(-1)],
+        false,
+        "array [[3, 2]] 10-12",
+    ),
+    (
+        [Safe("héllo"), Int(1), Int(3), Nothing],
+        true,
+        "string [él] 10-12",
+    ),
+    (
+        [Nothing, Text("a"), Nothing, Nothing],
+        true,
+        "undefined [] 1-99",
+    ),
+    (
+        [Ints(&[1, 2, 3]), Text("a"), Undefined, Int(0)],
+        false,
+        "fault in page 20-22",
+    ),
+    (
+        [Ints(&[1, 2, 3]), Nothing, Undefined, Truth(true)],
+        false,
+        "fault in page 30-32",
+    ),
+    (
+        [Ints(&[1, 2, 3]), Nothing, Nothing, Truth(true)],
+        false,
+        "fault in page 40-42",
+    ),
+    (
+        [Ints(&[1, 2, 3]), Nothing, Nothing, Int(0)],
+        false,
+        "fault in page 10-12",
+    ),
+    (
+        [Int(1), Nothing, Nothing, Nothing],
+        false,
+        "fault in page 10-12",
+    ),
+    (
+        [Undefined, Text("a"), Nothing, Nothing],
+        false,
+        "fault in page 10-12",
+    ),
+];
+
 #[test]
 fn slices_are_cut(rt: HostRuntime) {
-    let alloc = rt.alloc();
-    let numbers = Ints(&[1, 2, 3]);
-    let none = Nothing;
-    let mut right = true;
-    for (samples, optional, want) in [
-        (
-            [numbers, Int(-1), Int(0), Int(-1)],
-            false,
-            "array [[3, 2]] 10-12",
-        ),
-        (
-            [Safe("héllo"), Int(1), Int(3), none],
-            true,
-            "string [él] 10-12",
-        ),
-        ([none, Text("a"), none, none], true, "undefined [] 1-99"),
-        (
-            [numbers, Text("a"), Undefined, Int(0)],
-            false,
-            "fault in page 20-22",
-        ),
-        (
-            [numbers, none, Undefined, Truth(true)],
-            false,
-            "fault in page 30-32",
-        ),
-        (
-            [numbers, none, none, Truth(true)],
-            false,
-            "fault in page 40-42",
-        ),
-        ([numbers, none, none, Int(0)], false, "fault in page 10-12"),
-        ([Int(1), none, none, none], false, "fault in page 10-12"),
-        (
-            [Undefined, Text("a"), none, none],
-            false,
-            "fault in page 10-12",
-        ),
-    ] {
-        right = right && slices(alloc, samples, optional, want);
-    }
-    assert!(rt; right);
+    let row = first_wrong(&SLICES, |row| slices(rt.alloc(), row));
+    assert!(rt; row.is_none(), "at row {row:?}");
 }
 
 /// Three operands, of which the second and the third may be spread.
-fn spells_array(
-    alloc: Global,
-    spreads: (bool, bool),
-    samples: (Sample, Sample),
-    want: &str,
-) -> bool {
+fn spells_array(alloc: Global, row: ((bool, bool), (Sample, Sample), &str)) -> bool {
+    let (spreads, samples, want) = row;
     let spreads = [false, spreads.0, spreads.1];
     match operands(alloc, &[Int(0), samples.0, samples.1]) {
         Some(operands) if operands.len() == spreads.len() => {
@@ -496,7 +472,8 @@ fn maps_to(
 }
 
 /// A map of three entries: `a` at 1, and at each name one of the samples; an empty name spreads it.
-fn spells_map(alloc: Global, names: (&str, &str), samples: (Sample, Sample), want: &str) -> bool {
+fn spells_map(alloc: Global, row: ((&str, &str), (Sample, Sample), &str)) -> bool {
+    let (names, samples, want) = row;
     let mut keys = Vec::new(alloc);
     push_key(&mut keys, alloc, "a")
         && push_key(&mut keys, alloc, names.0)
@@ -509,53 +486,56 @@ fn spells_map(alloc: Global, names: (&str, &str), samples: (Sample, Sample), wan
         )
 }
 
+const ARRAYS: [((bool, bool), (Sample, Sample), &str); 4] = [
+    (
+        (false, false),
+        (Int(1), Ints(&[3, 4])),
+        "array [[0, 1, [3, 4]]] 1-99",
+    ),
+    (
+        (true, false),
+        (Ints(&[3, 4]), Int(2)),
+        "array [[0, 3, 4, 2]] 1-99",
+    ),
+    ((true, true), (Int(1), Int(2)), "fault in page 30-32"),
+    ((true, true), (Int(1), Ints(&[3, 4])), "fault in page 20-22"),
+];
+
 #[test]
 fn arrays_are_spelled(rt: HostRuntime) {
-    let alloc = rt.alloc();
-    let one = Int(1);
-    let two = Int(2);
-    let numbers = Ints(&[3, 4]);
-    let mut right = true;
-    for (spreads, samples, want) in [
-        (
-            (false, false),
-            (one, numbers),
-            "array [[0, 1, [3, 4]]] 1-99",
-        ),
-        ((true, false), (numbers, two), "array [[0, 3, 4, 2]] 1-99"),
-        ((true, true), (one, two), "fault in page 30-32"),
-        ((true, true), (one, numbers), "fault in page 20-22"),
-    ] {
-        right = right && spells_array(alloc, spreads, samples, want);
-    }
-    assert!(rt; right);
+    let row = first_wrong(&ARRAYS, |row| spells_array(rt.alloc(), row));
+    assert!(rt; row.is_none(), "at row {row:?}");
 }
+
+const MORE: Sample = Pairs(&[("b", 5), ("a", 6), ("c", 7)]);
+
+const MAPS: [((&str, &str), (Sample, Sample), &str); 6] = [
+    (
+        ("b", "a"),
+        (Int(1), Int(2)),
+        "map [{\"a\": 2, \"b\": 1}] 1-99",
+    ),
+    (
+        ("b", ""),
+        (Int(1), MORE),
+        "map [{\"b\": 5, \"a\": 6, \"c\": 7}] 1-99",
+    ),
+    (
+        ("", "b"),
+        (MORE, Int(2)),
+        "map [{\"b\": 2, \"a\": 6, \"c\": 7}] 1-99",
+    ),
+    (("", "a"), (Pairs(&[]), Int(2)), "map [{\"a\": 2}] 1-99"),
+    (
+        ("", ""),
+        (Ints(&[3, 4]), Ints(&[3, 4])),
+        "fault in page 30-32",
+    ),
+    (("", ""), (Ints(&[3, 4]), MORE), "fault in page 20-22"),
+];
 
 #[test]
 fn maps_are_spelled(rt: HostRuntime) {
-    let alloc = rt.alloc();
-    let one = Int(1);
-    let two = Int(2);
-    let numbers = Ints(&[3, 4]);
-    let more = Pairs(&[("b", 5), ("a", 6), ("c", 7)]);
-    let mut right = true;
-    for (names, samples, want) in [
-        (("b", "a"), (one, two), "map [{\"a\": 2, \"b\": 1}] 1-99"),
-        (
-            ("b", ""),
-            (one, more),
-            "map [{\"b\": 5, \"a\": 6, \"c\": 7}] 1-99",
-        ),
-        (
-            ("", "b"),
-            (more, two),
-            "map [{\"b\": 2, \"a\": 6, \"c\": 7}] 1-99",
-        ),
-        (("", "a"), (Pairs(&[]), two), "map [{\"a\": 2}] 1-99"),
-        (("", ""), (numbers, numbers), "fault in page 30-32"),
-        (("", ""), (numbers, more), "fault in page 20-22"),
-    ] {
-        right = right && spells_map(alloc, names, samples, want);
-    }
-    assert!(rt; right);
+    let row = first_wrong(&MAPS, |row| spells_map(rt.alloc(), row));
+    assert!(rt; row.is_none(), "at row {row:?}");
 }

@@ -120,3 +120,10 @@ pub(crate) fn answers(alloc: Global, answer: TeraResult<Value>, want: &str) -> b
         Err(error) => refusal(&error) == want,
     }
 }
+
+/// The number of the first row of a table that is answered otherwise.
+pub(crate) fn first_wrong<R: Copy, F: Fn(R) -> bool>(rows: &[R], is_right: F) -> Option<usize>
+    requires { F.IsAlwaysCallable is_right }
+{
+    rows.iter().position(|row| !is_right(*row))
+}

@@ -1,5 +1,5 @@
 //! The calls that render a block.
-use crate::cases::put;
+use crate::cases::{is_text, put};
 use crate::templates::{adds, fails_with, is_refused, shows};
 use std::alloc::Global;
 use tera::{Context, Tera, TeraResult, Value};
@@ -12,10 +12,7 @@ const CHILD: &str = "{% extends 'list' %}{% block b %}<{{ super() }}>{% endblock
 
 /// Whether the block of the template has this text.
 fn shows_block(engine: &Tera, context: &Context, name: &str, block: &str, text: &str) -> bool {
-    match engine.render_block(name, block, context) {
-        Ok(rendered) => rendered.as_str() == text,
-        Err(_) => false,
-    }
+    is_text(engine.render_block(name, block, context), text)
 }
 
 fn fails_block(engine: &Tera, context: &Context, name: &str, block: &str, want: &str) -> bool {

@@ -1,5 +1,5 @@
 //! Filters, tests and functions: ordinary values, values of the wrong kind, and each argument absent, wrong and at its bound.
-use crate::cases::wrong;
+use crate::cases::first_wrong;
 
 const TEXTS: &str = r#"
 {{ "日本語" | truncate(length=2) }}|{{ "ab" | truncate(length=2) }}|{{ "abc" | truncate(length=2, end="") }} => 日本…|ab|ab
@@ -166,43 +166,16 @@ const ESCAPED: &str = r#"
 "#;
 
 #[test]
-fn texts(rt: HostRuntime) {
-    let line = wrong(rt.alloc(), false, TEXTS);
-    assert!(rt; line.is_none(), "at line {line:?}");
-}
-
-#[test]
-fn numbers(rt: HostRuntime) {
-    let line = wrong(rt.alloc(), false, NUMBERS);
-    assert!(rt; line.is_none(), "at line {line:?}");
-}
-
-#[test]
-fn arrays_and_maps(rt: HostRuntime) {
-    let line = wrong(rt.alloc(), false, ARRAYS);
-    assert!(rt; line.is_none(), "at line {line:?}");
-}
-
-#[test]
-fn tests(rt: HostRuntime) {
-    let line = wrong(rt.alloc(), false, TESTS);
-    assert!(rt; line.is_none(), "at line {line:?}");
-}
-
-#[test]
-fn functions(rt: HostRuntime) {
-    let line = wrong(rt.alloc(), false, FUNCTIONS);
-    assert!(rt; line.is_none(), "at line {line:?}");
-}
-
-#[test]
-fn calls(rt: HostRuntime) {
-    let line = wrong(rt.alloc(), false, CALLS);
-    assert!(rt; line.is_none(), "at line {line:?}");
-}
-
-#[test]
-fn escaped(rt: HostRuntime) {
-    let line = wrong(rt.alloc(), true, ESCAPED);
+fn built_ins(rt: HostRuntime) {
+    let tables = [
+        (false, TEXTS),
+        (false, NUMBERS),
+        (false, ARRAYS),
+        (false, TESTS),
+        (false, FUNCTIONS),
+        (false, CALLS),
+        (true, ESCAPED),
+    ];
+    let line = first_wrong(rt.alloc(), &tables);
     assert!(rt; line.is_none(), "at line {line:?}");
 }

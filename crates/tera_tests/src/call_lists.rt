@@ -1,19 +1,9 @@
 //! Lists of calls, each with a rendering behind it.
+use crate::other_delimiters::delimiters;
 use crate::own::{Holding, saying};
 use std::alloc::Global;
-use tera::{Context, Delimiters, Tera, TeraResult, Value};
+use tera::{Context, Tera, TeraResult, Value};
 use tera_calls::{Call, CallOver, Outcome, Rendering, render_after};
-
-fn delimiters(alloc: Global) -> TeraResult<Delimiters> {
-    Ok(Delimiters {
-        block_start: String::from_str(alloc, "[%")?,
-        block_end: String::from_str(alloc, "%]")?,
-        variable_start: String::from_str(alloc, "[[")?,
-        variable_end: String::from_str(alloc, "]]")?,
-        comment_start: String::from_str(alloc, "[#")?,
-        comment_end: String::from_str(alloc, "#]")?,
-    })
-}
 
 fn with_prefixes<'a>(prefixes: &'a [&'a str]) -> Call<'a> {
     CallOver::SetFallbackPrefixes { prefixes }
@@ -122,7 +112,7 @@ fn add_objects(alloc: Global, calls: &mut Vec<Call<'_>>) -> TeraResult<()> {
 fn is_rendered(alloc: Global, rendering: &Rendering<'_>, want: &str) -> TeraResult<bool> {
     let mut calls = Vec::new(alloc);
     calls.push(CallOver::SetDelimiters {
-        delimiters: delimiters(alloc)?,
+        delimiters: delimiters(alloc, ("[%", "%]"), ("[[", "]]"), ("[#", "#]"))?,
     })?;
     calls.push(with_global("name", Value::string(alloc, "<")?))?;
     add_templates(&mut calls)?;

@@ -63,6 +63,14 @@ pub fn is_refused(error: &Error, want: &str, size: usize) -> bool {
     }
 }
 
+/// Whether what was rendered is this text.
+pub fn is_text(answer: TeraResult<String>, want: &str) -> bool {
+    match answer {
+        Ok(text) => text.as_str() == want,
+        Err(_) => false,
+    }
+}
+
 /// Whether the input renders to the text.
 pub fn renders(
     engine: &Tera,
@@ -71,10 +79,7 @@ pub fn renders(
     input: &str,
     text: &str,
 ) -> bool {
-    match engine.render_str(input, context, autoescape) {
-        Ok(rendered) => rendered.as_str() == text,
-        Err(_) => false,
-    }
+    is_text(engine.render_str(input, context, autoescape), text)
 }
 
 /// Whether the input is refused as the line wants it.
@@ -103,17 +108,31 @@ fn agrees(engine: &Tera, context: &Context, autoescape: bool, line: &str) -> boo
     }
 }
 
-/// The first line that the engine answers otherwise.
+/// The number of the first line that the engine answers otherwise.
 pub fn wrong_by(engine: &Tera, context: &Context, autoescape: bool, lines: &str) -> Option<usize> {
     lines
         .lines()
         .position(|line| !agrees(engine, context, autoescape, line))
 }
 
-/// The first line that is answered otherwise. With no engine to render with, that is the first.
-pub fn wrong(alloc: Global, autoescape: bool, lines: &str) -> Option<usize> {
+/// The first line of the table that is answered otherwise, by an engine of its own.
+pub fn wrong(alloc: Global, autoescape: bool, lines: &'static str) -> Option<&'static str> {
     match (Tera::new(alloc), variables(alloc)) {
-        (Ok(engine), Some(context)) => wrong_by(&engine, &context, autoescape, lines),
-        _ => Some(0),
+        (Ok(engine), Some(context)) => {
+            let number = wrong_by(&engine, &context, autoescape, lines)?;
+            lines.lines().nth(number)
+        }
+        _ => Some("no engine"),
     }
+}
+
+/// The first line of these tables that is answered otherwise. Beside each table stands whether texts are escaped.
+pub fn first_wrong(alloc: Global, tables: &[(bool, &'static str)]) -> Option<&'static str> {
+    for (autoescape, lines) in tables {
+        let line = wrong(alloc, *autoescape, lines);
+        if line.is_some() {
+            return line;
+        }
+    }
+    None
 }

@@ -586,33 +586,10 @@ const REFUSED: &str = r#"{% component W() %}{% block b %}{% endblock %}{% endcom
 {% for x in [1] %}{% component W() %}{% endcomponent %}{% endfor %} !! syntax"#;
 
 #[test]
-fn what_components_are_given(rt: HostRuntime) {
-    let row = batches::wrong(rt.alloc(), GIVEN);
-    assert!(rt; row.is_none(), "at script {row:?}");
-}
-
-#[test]
-fn what_components_look_up(rt: HostRuntime) {
-    let row = batches::wrong(rt.alloc(), LOOKED_UP);
-    assert!(rt; row.is_none(), "at script {row:?}");
-}
-
-#[test]
-fn bodies_of_components(rt: HostRuntime) {
-    let row = batches::wrong(rt.alloc(), BODIES);
-    assert!(rt; row.is_none(), "at script {row:?}");
-}
-
-#[test]
-fn definers_of_components(rt: HostRuntime) {
-    let row = batches::wrong(rt.alloc(), DEFINERS);
-    assert!(rt; row.is_none(), "at script {row:?}");
-}
-
-#[test]
-fn components_alone(rt: HostRuntime) {
-    let row = batches::wrong(rt.alloc(), ALONE);
-    assert!(rt; row.is_none(), "at script {row:?}");
+fn components(rt: HostRuntime) {
+    let tables = [GIVEN, LOOKED_UP, BODIES, DEFINERS, ALONE];
+    let script = batches::wrong(rt.alloc(), &tables);
+    assert!(rt; script.is_none(), "at script {script:?}");
 }
 
 #[test]

@@ -1,6 +1,5 @@
 //! Scripts with includes.
 use crate::batches::wrong;
-use crate::many_templates::shows_row;
 
 /// Scripts with their replies, as those of batches. What is included reads its includer, and writes nothing back.
 const INCLUDES: &str = r#"@@ template world
@@ -345,20 +344,6 @@ fault SyntaxError __tera_one_off 33 34"#;
 
 #[test]
 fn includes(rt: HostRuntime) {
-    let row = wrong(rt.alloc(), INCLUDES);
-    assert!(rt; row.is_none(), "at script {row:?}");
-}
-
-#[test]
-fn refused_includes(rt: HostRuntime) {
-    let row = wrong(rt.alloc(), REFUSED);
-    assert!(rt; row.is_none(), "at script {row:?}");
-}
-
-#[test]
-fn many_includes(rt: HostRuntime) {
-    assert!(rt;
-        shows_row(rt.alloc(), 301, "include", "1")
-            && shows_row(rt.alloc(), 10_000, "include", "9800")
-    );
+    let script = wrong(rt.alloc(), &[INCLUDES, REFUSED]);
+    assert!(rt; script.is_none(), "at script {script:?}");
 }

@@ -382,19 +382,7 @@ child-default
 default"#;
 
 #[test]
-fn blocks(rt: HostRuntime) {
-    let row = wrong(rt.alloc(), BLOCKS);
-    assert!(rt; row.is_none(), "at script {row:?}");
-}
-
-#[test]
-fn children(rt: HostRuntime) {
-    let row = wrong(rt.alloc(), CHILDREN);
-    assert!(rt; row.is_none(), "at script {row:?}");
-}
-
-#[test]
-fn refused_blocks(rt: HostRuntime) {
-    let row = wrong(rt.alloc(), REFUSED);
-    assert!(rt; row.is_none(), "at script {row:?}");
+fn inheritance(rt: HostRuntime) {
+    let script = wrong(rt.alloc(), &[BLOCKS, CHILDREN, REFUSED]);
+    assert!(rt; script.is_none(), "at script {script:?}");
 }

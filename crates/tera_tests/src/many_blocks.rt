@@ -1,48 +1,19 @@
 //! Blocks in many templates, and many blocks in one.
-use crate::many_templates::{adds_all, put_number};
+use crate::many_templates::{Lineage, put_number, shows_one};
 use crate::templates::{adds, shows};
 use std::alloc::Global;
 use tera::{Context, Tera};
 
-/// A line `NUMBER TEXT` for the template of this number, which extends the next one and has this text in its block.
-fn put_child(lines: &mut String, number: usize, inside: &str) -> bool {
-    put_number(lines, number)
-        && lines.push_str(" {% extends '").is_ok()
-        && put_number(lines, number.saturating_add(1))
-        && lines.push_str("' %}{% block b %}").is_ok()
-        && lines.push_str(inside).is_ok()
-        && lines.push_str("{% endblock %}\n").is_ok()
-}
-
-/// A line each for so many templates in a row, of which each but the last extends the next, and all have the block.
-fn row(alloc: Global, count: usize, inside: &str) -> Option<String> {
-    let mut lines = String::new(alloc);
-    for number in 1..count {
-        if !put_child(&mut lines, number, inside) {
-            return None;
-        }
-    }
-    if put_number(&mut lines, count) && lines.push_str(" {% block b %}x{% endblock %}").is_ok() {
-        return Some(lines);
-    }
-    None
-}
-
-fn is_row_shown(alloc: Global, engine: &mut Tera, count: usize, inside: &str, want: &str) -> bool {
-    match row(alloc, count, inside) {
-        Some(lines) => {
-            let context = Context::new(alloc);
-            adds_all(alloc, engine, lines.as_str()) && shows(engine, &context, "1", want)
-        }
-        None => false,
-    }
-}
-
-fn shows_row(alloc: Global, count: usize, inside: &str, want: &str) -> bool {
-    match Tera::new(alloc) {
-        Ok(mut engine) => is_row_shown(alloc, &mut engine, count, inside, want),
-        Err(_) => false,
-    }
+/// Whether the first of so many templates in a row, of which each but the last extends the next, renders to the text. All have a
+/// block, the last one with `x` in it, the others with what stands behind the name of their parents.
+fn shows_first(alloc: Global, count: usize, behind: &str, want: &str) -> bool {
+    let lineage = Lineage {
+        count,
+        before: "{% extends '",
+        behind,
+        last: "{% block b %}x{% endblock %}",
+    };
+    shows_one(alloc, lineage, "1", want)
 }
 
 /// This text and so many dots behind it.
@@ -61,10 +32,10 @@ fn dotted(alloc: Global, front: &str, count: usize) -> Option<String> {
 
 fn shows_dots(alloc: Global, count: usize) -> bool {
     match dotted(alloc, "x", count) {
-        Some(text) => shows_row(
+        Some(text) => shows_first(
             alloc,
             count.saturating_add(1),
-            "{{ super() }}.",
+            "' %}{% block b %}{{ super() }}.{% endblock %}",
             text.as_str(),
         ),
         None => false,
@@ -73,7 +44,8 @@ fn shows_dots(alloc: Global, count: usize) -> bool {
 
 #[test]
 fn long_lineages(rt: HostRuntime) {
-    assert!(rt; shows_dots(rt.alloc(), 300) && shows_row(rt.alloc(), 10_000, "own", "own"));
+    let own = "' %}{% block b %}own{% endblock %}";
+    assert!(rt; shows_dots(rt.alloc(), 300) && shows_first(rt.alloc(), 10_000, own, "own"));
 }
 
 /// A template with so many blocks, each with its number in it.

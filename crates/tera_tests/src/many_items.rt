@@ -1,5 +1,5 @@
 //! Loops over many items.
-use crate::cases::put;
+use crate::cases::{put, renders};
 use std::alloc::Global;
 use tera::{Context, Tera, Value};
 
@@ -24,27 +24,23 @@ fn context(alloc: Global) -> Option<Context> {
     }
 }
 
-fn gives(engine: &Tera, context: &Context, input: &str, text: &str) -> bool {
-    match engine.render_str(input, context, true) {
-        Ok(rendered) => rendered.as_str() == text,
-        Err(_) => false,
-    }
-}
-
 fn is_walked(engine: &Tera, context: &Context) -> bool {
-    gives(
+    renders(
         engine,
         context,
+        true,
         "{% for x in numbers %}{% if loop.last %}{{ x }} of {{ loop.length }}{% endif %}{% endfor %}",
         "99999 of 100000",
-    ) && gives(
+    ) && renders(
         engine,
         context,
+        true,
         "{{ [x for x in numbers if x >= 99998] }}",
         "[99998, 99999]",
-    ) && gives(
+    ) && renders(
         engine,
         context,
+        true,
         "{% for x in numbers %}{% set y %}{{ x }}{% endset %}{% if x == 7 %}{{ y }}{% break %}{% endif %}{% endfor %}",
         "7",
     )

@@ -1,38 +1,45 @@
 //! Many templates, and templates with many parents.
 use crate::templates::{adds, shows};
 use std::alloc::Global;
-use tera::{Context, Tera};
+use tera::{Context, Tera, TeraResult};
 
 pub fn put_number(text: &mut String, number: usize) -> bool {
     write!(text, "{number}").is_ok()
 }
 
-/// A line `NUMBER TEXT` for the template of this number, which names the next one in this tag.
-fn put_line(lines: &mut String, number: usize, tag: &str) -> bool {
-    put_number(lines, number)
-        && lines.push_str(" {% ").is_ok()
-        && lines.push_str(tag).is_ok()
-        && lines.push_str(" '").is_ok()
-        && put_number(lines, number.saturating_add(1))
-        && lines.push_str("' %}\n").is_ok()
+/// Templates in a row, with their numbers from one on for their names.
+#[derive(Clone, Copy)]
+pub struct Lineage<'a> {
+    pub count: usize,
+    /// What each but the last has before the name of the next one.
+    pub before: &'a str,
+    /// What each but the last has behind the name of the next one.
+    pub behind: &'a str,
+    pub last: &'a str,
 }
 
-/// A line each for so many templates in a row, of which each but the last names the next in this tag.
-fn row(alloc: Global, count: usize, tag: &str) -> Option<String> {
+fn put_line(lines: &mut String, number: usize, before: &str, behind: &str) -> bool {
+    let next = number.saturating_add(1);
+    writeln!(lines, "{number} {before}{next}{behind}").is_ok()
+}
+
+/// A line `NUMBER TEXT` for each of the templates.
+fn lines_of(alloc: Global, lineage: Lineage<'_>) -> Option<String> {
     let mut lines = String::new(alloc);
-    for number in 1..count {
-        if !put_line(&mut lines, number, tag) {
+    for number in 1..lineage.count {
+        if !put_line(&mut lines, number, lineage.before, lineage.behind) {
             return None;
         }
     }
-    if put_number(&mut lines, count) && lines.push_str(" the last").is_ok() {
+    let Lineage { count, last, .. } = lineage;
+    if write!(lines, "{count} {last}").is_ok() {
         return Some(lines);
     }
     None
 }
 
 /// Whether the templates, each a line of its name and its text, are added in one batch.
-pub fn adds_all(alloc: Global, engine: &mut Tera, lines: &str) -> bool {
+fn adds_all(alloc: Global, engine: &mut Tera, lines: &str) -> bool {
     let mut batch = Vec::new(alloc);
     for line in lines.lines() {
         match line.split_once(' ') {
@@ -47,24 +54,43 @@ pub fn adds_all(alloc: Global, engine: &mut Tera, lines: &str) -> bool {
     engine.add_raw_templates(batch.as_slice()).is_ok()
 }
 
-fn is_shown(alloc: Global, engine: &mut Tera, lines: &str, name: &str) -> bool {
+fn is_shown(alloc: Global, engine: &mut Tera, lines: &str, name: &str, want: &str) -> bool {
     let context = Context::new(alloc);
-    adds_all(alloc, engine, lines) && shows(engine, &context, name, "the last")
+    adds_all(alloc, engine, lines) && shows(engine, &context, name, want)
 }
 
-/// Whether a template of such a row puts out what the last one is.
-pub fn shows_row(alloc: Global, count: usize, tag: &str, name: &str) -> bool {
-    match (Tera::new(alloc), row(alloc, count, tag)) {
-        (Ok(mut engine), Some(lines)) => is_shown(alloc, &mut engine, lines.as_str(), name),
+/// Whether the template of this name, one of those in the row, renders to the text.
+pub fn shows_one(alloc: Global, lineage: Lineage<'_>, name: &str, want: &str) -> bool {
+    match (Tera::new(alloc), lines_of(alloc, lineage)) {
+        (Ok(mut engine), Some(lines)) => is_shown(alloc, &mut engine, lines.as_str(), name, want),
         _ => false,
     }
+}
+
+/// Whether a template puts out what the last one of the row is, to which this tag of each leads.
+fn leads_on(alloc: Global, count: usize, before: &str, name: &str) -> bool {
+    let lineage = Lineage {
+        count,
+        before,
+        behind: "' %}",
+        last: "the last",
+    };
+    shows_one(alloc, lineage, name, "the last")
 }
 
 #[test]
 fn many_parents(rt: HostRuntime) {
     assert!(rt;
-        shows_row(rt.alloc(), 301, "extends", "1")
-            && shows_row(rt.alloc(), 10_000, "extends", "9990")
+        leads_on(rt.alloc(), 301, "{% extends '", "1")
+            && leads_on(rt.alloc(), 10_000, "{% extends '", "9990")
+    );
+}
+
+#[test]
+fn many_includes(rt: HostRuntime) {
+    assert!(rt;
+        leads_on(rt.alloc(), 301, "{% include '", "1")
+            && leads_on(rt.alloc(), 10_000, "{% include '", "9800")
     );
 }
 
@@ -85,14 +111,12 @@ fn shows_each(alloc: Global, engine: &mut Tera) -> bool {
     true
 }
 
-fn is_overwritten(alloc: Global) -> bool {
-    match Tera::new(alloc) {
-        Ok(mut engine) => shows_each(alloc, &mut engine),
-        Err(_) => false,
-    }
+fn is_overwritten(alloc: Global) -> TeraResult<bool> {
+    let mut engine = Tera::new(alloc)?;
+    Ok(shows_each(alloc, &mut engine))
 }
 
 #[test]
 fn the_last_text_of_a_name_is_shown(rt: HostRuntime) {
-    assert!(rt; is_overwritten(rt.alloc()));
+    assert!(rt; is_overwritten(rt.alloc()).unwrap_or(false));
 }

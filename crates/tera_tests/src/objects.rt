@@ -1,5 +1,5 @@
 //! Filters, tests, functions and escapes of the caller, where they are called.
-use crate::cases::{variables, wrong_by};
+use crate::cases::{is_text, variables, wrong_by};
 use crate::own::{
     Asks, FindsNoTemplate, LacksMemory, MissesArgument, RefusesArgument, RefusesWithMessage, Trims,
     Writes, saying,
@@ -142,13 +142,6 @@ fn greeting(alloc: Global) -> TeraResult<Context> {
     let mut context = Context::new(alloc);
     context.insert("content", Value::string(alloc, "Hello tera")?)?;
     Ok(context)
-}
-
-fn is_text(answer: TeraResult<String>, want: &str) -> bool {
-    match answer {
-        Ok(text) => text.as_str() == want,
-        Err(_) => false,
-    }
 }
 
 fn lacks(answer: TeraResult<String>) -> bool {

@@ -1,6 +1,7 @@
 //! What an object sees where it is called: the scope of that place.
 use crate::cases::wrong_by;
 use crate::own::Shows;
+use crate::templates::shows;
 use std::alloc::Global;
 use tera::{Context, Tera, TeraResult, Value};
 
@@ -50,14 +51,7 @@ const TEMPLATES: &[(&str, &str)] = &[
     ),
 ];
 
-// Whether a template of this name is rendered so. What an argument sets is there when the call sees its scope.
-fn is_template(engine: &Tera, context: &Context, name: &str, want: &str) -> bool {
-    match engine.render(name, context) {
-        Ok(text) => text.as_str() == want,
-        Err(_) => false,
-    }
-}
-
+// What an argument sets is there when the call sees its scope.
 fn sees(alloc: Global) -> TeraResult<bool> {
     let mut context = Context::new(alloc);
     context.insert("x", Value::string(alloc, "c")?)?;
@@ -71,8 +65,8 @@ fn sees(alloc: Global) -> TeraResult<bool> {
     Ok(
         is_refused
             && are_rows
-            && is_template(&engine, &context, "child", "12")
-            && is_template(&engine, &context, "arguments", "5"),
+            && shows(&engine, &context, "child", "12")
+            && shows(&engine, &context, "arguments", "5"),
     )
 }
 

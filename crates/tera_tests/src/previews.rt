@@ -78,6 +78,6 @@ fault RenderingError d 34 35"#;
 
 #[test]
 fn previews(rt: HostRuntime) {
-    let row = batches::wrong(rt.alloc(), PREVIEWS);
-    assert!(rt; row.is_none(), "at script {row:?}");
+    let script = batches::wrong(rt.alloc(), &[PREVIEWS]);
+    assert!(rt; script.is_none(), "at script {script:?}");
 }

@@ -8,7 +8,7 @@ use tera_run_script::Outcome::{Done, Unreadable};
 #[derive(Clone, Copy)]
 struct Script(&'static [u8], &'static [u8], Outcome);
 
-const SCRIPTS: [Script; 31] = [
+const SCRIPTS: [Script; 15] = [
     Script(
         b"@@ text name\nworld\n@@ end\n@@ str off\nHello {{ name }}!\n@@ end\n",
         b"ok\nHello world!\n",
@@ -34,21 +34,7 @@ const SCRIPTS: [Script; 31] = [
         b"@@ text x\n @@ end\n@@ end \n",
         Done,
     ),
-    Script(b"hello", b"", Unreadable(1)),
-    Script(b"@@ wrong\n", b"", Unreadable(1)),
-    Script(b"@@ end\n", b"", Unreadable(1)),
-    Script(b"@@\n", b"", Unreadable(1)),
     Script(b"\n\n@@ text\n@@ end\n", b"", Unreadable(3)),
-    Script(b"@@ text \n@@ end\n", b"", Unreadable(1)),
-    Script(b"@@ text a b\n@@ end\n", b"", Unreadable(1)),
-    Script(b"@@ text  a\n@@ end\n", b"", Unreadable(1)),
-    Script(b"@@ text a \n@@ end\n", b"", Unreadable(1)),
-    Script(b"@@ text a\tb\n@@ end\n", b"", Unreadable(1)),
-    Script(b"@@ text a\xc2\xa0b\n@@ end\n", b"", Unreadable(1)),
-    Script(b"@@ str maybe\n@@ end\n", b"", Unreadable(1)),
-    Script(b"@@ str on\r\n@@ end\n", b"", Unreadable(1)),
-    Script(b" @@ str on\n@@ end\n", b"", Unreadable(1)),
-    Script(b"@@ str on", b"", Unreadable(1)),
     Script(
         b"@@ text x\nbody\n@@ end\n@@ str on\nopen\n",
         b"ok\n",
@@ -59,9 +45,7 @@ const SCRIPTS: [Script; 31] = [
         b"ok\nx\n",
         Unreadable(8),
     ),
-    Script(b"@@ text x\nbody\n@@ end\n\xff", b"", Unreadable(1)),
     Script(b"@@ add\n@@ template a\nopen\n", b"ok\n", Unreadable(2)),
-    Script(b"@@ template a b\n@@ end\n", b"", Unreadable(1)),
     Script(
         b"@@ render shelf\n@@ dust shelf\n@@ render shelf\n",
         b"fault TemplateNotFound\n",
@@ -75,10 +59,34 @@ const SCRIPTS: [Script; 31] = [
     ),
 ];
 
+/// Scripts that are given up at their first line. Nothing is written for them.
+const UNREADABLE: [&[u8]; 16] = [
+    b"hello",
+    b"@@ wrong\n",
+    b"@@ end\n",
+    b"@@\n",
+    b"@@ text \n@@ end\n",
+    b"@@ text a b\n@@ end\n",
+    b"@@ text  a\n@@ end\n",
+    b"@@ text a \n@@ end\n",
+    b"@@ text a\tb\n@@ end\n",
+    b"@@ text a\xc2\xa0b\n@@ end\n",
+    b"@@ str maybe\n@@ end\n",
+    b"@@ str on\r\n@@ end\n",
+    b" @@ str on\n@@ end\n",
+    b"@@ str on",
+    b"@@ text x\nbody\n@@ end\n\xff",
+    b"@@ template a b\n@@ end\n",
+];
+
 fn is_answered(alloc: Global, script: Script) -> bool {
     let mut sink = Sink::new();
     run_between(alloc, Source::new(script.0), &mut sink) == Some(script.2)
         && sink.written() == script.1
+}
+
+fn is_unreadable(alloc: Global, text: &'static [u8]) -> bool {
+    is_answered(alloc, Script(text, b"", Unreadable(1)))
 }
 
 #[test]
@@ -87,4 +95,11 @@ fn scripts(rt: HostRuntime) {
         .iter()
         .position(|script| !is_answered(rt.alloc(), *script));
     assert!(rt; row.is_none(), "at row {row:?}");
+    let row = UNREADABLE
+        .iter()
+        .position(|text| !is_unreadable(rt.alloc(), *text));
+    assert!(rt;
+        row.is_none(),
+        "at row {row:?} of those that are unreadable"
+    );
 }

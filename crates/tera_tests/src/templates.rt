@@ -1,5 +1,5 @@
 //! Templates by name: what they render to, and which batches are refused.
-use crate::cases::put;
+use crate::cases::is_text;
 use std::alloc::Global;
 use tera::{Context, Error, ErrorKind, Tera, TeraResult, Value};
 use tera_values::{Key, Map};
@@ -42,16 +42,20 @@ pub fn is_refused(answer: TeraResult<()>, want: &str) -> bool {
     }
 }
 
+/// A context with one text.
+pub fn with_text(alloc: Global, name: &str, text: &str) -> TeraResult<Context> {
+    let mut context = Context::new(alloc);
+    context.insert(name, Value::string(alloc, text)?)?;
+    Ok(context)
+}
+
 pub fn adds(engine: &mut Tera, name: &str, content: &str) -> bool {
     engine.add_raw_template(name, content).is_ok()
 }
 
 /// Whether the template renders to the text.
 pub fn shows(engine: &Tera, context: &Context, name: &str, text: &str) -> bool {
-    match engine.render(name, context) {
-        Ok(rendered) => rendered.as_str() == text,
-        Err(_) => false,
-    }
+    is_text(engine.render(name, context), text)
 }
 
 /// Whether a rendering is refused with an error of this kind.
@@ -82,19 +86,11 @@ fn falls_back(engine: &mut Tera, context: &Context) -> bool {
         && shows(engine, context, "child.html", "main")
 }
 
-fn prefixes_are_tried(alloc: Global) -> bool {
-    match Tera::new(alloc) {
-        Ok(mut engine) => {
-            let context = Context::new(alloc);
-            falls_back(&mut engine, &context)
-        }
-        Err(_) => false,
-    }
-}
-
 #[test]
-fn names_fall_back_to_prefixes(rt: HostRuntime) {
-    assert!(rt; prefixes_are_tried(rt.alloc()));
+fn names_fall_back_to_prefixes(rt: HostRuntime) -> TeraResult<()> {
+    let mut engine = Tera::new(rt.alloc())?;
+    assert!(rt; falls_back(&mut engine, &Context::new(rt.alloc())));
+    Ok(())
 }
 
 fn has_names(engine: &Tera, count: usize) -> bool {
@@ -120,62 +116,38 @@ fn refuses_unknown(engine: &mut Tera, context: &Context) -> bool {
         && fails(engine, context, "bad", "TemplateNotFound")
 }
 
-fn unknown_names_are_refused(alloc: Global) -> bool {
-    let mut context = Context::new(alloc);
-    match Tera::new(alloc) {
-        Ok(mut engine) => {
-            put(&mut context, "name", Value::string(alloc, ""))
-                && refuses_unknown(&mut engine, &context)
-        }
-        Err(_) => false,
-    }
+#[test]
+fn what_is_called_is_there(rt: HostRuntime) -> TeraResult<()> {
+    let mut engine = Tera::new(rt.alloc())?;
+    let context = with_text(rt.alloc(), "name", "")?;
+    assert!(rt; refuses_unknown(&mut engine, &context));
+    Ok(())
 }
 
-#[test]
-fn what_is_called_is_there(rt: HostRuntime) {
-    assert!(rt; unknown_names_are_refused(rt.alloc()));
+fn refuses(engine: &mut Tera, name: &str, content: &str, want: &str) -> bool {
+    is_refused(engine.add_raw_template(name, content), want)
 }
 
 fn refuses_batches(engine: &mut Tera, context: &Context) -> bool {
     is_refused(engine.add_raw_templates(&CIRCLE), "CircularExtend")
         && has_names(engine, 0)
-        && is_refused(
-            engine.add_raw_template("a", "{% extends \"no\" %}"),
-            "MissingParent",
-        )
-        && is_refused(
-            engine.add_raw_template("a", "{% extends 'a' %}"),
-            "CircularExtend",
-        )
+        && refuses(engine, "a", "{% extends \"no\" %}", "MissingParent")
+        && refuses(engine, "a", "{% extends 'a' %}", "CircularExtend")
         && !engine.contains_template("a")
         && fails(engine, context, "no", "TemplateNotFound")
         && engine.add_raw_templates(&TWICE).is_ok()
         && shows(engine, context, "a", "2")
-        && is_refused(
-            engine.add_raw_template("a", "{% if x %}oops"),
-            "SyntaxError",
-        )
-        && is_refused(
-            engine.add_raw_template("b", "{% extends 'no' %}"),
-            "MissingParent",
-        )
+        && refuses(engine, "a", "{% if x %}oops", "SyntaxError")
+        && refuses(engine, "b", "{% extends 'no' %}", "MissingParent")
         && shows(engine, context, "a", "2")
         && has_names(engine, 1)
 }
 
-fn batches_are_refused(alloc: Global) -> bool {
-    match Tera::new(alloc) {
-        Ok(mut engine) => {
-            let context = Context::new(alloc);
-            refuses_batches(&mut engine, &context)
-        }
-        Err(_) => false,
-    }
-}
-
 #[test]
-fn refused_batches_change_nothing(rt: HostRuntime) {
-    assert!(rt; batches_are_refused(rt.alloc()));
+fn refused_batches_change_nothing(rt: HostRuntime) -> TeraResult<()> {
+    let mut engine = Tera::new(rt.alloc())?;
+    assert!(rt; refuses_batches(&mut engine, &Context::new(rt.alloc())));
+    Ok(())
 }
 
 /// One user, with an address and a name.
@@ -206,19 +178,13 @@ fn lists_users(engine: &mut Tera, context: &Context) -> bool {
         && shows(engine, context, "u.txt", "<a href=\"/a\">A&B</a>")
 }
 
-fn users_are_listed(alloc: Global) -> bool {
-    match Tera::new(alloc) {
-        Ok(mut engine) => {
-            let mut context = Context::new(alloc);
-            put(&mut context, "users", users(alloc)) && lists_users(&mut engine, &context)
-        }
-        Err(_) => false,
-    }
-}
-
 #[test]
-fn suffixes_say_what_escapes(rt: HostRuntime) {
-    assert!(rt; users_are_listed(rt.alloc()));
+fn suffixes_say_what_escapes(rt: HostRuntime) -> TeraResult<()> {
+    let mut engine = Tera::new(rt.alloc())?;
+    let mut context = Context::new(rt.alloc());
+    context.insert("users", users(rt.alloc())?)?;
+    assert!(rt; lists_users(&mut engine, &context));
+    Ok(())
 }
 
 fn appends(alloc: Global, engine: &Tera, context: &Context) -> bool {
@@ -245,18 +211,10 @@ fn is_message(engine: &Tera, context: &Context, input: &str) -> bool {
     fails_with(engine.render_str(input, context, true), "Message")
 }
 
-fn children_are_shown(alloc: Global) -> bool {
-    match Tera::new(alloc) {
-        Ok(mut engine) => {
-            let mut context = Context::new(alloc);
-            put(&mut context, "html", Value::string(alloc, "<"))
-                && inherits(alloc, &mut engine, &context)
-        }
-        Err(_) => false,
-    }
-}
-
 #[test]
-fn children_show_their_last_parent(rt: HostRuntime) {
-    assert!(rt; children_are_shown(rt.alloc()));
+fn children_show_their_last_parent(rt: HostRuntime) -> TeraResult<()> {
+    let mut engine = Tera::new(rt.alloc())?;
+    let context = with_text(rt.alloc(), "html", "<")?;
+    assert!(rt; inherits(rt.alloc(), &mut engine, &context));
+    Ok(())
 }

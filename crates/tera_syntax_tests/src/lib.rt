@@ -2,20 +2,4 @@
 #![tactic(auto)]
 
 #[cfg(test)]
-mod applications;
-#[cfg(test)]
-mod components;
-#[cfg(test)]
-mod includes;
-#[cfg(test)]
-mod nests;
-#[cfg(test)]
-mod places;
-#[cfg(test)]
-mod readings;
-#[cfg(test)]
-mod rows;
-#[cfg(test)]
-mod sections;
-#[cfg(test)]
-mod shown;
+mod tests;

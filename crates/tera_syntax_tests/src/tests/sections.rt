@@ -1,5 +1,5 @@
 //! Texts with filter sections, and with filters behind the name that `set` binds.
-use crate::rows::{Row, Text};
+use super::rows::{Row, Text};
 
 /// Between the standard delimiters.
 pub static SECTIONS: [Row; 16] = [

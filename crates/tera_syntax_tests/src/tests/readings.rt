@@ -2,14 +2,14 @@
 ghost use Rattle.std.specs.Prelude.{IsTrue};
 ghost use Rattle.tera_syntax_tree.specs.Prelude.{accepted, delimiters_of};
 
-use crate::applications::{APPLICATIONS, UNREAD_APPLICATIONS};
-use crate::components::{CALLS, DEFINITIONS, UNREAD_CALLS, UNREAD_DEFINITIONS};
-use crate::includes::{INCLUDES, UNREAD_INCLUDES};
-use crate::nests::{Depth, NESTS, Nest};
-use crate::places::{PLACES, Place};
-use crate::rows::{OTHERS, Other, REFUSED, Row, TREES, Text, UNUSABLE, Unusable};
-use crate::sections::{SECTIONS, UNREAD_SECTIONS};
-use crate::shown::Shown;
+use super::applications::{APPLICATIONS, UNREAD_APPLICATIONS};
+use super::components::{CALLS, DEFINITIONS, UNREAD_CALLS, UNREAD_DEFINITIONS};
+use super::includes::{INCLUDES, UNREAD_INCLUDES};
+use super::nests::{Depth, NESTS, Nest};
+use super::places::{PLACES, Place};
+use super::rows::{OTHERS, Other, REFUSED, Row, TREES, Text, UNUSABLE, Unusable};
+use super::sections::{SECTIONS, UNREAD_SECTIONS};
+use super::shown::Shown;
 use std::alloc::Global;
 use tera_errors::{ErrorKind, Span, TeraResult};
 use tera_syntax::{Delimiters, ParserOutput, parse};

@@ -1,5 +1,5 @@
 //! Texts with filters, tests and calls in expressions.
-use crate::rows::{Row, Text};
+use super::rows::{Row, Text};
 
 /// Between the standard delimiters.
 pub static APPLICATIONS: [Row; 24] = [

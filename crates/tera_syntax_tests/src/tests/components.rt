@@ -1,5 +1,5 @@
 //! Texts that define components, and that hand them a body.
-use crate::rows::{Row, Text};
+use super::rows::{Row, Text};
 
 /// Between the standard delimiters.
 pub static DEFINITIONS: [Row; 20] = [

@@ -1,5 +1,5 @@
 //! Texts in which parts stand in one another, and how deep they may.
-use crate::nests::Depth::{Deepest, Read, Refused};
+use self::Depth::{Deepest, Read, Refused};
 
 /// How a text is answered in which parts stand in one another so many times.
 #[derive(Clone, Copy)]

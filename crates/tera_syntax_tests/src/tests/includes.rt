@@ -1,5 +1,5 @@
 //! Texts with includes.
-use crate::rows::{Row, Text};
+use super::rows::{Row, Text};
 
 /// Between the standard delimiters.
 pub static INCLUDES: [Row; 17] = [

@@ -1,0 +1,11 @@
+// Small texts, what they spell, and the tests that read them.
+
+mod applications;
+mod components;
+mod includes;
+mod nests;
+mod places;
+mod readings;
+mod rows;
+mod sections;
+mod shown;

@@ -1,0 +1,156 @@
+//! Lists of calls, each with a rendering behind it.
+use super::other_delimiters::delimiters;
+use crate::own::{Holding, saying};
+use std::alloc::Global;
+use tera::{Context, Tera, TeraResult, Value};
+use tera_calls::{Call, CallOver, Outcome, Rendering, render_after};
+
+fn with_prefixes<'a>(prefixes: &'a [&'a str]) -> Call<'a> {
+    CallOver::SetFallbackPrefixes { prefixes }
+}
+
+fn with_suffixes<'a>(suffixes: &'a [&'a str]) -> Call<'a> {
+    CallOver::AutoescapeOn { suffixes }
+}
+
+fn with_global<'a>(name: &'a str, value: Value) -> Call<'a> {
+    CallOver::InsertGlobal { name, value }
+}
+
+fn with_template<'a>(name: &'a str, content: &'a str) -> Call<'a> {
+    CallOver::AddRawTemplate { name, content }
+}
+
+fn with_batch<'a>(templates: &'a [(&'a str, &'a str)]) -> Call<'a> {
+    CallOver::AddRawTemplates { templates }
+}
+
+fn with_filter<'a>(alloc: Global, name: &'a str, word: &'static str) -> TeraResult<Call<'a>> {
+    let filter = Box::new(alloc, saying(alloc, word, false))?;
+    Ok(CallOver::RegisterFilter { name, filter })
+}
+
+fn with_function<'a>(alloc: Global, name: &'a str, word: &'static str) -> TeraResult<Call<'a>> {
+    let function = Box::new(alloc, saying(alloc, word, false))?;
+    Ok(CallOver::RegisterFunction { name, function })
+}
+
+fn with_test<'a>(alloc: Global, name: &'a str) -> TeraResult<Call<'a>> {
+    let test = Box::new(alloc, Holding)?;
+    Ok(CallOver::RegisterTest { name, test })
+}
+
+// Registers what another engine has: a filter `said`, which is there already, and one more.
+fn with_those_of_another<'a>(alloc: Global) -> TeraResult<Call<'a>> {
+    let mut other = Tera::new(alloc)?;
+    other.register_filter("said", Box::new(alloc, saying(alloc, "other", false))?)?;
+    other.register_filter("more", Box::new(alloc, saying(alloc, "more", false))?)?;
+    Ok(CallOver::RegisterFrom { other })
+}
+
+fn of_template<'a>(name: &'a str, context: &'a Context) -> Rendering<'a> {
+    Rendering::Template { name, context }
+}
+
+fn of_block<'a>(name: &'a str, block: &'a str, context: &'a Context) -> Rendering<'a> {
+    Rendering::Block {
+        name,
+        block,
+        context,
+    }
+}
+
+fn of_text<'a>(input: &'a str, context: &'a Context) -> Rendering<'a> {
+    Rendering::Text {
+        input,
+        context,
+        autoescape: false,
+    }
+}
+
+fn of_component<'a>(name: &'a str, args: &'a Context, implicits: &'a Context) -> Rendering<'a> {
+    Rendering::Component {
+        name,
+        args,
+        implicits,
+        body: None,
+        autoescape: true,
+    }
+}
+
+// Whether the rendering gave this text behind thirteen calls, of which the three that must be are refused.
+fn gave(outcome: &Outcome, want: &str) -> bool {
+    let refused = outcome.answers.iter().filter(|a| a.is_err()).count();
+    match &outcome.text {
+        Ok(text) => outcome.answers.len() == 13 && refused == 3 && text.as_str() == want,
+        Err(_) => false,
+    }
+}
+
+// Calls that configure and add. Of templates one is refused since its `if` has no condition, and one since it calls a filter that
+// comes later.
+fn add_templates(calls: &mut Vec<Call<'_>>) -> TeraResult<()> {
+    calls.push(with_prefixes(&["site/"]))?;
+    calls.push(with_suffixes(&[".page"]))?;
+    calls.push(with_template("site/a.page", "<a>[% block b %][[ name ]][% endblock %]"))?;
+    calls.push(with_template("wrong", "[% if %]"))?;
+    calls.push(with_template("early", "[[ name | said ]]"))?;
+    calls.push(with_batch(&[("c", "[% component c(x) %]([[ x ]])[% endcomponent c %]")]))?;
+    calls.push(with_prefixes(&[]))?;
+    Ok(())
+}
+
+// Calls that register objects.
+fn add_objects(alloc: Global, calls: &mut Vec<Call<'_>>) -> TeraResult<()> {
+    calls.push(with_filter(alloc, "said", "f<")?)?;
+    calls.push(with_function(alloc, "said", "g<")?)?;
+    calls.push(with_test(alloc, "held")?)?;
+    calls.push(with_those_of_another(alloc)?)?;
+    Ok(())
+}
+
+fn is_rendered(alloc: Global, rendering: &Rendering<'_>, want: &str) -> TeraResult<bool> {
+    let mut calls = Vec::new(alloc);
+    calls.push(CallOver::SetDelimiters {
+        delimiters: delimiters(alloc, ("[%", "%]"), ("[[", "]]"), ("[#", "#]"))?,
+    })?;
+    calls.push(with_global("name", Value::string(alloc, "<")?))?;
+    add_templates(&mut calls)?;
+    add_objects(alloc, &mut calls)?;
+    let mut engine = Tera::new(alloc)?;
+    let outcome = render_after(alloc, &mut engine, calls, rendering)?;
+    Ok(gave(&outcome, want))
+}
+
+fn templates_are_rendered(alloc: Global) -> TeraResult<bool> {
+    let none = Context::new(alloc);
+    let mut args = Context::new(alloc);
+    args.insert("x", Value::string(alloc, ">")?)?;
+    Ok(
+        is_rendered(alloc, &of_template("a.page", &none), "<a>&lt;")?
+            && is_rendered(alloc, &of_block("a.page", "b", &none), "&lt;")?
+            && is_rendered(alloc, &of_text("[[ name ]]", &none), "<")?
+            && is_rendered(alloc, &of_component("c", &args, &none), "(&gt;)")?,
+    )
+}
+
+fn objects_are_called(alloc: Global) -> TeraResult<bool> {
+    let none = Context::new(alloc);
+    Ok(
+        is_rendered(alloc, &of_text("[[ 1 | said ]][[ said() ]]", &none), "f<g<")?
+            && is_rendered(alloc, &of_text("[[ 1 is held ]]", &none), "true")?
+            && is_rendered(alloc, &of_text("[[ 1 | more ]]", &none), "more")?,
+    )
+}
+
+#[test]
+fn lists_of_calls(rt: HostRuntime) {
+    let is_right = matches!(templates_are_rendered(rt.alloc()), Ok(true));
+    assert!(rt; is_right);
+}
+
+#[test]
+fn lists_of_calls_with_objects(rt: HostRuntime) {
+    let is_right = matches!(objects_are_called(rt.alloc()), Ok(true));
+    assert!(rt; is_right);
+}

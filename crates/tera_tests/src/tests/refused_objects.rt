@@ -1,0 +1,124 @@
+//! Objects that are registered and moved where memory is refused, at the first request, at the second one, and so on.
+use super::cases::wrong_by;
+use super::objects_moved::{first, second};
+use super::tried::{answered, refused};
+use crate::own::{Asks, Holding, saying};
+use scarce_memory::{Tried, refusals, with_budget, with_little};
+use std::alloc::Global;
+use tera::{Context, Tera, TeraResult, Value};
+
+/// What comes from the other engine, in the order in which it is moved.
+const MOVED: &str = "{{ 1 | g }} => g2\n{{ 1 is held }} => true\n{{ h() }} => h2";
+
+/// The same where it is not there.
+const ABSENT: &str = "{{ 1 | g }} !! message\n{{ 1 is held }} !! message\n{{ h() }} !! message";
+
+/// What was there before.
+const KEPT: &str = "{{ 1 | f }}{{ f() }} => f1f1\n{{ ' a ' | trim }}{{ 2 is odd }} => afalse";
+
+fn keeps(engine: &Tera, context: &Context) -> bool {
+    wrong_by(engine, context, false, KEPT).is_none()
+}
+
+fn has_all(engine: &Tera, context: &Context) -> bool {
+    keeps(engine, context) && wrong_by(engine, context, false, MOVED).is_none()
+}
+
+/// Whether the first objects are there, and none behind them.
+fn has_the_first(engine: &Tera, context: &Context) -> bool {
+    match wrong_by(engine, context, false, MOVED) {
+        Some(count) => {
+            keeps(engine, context)
+                && ABSENT
+                    .lines()
+                    .skip(count)
+                    .all(|line| wrong_by(engine, context, false, line).is_none())
+        }
+        None => false,
+    }
+}
+
+fn is_completed(alloc: Global, engine: &mut Tera, context: &Context) -> bool {
+    match second(alloc) {
+        Ok(other) => engine.register_from(other).is_ok() && has_all(engine, context),
+        Err(_) => false,
+    }
+}
+
+/// How a call ended, by what it answered and what its engine has after it.
+fn judged(alloc: Global, ended: Option<(Tera, TeraResult<()>)>) -> Tried {
+    let context = Context::new(alloc);
+    match ended {
+        Some((engine, Ok(()))) => answered(has_all(&engine, &context)),
+        Some((mut engine, Err(error))) => {
+            let is_right = has_the_first(&engine, &context)
+                && is_completed(alloc, &mut engine, &context);
+            refused(&error, is_right)
+        }
+        None => Tried::Wrong,
+    }
+}
+
+fn moved(alloc: Global, budget: usize) -> Option<(Tera, TeraResult<()>)> {
+    let mut engine = first(alloc).ok()?;
+    let other = second(alloc).ok()?;
+    let answer = with_budget(alloc, budget, || engine.register_from(other))?;
+    Some((engine, answer))
+}
+
+fn registered(alloc: Global, budget: usize) -> Option<(Tera, TeraResult<()>)> {
+    let mut engine = first(alloc).ok()?;
+    let filter = Box::new(alloc, saying(alloc, "g2", false)).ok()?;
+    let test = Box::new(alloc, Holding).ok()?;
+    let function = Box::new(alloc, saying(alloc, "h2", false)).ok()?;
+    let answer = with_budget(alloc, budget, || {
+        engine.register_filter("g", filter)?;
+        engine.register_test("held", test)?;
+        engine.register_function("h", function)
+    })?;
+    Some((engine, answer))
+}
+
+fn try_moving(alloc: Global, budget: usize) -> Tried {
+    judged(alloc, moved(alloc, budget))
+}
+
+// What is moved may lie where the other engine's tables lay, so that a move can do without further memory.
+#[test]
+fn moves_are_refused_in_turn(rt: HostRuntime) {
+    assert!(rt; refusals(rt.alloc(), |budget| try_moving(rt.alloc(), budget)).is_some());
+}
+
+fn try_registering(alloc: Global, budget: usize) -> Tried {
+    judged(alloc, registered(alloc, budget))
+}
+
+#[test]
+fn registering_is_refused_in_turn(rt: HostRuntime) {
+    assert!(rt; refusals(rt.alloc(), |budget| try_registering(rt.alloc(), budget)) > Some(0));
+}
+
+fn escapes_without_memory(alloc: Global) -> TeraResult<bool> {
+    let mut engine = Tera::new(alloc)?;
+    let escape = Box::new(alloc, Asks { alloc })?;
+    let mut context = Context::new(alloc);
+    context.insert("name", Value::string(alloc, "<a>")?)?;
+    let is_set = with_little(
+        alloc,
+        || with_budget(alloc, 0, || engine.set_escape_fn(escape)),
+    )
+    .is_some();
+    let asks = wrong_by(&engine, &context, true, "{{ name }} => <?>").is_none();
+    let is_reset = with_little(
+        alloc,
+        || with_budget(alloc, 0, || engine.reset_escape_fn()),
+    ).is_some();
+    let escapes = wrong_by(&engine, &context, true, "{{ name }} => &lt;a&gt;").is_none();
+    Ok(is_set && asks && is_reset && escapes)
+}
+
+#[test]
+fn escapes_are_set_without_memory(rt: HostRuntime) {
+    let is_right = matches!(escapes_without_memory(rt.alloc()), Ok(true));
+    assert!(rt; is_right);
+}

@@ -383,7 +383,8 @@ impl<'t, O: Objects> VirtualMachine<'t, O> {
         ensures bounded { steps.old ≤ M.most → steps.new ≤ M.most }
         ensures ends { BodyRan M.world (place_at self.now chunk.now.file blocks.now
             configuration.old) (AnInclude asked.entry.name.now asked.entry.span) Written
-            (config_of configuration.old) result (config_of configuration.new) (steps.new - steps.old) }
+            (config_of configuration.old) result (config_of configuration.new)
+            (steps.new - steps.old) }
         ensures stays { OnOk result (Stays blocks.now configuration.old blocks.now
             configuration.new) }
     {

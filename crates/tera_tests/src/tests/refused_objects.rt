@@ -45,52 +45,62 @@ fn is_completed(alloc: Global, engine: &mut Tera, context: &Context) -> bool {
     }
 }
 
-/// How a call ended, by what it answered and what its engine has after it.
-fn judged(alloc: Global, ended: Option<(Tera, TeraResult<()>)>) -> Tried {
-    let context = Context::new(alloc);
+fn judged(
+    alloc: Global,
+    engine: &mut Tera,
+    context: &Context,
+    ended: Option<TeraResult<()>>,
+) -> Tried {
     match ended {
-        Some((engine, Ok(()))) => answered(has_all(&engine, &context)),
-        Some((mut engine, Err(error))) => {
-            let is_right = has_the_first(&engine, &context)
-                && is_completed(alloc, &mut engine, &context);
+        Some(Ok(())) => answered(has_all(engine, context)),
+        Some(Err(error)) => {
+            let is_right = has_the_first(engine, context) && is_completed(alloc, engine, context);
             refused(&error, is_right)
         }
         None => Tried::Wrong,
     }
 }
 
-fn moved(alloc: Global, budget: usize) -> Option<(Tera, TeraResult<()>)> {
-    let mut engine = first(alloc).ok()?;
+fn moves(alloc: Global, engine: &mut Tera, budget: usize) -> Option<TeraResult<()>> {
     let other = second(alloc).ok()?;
-    let answer = with_budget(alloc, budget, || engine.register_from(other))?;
-    Some((engine, answer))
+    with_budget(alloc, budget, || engine.register_from(other))
 }
 
-fn registered(alloc: Global, budget: usize) -> Option<(Tera, TeraResult<()>)> {
-    let mut engine = first(alloc).ok()?;
+fn registers(alloc: Global, engine: &mut Tera, budget: usize) -> Option<TeraResult<()>> {
     let filter = Box::new(alloc, saying(alloc, "g2", false)).ok()?;
     let test = Box::new(alloc, Holding).ok()?;
     let function = Box::new(alloc, saying(alloc, "h2", false)).ok()?;
-    let answer = with_budget(alloc, budget, || {
+    with_budget(alloc, budget, || {
         engine.register_filter("g", filter)?;
         engine.register_test("held", test)?;
         engine.register_function("h", function)
-    })?;
-    Some((engine, answer))
+    })
 }
 
 fn try_moving(alloc: Global, budget: usize) -> Tried {
-    judged(alloc, moved(alloc, budget))
+    match first(alloc) {
+        Ok(mut engine) => {
+            let ended = moves(alloc, &mut engine, budget);
+            judged(alloc, &mut engine, &Context::new(alloc), ended)
+        }
+        Err(_) => Tried::Wrong,
+    }
+}
+
+fn try_registering(alloc: Global, budget: usize) -> Tried {
+    match first(alloc) {
+        Ok(mut engine) => {
+            let ended = registers(alloc, &mut engine, budget);
+            judged(alloc, &mut engine, &Context::new(alloc), ended)
+        }
+        Err(_) => Tried::Wrong,
+    }
 }
 
 // What is moved may lie where the other engine's tables lay, so that a move can do without further memory.
 #[test]
 fn moves_are_refused_in_turn(rt: HostRuntime) {
     assert!(rt; refusals(rt.alloc(), |budget| try_moving(rt.alloc(), budget)).is_some());
-}
-
-fn try_registering(alloc: Global, budget: usize) -> Tried {
-    judged(alloc, registered(alloc, budget))
 }
 
 #[test]

@@ -2,7 +2,8 @@
 ghost use Rattle.std.specs.Prelude.{◌≡◌, ◌++◌, string_bytes, OnOk, OnErr, IfErr};
 ghost use Rattle.tera_errors.specs.Prelude.{Text, Lacks};
 
-use tera_values::{TeraResult, escape_html};
+use std::alloc::Global;
+use tera_values::{Kwargs, TeraResult, Value, escape_html};
 
 /// What escapes texts.
 pub trait EscapeFn: Drop {
@@ -60,4 +61,13 @@ impl<'e, E: EscapeFn> Escaping<'e, E> {
     {
         self.escape.escape(text, out)
     }
+}
+
+/// What a filter that escapes is given: memory, a value, arguments, and how texts are escaped.
+#[derive_where(Clone, Copy)]
+pub struct Filtering<'a, E> {
+    pub alloc: Global,
+    pub value: &'a Value,
+    pub arguments: &'a Kwargs,
+    pub escaping: Escaping<'a, E>,
 }

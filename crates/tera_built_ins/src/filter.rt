@@ -5,7 +5,7 @@ ghost use Rattle.tera_values.specs.Prelude.{plain};
 ghost use Rattle.tera_built_ins.specs.Escaping.{escaping_of};
 ghost use Rattle.tera_built_ins.specs.Filters.{filter_named, filter_of, filtered_in};
 
-use crate::escaping::{EscapeFn, Escaping};
+use crate::escaping::{EscapeFn, Escaping, Filtering};
 use crate::markup::Markup;
 use crate::{
     defaults, groups, indent, items, join, maps, markup, numbers, parse, replace, safety, sizes,
@@ -102,11 +102,17 @@ impl BuiltInFilter {
         ensures { Gives (λ v. v) result
             (filter_of plain (escaping_of E.escaped escaping.entry) self value.now arguments.now) }
     {
+        let filtering = Filtering {
+            alloc,
+            value,
+            arguments,
+            escaping,
+        };
         match self {
             BuiltInFilter::Safe => safety::safe(alloc, value),
             BuiltInFilter::Default => defaults::default(value, arguments),
             BuiltInFilter::Wordcount => words::wordcount(value),
-            BuiltInFilter::Escape => safety::escape(alloc, value, escaping),
+            BuiltInFilter::Escape => safety::escape(filtering),
             BuiltInFilter::EscapeHtml => markup::escape(alloc, value, Markup::Html),
             BuiltInFilter::EscapeXml => markup::escape(alloc, value, Markup::Xml),
             BuiltInFilter::NewlinesToBr => markup::newlines_to_br(alloc, value),
@@ -114,9 +120,9 @@ impl BuiltInFilter {
             BuiltInFilter::Trim => trims::trim(alloc, value, arguments),
             BuiltInFilter::TrimStart => trims::trim_start(alloc, value, arguments),
             BuiltInFilter::TrimEnd => trims::trim_end(alloc, value, arguments),
-            BuiltInFilter::Replace => replace::replace(alloc, value, arguments, escaping),
+            BuiltInFilter::Replace => replace::replace(filtering),
             BuiltInFilter::Truncate => truncate::truncate(alloc, value, arguments),
-            BuiltInFilter::Indent => indent::indent(alloc, value, arguments, escaping),
+            BuiltInFilter::Indent => indent::indent(filtering),
             BuiltInFilter::Str => safety::str(alloc, value),
             BuiltInFilter::Int => parse::int(alloc, value, arguments),
             BuiltInFilter::Length => sizes::length(alloc, value),
@@ -126,7 +132,7 @@ impl BuiltInFilter {
             BuiltInFilter::First => items::first(value),
             BuiltInFilter::Last => items::last(value),
             BuiltInFilter::Nth => items::nth(value, arguments),
-            BuiltInFilter::Join => join::join(alloc, value, arguments, escaping),
+            BuiltInFilter::Join => join::join(filtering),
             BuiltInFilter::Sort => sorting::sort(alloc, value, arguments),
             BuiltInFilter::Unique => sorting::unique(alloc, value),
             BuiltInFilter::Values => maps::values(alloc, value),

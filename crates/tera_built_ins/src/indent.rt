@@ -4,15 +4,15 @@ ghost use Rattle.std.specs.List.{repeat};
 ghost use Rattle.std.specs.Str.{chars};
 ghost use Rattle.tera_errors.specs.Prelude.{Gives, Lacks};
 ghost use Rattle.tera_values.specs.Prelude.{plain};
-ghost use Rattle.tera_built_ins.specs.Escaping.{escaping_of};
+ghost use Rattle.tera_built_ins.specs.Escaping.{escaping_of, applied};
 ghost use Rattle.tera_built_ins.specs.Reading.{given_of};
 ghost use Rattle.tera_built_ins.specs.Indent as spec;
 
 use crate::arguments::{Given, as_text, flag, optional_text, size_or};
-use crate::escaping::{EscapeFn, Escaping};
+use crate::escaping::{EscapeFn, Filtering};
 use crate::parts::{given_safe, made, part};
 use std::alloc::Global;
-use tera_values::{Error, Kwargs, TeraResult, Value};
+use tera_values::{Error, TeraResult, Value};
 
 fn append_first(line: &str, padding: &str, first: bool, out: &mut String) -> TeraResult<()>
     ensures ok { OnOk result (string_bytes out.new ≡
@@ -82,47 +82,46 @@ fn is_character(indentation: Option<Given<'_>>) -> bool
 
 /// What goes before a line.
 fn padding<E: EscapeFn>(
-    alloc: Global,
-    escaping: Escaping<'_, E>,
+    filtering: Filtering<'_, E>,
     is_safe: bool,
     indentation: Option<Given<'_>>,
     width: usize,
 ) -> TeraResult<String>
     ensures { Gives string_bytes result
-        (Ok (repeat width (spec.unit plain (escaping_of E.escaped escaping.entry) is_safe
+        (Ok (repeat width (spec.unit plain (escaping_of E.escaped filtering.entry.escaping) is_safe
         (option_map given_of indentation.entry)))) }
 {
     match indentation {
-        None => Ok(" ".repeat(alloc, width)?),
+        None => Ok(" ".repeat(filtering.alloc, width)?),
         Some(given) => {
-            let unit = part(alloc, escaping, is_safe, given)?;
-            Ok(unit.as_str().repeat(alloc, width)?)
+            let unit = part(filtering, is_safe, given)?;
+            Ok(unit.as_str().repeat(filtering.alloc, width)?)
         }
     }
 }
 
 /// The text with a character, so and so often, before its lines: before the first one where `first` asks for it, before a
 /// later one that is empty where `blank` does. Lines end with a line feed, whatever they ended with before.
-pub fn indent<E: EscapeFn>(
-    alloc: Global,
-    value: &Value,
-    arguments: &Kwargs,
-    escaping: Escaping<'_, E>,
-) -> TeraResult<Value>
-    ensures { Gives (λ v. v) result
-        (spec.indent_of plain (escaping_of E.escaped escaping.entry) value.now arguments.now) }
+pub fn indent<E: EscapeFn>(filtering: Filtering<'_, E>) -> TeraResult<Value>
+    ensures { Gives (λ v. v) result (applied E.escaped (spec.indent_of plain) filtering.entry) }
 {
-    let given = as_text(value)?;
-    let width = size_or(arguments, "width", 4)?;
-    let indentation = optional_text(arguments, "indentation")?;
-    let first = flag(arguments, "first")?;
-    let blank = flag(arguments, "blank")?;
+    let given = as_text(filtering.value)?;
+    let width = size_or(filtering.arguments, "width", 4)?;
+    let indentation = optional_text(filtering.arguments, "indentation")?;
+    let first = flag(filtering.arguments, "first")?;
+    let blank = flag(filtering.arguments, "blank")?;
     if !is_character(indentation) {
-        return Err(Error::message(alloc, "not one character"));
+        return Err(Error::message(filtering.alloc, "not one character"));
     }
-    let is_safe = escaping.autoescape && (given.is_safe || given_safe(indentation));
-    let padding = padding(alloc, escaping, is_safe, indentation, width.min(1000))?;
-    let text = part(alloc, escaping, is_safe, given)?;
-    let answer = indented(alloc, text.as_str(), padding.as_str(), first, blank)?;
-    made(alloc, answer.as_str(), is_safe)
+    let is_safe = filtering.escaping.autoescape && (given.is_safe || given_safe(indentation));
+    let padding = padding(filtering, is_safe, indentation, width.min(1000))?;
+    let text = part(filtering, is_safe, given)?;
+    let answer = indented(
+        filtering.alloc,
+        text.as_str(),
+        padding.as_str(),
+        first,
+        blank,
+    )?;
+    made(filtering.alloc, answer.as_str(), is_safe)
 }

@@ -4,34 +4,27 @@ ghost use Rattle.std.specs.List.{list_any, join_by};
 ghost use Rattle.std.specs.Cow.{cow_str_bytes};
 ghost use Rattle.tera_errors.specs.Prelude.{Gives, Lacks};
 ghost use Rattle.tera_values.specs.Prelude.{plain};
-ghost use Rattle.tera_built_ins.specs.Escaping.{escaping_of};
+ghost use Rattle.tera_built_ins.specs.Escaping.{escaping_of, applied};
 ghost use Rattle.tera_built_ins.specs.Reading.{given_of};
 ghost use Rattle.tera_built_ins.specs.Join.{is_safe_text, item_part, separator_part, join_of};
 
 use crate::arguments::{Given, as_array, optional_text};
-use crate::escaping::{EscapeFn, Escaping};
+use crate::escaping::{EscapeFn, Escaping, Filtering};
 use crate::parts::{given_safe, made, part};
-use std::alloc::Global;
 use std::borrow::CowStr;
-use tera_values::{Kwargs, Shape, TeraResult, Value};
+use tera_values::{Shape, TeraResult, Value};
 
 /// The items of an array as they are printed, with `sep` between them. Where autoescape is on and one of these texts
 /// is safe, the others are escaped, and the answer is safe.
-pub fn join<E: EscapeFn>(
-    alloc: Global,
-    value: &Value,
-    arguments: &Kwargs,
-    escaping: Escaping<'_, E>,
-) -> TeraResult<Value>
-    ensures { Gives (λ v. v) result
-        (join_of plain (escaping_of E.escaped escaping.entry) value.now arguments.now) }
+pub fn join<E: EscapeFn>(filtering: Filtering<'_, E>) -> TeraResult<Value>
+    ensures { Gives (λ v. v) result (applied E.escaped (join_of plain) filtering.entry) }
 {
-    let items = as_array(value)?;
-    let separator = optional_text(arguments, "sep")?;
-    let is_safe = escaping.autoescape && (has_safe_text(items) || given_safe(separator));
-    let between = separator_part(alloc, escaping, is_safe, separator)?;
-    let row = row(alloc, escaping, is_safe, items, between.as_str())?;
-    made(alloc, row.as_str(), is_safe)
+    let items = as_array(filtering.value)?;
+    let separator = optional_text(filtering.arguments, "sep")?;
+    let is_safe = filtering.escaping.autoescape && (has_safe_text(items) || given_safe(separator));
+    let between = separator_part(filtering, is_safe, separator)?;
+    let row = row(filtering, is_safe, items, between.as_str())?;
+    made(filtering.alloc, row.as_str(), is_safe)
 }
 
 fn has_safe_text(items: &[Value]) -> bool
@@ -55,36 +48,36 @@ fn is_safe_text(item: &Value) -> bool
 }
 
 fn separator_part<'a, E: EscapeFn>(
-    alloc: Global,
-    escaping: Escaping<'_, E>,
+    filtering: Filtering<'_, E>,
     is_safe: bool,
     separator: Option<Given<'a>>,
 ) -> TeraResult<CowStr<'a>>
     ensures { Gives cow_str_bytes result (Ok (separator_part plain
-        (escaping_of E.escaped escaping.entry) is_safe (option_map given_of separator.entry))) }
+        (escaping_of E.escaped filtering.entry.escaping) is_safe
+        (option_map given_of separator.entry))) }
 {
     match separator {
-        Some(given) => part(alloc, escaping, is_safe, given),
+        Some(given) => part(filtering, is_safe, given),
         None => Ok(CowStr::Borrowed("")),
     }
 }
 
 fn row<E: EscapeFn>(
-    alloc: Global,
-    escaping: Escaping<'_, E>,
+    filtering: Filtering<'_, E>,
     is_safe: bool,
     items: &[Value],
     between: &str,
 ) -> TeraResult<String>
     ensures { Gives string_bytes result (Ok (join_by
-        (item_part plain (escaping_of E.escaped escaping.entry) is_safe) between.now items.now)) }
+        (item_part plain (escaping_of E.escaped filtering.entry.escaping) is_safe)
+        between.now items.now)) }
 {
-    let mut out = String::new(alloc);
+    let mut out = String::new(filtering.alloc);
     if let [first, rest @ ..] = items {
-        append_item(escaping, is_safe, first, &mut out)?;
+        append_item(filtering.escaping, is_safe, first, &mut out)?;
         for item in rest {
             out.push_str(between)?;
-            append_item(escaping, is_safe, item, &mut out)?;
+            append_item(filtering.escaping, is_safe, item, &mut out)?;
         }
     }
     Ok(out)

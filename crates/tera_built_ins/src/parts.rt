@@ -8,26 +8,25 @@ ghost use Rattle.tera_built_ins.specs.Parts as spec;
 ghost use Rattle.tera_built_ins.specs.Reading.{given_of};
 
 use crate::arguments::Given;
-use crate::escaping::{EscapeFn, Escaping};
+use crate::escaping::{EscapeFn, Filtering};
 use std::alloc::Global;
 use std::borrow::CowStr;
 use tera_values::{TeraResult, Value};
 
 /// A text as it goes into an answer that is safe or not. Takes memory only for an escape.
 pub(crate) fn part<'a, E: EscapeFn>(
-    alloc: Global,
-    escaping: Escaping<'_, E>,
+    filtering: Filtering<'_, E>,
     is_safe: bool,
     given: Given<'a>,
 ) -> TeraResult<CowStr<'a>>
     ensures { Gives cow_str_bytes result (Ok (spec.part plain
-        (escaping_of E.escaped escaping.entry) is_safe (given_of given.entry))) }
+        (escaping_of E.escaped filtering.entry.escaping) is_safe (given_of given.entry))) }
 {
     if !is_safe || given.is_safe {
         return Ok(CowStr::Borrowed(given.text));
     }
-    let mut escaped = String::new(alloc);
-    escaping.escape(given.text, &mut escaped)?;
+    let mut escaped = String::new(filtering.alloc);
+    filtering.escaping.escape(given.text, &mut escaped)?;
     Ok(CowStr::Owned(escaped))
 }
 

@@ -2,14 +2,14 @@
 ghost use Rattle.std.specs.Prelude.{Ok, string_bytes};
 ghost use Rattle.tera_errors.specs.Prelude.{Gives};
 ghost use Rattle.tera_values.specs.Prelude.{plain};
-ghost use Rattle.tera_built_ins.specs.Escaping.{escaping_of};
+ghost use Rattle.tera_built_ins.specs.Escaping.{applied};
 ghost use Rattle.tera_built_ins.specs.Replace.{replaced, replace_of};
 
 use crate::arguments::{as_text, needed_text};
-use crate::escaping::{EscapeFn, Escaping};
+use crate::escaping::{EscapeFn, Filtering};
 use crate::parts::{made, part};
 use std::alloc::Global;
-use tera_values::{Kwargs, TeraResult, Value};
+use tera_values::{TeraResult, Value};
 
 /// The text with another one at all places of a pattern.
 pub(crate) fn put(alloc: Global, text: &str, from: &str, to: &str) -> TeraResult<String>
@@ -20,21 +20,15 @@ pub(crate) fn put(alloc: Global, text: &str, from: &str, to: &str) -> TeraResult
 
 /// The text with another one at all places of a pattern, from the left. The empty pattern stands before each character and
 /// at the end. In a safe answer all but the pattern is escaped, unless it is safe itself.
-pub fn replace<E: EscapeFn>(
-    alloc: Global,
-    value: &Value,
-    arguments: &Kwargs,
-    escaping: Escaping<'_, E>,
-) -> TeraResult<Value>
-    ensures { Gives (λ v. v) result
-        (replace_of plain (escaping_of E.escaped escaping.entry) value.now arguments.now) }
+pub fn replace<E: EscapeFn>(filtering: Filtering<'_, E>) -> TeraResult<Value>
+    ensures { Gives (λ v. v) result (applied E.escaped (replace_of plain) filtering.entry) }
 {
-    let given = as_text(value)?;
-    let from = needed_text(arguments, "from")?;
-    let to = needed_text(arguments, "to")?;
-    let is_safe = escaping.autoescape && (given.is_safe || to.is_safe);
-    let text = part(alloc, escaping, is_safe, given)?;
-    let to = part(alloc, escaping, is_safe, to)?;
-    let answer = put(alloc, text.as_str(), from.text, to.as_str())?;
-    made(alloc, answer.as_str(), is_safe)
+    let given = as_text(filtering.value)?;
+    let from = needed_text(filtering.arguments, "from")?;
+    let to = needed_text(filtering.arguments, "to")?;
+    let is_safe = filtering.escaping.autoescape && (given.is_safe || to.is_safe);
+    let text = part(filtering, is_safe, given)?;
+    let to = part(filtering, is_safe, to)?;
+    let answer = put(filtering.alloc, text.as_str(), from.text, to.as_str())?;
+    made(filtering.alloc, answer.as_str(), is_safe)
 }

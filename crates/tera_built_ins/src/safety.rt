@@ -5,7 +5,7 @@ ghost use Rattle.tera_built_ins.specs.Escaping.{escaping_of};
 ghost use Rattle.tera_built_ins.specs.Safety.{safe_of, escape_of, str_of};
 
 use crate::arguments::as_text;
-use crate::escaping::{EscapeFn, Escaping};
+use crate::escaping::{EscapeFn, Filtering};
 use std::alloc::Global;
 use tera_values::{Error, Shape, TeraResult, Value};
 
@@ -21,21 +21,17 @@ pub fn safe(alloc: Global, value: &Value) -> TeraResult<Value>
 }
 
 /// The escape of a text, marked safe. A text that is safe already is not copied.
-pub fn escape<E: EscapeFn>(
-    alloc: Global,
-    value: &Value,
-    escaping: Escaping<'_, E>,
-) -> TeraResult<Value>
-    ensures { Gives (λ v. v) result
-        (escape_of plain (escaping_of E.escaped escaping.entry) value.now) }
+pub fn escape<E: EscapeFn>(filtering: Filtering<'_, E>) -> TeraResult<Value>
+    ensures { Gives (λ v. v) result (escape_of plain
+        (escaping_of E.escaped filtering.entry.escaping) filtering.entry.value.now) }
 {
-    let given = as_text(value)?;
+    let given = as_text(filtering.value)?;
     if given.is_safe {
-        return value.try_clone();
+        return filtering.value.try_clone();
     }
-    let mut escaped = String::new(alloc);
-    escaping.escape(given.text, &mut escaped)?;
-    Value::safe_string(alloc, escaped.as_str())
+    let mut escaped = String::new(filtering.alloc);
+    filtering.escaping.escape(given.text, &mut escaped)?;
+    Value::safe_string(filtering.alloc, escaped.as_str())
 }
 
 /// The printed text, without a mark.

@@ -6,7 +6,7 @@ ghost use Rattle.tera_built_ins.specs.TestTable.{test_named, test_of};
 
 use crate::tests;
 use std::alloc::Global;
-use tera_values::{Kwargs, TeraResult, Value};
+use tera_values::{Kwargs, Shape, TeraResult, Value};
 
 /// A test that every engine has.
 #[derive(Clone, Copy)]
@@ -55,18 +55,18 @@ impl BuiltInTest {
         }
     }
 
-    /// What it says of the value.
+    /// What it says of the value. For a kind of values the arguments say nothing, and there are no numbers but integers.
     pub fn call(self, alloc: Global, value: &Value, arguments: &Kwargs) -> TeraResult<bool>
         ensures { Gives (λ b. b) result (test_of plain self value.now arguments.now) }
     {
         match self {
-            BuiltInTest::String => tests::string(value, arguments),
-            BuiltInTest::Number => tests::number(value, arguments),
-            BuiltInTest::Map => tests::map(value, arguments),
-            BuiltInTest::Bool => tests::bool(value, arguments),
-            BuiltInTest::Array => tests::array(value, arguments),
-            BuiltInTest::Integer => tests::integer(value, arguments),
-            BuiltInTest::None => tests::none(value, arguments),
+            BuiltInTest::String => Ok(matches!(&value.shape(), Shape::Text(_, _))),
+            BuiltInTest::Number => Ok(matches!(&value.shape(), Shape::Int(_))),
+            BuiltInTest::Map => Ok(matches!(&value.shape(), Shape::Map(_))),
+            BuiltInTest::Bool => Ok(matches!(&value.shape(), Shape::Bool(_))),
+            BuiltInTest::Array => Ok(matches!(&value.shape(), Shape::Array(_))),
+            BuiltInTest::Integer => Ok(matches!(&value.shape(), Shape::Int(_))),
+            BuiltInTest::None => Ok(matches!(&value.shape(), Shape::None)),
             BuiltInTest::Iterable => tests::iterable(value, arguments),
             BuiltInTest::Defined => tests::defined(value, arguments),
             BuiltInTest::Undefined => tests::undefined(value, arguments),

@@ -2,60 +2,11 @@
 ghost use Rattle.std.specs.Prelude.{◌≡◌, Ok};
 ghost use Rattle.tera_errors.specs.Prelude.{Gives};
 ghost use Rattle.tera_values.specs.Prelude.{plain};
-ghost use Rattle.tera_built_ins.specs.Tests.{is_text, is_integer, is_map, is_bool, is_array, is_none, is_iterable, defined_test, undefined_test, odd_test, even_test, divisible_by_test, starting_with_test, ending_with_test, containing_test, divides};
+ghost use Rattle.tera_built_ins.specs.Tests.{is_iterable, defined_test, undefined_test, odd_test, even_test, divisible_by_test, starting_with_test, ending_with_test, containing_test, divides};
 
 use crate::arguments::{as_integer, as_text, needed_integer, needed_text, needed_value};
 use std::alloc::Global;
 use tera_values::{Kwargs, Shape, TeraResult, Value};
-
-/// Whether it is a text.
-pub fn string(value: &Value, _arguments: &Kwargs) -> TeraResult<bool>
-    ensures { Gives (λ b. b) result (Ok (is_text value.now)) }
-{
-    Ok(matches!(&value.shape(), Shape::Text(_, _)))
-}
-
-/// Whether it is an integer: there are no other numbers.
-pub fn number(value: &Value, _arguments: &Kwargs) -> TeraResult<bool>
-    ensures { Gives (λ b. b) result (Ok (is_integer value.now)) }
-{
-    Ok(matches!(&value.shape(), Shape::Int(_)))
-}
-
-/// Whether it is a map.
-pub fn map(value: &Value, _arguments: &Kwargs) -> TeraResult<bool>
-    ensures { Gives (λ b. b) result (Ok (is_map value.now)) }
-{
-    Ok(matches!(&value.shape(), Shape::Map(_)))
-}
-
-/// Whether it is a truth value.
-pub fn bool(value: &Value, _arguments: &Kwargs) -> TeraResult<bool>
-    ensures { Gives (λ b. b) result (Ok (is_bool value.now)) }
-{
-    Ok(matches!(&value.shape(), Shape::Bool(_)))
-}
-
-/// Whether it is an array.
-pub fn array(value: &Value, _arguments: &Kwargs) -> TeraResult<bool>
-    ensures { Gives (λ b. b) result (Ok (is_array value.now)) }
-{
-    Ok(matches!(&value.shape(), Shape::Array(_)))
-}
-
-/// Whether it is an integer.
-pub fn integer(value: &Value, _arguments: &Kwargs) -> TeraResult<bool>
-    ensures { Gives (λ b. b) result (Ok (is_integer value.now)) }
-{
-    Ok(matches!(&value.shape(), Shape::Int(_)))
-}
-
-/// Whether it is none. Undefined is not.
-pub fn none(value: &Value, _arguments: &Kwargs) -> TeraResult<bool>
-    ensures { Gives (λ b. b) result (Ok (is_none value.now)) }
-{
-    Ok(matches!(&value.shape(), Shape::None))
-}
 
 /// Whether a loop can go over it.
 pub fn iterable(value: &Value, _arguments: &Kwargs) -> TeraResult<bool>

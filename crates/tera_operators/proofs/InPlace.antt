@@ -1,5 +1,5 @@
 -- What is made of two integers.
-use Rattle.std.proofs.Common.{◌≡◌, ℕ, ℤ, Bool, true, false, cond, not, Result, Ok, Err, pos, refl, ap, sym, int_lt, Less, Equal, Greater, arith}
+use Rattle.std.proofs.Common.{◌≡◌, ℕ, ℤ, Bool, true, false, cond, not, Result, Ok, Err, pos, refl, ap, sym, int_lt, Less, Equal, Greater, ap₂, ◌∙◌, arith}
 use Rattle.std.proofs.lemmas.Bool.{false_from_ne_true}
 use Rattle.std.proofs.lemmas.Int.{ints}
 use Rattle.std.specs.declared.cmp.Ordering.{Ordering}
@@ -8,11 +8,18 @@ use Rattle.std.specs.Ordering.{int_cmp, int_eq, is_lt, is_gt, is_le, is_ge}
 use Rattle.tera_errors.specs.declared.span.Span.{Span}
 use Rattle.tera_errors.specs.Site.{Name}
 use Rattle.tera_errors.specs.Fault.{Fault, message}
+use Rattle.tera_syntax_tree.specs.declared.expression.BinaryOperator.{BinaryOperator}
 use Rattle.tera_syntax_tree.specs.declared.expression.BinaryOperator.TheVariants as op
 use Rattle.tera_values.specs.Val.{Val, int}
 use Rattle.tera_values.specs.Number.{sum, difference, product, quotient, remainder, within}
-use Rattle.tera_operators.specs.Operand.{Outcome, at_span, fault_at, placed, then}
-use Rattle.tera_operators.specs.Operators.{Makes}
+use Rattle.tera_operators.specs.Operand.{Evaluated, Outcome, at_span, fault_at, placed, spanning, then}
+use Rattle.tera_operators.specs.Operators.{Makes, binary_of}
+
+-- what an operator makes of two values is made of operands that have them
+pub binary_of-made : (operator : BinaryOperator) (v w made : Val) (left right : Evaluated) → Makes operator v w made → left.value ≡ v → right.value ≡ w
+    → (file : Name) (span : Span) → binary_of file operator left right span ≡ at_span made (spanning left right)
+binary_of-made operator v w made left right makes l r file span =
+    ap₂ (λ (a b : Val). binary_of file operator (record { value = a; span = left.span }) (record { value = b; span = right.span }) span) l r ∙ makes file left.span right.span span
 
 pub sum_is_made : (a b : ℤ) (v : Val) → sum a b ≡ Ok v → Makes op.Add (int a) (int b) v
 sum_is_made a b v h file left right span =

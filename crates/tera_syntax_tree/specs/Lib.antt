@@ -2,6 +2,7 @@ pub mod Delimiters
 pub mod Tree
 pub mod View
 pub mod Places
+pub mod Gathered
 pub mod Blocks
 pub mod Definitions
 pub mod Calls

@@ -47,14 +47,8 @@ is_safe v = false
 
 -- a text with the safe mark, and any other value as it is
 abbrev pub marked : {C : Type 0} → ValOf C → ValOf C
-marked undefined = undefined
-marked none = none
-marked (bool b) = bool b
-marked (int z) = int z
 marked (text t s) = text t true
-marked (bytes t) = bytes t
-marked (array vs) = array vs
-marked (map es) = map es
+marked v = v
 
 -- a value that holds nothing in memory, so that a copy takes none
 abbrev pub IsScalar : Val → Type 0

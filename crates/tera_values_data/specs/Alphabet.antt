@@ -47,45 +47,45 @@ bearing mark t = map (λ b. (b, mark)) t
 abbrev pub bytes_of : List Marked → List ℕ
 bytes_of t = map (λ c. c.0) t
 
--- a value without its marks
+-- a value with each of its texts spelled anew
 abbrev mutual
-  pub unmarked : ValOf Marked → ValOf ℕ
-  unmarked undefined = undefined
-  unmarked none = none
-  unmarked (bool b) = bool b
-  unmarked (int z) = int z
-  unmarked (text t s) = text (bytes_of t) s
-  unmarked (bytes t) = bytes t
-  unmarked (array vs) = array (all_unmarked vs)
-  unmarked (map_of es) = map_of (unmarked_entries es)
+  pub respelled : {C D : Type 0} → (List C → List D) → ValOf C → ValOf D
+  respelled f undefined = undefined
+  respelled f none = none
+  respelled f (bool b) = bool b
+  respelled f (int z) = int z
+  respelled f (text t s) = text (f t) s
+  respelled f (bytes t) = bytes t
+  respelled f (array vs) = array (all_respelled f vs)
+  respelled f (map_of es) = map_of (respelled_entries f es)
 
-  pub all_unmarked : ValsOf Marked → ValsOf ℕ
-  all_unmarked no_items = no_items
-  all_unmarked (item v vs) = item (unmarked v) (all_unmarked vs)
+  pub all_respelled : {C D : Type 0} → (List C → List D) → ValsOf C → ValsOf D
+  all_respelled f no_items = no_items
+  all_respelled f (item v vs) = item (respelled f v) (all_respelled f vs)
 
-  pub unmarked_entries : EntriesOf Marked → EntriesOf ℕ
-  unmarked_entries no_entries = no_entries
-  unmarked_entries (entry k v es) = entry k (unmarked v) (unmarked_entries es)
+  pub respelled_entries : {C D : Type 0} → (List C → List D) → EntriesOf C → EntriesOf D
+  respelled_entries f no_entries = no_entries
+  respelled_entries f (entry k v es) = entry k (respelled f v) (respelled_entries f es)
+
+-- a value, items and entries without their marks
+abbrev pub unmarked : ValOf Marked → ValOf ℕ
+unmarked = respelled bytes_of
+
+abbrev pub all_unmarked : ValsOf Marked → ValsOf ℕ
+all_unmarked = all_respelled bytes_of
+
+abbrev pub unmarked_entries : EntriesOf Marked → EntriesOf ℕ
+unmarked_entries = respelled_entries bytes_of
 
 -- a value of the caller: its safe texts are marked safe
-abbrev mutual
-  pub from_outside : ValOf ℕ → ValOf Marked
-  from_outside undefined = undefined
-  from_outside none = none
-  from_outside (bool b) = bool b
-  from_outside (int z) = int z
-  from_outside (text t s) = text (bearing marked_safe t) s
-  from_outside (bytes t) = bytes t
-  from_outside (array vs) = array (all_from_outside vs)
-  from_outside (map_of es) = map_of (entries_from_outside es)
+abbrev pub from_outside : ValOf ℕ → ValOf Marked
+from_outside = respelled (bearing marked_safe)
 
-  pub all_from_outside : ValsOf ℕ → ValsOf Marked
-  all_from_outside no_items = no_items
-  all_from_outside (item v vs) = item (from_outside v) (all_from_outside vs)
+abbrev pub all_from_outside : ValsOf ℕ → ValsOf Marked
+all_from_outside = all_respelled (bearing marked_safe)
 
-  pub entries_from_outside : EntriesOf ℕ → EntriesOf Marked
-  entries_from_outside no_entries = no_entries
-  entries_from_outside (entry k v es) = entry k (from_outside v) (entries_from_outside es)
+abbrev pub entries_from_outside : EntriesOf ℕ → EntriesOf Marked
+entries_from_outside = respelled_entries (bearing marked_safe)
 
 abbrev pub names_from_outside : List (Name × ValOf ℕ) → List (Name × ValOf Marked)
 names_from_outside vs = map (λ v. (v.0, from_outside v.1)) vs

@@ -128,7 +128,7 @@ impl Model for Table {
 }
 
 impl Model for Map {
-    ghost use Rattle.std.specs.Prelude.{List};
+    ghost use Rattle.std.specs.Prelude.{List, ◌+◌};
     ghost use Rattle.tera_values_data.specs.Val.{Val, KeyVal, entries, entries_size};
     ghost use Rattle.tera_values_data.specs.Code.{entries_code};
 
@@ -139,8 +139,6 @@ impl Model for Map {
     ghost use Rattle.tera_values_data.specs.View.{boxed_entries};
 
     ghost view = { λ m. boxed_entries m.table };
-
-    ghost use Rattle.std.specs.Prelude.{◌+◌};
 
     ghost size = { λ es. entries_size (entries es) + 1 };
 

@@ -7,4 +7,4 @@ use Rattle.tera_built_ins.proofs.join.row.Given as goal
 
 abbrev pub invariant-loop-item : goal.invariant-loop-item
 invariant-loop-item g l =
-    string_bytes l.out ≡ string_bytes l.initial.out ++ flat_map (λ v. l.between ++ item_part plain (escaping_of g.E.EscapeFn.escaped l.escaping) l.is_safe v) (take l.item-index l.rest)
+    string_bytes l.out ≡ string_bytes l.initial.out ++ flat_map (λ v. l.between ++ item_part plain (escaping_of g.E.EscapeFn.escaped l.filtering.escaping) l.is_safe v) (take l.item-index l.rest)

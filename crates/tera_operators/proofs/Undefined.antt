@@ -1,7 +1,7 @@
 -- What is undefined is the same as nothing else, and stands in no order to anything.
 use Rattle.std.proofs.Common.{◌≡◌, Bool, cond, Some, None, refl, ap, ◌∙◌}
 use Rattle.std.proofs.lemmas.Cmp.{eq_by_cmp_equiv}
-use Rattle.tera_values.specs.Val.{Val, undefined, none, bool, int, text, bytes, array, map}
+use Rattle.tera_values.specs.Val.{Val, undefined}
 use Rattle.tera_values.specs.Access.{is_undefined}
 use Rattle.tera_values.specs.Order.{checked_order, order, same}
 use Rattle.tera_values.specs.Laws.{order_total}
@@ -9,13 +9,7 @@ use Rattle.tera_values_data.proofs.Symmetric.{comparable_sym}
 
 pub undefined_is_same : (v : Val) → same undefined v ≡ is_undefined v
 undefined_is_same undefined = refl
-undefined_is_same none = refl
-undefined_is_same (bool b) = refl
-undefined_is_same (int z) = refl
-undefined_is_same (text t s) = refl
-undefined_is_same (bytes t) = refl
-undefined_is_same (array vs) = refl
-undefined_is_same (map es) = refl
+undefined_is_same v = refl
 
 pub same_undefined : (v : Val) → same v undefined ≡ is_undefined v
 same_undefined v = (eq_by_cmp_equiv order_total).symm v undefined ∙ undefined_is_same v

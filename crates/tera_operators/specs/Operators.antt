@@ -75,15 +75,19 @@ module _ {C : Type 0} (alphabet : Alphabet C) where
   binary_in file op.GreaterOrEqual a b span = compared_in file is_ge a b
   binary_in file op.In a b span = contained_in file a b span
 
--- whether an operator tells if its operands are the same, or how they stand in order
+-- whether an operator tells how its operands stand in order
+abbrev pub is_order : BinaryOperator → Bool
+is_order op.Less = true
+is_order op.Greater = true
+is_order op.LessOrEqual = true
+is_order op.GreaterOrEqual = true
+is_order other = false
+
+-- whether it tells that, or if they are the same
 abbrev pub is_comparison : BinaryOperator → Bool
 is_comparison op.Equal = true
 is_comparison op.NotEqual = true
-is_comparison op.Less = true
-is_comparison op.Greater = true
-is_comparison op.LessOrEqual = true
-is_comparison op.GreaterOrEqual = true
-is_comparison other = false
+is_comparison other = is_order other
 
 -- of texts of bytes
 abbrev pub negative_of : Name → Evaluated → Outcome

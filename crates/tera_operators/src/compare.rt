@@ -95,6 +95,23 @@ impl<'v> LentOperand<'v> {
             },
         }
     }
+
+    // How the operand stands to the right one; a fault at the combined span where the two are not comparable.
+    #[inline(always)]
+    fn standing(&self, alloc: Global, file: &str, right: &LentOperand<'_>) -> TeraResult<Ordering>
+        ensures value { Gives (λ o. o) result (standing_of file.now self.now right.now) }
+        ensures ready { IsOk (standing_of file.now self.now right.now) → IsOk result }
+    {
+        match self.order(right) {
+            Some(standing) => Ok(standing),
+            None => Err(Error::rendering(
+                alloc,
+                "the operands are not comparable",
+                file,
+                self.span_to(right),
+            )),
+        }
+    }
 }
 
 /// A truth value at the combined span.
@@ -119,28 +136,6 @@ fn order_of(left: &Value, right: &Value) -> Option<Ordering>
     }
 }
 
-/// How the left operand stands to the right one; a fault at the combined span where the two are not comparable.
-#[inline(always)]
-fn standing(
-    alloc: Global,
-    file: &str,
-    left: &LentOperand<'_>,
-    right: &LentOperand<'_>,
-) -> TeraResult<Ordering>
-    ensures value { Gives (λ o. o) result (standing_of file.now left.now right.now) }
-    ensures ready { IsOk (standing_of file.now left.now right.now) → IsOk result }
-{
-    match left.order(right) {
-        Some(standing) => Ok(standing),
-        None => Err(Error::rendering(
-            alloc,
-            "the operands are not comparable",
-            file,
-            left.span_to(right),
-        )),
-    }
-}
-
 /// Whether the test holds of how the left operand stands to the right one, at the combined span.
 #[inline(always)]
 fn compared<F: FnOnce(Ordering) -> bool>(
@@ -156,6 +151,6 @@ fn compared<F: FnOnce(Ordering) -> bool>(
         Gives (λ o. o) result (compared file.now test left.now right.now) }
     ensures ready { IsOk (standing_of file.now left.now right.now) → IsOk result }
 {
-    let standing = standing(alloc, file, left, right)?;
+    let standing = left.standing(alloc, file, right)?;
     Ok(truth(holds(standing), left, right))
 }

@@ -25,9 +25,7 @@ enum Form<'k> {
 /// The entries of a map that is written out, which lie as they were evaluated until a map of them is wanted; or those of
 /// a map. A contract sees the entries, and not how they lie.
 #[derive(Drop)]
-pub struct Entries<'k> {
-    form: Form<'k>,
-}
+pub struct Entries<'k>(Form<'k>);
 
 impl<'k> Model for Entries<'k> {
     ghost use Rattle.std.specs.Prelude.{List};
@@ -39,9 +37,9 @@ impl<'k> Model for Entries<'k> {
 
     ghost coded = { entries_code };
 
-    ghost view = { λ e. entries_in e.form };
+    ghost view = { λ e. entries_in e.0 };
 
-    ghost invariant = { λ e. Fits e.form };
+    ghost invariant = { λ e. Fits e.0 };
 }
 
 impl<'k> Entries<'k> {
@@ -50,34 +48,28 @@ impl<'k> Entries<'k> {
         requires { length keys.now ≡ length operands.items }
         ensures { result ≡ listed keys.now operands.items }
     {
-        Entries {
-            form: Form::Listed(keys, operands),
-        }
+        Entries(Form::Listed(keys, operands))
     }
 
     /// The entries of a map that was made of them. Takes no memory.
     pub(crate) fn made(map: Map) -> Entries<'k>
         ensures { result ≡ map }
     {
-        Entries {
-            form: Form::Made(map),
-        }
+        Entries(Form::Made(map))
     }
 
     /// The entries of the map. Takes no memory.
     pub fn of_map(map: &'k Map) -> Entries<'k>
         ensures { result ≡ map.now }
     {
-        Entries {
-            form: Form::Lent(map),
-        }
+        Entries(Form::Lent(map))
     }
 
     /// The value at a text key. Takes no memory.
     pub fn get_text(&self, name: &str) -> Option<&Value>
         ensures { option_copied result ≡ find (ktext name.now) self.now }
     {
-        match &self.form {
+        match &self.0 {
             Form::Listed(keys, operands) => listed_at(keys, operands.as_slice(), name),
             Form::Made(map) => map.get_text(name),
             Form::Lent(map) => map.get_text(name),
@@ -89,7 +81,7 @@ impl<'k> Entries<'k> {
         ensures is { result ≡ are_named names.now self.now }
         ensures among { result ≡ true → AreAmong names.now self.now }
     {
-        match &self.form {
+        match &self.0 {
             Form::Listed(keys, _) => listed_named(keys, names),
             Form::Made(map) => map_named(map, names),
             Form::Lent(map) => map_named(map, names),
@@ -100,7 +92,7 @@ impl<'k> Entries<'k> {
     pub fn to_map(&self, alloc: Global) -> TeraResult<Map>
         ensures { Gives (λ m. m) result (Ok self.now) }
     {
-        match &self.form {
+        match &self.0 {
             Form::Listed(keys, operands) => listed_map(alloc, keys, operands.as_slice()),
             Form::Made(map) => map.try_clone(),
             Form::Lent(map) => map.try_clone(),
@@ -111,7 +103,7 @@ impl<'k> Entries<'k> {
     pub fn as_map(&self) -> Option<&Map>
         ensures { IfSome result (λ m. m.now ≡ self.now) }
     {
-        match &self.form {
+        match &self.0 {
             Form::Listed(_, _) => None,
             Form::Made(map) => Some(map),
             Form::Lent(map) => Some(*map),

@@ -1,23 +1,21 @@
 -- What `is` asks of a value.
-use Rattle.std.specs.Prelude.{◌%◌, ◌&&◌, ℤ, Bool, true, false, not, eqb, nat_eq, pos, unsigned_abs, Result, Ok, codes}
+use Rattle.std.specs.Prelude.{◌%◌, ◌&&◌, ℤ, Bool, true, false, not, eqb, nat_eq, pos, unsigned_abs, is_some, Result, Ok, codes}
 use Rattle.std.specs.List.{starts_with, ends_with}
 use Rattle.std.specs.Ordering.{int_eq}
 use Rattle.tera_errors.specs.Fault.{Fault}
-use Rattle.tera_values.specs.Val.{Val, ValOf, none, bool, int, text, bytes, array, map}
+use Rattle.tera_values.specs.Val.{Val, ValOf, none, bool, text, bytes, array, map}
 use Rattle.tera_values.specs.Alphabet.{Alphabet}
-use Rattle.tera_values.specs.Access.{is_undefined}
+use Rattle.tera_values.specs.Access.{is_undefined, int_of, text_of}
 use Rattle.tera_values.specs.Slices.{contains}
 use Rattle.tera_values.specs.Named.{Named}
 use Rattle.tera_built_ins.specs.Arguments.{◌▸◌, as_integer, as_text, as_any, needed}
 
 -- the kinds
 abbrev pub is_text : Val → Bool
-is_text (text t s) = true
-is_text v = false
+is_text v = is_some (text_of v)
 
 abbrev pub is_integer : Val → Bool
-is_integer (int z) = true
-is_integer v = false
+is_integer v = is_some (int_of v)
 
 abbrev pub is_map : Val → Bool
 is_map (map es) = true

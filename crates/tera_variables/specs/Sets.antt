@@ -1,5 +1,5 @@
 -- Names that are kept, as a set.
-use Rattle.std.specs.Prelude.{String, false, option_copied}
+use Rattle.std.specs.Prelude.{◌≡◌, String, Result, OnOk, false, option_copied}
 use Rattle.std.specs.declared.alloc.Global.{Global}
 use Rattle.std.specs.BTreeSet.{BTreeSet, contains_text}
 use Rattle.tera_syntax_tree.specs.declared.expression.Applied.{Applied, out-Applied}
@@ -11,6 +11,10 @@ use Rattle.tera_variables.specs.Free.{Names, loop_names, expr_free, optional_fre
 
 abbrev pub names_in : BTreeSet (String Global) → Names
 names_in = contains_text
+
+-- where it ends well, these names are put among those that were found
+abbrev pub Adds : {X E : Type 0} → Result X E → Names → BTreeSet (String Global) → BTreeSet (String Global) → Type 0
+Adds result names old new = OnOk result (names_in new ≡ names ∪ names_in old)
 
 -- those of the parts of a filter or a test
 abbrev pub applied_free : Applied → Names

@@ -1,11 +1,11 @@
 // The names that expressions look up. They are found from the right to the left.
-ghost use Rattle.std.specs.Prelude.{◌≡◌, OnOk, IfErr};
+ghost use Rattle.std.specs.Prelude.{IfErr};
 ghost use Rattle.tera_errors.specs.Prelude.{Lacks};
 ghost use Rattle.tera_syntax_tree.specs.Prelude.{expr_of, optional_of, items_of, entries_of, arguments_of, filters_of};
-ghost use Rattle.tera_variables.specs.Free.{expr_free, optional_free, items_free, entries_free, arguments_free, filters_free, ◌∪◌};
-ghost use Rattle.tera_variables.specs.Sets.{names_in, applied_free, collected_free, bounds_free};
+ghost use Rattle.tera_variables.specs.Free.{expr_free, optional_free, items_free, entries_free, arguments_free, filters_free};
+ghost use Rattle.tera_variables.specs.Sets.{Adds, applied_free, collected_free, bounds_free};
 
-use crate::sets::{add, join, remove_loop_names};
+use crate::sets::{Found, add, join, remove_loop_names};
 use std::alloc::Global;
 use std::collections::BTreeSet;
 use tera_errors::TeraResult;
@@ -13,15 +13,20 @@ use tera_syntax_tree::{
     Applied, Argument, Bounds, Collected, Entry, Expression, Item, SectionFilter,
 };
 
+// Puts those of what each part of a row holds among those that were found.
+macro_rules! add_each {
+    ($alloc:ident, $parts:ident, $found:ident) => {{
+        for part in $parts {
+            add_expression($alloc, &part.value, $found)?;
+        }
+        Ok(())
+    }};
+}
+
 /// Puts those of an expression among those that were found.
 #[cycle(expressions)]
-pub fn add_expression(
-    alloc: Global,
-    expression: &Expression,
-    found: &mut BTreeSet<String>,
-) -> TeraResult<()>
-    ensures ok { OnOk result
-        (names_in found.new ≡ expr_free (expr_of expression.now) ∪ names_in found.old) }
+pub fn add_expression(alloc: Global, expression: &Expression, found: &mut Found) -> TeraResult<()>
+    ensures ok { Adds result (expr_free (expr_of expression.now)) found.old found.new }
     ensures lacks { IfErr result Lacks }
 {
     match expression {
@@ -67,13 +72,8 @@ pub fn add_expression(
 
 // Puts those of a comprehension among those that were found.
 #[cycle(expressions)]
-fn add_collected(
-    alloc: Global,
-    collected: &Collected,
-    found: &mut BTreeSet<String>,
-) -> TeraResult<()>
-    ensures ok { OnOk result
-        (names_in found.new ≡ collected_free collected.now ∪ names_in found.old) }
+fn add_collected(alloc: Global, collected: &Collected, found: &mut Found) -> TeraResult<()>
+    ensures ok { Adds result (collected_free collected.now) found.old found.new }
     ensures lacks { IfErr result Lacks }
 {
     add_expression(alloc, &collected.heading.target, found)?;
@@ -86,8 +86,8 @@ fn add_collected(
 
 // Puts those of a filter or a test among those that were found.
 #[cycle(expressions)]
-fn add_applied(alloc: Global, applied: &Applied, found: &mut BTreeSet<String>) -> TeraResult<()>
-    ensures ok { OnOk result (names_in found.new ≡ applied_free applied.now ∪ names_in found.old) }
+fn add_applied(alloc: Global, applied: &Applied, found: &mut Found) -> TeraResult<()>
+    ensures ok { Adds result (applied_free applied.now) found.old found.new }
     ensures lacks { IfErr result Lacks }
 {
     add_arguments(alloc, applied.arguments.as_slice(), found)?;
@@ -96,8 +96,8 @@ fn add_applied(alloc: Global, applied: &Applied, found: &mut BTreeSet<String>) -
 
 // Puts those of the bounds of a slice among those that were found.
 #[cycle(expressions)]
-fn add_bounds(alloc: Global, bounds: &Bounds, found: &mut BTreeSet<String>) -> TeraResult<()>
-    ensures ok { OnOk result (names_in found.new ≡ bounds_free bounds.now ∪ names_in found.old) }
+fn add_bounds(alloc: Global, bounds: &Bounds, found: &mut Found) -> TeraResult<()>
+    ensures ok { Adds result (bounds_free bounds.now) found.old found.new }
     ensures lacks { IfErr result Lacks }
 {
     add_optional(alloc, &bounds.step, found)?;
@@ -109,10 +109,9 @@ fn add_bounds(alloc: Global, bounds: &Bounds, found: &mut BTreeSet<String>) -> T
 fn add_optional(
     alloc: Global,
     expression: &Option<Box<Expression>>,
-    found: &mut BTreeSet<String>,
+    found: &mut Found,
 ) -> TeraResult<()>
-    ensures ok { OnOk result
-        (names_in found.new ≡ optional_free (optional_of expression.now) ∪ names_in found.old) }
+    ensures ok { Adds result (optional_free (optional_of expression.now)) found.old found.new }
     ensures lacks { IfErr result Lacks }
 {
     match expression {
@@ -122,54 +121,33 @@ fn add_optional(
 }
 
 #[cycle(expressions)]
-fn add_items(alloc: Global, items: &[Item], found: &mut BTreeSet<String>) -> TeraResult<()>
-    ensures ok { OnOk result
-        (names_in found.new ≡ items_free (items_of items.now) ∪ names_in found.old) }
+fn add_items(alloc: Global, items: &[Item], found: &mut Found) -> TeraResult<()>
+    ensures ok { Adds result (items_free (items_of items.now)) found.old found.new }
     ensures lacks { IfErr result Lacks }
 {
-    for item in items {
-        add_expression(alloc, &item.value, found)?;
-    }
-    Ok(())
+    add_each!(alloc, items, found)
 }
 
 /// Puts those of entries among those that were found.
 #[cycle(expressions)]
-pub fn add_entries(alloc: Global, entries: &[Entry], found: &mut BTreeSet<String>) -> TeraResult<()>
-    ensures ok { OnOk result
-        (names_in found.new ≡ entries_free (entries_of entries.now) ∪ names_in found.old) }
+pub fn add_entries(alloc: Global, entries: &[Entry], found: &mut Found) -> TeraResult<()>
+    ensures ok { Adds result (entries_free (entries_of entries.now)) found.old found.new }
     ensures lacks { IfErr result Lacks }
 {
-    for entry in entries {
-        add_expression(alloc, &entry.value, found)?;
-    }
-    Ok(())
+    add_each!(alloc, entries, found)
 }
 
 #[cycle(expressions)]
-fn add_arguments(
-    alloc: Global,
-    arguments: &[Argument],
-    found: &mut BTreeSet<String>,
-) -> TeraResult<()>
-    ensures ok { OnOk result
-        (names_in found.new ≡ arguments_free (arguments_of arguments.now) ∪ names_in found.old) }
+fn add_arguments(alloc: Global, arguments: &[Argument], found: &mut Found) -> TeraResult<()>
+    ensures ok { Adds result (arguments_free (arguments_of arguments.now)) found.old found.new }
     ensures lacks { IfErr result Lacks }
 {
-    for argument in arguments {
-        add_expression(alloc, &argument.value, found)?;
-    }
-    Ok(())
+    add_each!(alloc, arguments, found)
 }
 
 /// Puts those of filters among those that were found.
-pub fn add_filters(
-    alloc: Global,
-    filters: &[SectionFilter],
-    found: &mut BTreeSet<String>,
-) -> TeraResult<()>
-    ensures ok { OnOk result
-        (names_in found.new ≡ filters_free (filters_of filters.now) ∪ names_in found.old) }
+pub fn add_filters(alloc: Global, filters: &[SectionFilter], found: &mut Found) -> TeraResult<()>
+    ensures ok { Adds result (filters_free (filters_of filters.now)) found.old found.new }
     ensures lacks { IfErr result Lacks }
 {
     for filter in filters {

@@ -7,7 +7,7 @@ ghost use Rattle.tera_variables.specs.Free.{free, node_binds, binds, set_binds, 
 ghost use Rattle.tera_variables.specs.Sets.{names_in, before, before_all};
 
 use crate::expressions::{add_entries, add_expression, add_filters};
-use crate::sets::{add as add_name, join, remove, remove_loop_names};
+use crate::sets::{Found, add as add_name, join, remove, remove_loop_names};
 use std::alloc::Global;
 use std::collections::BTreeSet;
 use tera_errors::TeraResult;
@@ -25,7 +25,7 @@ pub fn free(alloc: Global, nodes: &[Node]) -> TeraResult<BTreeSet<String>>
 
 // From the names of what stands behind nodes, those of the nodes and what stands behind them.
 #[cycle(names)]
-fn add_all(alloc: Global, nodes: &[Node], found: &mut BTreeSet<String>) -> TeraResult<()>
+fn add_all(alloc: Global, nodes: &[Node], found: &mut Found) -> TeraResult<()>
     ensures ok { OnOk result
         (names_in found.new ≡ before_all (nodes_of nodes.now) (names_in found.old)) }
     ensures lacks { IfErr result Lacks }
@@ -40,7 +40,7 @@ fn add_all(alloc: Global, nodes: &[Node], found: &mut BTreeSet<String>) -> TeraR
 
 // The same of a node.
 #[cycle(names)]
-fn add(alloc: Global, node: &Node, found: &mut BTreeSet<String>) -> TeraResult<()>
+fn add(alloc: Global, node: &Node, found: &mut Found) -> TeraResult<()>
     ensures ok { OnOk result (names_in found.new ≡ before (node_of node.now) (names_in found.old)) }
     ensures lacks { IfErr result Lacks }
 {
@@ -103,7 +103,7 @@ fn add_section(
     alloc: Global,
     filters: &[SectionFilter],
     body: &[Node],
-    found: &mut BTreeSet<String>,
+    found: &mut Found,
 ) -> TeraResult<()>
     ensures ok { OnOk result (names_in found.new
         ≡ before (FilterSection (filters_of filters.now) (nodes_of body.now))
@@ -116,7 +116,7 @@ fn add_section(
 
 // Takes away what the body of a loop binds behind the loop.
 #[cycle(globals)]
-fn remove_globals(nodes: &[Node], found: &mut BTreeSet<String>)
+fn remove_globals(nodes: &[Node], found: &mut Found)
     ensures { names_in found.new ≡ names_in found.old ∖ binds true (nodes_of nodes.now) }
 {
     for node in nodes {
@@ -125,7 +125,7 @@ fn remove_globals(nodes: &[Node], found: &mut BTreeSet<String>)
 }
 
 #[cycle(globals)]
-fn remove_globals_of(node: &Node, found: &mut BTreeSet<String>)
+fn remove_globals_of(node: &Node, found: &mut Found)
     ensures { names_in found.new ≡ names_in found.old ∖ node_binds true (node_of node.now) }
 {
     match node {
@@ -149,18 +149,19 @@ fn remove_globals_of(node: &Node, found: &mut BTreeSet<String>)
         Node::FilterSection { body, .. }
         | Node::Block { body, .. }
         | Node::ComponentCall { body, .. } => remove_globals(body.as_slice(), found),
+        // A component keeps to itself what it sets.
+        Node::Definition { .. } => {}
         Node::Content { .. }
         | Node::Print { .. }
         | Node::PrintName { .. }
         | Node::Include { .. }
-        | Node::Definition { .. }
         | Node::Break
         | Node::Continue => {}
     }
 }
 
 // Takes away what setting this name in the body of a loop binds behind the loop.
-fn remove_if_global(name: &str, is_global: bool, found: &mut BTreeSet<String>)
+fn remove_if_global(name: &str, is_global: bool, found: &mut Found)
     ensures { names_in found.new ≡ names_in found.old ∖ set_binds true is_global name.now }
 {
     if is_global {

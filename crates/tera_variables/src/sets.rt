@@ -9,6 +9,9 @@ use std::collections::BTreeSet;
 use tera_errors::TeraResult;
 use tera_syntax_tree::Heading;
 
+/// Names that were found.
+pub(crate) type Found = BTreeSet<String>;
+
 /// Puts a name among those that were found.
 pub fn add(alloc: Global, name: &str, found: &mut BTreeSet<String>) -> TeraResult<()>
     ensures ok { OnOk result (names_in found.new ≡ only name.now ∪ names_in found.old) }
@@ -22,14 +25,14 @@ pub fn add(alloc: Global, name: &str, found: &mut BTreeSet<String>) -> TeraResul
 }
 
 /// Takes a name away, if it is there.
-pub fn remove(name: &str, found: &mut BTreeSet<String>)
+pub fn remove(name: &str, found: &mut Found)
     ensures { names_in found.new ≡ names_in found.old ∖ only name.now }
 {
     found.remove(name);
 }
 
 /// Takes away what a loop calls its items.
-pub fn remove_loop_names(heading: &Heading, found: &mut BTreeSet<String>)
+pub fn remove_loop_names(heading: &Heading, found: &mut Found)
     ensures { names_in found.new
         ≡ names_in found.old ∖ loop_names (option_copied heading.now.key) heading.now.name.now }
 {
@@ -40,7 +43,7 @@ pub fn remove_loop_names(heading: &Heading, found: &mut BTreeSet<String>)
 }
 
 /// Puts these names among those that were found.
-pub fn join(names: BTreeSet<String>, found: &mut BTreeSet<String>) -> TeraResult<()>
+pub fn join(names: Found, found: &mut Found) -> TeraResult<()>
     ensures ok { OnOk result (names_in found.new ≡ names_in names ∪ names_in found.old) }
     ensures lacks { IfErr result Lacks }
 {

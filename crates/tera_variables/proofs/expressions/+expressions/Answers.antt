@@ -60,29 +60,29 @@ pub add_applied-returns-clause-ok : goal.add_applied-returns-clause-ok
 add_applied-returns-clause-ok t c =
     two _ _ _ _ _ _ (c.in_ok-add_arguments.ensures.ok ∙ ap (λ xs. arguments_free (arguments_of xs) ∪ names_in c.args.found.now) c.as_slice.ensures.value) c.add_expression.ensures.ok
 
-pub add_items-loop-item-preserved : goal.add_items-loop-item-preserved
-add_items-loop-item-preserved t c =
-    one-passed (λ xs. items_free (items_of xs)) _ _ _ _ _ _ _ c.loop-item-test.true c.item-item.is refl c.in_ok-add_expression.ensures.ok c.loop-item.invariant
+pub add_items-loop-part-preserved : goal.add_items-loop-part-preserved
+add_items-loop-part-preserved t c =
+    one-passed (λ xs. items_free (items_of xs)) _ _ _ _ _ _ _ c.loop-part-test.true c.part-item.is refl c.in_ok-add_expression.ensures.ok c.loop-part.invariant
 
 pub add_items-returns-clause-ok : goal.add_items-returns-clause-ok
 add_items-returns-clause-ok t c =
-    all-passed (λ xs. items_free (items_of xs)) c.args.items.now c.loop-item.item-index _ _ (omega (arith, c.loop-item-test.false)) refl c.loop-item.invariant
+    all-passed (λ xs. items_free (items_of xs)) c.args.items.now c.loop-part.part-index _ _ (omega (arith, c.loop-part-test.false)) refl c.loop-part.invariant
 
-pub add_entries-loop-entry-preserved : goal.add_entries-loop-entry-preserved
-add_entries-loop-entry-preserved t c =
-    one-passed (λ xs. entries_free (entries_of xs)) _ _ _ _ _ _ _ c.loop-entry-test.true c.entry-item.is refl c.in_ok-add_expression.ensures.ok c.loop-entry.invariant
+pub add_entries-loop-part-preserved : goal.add_entries-loop-part-preserved
+add_entries-loop-part-preserved t c =
+    one-passed (λ xs. entries_free (entries_of xs)) _ _ _ _ _ _ _ c.loop-part-test.true c.part-item.is refl c.in_ok-add_expression.ensures.ok c.loop-part.invariant
 
 pub add_entries-returns-clause-ok : goal.add_entries-returns-clause-ok
 add_entries-returns-clause-ok t c =
-    all-passed (λ xs. entries_free (entries_of xs)) c.args.entries.now c.loop-entry.entry-index _ _ (omega (arith, c.loop-entry-test.false)) refl c.loop-entry.invariant
+    all-passed (λ xs. entries_free (entries_of xs)) c.args.entries.now c.loop-part.part-index _ _ (omega (arith, c.loop-part-test.false)) refl c.loop-part.invariant
 
-pub add_arguments-loop-argument-preserved : goal.add_arguments-loop-argument-preserved
-add_arguments-loop-argument-preserved t c =
-    one-passed (λ xs. arguments_free (arguments_of xs)) _ _ _ _ _ _ _ c.loop-argument-test.true c.argument-item.is refl c.in_ok-add_expression.ensures.ok c.loop-argument.invariant
+pub add_arguments-loop-part-preserved : goal.add_arguments-loop-part-preserved
+add_arguments-loop-part-preserved t c =
+    one-passed (λ xs. arguments_free (arguments_of xs)) _ _ _ _ _ _ _ c.loop-part-test.true c.part-item.is refl c.in_ok-add_expression.ensures.ok c.loop-part.invariant
 
 pub add_arguments-returns-clause-ok : goal.add_arguments-returns-clause-ok
 add_arguments-returns-clause-ok t c =
-    all-passed (λ xs. arguments_free (arguments_of xs)) c.args.arguments.now c.loop-argument.argument-index _ _ (omega (arith, c.loop-argument-test.false)) refl c.loop-argument.invariant
+    all-passed (λ xs. arguments_free (arguments_of xs)) c.args.arguments.now c.loop-part.part-index _ _ (omega (arith, c.loop-part-test.false)) refl c.loop-part.invariant
 
 pub add_bounds-returns-clause-ok : goal.add_bounds-returns-clause-ok
 add_bounds-returns-clause-ok t c =

@@ -14,6 +14,10 @@ use Rattle.tera_state.specs.Items.{ItemOf, items_in}
 abbrev pub BindingsOf : Type 0 → Type 0
 BindingsOf C = List (Name × ValOf C)
 
+-- those of texts of bytes, as each type below without `Of`
+abbrev pub Bindings : Type 0
+Bindings = BindingsOf ℕ
+
 -- binds the name, in place of what it was bound to
 abbrev pub bind : {C : Type 0} → Name → ValOf C → BindingsOf C → BindingsOf C
 bind n v [] = (n, v) ∷ []
@@ -25,10 +29,16 @@ pub record TurnOf (C : Type 0) : Type 0 where
   pub sets : BindingsOf C
   pub names : BindingsOf C
 
+abbrev pub Turn : Type 0
+Turn = TurnOf ℕ
+
 -- the open turns, the innermost first, and what was set outside of them
 pub record VariablesOf (C : Type 0) : Type 0 where
   pub turns : List (TurnOf C)
   pub sets : BindingsOf C
+
+abbrev pub Variables : Type 0
+Variables = VariablesOf ℕ
 
 -- a template by itself, an include, which reads its includer, and a component, which reads no one
 pub data Kind : Type 0 where
@@ -42,22 +52,13 @@ pub record FrameOf (C : Type 0) : Type 0 where
   pub context : Named (ValOf C)
   pub global : Named (ValOf C)
 
+abbrev pub Frame : Type 0
+Frame = FrameOf ℕ
+
 -- the frame of the body that runs, and those above it with their variables, the nearest first
 pub record AroundOf (C : Type 0) : Type 0 where
   pub frame : FrameOf C
   pub above : List (FrameOf C × VariablesOf C)
-
-abbrev pub Bindings : Type 0
-Bindings = BindingsOf ℕ
-
-abbrev pub Turn : Type 0
-Turn = TurnOf ℕ
-
-abbrev pub Variables : Type 0
-Variables = VariablesOf ℕ
-
-abbrev pub Frame : Type 0
-Frame = FrameOf ℕ
 
 abbrev pub Around : Type 0
 Around = AroundOf ℕ

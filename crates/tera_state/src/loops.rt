@@ -24,14 +24,12 @@ pub struct ForLoop {
     pub index: usize,
 }
 
+/// A loop at its first turn, or none where there is no item to go over.
+pub type Begun = TeraResult<Option<ForLoop>>;
+
 impl ForLoop {
     /// A `for` loop at its first turn, or none where there is no item. Only a text takes memory, for its clusters.
-    pub fn new(
-        alloc: Global,
-        name: Name,
-        key: Option<Name>,
-        target: Value,
-    ) -> TeraResult<Option<ForLoop>>
+    pub fn new(alloc: Global, name: Name, key: Option<Name>, target: Value) -> Begun
         ensures turns { Gives turns_left result (loop_turns (heading name key true) target) }
         ensures items { IfOk result (λ opened. items_in plain target ≡ Some (items_over opened)) }
     {
@@ -39,12 +37,7 @@ impl ForLoop {
     }
 
     /// The same for a comprehension, which doesn't count its turns.
-    pub fn new_comprehension(
-        alloc: Global,
-        name: Name,
-        key: Option<Name>,
-        target: Value,
-    ) -> TeraResult<Option<ForLoop>>
+    pub fn new_comprehension(alloc: Global, name: Name, key: Option<Name>, target: Value) -> Begun
         ensures turns { Gives turns_left result (loop_turns (heading name key false) target) }
         ensures items { IfOk result (λ opened. items_in plain target ≡ Some (items_over opened)) }
     {
@@ -52,13 +45,7 @@ impl ForLoop {
     }
 
     // The same, which counts or does not.
-    fn begin(
-        alloc: Global,
-        name: Name,
-        key: Option<Name>,
-        counts: bool,
-        target: Value,
-    ) -> TeraResult<Option<ForLoop>>
+    fn begin(alloc: Global, name: Name, key: Option<Name>, counts: bool, target: Value) -> Begun
         ensures turns { Gives turns_left result (loop_turns (heading name key counts) target) }
         ensures items { IfOk result (λ opened. items_in plain target ≡ Some (items_over opened)) }
     {

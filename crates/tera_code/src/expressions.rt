@@ -2,7 +2,7 @@
 ghost use Rattle.std.specs.Prelude.{◌≡◌, ◌∷◌, [], ◌++◌, OnOk, cond};
 ghost use Rattle.tera_code.specs.declared.instruction.Instruction.TheVariants as instruction;
 ghost use Rattle.tera_code.specs.Code.{expr_code, bound_code, entries_code, lengthened};
-ghost use Rattle.tera_syntax_tree.specs.Prelude.{Index, Binary, And, Or, Ternary, Array, Map, expr_of, optional_of, items_of, entries_of};
+ghost use Rattle.tera_syntax_tree.specs.Prelude.{Index, Not, Negate, Binary, And, Or, Ternary, Array, Map, expr_of, optional_of, items_of, entries_of};
 
 use crate::call_kind::CallKind;
 use crate::compiler::Compiler;
@@ -49,8 +49,8 @@ impl Compiler {
                 self.expression(&sliced.target)?;
                 self.slice(&sliced.bounds, *optional, *span)
             }
-            Expression::Not { operand, .. } => self.unary(operand, Instruction::Not),
-            Expression::Negate { operand, .. } => self.unary(operand, Instruction::Negate),
+            Expression::Not { operand, .. } => self.unary(operand, true),
+            Expression::Negate { operand, .. } => self.unary(operand, false),
             Expression::Binary {
                 operator,
                 operands,
@@ -95,19 +95,19 @@ impl Compiler {
         self.emit(Instruction::Slice { optional, span })
     }
 
-    // The operand, and the instruction that takes it.
+    // The operand, and what turns its truth value or its sign around.
     #[cycle(expressions)]
     #[inline(never)]
-    fn unary(
-        &mut self,
-        operand: &Expression,
-        instruction: Instruction<'_>,
-    ) -> Result<(), AllocError>
-        ensures ok { OnOk result (self.new ≡ lengthened self.old
-            (expr_code (expr_of operand.now) ++ instruction.entry ∷ [])) }
+    fn unary(&mut self, operand: &Expression, is_not: bool) -> Result<(), AllocError>
+        ensures ok { (span : Span) → OnOk result (self.new ≡ lengthened self.old (expr_code
+            (cond is_not (Not (expr_of operand.now) span) (Negate (expr_of operand.now) span)))) }
     {
         self.expression(operand)?;
-        self.emit(instruction)
+        if is_not {
+            self.emit(Instruction::Not)
+        } else {
+            self.emit(Instruction::Negate)
+        }
     }
 
     #[cycle(expressions)]

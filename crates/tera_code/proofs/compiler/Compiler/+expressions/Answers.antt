@@ -16,11 +16,11 @@ use Rattle.tera_code.proofs.compiler.Compiler.+expressions.Goals as goal
 
 pub expression-returns-in-Not : goal.expression-returns-in-Not
 expression-returns-in-Not t c =
-    record { ok = seen expr_code _ _ _ _ _ (ap (λ x. Not (expr_of x) c.in-Not.span) c.deref-in-Not.ensures ∙ sym (ap expr_of c.in-Not.is)) c.unary.ensures.ok }
+    record { ok = seen expr_code _ _ _ _ _ (ap (λ x. Not (expr_of x) c.in-Not.span) c.deref-in-Not.ensures ∙ sym (ap expr_of c.in-Not.is)) (c.unary.ensures.ok c.in-Not.span) }
 
 pub expression-returns-in-Negate : goal.expression-returns-in-Negate
 expression-returns-in-Negate t c =
-    record { ok = seen expr_code _ _ _ _ _ (ap (λ x. Negate (expr_of x) c.in-Negate.span) c.deref-in-Negate.ensures ∙ sym (ap expr_of c.in-Negate.is)) c.unary-in-Negate.ensures.ok }
+    record { ok = seen expr_code _ _ _ _ _ (ap (λ x. Negate (expr_of x) c.in-Negate.span) c.deref-in-Negate.ensures ∙ sym (ap expr_of c.in-Negate.is)) (c.unary-in-Negate.ensures.ok c.in-Negate.span) }
 
 pub expression-returns-in-And : goal.expression-returns-in-And
 expression-returns-in-And t c =

@@ -66,13 +66,7 @@ fn add(alloc: Global, node: &Node, file: &str, found: &mut Vec<Block>) -> Result
             put(alloc, body, file, name, found)?;
             add_all(alloc, body, file, found)
         }
-        Node::Content { .. }
-        | Node::Print { .. }
-        | Node::PrintName { .. }
-        | Node::Set { .. }
-        | Node::Include { .. }
-        | Node::Break
-        | Node::Continue => Ok(()),
+        _ => Ok(()),
     }
 }
 

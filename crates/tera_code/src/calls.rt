@@ -116,7 +116,7 @@ impl Compiler {
         let names = argument_names(self.alloc(), arguments)?;
         let name = LentName::new(&name);
         let arguments = Names::new(names.as_slice());
-        self.emit(kind.instruction(name, arguments, span))
+        self.emit(Instruction::call(kind, name, arguments, span))
     }
 
     pub(crate) fn take_component(

@@ -1,4 +1,8 @@
 // What the machine can be told.
+ghost use Rattle.std.specs.Prelude.{◌≡◌};
+ghost use Rattle.tera_code.specs.Calls.{call_of};
+
+use crate::call_kind::CallKind;
 use crate::constant::Constant;
 use crate::content::{Keys, LentName, Names, Spreads, Text};
 use tera_syntax_tree::BinaryOperator;
@@ -127,4 +131,35 @@ pub enum Instruction<'a> {
         arguments: Names<'a>,
         span: Span,
     },
+}
+
+impl<'a> Instruction<'a> {
+    // What calls by name, with arguments of these names.
+    #[inline(always)]
+    pub(crate) fn call(
+        kind: CallKind,
+        name: LentName<'a>,
+        arguments: Names<'a>,
+        span: Span,
+    ) -> Instruction<'a>
+        ensures { result ≡ call_of kind name.entry arguments.entry span }
+    {
+        match kind {
+            CallKind::Filter => Instruction::ApplyFilter {
+                name,
+                arguments,
+                span,
+            },
+            CallKind::Test => Instruction::ApplyTest {
+                name,
+                arguments,
+                span,
+            },
+            CallKind::Function => Instruction::CallFunction {
+                name,
+                arguments,
+                span,
+            },
+        }
+    }
 }

@@ -111,7 +111,8 @@ impl Tables {
         ensures { result ≡ call_of kind (call_at (shelf_of self.now) call).0
             (call_at (shelf_of self.now) call).1 (span_at (shelf_of self.now) span) }
     {
-        kind.instruction(
+        Instruction::call(
+            kind,
             self.called_name(call),
             self.argument_names(call),
             self.span(span),

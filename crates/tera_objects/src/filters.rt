@@ -2,9 +2,8 @@
 ghost use Rattle.std.specs.Prelude.{◌≡◌, ◌&&◌, not, ℕ, [], take, is_some, OnOk, OnErr, IfErr};
 ghost use Rattle.tera_errors.specs.Prelude.{Lacks};
 ghost use Rattle.tera_values.specs.Prelude.{at_name, put};
-ghost use Rattle.tera_built_ins.specs.Prelude.{filter_named};
 ghost use Rattle.tera_objects.specs.Table.{listed, moved};
-ghost use Rattle.tera_objects.specs.Taken.{AreTaken};
+ghost use Rattle.tera_objects.specs.Taken.{AreTaken, is_built_in};
 ghost use Rattle.std.proofs.Props.{props};
 
 use crate::table::{Standard, Table};
@@ -49,7 +48,7 @@ impl<F: Drop> OwnFilters<F> {
 
     // Whether a filter at the name takes the place of a built-in one that no other took.
     fn takes_built_in(&self, name: &str) -> bool
-        ensures { result ≡ (is_some (filter_named name.now)
+        ensures { result ≡ (is_built_in name.now
             && not (is_some (at_name name.now (listed self.now.table)))) }
     {
         BuiltInFilter::is_one(name) && !self.table.contains(name)
@@ -76,10 +75,9 @@ impl<F: Drop> OwnFilters<F> {
     /// Moves the others here, in byte order of their names, but those whose names stand for a filter already. After want of
     /// memory those that were moved stay.
     pub fn move_from(&mut self, other: OwnFilters<F>) -> TeraResult<()>
-        ensures ok { OnOk result (listed self.new.table ≡ moved (λ n. is_some (filter_named n))
+        ensures ok { OnOk result (listed self.new.table ≡ moved is_built_in
             (listed self.old.table) (listed other.table)) }
-        ensures part { OnErr result ((k : ℕ) × (listed self.new.table
-            ≡ moved (λ n. is_some (filter_named n))
+        ensures part { OnErr result ((k : ℕ) × (listed self.new.table ≡ moved is_built_in
             (listed self.old.table) (take k (listed other.table)))) }
         ensures lacks { IfErr result Lacks }
     {

@@ -191,16 +191,13 @@ Place = PlaceOf ℕ
 abbrev pub Way : Type 0
 Way = WayOf ℕ
 
-abbrev pub Family : Type 0
-Family = FamilyOf ℕ
-
 abbrev pub way : World → Place → Request → Variables → Way
 way = way_in plain
 
 abbrev pub body_meaning : World → Oracle → Place → Variables → Nodes → Answer Signal
 body_meaning w = body_meaning_in plain w
 
-abbrev pub whole : World → Family
+abbrev pub whole : World → FamilyOf ℕ
 whole w = whole_in plain w
 
 abbrev pub meaning : World → Place → Variables → Nodes → Answer Signal

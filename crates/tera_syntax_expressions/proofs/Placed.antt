@@ -1,5 +1,5 @@
 -- Where an argument is put in a row of them, and the turns of the loop that reads them.
-use Rattle.std.proofs.Common.{◌≡◌, ℕ, suc, ◌+◌, ◌-◌, ◌<◌, ◌≤◌, max, List, [], ◌∷◌, length, true, false, Option, Some, None, option_map, refl, sym, ◌∙◌, ap, arith, Ordering, Less, Equal, Greater}
+use Rattle.std.proofs.Common.{◌≡◌, ℕ, suc, ◌+◌, ◌-◌, ◌<◌, ◌≤◌, max, List, [], ◌∷◌, length, Option, Some, None, option_map, refl, ◌∙◌, ap, arith, if◌then◌else◌, Ordering, Less, Equal, Greater}
 use Rattle.std.specs.List.{insert}
 use Rattle.std.specs.Ordering.{match_ordering}
 use Rattle.tera_errors.specs.Site.{Name}
@@ -9,11 +9,12 @@ use Rattle.tera_syntax_tree.specs.View.{arguments_of, expr_of}
 use Rattle.tera_syntax_tokens.specs.declared.token.Kind.TheVariants.{RightParenthesis}
 use Rattle.tera_syntax_tokens.specs.Input.{Input, Parsed, Parser, and_then, kind, text, next, same}
 use Rattle.tera_syntax_expressions.specs.Arguments.{name_cmp, put_argument, argument_name}
+use Rattle.tera_syntax_expressions.specs.Commas.{comma_or}
 use Rattle.tera_syntax_expressions.specs.Parts.{place_of}
 use Rattle.tera_syntax_expressions.specs.Expressions as r
 use Rattle.tera_syntax_expressions.specs.Expressions.{Deep}
 use Rattle.tera_syntax_expressions.proofs.ArgumentRows.{named-got}
-use Rattle.tera_syntax_expressions.proofs.Turns.{one_more, Behind, behind_these}
+use Rattle.tera_syntax_expressions.proofs.Turns.{one_more, behind, Behind, read_behind}
 
 -- the place, where this many others were passed
 abbrev pub from : ℕ → Option ℕ → Option ℕ
@@ -85,19 +86,23 @@ module _ (limit : ℕ) (sub : ℕ → Parser Deep) where
           let n = named-got i p.1 p.0 e in
           ap (λ n. and_then (sub 0 p.1) (λ x. r.placed limit sub (put_argument n x.expr found) x.depth)) n.2 ∙ value (sub 0 p.1)
 
--- A turn of the loop over arguments: what closes, no argument, and an argument with what is behind it
-module _ (limit : ℕ) (sub : ℕ → Parser Deep) {meant : Parsed (Arguments × ℕ)} (n at : ℕ) (found : Arguments) (d : ℕ) (i : Input) (lt : at < n) (turn : meant ≡ r.arguments_from limit sub (n - at) found d i) where
-  abbrev argument_rest : Arguments × ℕ → Parser (Arguments × ℕ)
-  argument_rest = r.behind_argument limit sub (r.arguments_from limit sub (n - (at + 1))) d
+-- behind an argument that was read stands a comma and more, or what closes: the depth is the greatest so far
+abbrev pub further : (Arguments → ℕ → Parser (Arguments × ℕ)) → ℕ → Arguments × ℕ → Parser (Arguments × ℕ)
+further more d p = λ j. and_then (comma_or RightParenthesis j) (λ is_comma. λ a. if is_comma then more p.0 (max d p.1) a else Some ((p.0, max d p.1), a))
 
-  pub arguments_end : same RightParenthesis (kind i) ≡ true → {j : Input} → j ≡ next i → meant ≡ Some ((found, d), j)
-  unfolding r.arguments_from
-  arguments_end h e = one_more (λ n. r.arguments_from limit sub n found d i) n at lt turn ∙ rw h (ap (λ j. Some ((found, d), j)) (sym e))
+behind-further : (more : Arguments → ℕ → Parser (Arguments × ℕ)) (d : ℕ) (p : Arguments × ℕ) (j : Input) → behind RightParenthesis (λ (q : Arguments × ℕ). more q.0 q.1) (p.0, max d p.1) j ≡ further more d p j
+behind-further more d p j =
+    let b : Behind (behind RightParenthesis (λ (q : Arguments × ℕ). more q.0 q.1) (p.0, max d p.1) j) RightParenthesis (λ (q : Arguments × ℕ). more q.0 q.1) (p.0, max d p.1) j = record { is = refl } in
+    read_behind b refl
 
-  pub arguments_next : same RightParenthesis (kind i) ≡ false → {o : Parsed (Arguments × ℕ)} → r.argument limit sub found i ≡ o → meant ≡ and_then o argument_rest
-  unfolding r.arguments_from
-  arguments_next h e = one_more (λ n. r.arguments_from limit sub n found d i) n at lt turn ∙ rw h (ap (λ o. and_then o argument_rest) e)
+alike-behind : {X Y : Type 0} (o : Parsed X) {f g : X → Parser Y} → ((x : X) (j : Input) → f x j ≡ g x j) → and_then o f ≡ and_then o g
+alike-behind None e = refl
+alike-behind (Some p) e = e p.0 p.1
 
-  pub arguments_read : same RightParenthesis (kind i) ≡ false → {all : Arguments} {b : ℕ} {j : Input} → r.argument limit sub found i ≡ Some ((all, b), j) → {most : ℕ} → most ≡ max d b
-      → Behind meant RightParenthesis (λ (p : Arguments × ℕ). r.arguments_from limit sub (n - (at + 1)) p.0 p.1) (all, most) j
-  arguments_read h {j = j} e g = behind_these RightParenthesis (r.arguments_from limit sub (n - (at + 1))) j (arguments_next h e) refl g
+-- what is read from a turn of the loop on
+pub arguments_once : (limit : ℕ) (sub : ℕ → Parser Deep) (n at : ℕ) (found : Arguments) (d : ℕ) (i : Input) → at < n → r.arguments_from limit sub (n - at) found d i
+    ≡ (if same RightParenthesis (kind i) then Some ((found, d), next i) else and_then (r.argument limit sub found i) (further (r.arguments_from limit sub (n - (at + 1))) d))
+unfolding r.arguments_from
+arguments_once limit sub n at found d i lt =
+    one_more (λ n. r.arguments_from limit sub n found d i) n at lt refl
+    ∙ ap (λ o. if same RightParenthesis (kind i) then Some ((found, d), next i) else o) (alike-behind (r.argument limit sub found i) (behind-further (r.arguments_from limit sub (n - (at + 1))) d))

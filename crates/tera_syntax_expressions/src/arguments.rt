@@ -36,7 +36,7 @@ impl<'s, F: Fn(Global, &mut Tokens<'_, 's>, usize, u8) -> Read<'s>> Reader<F> {
     }
 
     /// Arguments with commas between, up to a parenthesis, and the greatest depth.
-    #[tactic(auto, unfolding(crate::specs::Expressions::arguments_from))]
+    #[tactic(auto, using(crate::proofs::Placed::arguments_once), unfolding(crate::specs::Expressions::arguments_from))]
     pub(crate) fn arguments(&self, tokens: &mut Tokens<'_, 's>) -> Row<Argument<'s>>
         requires { Nests self.now.below (F.pre self.now.expr) (F.post self.now.expr) }
         ensures { FollowsRow arguments_of spec.arguments_from NoArguments self.now

@@ -1,11 +1,14 @@
 -- Parameters with commas between: the turns of the loop that reads them.
-use Rattle.std.proofs.Common.{◌≡◌, ℕ, suc, ◌+◌, ◌-◌, ◌<◌, List, true, false, Option, Some, None, refl, sym, ap, ◌∙◌}
+use Rattle.std.proofs.Common.{◌≡◌, ℕ, suc, ◌+◌, ◌-◌, ◌<◌, List, [], ◌∷◌, ◌++◌, map, true, false, Option, Some, None, refl, sym, ap, ◌∙◌}
 use Rattle.tera_errors.specs.Site.{Name}
+use Rattle.std.proofs.lemmas.List.{map-append}
+use Rattle.tera_syntax_tree.specs.declared.component.Parameter as declared
 use Rattle.tera_syntax_tree.specs.Tree.{Parameter}
+use Rattle.tera_syntax_tree.specs.View.{parameter_of}
 use Rattle.tera_syntax_tokens.specs.declared.token.Kind.TheVariants.{Spread, Comma}
 use Rattle.tera_syntax_tokens.specs.Input.{Input, Parsed, Parser, and_then, kind, next, same}
 use Rattle.tera_syntax_expressions.specs.Headings.{name}
-use Rattle.tera_syntax_expressions.specs.Parameters.{with_parameter, rest_name, behind_parameter, parameters_from}
+use Rattle.tera_syntax_expressions.specs.Parameters.{parameter, with_parameter, rest_name, behind_parameter, parameters_from}
 use Rattle.tera_syntax_expressions.proofs.Turns.{one_more}
 
 pub rest_named : (found : List Parameter) (i j : Input) (n : Name) → name i ≡ Some (n, j) → rest_name found i ≡ Some ((found, Some n), j)
@@ -13,6 +16,16 @@ unfolding rest_name
 rest_named found i j n h = rw h refl
 
 module _ (limit : ℕ) where
+  -- a parameter behind those that were found: none, and one that was read
+  pub with_none : (found : List Parameter) (i : Input) → parameter limit i ≡ None → with_parameter limit found i ≡ None
+  unfolding with_parameter
+  with_none found i h = rw h refl
+
+  pub with_read : (found : List declared.Parameter) (p : declared.Parameter) (i : Input) {j : Input} → parameter limit i ≡ Some (parameter_of p, j) → {all : List declared.Parameter} → all ≡ found ++ p ∷ []
+      → with_parameter limit (map parameter_of found) i ≡ Some (map parameter_of all, j)
+  unfolding with_parameter
+  with_read found p i {j = j} h e = rw h (ap (λ all. Some (all, j)) (sym (ap (map parameter_of) e ∙ map-append parameter_of found (p ∷ []))))
+
   abbrev pub parameters_behind : ℕ → List Parameter → Parser (List Parameter × Option Name)
   parameters_behind n = behind_parameter (parameters_from limit n)
 

@@ -4,7 +4,7 @@ ghost use Rattle.tera_syntax_expressions.specs.Expressions as spec;
 ghost use Rattle.tera_syntax_expressions.specs.Parts.{deep_of};
 
 use crate::levels::stands_alone;
-use crate::reader::Reader;
+use crate::reader::{Reader, reader_within};
 use std::alloc::Global;
 use tera_syntax_tokens::input::Tokens;
 use tera_syntax_tokens::refusal::{Reason, Refusal};
@@ -37,15 +37,7 @@ pub fn expr<'s>(
 ) -> Result<Deep<'s>, Refusal>
     ensures { Takes deep_of (spec.expr limit floor (input tokens.old)) result tokens.new }
 {
-    if limit == 0 {
-        return Err(tokens.refuse(Reason::TooDeep));
-    }
-    let reader = Reader {
-        alloc,
-        limit,
-        below: limit - 1,
-        expr,
-    };
+    let reader = reader_within!(limit, alloc, tokens, expr);
     if stands_alone(tokens, floor) {
         reader.leaf(tokens)
     } else {

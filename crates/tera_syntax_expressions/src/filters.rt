@@ -5,7 +5,7 @@ ghost use Rattle.tera_syntax_expressions.specs.Expressions as spec;
 ghost use Rattle.tera_syntax_expressions.specs.Parts.{FollowsRow, Nests, TakesPart};
 
 use crate::expressions::{Deep, Depth, Read, Row, expr};
-use crate::reader::{Reader, larger};
+use crate::reader::{Reader, larger, reader_within};
 use std::alloc::Global;
 use tera_syntax_tokens::input::{Tokens, is_word, same};
 use tera_syntax_tokens::refusal::{Reason, Refusal};
@@ -22,15 +22,7 @@ pub fn filters<'s>(
     ensures { let meant = spec.filters limit (input tokens.old) in
         Takes (λ p. (filters_of p.0.items, p.1)) meant result tokens.new }
 {
-    if limit == 0 {
-        return Err(tokens.refuse(Reason::TooDeep));
-    }
-    let reader = Reader {
-        alloc,
-        limit,
-        below: limit - 1,
-        expr,
-    };
+    let reader = reader_within!(limit, alloc, tokens, expr);
     reader.filters(tokens)
 }
 

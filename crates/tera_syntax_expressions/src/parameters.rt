@@ -18,6 +18,9 @@ use tera_syntax_tree::{ArgumentType, Literal, Parameter, Signature};
 /// What reading parameters gives: each, and the name of what takes all other arguments.
 type Parameters<'s> = Result<(Vec<Parameter<'s>>, Option<&'s str>), Refusal>;
 
+/// What reading one of them gives.
+type OneParameter<'s> = Result<Parameter<'s>, Refusal>;
+
 /// A component's name and its parameters in parentheses, with defaults no deeper than `limit`.
 #[tactic(auto, unfolding(crate::specs::Parameters::signature, crate::specs::Parameters::signature_from))]
 pub fn signature<'s>(
@@ -73,10 +76,11 @@ fn parameters<'s>(alloc: Global, tokens: &mut Tokens<'_, 's>, limit: usize) -> P
                 Err(refusal) => return Err(refusal),
             }
         }
-        match with_parameter(alloc, tokens, limit, &mut found) {
-            Ok(()) => {}
+        let parameter = match parameter(alloc, tokens, limit) {
+            Ok(parameter) => parameter,
             Err(refusal) => return Err(refusal),
-        }
+        };
+        found.push(parameter)?;
         if !same(Kind::Comma, tokens.kind()) {
             return Ok((found, None));
         }
@@ -85,33 +89,9 @@ fn parameters<'s>(alloc: Global, tokens: &mut Tokens<'_, 's>, limit: usize) -> P
     Err(tokens.refuse(Reason::Expected(Kind::Name)))
 }
 
-/// A parameter, behind those that were read.
-#[tactic(auto, unfolding(crate::specs::Parameters::with_parameter))]
-fn with_parameter<'s>(
-    alloc: Global,
-    tokens: &mut Tokens<'_, 's>,
-    limit: usize,
-    found: &mut Vec<Parameter<'s>>,
-) -> Result<(), Refusal>
-    ensures { let before = map parameter_of found.old.items in
-        let meant = spec.with_parameter limit before (input tokens.old) in
-        Takes (λ done. map parameter_of found.new.items) meant result tokens.new }
-{
-    let parameter = match parameter(alloc, tokens, limit) {
-        Ok(parameter) => parameter,
-        Err(refusal) => return Err(refusal),
-    };
-    found.push(parameter)?;
-    Ok(())
-}
-
 /// `name: Type = default`, or the same with `@` before it.
 #[tactic(auto, unfolding(crate::specs::Parameters::parameter))]
-fn parameter<'s>(
-    alloc: Global,
-    tokens: &mut Tokens<'_, 's>,
-    limit: usize,
-) -> Result<Parameter<'s>, Refusal>
+fn parameter<'s>(alloc: Global, tokens: &mut Tokens<'_, 's>, limit: usize) -> OneParameter<'s>
     ensures { Takes parameter_of (spec.parameter limit (input tokens.old)) result tokens.new }
 {
     if same(Kind::At, tokens.kind()) {
@@ -129,7 +109,7 @@ fn parameter_by_name<'s>(
     tokens: &mut Tokens<'_, 's>,
     limit: usize,
     is_implicit: bool,
-) -> Result<Parameter<'s>, Refusal>
+) -> OneParameter<'s>
     ensures { let meant = spec.parameter_by_name limit is_implicit (input tokens.old) in
         Takes parameter_of meant result tokens.new }
 {

@@ -30,6 +30,23 @@ pub(crate) struct Reader<F> {
     pub(crate) expr: F,
 }
 
+/// What reads forms no deeper than a limit, over parts that are one less deep at the most. At 0 nothing is read.
+macro_rules! reader_within {
+    ($limit:ident, $alloc:ident, $tokens:ident, $expr:ident) => {{
+        if $limit == 0 {
+            return Err($tokens.refuse(Reason::TooDeep));
+        }
+        Reader {
+            alloc: $alloc,
+            limit: $limit,
+            below: $limit - 1,
+            expr: $expr,
+        }
+    }};
+}
+
+pub(crate) use reader_within;
+
 impl<'s, F: Fn(Global, &mut Tokens<'_, 's>, usize, u8) -> Read<'s>> Reader<F> {
     /// A part, of this level or above.
     pub(crate) fn sub(&self, tokens: &mut Tokens<'_, 's>, floor: u8) -> Read<'s>

@@ -3,7 +3,7 @@ use Rattle.tera_syntax_tree.specs.View.{parameter_of}
 use Rattle.tera_syntax_tokens.specs.declared.token.Kind.TheVariants.{Spread, Comma}
 use Rattle.tera_syntax_tokens.specs.Input.{same}
 use Rattle.tera_syntax_tokens.specs.Takes.{input}
-use Rattle.tera_syntax_expressions.proofs.ParameterRows.{parameters_last, parameters_turn, parameters_more, parameters_over}
+use Rattle.tera_syntax_expressions.proofs.ParameterRows.{with_none, with_read, parameters_last, parameters_turn, parameters_more, parameters_over}
 use Rattle.tera_syntax_expressions.proofs.Turns.{tested, refused}
 use Rattle.tera_syntax_expressions.proofs.parameters.parameters.Goals as goal
 
@@ -13,13 +13,14 @@ returns-in-Ok c = parameters_last c.args.limit _ _ (map parameter_of c.loop-turn
 pub returns-in-Err : goal.returns-in-Err
 returns-in-Err c = refused c.in-Err.refusal (parameters_last c.args.limit _ _ (map parameter_of c.loop-turn.found.items) (input c.loop-turn.tokens) c.loop-turn-test.true c.loop-turn.invariant (tested (same Spread) c.kind.ensures c.same.ensures c.if-same.true) c.take.ensures) c.in-Err.ensures
 
-pub returns-in-Err-with_parameter : goal.returns-in-Err-with_parameter
-returns-in-Err-with_parameter c = refused c.in-Err-with_parameter.refusal (parameters_turn c.args.limit _ _ (map parameter_of c.loop-turn.found.items) (input c.loop-turn.tokens) c.loop-turn-test.true c.loop-turn.invariant (tested (same Spread) c.kind.ensures c.same.ensures c.if-same.false)) c.in-Err-with_parameter.ensures
+pub returns-in-Err-parameter : goal.returns-in-Err-parameter
+returns-in-Err-parameter c = refused c.in-Err-parameter.refusal (λ none. parameters_turn c.args.limit _ _ (map parameter_of c.loop-turn.found.items) (input c.loop-turn.tokens) c.loop-turn-test.true c.loop-turn.invariant (tested (same Spread) c.kind.ensures c.same.ensures c.if-same.false)
+    (with_none c.args.limit (map parameter_of c.loop-turn.found.items) (input c.loop-turn.tokens) none)) c.in-Err-parameter.ensures
 
 pub returns-then-not-same : goal.returns-then-not-same
 returns-then-not-same c = parameters_over c.args.limit _ _ (map parameter_of c.loop-turn.found.items) (input c.loop-turn.tokens) c.loop-turn-test.true c.loop-turn.invariant (tested (same Spread) c.kind.ensures c.same.ensures c.if-same.false)
-    c.in-Ok-with_parameter.ensures (tested (same Comma) c.kind-in-loop-turn.ensures c.same-in-loop-turn.ensures c.if-not-same.true)
+    (with_read c.args.limit c.loop-turn.found.items c.in-Ok-parameter.parameter (input c.loop-turn.tokens) c.in-Ok-parameter.ensures c.in_ok-push.ensures.items) (tested (same Comma) c.kind-in-loop-turn.ensures c.same-in-loop-turn.ensures c.if-not-same.true)
 
 pub loop-turn-preserved : goal.loop-turn-preserved
 loop-turn-preserved c = parameters_more c.args.limit _ _ (map parameter_of c.loop-turn.found.items) (input c.loop-turn.tokens) c.loop-turn-test.true c.loop-turn.invariant (tested (same Spread) c.kind.ensures c.same.ensures c.if-same.false)
-    c.in-Ok-with_parameter.ensures (tested (same Comma) c.kind-in-loop-turn.ensures c.same-in-loop-turn.ensures c.if-not-same.false) c.take-in-loop-turn.ensures
+    (with_read c.args.limit c.loop-turn.found.items c.in-Ok-parameter.parameter (input c.loop-turn.tokens) c.in-Ok-parameter.ensures c.in_ok-push.ensures.items) (tested (same Comma) c.kind-in-loop-turn.ensures c.same-in-loop-turn.ensures c.if-not-same.false) c.take-in-loop-turn.ensures

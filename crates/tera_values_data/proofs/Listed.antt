@@ -2,24 +2,10 @@
 use Rattle.std.proofs.Common.{◌≡◌, ℕ, zero, suc, ◌+◌, ◌-◌, ◌<◌, ◌≤◌, List, [], ◌∷◌, ◌++◌, length, take, drop, get_or, refl, sym, ap, ◌∙◌, arith, append_assoc, codes, Result, Ok, Err, OnOk}
 use Rattle.std.proofs.lemmas.List.{append-nil, drop_more}
 use Rattle.std.proofs.Math.Seq.{take-length}
-use Rattle.tera_values_data.specs.Val.{entries, val_size, entries_size}
+use Rattle.tera_values_data.specs.Val.{entries}
 use Rattle.tera_values_data.specs.View.{key_view, entry_views}
 use Rattle.tera_values_data.specs.Printed.{inside, key_text, pairs_inside}
 use Rattle.tera_values_data.specs.declared.value.Entry.{Entry}
-use Rattle.tera_values_data.proofs.Compared.{entry_below}
-
-take_entries : (n : ℕ) (all : List Entry) → entries_size (entries (entry_views (take n all))) ≤ entries_size (entries (entry_views all))
-take_entries zero all = omega arith
-take_entries (suc n) [] = omega arith
-take_entries (suc n) (x ∷ all) = omega (arith, take_entries n all)
-
-drop_entries : (n : ℕ) (all : List Entry) → entries_size (entries (entry_views (drop n all))) ≤ entries_size (entries (entry_views all))
-drop_entries zero all = omega arith
-drop_entries (suc n) [] = omega arith
-drop_entries (suc n) (x ∷ all) = omega (arith, drop_entries n all)
-
-pub rest_entry_below : (n m : ℕ) (all : List Entry) (i : ℕ) (e : Entry) → i < length (take n (drop m all)) → e ≡ get_or (take n (drop m all)) i e → val_size e.value < entries_size (entries (entry_views all))
-rest_entry_below n m all i e h is = omega (arith, entry_below (take n (drop m all)) i e h is, take_entries n (drop m all), drop_entries m all)
 
 abbrev pub listed : List Entry → List ℕ
 listed all = pairs_inside (entries (entry_views all))

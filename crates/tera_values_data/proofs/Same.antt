@@ -20,14 +20,10 @@ then_right Greater p h = cc
 
 abbrev mutual
   Unmarked : Val → Type 0
-  Unmarked undefined = Unit {0}
-  Unmarked none = Unit {0}
-  Unmarked (bool b) = Unit {0}
-  Unmarked (int z) = Unit {0}
   Unmarked (text t s) = s ≡ false
-  Unmarked (bytes t) = Unit {0}
   Unmarked (array vs) = UnmarkedItems vs
   Unmarked (map es) = UnmarkedEntries es
+  Unmarked v = Unit {0}
 
   UnmarkedItems : Vals → Type 0
   UnmarkedItems no_items = Unit {0}
@@ -90,14 +86,10 @@ unmarked_put k v (entry j w es) m n = unmarked_chosen (key_cmp k j) (entry k v (
 
 mutual
   unmarked : (v : Val) → Unmarked (plain v)
-  unmarked undefined = tt
-  unmarked none = tt
-  unmarked (bool b) = tt
-  unmarked (int z) = tt
   unmarked (text t s) = refl
-  unmarked (bytes t) = tt
   unmarked (array vs) = unmarked_items vs
   unmarked (map es) = unmarked_entries es
+  unmarked v = tt
 
   unmarked_items : (vs : Vals) → UnmarkedItems (plain_items vs)
   unmarked_items no_items = tt

@@ -1,21 +1,27 @@
 -- An item is smaller than the list that it stands in.
-use Rattle.std.proofs.Common.{◌≡◌, ℕ, zero, suc, List, [], ◌∷◌, ◌<◌, ◌≤◌, length, take, drop, get_or, arith, subst, sym}
-use Rattle.tera_values_data.specs.Val.{Val, vals, val_size, vals_size}
+use Rattle.std.proofs.Common.{◌≡◌, ℕ, zero, suc, ◌+◌, ◌*◌, List, [], ◌∷◌, ◌<◌, ◌≤◌, length, get_or, arith, subst, sym}
+use denote.Param.Weighed.{most}
+use Rattle.tera_values_data.specs.Val.{Val, array, map, vals, entries, val_size, vals_size, entries_size}
+use Rattle.tera_values_data.specs.View.{entry_views}
+use Rattle.tera_values_data.specs.declared.value.Entry.{Entry}
+use Rattle.tera_values_data.specs.declared.value.Map.TheDeep.{size-Entry, size-Value}
 
 pub item_below : (xs : List Val) (i : ℕ) (v : Val) → i < length xs → v ≡ get_or xs i v → val_size v < vals_size (vals xs)
 item_below [] i v h e = absurd (omega (arith, h))
 item_below (x ∷ xs) zero v h e = let P : Val → Type 0 = λ w. val_size w < vals_size (vals (x ∷ xs)) in subst P (sym e) (omega arith)
 item_below (x ∷ xs) (suc i) v h e = omega (arith, item_below xs i v (omega (arith, h)) e)
 
-pub take_below : (n : ℕ) (xs : List Val) → vals_size (vals (take n xs)) ≤ vals_size (vals xs)
-take_below zero xs = omega arith
-take_below (suc n) [] = omega arith
-take_below (suc n) (x ∷ xs) = omega (arith, take_below n xs)
+items_deep : (vs : List Val) → most size-Value vs ≤ 2 * (vals_size (vals vs) + 1)
+items_deep [] = omega arith
+items_deep (v ∷ vs) = omega (arith, items_deep vs)
 
-pub drop_below : (n : ℕ) (xs : List Val) → vals_size (vals (drop n xs)) ≤ vals_size (vals xs)
-drop_below zero xs = omega arith
-drop_below (suc n) [] = omega arith
-drop_below (suc n) (x ∷ xs) = omega (arith, drop_below n xs)
+entries_deep : (es : List Entry) → most size-Entry es ≤ 2 * (entries_size (entries (entry_views es)) + 1)
+entries_deep [] = omega arith
+entries_deep (e ∷ es) = omega (arith, entries_deep es)
 
-pub rest_item_below : (n m : ℕ) (xs : List Val) (i : ℕ) (v : Val) → i < length (take n (drop m xs)) → v ≡ get_or (take n (drop m xs)) i v → val_size v < vals_size (vals xs)
-rest_item_below n m xs i v h e = omega (arith, item_below (take n (drop m xs)) i v h e, take_below n (drop m xs), drop_below m xs)
+-- an array and a map are deeper than all that they hold
+pub array_deeper : (vs : List Val) (v : Val) → array (vals vs) ≡ v → most size-Value vs + 2 ≤ size-Value v
+array_deeper vs v e = subst (λ (w : Val). most size-Value vs + 2 ≤ size-Value w) e (omega (arith, items_deep vs))
+
+pub map_deeper : (es : List Entry) (v : Val) → map (entries (entry_views es)) ≡ v → most size-Entry es + 2 ≤ size-Value v
+map_deeper es v e = subst (λ (w : Val). most size-Entry es + 2 ≤ size-Value w) e (omega (arith, entries_deep es))

@@ -50,8 +50,9 @@ impl Value {
     }
 }
 
+/// The same items once more, each as `try_clone` copies it.
 #[cycle(copying)]
-fn copy_items(alloc: Global, items: &[Value]) -> TeraResult<Vec<Value>>
+pub fn copy_items(alloc: Global, items: &[Value]) -> TeraResult<Vec<Value>>
     ensures { Gives (λ v. v.items) result (Ok items.now) }
 {
     let mut copies = Vec::new(alloc);

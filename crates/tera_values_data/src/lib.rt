@@ -17,6 +17,7 @@ pub mod slice;
 pub mod table;
 pub mod value;
 
+pub use copy::copy_items;
 pub use escape::{escape_html, escape_xml};
 pub use key::Key;
 pub use shape::Shape;

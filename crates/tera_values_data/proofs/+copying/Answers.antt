@@ -1,19 +1,16 @@
 use Rattle.std.proofs.Common.{◌≡◌, List, [], ◌∷◌, ◌++◌, ◌<◌, length, take, get_or, ap, sym, ◌∙◌, rules, arith}
 use Rattle.std.proofs.lemmas.List.{take_more, get_or-map}
-use Rattle.tera_values_data.specs.Val.{Val, KeyVal}
+use Rattle.tera_values_data.specs.Val.{Val, KeyVal, array, vals}
 use Rattle.tera_values_data.specs.View.{entry_view, entry_views, key_view}
 use Rattle.tera_values_data.specs.declared.value.Entry.{Entry}
-use Rattle.tera_values_data.proofs.Sizes.{item_below}
-use Rattle.tera_values_data.proofs.Compared.{entry_below}
+use Rattle.tera_values_data.proofs.Sizes.{array_deeper}
 use Rattle.tera_values_data.proofs.Entries.{push_views, views_length}
 use Rattle.tera_values_data.proofs.+copying.Goals as goal
 
-pub copy::copy_items-try_clone-requires : goal.copy::copy_items-try_clone-requires
-copy::copy_items-try_clone-requires t c = (let below = item_below c.args.items.now c.loop-item.item-index c.item-item.result (search rules) c.item-item.is in omega (arith, below, c.decreases), tt)
-
-pub copy::copy_entries-try_clone-requires-in-loop-item :
-    goal.copy::copy_entries-try_clone-requires-in-loop-item
-copy::copy_entries-try_clone-requires-in-loop-item t c = (let below = entry_below c.args.all.now c.loop-item.item-index c.item-item.result (search rules) c.item-item.is in omega (arith, below, c.decreases), tt)
+pub value::Value::try_clone-copy_items-requires : goal.value::Value::try_clone-copy_items-requires
+value::Value::try_clone-copy_items-requires t c =
+    let whole : array (vals c.as_slice.result.now) ≡ c.args.self.now = ap (λ vs. array (vals vs)) c.as_slice.ensures.value ∙ cc (c.in-Array.is, c.self.view_is) in
+    (omega (arith, array_deeper c.as_slice.result.now c.args.self.now whole, c.decreases), tt)
 
 pub copy::copy_entries-loop-item-preserved : goal.copy::copy_entries-loop-item-preserved
 copy::copy_entries-loop-item-preserved t c =

@@ -2,18 +2,19 @@ use Rattle.std.proofs.Common.{rules, ◌≡◌, ◌++◌, string_bytes, ℕ, ◌
 use Rattle.tera_values_data.specs.Val.{map, entries}
 use Rattle.tera_values_data.specs.View.{key_view, entry_views}
 use Rattle.tera_values_data.specs.Printed.{inside, key_text}
-use Rattle.tera_values_data.proofs.Sizes.{rest_item_below}
+use Rattle.tera_values_data.proofs.Sizes.{array_deeper, map_deeper}
 use Rattle.tera_values_data.proofs.Runs.{keeps_on}
 use Rattle.tera_values_data.specs.declared.value.Entry.{Entry}
-use Rattle.tera_values_data.proofs.Listed.{listed, rest_entry_below, listed_more, listed_end, first_and_rest, four_more, closed, on_ok}
+use Rattle.tera_values_data.proofs.Listed.{listed, listed_more, listed_end, first_and_rest, four_more, closed, on_ok}
 use Rattle.tera_values_data.proofs.+printing.Goals as goal
 
-pub print::append_items-append_inside-requires-in-loop-item : goal.print::append_items-append_inside-requires-in-loop-item
-print::append_items-append_inside-requires-in-loop-item t c = (let below = rest_item_below (length c.args.items.now - 1) 1 c.args.items.now c.loop-item.item-index c.item-item.result (search rules) c.item-item.is in omega (arith, below, c.decreases), tt)
+pub value::Value::append_inside-append_items-requires : goal.value::Value::append_inside-append_items-requires
+value::Value::append_inside-append_items-requires t c = (omega (arith, array_deeper c.in-Array.items.now c.args.self.now c.in-Array.ensures, c.decreases), tt)
 
-pub print::append_entries-append_inside-requires-in-loop-entry :
-    goal.print::append_entries-append_inside-requires-in-loop-entry
-print::append_entries-append_inside-requires-in-loop-entry t c = (let below = rest_entry_below (length c.args.all.now - 1) 1 c.args.all.now c.loop-entry.entry-index c.entry-item.result (search rules) c.entry-item.is in omega (arith, below, c.decreases), tt)
+pub value::Value::append_inside-append_entries-requires : goal.value::Value::append_inside-append_entries-requires
+value::Value::append_inside-append_entries-requires t c =
+    let whole : map (entries (entry_views c.entries.result.now)) ≡ c.args.self.now = ap (λ es. map (entries es)) c.entries.ensures ∙ c.in-Map.ensures in
+    (omega (arith, map_deeper c.entries.result.now c.args.self.now whole, c.decreases), tt)
 
 pub print::append_entries-loop-entry-preserved : goal.print::append_entries-loop-entry-preserved
 print::append_entries-loop-entry-preserved t c =

@@ -1,18 +1,9 @@
 use Rattle.std.proofs.Common.{◌≡◌, ◌++◌, drop, string_bytes}
-use Rattle.tera_values_data.specs.Val.{vals, entries, val_size, vals_size, entries_size}
+use Rattle.tera_values_data.specs.Val.{vals, entries}
 use Rattle.tera_values_data.specs.View.{entry_views}
 use Rattle.tera_values_data.specs.Growth.{Keeps}
 use Rattle.tera_values_data.specs.Printed.{rest_inside, pairs_inside}
 use Rattle.tera_values_data.proofs.+printing.Given as goal
-
-abbrev pub decreases-value::Value::append_inside : goal.decreases-value::Value::append_inside
-decreases-value::Value::append_inside a = val_size a.self.now
-
-abbrev pub decreases-print::append_items : goal.decreases-print::append_items
-decreases-print::append_items a = vals_size (vals a.items.now)
-
-abbrev pub decreases-print::append_entries : goal.decreases-print::append_entries
-decreases-print::append_entries a = entries_size (entries (entry_views a.all.now))
 
 abbrev pub invariant-print::append_items-loop-item : goal.invariant-print::append_items-loop-item
 invariant-print::append_items-loop-item l = record {

@@ -1,5 +1,5 @@
 -- The plain data that a tree in memory stands for.
-use Rattle.std.specs.Prelude.{List, [], ◌∷◌, Bool, Option, Some, None, string_bytes, option_copied, Box, map as map_list}
+use Rattle.std.specs.Prelude.{List, [], ◌∷◌, Bool, Option, Some, None, string_bytes, option_copied, option_map, Box, map as map_list}
 use Rattle.std.specs.Global.{Global}
 use Rattle.tera_syntax_tree.specs.declared.expression.Expression.{Expression, Row_of-Item, end_of-Item, more_of-Item, Row_of-Entry, end_of-Entry, more_of-Entry, Row_of-Argument, end_of-Argument, more_of-Argument, Held-Bounds-start, Bounds-start-None', Some'}
 use Rattle.tera_syntax_tree.specs.declared.expression.Expression.TheVariants as expression
@@ -38,27 +38,25 @@ abbrev pub quoted_of : Quoted → site.Text
 quoted_of (quoted.Lent t) = t.now
 quoted_of (quoted.Made t) = string_bytes t.value
 
-abbrev pub quoted_option : Option Quoted → Option site.Text
-quoted_option None = None
-quoted_option (Some q) = Some (quoted_of q)
-
 abbrev pub literal_of : LiteralKey → Key
 literal_of (key.Bool b) = BoolKey b
 literal_of (key.Int z) = IntKey z
 literal_of (key.Text t) = TextKey (quoted_of t)
-
-abbrev pub literal_option : Option LiteralKey → Option Key
-literal_option None = None
-literal_option (Some k) = Some (literal_of k)
 
 abbrev pub key_of : OwnedKey → Key
 key_of (owned.Bool b) = BoolKey b
 key_of (owned.Int z) = IntKey z
 key_of (owned.Text t) = TextKey (string_bytes t)
 
+-- what stands where it may be left out
+abbrev pub quoted_option : Option Quoted → Option site.Text
+quoted_option = option_map quoted_of
+
+abbrev pub literal_option : Option LiteralKey → Option Key
+literal_option = option_map literal_of
+
 abbrev pub key_option : Option OwnedKey → Option Key
-key_option None = None
-key_option (Some k) = Some (key_of k)
+key_option = option_map key_of
 
 abbrev pub keys_of : List (Option OwnedKey) → List (Option Key)
 keys_of = map_list key_option
@@ -170,8 +168,7 @@ literal_entries_of [] = NoLiteralEntries
 literal_entries_of (e ∷ rest) = MoreLiteralEntries (literal_of e.key) (written_of e.value) (literal_entries_of rest)
 
 abbrev pub written_option : Option declared_literal.Literal → Option Literal
-written_option None = None
-written_option (Some v) = Some (written_of v)
+written_option = option_map written_of
 
 abbrev pub parameter_of : parameter.Parameter → Parameter
 parameter_of p = record { name = p.name.now; is_implicit = p.is_implicit; of_type = p.of_type; default = written_option p.default }

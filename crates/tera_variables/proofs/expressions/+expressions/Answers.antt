@@ -1,4 +1,4 @@
-use Rattle.std.proofs.Common.{◌∙◌, ap, refl, arith}
+use Rattle.std.proofs.Common.{◌∙◌, ap, refl}
 use Rattle.tera_syntax_tree.specs.declared.expression.Called.{out-Called}
 use Rattle.tera_syntax_tree.specs.declared.expression.ComponentTag.{out-ComponentTag}
 use Rattle.tera_syntax_tree.specs.View.{items_of, entries_of, arguments_of}
@@ -66,7 +66,7 @@ add_items-loop-part-preserved t c =
 
 pub add_items-returns-clause-ok : goal.add_items-returns-clause-ok
 add_items-returns-clause-ok t c =
-    all-passed (λ xs. items_free (items_of xs)) c.args.items.now c.loop-part.part-index _ _ (omega (arith, c.loop-part-test.false)) refl c.loop-part.invariant
+    all-passed (λ xs. items_free (items_of xs)) _ _ _ _ c.loop-part-test.false refl c.loop-part.invariant
 
 pub add_entries-loop-part-preserved : goal.add_entries-loop-part-preserved
 add_entries-loop-part-preserved t c =
@@ -74,7 +74,7 @@ add_entries-loop-part-preserved t c =
 
 pub add_entries-returns-clause-ok : goal.add_entries-returns-clause-ok
 add_entries-returns-clause-ok t c =
-    all-passed (λ xs. entries_free (entries_of xs)) c.args.entries.now c.loop-part.part-index _ _ (omega (arith, c.loop-part-test.false)) refl c.loop-part.invariant
+    all-passed (λ xs. entries_free (entries_of xs)) _ _ _ _ c.loop-part-test.false refl c.loop-part.invariant
 
 pub add_arguments-loop-part-preserved : goal.add_arguments-loop-part-preserved
 add_arguments-loop-part-preserved t c =
@@ -82,7 +82,7 @@ add_arguments-loop-part-preserved t c =
 
 pub add_arguments-returns-clause-ok : goal.add_arguments-returns-clause-ok
 add_arguments-returns-clause-ok t c =
-    all-passed (λ xs. arguments_free (arguments_of xs)) c.args.arguments.now c.loop-part.part-index _ _ (omega (arith, c.loop-part-test.false)) refl c.loop-part.invariant
+    all-passed (λ xs. arguments_free (arguments_of xs)) _ _ _ _ c.loop-part-test.false refl c.loop-part.invariant
 
 pub add_bounds-returns-clause-ok : goal.add_bounds-returns-clause-ok
 add_bounds-returns-clause-ok t c =

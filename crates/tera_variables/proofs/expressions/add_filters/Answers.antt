@@ -1,4 +1,4 @@
-use Rattle.std.proofs.Common.{◌∙◌, ap, refl, arith}
+use Rattle.std.proofs.Common.{◌∙◌, ap, refl}
 use Rattle.tera_syntax_tree.specs.View.{filters_of, arguments_of}
 use Rattle.tera_variables.specs.Free.{filters_free, arguments_free, ◌∪◌}
 use Rattle.tera_variables.specs.Sets.{names_in}
@@ -11,4 +11,4 @@ loop-filter-preserved c =
 
 pub returns-clause-ok : goal.returns-clause-ok
 returns-clause-ok c =
-    all-passed (λ xs. filters_free (filters_of xs)) c.args.filters.now c.loop-filter.filter-index _ _ (omega (arith, c.loop-filter-test.false)) refl c.loop-filter.invariant
+    all-passed (λ xs. filters_free (filters_of xs)) _ _ _ _ c.loop-filter-test.false refl c.loop-filter.invariant

@@ -43,17 +43,17 @@ literal_of (key.Bool b) = BoolKey b
 literal_of (key.Int z) = IntKey z
 literal_of (key.Text t) = TextKey (quoted_of t)
 
-abbrev pub key_of : OwnedKey → Key
-key_of (owned.Bool b) = BoolKey b
-key_of (owned.Int z) = IntKey z
-key_of (owned.Text t) = TextKey (string_bytes t)
-
 -- what stands where it may be left out
 abbrev pub quoted_option : Option Quoted → Option site.Text
 quoted_option = option_map quoted_of
 
 abbrev pub literal_option : Option LiteralKey → Option Key
 literal_option = option_map literal_of
+
+abbrev pub key_of : OwnedKey → Key
+key_of (owned.Bool b) = BoolKey b
+key_of (owned.Int z) = IntKey z
+key_of (owned.Text t) = TextKey (string_bytes t)
 
 abbrev pub key_option : Option OwnedKey → Option Key
 key_option = option_map key_of

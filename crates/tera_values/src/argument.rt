@@ -6,7 +6,7 @@ ghost use Rattle.tera_values.specs.Arguments.{as_bool, as_int, as_natural, as_te
 
 use std::alloc::Global;
 use tera_errors::{Error, TeraResult};
-use tera_values_data::{Map, Shape, Value};
+use tera_values_data::{Map, Shape, Value, copy_items};
 
 /// A type that a value can be read as.
 pub trait ArgFromValue: Drop {
@@ -114,7 +114,7 @@ impl ArgFromValue for Vec<Value> {
 
     fn from_value(alloc: Global, value: &Value) -> TeraResult<Vec<Value>> {
         match value.shape() {
-            Shape::Array(items) => copied(alloc, items),
+            Shape::Array(items) => copy_items(alloc, items),
             _ => Err(Error::invalid_argument()),
         }
     }
@@ -144,14 +144,4 @@ fn natural(value: &Value, greatest: u64) -> TeraResult<u64>
         Shape::Int(number) if 0 <= number && number <= greatest as i128 => Ok(number as u64),
         _ => Err(Error::invalid_argument()),
     }
-}
-
-fn copied(alloc: Global, items: &[Value]) -> TeraResult<Vec<Value>>
-    ensures { Gives (λ v. v.items) result (Ok items.now) }
-{
-    let mut copies = Vec::new(alloc);
-    for item in items {
-        copies.push(item.try_clone()?)?;
-    }
-    Ok(copies)
 }

@@ -61,9 +61,7 @@ impl Context {
         ensures err { OnErr result (self.new ≡ self.old) }
         ensures lacks { IfErr result Lacks }
     {
-        let value = value.shared(self.alloc)?;
-        let name = Name::new(self.alloc, name)?;
-        self.put(name, value)
+        self.put(Name::new(self.alloc(), name)?, value.shared(self.alloc())?)
     }
 
     // The same by a name and a value that are shared already: both are kept as they lie.

@@ -20,7 +20,6 @@ const FEW: usize = 8;
 /// few and gives them in that order: each goes to the end, and none is hashed.
 #[derive(Drop)]
 pub struct Kwargs {
-    alloc: Global,
     entries: Vec<(Name, Value)>,
 }
 
@@ -44,7 +43,6 @@ impl Kwargs {
         ensures { result ≡ [] }
     {
         Kwargs {
-            alloc,
             entries: Vec::new(alloc),
         }
     }
@@ -54,9 +52,13 @@ impl Kwargs {
         ensures { Gives (λ k. k) result (Ok []) }
     {
         Ok(Kwargs {
-            alloc,
             entries: Vec::with_capacity(alloc, capacity)?,
         })
+    }
+
+    // The allocator that was given at first.
+    fn alloc(&self) -> Global {
+        *self.entries.allocator()
     }
 
     /// Puts the value at the name, in place of one that stood there. The name is copied.
@@ -65,9 +67,7 @@ impl Kwargs {
         ensures err { OnErr result (self.new ≡ self.old) }
         ensures lacks { IfErr result Lacks }
     {
-        let value = value.shared(self.alloc)?;
-        let name = Name::new(self.alloc, name)?;
-        self.put(name, value)
+        self.put(Name::new(self.alloc(), name)?, value.shared(self.alloc())?)
     }
 
     /// The same, and both are kept as they lie: neither is copied.
@@ -119,7 +119,7 @@ impl Kwargs {
     pub fn to_context(&self) -> TeraResult<Context>
         ensures { Gives (λ c. c) result (Ok self.now) }
     {
-        let mut names = Context::new(self.alloc);
+        let mut names = Context::new(*self.entries.allocator());
         self.put_into(&mut names)?;
         Ok(names)
     }
@@ -133,7 +133,7 @@ impl Kwargs {
         ensures ready { IfSome (at_name name.now self.now) T.is_ready → MemorySuffices result }
     {
         match self.value(name) {
-            Some(value) => Ok(Some(T::from_value(self.alloc, value)?)),
+            Some(value) => Ok(Some(T::from_value(self.alloc(), value)?)),
             None => Ok(None),
         }
     }
@@ -147,7 +147,7 @@ impl Kwargs {
         ensures ready { IfSome (at_name name.now self.now) T.is_ready → MemorySuffices result }
     {
         match self.value(name) {
-            Some(value) => T::from_value(self.alloc, value),
+            Some(value) => T::from_value(self.alloc(), value),
             None => Err(Error::missing_argument()),
         }
     }

@@ -17,7 +17,6 @@ use crate::names::put;
 use crate::naming::{Naming, names_in};
 use crate::needs::{Need, needs};
 use crate::template::Template;
-use crate::tops::top_blocks;
 use std::alloc::{AllocError, Global};
 use std::rc::Rc;
 use tera_code::blocks::blocks;
@@ -135,7 +134,7 @@ fn assembled(
         components,
         needs,
     } = code;
-    let tops = top_blocks(alloc, nodes)?;
+    let tops = names_in(alloc, Naming::TopBlocks, nodes)?;
     let includes = names_in(alloc, Naming::Includes, nodes)?;
     let free = free(alloc, nodes)?;
     Ok(Template {

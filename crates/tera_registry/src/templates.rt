@@ -2,8 +2,9 @@
 ghost use Rattle.std.specs.Prelude.{◌≡◌, ◌<◌, IfOk, IfErr, Some, None, Ok, map, length, slice_get, is_some, string_bytes, IsTrue, [], ◌∷◌};
 ghost use Rattle.tera_errors.specs.Prelude.{Gives, GivesOneOf, Lacks};
 ghost use Rattle.tera_syntax_tree.specs.Prelude.{delimiters_of, accepted, nodes_of};
-ghost use Rattle.tera_meaning.specs.Prelude.{first_fault, is_component, misses_an_include, ancestors, definers_in, AreComponentNames, AnswersVariables, resolve, Entry, Registry};
+ghost use Rattle.tera_meaning.specs.Prelude.{component, first_fault, is_component, lacks_a_callee, misses_an_include, ancestors, definers_in, AreComponentNames, AnswersVariables, resolve, Entry, Registry};
 ghost use Rattle.std.specs.Coded.{codes};
+ghost use Rattle.tera_code.specs.Prelude.{nodes_code};
 ghost use Rattle.tera_code.specs.contracts.chunk.Chunk as chunk;
 ghost use Rattle.tera_registry.specs.contracts.choices.Choice as choice;
 ghost use Rattle.tera_registry.specs.Choices.{AreChosen, IsTaken, chosen};
@@ -185,12 +186,9 @@ impl<'t> Definers<'t> {
 
 impl Templates {
     ghost use Rattle.tera_registry.specs.Templates.{templates_of, prefixes_of, with_templates, is_empty, Finds, IsDefined, registry_in, started, AreNext};
-    ghost use Rattle.tera_errors.specs.Site.{Name};
+    ghost use Rattle.tera_errors.specs.Prelude.{Name};
     ghost use Rattle.tera_syntax_tree.specs.Tree.{Tree};
-    ghost use Rattle.tera_syntax_tree.specs.Blocks.{blocks};
-    ghost use Rattle.tera_code.specs.Code.{nodes_code};
-    ghost use Rattle.tera_meaning.specs.Components.{component};
-    ghost use Rattle.tera_meaning.specs.Known.{lacks_a_callee};
+    ghost use Rattle.tera_syntax_tree.specs.Prelude.{blocks};
     ghost use Rattle.tera_meaning.specs.Rendering.{is_component_beside};
     ghost use Rattle.tera_registry.specs.Components.{kept_of, kept_all};
     ghost use Rattle.tera_registry.specs.Definers.{from_place, above_place, from_found, StandsAt};

@@ -10,7 +10,7 @@ ghost use Rattle.tera_state.specs.Prelude.{around_of};
 
 use crate::asked::{Asked, AskedComponent, AskedTemplate};
 use crate::configuration::Configuration;
-use crate::machine::{Flow, VirtualMachine};
+use crate::machine::{Flow, Going, VirtualMachine};
 use std::alloc::{AllocError, Global};
 use tera_code::{CallKind, Instruction, Keys, LentName};
 use tera_errors::lacking;
@@ -20,6 +20,9 @@ use tera_state::Found;
 use tera_syntax_tree::BinaryOperator;
 use tera_values::{Error, Name, Sought, Span, TeraResult, Value};
 
+/// Whether a value was put out, unless memory was refused.
+pub(crate) type Put = Result<bool, AllocError>;
+
 impl<'c> Configuration<'c> {
     /// Does what the instruction says, which stands in this file's text in front of the next place, and tells where to go on.
     pub(crate) fn act<'f, O: Objects>(
@@ -28,7 +31,7 @@ impl<'c> Configuration<'c> {
         file: &str,
         next: usize,
         instruction: &Instruction<'f>,
-    ) -> TeraResult<Flow<'f>>
+    ) -> Going<'f>
         requires ready { IsReady (act (here_of O.engine machine.now file.now self.old)
             next instruction.now) self.old }
         requires small { IsSmall (act (here_of O.engine machine.now file.now self.old)
@@ -136,7 +139,7 @@ impl<'c> Configuration<'c> {
         &mut self,
         machine: &VirtualMachine<'_, O>,
         file: &str,
-    ) -> TeraResult<Flow<'f>>
+    ) -> Going<'f>
         requires { IsReady (top_written (here_of O.engine machine.now file.now self.old)) self.old }
         ensures { Does (top_written (here_of O.engine machine.now file.now self.old))
             self.old result self.new }
@@ -161,7 +164,7 @@ impl<'c> Configuration<'c> {
         file: &str,
         name: &Sought<'_>,
         span: Span,
-    ) -> TeraResult<Flow<'f>>
+    ) -> Going<'f>
         ensures { Does (name_written (here_of O.engine machine.now file.now self.old) name.now span)
             self.old result self.new }
     {
@@ -176,7 +179,7 @@ impl<'c> Configuration<'c> {
         &mut self,
         machine: &VirtualMachine<'_, O>,
         name: &Sought<'_>,
-    ) -> Result<bool, AllocError>
+    ) -> Put
         ensures { (site : Site) → Does
             (name_written (here_of O.engine machine.now site.file self.old) name.now site.span)
             self.old (going_on_if site result) self.new }
@@ -202,14 +205,14 @@ impl<'c> Configuration<'c> {
     }
 
     #[inline(always)]
-    pub(crate) fn put<'f>(&mut self, operand: Operand) -> TeraResult<Flow<'f>>
+    pub(crate) fn put<'f>(&mut self, operand: Operand) -> Going<'f>
         ensures { Does (outcome_put (Ok operand)) self.old result self.new }
     {
         self.operands.push(operand)?;
         Ok(Flow::On)
     }
 
-    pub(crate) fn push<'f>(&mut self, value: Value, span: Span) -> TeraResult<Flow<'f>>
+    pub(crate) fn push<'f>(&mut self, value: Value, span: Span) -> Going<'f>
         ensures { Does (pushed value span) self.old result self.new }
     {
         self.put(Operand::new(value, span))
@@ -231,7 +234,7 @@ impl<'c> Configuration<'c> {
         }
     }
 
-    fn load_context<'f>(&mut self, alloc: Global, span: Span) -> TeraResult<Flow<'f>>
+    fn load_context<'f>(&mut self, alloc: Global, span: Span) -> Going<'f>
         ensures { Does (context_loaded (around_of self.old.scopes) span) self.old result self.new }
     {
         let value = self.scopes.dump(alloc)?;
@@ -265,7 +268,7 @@ impl<'c> Configuration<'c> {
         name: &str,
         optional: bool,
         span: Span,
-    ) -> TeraResult<Flow<'f>>
+    ) -> Going<'f>
         requires { IsReady (attribute_loaded file.now name.now optional span) self.old }
         ensures { Does (attribute_loaded file.now name.now optional span) self.old result self.new }
     {
@@ -275,13 +278,7 @@ impl<'c> Configuration<'c> {
     }
 
     #[inline(never)]
-    fn load_item<'f>(
-        &mut self,
-        alloc: Global,
-        file: &str,
-        optional: bool,
-        span: Span,
-    ) -> TeraResult<Flow<'f>>
+    fn load_item<'f>(&mut self, alloc: Global, file: &str, optional: bool, span: Span) -> Going<'f>
         requires { IsReady (item_loaded file.now optional span) self.old }
         ensures { Does (item_loaded file.now optional span) self.old result self.new }
     {
@@ -291,13 +288,7 @@ impl<'c> Configuration<'c> {
         self.put(operand)
     }
 
-    fn slice<'f>(
-        &mut self,
-        alloc: Global,
-        file: &str,
-        optional: bool,
-        span: Span,
-    ) -> TeraResult<Flow<'f>>
+    fn slice<'f>(&mut self, alloc: Global, file: &str, optional: bool, span: Span) -> Going<'f>
         requires { IsReady (sliced file.now optional span) self.old }
         ensures { Does (sliced file.now optional span) self.old result self.new }
     {
@@ -312,7 +303,7 @@ impl<'c> Configuration<'c> {
     }
 
     // The truth value that the topmost operand has not.
-    fn deny<'f>(&mut self) -> TeraResult<Flow<'f>>
+    fn deny<'f>(&mut self) -> Going<'f>
         requires { IsReady denied self.old }
         ensures { Does denied self.old result self.new }
     {
@@ -320,7 +311,7 @@ impl<'c> Configuration<'c> {
         self.put(tera_operators::not(&operand))
     }
 
-    fn negate<'f>(&mut self, alloc: Global, file: &str) -> TeraResult<Flow<'f>>
+    fn negate<'f>(&mut self, alloc: Global, file: &str) -> Going<'f>
         requires { IsReady (negated file.now) self.old }
         ensures { Does (negated file.now) self.old result self.new }
     {
@@ -336,7 +327,7 @@ impl<'c> Configuration<'c> {
         file: &str,
         operator: BinaryOperator,
         span: Span,
-    ) -> TeraResult<Flow<'f>>
+    ) -> Going<'f>
         requires { IsReady (operated file.now operator span) self.old }
         ensures { Does (operated file.now operator span) self.old result self.new }
     {
@@ -364,7 +355,7 @@ impl<'c> Configuration<'c> {
     }
 
     // The arguments are read and dropped.
-    fn take_above<'f>(&mut self, arguments: usize, span: Span) -> TeraResult<Flow<'f>>
+    fn take_above<'f>(&mut self, arguments: usize, span: Span) -> Going<'f>
         requires { IsReady (above_taken arguments span) self.old }
         ensures { Does (above_taken arguments span) self.old result self.new }
     {
@@ -398,7 +389,7 @@ impl<'c> Configuration<'c> {
         keys: &Keys<'f>,
         has_body: bool,
         span: Span,
-    ) -> TeraResult<Flow<'f>>
+    ) -> Going<'f>
         requires { IsReady
             (component_taken (here_of O.engine machine.now file.now self.old)
             name.now keys.now has_body span) self.old }
@@ -422,7 +413,7 @@ impl<'c> Configuration<'c> {
     }
 
     #[inline(always)]
-    pub(crate) fn pop_jump_if_false<'f>(&mut self, skip: usize) -> TeraResult<Flow<'f>>
+    pub(crate) fn pop_jump_if_false<'f>(&mut self, skip: usize) -> Going<'f>
         requires { IsReady (popped_branch skip) self.old }
         ensures { Does (popped_branch skip) self.old result self.new }
     {
@@ -434,7 +425,7 @@ impl<'c> Configuration<'c> {
         }
     }
 
-    fn jump_if_false_or_pop<'f>(&mut self, skip: usize) -> TeraResult<Flow<'f>>
+    fn jump_if_false_or_pop<'f>(&mut self, skip: usize) -> Going<'f>
         requires { IsReady (kept_if_falsy skip) self.old }
         ensures { Does (kept_if_falsy skip) self.old result self.new }
     {
@@ -447,7 +438,7 @@ impl<'c> Configuration<'c> {
         }
     }
 
-    fn jump_if_true_or_pop<'f>(&mut self, skip: usize) -> TeraResult<Flow<'f>>
+    fn jump_if_true_or_pop<'f>(&mut self, skip: usize) -> Going<'f>
         requires { IsReady (kept_if_truthy skip) self.old }
         ensures { Does (kept_if_truthy skip) self.old result self.new }
     {
@@ -463,7 +454,7 @@ impl<'c> Configuration<'c> {
 
 // It goes on at the next instruction, unless memory was refused.
 #[inline(always)]
-pub(crate) fn going_on<'f>(done: Result<(), AllocError>) -> TeraResult<Flow<'f>>
+pub(crate) fn going_on<'f>(done: Result<(), AllocError>) -> Going<'f>
     ensures { result ≡ going_on done }
 {
     done?;
@@ -472,12 +463,7 @@ pub(crate) fn going_on<'f>(done: Result<(), AllocError>) -> TeraResult<Flow<'f>>
 
 // The same where a value was put out, and else a fault: it is undefined.
 #[inline(always)]
-pub(crate) fn going_on_if<'f>(
-    alloc: Global,
-    file: &str,
-    span: Span,
-    is_put: bool,
-) -> TeraResult<Flow<'f>>
+pub(crate) fn going_on_if<'f>(alloc: Global, file: &str, span: Span, is_put: bool) -> Going<'f>
     ensures ok { IfOk result (λ on. is_put ≡ true × on ≡ flow.On) }
     ensures err { IfErr result (λ e. is_put ≡ false
         × Tells e (rendering_error (record { file = file.now; span = span }))) }

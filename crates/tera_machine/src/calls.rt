@@ -3,10 +3,10 @@ ghost use Rattle.tera_machine.specs.Act.{IsReady, Does, called};
 ghost use Rattle.tera_machine.specs.Subject.{here_of};
 
 use crate::configuration::Configuration;
-use crate::machine::{Flow, VirtualMachine};
+use crate::machine::{Going, VirtualMachine};
 use tera_code::{CallKind, LentName, Names};
 use tera_objects::{Objects, filter, function, test};
-use tera_values::{Span, TeraResult};
+use tera_values::Span;
 
 impl<'c> Configuration<'c> {
     /// Calls what has this name. There is an operand for each name of an argument.
@@ -19,7 +19,7 @@ impl<'c> Configuration<'c> {
         name: &LentName<'_>,
         names: &Names<'_>,
         span: Span,
-    ) -> TeraResult<Flow<'f>>
+    ) -> Going<'f>
         requires { IsReady (called kind (here_of O.engine machine.now file.now self.old)
             name.now names.now span) self.old }
         ensures { Does (called kind (here_of O.engine machine.now file.now self.old)

@@ -7,12 +7,12 @@ ghost use Rattle.tera_machine.specs.Loops.{innermost};
 ghost use Rattle.tera_machine.specs.Captures.{capture_started, capture_ended, dropped, loop_left, turn_left};
 
 use crate::configuration::Configuration;
-use crate::machine::{Flow, VirtualMachine};
+use crate::machine::{Flow, Going, VirtualMachine};
 use tera_objects::Objects;
-use tera_values::{Span, TeraResult, Value};
+use tera_values::{Span, Value};
 
 impl<'c> Configuration<'c> {
-    pub(crate) fn start_capture<'f>(&mut self) -> TeraResult<Flow<'f>>
+    pub(crate) fn start_capture<'f>(&mut self) -> Going<'f>
         ensures { Does capture_started self.old result self.new }
     {
         self.texts.begin()?;
@@ -24,7 +24,7 @@ impl<'c> Configuration<'c> {
         &mut self,
         machine: &VirtualMachine<'_, O>,
         span: Span,
-    ) -> TeraResult<Flow<'f>>
+    ) -> Going<'f>
         requires { IsReady (capture_ended machine.now.autoescape span) self.old }
         ensures { Does (capture_ended machine.now.autoescape span) self.old result self.new }
     {
@@ -34,7 +34,7 @@ impl<'c> Configuration<'c> {
     }
 
     // At the instruction that closes the loop.
-    pub(crate) fn leave_loop<'f>(&mut self, drops: usize) -> TeraResult<Flow<'f>>
+    pub(crate) fn leave_loop<'f>(&mut self, drops: usize) -> Going<'f>
         requires { IsSmall (loop_left drops (config_of self.old)) }
         ensures { Does (loop_left drops) self.old result self.new }
     {
@@ -45,7 +45,7 @@ impl<'c> Configuration<'c> {
     }
 
     // At the instruction that begins the next turn.
-    pub(crate) fn leave_turn<'f>(&mut self, drops: usize) -> TeraResult<Flow<'f>>
+    pub(crate) fn leave_turn<'f>(&mut self, drops: usize) -> Going<'f>
         ensures { Does (turn_left drops) self.old result self.new }
     {
         match self.leave(drops) {

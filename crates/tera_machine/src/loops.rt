@@ -9,7 +9,7 @@ ghost use Rattle.tera_machine.specs.Loops.{loop_started, turned, loop_ended, kep
 ghost use Rattle.tera_machine.specs.Subject.{here_of};
 
 use crate::configuration::Configuration;
-use crate::machine::{Flow, VirtualMachine};
+use crate::machine::{Flow, Going, VirtualMachine};
 use crate::place::LoopPlace;
 use std::alloc::Global;
 use tera_code::LentName;
@@ -68,7 +68,7 @@ impl<'c> Configuration<'c> {
         name: &LentName<'_>,
         counts: bool,
         size: usize,
-    ) -> TeraResult<Flow<'f>>
+    ) -> Going<'f>
         requires ready { IsReady (loop_started (here_of O.engine machine.now file.now self.old)
             next key.now name.now counts size) self.old }
         requires small { IsSmall (loop_started (here_of O.engine machine.now file.now self.old)
@@ -95,7 +95,7 @@ impl<'c> Configuration<'c> {
 
     // The start of the body stands with the loop: nothing is looked for.
     #[inline(always)]
-    pub(crate) fn next_turn<'f>(&mut self) -> TeraResult<Flow<'f>>
+    pub(crate) fn next_turn<'f>(&mut self) -> Going<'f>
         requires { IsReady turned self.old }
         ensures { Does turned self.old result self.new }
     {
@@ -125,7 +125,7 @@ impl<'c> Configuration<'c> {
         kept
     }
 
-    pub(crate) fn end_loop<'f>(&mut self, skip: usize) -> TeraResult<Flow<'f>>
+    pub(crate) fn end_loop<'f>(&mut self, skip: usize) -> Going<'f>
         requires { IsReady (loop_ended skip) self.old }
         ensures { Does (loop_ended skip) self.old result self.new }
     {
@@ -133,7 +133,7 @@ impl<'c> Configuration<'c> {
         Ok(Flow::Skip(skip))
     }
 
-    pub(crate) fn keep<'f>(&mut self) -> TeraResult<Flow<'f>>
+    pub(crate) fn keep<'f>(&mut self) -> Going<'f>
         requires { IsReady kept self.old }
         ensures { Does kept self.old result self.new }
     {
@@ -144,11 +144,7 @@ impl<'c> Configuration<'c> {
         Ok(Flow::On)
     }
 
-    pub(crate) fn end_comprehension<'f>(
-        &mut self,
-        alloc: Global,
-        span: Span,
-    ) -> TeraResult<Flow<'f>>
+    pub(crate) fn end_comprehension<'f>(&mut self, alloc: Global, span: Span) -> Going<'f>
         requires { IsReady (comprehension_ended span) self.old }
         ensures { Does (comprehension_ended span) self.old result self.new }
     {

@@ -44,6 +44,9 @@ pub enum Flow<'f> {
     Component(Box<AskedComponent<'f>>),
 }
 
+/// Where the machine goes on, or why it does not.
+pub(crate) type Going<'f> = TeraResult<Flow<'f>>;
+
 /// What a run stands on, and how high the count of instructions may rise. Contracts alone see it.
 pub trait Limit {
     ghost world: { World };

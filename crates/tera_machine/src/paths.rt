@@ -17,7 +17,7 @@ ghost use Rattle.tera_machine.specs.Paths.{Start, Stands, Comes, Reaches, Breaks
 
 use crate::act::undefined_written;
 use crate::configuration::Configuration;
-use crate::machine::{Flow, VirtualMachine};
+use crate::machine::{Flow, Going, VirtualMachine};
 use crate::texts::Texts;
 use std::alloc::Global;
 use std::sync::ledger::Ledger;
@@ -111,7 +111,7 @@ fn put_out<'f, O: Objects>(
     machine: &VirtualMachine<'_, O>,
     file: &str,
     operand: &LentOperand<'_>,
-) -> TeraResult<Flow<'f>>
+) -> Going<'f>
     ensures { (c : Whole) → c.texts ≡ texts.old → Acted
         (put_out (output (here_of O.engine machine.now file.now c) operand.now) (config_of c))
         result (config_of (record c { texts = texts.new })) }
@@ -159,7 +159,7 @@ impl<'c> Configuration<'c> {
         name: &Name,
         span: Span,
         steps: &mut Steps<L>,
-    ) -> TeraResult<Flow<'f>>
+    ) -> Going<'f>
         requires there { slice_get chunk.now.code at.old
             ≡ Some (instruction.LoadName name.now span) }
         requires few { length chunk.now.code < 2 ^ 64 }
@@ -204,7 +204,7 @@ impl<'c> Configuration<'c> {
         at: &mut usize,
         operand: Operand,
         steps: &mut Steps<L>,
-    ) -> TeraResult<Flow<'f>>
+    ) -> Going<'f>
         requires few { length chunk.now.code < 2 ^ 64 }
         requires there { at.old < length chunk.now.code }
         ensures stands { (s : Start) → s.here.file ≡ chunk.now.file →
@@ -234,7 +234,7 @@ impl<'c> Configuration<'c> {
         at: &mut usize,
         operand: Operand,
         steps: &mut Steps<L>,
-    ) -> TeraResult<Flow<'f>>
+    ) -> Going<'f>
         requires few { length chunk.now.code < 2 ^ 64 }
         requires there { at.old < length chunk.now.code }
         ensures stands { (s : Start) (c : Config) → Comes s chunk.now.code at.old steps.old c →

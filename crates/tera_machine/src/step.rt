@@ -10,16 +10,16 @@ ghost use Rattle.tera_machine.specs.Paths.{Stands, start_at};
 ghost use Rattle.tera_machine.specs.Subject.{here_of};
 ghost use Rattle.tera_state.specs.Prelude.{around_of};
 
-use crate::act::{going_on, going_on_if};
+use crate::act::{Put, going_on, going_on_if};
 use crate::configuration::Configuration;
-use crate::machine::{Flow, VirtualMachine};
+use crate::machine::{Flow, Going, VirtualMachine};
 use std::alloc::{AllocError, Global};
 use std::sync::ledger::Ledger;
 use tera_code::{Chunk, LentInstruction, Steps};
 use tera_objects::Objects;
 use tera_operators::Operand;
 use tera_state::Found;
-use tera_values::{Name, Span, TeraResult, Value};
+use tera_values::{Name, Span, Value};
 
 impl<'c> Configuration<'c> {
     /// Does the instruction that stands at this place, and what is read together with it. The place becomes that of the last of
@@ -33,7 +33,7 @@ impl<'c> Configuration<'c> {
         at: &mut usize,
         instruction: &LentInstruction<'f>,
         steps: &mut Steps<L>,
-    ) -> TeraResult<Flow<'f>>
+    ) -> Going<'f>
         requires there { slice_get chunk.now.code at.old ≡ Some instruction.now }
         requires few { length chunk.now.code < 2 ^ 64 }
         requires ready { IsReady (act (here_of O.engine machine.now chunk.now.file self.old)
@@ -76,7 +76,7 @@ impl<'c> Configuration<'c> {
         at: &mut usize,
         instruction: &LentInstruction<'f>,
         steps: &mut Steps<L>,
-    ) -> TeraResult<Flow<'f>>
+    ) -> Going<'f>
         requires there { slice_get chunk.now.code at.old ≡ Some instruction.now }
         requires few { length chunk.now.code < 2 ^ 64 }
         requires ready { IsReady (act (here_of O.engine machine.now chunk.now.file self.old)
@@ -105,7 +105,7 @@ impl<'c> Configuration<'c> {
         file: &str,
         next: usize,
         instruction: &LentInstruction<'f>,
-    ) -> TeraResult<Flow<'f>>
+    ) -> Going<'f>
         requires ready { IsReady (act (here_of O.engine machine.now file.now self.old)
             next instruction.now) self.old }
         requires small { IsSmall (act (here_of O.engine machine.now file.now self.old)
@@ -136,7 +136,7 @@ impl<'c> Configuration<'c> {
         file: &str,
         next: usize,
         instruction: &LentInstruction<'f>,
-    ) -> TeraResult<Flow<'f>>
+    ) -> Going<'f>
         requires ready { IsReady (act (here_of O.engine machine.now file.now self.old)
             next instruction.now) self.old }
         requires small { IsSmall (act (here_of O.engine machine.now file.now self.old)
@@ -169,7 +169,7 @@ impl<'c> Configuration<'c> {
         file: &str,
         name: &Name,
         span: Span,
-    ) -> TeraResult<Flow<'f>>
+    ) -> Going<'f>
         ensures { Does (name_written (here_of O.engine machine.now file.now self.old) name.now span)
             self.old result self.new }
     {
@@ -178,11 +178,7 @@ impl<'c> Configuration<'c> {
     }
 
     #[inline(never)]
-    fn put_named<O: Objects>(
-        &mut self,
-        machine: &VirtualMachine<'_, O>,
-        name: &Name,
-    ) -> Result<bool, AllocError>
+    fn put_named<O: Objects>(&mut self, machine: &VirtualMachine<'_, O>, name: &Name) -> Put
         ensures { (site : Site) → Does
             (name_written (here_of O.engine machine.now site.file self.old) name.now site.span)
             self.old (going_on_if site result) self.new }
@@ -200,11 +196,7 @@ impl<'c> Configuration<'c> {
 
     // The same of a name that the innermost turn may not bind. What it looks for takes no room where the turn does.
     #[inline(never)]
-    fn put_sought<O: Objects>(
-        &mut self,
-        machine: &VirtualMachine<'_, O>,
-        name: &Name,
-    ) -> Result<bool, AllocError>
+    fn put_sought<O: Objects>(&mut self, machine: &VirtualMachine<'_, O>, name: &Name) -> Put
         ensures { (site : Site) → Does
             (name_written (here_of O.engine machine.now site.file self.old) name.now site.span)
             self.old (going_on_if site result) self.new }

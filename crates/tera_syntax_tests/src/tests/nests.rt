@@ -20,6 +20,8 @@ const COMPONENT: &str = "{% component A() %}";
 
 const END_COMPONENT: &str = "{% endcomponent %}";
 
+const END_SIGNATURE: &str = ") %}{% endcomponent %}";
+
 const PARENTHESES: [&str; 5] = ["{{ ", "(", "a", ")", " }}"];
 
 const OPEN_PARENTHESES: [&str; 5] = ["{{ ", "(", "a", "", " }}"];
@@ -70,13 +72,7 @@ const COMPONENTS: [&str; 5] = ["", "{% <X> %}", "a", "{% </X> %}", ""];
 
 const CALLS_IN_COMPONENT: [&str; 5] = [COMPONENT, "{% <X> %}", "a", "{% </X> %}", END_COMPONENT];
 
-const DEFAULTS: [&str; 5] = [
-    "{% component A(a = ",
-    "[",
-    "1",
-    "]",
-    ") %}{% endcomponent %}",
-];
+const DEFAULTS: [&str; 5] = ["{% component A(a = ", "[", "1", "]", END_SIGNATURE];
 
 const ATTRIBUTES: [&str; 5] = ["{% <X a={", "[", "1", "]", "}> %}{% </X> %}"];
 

@@ -60,18 +60,16 @@ impl Shown {
                 self.put_made(format!(in self.alloc; "'{text}'"));
             }
             Expression::Name { name, .. } => self.put(name),
+            Expression::None { .. } => self.put("none"),
             Expression::Binary { operator, .. } => {
                 self.put_made(format!(in self.alloc; "{operator:?}"));
             }
+            Expression::Not { .. } => self.put("not"),
+            Expression::Negate { .. } => self.put("-"),
+            Expression::And { .. } => self.put("and"),
+            Expression::Or { .. } => self.put("or"),
             _ => {}
         }
-    }
-
-    /// A name that is put out, as it is shown where it is an expression.
-    fn lone_name(&mut self, name: &str, span: Span) {
-        self.put("(");
-        self.put(name);
-        self.put_span(span);
     }
 
     /// What stands before the value of an argument or an attribute.
@@ -289,7 +287,11 @@ impl Shown {
                     self.put_span(*span);
                 }
                 Node::Print { value } => self.expression(value),
-                Node::PrintName { name, span } => self.lone_name(name, *span),
+                Node::PrintName { name, span } => {
+                    self.put("(");
+                    self.put(name);
+                    self.put_span(*span);
+                }
                 Node::If {
                     condition,
                     body,
@@ -404,17 +406,12 @@ fn span_of(expression: &Expression) -> Span {
     }
 }
 
-/// What begins the form.
+/// What begins any other form.
 fn word(expression: &Expression) -> &'static str {
     match expression {
-        Expression::None { .. } => "none",
         Expression::Attribute { optional, .. } => if *optional { "?." } else { "." },
         Expression::Index { optional, .. } => if *optional { "?[]" } else { "[]" },
         Expression::Slice { optional, .. } => if *optional { "?[:]" } else { "[:]" },
-        Expression::Not { .. } => "not",
-        Expression::Negate { .. } => "-",
-        Expression::And { .. } => "and",
-        Expression::Or { .. } => "or",
         Expression::Ternary { .. } => "if",
         Expression::Array { .. } => "array",
         Expression::Map { .. } => "map",

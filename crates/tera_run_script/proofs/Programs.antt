@@ -5,7 +5,7 @@ use Rattle.tera.specs.Registry.{Registry}
 use Rattle.tera_run_script.specs.Act.{acts_of}
 use Rattle.tera_run_script.specs.Passage.{Passage, PassesAll, PassesPart, Puts}
 use Rattle.tera_run_script.specs.Reply.{line_of, reply_seen, replies_seen}
-use Rattle.tera_run_script.specs.Run.{Finishes, BreaksOff, Complained, whole, broken, complaint_line}
+use Rattle.tera_run_script.specs.Run.{HasRun, Finishes, BreaksOff, Complained, whole, broken, complaint_line}
 use Rattle.tera_run_script.specs.Script.{script_of}
 use Rattle.tera_run_script.specs.Seen.{script_seen}
 use Rattle.tera_run_script.specs.Session.{Program, Leads}
@@ -38,27 +38,26 @@ program_of old new bytes script replies r = record {
   written = sym (flat_map-map line_of reply_seen replies);
 }
 
-pub finishes : (old new : Registry) (reader_old reader_new : Passage) (ended : Type 0) (writer_old writer_new : Passage) (settled : Type 0) (unreadable : Option ℕ) (bytes : List ℕ) (script : Script) (replies : List Reply) → PassesAll reader_old reader_new bytes × ended → Replied old new bytes script replies → PassesAll writer_old writer_new (output_of replies) → settled → script.unreadable ≡ unreadable → Finishes old new reader_old reader_new ended writer_old writer_new settled unreadable
-finishes old new reader_old reader_new ended writer_old writer_new settled unreadable bytes script replies read r written handed_on stops = record {
+abbrev run_of : (old new : Registry) (reader_old reader_new : Passage) (ended : Type 0) (bytes : List ℕ) (script : Script) (replies : List Reply) → PassesAll reader_old reader_new bytes × ended → Replied old new bytes script replies → HasRun old new reader_old reader_new ended
+run_of old new reader_old reader_new ended bytes script replies read r = record {
   input = bytes;
   output = output_of replies;
   read = read.0;
   at_end = read.1;
   program = program_of old new bytes script replies r;
+}
+
+pub finishes : (old new : Registry) (reader_old reader_new : Passage) (ended : Type 0) (writer_old writer_new : Passage) (settled : Type 0) (unreadable : Option ℕ) (bytes : List ℕ) (script : Script) (replies : List Reply) → PassesAll reader_old reader_new bytes × ended → Replied old new bytes script replies → PassesAll writer_old writer_new (output_of replies) → settled → script.unreadable ≡ unreadable → Finishes old new reader_old reader_new ended writer_old writer_new settled unreadable
+finishes old new reader_old reader_new ended writer_old writer_new settled unreadable bytes script replies read r written handed_on stops = record {
+  run = run_of old new reader_old reader_new ended bytes script replies read r;
   written = written;
   handed_on = handed_on;
   stops = sym (ap (λ s. s.unreadable) r.read) ∙ stops;
 }
 
 pub breaks_off : (old new : Registry) (reader_old reader_new : Passage) (ended : Type 0) (writer_old writer_new : Passage) (bytes : List ℕ) (script : Script) (replies : List Reply) → PassesAll reader_old reader_new bytes × ended → Replied old new bytes script replies → PassesPart writer_old writer_new (output_of replies) → BreaksOff old new reader_old reader_new ended writer_old writer_new
-breaks_off old new reader_old reader_new ended writer_old writer_new bytes script replies read r written = record {
-  input = bytes;
-  output = output_of replies;
-  read = read.0;
-  at_end = read.1;
-  program = program_of old new bytes script replies r;
-  written = written;
-}
+breaks_off old new reader_old reader_new ended writer_old writer_new bytes script replies read r written =
+    record { run = run_of old new reader_old reader_new ended bytes script replies read r; written = written }
 
 -- a complaint that was put
 pub complained : (old new : Passage) (line : ℕ) (text : List ℕ) (result : Result (Unit {0}) Failure) → text ≡ complaint_line line → Puts old new text result → Complained old new line

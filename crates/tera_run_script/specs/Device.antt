@@ -6,19 +6,20 @@ use Rattle.tera_run_script.specs.Passage.{Passage, Puts, ReadsAll}
 use Rattle.tera_run_script.specs.declared.input.ReadError.{ReadError}
 use Rattle.tera_run_script.specs.declared.stream.Failure.{Failure}
 
--- the bytes that went through it are those that its device gave
-pub record FromDevice {R : Type 0} (passed : R → Passage) (remaining : R → Option (List ℕ))
-    (old new : R) : Type 0 where
+-- the bytes that went through a stream, and how what is known of its device changed with them
+pub record Through {S : Type 0} (Moves : Option (List ℕ) → Option (List ℕ) → List ℕ → Type 0) (passed : S → Passage) (device : S → Option (List ℕ))
+    (old new : S) : Type 0 where
   pub bytes : List ℕ
   pub through : (passed new).bytes ≡ (passed old).bytes ++ bytes
-  pub given : Consumes (remaining old) (remaining new) bytes
+  pub moved : Moves (device old) (device new) bytes
+
+-- the bytes that went through it are those that its device gave
+abbrev pub FromDevice : {R : Type 0} → (R → Passage) → (R → Option (List ℕ)) → R → R → Type 0
+FromDevice passed remaining old new = Through Consumes passed remaining old new
 
 -- the bytes that went through it are those that its device took
-pub record ToDevice {W : Type 0} (passed : W → Passage) (contents : W → Option (List ℕ))
-    (old new : W) : Type 0 where
-  pub bytes : List ℕ
-  pub through : (passed new).bytes ≡ (passed old).bytes ++ bytes
-  pub taken : Appends (contents old) (contents new) bytes
+abbrev pub ToDevice : {W : Type 0} → (W → Passage) → (W → Option (List ℕ)) → W → W → Type 0
+ToDevice passed contents old new = Through Appends passed contents old new
 
 -- it has told that there is no more, and so it is
 abbrev pub HasEnded : {R : Type 0} → (R → Type 0) → (R → Option (List ℕ)) → R → Type 0

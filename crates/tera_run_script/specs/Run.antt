@@ -14,26 +14,25 @@ status_of (Unreadable line) = 2
 status_of Device = 3
 status_of NoMemory = 4
 
--- The input was read to its end, and the replies to its commands were written and handed on. Neither stream failed.
--- The first unreadable line is this one, if there is one.
-pub record Finishes (registry_old registry_new : Registry) (reader_old reader_new : Passage) (ended : Type 0) (writer_old writer_new : Passage) (settled : Type 0) (unreadable : Option ℕ) : Type 0 where
+-- The input was read to its end, and its commands were run. The output is their replies.
+pub record HasRun (registry_old registry_new : Registry) (reader_old reader_new : Passage) (ended : Type 0) : Type 0 where
   pub input : List ℕ
   pub output : List ℕ
   pub read : PassesAll reader_old reader_new input
   pub at_end : ended
   pub program : Program registry_old registry_new input output
-  pub written : PassesAll writer_old writer_new output
+
+-- The replies were written and handed on. Neither stream failed. The first unreadable line is this one, if there is one.
+pub record Finishes (registry_old registry_new : Registry) (reader_old reader_new : Passage) (ended : Type 0) (writer_old writer_new : Passage) (settled : Type 0) (unreadable : Option ℕ) : Type 0 where
+  pub run : HasRun registry_old registry_new reader_old reader_new ended
+  pub written : PassesAll writer_old writer_new run.output
   pub handed_on : settled
-  pub stops : (script_of input).unreadable ≡ unreadable
+  pub stops : (script_of run.input).unreadable ≡ unreadable
 
 -- the same, but the writer failed behind a beginning of the replies
 pub record BreaksOff (registry_old registry_new : Registry) (reader_old reader_new : Passage) (ended : Type 0) (writer_old writer_new : Passage) : Type 0 where
-  pub input : List ℕ
-  pub output : List ℕ
-  pub read : PassesAll reader_old reader_new input
-  pub at_end : ended
-  pub program : Program registry_old registry_new input output
-  pub written : PassesPart writer_old writer_new output
+  pub run : HasRun registry_old registry_new reader_old reader_new ended
+  pub written : PassesPart writer_old writer_new run.output
 
 -- a stream failed
 pub data Fails (registry_old registry_new : Registry) (reader_old reader_new : Passage) (ended : Type 0) (writer_old writer_new : Passage) : Type 0 where

@@ -36,6 +36,9 @@ pub enum Head<'a> {
     Opens(Opening<'a>),
 }
 
+/// What a text spells, if it spells it. An error says that it found no room.
+type Spelled<T> = Result<Option<T>, AllocError>;
+
 fn is_plain(line: &str) -> bool
     ensures { result ≡ is_plain line.now }
 {
@@ -54,10 +57,7 @@ fn only_field(fields: Option<&str>) -> Option<&str>
 }
 
 // All of the fields, where each is one.
-fn checked_fields<'a>(
-    alloc: Global,
-    fields: Option<&'a str>,
-) -> Result<Option<Vec<&'a str>>, AllocError>
+fn checked_fields<'a>(alloc: Global, fields: Option<&'a str>) -> Spelled<Vec<&'a str>>
     ensures { IfOk result (λ found. fields_seen found ≡ checked_fields (words_after fields.entry)) }
 {
     let mut found = Vec::new(alloc);
@@ -138,11 +138,7 @@ fn add_of(fields: Option<&str>) -> Option<Command<'static>>
 }
 
 // `suffix`, or else `prefix`, with any number of fields.
-fn listed<'a>(
-    alloc: Global,
-    is_suffix: bool,
-    fields: Option<&'a str>,
-) -> Result<Option<Command<'a>>, AllocError>
+fn listed<'a>(alloc: Global, is_suffix: bool, fields: Option<&'a str>) -> Spelled<Command<'a>>
     ensures { IfOk result (λ found. act_seen found ≡ listed is_suffix (words_after fields.entry)) }
 {
     match checked_fields(alloc, fields)? {
@@ -184,10 +180,7 @@ fn component_head(fields: Option<&str>) -> Option<(&str, bool, Option<&str>)>
 }
 
 // `component`, with its name, `on` or `off`, and the names of implicits.
-fn component_of<'a>(
-    alloc: Global,
-    fields: Option<&'a str>,
-) -> Result<Option<Command<'a>>, AllocError>
+fn component_of<'a>(alloc: Global, fields: Option<&'a str>) -> Spelled<Command<'a>>
     ensures { IfOk result (λ found. act_seen found ≡ component_of (words_after fields.entry)) }
 {
     let Some((name, autoescape, more)) = component_head(fields) else {
@@ -227,11 +220,7 @@ fn opening_named<'a>(word: &str, fields: Option<&'a str>) -> Option<Opening<'a>>
 }
 
 // The word of a command without a body, and its fields.
-fn command_named<'a>(
-    alloc: Global,
-    word: &str,
-    fields: Option<&'a str>,
-) -> Result<Option<Command<'a>>, AllocError>
+fn command_named<'a>(alloc: Global, word: &str, fields: Option<&'a str>) -> Spelled<Command<'a>>
     ensures { IfOk result (λ found.
         act_seen found ≡ act_named word.now (words_after fields.entry)) }
 {
@@ -248,11 +237,7 @@ fn command_named<'a>(
     }
 }
 
-fn head_named<'a>(
-    alloc: Global,
-    word: &str,
-    fields: Option<&'a str>,
-) -> Result<Option<Head<'a>>, AllocError>
+fn head_named<'a>(alloc: Global, word: &str, fields: Option<&'a str>) -> Spelled<Head<'a>>
     ensures { IfOk result (λ found.
         head_seen found ≡ head_named word.now (words_after fields.entry)) }
 {
@@ -265,7 +250,7 @@ fn head_named<'a>(
     }
 }
 
-fn head_of(alloc: Global, line: &str) -> Result<Option<Head<'_>>, AllocError>
+fn head_of(alloc: Global, line: &str) -> Spelled<Head<'_>>
     ensures { IfOk result (λ found. head_seen found ≡ head_of line.now) }
 {
     if !is_plain(line) {
@@ -300,11 +285,7 @@ pub struct FoundCommand<'a> {
     pub rest: &'a str,
 }
 
-fn command_at<'a>(
-    alloc: Global,
-    line: &'a str,
-    after: &'a str,
-) -> Result<Option<FoundCommand<'a>>, AllocError>
+fn command_at<'a>(alloc: Global, line: &'a str, after: &'a str) -> Spelled<FoundCommand<'a>>
     ensures { IfOk result (λ found.
         MatchOption found (IsNone line.now after.now) (IsCommand line.now after.now)) }
 {

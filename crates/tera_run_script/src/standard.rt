@@ -7,6 +7,19 @@ use crate::stream::{Failure, Input, Output};
 use crate::trace::Trace;
 use std::io::{ErrorKind, Read, Write};
 
+/// Does this with what the first attempt takes that is not interrupted. One that fails ends the attempts.
+macro_rules! uninterrupted {
+    ($attempt:expr, $taken:ident => $done:block) => {
+        for _ in 0..u64::MAX {
+            match $attempt {
+                Ok($taken) => $done,
+                Err(error) if error.kind() == ErrorKind::Interrupted => {}
+                Err(_) => break,
+            }
+        }
+    };
+}
+
 /// A reader as an input. A read that was interrupted is tried again.
 #[derive(Drop)]
 pub struct ReaderInput<R> {
@@ -41,22 +54,12 @@ impl<R: Read> Input for ReaderInput<R> {
     ghost remaining = { λ s. R.remaining s.reader };
 
     fn read(&mut self, buffer: &mut [u8]) -> Result<usize, Failure> {
-        for _ in 0..u64::MAX {
-            match self.reader.read(buffer) {
-                Ok(taken) => {
-                    self.trace = Trace::with(&self.trace, &buffer[..taken], 0);
-                    self.ended = taken == 0 && !buffer.is_empty();
-                    return Ok(taken);
-                }
-                Err(error) => {
-                    if error.kind() != ErrorKind::Interrupted {
-                        break;
-                    }
-                }
-            }
-        }
-        self.trace = Trace::with(&self.trace, &[], 1);
-        Err(Failure)
+        uninterrupted!(self.reader.read(buffer), taken => {
+            self.trace = Trace::with(&self.trace, &buffer[..taken], 0);
+            self.ended = taken == 0 && !buffer.is_empty();
+            return Ok(taken);
+        });
+        Err(self.trace.fail())
     }
 }
 
@@ -108,24 +111,14 @@ impl<W: Write> Output for WriterOutput<W> {
 
     fn write(&mut self, piece: &[u8]) -> Result<usize, Failure> {
         self.is_flushed = false;
-        for _ in 0..u64::MAX {
-            match self.writer.write(piece) {
-                Ok(taken) => {
-                    if taken == 0 && !piece.is_empty() {
-                        break;
-                    }
-                    self.trace = Trace::with(&self.trace, &piece[..taken], 0);
-                    return Ok(taken);
-                }
-                Err(error) => {
-                    if error.kind() != ErrorKind::Interrupted {
-                        break;
-                    }
-                }
+        uninterrupted!(self.writer.write(piece), taken => {
+            if taken == 0 && !piece.is_empty() {
+                break;
             }
-        }
-        self.trace = Trace::with(&self.trace, &[], 1);
-        Err(Failure)
+            self.trace = Trace::with(&self.trace, &piece[..taken], 0);
+            return Ok(taken);
+        });
+        Err(self.trace.fail())
     }
 
     fn flush(&mut self) -> Result<(), Failure> {
@@ -133,7 +126,6 @@ impl<W: Write> Output for WriterOutput<W> {
             self.is_flushed = true;
             return Ok(());
         }
-        self.trace = Trace::with(&self.trace, &[], 1);
-        Err(Failure)
+        Err(self.trace.fail())
     }
 }

@@ -2,6 +2,7 @@
 ghost use Rattle.std.specs.Prelude.{◌≡◌, ◌+◌, ◌++◌, ℕ, List, []};
 ghost use Rattle.std.specs.Borrow.{ftrue};
 
+use crate::stream::Failure;
 use std::marker::Model;
 
 /// The bytes that went through a stream so far, and how often it failed. It takes no memory, and its functions do
@@ -30,5 +31,14 @@ impl Trace {
             × (result.failures ≡ before.now.failures + failures) }
     {
         Trace {}
+    }
+
+    /// Nothing more went through, and one failure more.
+    pub fn fail(&mut self) -> Failure
+        ensures { (self.new.bytes ≡ self.old.bytes)
+            × (self.new.failures ≡ self.old.failures + 1) }
+    {
+        *self = Trace::with(self, &[], 1);
+        Failure
     }
 }

@@ -1,5 +1,5 @@
 use Rattle.std.specs.List.{flat_map}
-use Rattle.tera_run_script.proofs.Devices.{to_then, to_flush}
+use Rattle.tera_run_script.proofs.Devices.{taking, through_then, to_flush}
 use Rattle.tera_run_script.proofs.Passages.{flushed}
 use Rattle.tera_run_script.proofs.output.put.Goals as goal
 
@@ -10,6 +10,6 @@ returns-in-Ok g c =
     record {
       put = flushed (passed c.args.writer.now) (passed c.write_pieces.new.writer) (passed c.flush.new.self)
           (flat_map (λ piece. piece.now) c.args.pieces.now) c.flush.result c.in-Ok.ensures.put c.flush.ensures.passed;
-      device = to_then passed contents c.args.writer.now c.write_pieces.new.writer c.flush.new.self c.in-Ok.ensures.device
+      device = through_then _ taking passed contents c.args.writer.now c.write_pieces.new.writer c.flush.new.self c.in-Ok.ensures.device
           (to_flush passed contents c.write_pieces.new.writer c.flush.new.self c.flush.result c.flush.ensures.passed c.flush.ensures.device);
     }

@@ -1,7 +1,7 @@
 -- What objects of the tests mean.
 use Rattle.std.specs.Prelude.{false, codes, cond, [], Result, Ok}
 use Rattle.tera_errors.specs.Site.{Text}
-use Rattle.tera_errors.specs.Fault.{Fault}
+use Rattle.tera_errors.specs.Fault.{Fault, invalid_argument, missing_argument, message, template_not_found}
 use Rattle.tera_values.specs.Alphabet.{plain}
 use Rattle.tera_values.specs.Access.{is_undefined}
 use Rattle.tera_values.specs.Arguments.{read_needed}
@@ -11,6 +11,15 @@ use Rattle.tera_built_ins.specs.Filters.{filter_in}
 use Rattle.tera_built_ins.specs.Replace.{replaced}
 use Rattle.tera_operators.specs.Operand.{then}
 use Rattle.tera_state.specs.View.{View, escaping_in, escaped_if_needed}
+use Rattle.tera_tests.specs.declared.own.Refusal.{Refusal}
+use Rattle.tera_tests.specs.declared.own.Refusal.TheVariants as refusal
+
+-- with what an object refuses
+abbrev pub fault_of : Refusal → Fault
+fault_of refusal.InvalidArgument = invalid_argument
+fault_of refusal.MissingArgument = missing_argument
+fault_of refusal.Message = message
+fault_of refusal.TemplateNotFound = template_not_found
 
 -- a value, and for undefined a dash
 abbrev pub shown : Val → Val

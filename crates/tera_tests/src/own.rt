@@ -1,10 +1,10 @@
 //! Filters, tests, functions and escapes of a caller, which the tests of objects register.
 ghost use Rattle.std.specs.Prelude.{Ok, Err, true, false, not, codes, string_bytes};
-ghost use Rattle.tera_errors.specs.Prelude.{Gives, message, invalid_argument, missing_argument, template_not_found};
+ghost use Rattle.tera_errors.specs.Prelude.{Gives, Tells};
 ghost use Rattle.tera_values.specs.Prelude.{is_undefined, bool, text, plain};
 ghost use Rattle.tera_built_ins.specs.Prelude.{replaced};
 ghost use Rattle.tera_state.specs.Prelude.{view_of};
-ghost use Rattle.tera_tests.specs.Own.{shown, trimmed_by, asked, written_text};
+ghost use Rattle.tera_tests.specs.Own.{fault_of, shown, trimmed_by, asked, written_text};
 
 use std::alloc::Global;
 use std::rc::RcStr;
@@ -163,13 +163,13 @@ impl Function for Shows {
     }
 }
 
-/// A function that answers what is written for its argument `text`.
+/// A function that answers what is written for its argument `text`, and a filter that calls the built-in filter `trim`.
 #[derive(Drop)]
-pub struct Writes {
+pub struct UsesState {
     pub alloc: Global,
 }
 
-impl Function for Writes {
+impl Function for UsesState {
     ghost meaning = { λ o. written_text };
 
     ghost safe = { λ _. false };
@@ -185,13 +185,7 @@ impl Function for Writes {
     }
 }
 
-/// A filter that calls the built-in filter `trim`.
-#[derive(Drop)]
-pub struct Trims {
-    pub alloc: Global,
-}
-
-impl Filter for Trims {
+impl Filter for UsesState {
     ghost meaning = { λ o v given view. trimmed_by view v };
 
     ghost safe = { λ _. false };
@@ -205,85 +199,42 @@ impl Filter for Trims {
     }
 }
 
-/// Refuses with `InvalidArgument`.
+/// With what an object refuses.
 #[derive(Drop)]
-pub struct RefusesArgument;
-
-impl Filter for RefusesArgument {
-    ghost meaning = { λ o v given view. Err invalid_argument };
-
-    ghost safe = { λ _. false };
-
-    fn call(&self, _value: &Value, _kwargs: Kwargs, _state: &State<'_>) -> TeraResult<Value> {
-        Err(Error::invalid_argument())
-    }
-
-    fn is_safe(&self) -> bool {
-        false
-    }
+pub enum Refusal {
+    InvalidArgument,
+    MissingArgument,
+    Message,
+    TemplateNotFound,
 }
 
-impl Test for RefusesArgument {
-    ghost meaning = { λ o v given view. Err invalid_argument };
-
-    fn call(&self, _value: &Value, _kwargs: Kwargs, _state: &State<'_>) -> TeraResult<bool> {
-        Err(Error::invalid_argument())
-    }
-}
-
-impl Function for RefusesArgument {
-    ghost meaning = { λ o given view. Err invalid_argument };
-
-    ghost safe = { λ _. false };
-
-    fn call(&self, _kwargs: Kwargs, _state: &State<'_>) -> TeraResult<Value> {
-        Err(Error::invalid_argument())
-    }
-
-    fn is_safe(&self) -> bool {
-        false
-    }
-}
-
-/// Refuses with `MissingArgument`.
+/// A filter, a test and a function that refuse.
 #[derive(Drop)]
-pub struct MissesArgument;
-
-impl Test for MissesArgument {
-    ghost meaning = { λ o v given view. Err missing_argument };
-
-    fn call(&self, _value: &Value, _kwargs: Kwargs, _state: &State<'_>) -> TeraResult<bool> {
-        Err(Error::missing_argument())
-    }
-}
-
-impl Function for MissesArgument {
-    ghost meaning = { λ o given view. Err missing_argument };
-
-    ghost safe = { λ _. false };
-
-    fn call(&self, _kwargs: Kwargs, _state: &State<'_>) -> TeraResult<Value> {
-        Err(Error::missing_argument())
-    }
-
-    fn is_safe(&self) -> bool {
-        false
-    }
-}
-
-/// Refuses with a `Message`.
-#[derive(Drop)]
-pub struct RefusesWithMessage {
+pub struct Refuses {
     pub alloc: Global,
+    pub with: Refusal,
 }
 
-impl Filter for RefusesWithMessage {
-    ghost meaning = { λ o v given view. Err message };
+impl Refuses {
+    fn error(&self) -> Error
+        ensures { Tells result (fault_of self.now.with) }
+    {
+        match &self.with {
+            Refusal::InvalidArgument => Error::invalid_argument(),
+            Refusal::MissingArgument => Error::missing_argument(),
+            Refusal::Message => Error::message(self.alloc, "no"),
+            Refusal::TemplateNotFound => Error::template_not_found(),
+        }
+    }
+}
+
+impl Filter for Refuses {
+    ghost meaning = { λ o v given view. Err (fault_of o.with) };
 
     ghost safe = { λ _. false };
 
     fn call(&self, _value: &Value, _kwargs: Kwargs, _state: &State<'_>) -> TeraResult<Value> {
-        Err(Error::message(self.alloc, "no"))
+        Err(self.error())
     }
 
     fn is_safe(&self) -> bool {
@@ -291,31 +242,21 @@ impl Filter for RefusesWithMessage {
     }
 }
 
-impl Function for RefusesWithMessage {
-    ghost meaning = { λ o given view. Err message };
+impl Test for Refuses {
+    ghost meaning = { λ o v given view. Err (fault_of o.with) };
 
-    ghost safe = { λ _. false };
-
-    fn call(&self, _kwargs: Kwargs, _state: &State<'_>) -> TeraResult<Value> {
-        Err(Error::message(self.alloc, "no"))
-    }
-
-    fn is_safe(&self) -> bool {
-        false
+    fn call(&self, _value: &Value, _kwargs: Kwargs, _state: &State<'_>) -> TeraResult<bool> {
+        Err(self.error())
     }
 }
 
-/// Refuses with `TemplateNotFound`.
-#[derive(Drop)]
-pub struct FindsNoTemplate;
-
-impl Function for FindsNoTemplate {
-    ghost meaning = { λ o given view. Err template_not_found };
+impl Function for Refuses {
+    ghost meaning = { λ o given view. Err (fault_of o.with) };
 
     ghost safe = { λ _. false };
 
     fn call(&self, _kwargs: Kwargs, _state: &State<'_>) -> TeraResult<Value> {
-        Err(Error::template_not_found())
+        Err(self.error())
     }
 
     fn is_safe(&self) -> bool {

@@ -1,39 +1,37 @@
 //! Filters, tests, functions and escapes of the caller, where they are called.
 use super::cases::{is_text, variables, wrong_by};
-use crate::own::{
-    Asks, FindsNoTemplate, LacksMemory, MissesArgument, RefusesArgument, RefusesWithMessage, Trims,
-    Writes, saying,
-};
+use crate::own::{Asks, LacksMemory, Refusal, Refuses, UsesState, saying};
 use std::alloc::Global;
 use tera::{Context, ErrorKind, Kwargs, State, Tera, TeraResult, Value};
 
+fn refusing(alloc: Global, with: Refusal) -> TeraResult<Box<Refuses>> {
+    Ok(Box::new(alloc, Refuses { alloc, with })?)
+}
+
 fn with_filters(alloc: Global, engine: &mut Tera) -> TeraResult<()> {
-    let bold = saying(alloc, "<b>x</b>", true);
-    let plain = saying(alloc, "<b>x</b>", false);
-    engine.register_filter("bold", Box::new(alloc, bold)?)?;
-    engine.register_filter("plain", Box::new(alloc, plain)?)?;
-    engine.register_filter("bad", Box::new(alloc, RefusesArgument)?)?;
-    engine.register_filter("refused", Box::new(alloc, RefusesWithMessage { alloc })?)?;
+    engine.register_filter("bold", Box::new(alloc, saying(alloc, "<b>x</b>", true))?)?;
+    engine.register_filter("plain", Box::new(alloc, saying(alloc, "<b>x</b>", false))?)?;
+    engine.register_filter("bad", refusing(alloc, Refusal::InvalidArgument)?)?;
+    engine.register_filter("refused", refusing(alloc, Refusal::Message)?)?;
     engine.register_filter("lacking", Box::new(alloc, LacksMemory)?)?;
-    engine.register_filter("trimmed", Box::new(alloc, Trims { alloc })?)
+    engine.register_filter("trimmed", Box::new(alloc, UsesState { alloc })?)
 }
 
 fn with_functions(alloc: Global, engine: &mut Tera) -> TeraResult<()> {
-    let hello = saying(alloc, "<hello>", true);
-    engine.register_function("hello", Box::new(alloc, hello)?)?;
-    engine.register_function("wrong", Box::new(alloc, RefusesArgument)?)?;
-    engine.register_function("missing", Box::new(alloc, MissesArgument)?)?;
-    engine.register_function("refused", Box::new(alloc, RefusesWithMessage { alloc })?)?;
-    engine.register_function("absent", Box::new(alloc, FindsNoTemplate)?)?;
-    engine.register_function("lacking", Box::new(alloc, LacksMemory)?)?;
+    engine.register_function("hello", Box::new(alloc, saying(alloc, "<hello>", true))?)?;
     engine.register_function("super", Box::new(alloc, saying(alloc, "never", false))?)?;
-    engine.register_function("esc_if_needed", Box::new(alloc, Writes { alloc })?)
+    engine.register_function("wrong", refusing(alloc, Refusal::InvalidArgument)?)?;
+    engine.register_function("missing", refusing(alloc, Refusal::MissingArgument)?)?;
+    engine.register_function("refused", refusing(alloc, Refusal::Message)?)?;
+    engine.register_function("absent", refusing(alloc, Refusal::TemplateNotFound)?)?;
+    engine.register_function("lacking", Box::new(alloc, LacksMemory)?)?;
+    engine.register_function("esc_if_needed", Box::new(alloc, UsesState { alloc })?)
 }
 
 fn with_tests(alloc: Global, engine: &mut Tera) -> TeraResult<()> {
-    engine.register_test("wrong", Box::new(alloc, RefusesArgument)?)?;
+    engine.register_test("wrong", refusing(alloc, Refusal::InvalidArgument)?)?;
     engine.register_test("lacking", Box::new(alloc, LacksMemory)?)?;
-    engine.register_test("missing", Box::new(alloc, MissesArgument)?)
+    engine.register_test("missing", refusing(alloc, Refusal::MissingArgument)?)
 }
 
 fn engine(alloc: Global) -> TeraResult<Tera> {
@@ -166,7 +164,7 @@ fn escapes(alloc: Global) -> TeraResult<bool> {
         engine.render_str("{{ [content, content] | join(sep='a') }}", &context, true),
         "Hello ter??Hello ter?",
     );
-    engine.register_function("written", Box::new(alloc, Writes { alloc })?)?;
+    engine.register_function("written", Box::new(alloc, UsesState { alloc })?)?;
     let lines =
         "{{ content | escape }} => Hello ter?\n{{ written(text=content) | safe }} => Hello ter?";
     let used = wrong_by(&engine, &context, true, lines).is_none();

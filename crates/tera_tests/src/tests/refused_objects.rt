@@ -7,6 +7,13 @@ use scarce_memory::{Tried, refusals, with_budget, with_little};
 use std::alloc::Global;
 use tera::{Context, Tera, TeraResult, Value};
 
+/// What is asked of the engine.
+#[derive(Clone, Copy)]
+enum Case {
+    Moves,
+    Puts,
+}
+
 /// What comes from the other engine, in the order in which it is moved.
 const MOVED: &str = "{{ 1 | g }} => g2\n{{ 1 is held }} => true\n{{ h() }} => h2";
 
@@ -77,22 +84,17 @@ fn registers(alloc: Global, engine: &mut Tera, budget: usize) -> Option<TeraResu
     })
 }
 
-fn try_moving(alloc: Global, budget: usize) -> Tried {
-    match first(alloc) {
-        Ok(mut engine) => {
-            let ended = moves(alloc, &mut engine, budget);
-            judged(alloc, &mut engine, &Context::new(alloc), ended)
-        }
-        Err(_) => Tried::Wrong,
-    }
+fn try_on(alloc: Global, engine: &mut Tera, case: Case, budget: usize) -> Tried {
+    let ended = match case {
+        Case::Moves => moves(alloc, engine, budget),
+        Case::Puts => registers(alloc, engine, budget),
+    };
+    judged(alloc, engine, &Context::new(alloc), ended)
 }
 
-fn try_registering(alloc: Global, budget: usize) -> Tried {
+fn tries(alloc: Global, case: Case, budget: usize) -> Tried {
     match first(alloc) {
-        Ok(mut engine) => {
-            let ended = registers(alloc, &mut engine, budget);
-            judged(alloc, &mut engine, &Context::new(alloc), ended)
-        }
+        Ok(mut engine) => try_on(alloc, &mut engine, case, budget),
         Err(_) => Tried::Wrong,
     }
 }
@@ -100,12 +102,12 @@ fn try_registering(alloc: Global, budget: usize) -> Tried {
 // What is moved may lie where the other engine's tables lay, so that a move can do without further memory.
 #[test]
 fn moves_are_refused_in_turn(rt: HostRuntime) {
-    assert!(rt; refusals(rt.alloc(), |budget| try_moving(rt.alloc(), budget)).is_some());
+    assert!(rt; refusals(rt.alloc(), |budget| tries(rt.alloc(), Case::Moves, budget)).is_some());
 }
 
 #[test]
 fn registering_is_refused_in_turn(rt: HostRuntime) {
-    assert!(rt; refusals(rt.alloc(), |budget| try_registering(rt.alloc(), budget)) > Some(0));
+    assert!(rt; refusals(rt.alloc(), |budget| tries(rt.alloc(), Case::Puts, budget)) > Some(0));
 }
 
 fn escapes_without_memory(alloc: Global) -> TeraResult<bool> {

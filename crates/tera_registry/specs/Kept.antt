@@ -1,4 +1,4 @@
--- What definitions see of templates as they are kept.
+-- What definitions see of templates as they are kept, in the order of their names.
 use Rattle.std.specs.Prelude.{List, map, option_map, string_bytes, String}
 use Rattle.std.specs.declared.alloc.Global.{Global}
 use Rattle.std.specs.declared.rc.Rc.{Rc}
@@ -7,6 +7,7 @@ use Rattle.tera_values.specs.Named.{Named}
 use Rattle.tera_objects.specs.Engine.{Engine}
 use Rattle.tera_meaning.specs.Registry.{Template, Entry, Registry, new_registry}
 use Rattle.tera_registry.specs.declared.template.Template.{Template as Stored}
+pub use Rattle.tera_registry.specs.Order.{Rises}
 
 abbrev pub entry_of : Stored → Entry
 entry_of t = (

@@ -4,11 +4,10 @@ ghost use Rattle.tera_errors.specs.Prelude.{GivesOneOf, Lacks};
 ghost use Rattle.tera_syntax_tree.specs.Blocks as in_tree;
 ghost use Rattle.tera_syntax_tree.specs.Prelude.{delimiters_of, accepted, nodes_of, quoted_option, tree_of};
 ghost use Rattle.tera_code.specs.Prelude.{block_of, block_listings, listing_of};
-ghost use Rattle.tera_registry.specs.Order.{Rises};
 ghost use Rattle.tera_registry.specs.Batch.{pairs_of};
 ghost use Rattle.tera_registry.specs.Put.{Makes, Puts};
 ghost use Rattle.tera_registry.specs.Components.{kept_of, kept_all};
-ghost use Rattle.tera_registry.specs.Kept.{entry_of, entries_of};
+ghost use Rattle.tera_registry.specs.Kept.{Rises, entry_of, entries_of};
 ghost use Rattle.tera_registry.specs.Needs.{needs_of};
 
 use crate::components::{Component, components};

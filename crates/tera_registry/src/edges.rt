@@ -2,8 +2,7 @@
 ghost use Rattle.std.specs.Prelude.{◌≡◌, length, IfOk};
 ghost use Rattle.tera_meaning.specs.Prelude.{includes_of};
 ghost use Rattle.tera_registry.specs.Edges.{all_at, AreThere, AreEdges};
-ghost use Rattle.tera_registry.specs.Order.{Rises};
-ghost use Rattle.tera_registry.specs.Kept.{entry_of, entries_of, seen};
+ghost use Rattle.tera_registry.specs.Kept.{Rises, entry_of, entries_of, seen};
 ghost use Rattle.tera_registry.specs.Walks.{rows};
 
 use crate::names::resolve;

@@ -3,8 +3,7 @@ ghost use Rattle.std.specs.Prelude.{◌≡◌, is_none};
 ghost use Rattle.std.specs.List.{list_any};
 ghost use Rattle.tera_syntax_tree.specs.Prelude.{node_includes, node_of, nodes_of};
 ghost use Rattle.tera_meaning.specs.Prelude.{misses_an_include, resolve};
-ghost use Rattle.tera_registry.specs.Order.{Rises};
-ghost use Rattle.tera_registry.specs.Kept.{entries_of, seen};
+ghost use Rattle.tera_registry.specs.Kept.{Rises, entries_of, seen};
 
 use crate::names::resolve;
 use crate::template::Template;

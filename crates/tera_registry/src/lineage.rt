@@ -4,9 +4,8 @@ ghost use Rattle.tera_errors.specs.Prelude.{Gives};
 ghost use Rattle.tera_meaning.specs.Prelude.{Registry, Entry};
 ghost use Rattle.tera_registry.specs.Choices.{IsFirstTie};
 ghost use Rattle.tera_registry.specs.Edges.{IsFirstCircle};
-ghost use Rattle.tera_registry.specs.Order.{Rises};
 ghost use Rattle.tera_registry.specs.Links.{IsUp, AreUps, Inside, Stands, IsTop, AreTops, IsFurther, AreRoots, climbed};
-ghost use Rattle.tera_registry.specs.Kept.{entry_of, entries_of, seen};
+ghost use Rattle.tera_registry.specs.Kept.{Rises, entry_of, entries_of, seen};
 
 use crate::names::resolve;
 use crate::template::Template;

@@ -2,10 +2,9 @@
 ghost use Rattle.std.specs.Prelude.{◌≡◌, length, IfOk};
 ghost use Rattle.tera_errors.specs.Prelude.{Gives};
 ghost use Rattle.tera_meaning.specs.Prelude.{accepted, Registry};
-ghost use Rattle.tera_registry.specs.Order.{Rises};
 ghost use Rattle.tera_registry.specs.Choices.{AreChosen};
 ghost use Rattle.tera_registry.specs.Links.{AreUps, AreRoots};
-ghost use Rattle.tera_registry.specs.Kept.{entries_of, seen, seen_by};
+ghost use Rattle.tera_registry.specs.Kept.{Rises, entries_of, seen, seen_by};
 ghost use Rattle.tera_registry.specs.References.{AreAllRight};
 
 use crate::choices::{Choice, Taken, choices};

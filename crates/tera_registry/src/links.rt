@@ -4,8 +4,7 @@ ghost use Rattle.tera_errors.specs.Prelude.{Lacks};
 ghost use Rattle.tera_registry.specs.References.{AreAllRight};
 ghost use Rattle.tera_registry.specs.LinkTable.{FoundLeads, LeadsThere, AreLinks, AreTables};
 ghost use Rattle.tera_registry.specs.declared.links.Destination.TheVariants as destination;
-ghost use Rattle.tera_registry.specs.Order.{Rises};
-ghost use Rattle.tera_registry.specs.Kept.{entries_of, seen};
+ghost use Rattle.tera_registry.specs.Kept.{Rises, entries_of, seen};
 
 use crate::choices::Choice;
 use crate::has_body::HasBody;

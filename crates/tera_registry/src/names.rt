@@ -3,9 +3,8 @@ ghost use Rattle.std.specs.Prelude.{◌≡◌, ◌++◌, IfErr, OnOk, OnErr};
 ghost use Rattle.tera_errors.specs.Prelude.{Lacks};
 ghost use Rattle.tera_values.specs.Prelude.{name_cmp, put};
 ghost use Rattle.tera_meaning.specs.Prelude.{resolve};
-ghost use Rattle.tera_registry.specs.Order.{Rises};
 ghost use Rattle.tera_registry.specs.Places.{IsFound, IsPlace};
-ghost use Rattle.tera_registry.specs.Kept.{entry_of, entries_of, seen};
+ghost use Rattle.tera_registry.specs.Kept.{Rises, entry_of, entries_of, seen};
 
 use crate::template::Template;
 use std::cmp::Ordering;

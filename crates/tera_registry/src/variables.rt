@@ -7,8 +7,7 @@ ghost use Rattle.tera_meaning.specs.Prelude.{includes_of, ancestors, Entry, give
 ghost use Rattle.tera_variables.specs.Prelude.{only, ◌∪◌, names_in};
 ghost use Rattle.tera_registry.specs.Definers.{Grounded};
 ghost use Rattle.tera_registry.specs.Edges.{all_at, AreThere};
-ghost use Rattle.tera_registry.specs.Order.{Rises};
-ghost use Rattle.tera_registry.specs.Kept.{entry_of, entries_of, seen};
+ghost use Rattle.tera_registry.specs.Kept.{Rises, entry_of, entries_of, seen};
 ghost use Rattle.tera_registry.specs.Reached.{AreReached, Reaches, IsClosure, Uncircled};
 
 use crate::lineage::{Up, above};

@@ -6,6 +6,7 @@ use Rattle.tera_meaning.specs.Run.{Request, ABlock, Above, AnInclude, AComponent
 use Rattle.tera_machine.specs.declared.asked.Asked.{Asked}
 use Rattle.tera_machine.specs.declared.asked.Asked.TheVariants as asked
 use Rattle.tera_machine.specs.declared.asked.AskedComponent.{AskedComponent}
+use Rattle.tera_machine.specs.declared.asked.AskedTemplate.{AskedTemplate}
 use Rattle.tera_machine.specs.declared.machine.Flow as declared
 use Rattle.tera_machine.specs.declared.machine.Flow.TheVariants as flow
 
@@ -32,6 +33,10 @@ abbrev pub use_of : Asked → Use
 use_of (asked.Block name span) = Written
 use_of (asked.Above span) = Pushed true span
 
+-- the same for a template that is included, whose text is written
+abbrev pub include_request : AskedTemplate → Request
+include_request a = AnInclude a.name.now a.span
+
 -- the same for a component
 abbrev pub component_request : AskedComponent → Request
 component_request a = AComponent a.name.now (named_arguments a.given) a.body a.span
@@ -46,5 +51,5 @@ flow_of (flow.Skip count) = Skip count
 flow_of (flow.To place count) = To place count
 flow_of flow.Out = Out
 flow_of (flow.Ask a) = Ask (request_of a) (use_of a)
-flow_of (flow.Include a) = Ask (AnInclude a.name.now a.span) Written
+flow_of (flow.Include a) = Ask (include_request a) Written
 flow_of (flow.Component a) = Ask (component_request a.value) (component_use a.value)

@@ -3,10 +3,9 @@ ghost use Rattle.std.specs.Prelude.{◌≡◌, ◌≢◌, [], OnOk, IfOk, IfErr}
 ghost use Rattle.tera_errors.specs.Prelude.{Lacks};
 ghost use Rattle.tera_syntax_tree.specs.Prelude.{is_among};
 ghost use Rattle.tera_state.specs.Prelude.{in_include, around_of, variables_of};
-ghost use Rattle.tera_meaning.specs.Prelude.{AnInclude};
 ghost use Rattle.tera_registry.specs.Prelude.{Finds};
 ghost use Rattle.tera_machine.specs.Config.{config_of};
-ghost use Rattle.tera_machine.specs.Flow.{Written};
+ghost use Rattle.tera_machine.specs.Flow.{Written, include_request};
 ghost use Rattle.tera_machine.specs.Included.{names_in};
 ghost use Rattle.tera_machine.specs.Includes.{FindsTemplate};
 ghost use Rattle.tera_machine.specs.Apart.{Begins, Rejoins};
@@ -90,8 +89,7 @@ impl<'t, O: Objects> VirtualMachine<'t, O> {
     ) -> TeraResult<FoundTemplate<'t>>
         requires { IsLinked self.now M.world }
         ensures { (c : Configuration) → FindsTemplate M.world
-            (place_at self.now chunk.now.file blocks.now c) (AnInclude asked.entry.name.now
-            asked.entry.span)
+            (place_at self.now chunk.now.file blocks.now c) (include_request asked.entry)
             (config_of c).run.vars result }
     {
         let AskedTemplate { name, number, span } = asked;

@@ -1,13 +1,13 @@
 // A run of a body, and of those that it takes.
 ghost use Rattle.std.specs.Prelude.{◌≡◌, ℕ, ◌+◌, ◌-◌, ◌*◌, ◌≤◌, [], None, Some, IsTrue, OnOk, string_bytes, map};
-ghost use Rattle.tera_meaning.specs.Prelude.{AnInclude, visits_of, new_registry, alone, block_of, World};
+ghost use Rattle.tera_meaning.specs.Prelude.{visits_of, new_registry, alone, block_of, World};
 ghost use Rattle.tera_errors.specs.Prelude.{Gives};
 ghost use Rattle.tera_state.specs.Prelude.{around_of};
 ghost use Rattle.tera_code.specs.Prelude.{nodes_code};
 ghost use Rattle.tera_registry.specs.Prelude.{kept_of};
 ghost use Rattle.tera_machine.specs.Config.{config_of};
 ghost use Rattle.tera_machine.specs.Exec.{EndsWithin, Ran};
-ghost use Rattle.tera_machine.specs.Flow.{Written, request_of, use_of, component_request, component_use};
+ghost use Rattle.tera_machine.specs.Flow.{Written, request_of, use_of, include_request, component_request, component_use};
 ghost use Rattle.tera_machine.specs.Advance.{BodyWithin};
 ghost use Rattle.tera_machine.specs.Bodies.{Stays, BodyRan};
 ghost use Rattle.tera_machine.specs.Subject.{Subject, IsLinked, kept_beside, meant_from, engine_of, place_at, place_of, Means};
@@ -380,12 +380,11 @@ impl<'t, O: Objects> VirtualMachine<'t, O> {
         requires linked { IsLinked self.now M.world }
         requires within { BodyWithin M.world
             (place_at self.now chunk.now.file blocks.now configuration.old)
-            (AnInclude asked.name.now asked.span) Written (config_of configuration.old)
-            (M.most - steps.old) }
+            (include_request asked) Written (config_of configuration.old) (M.most - steps.old) }
         ensures counted { steps.old ≤ steps.new }
         ensures bounded { steps.old ≤ M.most → steps.new ≤ M.most }
         ensures ends { BodyRan M.world (place_at self.now chunk.now.file blocks.now
-            configuration.old) (AnInclude asked.entry.name.now asked.entry.span) Written
+            configuration.old) (include_request asked.entry) Written
             (config_of configuration.old) result (config_of configuration.new)
             (steps.new - steps.old) }
         ensures stays { OnOk result (Stays blocks.now configuration.old blocks.now

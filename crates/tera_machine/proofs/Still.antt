@@ -19,7 +19,7 @@ use Rattle.tera_code.specs.declared.instruction.Instruction.TheVariants.{WriteTe
 use Rattle.tera_machine.specs.Config.{Config, Loop}
 use Rattle.tera_machine.specs.Flow.{Flow}
 use Rattle.tera_machine.specs.Did.{Did, Goes, Faults, Sticks, holding, outcome}
-use Rattle.tera_machine.specs.Act.{act, put_out, stored_in, top_written_in, on_one, on_two, on_four, topmost, made_of, called_on, branched, popped_branch_in, kept_if_falsy_in, kept_if_truthy_in, above_in, handed, component_asked, component_given}
+use Rattle.tera_machine.specs.Act.{act, put_out, stored_in, top_written_in, on_one, on_two, on_four, topmost, made_of, called_on, branched, popped_branch_in, kept_if_in, above_in, handed, component_asked, component_given}
 use Rattle.tera_machine.specs.Loops.{begun_over, begun_with, started_on, went_round, round_in, ended_in, kept_in, collected_in}
 use Rattle.tera_machine.specs.Captures.{captured_in}
 
@@ -74,13 +74,9 @@ popped_still : (skip : ℕ) (os : List Evaluated) (c : Config) → IsStill c (po
 popped_still skip [] c = tt
 popped_still skip (a ∷ rest) c = branched_still _ rest rest skip c
 
-falsy_still : (skip : ℕ) (os : List Evaluated) (c : Config) → IsStill c (kept_if_falsy_in skip os c)
-falsy_still skip [] c = tt
-falsy_still skip (a ∷ rest) c = branched_still _ rest c.operands skip c
-
-truthy_still : (skip : ℕ) (os : List Evaluated) (c : Config) → IsStill c (kept_if_truthy_in skip os c)
-truthy_still skip [] c = tt
-truthy_still skip (a ∷ rest) c = branched_still _ rest c.operands skip c
+kept_if_still : (truth : Bool) (skip : ℕ) (os : List Evaluated) (c : Config) → IsStill c (kept_if_in truth skip os c)
+kept_if_still truth skip [] c = tt
+kept_if_still truth skip (a ∷ rest) c = branched_still _ rest c.operands skip c
 
 above_still : (span : Span) (o : Option (List Evaluated × List Evaluated)) (c : Config) → IsStill c (above_in span o c)
 above_still span None c = tt
@@ -157,8 +153,8 @@ module _ (here : Here) (next : ℕ) where
       made_still (λ all. map_of here.file (zip keys all) span) (topmost (length keys) c.operands) c
   act_still (Jump skip) c = refl
   act_still (PopJumpIfFalse skip) c = popped_still skip c.operands c
-  act_still (JumpIfFalseOrPop skip) c = falsy_still skip c.operands c
-  act_still (JumpIfTrueOrPop skip) c = truthy_still skip c.operands c
+  act_still (JumpIfFalseOrPop skip) c = kept_if_still false skip c.operands c
+  act_still (JumpIfTrueOrPop skip) c = kept_if_still true skip c.operands c
   act_still (Store name is_global) c = stored_still is_global name c.operands c
   act_still (StartLoop key name counts size) c = started_still c.operands _ size c
   act_still NextTurn c = turned_still c.loops c

@@ -86,13 +86,14 @@ abbrev pub popped_branch_in : ℕ → List Evaluated → Config → Did
 popped_branch_in skip [] c = Sticks
 popped_branch_in skip (a ∷ rest) c = branched (truthy a.value) (holding rest c) skip (holding rest c)
 
-abbrev pub kept_if_falsy_in : ℕ → List Evaluated → Config → Did
-kept_if_falsy_in skip [] c = Sticks
-kept_if_falsy_in skip (a ∷ rest) c = branched (truthy a.value) (holding rest c) skip c
+-- whether a truth is not this one
+abbrev pub differs : Bool → Bool → Bool
+differs false b = b
+differs true b = not b
 
-abbrev pub kept_if_truthy_in : ℕ → List Evaluated → Config → Did
-kept_if_truthy_in skip [] c = Sticks
-kept_if_truthy_in skip (a ∷ rest) c = branched (not (truthy a.value)) (holding rest c) skip c
+abbrev pub kept_if_in : Bool → ℕ → List Evaluated → Config → Did
+kept_if_in truth skip [] c = Sticks
+kept_if_in truth skip (a ∷ rest) c = branched (differs truth (truthy a.value)) (holding rest c) skip c
 
 abbrev pub stored : Bool → site.Name → Config → Did
 stored is_global name c = stored_in is_global name c.operands c
@@ -164,11 +165,9 @@ called kind.Test = test_called
 abbrev pub popped_branch : ℕ → Config → Did
 popped_branch skip c = popped_branch_in skip c.operands c
 
-abbrev pub kept_if_falsy : ℕ → Config → Did
-kept_if_falsy skip c = kept_if_falsy_in skip c.operands c
-
-abbrev pub kept_if_truthy : ℕ → Config → Did
-kept_if_truthy skip c = kept_if_truthy_in skip c.operands c
+-- an operand of this truth stays where it jumps
+abbrev pub kept_if : Bool → ℕ → Config → Did
+kept_if truth skip c = kept_if_in truth skip c.operands c
 
 -- the body of a block, whose text is written
 abbrev pub block_taken : site.Name → Span → Config → Did
@@ -226,8 +225,8 @@ act here next (MakeArray spreads span) = array_made here.file spreads span
 act here next (MakeMap keys span) = map_made here.file keys span
 act here next (Jump skip) = λ c. Goes c (Skip skip)
 act here next (PopJumpIfFalse skip) = popped_branch skip
-act here next (JumpIfFalseOrPop skip) = kept_if_falsy skip
-act here next (JumpIfTrueOrPop skip) = kept_if_truthy skip
+act here next (JumpIfFalseOrPop skip) = kept_if false skip
+act here next (JumpIfTrueOrPop skip) = kept_if true skip
 act here next (Store name is_global) = stored is_global name
 act here next (StartLoop key name counts size) = loop_started here next key name counts size
 act here next NextTurn = turned

@@ -3,7 +3,7 @@ ghost use Rattle.std.specs.Prelude.{◌≡◌, ◌≢◌, Ok, Some, None, true, 
 ghost use Rattle.tera_errors.specs.Prelude.{Tells, Lacks, Site, rendering_error};
 ghost use Rattle.tera_machine.specs.Config.{config_of};
 ghost use Rattle.tera_machine.specs.Did.{pushed, holding};
-ghost use Rattle.tera_machine.specs.Act.{act, IsReady, IsSmall, Does, going_on, going_on_if, text_written, outcome_put, top_written, name_written, name_loaded, context_loaded, stored, attribute_loaded, item_loaded, sliced, denied, negated, operated, handed, component_taken, popped_branch, kept_if_falsy, kept_if_truthy, above_taken, topmost};
+ghost use Rattle.tera_machine.specs.Act.{act, IsReady, IsSmall, Does, going_on, going_on_if, text_written, outcome_put, top_written, name_written, name_loaded, context_loaded, stored, attribute_loaded, item_loaded, sliced, denied, negated, operated, handed, component_taken, popped_branch, kept_if, above_taken, topmost};
 ghost use Rattle.tera_machine.specs.Subject.{here_of};
 ghost use Rattle.tera_machine.specs.declared.machine.Flow.TheVariants as flow;
 ghost use Rattle.tera_state.specs.Prelude.{around_of};
@@ -72,8 +72,8 @@ impl<'c> Configuration<'c> {
             }
             Instruction::Jump(skip) => Ok(Flow::Skip(*skip)),
             Instruction::PopJumpIfFalse(skip) => self.pop_jump_if_false(*skip),
-            Instruction::JumpIfFalseOrPop(skip) => self.jump_if_false_or_pop(*skip),
-            Instruction::JumpIfTrueOrPop(skip) => self.jump_if_true_or_pop(*skip),
+            Instruction::JumpIfFalseOrPop(skip) => self.jump_or_pop(false, *skip),
+            Instruction::JumpIfTrueOrPop(skip) => self.jump_or_pop(true, *skip),
             Instruction::LoadContext(span) => self.load_context(alloc, *span),
             Instruction::Store { name, is_global } => {
                 going_on(self.store(alloc, name.as_name(), *is_global))
@@ -425,30 +425,17 @@ impl<'c> Configuration<'c> {
         }
     }
 
-    fn jump_if_false_or_pop<'f>(&mut self, skip: usize) -> Going<'f>
-        requires { IsReady (kept_if_falsy skip) self.old }
-        ensures { Does (kept_if_falsy skip) self.old result self.new }
+    // An operand of this truth stays where it jumps; any other is dropped, and it goes on.
+    fn jump_or_pop<'f>(&mut self, truth: bool, skip: usize) -> Going<'f>
+        requires { IsReady (kept_if truth skip) self.old }
+        ensures { Does (kept_if truth skip) self.old result self.new }
     {
         let operand = self.operands.take();
-        if operand.value().is_truthy() {
-            Ok(Flow::On)
-        } else {
-            self.operands.push(operand)?;
-            Ok(Flow::Skip(skip))
+        if operand.value().is_truthy() != truth {
+            return Ok(Flow::On);
         }
-    }
-
-    fn jump_if_true_or_pop<'f>(&mut self, skip: usize) -> Going<'f>
-        requires { IsReady (kept_if_truthy skip) self.old }
-        ensures { Does (kept_if_truthy skip) self.old result self.new }
-    {
-        let operand = self.operands.take();
-        if operand.value().is_truthy() {
-            self.operands.push(operand)?;
-            Ok(Flow::Skip(skip))
-        } else {
-            Ok(Flow::On)
-        }
+        self.operands.push(operand)?;
+        Ok(Flow::Skip(skip))
     }
 }
 

@@ -4,10 +4,11 @@ ghost use Rattle.tera.specs.Prelude.{registry_of};
 ghost use Rattle.tera_calls.specs.After.{RendersAfter};
 ghost use Rattle.tera_errors.specs.Prelude.{GivesOneOf, Lacks};
 
+use crate::boxed::Meant;
 use crate::call::{Call, make_calls};
 use crate::rendering::{Rendering, rendered};
 use std::alloc::Global;
-use tera::{CallerObjects, EscapeFn, Filter, Function, Objects, Tera, TeraResult, Test};
+use tera::{CallerObjects, Objects, Tera, TeraResult};
 
 /// What a list of calls and the rendering behind it answered.
 #[derive(Drop)]
@@ -33,18 +34,7 @@ pub fn render_after(
 ) -> TeraResult<Outcome>
     ensures law { let seen = registry_of ⟦<CallerObjects as Objects>⟧.engine in
         IfOk result (λ outcome. GivesOneOf string_bytes outcome.text
-        (RendersAfter (record {
-          escape = λ b. (⟦<dyn EscapeFn as EscapeFn>⟧ b.vtable).escaped b.value;
-          filter = λ b. record {
-            meaning = (⟦<dyn Filter as Filter>⟧ b.vtable).meaning b.value;
-            safe = (⟦<dyn Filter as Filter>⟧ b.vtable).safe b.value;
-          };
-          test = λ b. record { meaning = (⟦<dyn Test as Test>⟧ b.vtable).meaning b.value };
-          function = λ b. record {
-            meaning = (⟦<dyn Function as Function>⟧ b.vtable).meaning b.value;
-            safe = (⟦<dyn Function as Function>⟧ b.vtable).safe b.value;
-          };
-        })
+        (RendersAfter ⟦<CallerObjects as Meant>⟧.meanings
         (seen engine.old) calls.entry.items outcome.answers.items rendering.now)) }
     ensures memory { IfErr result Lacks }
 {

@@ -4,6 +4,7 @@ ghost use Rattle.tera.specs.Prelude.{Configures, registry_of};
 ghost use Rattle.tera_calls.specs.Calls.{Ends, Leads, with_global};
 ghost use Rattle.tera_errors.specs.Prelude.{Lacks};
 
+use crate::boxed::Meant;
 use std::alloc::Global;
 use tera::{
     CallerObjects, Delimiters, EscapeFn, Filter, Function, Objects, Tera, TeraOver, TeraResult,
@@ -80,18 +81,8 @@ pub type Call<'a> = CallOver<
 /// out.
 pub fn make_call(engine: &mut Tera, call: Call<'_>) -> TeraResult<()>
     ensures { let seen = registry_of ⟦<CallerObjects as Objects>⟧.engine in
-        Ends (record {
-          escape = λ b. (⟦<dyn EscapeFn as EscapeFn>⟧ b.vtable).escaped b.value;
-          filter = λ b. record {
-            meaning = (⟦<dyn Filter as Filter>⟧ b.vtable).meaning b.value;
-            safe = (⟦<dyn Filter as Filter>⟧ b.vtable).safe b.value;
-          };
-          test = λ b. record { meaning = (⟦<dyn Test as Test>⟧ b.vtable).meaning b.value };
-          function = λ b. record {
-            meaning = (⟦<dyn Function as Function>⟧ b.vtable).meaning b.value;
-            safe = (⟦<dyn Function as Function>⟧ b.vtable).safe b.value;
-          };
-        }) call.entry result (seen engine.old) (seen engine.new) }
+        Ends ⟦<CallerObjects as Meant>⟧.meanings call.entry result
+        (seen engine.old) (seen engine.new) }
 {
     match call {
         CallOver::SetDelimiters { delimiters } => engine.set_delimiters(delimiters),
@@ -123,18 +114,7 @@ pub fn make_calls(
     calls: Vec<Call<'_>>,
 ) -> TeraResult<Vec<TeraResult<()>>>
     ensures answers { let seen = registry_of ⟦<CallerObjects as Objects>⟧.engine in
-        IfOk result (λ answers. Leads (record {
-          escape = λ b. (⟦<dyn EscapeFn as EscapeFn>⟧ b.vtable).escaped b.value;
-          filter = λ b. record {
-            meaning = (⟦<dyn Filter as Filter>⟧ b.vtable).meaning b.value;
-            safe = (⟦<dyn Filter as Filter>⟧ b.vtable).safe b.value;
-          };
-          test = λ b. record { meaning = (⟦<dyn Test as Test>⟧ b.vtable).meaning b.value };
-          function = λ b. record {
-            meaning = (⟦<dyn Function as Function>⟧ b.vtable).meaning b.value;
-            safe = (⟦<dyn Function as Function>⟧ b.vtable).safe b.value;
-          };
-        })
+        IfOk result (λ answers. Leads ⟦<CallerObjects as Meant>⟧.meanings
         (seen engine.old) calls.entry.items answers.items (seen engine.new)) }
     ensures memory { IfErr result Lacks }
     ensures unchanged { let seen = registry_of ⟦<CallerObjects as Objects>⟧.engine in

@@ -2,9 +2,11 @@
 #![tactic(auto)]
 
 pub mod after;
+pub mod boxed;
 pub mod call;
 pub mod rendering;
 
 pub use after::{Outcome, render_after};
+pub use boxed::Meant;
 pub use call::{Call, CallOver, make_call, make_calls};
 pub use rendering::{Rendering, rendered};

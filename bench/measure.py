@@ -20,6 +20,11 @@ def told(program, script):
     return subprocess.run([program], input=script.encode(), capture_output=True, check=True).stdout.decode()
 
 
+def ran(program, script):
+    """Runs the program on a script, and throws away what it prints: a pipe and its reader cost as much as a small page."""
+    subprocess.run([program], input=script.encode(), stdout=subprocess.DEVNULL, check=True)
+
+
 def timed(program, text, rounds):
     """The microseconds of the fastest of so many rounds that the program of bench/loops times, and the text that it renders."""
     rest = told(program, f"{rounds}\n{text}")

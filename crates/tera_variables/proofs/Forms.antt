@@ -1,6 +1,5 @@
 -- Expressions with parts that are lent.
-use Rattle.std.proofs.Common.{◌≡◌, ◌⊎◌, inl, inr, ℕ, suc, ◌+◌, ◌<◌, ◌≤◌, Bool, List, [], ◌∷◌, length, drop, get_or, Vec, Box, Global, Result, OnOk, sym, ap, ap₂, ◌∙◌, add-one, drop-cons}
-use Rattle.std.proofs.lemmas.List.{at_drop_all}
+use Rattle.std.proofs.Common.{◌≡◌, ◌⊎◌, inl, inr, ℕ, suc, ◌+◌, ◌<◌, Bool, List, ◌∷◌, length, drop, get_or, Vec, Box, Global, Result, OnOk, sym, ap, ap₂, ◌∙◌, add-one, drop-cons}
 use Rattle.tera_errors.specs.declared.span.Span.{Span}
 use Rattle.tera_errors.specs.Answer.{SeenError}
 use Rattle.tera_syntax_tree.specs.declared.expression.Item.{Item}
@@ -19,23 +18,13 @@ use Rattle.tera_syntax_tree.specs.declared.expression.Expression.{Expression}
 use Rattle.tera_syntax_tree.specs.declared.expression.Expression.TheVariants as expression
 use Rattle.tera_syntax_tree.specs.View.{expr_of, items_of, entries_of, arguments_of}
 use Rattle.tera_syntax_tree.proofs.Views.{view_array, view_map, view_super, view_filter, view_test, view_call, view_component, view_comprehension, view_slice}
-use Rattle.tera_variables.specs.Free.{Names, nobody, expr_free, items_free, entries_free, arguments_free, ◌∪◌}
+use Rattle.tera_variables.specs.Free.{Names, expr_free, items_free, entries_free, arguments_free, ◌∪◌}
 use Rattle.tera_variables.specs.Sets.{applied_free, collected_free, bounds_free}
-use Rattle.tera_variables.proofs.Unions.{ok-then, union-pass}
+use Rattle.tera_variables.proofs.Unions.{ok-then}
 
 pub drop-here : {A : Type 0} (xs : List A) (i : ℕ) (x : A) → i < length xs → x ≡ get_or xs i x → drop i xs ≡ x ∷ drop (i + 1) xs
 drop-here xs i x l e =
     drop-cons xs i x l ∙ ap (λ y. y ∷ drop (suc i) xs) (sym e) ∙ ap (λ n. x ∷ drop n xs) (sym (add-one i))
-
--- of a row, one more is passed
-pub one-passed : {A : Type 0} (found_in : List A → Names) (xs : List A) (i : ℕ) (x : A) (e l m all : Names) → i < length xs → x ≡ get_or xs i x → found_in (x ∷ drop (i + 1) xs) ≡ e ∪ found_in (drop (i + 1) xs) → m ≡ e ∪ l → found_in (drop i xs) ∪ l ≡ all → found_in (drop (i + 1) xs) ∪ m ≡ all
-one-passed found_in xs i x e l m all lt is first h before =
-    union-pass _ _ _ _ _ (ap found_in (drop-here xs i x lt is) ∙ first) h ∙ before
-
--- or all are
-pub all-passed : {A : Type 0} (found_in : List A → Names) (xs : List A) (i : ℕ) (l all : Names) → length xs ≤ i → found_in [] ≡ nobody → found_in (drop i xs) ∪ l ≡ all → l ≡ all
-all-passed found_in xs i l all end none before =
-    sym (ap (λ x. x ∪ l) (at_drop_all found_in xs i end ∙ none)) ∙ before
 
 -- what is added is that of the whole
 pub whole : (r : Result (Unit {0}) SeenError) (p q l n : Names) → p ≡ q → OnOk r (n ≡ p ∪ l) → OnOk r (n ≡ q ∪ l)

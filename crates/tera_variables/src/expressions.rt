@@ -1,4 +1,7 @@
 // The names that expressions look up. They are found from the right to the left.
+// The loops over rows want to know that nothing is left behind the last part, which a lemma of `std` says.
+#![tactic(auto, using(std::proofs::lemmas::List::drop_all))]
+
 ghost use Rattle.std.specs.Prelude.{IfErr};
 ghost use Rattle.tera_errors.specs.Prelude.{Lacks};
 ghost use Rattle.tera_syntax_tree.specs.Prelude.{expr_of, optional_of, items_of, entries_of, arguments_of, filters_of};

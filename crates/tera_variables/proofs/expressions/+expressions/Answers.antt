@@ -1,11 +1,12 @@
-use Rattle.std.proofs.Common.{◌∙◌, ap, refl}
+use Rattle.std.proofs.Common.{◌∙◌, ap, refl, arith}
+use Rattle.std.proofs.lemmas.Grind.{common_steps}
 use Rattle.tera_syntax_tree.specs.declared.expression.Called.{out-Called}
 use Rattle.tera_syntax_tree.specs.declared.expression.ComponentTag.{out-ComponentTag}
-use Rattle.tera_syntax_tree.specs.View.{items_of, entries_of, arguments_of}
-use Rattle.tera_variables.specs.Free.{items_free, entries_free, arguments_free, ◌∪◌}
+use Rattle.tera_syntax_tree.specs.View.{arguments_of}
+use Rattle.tera_variables.specs.Free.{arguments_free, ◌∪◌}
 use Rattle.tera_variables.specs.Sets.{names_in}
 use Rattle.tera_variables.proofs.Unions.{empty, union-more, two, comprehended}
-use Rattle.tera_variables.proofs.Forms.{one-passed, all-passed, whole, array, map, super, call, component, applied, comprehension, slice, index, two_operands, ternary}
+use Rattle.tera_variables.proofs.Forms.{whole, array, map, super, call, component, applied, comprehension, slice, index, two_operands, ternary}
 use Rattle.tera_variables.proofs.expressions.+expressions.Goals as goal
 
 pub add_expression-returns-in_ok-add_expression-in-Index-clause-ok : goal.add_expression-returns-in_ok-add_expression-in-Index-clause-ok
@@ -60,29 +61,15 @@ pub add_applied-returns-clause-ok : goal.add_applied-returns-clause-ok
 add_applied-returns-clause-ok t c =
     two _ _ _ _ _ _ (c.in_ok-add_arguments.ensures.ok ∙ ap (λ xs. arguments_free (arguments_of xs) ∪ names_in c.args.found.now) c.as_slice.ensures.value) c.add_expression.ensures.ok
 
+-- one part of a row more, seen at each name
 pub add_items-loop-part-preserved : goal.add_items-loop-part-preserved
-add_items-loop-part-preserved t c =
-    one-passed (λ xs. items_free (items_of xs)) _ _ _ _ _ _ _ c.loop-part-test.true c.part-item.is refl c.in_ok-add_expression.ensures.ok c.loop-part.invariant
-
-pub add_items-returns-clause-ok : goal.add_items-returns-clause-ok
-add_items-returns-clause-ok t c =
-    all-passed (λ xs. items_free (items_of xs)) _ _ _ _ c.loop-part-test.false refl c.loop-part.invariant
+add_items-loop-part-preserved t c = λ n. grind (arith, common_steps, ap (λ names. names n) c.in_ok-add_expression.ensures.ok)
 
 pub add_entries-loop-part-preserved : goal.add_entries-loop-part-preserved
-add_entries-loop-part-preserved t c =
-    one-passed (λ xs. entries_free (entries_of xs)) _ _ _ _ _ _ _ c.loop-part-test.true c.part-item.is refl c.in_ok-add_expression.ensures.ok c.loop-part.invariant
-
-pub add_entries-returns-clause-ok : goal.add_entries-returns-clause-ok
-add_entries-returns-clause-ok t c =
-    all-passed (λ xs. entries_free (entries_of xs)) _ _ _ _ c.loop-part-test.false refl c.loop-part.invariant
+add_entries-loop-part-preserved t c = λ n. grind (arith, common_steps, ap (λ names. names n) c.in_ok-add_expression.ensures.ok)
 
 pub add_arguments-loop-part-preserved : goal.add_arguments-loop-part-preserved
-add_arguments-loop-part-preserved t c =
-    one-passed (λ xs. arguments_free (arguments_of xs)) _ _ _ _ _ _ _ c.loop-part-test.true c.part-item.is refl c.in_ok-add_expression.ensures.ok c.loop-part.invariant
-
-pub add_arguments-returns-clause-ok : goal.add_arguments-returns-clause-ok
-add_arguments-returns-clause-ok t c =
-    all-passed (λ xs. arguments_free (arguments_of xs)) _ _ _ _ c.loop-part-test.false refl c.loop-part.invariant
+add_arguments-loop-part-preserved t c = λ n. grind (arith, common_steps, ap (λ names. names n) c.in_ok-add_expression.ensures.ok)
 
 pub add_bounds-returns-clause-ok : goal.add_bounds-returns-clause-ok
 add_bounds-returns-clause-ok t c =

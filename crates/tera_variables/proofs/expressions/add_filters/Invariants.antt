@@ -1,4 +1,5 @@
 use Rattle.std.proofs.Common.{◌≡◌, drop}
+use Rattle.tera_errors.specs.Site.{Name}
 use Rattle.tera_syntax_tree.specs.View.{filters_of}
 use Rattle.tera_variables.specs.Free.{filters_free, ◌∪◌}
 use Rattle.tera_variables.specs.Sets.{names_in}
@@ -6,4 +7,4 @@ use Rattle.tera_variables.proofs.expressions.add_filters.Given as goal
 
 abbrev pub invariant-loop-filter : goal.invariant-loop-filter
 invariant-loop-filter l =
-    filters_free (filters_of (drop l.filter-index l.filters)) ∪ names_in l.found ≡ filters_free (filters_of l.filters) ∪ names_in l.initial.found
+    (n : Name) → (filters_free (filters_of l.filters) ∪ names_in l.initial.found) n ≡ (filters_free (filters_of (drop l.filter-index l.filters)) ∪ names_in l.found) n

@@ -34,15 +34,19 @@ abbrev pub fault_if : Bool → Fault → Option Fault
 fault_if true fault = Some fault
 fault_if false fault = None
 
--- the first fault of a template behind these: that of its parents, then that of its includes, then that of its components
+-- the first fault of a template behind these: that of its parents, then that of its includes,
+-- then that of its components
 unfoldable pub template_fault : Registry → List Entry → Entry → Option Fault
 template_fault r before t =
-    option_or (fault_of_parents (parents r t)) (option_or (fault_if (leads_into_a_circle r t) circular_include) (fault_if (has_a_tie r before t) message))
+    option_or (fault_of_parents (parents r t))
+    (option_or (fault_if (leads_into_a_circle r t) circular_include)
+    (fault_if (has_a_tie r before t) message))
 
 -- the first fault, template by template, behind these
 unfoldable pub first_fault : Registry → List Entry → List Entry → Option Fault
 first_fault r before [] = None
-first_fault r before (t ∷ rest) = option_or (template_fault r before t) (first_fault r (before ++ t ∷ []) rest)
+first_fault r before (t ∷ rest) =
+    option_or (template_fault r before t) (first_fault r (before ++ t ∷ []) rest)
 
 abbrev pub is_none_left : List Definer → Bool
 is_none_left [] = true
@@ -66,7 +70,9 @@ is_component r name = is_some (definer_of r name)
 -- whether a template names what is not there
 abbrev pub lacks_something : Registry → Entry → Bool
 lacks_something r t =
-    loses_a_block r t || (lacks_a_callee r.engine (is_component r) t.1.tree.nodes || misses_an_include r t.1.tree.nodes)
+    loses_a_block r t
+    || (lacks_a_callee r.engine (is_component r) t.1.tree.nodes
+    || misses_an_include r t.1.tree.nodes)
 
 -- what is not there of what templates name
 unfoldable pub missing : Registry → Option Fault

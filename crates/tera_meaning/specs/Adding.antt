@@ -13,8 +13,9 @@ unless_faulty r (Some fault) = Err fault
 abbrev pub accepted : Registry → Result Registry Fault
 accepted r = unless_faulty r (fault r)
 
--- The registry after a batch, or the fault that refuses it, where this is what reading the batch answered: its templates in
--- their order, or the first fault of a text. Of templates with one name the last stays.
+-- The registry after a batch, or the fault that refuses it, where this is what reading the batch
+-- answered: its templates in their order, or the first fault of a text. Of templates with one name
+-- the last stays.
 abbrev pub added : Registry → Result (Named Template) Fault → Result Registry Fault
 added r (Err fault) = Err fault
 added r (Ok batch) = accepted (record r { templates = put_all batch r.templates })

@@ -9,7 +9,8 @@ use Rattle.tera_syntax_tree.specs.Definitions.{definitions, component_names}
 use Rattle.tera_values.specs.Named.{name_cmp}
 use Rattle.tera_meaning.specs.Registry.{Entry, Registry}
 
--- a component as one template defines it: the template in whose text it stands, what it is given, and its body
+-- a component as one template defines it: the template in whose text it stands, what it is given,
+-- and its body
 pub record Component : Type 0 where
   pub file : Name
   pub signature : Signature
@@ -28,9 +29,11 @@ component_in name t = component_named t.0 name (definitions t.1.tree.nodes)
 abbrev pub defines : Name → Entry → Bool
 defines name t = is_among name (component_names t.1.tree.nodes)
 
--- 0 where no prefix begins the name of a template, else 1 and the place of the first that does; less is better
+-- 0 where no prefix begins the name of a template, else 1 and the place of the first that does;
+-- less is better
 abbrev pub priority : Registry → Name → ℕ
-priority r name = unwrap_or (option_map suc (position (λ p. starts_with nat_eq name p) r.prefixes)) 0
+priority r name =
+    unwrap_or (option_map suc (position (λ p. starts_with nat_eq name p) r.prefixes)) 0
 
 abbrev pub is_better : Registry → Entry → Entry → Bool
 is_better r t s = nat_lt (priority r t.0) (priority r s.0)
@@ -60,7 +63,8 @@ pub record AreComponentNames (r : Registry) (names : List Name) : Type 0 where
 abbrev pub is_as_good : Registry → Entry → Entry → Bool
 is_as_good r t s = nat_eq (priority r s.0) (priority r t.0)
 
--- one of the templates before this one defines a component as well, is as good, and none of them is better
+-- one of the templates before this one defines a component as well, is as good,
+-- and none of them is better
 abbrev pub is_tie : Registry → List Entry → Entry → Name → Bool
 is_tie r before t name =
     let ds = filter (defines name) before in

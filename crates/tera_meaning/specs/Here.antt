@@ -10,8 +10,8 @@ use Rattle.tera_state.specs.View.{View}
 use Rattle.tera_objects.specs.Engine.{Engine}
 use Rattle.tera_objects.specs.Calling.{seen_in, filtered_by, tested_by, called_by}
 
--- what is fixed while nodes are rendered: the template in whose text they stand, what is around their variables, the
--- autoescape flag and the engine
+-- what is fixed while nodes are rendered: the template in whose text they stand,
+-- what is around their variables, the autoescape flag and the engine
 pub record HereOf (C : Type 0) : Type 0 where
   pub file : Name
   pub around : AroundOf C

@@ -14,7 +14,8 @@ pub record Definer : Type 0 where
 
 -- a template defines a block that stands anywhere in it
 abbrev pub definer_in : Name → Entry → Option Definer
-definer_in block t = option_map (λ b. record { file = t.0; body = b.1 }) (entry_at block (blocks t.1.tree.nodes))
+definer_in block t =
+    option_map (λ b. record { file = t.0; body = b.1 }) (entry_at block (blocks t.1.tree.nodes))
 
 -- the parents of a template that is accepted, nearest first
 abbrev pub ancestors : Registry → Entry → List Entry
@@ -27,7 +28,8 @@ abbrev pub definers_from : Registry → Name → Option Entry → List Definer
 definers_from r block None = []
 definers_from r block (Some t) = definers_in block (t ∷ ancestors r t)
 
--- Those that define a block for a template, nearest first. A text beside the registry is no template.
+-- Those that define a block for a template, nearest first.
+-- A text beside the registry is no template.
 abbrev pub definers : Registry → Option Name → Name → List Definer
 definers r None block = []
 definers r (Some template) block = definers_from r block (entry_at template r.templates)

@@ -45,7 +45,8 @@ module _ {C : Type 0} where
   if_kept false value = gives []
 
   -- the values of a comprehension; each item is a visit, and has a turn of its own
-  abbrev pub comprehension : MeaningOf C Bool → MeaningOf C (EvaluatedOf C) → List (TurnOf C) → MeaningOf C (List (ValOf C))
+  abbrev pub comprehension : MeaningOf C Bool → MeaningOf C (EvaluatedOf C) → List (TurnOf C)
+      → MeaningOf C (List (ValOf C))
   comprehension test value [] = gives []
   comprehension test value (t ∷ ts) =
       visit (changes (open_turn t)
@@ -71,7 +72,8 @@ module _ {C : Type 0} where
       ▹ λ _. after_turn signal (loop body ts))
 
   -- the loop, or the other body where there is no item
-  abbrev pub loop_or_else : MeaningOf C Signal → MeaningOf C Signal → List (TurnOf C) → MeaningOf C Signal
+  abbrev pub loop_or_else : MeaningOf C Signal → MeaningOf C Signal → List (TurnOf C)
+      → MeaningOf C Signal
   loop_or_else body other [] = other
   loop_or_else body other (t ∷ ts) = loop body (t ∷ ts)
 
@@ -85,7 +87,8 @@ put_out here fs t = record { value = text t here.autoescape; span = first_span f
 
 module _ {C : Type 0} (alphabet : Alphabet C) (here : HereOf C) (call : OracleOf C) where
   -- what a component puts out, where these are its attributes and the body that it is handed
-  abbrev pub component_meaning_in : site.Name → List (Option Key × EvaluatedOf C) → Option (ValOf C) → Span → MeaningOf C (EvaluatedOf C)
+  abbrev pub component_meaning_in : site.Name → List (Option Key × EvaluatedOf C)
+      → Option (ValOf C) → Span → MeaningOf C (EvaluatedOf C)
   component_meaning_in name all body span =
       answered (map_entries here.file all)
       ▹ λ given. asks call (AComponent name (named_arguments given) body span)
@@ -97,7 +100,8 @@ module _ {C : Type 0} (alphabet : Alphabet C) (here : HereOf C) (call : OracleOf
     expr_meaning_in (Boolean b span) = visit (value_at (bool b) span)
     expr_meaning_in (Integer z span) = visit (value_at (int z) span)
     expr_meaning_in (Text t span) = visit (value_at (text (alphabet.spelled made t) false) span)
-    expr_meaning_in (Name name span) = visit (reads (named_value name here.around) ▹ λ v. value_at v span)
+    expr_meaning_in (Name name span) =
+        visit (reads (named_value name here.around) ▹ λ v. value_at v span)
     expr_meaning_in (Attribute target name optional span) =
         visit (expr_meaning_in target ▹ λ a. answered (attribute_of here.file optional a name span))
     expr_meaning_in (Index target index optional span) =
@@ -118,9 +122,11 @@ module _ {C : Type 0} (alphabet : Alphabet C) (here : HereOf C) (call : OracleOf
         ▹ λ a. expr_meaning_in right
         ▹ λ b. answered (binary_in alphabet here.file operator a b span))
     expr_meaning_in (And left right span) =
-        visit (expr_meaning_in left ▹ λ a. if_else (truthy a.value) (expr_meaning_in right) (gives a))
+        visit (expr_meaning_in left
+        ▹ λ a. if_else (truthy a.value) (expr_meaning_in right) (gives a))
     expr_meaning_in (Or left right span) =
-        visit (expr_meaning_in left ▹ λ a. if_else (truthy a.value) (gives a) (expr_meaning_in right))
+        visit (expr_meaning_in left
+        ▹ λ a. if_else (truthy a.value) (gives a) (expr_meaning_in right))
     expr_meaning_in (Ternary value condition other span) =
         visit (expr_meaning_in condition
         ▹ λ c. if_else (truthy c.value) (expr_meaning_in value) (expr_meaning_in other))
@@ -130,7 +136,8 @@ module _ {C : Type 0} (alphabet : Alphabet C) (here : HereOf C) (call : OracleOf
         visit (entries_meaning_in entries ▹ λ all. answered (map_of here.file all span))
     expr_meaning_in (Comprehension value key name target condition span) =
         visit (expr_meaning_in target
-        ▹ λ a. answered (turns_of_in alphabet here (record { name = name; key = key; counts = false }) a)
+        ▹ λ a. answered
+        (turns_of_in alphabet here (record { name = name; key = key; counts = false }) a)
         ▹ λ turns. comprehension (condition_meaning_in condition) (expr_meaning_in value) turns
         ▹ λ vs. value_at (array (vals vs)) span)
     -- its text is safe
@@ -142,15 +149,19 @@ module _ {C : Type 0} (alphabet : Alphabet C) (here : HereOf C) (call : OracleOf
     expr_meaning_in (Filter value name arguments span) =
         visit (expr_meaning_in value
         ▹ λ a. arguments_meaning_in arguments
-        ▹ λ given. answered_at (λ v. filter_applied_by here.file (filtered_at alphabet here v name) a given span))
+        ▹ λ given. answered_at
+        (λ v. filter_applied_by here.file (filtered_at alphabet here v name) a given span))
     expr_meaning_in (Test value name arguments span) =
         visit (expr_meaning_in value
         ▹ λ a. arguments_meaning_in arguments
-        ▹ λ given. answered_at (λ v. test_applied_by here.file (tested_at alphabet here v name) a given span))
+        ▹ λ given. answered_at
+        (λ v. test_applied_by here.file (tested_at alphabet here v name) a given span))
     expr_meaning_in (Call name arguments span) =
         visit (arguments_meaning_in arguments
-        ▹ λ given. answered_at (λ v. function_called_by here.file (called_at alphabet here v name) given span))
-    -- Arguments go together as the entries of a map do. The text of a component is safe where autoescape is on.
+        ▹ λ given. answered_at
+        (λ v. function_called_by here.file (called_at alphabet here v name) given span))
+    -- Arguments go together as the entries of a map do.
+    -- The text of a component is safe where autoescape is on.
     expr_meaning_in (Component name attributes span) =
         visit (entries_meaning_in attributes ▹ λ all. component_meaning_in name all None span)
 
@@ -183,7 +194,8 @@ module _ {C : Type 0} (alphabet : Alphabet C) (here : HereOf C) (call : OracleOf
   filters_meaning_in NoFilters a = gives a
   filters_meaning_in (MoreFilters name arguments span rest) a =
       visit (arguments_meaning_in arguments
-      ▹ λ given. answered_at (λ v. filter_applied_by here.file (filtered_at alphabet here v name) a given span))
+      ▹ λ given. answered_at
+      (λ v. filter_applied_by here.file (filtered_at alphabet here v name) a given span))
       ▹ filters_meaning_in rest
 
   abbrev mutual
@@ -197,13 +209,15 @@ module _ {C : Type 0} (alphabet : Alphabet C) (here : HereOf C) (call : OracleOf
         visit (expr_meaning_in value ▹ λ a. changes (assign is_global name a.value))
     node_meaning_in (Capture name fs body is_global) =
         visit (captured (nodes_meaning_in body)
-        ▹ λ c. go_on c.0 (filters_meaning_in fs (put_out here fs c.1) ▹ λ a. changes (assign is_global name a.value)))
+        ▹ λ c. go_on c.0 (filters_meaning_in fs (put_out here fs c.1)
+        ▹ λ a. changes (assign is_global name a.value)))
     node_meaning_in (FilterSection fs body) =
         visit (captured (nodes_meaning_in body)
         ▹ λ c. go_on c.0 (filters_meaning_in fs (put_out here fs c.1) ▹ written_in alphabet here))
     node_meaning_in (For key name target body other) =
         visit (expr_meaning_in target
-        ▹ λ a. answered (turns_of_in alphabet here (record { name = name; key = key; counts = true }) a)
+        ▹ λ a. answered
+        (turns_of_in alphabet here (record { name = name; key = key; counts = true }) a)
         ▹ λ turns. loop_or_else (nodes_meaning_in body) (nodes_meaning_in other) turns)
     node_meaning_in (Block name body span) = visit (asks call (ABlock name span) ▹ writes)
     node_meaning_in (Include name span) = visit (asks call (AnInclude name span) ▹ writes)
@@ -218,7 +232,8 @@ module _ {C : Type 0} (alphabet : Alphabet C) (here : HereOf C) (call : OracleOf
 
     pub nodes_meaning_in : Nodes → MeaningOf C Signal
     nodes_meaning_in NoNodes = gives On
-    nodes_meaning_in (MoreNodes node rest) = node_meaning_in node ▹ λ signal. go_on signal (nodes_meaning_in rest)
+    nodes_meaning_in (MoreNodes node rest) =
+        node_meaning_in node ▹ λ signal. go_on signal (nodes_meaning_in rest)
 
 -- of texts of bytes: this is what runs
 abbrev pub output : Here → Evaluated → Result site.Text Fault

@@ -16,8 +16,8 @@ pub record Template : Type 0 where
 abbrev pub Entry : Type 0
 Entry = Name × Template
 
--- templates by name; before which a name is looked up that no template has; the ends of names of templates that escape;
--- what texts are read by; the global context and the engine
+-- templates by name; before which a name is looked up that no template has; the ends of names of
+-- templates that escape; what texts are read by; the global context and the engine
 pub record Registry : Type 0 where
   pub templates : Named Template
   pub prefixes : List Text

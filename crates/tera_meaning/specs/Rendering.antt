@@ -63,34 +63,56 @@ module _ {C : Type 0} (alphabet : Alphabet C) where
   outermost_in r context = outside (alphabet.all_handed context) (alphabet.all_handed r.global)
 
   abbrev pub one_off_place_in : Registry → Named Val → Bool → PlaceOf C
-  one_off_place_in r context autoescape =
-      record { template = None; file = one_off_name; around = outermost_in r context; autoescape = autoescape; depth = 0; included = []; opened = []; above = [] }
+  one_off_place_in r context autoescape = record {
+    template = None;
+    file = one_off_name;
+    around = outermost_in r context;
+    autoescape = autoescape;
+    depth = 0;
+    included = [];
+    opened = [];
+    above = [];
+  }
 
   abbrev pub one_off_meaning_in : Registry → Tree → Named Val → Bool → AnswerOf C Signal
   one_off_meaning_in r tree context autoescape =
-      meaning_in alphabet (beside r tree) (one_off_place_in r context autoescape) nothing_set tree.nodes
+      meaning_in alphabet (beside r tree)
+      (one_off_place_in r context autoescape) nothing_set tree.nodes
 
   -- the text of a tree that calls and includes nothing that is not there
   abbrev pub one_off_text_in : Registry → Tree → Named Val → Bool → Result (List C) Fault
   one_off_text_in r tree context autoescape =
-      if lacks_a_callee r.engine (is_component_beside r tree) tree.nodes || misses_an_include r tree.nodes then Err message else text_of (one_off_meaning_in r tree context autoescape)
+      if lacks_a_callee r.engine (is_component_beside r tree) tree.nodes
+      || misses_an_include r tree.nodes
+      then Err message
+      else text_of (one_off_meaning_in r tree context autoescape)
 
-  -- the reader's fault; a text beside the registry may extend no template, have no block, and call and include nothing that
-  -- is not there; else the text of what was read
+  -- the reader's fault; a text beside the registry may extend no template, have no block, and call
+  -- and include nothing that is not there; else the text of what was read
   abbrev pub render_str_in : Registry → Result Tree Fault → Named Val → Bool → Result (List C) Fault
   render_str_in r (Err fault) context autoescape = Err fault
   render_str_in r (Ok tree) context autoescape =
-      if is_some tree.parent || has_a_block tree.nodes then Err message else one_off_text_in r tree context autoescape
+      if is_some tree.parent || has_a_block tree.nodes then Err message
+      else one_off_text_in r tree context autoescape
 
-  -- Nodes stand in the text of the template that has no parent; blocks are put out and texts are escaped as for the template
-  -- that is rendered.
+  -- Nodes stand in the text of the template that has no parent; blocks are put out and texts are
+  -- escaped as for the template that is rendered.
   abbrev pub template_place_in : Registry → Entry → Named Val → PlaceOf C
-  template_place_in r t context =
-      record { template = Some t.0; file = (root r t).0; around = outermost_in r context; autoescape = autoescapes r t.0; depth = 0; included = []; opened = []; above = [] }
+  template_place_in r t context = record {
+    template = Some t.0;
+    file = (root r t).0;
+    around = outermost_in r context;
+    autoescape = autoescapes r t.0;
+    depth = 0;
+    included = [];
+    opened = [];
+    above = [];
+  }
 
   abbrev pub template_meaning_in : Registry → Entry → Named Val → AnswerOf C Signal
   template_meaning_in r t context =
-      meaning_in alphabet (alone r) (template_place_in r t context) nothing_set (root r t).1.tree.nodes
+      meaning_in alphabet (alone r)
+      (template_place_in r t context) nothing_set (root r t).1.tree.nodes
 
   abbrev pub render_template_in : Registry → Option Entry → Named Val → Result (List C) Fault
   render_template_in r None context = Err template_not_found
@@ -104,31 +126,40 @@ module _ {C : Type 0} (alphabet : Alphabet C) where
   block_among_in [] block answer = Err message
   block_among_in (d ∷ ds) block answer = block_of block answer
 
-  abbrev pub render_template_block_in : Registry → Option Entry → Name → Named Val → Result (List C) Fault
+  abbrev pub render_template_block_in : Registry → Option Entry → Name → Named Val
+      → Result (List C) Fault
   render_template_block_in r None block context = Err template_not_found
   render_template_block_in r (Some t) block context =
       block_among_in (definers r (Some t.0) block) block (template_meaning_in r t context)
 
-  -- The text of a block in the template to which a name resolves, as it ended last while all of the template was rendered.
-  -- A block that nobody defines is refused.
+  -- The text of a block in the template to which a name resolves, as it ended last while all of the
+  -- template was rendered. A block that nobody defines is refused.
   abbrev pub render_block_in : Registry → Name → Name → Named Val → Result (List C) Fault
   render_block_in r name block context = render_template_block_in r (resolve r name) block context
 
-  abbrev pub within_context_in : Registry → AroundOf C → Bool → Component → Option (Named (ValOf C)) → Result (List C) Fault
+  abbrev pub within_context_in : Registry → AroundOf C → Bool → Component
+      → Option (Named (ValOf C)) → Result (List C) Fault
   within_context_in r caller autoescape c None = Err message
   within_context_in r caller autoescape c (Some context) =
-      text_of (meaning_in alphabet (alone r) (place_of_component (in_component context caller nothing_set) autoescape 0 c.file) nothing_set c.body)
+      text_of (meaning_in alphabet (alone r)
+      (place_of_component (in_component context caller nothing_set) autoescape 0 c.file)
+      nothing_set c.body)
 
-  abbrev pub render_found_component_in : Registry → Option Component → Named Val → Named Val → Option Text → Bool → Result (List C) Fault
+  abbrev pub render_found_component_in : Registry → Option Component → Named Val → Named Val
+      → Option Text → Bool → Result (List C) Fault
   render_found_component_in r None given implicits body autoescape = Err component_not_found
   render_found_component_in r (Some c) given implicits body autoescape =
       let caller = outermost_in r implicits in
       let handed = option_map (λ t. alphabet.handed (text t true)) body in
-      within_context_in r caller autoescape c (component_context_in alphabet c.signature (alphabet.all_handed given) handed (λ name. look_implicit name caller nothing_set))
+      within_context_in r caller autoescape c
+      (component_context_in alphabet c.signature (alphabet.all_handed given) handed
+      (λ name. look_implicit name caller nothing_set))
 
-  -- The text of a component with these arguments. A body that is handed in is a safe text. Implicit parameters are looked up in
-  -- a state that has the implicits as its context, and the global context.
-  abbrev pub render_component_in : Registry → Name → Named Val → Named Val → Option Text → Bool → Result (List C) Fault
+  -- The text of a component with these arguments. A body that is handed in is a safe text. Implicit
+  -- parameters are looked up in a state that has the implicits as its context, and the global
+  -- context.
+  abbrev pub render_component_in : Registry → Name → Named Val → Named Val → Option Text → Bool
+      → Result (List C) Fault
   render_component_in r name given implicits body autoescape =
       render_found_component_in r (component r name) given implicits body autoescape
 
@@ -169,5 +200,6 @@ render_template_block = render_template_block_in plain
 abbrev pub render_block : Registry → Name → Name → Named Val → Result Text Fault
 render_block = render_block_in plain
 
-abbrev pub render_component : Registry → Name → Named Val → Named Val → Option Text → Bool → Result Text Fault
+abbrev pub render_component : Registry → Name → Named Val → Named Val → Option Text → Bool
+    → Result Text Fault
 render_component = render_component_in plain

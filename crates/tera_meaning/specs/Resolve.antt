@@ -25,17 +25,20 @@ abbrev pub onto : {A : Type 0} → A → Result (List A) Fault → Result (List 
 onto t (Ok ts) = Ok (t ∷ ts)
 onto t (Err fault) = Err fault
 
-abbrev pub or_missing : Option Entry → (Entry → Result (List Entry) Fault) → Result (List Entry) Fault
+abbrev pub or_missing : Option Entry → (Entry → Result (List Entry) Fault)
+    → Result (List Entry) Fault
 or_missing None go = Err missing_parent
 or_missing (Some t) go = go t
 
--- the way up from the name that a template extends, within so many steps, where names resolve like this
+-- the way up from the name that a template extends, within so many steps,
+-- where names resolve like this
 abbrev pub up : (Name → Option Entry) → ℕ → Option Name → Result (List Entry) Fault
 up find left None = Ok []
 up find zero (Some n) = Err circular_extend
 up find (suc left) (Some n) = or_missing (find n) (λ t. onto t (up find left t.1.tree.parent))
 
--- The parents of a template, nearest first. A way up with more steps than there are templates meets one a second time.
+-- The parents of a template, nearest first. A way up with more steps than there are templates
+-- meets one a second time.
 abbrev pub parents : Registry → Entry → Result (List Entry) Fault
 parents r t = up (resolve r) (length r.templates) t.1.tree.parent
 
@@ -47,6 +50,7 @@ abbrev pub last_of : Entry → List Entry → Entry
 last_of t [] = t
 last_of t (p ∷ ps) = last_of p ps
 
--- the template whose nodes a rendering begins with: the last of the parents, or the template itself where it has none
+-- the template whose nodes a rendering begins with: the last of the parents,
+-- or the template itself where it has none
 abbrev pub root : Registry → Entry → Entry
 root r t = last_of t (or_none (parents r t))

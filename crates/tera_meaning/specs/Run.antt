@@ -7,7 +7,8 @@ use Rattle.tera_values.specs.Val.{ValOf}
 use Rattle.tera_operators.specs.Operand.{EvaluatedOf}
 use Rattle.tera_state.specs.Scope.{VariablesOf}
 
--- what was done so far: the variables, the text that was written, and the blocks that ended, each with its text
+-- what was done so far: the variables, the text that was written, and the blocks that ended,
+-- each with its text
 pub record RunOf (C : Type 0) : Type 0 where
   pub vars : VariablesOf C
   pub text : List C
@@ -20,7 +21,8 @@ Run = RunOf ℕ
 abbrev pub begun : {C : Type 0} → VariablesOf C → RunOf C
 begun vars = record { vars = vars; text = []; blocks = [] }
 
--- how a list of nodes ends: to its end, or where `break` or `continue` ends the turn that it stands in
+-- how a list of nodes ends: to its end, or where `break` or `continue` ends the turn
+-- that it stands in
 pub data Signal : Type 0 where
   On : Signal
   Broke : Signal
@@ -113,13 +115,16 @@ pub data RequestOf (C : Type 0) : Type 0 where
   Above : (span : Span) → RequestOf C
   -- the template to which a name resolves, at the span of the name
   AnInclude : (name : Name) (span : Span) → RequestOf C
-  -- a component with these arguments in their order, and at will the body that it is handed, at the span of the call
-  AComponent : (name : Name) (given : List (Name × ValOf C)) (body : Option (ValOf C)) (span : Span) → RequestOf C
+  -- a component with these arguments in their order, and at will the body that it is handed,
+  -- at the span of the call
+  AComponent : (name : Name) (given : List (Name × ValOf C)) (body : Option (ValOf C)) (span : Span)
+      → RequestOf C
 
 abbrev pub Request : Type 0
 Request = RequestOf ℕ
 
--- the answer to a request: the text that was made, the variables after it, and the blocks that ended in it
+-- the answer to a request: the text that was made, the variables after it,
+-- and the blocks that ended in it
 abbrev pub OracleOf : Type 0 → Type 0
 OracleOf C = RequestOf C → VariablesOf C → AnswerOf C Signal
 

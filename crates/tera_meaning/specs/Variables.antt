@@ -16,7 +16,8 @@ use Rattle.tera_variables.specs.Free.{Names, nobody, ◌∪◌, free}
 abbrev pub in_one_of : {A : Type 0} → (A → Names) → List A → Names
 in_one_of names as' n = list_any (λ a. names a n) as'
 
--- the names that are free in the text of a template, or in one to which fewer than so many includes lead from it
+-- the names that are free in the text of a template, or in one to which fewer than so many
+-- includes lead from it
 unfoldable pub free_within : Registry → ℕ → Entry → Names
 free_within r zero t = nobody
 free_within r (suc k) t = free t.1.tree.nodes ∪ in_one_of (free_within r k) (includes_of r t)
@@ -32,8 +33,9 @@ if_given names n = given n && names n
 abbrev pub given_in : Entry → Names
 given_in t = if_given (free t.1.tree.nodes)
 
--- The names that are free in a template, in its parents, and in all that these include. A walk of as many includes as there are
--- templates meets one a second time, so that none of an accepted registry has as many.
+-- The names that are free in a template, in its parents, and in all that these include. A walk of
+-- as many includes as there are templates meets one a second time, so that none of an accepted
+-- registry has as many.
 abbrev pub variables : Registry → Entry → Names
 variables r t = if_given (in_one_of (free_within r (length r.templates)) (t ∷ ancestors r t))
 

@@ -26,11 +26,13 @@ pub record World : Type 0 where
 
 -- the component of a name: the registry's, else that of the text beside it
 abbrev pub component_at : World → Name → Option Component
-component_at w name = option_or (component w.registry name) (component_named one_off_name name w.beside)
+component_at w name =
+    option_or (component w.registry name) (component_named one_off_name name w.beside)
 
--- where a body stands, its variables apart: the template whose blocks are put out, the template in whose text the body is,
--- what is around it, the autoescape flag, how many components are open, the templates that are included and open in the
--- innermost of them, the blocks that are open, and those who define the block that runs above this one
+-- where a body stands, its variables apart: the template whose blocks are put out, the template in
+-- whose text the body is, what is around it, the autoescape flag, how many components are open, the
+-- templates that are included and open in the innermost of them, the blocks that are open, and
+-- those who define the block that runs above this one
 pub record PlaceOf (C : Type 0) : Type 0 where
   pub template : Option Name
   pub file : Name
@@ -47,9 +49,11 @@ pub data WayOf (C : Type 0) : Type 0 where
   Takes : (place : PlaceOf C) (vars : VariablesOf C) (body : Nodes) → WayOf C
 
 -- the body of the first of those who define a block, where these blocks are open then
-abbrev pub takes_definer : {C : Type 0} → PlaceOf C → List Name → VariablesOf C → Fault → List Definer → WayOf C
+abbrev pub takes_definer : {C : Type 0} → PlaceOf C → List Name → VariablesOf C → Fault
+    → List Definer → WayOf C
 takes_definer p opened v fault [] = Refuses fault
-takes_definer p opened v fault (d ∷ ds) = Takes (record p { file = d.file; opened = opened; above = ds }) v d.body
+takes_definer p opened v fault (d ∷ ds) =
+    Takes (record p { file = d.file; opened = opened; above = ds }) v d.body
 
 -- An include's body stands in a state of its own, which reads its includer, and has no block open.
 abbrev pub place_of_include : {C : Type 0} → PlaceOf C → VariablesOf C → Name → PlaceOf C
@@ -65,7 +69,8 @@ place_of_include p v name = record {
 }
 
 -- the template's own body, unless it is included and open already
-abbrev pub takes_template : {C : Type 0} → PlaceOf C → VariablesOf C → Fault → Option Entry → WayOf C
+abbrev pub takes_template : {C : Type 0} → PlaceOf C → VariablesOf C → Fault → Option Entry
+    → WayOf C
 takes_template p v fault None = Refuses fault
 takes_template p v fault (Some t) =
     if is_among t.0 p.included then Refuses fault
@@ -75,7 +80,8 @@ takes_template p v fault (Some t) =
 abbrev pub max_depth : ℕ
 max_depth = 20
 
--- A component's body stands in a state of its own, which reads nothing but its context, and has nothing else open.
+-- A component's body stands in a state of its own, which reads nothing but its context,
+-- and has nothing else open.
 abbrev pub place_of_component : {C : Type 0} → AroundOf C → Bool → ℕ → Name → PlaceOf C
 place_of_component around autoescape depth file = record {
   template = None;
@@ -89,36 +95,43 @@ place_of_component around autoescape depth file = record {
 }
 
 -- its body in this context, unless components are open too deep
-abbrev pub takes_context : {C : Type 0} → PlaceOf C → VariablesOf C → Component → Fault → Option (Named (ValOf C)) → WayOf C
+abbrev pub takes_context : {C : Type 0} → PlaceOf C → VariablesOf C → Component → Fault
+    → Option (Named (ValOf C)) → WayOf C
 takes_context p v c fault None = Refuses fault
 takes_context p v c fault (Some context) =
     if nat_lt p.depth max_depth
-    then Takes (place_of_component (in_component context p.around v) p.autoescape (suc p.depth) c.file) nothing_set c.body
+    then Takes
+    (place_of_component (in_component context p.around v) p.autoescape (suc p.depth) c.file)
+    nothing_set c.body
     else Refuses message
 
 -- implicit parameters are looked up in the place of the call
-abbrev pub takes_component : {C : Type 0} → Alphabet C → PlaceOf C → VariablesOf C → List (Name × ValOf C) → Option (ValOf C) → Fault → Option Component → WayOf C
+abbrev pub takes_component : {C : Type 0} → Alphabet C → PlaceOf C → VariablesOf C
+    → List (Name × ValOf C) → Option (ValOf C) → Fault → Option Component → WayOf C
 takes_component alphabet p v given body fault None = Refuses fault
 takes_component alphabet p v given body fault (Some c) =
-    takes_context p v c fault (component_context_in alphabet c.signature given body (λ name. look_implicit name p.around v))
+    takes_context p v c fault
+    (component_context_in alphabet c.signature given body (λ name. look_implicit name p.around v))
 
 abbrev pub fault_in : {C : Type 0} → PlaceOf C → Span → Fault
 fault_in p span = rendering_error (record { file = p.file; span = span })
 
--- Which body a request takes: one clause for each kind of request. A block that is open already, or that nobody defines, is
--- a fault; so is what stands above where no block runs or nobody above defines it, an include that is open already, and a
--- component whose arguments do not fit.
-abbrev pub way_in : {C : Type 0} → Alphabet C → World → PlaceOf C → RequestOf C → VariablesOf C → WayOf C
+-- Which body a request takes: one clause for each kind of request. A block that is open already, or
+-- that nobody defines, is a fault; so is what stands above where no block runs or nobody above
+-- defines it, an include that is open already, and a component whose arguments do not fit.
+abbrev pub way_in : {C : Type 0} → Alphabet C → World → PlaceOf C → RequestOf C → VariablesOf C
+    → WayOf C
 way_in alphabet w p (ABlock name span) v =
     if is_among name p.opened then Refuses (fault_in p span)
     else takes_definer p (name ∷ p.opened) v (fault_in p span) (definers w.registry p.template name)
 way_in alphabet w p (Above span) v = takes_definer p p.opened v (fault_in p span) p.above
-way_in alphabet w p (AnInclude name span) v = takes_template p v (fault_in p span) (resolve w.registry name)
+way_in alphabet w p (AnInclude name span) v =
+    takes_template p v (fault_in p span) (resolve w.registry name)
 way_in alphabet w p (AComponent name given body span) v =
     takes_component alphabet p v given body (fault_in p span) (component_at w name)
 
--- What is left of a body that was taken for a request, where these were the variables: one clause for each kind of request.
--- Of an include and of a component only the text is kept.
+-- What is left of a body that was taken for a request, where these were the variables: one clause
+-- for each kind of request. Of an include and of a component only the text is kept.
 abbrev pub left_of : {C : Type 0} → RequestOf C → VariablesOf C → RunOf C → RunOf C
 left_of (ABlock name span) v r = record r { blocks = r.blocks ++ (name, r.text) ∷ [] }
 left_of (Above span) v r = r
@@ -130,8 +143,12 @@ ends q v (Failed fault n) = Failed fault n
 ends q v (Gave signal r n) = Gave On (left_of q v r) n
 
 abbrev pub here_at : {C : Type 0} → World → PlaceOf C → HereOf C
-here_at w p =
-    record { file = p.file; around = p.around; autoescape = p.autoescape; engine = w.registry.engine }
+here_at w p = record {
+  file = p.file;
+  around = p.around;
+  autoescape = p.autoescape;
+  engine = w.registry.engine;
+}
 
 -- how many of the names are not in the second list
 abbrev pub not_among : List Name → List Name → ℕ
@@ -144,15 +161,16 @@ names ts = map (λ t. t.0) ts
 abbrev pub all_blocks : Registry → List Name
 all_blocks r = flat_map (λ t. block_names t.1.tree.nodes) r.templates
 
--- how many levels can be below a place: components that may still be open, at each templates that are not included, at each
--- blocks that are not open, and at each those who define it
+-- how many levels can be below a place: components that may still be open, at each templates that
+-- are not included, at each blocks that are not open, and at each those who define it
 abbrev pub rank : {C : Type 0} → World → PlaceOf C → ℕ
 rank w p =
     let r = w.registry in
     let templates = not_among (names r.templates) p.included in
     let blocks = not_among (all_blocks r) p.opened in
     let bodies = (max_depth - p.depth) * suc (length r.templates) + templates in
-    (bodies * suc (length (all_blocks r)) + blocks) * suc (suc (length r.templates)) + length p.above
+    (bodies * suc (length (all_blocks r)) + blocks) * suc (suc (length r.templates))
+    + length p.above
 
 -- the meaning of the requests of each place
 abbrev pub FamilyOf : Type 0 → Type 0
@@ -161,7 +179,8 @@ FamilyOf C = PlaceOf C → OracleOf C
 module _ {C : Type 0} (alphabet : Alphabet C) (w : World) where
   -- a body in its place; taking it counts as a visit
   abbrev pub body_meaning_in : OracleOf C → PlaceOf C → VariablesOf C → Nodes → AnswerOf C Signal
-  body_meaning_in call p v body = visit (nodes_meaning_in alphabet (here_at w p) call body) (begun v)
+  body_meaning_in call p v body =
+      visit (nodes_meaning_in alphabet (here_at w p) call body) (begun v)
 
   abbrev pub along : FamilyOf C → RequestOf C → VariablesOf C → WayOf C → AnswerOf C Signal
   along go q v (Refuses fault) = Failed fault 0
@@ -206,4 +225,5 @@ meaning w = meaning_in plain w
 -- the whole meaning is its own level
 abbrev pub MeaningUnrolls : Type 0
 MeaningUnrolls =
-    (w : World) (p : Place) (q : Request) (v : Variables) → whole w p q v ≡ level plain w (whole w) p q v
+    (w : World) (p : Place) (q : Request) (v : Variables)
+    → whole w p q v ≡ level plain w (whole w) p q v

@@ -17,7 +17,8 @@ abbrev pub chosen : BTreeMap (String Global) Choice Global → Name → Option C
 chosen = get_by_text
 
 -- it is what stands at some name
-pub record IsTaken (choices : BTreeMap (String Global) Choice Global) (choice : Choice) : Type 0 where
+pub record IsTaken (choices : BTreeMap (String Global) Choice Global)
+    (choice : Choice) : Type 0 where
   pub name : Name
   pub is : chosen choices name ≡ Some choice
 
@@ -35,11 +36,15 @@ abbrev pub is_tied : Option Choice → ℕ → Bool
 is_tied None p = false
 is_tied (Some old) p = nat_eq old.priority p
 
--- what is taken of a name after these definitions of the template at a place, the first of which has this number
+-- what is taken of a name after these definitions of the template at a place,
+-- the first of which has this number
 abbrev pub chosen_in : Name → ℕ → ℕ → ℕ → List Name → Option Choice → Option Choice
 chosen_in name place p k [] old = old
 chosen_in name place p k (n ∷ ns) old =
-    chosen_in name place p (suc k) ns (if bytes_eq name n then better_choice old (record { template = place; component = k; priority = p }) else old)
+    chosen_in name place p (suc k) ns
+    (if bytes_eq name n
+    then better_choice old (record { template = place; component = k; priority = p })
+    else old)
 
 -- what is taken of a name after all these components of the template at a place
 abbrev pub chosen_among : Name → ℕ → ℕ → List Component → Option Choice → Option Choice
@@ -49,7 +54,8 @@ chosen_among name place p components = chosen_in name place p 0 (kept_names comp
 abbrev pub chosen_from : Registry → Name → ℕ → List Entry → Option Choice → Option Choice
 chosen_from r name place [] old = old
 chosen_from r name place (t ∷ ts) old =
-    chosen_from r name (suc place) ts (chosen_in name place (priority r t.0) 0 (component_names t.1.tree.nodes) old)
+    chosen_from r name (suc place) ts
+    (chosen_in name place (priority r t.0) 0 (component_names t.1.tree.nodes) old)
 
 -- what is taken of a name
 abbrev pub chosen_of : Registry → Name → Option Choice

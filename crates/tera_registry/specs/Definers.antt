@@ -71,9 +71,11 @@ IsFirst r (Some at) ds = (ds ≡ from_place r at) × (is_none_left ds ≡ false)
 
 -- each template has all its parents
 pub record Grounded (r : Registry) : Type 0 where
-  pub each : (i : ℕ) (t : Entry) → slice_get r.templates i ≡ Some t → parents r t ≡ Ok (ancestors r t)
+  pub each : (i : ℕ) (t : Entry) → slice_get r.templates i ≡ Some t
+      → parents r t ≡ Ok (ancestors r t)
 
--- these are the templates of a registry in which each has all its parents, and this is what each extends
+-- these are the templates of a registry in which each has all its parents,
+-- and this is what each extends
 pub record Climbable (r : Registry) (ts : List (Rc Stored Global)) (ups : List Up) : Type 0 where
   pub same : entries_of ts ≡ r.templates
   pub above : AreUps r ups (length r.templates)

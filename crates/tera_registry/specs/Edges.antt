@@ -17,7 +17,8 @@ AreThere places many = (k : ℕ) → k < length places → slice_index_or places
 pub record AreEdges (r : Registry) (edges : List (List ℕ)) (many : ℕ) : Type 0 where
   pub as_many : length edges ≡ many
   pub inside : (i k : ℕ) → k < length (targets edges i) → target edges i k < length r.templates
-  pub those : (i : ℕ) (t : Entry) → i < many → slice_get r.templates i ≡ Some t → all_at r.templates (targets edges i) ≡ includes_of r t
+  pub those : (i : ℕ) (t : Entry) → i < many → slice_get r.templates i ≡ Some t
+      → all_at r.templates (targets edges i) ≡ includes_of r t
 
 -- there stands the first template that leads into a circle, or nowhere where none does
 abbrev pub IsFirstCircle : Registry → Option ℕ → Type 0

@@ -16,7 +16,8 @@ use Rattle.tera_registry.specs.Choices.{chosen}
 
 -- whether a component is taken of a name, or is one of these
 abbrev pub is_there : BTreeMap (String Global) Choice Global → List Component → Name → Bool
-is_there choices own name = is_some (chosen choices name) || list_any (λ c. bytes_eq name c.definition.name) own
+is_there choices own name =
+    is_some (chosen choices name) || list_any (λ c. bytes_eq name c.definition.name) own
 
 abbrev pub is_missing : Engine → (Name → Bool) → Option Callee → Bool
 is_missing engine there None = false

@@ -22,9 +22,13 @@ AreLinks to = AreRight (seen to.templates.now to.prefixes.now) to.choices.now
 
 -- and so are all in this table
 abbrev pub AreTables : Targets → LinkTable → Type 0
-AreTables to table = AreAllRight (seen to.templates.now to.prefixes.now) to.choices.now table.bodies.items
+AreTables to table =
+    AreAllRight (seen to.templates.now to.prefixes.now) to.choices.now table.bodies.items
 
--- Where all links of a table are right, what is found of a name in it, if something is, is where the name leads.
+-- Where all links of a table are right, what is found of a name in it, if something is,
+-- is where the name leads.
 abbrev pub FoundLeads : {X : Type 0} → (X → Destination) → LinkTable → Name → Option X → Type 0
 FoundLeads to table name found =
-    (r : Registry) (choices : BTreeMap (String Global) Choice Global) → AreAllRight r choices table.bodies.items → IfSome found (λ x. LeadsTo r choices name (to x))
+    (r : Registry) (choices : BTreeMap (String Global) Choice Global)
+    → AreAllRight r choices table.bodies.items
+    → IfSome found (λ x. LeadsTo r choices name (to x))

@@ -25,12 +25,14 @@ climbed r = unless_faulty r (first_fault r [] r.templates)
 abbrev pub IsUp : Registry → Up → Option Name → Type 0
 IsUp r up.Nothing parent = parent ≡ None
 IsUp r up.Missing parent = (n : Name) × (parent ≡ Some n) × (resolve r n ≡ None)
-IsUp r (up.At i) parent = (n : Name) × (parent ≡ Some n) × IsPlace r.templates (Some i) (resolve r n)
+IsUp r (up.At i) parent =
+    (n : Name) × (parent ≡ Some n) × IsPlace r.templates (Some i) (resolve r n)
 
 -- these are those of the first so many templates
 pub record AreUps (r : Registry) (ups : List Up) (many : ℕ) : Type 0 where
   pub as_many : length ups ≡ many
-  pub those : (i : ℕ) (u : Up) (t : Entry) → slice_get ups i ≡ Some u → slice_get r.templates i ≡ Some t → IsUp r u t.1.tree.parent
+  pub those : (i : ℕ) (u : Up) (t : Entry) → slice_get ups i ≡ Some u
+      → slice_get r.templates i ≡ Some t → IsUp r u t.1.tree.parent
 
 -- the name of the template at the place of what one extends, where it extends something
 abbrev pub name_at : List Entry → Up → Option (Option Name)
@@ -42,21 +44,25 @@ name_at ts (up.At i) = Some (slice_get (map (λ t. t.0) ts) i)
 abbrev pub name_above : Registry → Option Name → Option (Option Name)
 name_above r = option_map (λ n. option_map (λ t. t.0) (resolve r n))
 
--- These are those of all templates, said by names: where a template extends one, that one stands at the place. Names are
--- enough, since no two templates share one.
+-- These are those of all templates, said by names: where a template extends one, that one stands at
+-- the place. Names are enough, since no two templates share one.
 pub record ArePlaced (r : Registry) (ups : List Up) : Type 0 where
   pub as_many : length ups ≡ length r.templates
   pub inside : (i j : ℕ) → slice_get ups i ≡ Some (up.At j) → j < length r.templates
-  pub those : (i : ℕ) (u : Up) (t : Entry) → slice_get ups i ≡ Some u → slice_get r.templates i ≡ Some t → name_at r.templates u ≡ name_above r t.1.tree.parent
+  pub those : (i : ℕ) (u : Up) (t : Entry) → slice_get ups i ≡ Some u
+      → slice_get r.templates i ≡ Some t
+      → name_at r.templates u ≡ name_above r t.1.tree.parent
 
 -- what they name is there
 pub record Inside (ups : List Up) : Type 0 where
   pub inside : (i j : ℕ) → slice_get ups i ≡ Some (up.At j) → j < length ups
 
--- These are the parents, nearest first, for what a template extends: each extends the next, and the last nothing.
+-- These are the parents, nearest first, for what a template extends: each extends the next,
+-- and the last nothing.
 abbrev pub IsChain : Registry → Option Name → List Entry → Type 0
 IsChain r parent [] = parent ≡ None
-IsChain r parent (p ∷ ps) = (n : Name) × (parent ≡ Some n) × (resolve r n ≡ Some p) × IsChain r p.1.tree.parent ps
+IsChain r parent (p ∷ ps) =
+    (n : Name) × (parent ≡ Some n) × (resolve r n ≡ Some p) × IsChain r p.1.tree.parent ps
 
 -- that is at the top above a template
 pub record Stands (r : Registry) (t : Entry) (top : Top) : Type 0 where
@@ -72,21 +78,26 @@ IsTop r t (Err e) = Says e (parents r t)
 
 -- of some templates it is known what is at the top
 pub record AreTops (r : Registry) (tops : List (Option Top)) : Type 0 where
-  pub those : (i : ℕ) (top : Top) (t : Entry) → slice_get tops i ≡ Some (Some top) → slice_get r.templates i ≡ Some t → Stands r t top
+  pub those : (i : ℕ) (top : Top) (t : Entry) → slice_get tops i ≡ Some (Some top)
+      → slice_get r.templates i ≡ Some t → Stands r t top
 
 -- a top from so many steps below it, or a fault where that is too far
 abbrev pub IsFurther : Top → ℕ → ℕ → Result Top SeenError → Type 0
-IsFurther top steps most (Ok far) = (far.root ≡ top.root) × (far.parents ≡ steps + top.parents) × (far.parents ≤ most)
+IsFurther top steps most (Ok far) =
+    (far.root ≡ top.root) × (far.parents ≡ steps + top.parents) × (far.parents ≤ most)
 IsFurther top steps most (Err e) = (e ≡ Some circular_extend) × (most < steps + top.parents)
 
 -- these are the places of the roots of the first so many templates
 pub record AreRoots (r : Registry) (roots : List ℕ) (many : ℕ) : Type 0 where
   pub as_many : length roots ≡ many
-  pub those : (i k : ℕ) (t : Entry) → slice_get roots i ≡ Some k → slice_get r.templates i ≡ Some t → slice_get r.templates k ≡ Some (root r t)
+  pub those : (i k : ℕ) (t : Entry) → slice_get roots i ≡ Some k → slice_get r.templates i ≡ Some t
+      → slice_get r.templates k ≡ Some (root r t)
 
 -- the code at the place of each template's root is that of its root
-pub record IsLinked (ts : List (Rc Stored Global)) (ps : List (String Global)) (roots : List ℕ) : Type 0 where
+pub record IsLinked (ts : List (Rc Stored Global)) (ps : List (String Global))
+    (roots : List ℕ) : Type 0 where
   pub as_many : length roots ≡ length ts
   pub inside : (i k : ℕ) → slice_get roots i ≡ Some k → k < length ts
-  pub those : (i k : ℕ) (t : Entry) (u : Rc Stored Global) → slice_get roots i ≡ Some k → slice_get (entries_of ts) i ≡ Some t → slice_get ts k ≡ Some u
+  pub those : (i k : ℕ) (t : Entry) (u : Rc Stored Global) → slice_get roots i ≡ Some k
+      → slice_get (entries_of ts) i ≡ Some t → slice_get ts k ≡ Some u
       → u.value.body ≡ listing_of (root (seen ts ps) t).0 (root (seen ts ps) t).1.tree.nodes

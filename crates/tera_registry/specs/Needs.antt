@@ -63,4 +63,5 @@ code_needs = filter_map needed_by
 -- what the code of a body needs, then that of blocks, then that of components
 abbrev pub bodies_need : Listing → List Block → List Component → List Need
 bodies_need body blocks components =
-    (code_needs body.code ++ flat_map (λ b. code_needs b.code.code) blocks) ++ flat_map (λ c. code_needs c.code.code) components
+    (code_needs body.code ++ flat_map (λ b. code_needs b.code.code) blocks)
+    ++ flat_map (λ c. code_needs c.code.code) components

@@ -14,20 +14,24 @@ use Rattle.tera_registry.specs.declared.links.Destination.TheVariants as destina
 use Rattle.tera_registry.specs.declared.links.Link.{Link}
 use Rattle.tera_registry.specs.Choices.{chosen}
 
--- What a name leads to: the place of the template to which it resolves, said by names, since no two templates share one; or
--- what is taken of the component.
+-- What a name leads to: the place of the template to which it resolves, said by names,
+-- since no two templates share one; or what is taken of the component.
 abbrev pub LeadsTo : Registry → BTreeMap (String Global) Choice Global → Name → Destination → Type 0
 LeadsTo r choices name (destination.Template place) =
-    (slice_get (map (λ t. t.0) r.templates) place ≡ option_map (λ t. t.0) (resolve r name)) × (place < length r.templates)
+    (slice_get (map (λ t. t.0) r.templates) place ≡ option_map (λ t. t.0) (resolve r name))
+    × (place < length r.templates)
 LeadsTo r choices name (destination.Component taken) = chosen choices name ≡ Some taken
 
-pub LeadsTo-prop : (r : Registry) (choices : BTreeMap (String Global) Choice Global) (name : Name) (to : Destination) → IsProp (LeadsTo r choices name to)
+pub LeadsTo-prop : (r : Registry) (choices : BTreeMap (String Global) Choice Global) (name : Name)
+    (to : Destination) → IsProp (LeadsTo r choices name to)
 LeadsTo-prop r choices name (destination.Template place) = Prim.hlevel codes
-LeadsTo-prop r choices name (destination.Component taken) = Prim.hlevel (codes, choice.the_row.coded)
+LeadsTo-prop r choices name (destination.Component taken) =
+    Prim.hlevel (codes, choice.the_row.coded)
 
 -- each of these leads to what its name stands for
 abbrev pub AreRight : Registry → BTreeMap (String Global) Choice Global → List Link → Type 0
 AreRight r choices = All (λ l. LeadsTo r choices l.name l.to)
 
-abbrev pub AreAllRight : Registry → BTreeMap (String Global) Choice Global → List (Vec Link Global) → Type 0
+abbrev pub AreAllRight : Registry → BTreeMap (String Global) Choice Global
+    → List (Vec Link Global) → Type 0
 AreAllRight r choices = All (λ links. AreRight r choices links.items)

@@ -31,7 +31,8 @@ is_empty (a ∷ as') = false
 abbrev pub with_templates : Registry → Templates → Registry
 with_templates r t = record r { templates = templates_of t; prefixes = prefixes_of t }
 
--- what is found is the template: its name, the code of the nodes that a rendering of it begins with, and that of its own
+-- what is found is the template: its name, the code of the nodes that a rendering of it begins
+-- with, and that of its own
 pub record Leads (r : Registry) (name : Name) (found : FoundTemplate) : Type 0 where
   pub entry : Entry
   pub resolves : resolve r name ≡ Some entry
@@ -52,7 +53,8 @@ registry_in t = seen t.all.items t.prefixes.items
 abbrev pub started : Option Start → List Definer
 started None = []
 started (Some s) =
-    cond s.is_above (above_place (registry_in s.templates.now) s.at) (from_place (registry_in s.templates.now) s.at)
+    cond s.is_above (above_place (registry_in s.templates.now) s.at)
+    (from_place (registry_in s.templates.now) s.at)
 
 -- those who define a block, nearest first
 abbrev pub definers_of : Definers → List Definer
@@ -69,7 +71,8 @@ abbrev pub AreNext : List Definer → Option Nearest → Type 0
 AreNext ds None = ds ≡ []
 AreNext ds (Some nearest) = IsNearest ds nearest
 
--- what is found of a component is what its signature says, and the code of its body in the text of its template
+-- what is found of a component is what its signature says, and the code of its body in the text of
+-- its template
 pub record IsKept (c : Component) (found : Defined) : Type 0 where
   pub given : found.definition.now ≡ definition_of c.signature
   pub code : found.chunk.now ≡ listing_of c.file c.body

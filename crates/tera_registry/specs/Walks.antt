@@ -28,21 +28,25 @@ pub record Closed (edges : List (List ℕ)) : Type 0 where
 abbrev pub is_ended : List Bool → ℕ → Bool
 is_ended ends i = slice_index_or ends i false
 
--- What a search knows: of some numbers that their walks end, and of each number how many of its first edges lead to such.
--- The walks of those have fewer edges than there are of them.
+-- What a search knows: of some numbers that their walks end, and of each number how many of its
+-- first edges lead to such. The walks of those have fewer edges than there are of them.
 pub record Explored (edges : List (List ℕ)) (passed : List ℕ) (ends : List Bool) : Type 0 where
   pub all_passed : length passed ≡ length edges
   pub all_ends : length ends ≡ length edges
   pub inside : (i k : ℕ) → k < length (targets edges i) → target edges i k < length edges
   pub within : (i : ℕ) → slice_index_or passed i 0 ≤ length (targets edges i)
-  pub passed_end : (i k : ℕ) → k < slice_index_or passed i 0 → is_ended ends (target edges i k) ≡ true
+  pub passed_end : (i k : ℕ) → k < slice_index_or passed i 0
+      → is_ended ends (target edges i k) ≡ true
   pub no_walk : (i : ℕ) → is_ended ends i ≡ true → has_walk edges (count_by (λ b. b) ends) i ≡ false
 
--- whether a walk of a number has as many edges as there are numbers, so that it comes to one a second time
+-- whether a walk of a number has as many edges as there are numbers,
+-- so that it comes to one a second time
 abbrev pub circles : List (List ℕ) → ℕ → Bool
 circles edges i = has_walk edges (length edges) i
 
 -- the least number that has such a walk, or none where no number has one
 abbrev pub IsLeastCircle : List (List ℕ) → Option ℕ → Type 0
 IsLeastCircle edges None = (i : ℕ) → i < length edges → circles edges i ≡ false
-IsLeastCircle edges (Some c) = (c < length edges) × (circles edges c ≡ true) × ((i : ℕ) → i < c → circles edges i ≡ false)
+IsLeastCircle edges (Some c) =
+    (c < length edges) × (circles edges c ≡ true)
+    × ((i : ℕ) → i < c → circles edges i ≡ false)

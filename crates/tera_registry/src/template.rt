@@ -42,13 +42,19 @@ pub struct Template {
     /// What it calls that is not built in. Whether that is there is looked up when templates are linked.
     pub needs: Vec<Need>,
     pub meant: Meant,
-    ghost compiled: { body ≡ listing_of (string_bytes name) (nodes_of meant.nodes) } by { Coded-set body-code _ _ },
+    ghost compiled: { body
+        ≡ listing_of (string_bytes name) (nodes_of meant.nodes) } by { Coded-set body-code _ _ },
     ghost divided: { map block_of blocks.items
-        ≡ block_listings (string_bytes name) (in_tree.blocks (nodes_of meant.nodes)) } by { Prim.hlevel (codes, chunk.the_row.coded) },
+        ≡ block_listings (string_bytes name)
+        (in_tree.blocks (nodes_of meant.nodes)) } by { Prim.hlevel (codes, chunk.the_row.coded) },
     ghost defined: { map kept.kept_of components.items
-        ≡ kept.kept_all (string_bytes name) (nodes_of meant.nodes) } by { Prim.hlevel (codes, definition_code, chunk.the_row.coded) },
-    ghost needing: { needs.items ≡ needs_of (nodes_of meant.nodes) } by { Prim.hlevel (codes, need.the_row.coded) },
-    ghost included: { includes.items ≡ in_nodes.includes (nodes_of meant.nodes) } by { Prim.hlevel codes },
+        ≡ kept.kept_all (string_bytes name) (nodes_of meant.nodes) } by { Prim.hlevel
+            (codes, definition_code, chunk.the_row.coded) },
+    ghost needing: { needs.items
+        ≡ needs_of (nodes_of meant.nodes) } by { Prim.hlevel (codes, need.the_row.coded) },
+    ghost included: { includes.items
+        ≡ in_nodes.includes (nodes_of meant.nodes) } by { Prim.hlevel codes },
     ghost freed: { names_in free ≡ in_text.free (nodes_of meant.nodes) } by { Prim.hlevel codes },
-    ghost topped: { tops.items ≡ in_tree.top_blocks (nodes_of meant.nodes) } by { Prim.hlevel codes },
+    ghost topped: { tops.items
+        ≡ in_tree.top_blocks (nodes_of meant.nodes) } by { Prim.hlevel codes },
 }

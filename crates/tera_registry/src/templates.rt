@@ -49,11 +49,15 @@ pub struct Templates {
     /// What each include and each call of a component leads to, found once as well.
     links: LinkTable,
     ghost rises: { Rises (entries_of all.items) } by { Rises-prop _ },
-    ghost faultless: { first_fault (seen all.items prefixes.items) [] (entries_of all.items) ≡ None },
+    ghost faultless: { first_fault (seen all.items prefixes.items) [] (entries_of all.items)
+        ≡ None },
     ghost placed: { ArePlaced (seen all.items prefixes.items) ups.items } by { Prim.hlevel codes },
-    ghost linked: { IsLinked all.items prefixes.items roots.items } by { Prim.hlevel (codes, chunk.the_row.coded) },
-    ghost chosen: { AreChosen (seen all.items prefixes.items) choices } by { Prim.hlevel (codes, choice.the_row.coded) },
-    ghost right: { AreAllRight (seen all.items prefixes.items) choices links.bodies.items } by { Prim.hlevel LeadsTo-prop },
+    ghost linked: { IsLinked all.items prefixes.items roots.items } by { Prim.hlevel
+        (codes, chunk.the_row.coded) },
+    ghost chosen: { AreChosen (seen all.items prefixes.items) choices } by { Prim.hlevel
+        (codes, choice.the_row.coded) },
+    ghost right: { AreAllRight (seen all.items prefixes.items) choices
+        links.bodies.items } by { Prim.hlevel LeadsTo-prop },
 }
 
 // By hand, so that templates that go out of scope are one call.

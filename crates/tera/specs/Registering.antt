@@ -9,7 +9,8 @@ use Rattle.tera_meaning.specs.Registry.{Registry}
 abbrev pub with_engine : (Engine → Engine) → Registry → Registry
 with_engine change r = record r { engine = change r.engine }
 
--- how a call ends that moves what another engine has: with all of it, or for want of memory with the first of it
+-- how a call ends that moves what another engine has: with all of it,
+-- or for want of memory with the first of it
 abbrev pub MovesFrom : Result (Unit {0}) SeenError → Engine → Registry → Registry → Type 0
 MovesFrom (Ok u) other old new = new ≡ with_engine (with_those_of other) old
 MovesFrom (Err (Some fault)) other old new = ⊥

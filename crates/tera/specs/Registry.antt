@@ -113,7 +113,9 @@ is_there w name = is_some (component_at w name)
 -- the text of a body that calls and includes nothing that is not there
 abbrev pub one_off_meant : Subject → Result Text Fault
 one_off_meant s =
-    if lacks_a_callee s.world.registry.engine (is_there s.world) s.tree || misses_an_include s.world.registry s.tree then Err message
+    if lacks_a_callee s.world.registry.engine (is_there s.world) s.tree
+    || misses_an_include s.world.registry s.tree
+    then Err message
     else text_meant s
 
 -- and the text that a block has when it ends last in it

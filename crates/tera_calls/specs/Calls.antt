@@ -26,8 +26,9 @@ Answer = Result (Unit {0}) SeenError
 
 -- where the objects of calls mean this
 module _ {E F T G : Type 0} (objects : Meanings E F T G) where
-  -- How a call ends: with the registry that it makes of the one before, or with a refusal, for its fault or for want of memory, and
-  -- the one before. Only the places of syntax errors are left open, and how far `register_from` came before memory ran out.
+  -- How a call ends: with the registry that it makes of the one before, or with a refusal, for its
+  -- fault or for want of memory, and the one before. Only the places of syntax errors are left
+  -- open, and how far `register_from` came before memory ran out.
   abbrev pub Ends : CallOver E F T G → Answer → Registry → Registry → Type 0
   Ends (SetDelimiters delimiters) answer now next =
       Configures answer (with_delimiters (delimiters_of delimiters) now) now next
@@ -46,12 +47,15 @@ module _ {E F T G : Type 0} (objects : Meanings E F T G) where
   Ends ResetEscapeFn answer now next =
       Configures answer (Ok (with_engine (with_escape escape_html) now)) now next
   Ends (RegisterFilter name filter) answer now next =
-      Configures answer (Ok (with_engine (with_filter name.now (objects.filter filter)) now)) now next
+      Configures answer
+      (Ok (with_engine (with_filter name.now (objects.filter filter)) now)) now next
   Ends (RegisterTest name test) answer now next =
       Configures answer (Ok (with_engine (with_test name.now (objects.test test)) now)) now next
   Ends (RegisterFunction name function) answer now next =
-      Configures answer (Ok (with_engine (with_function name.now (objects.function function)) now)) now next
-  Ends (RegisterFrom other) answer now next = MovesFrom answer (engine_of objects other.objects) now next
+      Configures answer
+      (Ok (with_engine (with_function name.now (objects.function function)) now)) now next
+  Ends (RegisterFrom other) answer now next =
+      MovesFrom answer (engine_of objects other.objects) now next
 
   -- Calls in turn, with their answers, lead from one registry to another.
   abbrev pub Leads : Registry → List (CallOver E F T G) → List Answer → Registry → Type 0

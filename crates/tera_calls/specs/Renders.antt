@@ -16,10 +16,12 @@ use Rattle.tera.specs.Rendering.{OneOff, ByName, BlockByName, ComponentByName}
 use Rattle.tera_calls.specs.declared.rendering.Rendering.{Rendering}
 use Rattle.tera_calls.specs.declared.rendering.Rendering.TheVariants as rendering
 
--- What the reader may answer of a text beside the registry: its tree, or its syntax error. Nothing else is read.
+-- What the reader may answer of a text beside the registry: its tree, or its syntax error.
+-- Nothing else is read.
 abbrev pub IsReading : Registry → Rendering → Result Tree Fault → Type 0
 IsReading r (rendering.Template name context) reading = Unit {0}
-IsReading r (rendering.Text input context autoescape) reading = Reads one_off_name r.delimiters input.now reading
+IsReading r (rendering.Text input context autoescape) reading =
+    Reads one_off_name r.delimiters input.now reading
 IsReading r (rendering.Block name block context) reading = Unit {0}
 IsReading r (rendering.Component name args implicits body autoescape) reading = Unit {0}
 
@@ -27,8 +29,10 @@ IsReading r (rendering.Component name args implicits body autoescape) reading = 
 module _ {C : Type 0} (alphabet : Alphabet C) where
   abbrev pub meaning_in : Registry → Result Tree Fault → Rendering → Result (List C) Fault
   meaning_in r reading (rendering.Template name context) = render_in alphabet r name.now context.now
-  meaning_in r reading (rendering.Text input context autoescape) = render_str_in alphabet r reading context.now autoescape
-  meaning_in r reading (rendering.Block name block context) = render_block_in alphabet r name.now block.now context.now
+  meaning_in r reading (rendering.Text input context autoescape) =
+      render_str_in alphabet r reading context.now autoescape
+  meaning_in r reading (rendering.Block name block context) =
+      render_block_in alphabet r name.now block.now context.now
   meaning_in r reading (rendering.Component name args implicits body autoescape) =
       render_component_in alphabet r name.now args.now implicits.now (lent_text body) autoescape
 
@@ -48,13 +52,15 @@ escapes r (rendering.Text input context autoescape) = autoescape
 escapes r (rendering.Block name block context) = found_escapes r (resolve r name.now)
 escapes r (rendering.Component name args implicits body autoescape) = autoescape
 
--- What a rendering may answer: exactly what it means; and where texts are escaped, by `escape_html`, the meaning at marked
--- characters is that answer with its marks, in which each of < > " ' comes from template text or a value marked safe.
+-- What a rendering may answer: exactly what it means; and where texts are escaped, by
+-- `escape_html`, the meaning at marked characters is that answer with its marks, in which each of
+-- < > " ' comes from template text or a value marked safe.
 pub record Renders (r : Registry) (call : Rendering) (answer : Result Text Fault) : Type 0 where
   pub reading : Result Tree Fault
   pub read : IsReading r call reading
   pub exact : answer ≡ meaning r reading call
-  pub origin : IsTrue (escapes r call) → r.engine.escape ≡ escape_html → Traces (meaning_in marking r reading call) answer
+  pub origin : IsTrue (escapes r call) → r.engine.escape ≡ escape_html
+      → Traces (meaning_in marking r reading call) answer
 
 -- the same, as the engine's own calls say it
 abbrev pub Answers : Registry → Rendering → Result Text Fault → Type 0

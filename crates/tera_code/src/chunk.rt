@@ -238,12 +238,13 @@ impl Chunk {
     #[inline(always)]
     pub(crate) fn emit(
         &mut self,
+        alloc: Global,
         seen: &mut Seen,
         instruction: Instruction<'_>,
     ) -> Result<(), AllocError>
         ensures { OnOk result (self.new ≡ lengthened self.old (instruction.entry ∷ [])) }
     {
-        let packed = self.tables.pack(seen, instruction)?;
+        let packed = self.tables.pack(alloc, seen, instruction)?;
         self.code.push(packed)?;
         Ok(())
     }
@@ -265,6 +266,7 @@ impl Chunk {
     #[inline(always)]
     pub(crate) fn emit_name(
         &mut self,
+        alloc: Global,
         seen: &mut Seen,
         name: Sought<'_>,
         span: Span,
@@ -272,7 +274,7 @@ impl Chunk {
         ensures { OnOk result
             (self.new ≡ lengthened self.old (instruction.WriteName name.entry span ∷ [])) }
     {
-        let packed = self.tables.written_name(seen, &name, span)?;
+        let packed = self.tables.written_name(alloc, seen, &name, span)?;
         self.code.push(packed)?;
         Ok(())
     }
@@ -291,6 +293,7 @@ impl Chunk {
     #[inline(always)]
     pub(crate) fn fill(
         &mut self,
+        alloc: Global,
         seen: &mut Seen,
         place: usize,
         instruction: Instruction<'_>,
@@ -298,7 +301,7 @@ impl Chunk {
         requires { place < length self.old.code }
         ensures { OnOk result (self.new ≡ filled place instruction.entry self.old) }
     {
-        let packed = self.tables.pack(seen, instruction)?;
+        let packed = self.tables.pack(alloc, seen, instruction)?;
         self.code[place] = packed;
         Ok(())
     }

@@ -20,6 +20,7 @@ use tera_values::{Name, Sought, Span, Value};
 /// Writes the instructions of one body. A contract sees those that are written so far.
 #[derive(Drop)]
 pub struct Compiler {
+    alloc: Global,
     chunk: Chunk,
     seen: Seen,
 }
@@ -45,8 +46,9 @@ impl Compiler {
     {
         let file = lacking(Name::new(alloc, file))?;
         Ok(Compiler {
+            alloc,
             chunk: Chunk::new(alloc, file),
-            seen: Seen::new(alloc),
+            seen: Seen::new(),
         })
     }
 
@@ -54,19 +56,19 @@ impl Compiler {
     pub fn into_chunk(self) -> Chunk
         ensures { result ≡ self }
     {
-        let Compiler { chunk, seen: _ } = self;
+        let Compiler { chunk, .. } = self;
         chunk
     }
 
     pub(crate) fn alloc(&self) -> Global {
-        self.seen.alloc
+        self.alloc
     }
 
     // A name of its own, which an instruction lends where it is emitted.
     pub(crate) fn name(&self, name: &str) -> Result<Name, AllocError>
         ensures { IfOk result (λ n. n ≡ name.now) }
     {
-        lacking(Name::new(self.seen.alloc, name))
+        lacking(Name::new(self.alloc, name))
     }
 
     // So that what is written moves less often as it grows.
@@ -80,7 +82,7 @@ impl Compiler {
     pub(crate) fn emit(&mut self, instruction: Instruction<'_>) -> Result<(), AllocError>
         ensures ok { OnOk result (self.new ≡ lengthened self.old (instruction.entry ∷ [])) }
     {
-        self.chunk.emit(&mut self.seen, instruction)
+        self.chunk.emit(self.alloc, &mut self.seen, instruction)
     }
 
     #[inline(always)]
@@ -97,7 +99,7 @@ impl Compiler {
             (self.new ≡ lengthened self.old (instruction.WriteName name.now span ∷ [])) }
     {
         self.chunk
-            .emit_name(&mut self.seen, Sought::new(name), span)
+            .emit_name(self.alloc, &mut self.seen, Sought::new(name), span)
     }
 
     // The array of these items, which are loaded already.
@@ -138,7 +140,8 @@ impl Compiler {
         requires { place < length self.old.code }
         ensures ok { OnOk result (self.new ≡ filled place instruction.entry self.old) }
     {
-        self.chunk.fill(&mut self.seen, place, instruction)
+        self.chunk
+            .fill(self.alloc, &mut self.seen, place, instruction)
     }
 
     #[inline(always)]

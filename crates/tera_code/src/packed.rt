@@ -12,7 +12,7 @@ use crate::content::{Keys, LentName, Names, Spreads};
 use crate::instruction::Instruction;
 use crate::parts::{add_spreads, copied};
 use crate::reference::Reference;
-use crate::seen::Seen;
+use crate::seen::{PLACES, Seen};
 use std::alloc::{AllocError, Global};
 use tera_errors::lacking;
 use tera_syntax_tree::{BinaryOperator, Item, OwnedKey};
@@ -190,18 +190,23 @@ fn number<T: Drop>(items: &mut Vec<T>, item: T) -> Result<u32, AllocError>
 }
 
 /// The place of the name among the names, to which it is added where it isn't found at the place that was seen last.
-fn name_number(names: &mut Vec<Name>, seen: &mut Seen, name: &Sought<'_>) -> Result<u32, AllocError>
+fn name_number(
+    alloc: Global,
+    names: &mut Vec<Name>,
+    seen: &mut Seen,
+    name: &Sought<'_>,
+) -> Result<u32, AllocError>
     ensures grows { Longer names.old.items names.new.items }
     ensures ok { IfOk result (λ n. IsAt names.new.items n name.now) }
 {
-    let slot = (name.hash() % 251) as usize;
+    let slot = (name.hash() % PLACES as u64) as usize;
     let place = seen.places[slot];
     if let Some(known) = names.get(place as usize) {
         if name.is(known) {
             return Ok(place);
         }
     }
-    let place = number(names, lacking(Name::from_sought(seen.alloc, name))?)?;
+    let place = number(names, lacking(Name::from_sought(alloc, name))?)?;
     seen.places[slot] = place;
     Ok(place)
 }
@@ -270,6 +275,7 @@ impl Tables {
     /// Puts a name and a span beside the others, and tells their places.
     fn name_and_span(
         &mut self,
+        alloc: Global,
         seen: &mut Seen,
         name: &Sought<'_>,
         span: Span,
@@ -278,7 +284,7 @@ impl Tables {
         ensures name { IfOk result (λ p. IsAt (shelf_of self.new).names p.0 name.now) }
         ensures span { IfOk result (λ p. IsAt (shelf_of self.new).spans p.1 span) }
     {
-        let name = name_number(&mut self.names, seen, name)?;
+        let name = name_number(alloc, &mut self.names, seen, name)?;
         let span = number(&mut self.spans, span)?;
         Ok((name, span))
     }
@@ -286,6 +292,7 @@ impl Tables {
     #[inline(always)]
     pub(crate) fn written_name(
         &mut self,
+        alloc: Global,
         seen: &mut Seen,
         name: &Sought<'_>,
         span: Span,
@@ -294,7 +301,7 @@ impl Tables {
         ensures ok { IfOk result
             (λ p. Packs (shelf_of self.new) p (instruction.WriteName name.now span)) }
     {
-        let (name, span) = self.name_and_span(seen, name, span)?;
+        let (name, span) = self.name_and_span(alloc, seen, name, span)?;
         Ok(Packed::WriteName { name, span })
     }
 
@@ -438,6 +445,7 @@ impl Tables {
     #[inline(always)]
     pub(crate) fn pack(
         &mut self,
+        alloc: Global,
         seen: &mut Seen,
         instruction: Instruction<'_>,
     ) -> Result<Packed, AllocError>
@@ -447,10 +455,10 @@ impl Tables {
         match instruction {
             Instruction::WriteText(text) => self.text(text.as_str()),
             Instruction::WriteTop => Ok(Packed::WriteTop),
-            Instruction::WriteName(name, span) => self.written_name(seen, &name, span),
+            Instruction::WriteName(name, span) => self.written_name(alloc, seen, &name, span),
             Instruction::LoadConst(constant, span) => self.constant(&constant, span),
             Instruction::LoadName(name, span) => {
-                let (name, span) = self.name_and_span(seen, &name, span)?;
+                let (name, span) = self.name_and_span(alloc, seen, &name, span)?;
                 Ok(Packed::LoadName { name, span })
             }
             Instruction::LoadContext(span) => {
@@ -463,7 +471,7 @@ impl Tables {
                 span,
             } => {
                 let name = Sought::new(name.as_str());
-                let (name, span) = self.name_and_span(seen, &name, span)?;
+                let (name, span) = self.name_and_span(alloc, seen, &name, span)?;
                 Ok(Packed::LoadAttribute {
                     name,
                     optional,
@@ -485,7 +493,7 @@ impl Tables {
                 Ok(Packed::Binary { operator, span })
             }
             Instruction::MakeArray(spreads, span) => self.make_array(&spreads, span),
-            Instruction::MakeMap(keys, span) => self.make_map(seen.alloc, &keys, span),
+            Instruction::MakeMap(keys, span) => self.make_map(alloc, &keys, span),
             Instruction::Store { name, is_global } => {
                 let name = number(&mut self.names, lacking(name.share())?)?;
                 Ok(Packed::Store { name, is_global })
@@ -528,7 +536,7 @@ impl Tables {
                 keys,
                 has_body,
                 span,
-            } => self.take_component(seen.alloc, &name, &keys, has_body, span),
+            } => self.take_component(alloc, &name, &keys, has_body, span),
             Instruction::TakeAbove { arguments, span } => {
                 let span = number(&mut self.spans, span)?;
                 Ok(Packed::TakeAbove { span, arguments })
@@ -537,17 +545,17 @@ impl Tables {
                 name,
                 arguments,
                 span,
-            } => self.call(seen.alloc, CallKind::Filter, &name, &arguments, span),
+            } => self.call(alloc, CallKind::Filter, &name, &arguments, span),
             Instruction::ApplyTest {
                 name,
                 arguments,
                 span,
-            } => self.call(seen.alloc, CallKind::Test, &name, &arguments, span),
+            } => self.call(alloc, CallKind::Test, &name, &arguments, span),
             Instruction::CallFunction {
                 name,
                 arguments,
                 span,
-            } => self.call(seen.alloc, CallKind::Function, &name, &arguments, span),
+            } => self.call(alloc, CallKind::Function, &name, &arguments, span),
         }
     }
 }

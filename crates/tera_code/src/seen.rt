@@ -1,18 +1,18 @@
 // Where names were found.
-use std::alloc::Global;
 
-/// Where names of a kind were found last among those of a body, and what new ones are made with.
+/// How many names can be seen at once.
+pub(crate) const PLACES: usize = 251;
+
+/// Where names of a kind were found last among those of a body.
 #[derive(Drop)]
 pub(crate) struct Seen {
-    pub(crate) alloc: Global,
-    pub(crate) places: [u32; 251],
+    pub(crate) places: [u32; PLACES],
 }
 
 impl Seen {
-    pub(crate) fn new(alloc: Global) -> Seen {
+    pub(crate) fn new() -> Seen {
         Seen {
-            alloc,
-            places: [0; 251],
+            places: [0; PLACES],
         }
     }
 }

@@ -2,13 +2,13 @@
 ghost use Rattle.std.specs.Prelude.{◌≡◌, [], ◌∷◌, suc, OnOk, IfOk};
 ghost use Rattle.tera_code.specs.declared.instruction.Instruction.TheVariants as instruction;
 ghost use Rattle.tera_code.specs.Code.{node_code, nodes_code, section_code, captured_code, lengthened};
-ghost use Rattle.tera_syntax_tree.specs.Prelude.{FilterSection, Set, first_span, capture_of, component_call_of, expr_of, filters_of, nodes_of};
+ghost use Rattle.tera_syntax_tree.specs.Prelude.{Set, first_span, expr_of, filters_of, nodes_of};
 
 use crate::compiler::Compiler;
 use crate::content::LentName;
 use crate::instruction::Instruction;
 use std::alloc::AllocError;
-use tera_syntax_tree::{Captured, ComponentTag, Expression, Node, SectionFilter};
+use tera_syntax_tree::{Expression, Node, SectionFilter};
 use tera_values::Span;
 
 impl Compiler {
@@ -26,58 +26,9 @@ impl Compiler {
         self.store(name, is_global)
     }
 
-    // The text of the body, through the filters, becomes the value of the name.
-    #[cycle(nodes)]
-    #[inline(never)]
-    pub(crate) fn capture(
-        &mut self,
-        body: &Vec<Node>,
-        captured: &Captured,
-        is_global: bool,
-        drops: usize,
-    ) -> Result<(), AllocError>
-        ensures ok { OnOk result (self.new ≡ lengthened self.old
-            (node_code (capture_of captured.now (nodes_of body.now.items) is_global) drops)) }
-    {
-        self.section(&captured.filters, body, drops)?;
-        self.store(captured.name, is_global)
-    }
-
-    // The text of the body, through the filters, is put out.
-    #[cycle(nodes)]
-    #[inline(never)]
-    pub(crate) fn filtered(
-        &mut self,
-        body: &Vec<Node>,
-        filters: &Vec<SectionFilter>,
-        drops: usize,
-    ) -> Result<(), AllocError>
-        ensures ok { OnOk result (self.new ≡ lengthened self.old (node_code (FilterSection
-            (filters_of filters.now.items) (nodes_of body.now.items)) drops)) }
-    {
-        self.section(filters, body, drops)?;
-        self.emit(Instruction::WriteTop)
-    }
-
-    // The component is handed the text of the body.
-    #[cycle(nodes)]
-    #[inline(never)]
-    pub(crate) fn component_call(
-        &mut self,
-        body: &Vec<Node>,
-        tag: &ComponentTag,
-        span: Span,
-        drops: usize,
-    ) -> Result<(), AllocError>
-        ensures ok { OnOk result (self.new ≡ lengthened self.old
-            (node_code (component_call_of tag.now (nodes_of body.now.items) span) drops)) }
-    {
-        self.captured(body, span, drops)?;
-        self.hand(tag.name, tag.attributes.as_slice(), span)
-    }
-
     // The text that the body puts out, through the filters, on top of the operands.
     #[cycle(nodes)]
+    #[inline(never)]
     pub(crate) fn section(
         &mut self,
         filters: &Vec<SectionFilter>,
@@ -95,6 +46,7 @@ impl Compiler {
 
     // The text that the body puts out, on top of the operands.
     #[cycle(nodes)]
+    #[inline(never)]
     pub(crate) fn captured(
         &mut self,
         body: &Vec<Node>,

@@ -1,9 +1,10 @@
 // Nodes.
-ghost use Rattle.std.specs.Prelude.{◌≡◌, [], ◌∷◌, OnOk, IfOk};
+ghost use Rattle.std.specs.Prelude.{◌≡◌, [], ◌∷◌, cond, OnOk, IfOk};
 ghost use Rattle.tera_code.specs.declared.instruction.Instruction.TheVariants as instruction;
-ghost use Rattle.tera_code.specs.Code.{handed_code, node_code, nodes_code, listing_of, lengthened};
+ghost use Rattle.tera_code.specs.Calls.{handed_to};
+ghost use Rattle.tera_code.specs.Code.{choice_tail, node_code, nodes_code, listing_of, lengthened};
 ghost use Rattle.tera_syntax_tree.specs.Tree as tree;
-ghost use Rattle.tera_syntax_tree.specs.Prelude.{expr_of, entries_of, for_of, node_of, nodes_of};
+ghost use Rattle.tera_syntax_tree.specs.Prelude.{expr_of, for_of, node_of, nodes_of};
 
 use crate::chunk::Chunk;
 use crate::compiler::Compiler;
@@ -12,7 +13,7 @@ use crate::instruction::Instruction;
 use crate::parts::is_context;
 use crate::room::Room;
 use std::alloc::{AllocError, Global};
-use tera_syntax_tree::{Entry, Expression, Heading, Node};
+use tera_syntax_tree::{ComponentTag, Expression, Heading, Node};
 use tera_values::Span;
 
 impl Compiler {
@@ -54,7 +55,7 @@ impl Compiler {
         self.nodes(body.as_slice(), drops)
     }
 
-    // Each form with bodies has a function of its own, which takes them first.
+    // Bodies are lent on whole; what stands before and behind them is written here.
     #[cycle(nodes)]
     fn node(&mut self, node: &Node, drops: usize) -> Result<(), AllocError>
         ensures ok { OnOk result (self.new ≡ lengthened self.old
@@ -68,7 +69,10 @@ impl Compiler {
                 condition,
                 body,
                 other,
-            } => self.choice(body, other, condition, drops),
+            } => {
+                self.expression(condition)?;
+                self.fork(body, other, drops)
+            }
             Node::For {
                 heading,
                 body,
@@ -83,31 +87,34 @@ impl Compiler {
                 is_global,
                 captured,
                 body,
-            } => self.capture(body, captured, *is_global, drops),
-            Node::FilterSection { filters, body } => self.filtered(body, filters, drops),
-            Node::ComponentCall { tag, body, span } => self.component_call(body, tag, *span, drops),
-            Node::Block { name, span, .. } => self.block(name, *span),
-            Node::Include { name, span } => self.include(name.as_str(), *span),
+            } => {
+                self.section(&captured.filters, body, drops)?;
+                self.store(captured.name, *is_global)
+            }
+            Node::FilterSection { filters, body } => {
+                self.section(filters, body, drops)?;
+                self.emit(Instruction::WriteTop)
+            }
+            Node::ComponentCall { tag, body, span } => {
+                self.captured(body, *span, drops)?;
+                self.hand(tag, *span)
+            }
+            Node::Block { name, span, .. } => self.take(name, true, *span),
+            Node::Include { name, span } => self.take(name.as_str(), false, *span),
             Node::Definition { .. } => Ok(()),
             Node::Break => self.emit(Instruction::LeaveLoop(drops)),
             Node::Continue => self.emit(Instruction::LeaveTurn(drops)),
         }
     }
 
-    // The body that is not chosen is passed by a jump.
+    // One of the two bodies runs, by the operand on top; the other one is passed by a jump.
     #[cycle(nodes)]
     #[inline(never)]
-    fn choice(
-        &mut self,
-        body: &Vec<Node>,
-        other: &Vec<Node>,
-        condition: &Expression,
-        drops: usize,
-    ) -> Result<(), AllocError>
-        ensures ok { OnOk result (self.new ≡ lengthened self.old (node_code (tree.If
-            (expr_of condition.now) (nodes_of body.now.items) (nodes_of other.now.items)) drops)) }
+    fn fork(&mut self, body: &Vec<Node>, other: &Vec<Node>, drops: usize) -> Result<(), AllocError>
+        ensures ok { OnOk result (self.new ≡ lengthened self.old (choice_tail
+            (nodes_code (nodes_of body.now.items) drops)
+            (nodes_code (nodes_of other.now.items) drops))) }
     {
-        self.expression(condition)?;
         let place = self.keep_place()?;
         self.body(body, drops)?;
         let place = self.divide(place)?;
@@ -137,43 +144,30 @@ impl Compiler {
         self.fill(place, Instruction::EndLoop(self.behind(place)))
     }
 
-    // The block is put out as the template that is rendered has it: its body is compiled by itself.
-    fn block(&mut self, name: &str, span: Span) -> Result<(), AllocError>
-        ensures ok { OnOk result
-            (self.new ≡ lengthened self.old (instruction.TakeBlock name.now span ∷ [])) }
+    // A block, whose body is compiled by itself, is put out as the template that is rendered has it; an include, as the template to
+    // which its name resolves there.
+    fn take(&mut self, name: &str, is_block: bool, span: Span) -> Result<(), AllocError>
+        ensures ok { OnOk result (self.new ≡ lengthened self.old (cond is_block
+            (instruction.TakeBlock name.now span) (instruction.TakeInclude name.now span) ∷ [])) }
     {
         let name = self.name(name)?;
-        self.emit(Instruction::TakeBlock {
-            name: LentName::new(&name),
-            span,
-        })
+        let name = LentName::new(&name);
+        if is_block {
+            self.emit(Instruction::TakeBlock { name, span })
+        } else {
+            self.emit(Instruction::TakeInclude { name, span })
+        }
     }
 
     // The component is handed the text on top of the operands; what it makes of that and of its attributes is put out.
-    pub(crate) fn hand(
-        &mut self,
-        name: &str,
-        attributes: &[Entry],
-        span: Span,
-    ) -> Result<(), AllocError>
-        ensures ok { OnOk result (self.new
-            ≡ lengthened self.old (handed_code name.now (entries_of attributes.now) span)) }
+    #[inline(never)]
+    fn hand(&mut self, tag: &ComponentTag, span: Span) -> Result<(), AllocError>
+        ensures ok { OnOk result (self.new ≡ lengthened self.old (handed_to tag.now span)) }
     {
+        let attributes = tag.attributes.as_slice();
         self.entries(attributes)?;
-        self.take_component(name, attributes, true, span)?;
+        self.take_component(tag.name, attributes, true, span)?;
         self.emit(Instruction::WriteTop)
-    }
-
-    // What the name resolves to is found where the template is rendered.
-    fn include(&mut self, name: &str, span: Span) -> Result<(), AllocError>
-        ensures ok { OnOk result
-            (self.new ≡ lengthened self.old (instruction.TakeInclude name.now span ∷ [])) }
-    {
-        let name = self.name(name)?;
-        self.emit(Instruction::TakeInclude {
-            name: LentName::new(&name),
-            span,
-        })
     }
 
     // The map of all that is bound is made first; what any other name stands for is put out where it lies.

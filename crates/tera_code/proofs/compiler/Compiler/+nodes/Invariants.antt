@@ -10,31 +10,22 @@ invariant-nodes-loop-node l =
 
 -- the deepest of the nodes, in either body where there are two, and then who calls whom at one depth
 abbrev pub decreases-node : goal.decreases-node
-decreases-node l = 7 * goal.size-node l + 1
+decreases-node l = 6 * goal.size-node l + 1
 
 abbrev pub decreases-nodes : goal.decreases-nodes
-decreases-nodes l = 7 * goal.size-nodes l + 2
+decreases-nodes l = 6 * goal.size-nodes l + 2
 
 abbrev pub decreases-body : goal.decreases-body
-decreases-body l = 7 * goal.size-body l + 3
+decreases-body l = 6 * goal.size-body l + 3
 
-abbrev pub decreases-choice : goal.decreases-choice
-decreases-choice l = 7 * max (goal.size-choice l) (goal.size-choice (record l { body = l.other })) + 4
+abbrev pub decreases-fork : goal.decreases-fork
+decreases-fork l = 6 * max (goal.size-fork l) (goal.size-fork (record l { body = l.other })) + 4
 
 abbrev pub decreases-turns : goal.decreases-turns
-decreases-turns l = 7 * max (goal.size-turns l) (goal.size-turns (record l { body = l.other })) + 4
+decreases-turns l = 6 * max (goal.size-turns l) (goal.size-turns (record l { body = l.other })) + 4
 
 abbrev pub decreases-captured : goal.decreases-captured
-decreases-captured l = 7 * goal.size-captured l + 4
+decreases-captured l = 6 * goal.size-captured l + 4
 
 abbrev pub decreases-section : goal.decreases-section
-decreases-section l = 7 * goal.size-section l + 5
-
-abbrev pub decreases-component_call : goal.decreases-component_call
-decreases-component_call l = 7 * goal.size-component_call l + 5
-
-abbrev pub decreases-capture : goal.decreases-capture
-decreases-capture l = 7 * goal.size-capture l + 6
-
-abbrev pub decreases-filtered : goal.decreases-filtered
-decreases-filtered l = 7 * goal.size-filtered l + 6
+decreases-section l = 6 * goal.size-section l + 5

@@ -1,15 +1,26 @@
 // Instructions that call filters, tests and functions.
+ghost use Rattle.std.specs.Prelude.{◌≡◌, Bool, List, Ok, Result};
+ghost use Rattle.tera_errors.specs.Prelude.{Gives, Fault};
+ghost use Rattle.tera_errors.specs.Site.{Name};
+ghost use Rattle.tera_values.specs.Prelude.{bool, plain};
+ghost use Rattle.tera_operators.specs.Prelude.{then, filter_applied_by, test_applied_by};
+ghost use Rattle.tera_operators.specs.Operand.{Evaluated};
+ghost use Rattle.tera_operators.specs.Calls.{by_name};
+ghost use Rattle.tera_objects.specs.Calling.{filtered_by, tested_by};
+ghost use Rattle.tera_objects.specs.Called.{seen};
 ghost use Rattle.tera_machine.specs.Act.{IsReady, Does, called};
 ghost use Rattle.tera_machine.specs.Subject.{here_of};
 
 use crate::configuration::Configuration;
 use crate::machine::{Going, VirtualMachine};
 use tera_code::{CallKind, LentName, Names};
-use tera_objects::{Objects, filter, function, test};
-use tera_values::Span;
+use tera_objects::{Call, Objects};
+use tera_operators::{Operand, arguments, operand_or_call_fault, operand_or_fault};
+use tera_values::{Span, TeraResult, Value};
 
 impl<'c> Configuration<'c> {
-    /// Calls what has this name. There is an operand for each name of an argument.
+    /// Calls what has this name, which sees the scopes. There is an operand for each name of an argument. A fault is at the call,
+    /// but where something is of a wrong type at the target of a filter or a test.
     #[inline(never)]
     pub(crate) fn call<'f, O: Objects>(
         &mut self,
@@ -25,32 +36,78 @@ impl<'c> Configuration<'c> {
         ensures { Does (called kind (here_of O.engine machine.now file.now self.old)
             name.now names.now span) self.old result self.new }
     {
-        let name = name.as_name().as_str();
+        let (alloc, objects) = (machine.alloc, machine.objects);
         let names = names.as_slice();
-        let (alloc, objects, autoescape) = (machine.alloc, machine.objects, machine.autoescape);
         let operands = self.take_topmost(names.len())?;
-        let operand = match kind {
+        let call = Call {
+            alloc,
+            scopes: &self.scopes,
+            autoescape: machine.autoescape,
+            name: name.as_name().as_str(),
+            arguments: arguments(alloc, names, operands)?,
+        };
+        match kind {
             CallKind::Function => {
-                let scopes = &self.scopes;
-                function(
-                    alloc, file, objects, scopes, autoescape, name, names, operands, span,
-                )?
+                let answer = objects.call_function(call);
+                self.put(operand_or_fault(alloc, file, answer, span, span)?)
             }
             CallKind::Filter => {
                 let target = self.operands.take();
-                let scopes = &self.scopes;
-                filter(
-                    alloc, file, objects, scopes, autoescape, name, &target, names, operands, span,
-                )?
+                let operand = filter(machine, file, call, &target, span)?;
+                self.put(operand)
             }
             CallKind::Test => {
                 let target = self.operands.take();
-                let scopes = &self.scopes;
-                test(
-                    alloc, file, objects, scopes, autoescape, name, &target, names, operands, span,
-                )?
+                let operand = test(machine, file, call, &target, span)?;
+                self.put(operand)
             }
-        };
-        self.put(operand)
+        }
+    }
+}
+
+// What the filter makes of the target, as an operand.
+fn filter<O: Objects>(
+    machine: &VirtualMachine<'_, O>,
+    file: &str,
+    call: Call<'_>,
+    target: &Operand,
+    span: Span,
+) -> TeraResult<Operand>
+    ensures { (given : List (Name × Evaluated)) → call.entry.arguments ≡ by_name given →
+        Gives (λ o. o) result (filter_applied_by file.now
+        (filtered_by plain (O.engine machine.now.objects.now)
+        (seen (O.engine machine.now.objects.now) call.entry) call.entry.name.now)
+        target.now given span) }
+{
+    let answer = machine.objects.call_filter(call, target.value());
+    operand_or_call_fault(machine.alloc, file, answer, target.span(), span)
+}
+
+// The same of a test.
+fn test<O: Objects>(
+    machine: &VirtualMachine<'_, O>,
+    file: &str,
+    call: Call<'_>,
+    target: &Operand,
+    span: Span,
+) -> TeraResult<Operand>
+    ensures { (given : List (Name × Evaluated)) → call.entry.arguments ≡ by_name given →
+        Gives (λ o. o) result (test_applied_by file.now
+        (tested_by plain (O.engine machine.now.objects.now)
+        (seen (O.engine machine.now.objects.now) call.entry) call.entry.name.now)
+        target.now given span) }
+{
+    let answer = truth(machine.objects.call_test(call, target.value()));
+    operand_or_call_fault(machine.alloc, file, answer, target.span(), span)
+}
+
+// What is answered, as a truth value.
+fn truth(answer: TeraResult<bool>) -> TeraResult<Value>
+    ensures { (meant : Result Bool Fault) → Gives (λ b. b) answer meant →
+        Gives (λ v. v) result (then meant (λ b. Ok (bool b))) }
+{
+    match answer {
+        Ok(holds) => Ok(Value::from_bool(holds)),
+        Err(error) => Err(error),
     }
 }

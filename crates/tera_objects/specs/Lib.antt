@@ -1,5 +1,6 @@
 pub mod Engine
 pub mod Calling
+pub mod Called
 pub mod Table
 pub mod Taken
 pub mod Kept

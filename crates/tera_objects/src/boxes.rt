@@ -6,30 +6,34 @@ ghost use Rattle.tera_built_ins.specs.Prelude.{filtered_in, tested_in, called_in
 ghost use Rattle.tera_state.specs.Prelude.{rendered, view_of, view_at, filters_left, around_of, variables_of};
 ghost use Rattle.tera_objects.specs.Calling.{answer_of};
 
+use crate::call::Call;
 use crate::marked::marked_if;
 use crate::over::CallerObjects;
 use std::alloc::{AllocError, Global};
 use tera_built_ins::{BuiltInFilter, BuiltInFunction, BuiltInTest, EscapeFn, Escaping};
 use tera_errors::lacking;
-use tera_state::{Filter, Function, Scopes, State, StateOver, Test, write_value};
+use tera_state::{Filter, Function, State, StateOver, Test, write_value};
 use tera_values::{Error, Kwargs, TeraResult, Value};
 
-/// The state that an object of these sees: the scopes, the escape, and the built-in filters but those whose names are taken.
-pub(crate) fn lent<'a, 'c>(
+/// The state that an object of these sees at a call: the scopes, the escape, and the built-in filters but those whose names are
+/// taken.
+pub(crate) fn lent<'a>(
     objects: &'a CallerObjects,
-    scopes: &'a Scopes<'c>,
-    autoescape: bool,
-) -> StateOver<'a, 'c, &'a dyn EscapeFn>
+    call: &Call<'a>,
+) -> StateOver<'a, 'a, &'a dyn EscapeFn>
     ensures { view_of (λ e. escaped e.now) result
-        ≡ view_at (around_of scopes.now) (variables_of scopes.now) autoescape
+        ≡ view_at (around_of call.now.scopes.now) (variables_of call.now.scopes.now)
+        call.now.autoescape
         (escape_or_html
         (λ b. (⟦<dyn EscapeFn as EscapeFn>⟧ b.vtable).escaped b.value) objects.now.escape)
         (filters_left (Some objects.now.filters.taken.items)) }
 {
     let taken = objects.filters.taken.as_slice();
     match &objects.escape {
-        Some(escape) => scopes.state(autoescape, Some(&**escape), Some(taken)),
-        None => scopes.state(autoescape, None, Some(taken)),
+        Some(escape) => call
+            .scopes
+            .state(call.autoescape, Some(&**escape), Some(taken)),
+        None => call.scopes.state(call.autoescape, None, Some(taken)),
     }
 }
 
@@ -81,55 +85,44 @@ pub(crate) fn write_by(
     write_value(alloc, escaping, value, out)
 }
 
-/// What the built-in filter of this name makes of the value, where texts are escaped by this.
+/// What the built-in filter of the call's name makes of the value, where texts are escaped by this.
 pub(crate) fn built_in_answer(
     escape: &Option<Box<dyn EscapeFn>>,
-    alloc: Global,
-    autoescape: bool,
-    name: &str,
+    call: &Call<'_>,
     value: &Value,
-    arguments: &Kwargs,
 ) -> TeraResult<Value>
     ensures { Gives (λ v. v) result (filtered_in plain (record {
-      autoescape = autoescape;
+      autoescape = call.now.autoescape;
       escape = escape_or_html
           (λ b. (⟦<dyn EscapeFn as EscapeFn>⟧ b.vtable).escaped b.value) escape.now;
-    }) name.now value.now arguments.now) }
+    }) call.now.name.now value.now call.now.arguments) }
 {
     let lent = lent_escape(escape);
     let escaping = Escaping {
-        autoescape,
+        autoescape: call.autoescape,
         escape: &lent,
     };
-    BuiltInFilter::call_named(alloc, name, value, arguments, escaping)
+    BuiltInFilter::call_named(call.alloc, call.name, value, &call.arguments, escaping)
 }
 
-/// Whether the built-in test of this name holds of the value.
-pub(crate) fn built_in_test_answer(
-    alloc: Global,
-    name: &str,
-    value: &Value,
-    arguments: &Kwargs,
-) -> TeraResult<bool>
-    ensures { Gives (λ b. b) result (tested_in plain name.now value.now arguments.now) }
+/// Whether the built-in test of the call's name holds of the value.
+pub(crate) fn built_in_test_answer(call: &Call<'_>, value: &Value) -> TeraResult<bool>
+    ensures { Gives (λ b. b) result
+        (tested_in plain call.now.name.now value.now call.now.arguments) }
 {
-    match BuiltInTest::named(name) {
-        Some(test) => test.call(alloc, value, arguments),
-        None => Err(Error::message(alloc, "there is no such test")),
+    match BuiltInTest::named(call.name) {
+        Some(test) => test.call(call.alloc, value, &call.arguments),
+        None => Err(Error::message(call.alloc, "there is no such test")),
     }
 }
 
-/// What the built-in function of this name makes of the arguments.
-pub(crate) fn built_in_function_answer(
-    alloc: Global,
-    name: &str,
-    arguments: &Kwargs,
-) -> TeraResult<Value>
-    ensures { Gives (λ v. v) result (called_in plain name.now arguments.now) }
+/// What the built-in function of the call's name makes of the arguments.
+pub(crate) fn built_in_function_answer(call: &Call<'_>) -> TeraResult<Value>
+    ensures { Gives (λ v. v) result (called_in plain call.now.name.now call.now.arguments) }
 {
-    match BuiltInFunction::named(name) {
-        Some(function) => function.call(alloc, arguments),
-        None => Err(Error::message(alloc, "there is no such function")),
+    match BuiltInFunction::named(call.name) {
+        Some(function) => function.call(call.alloc, &call.arguments),
+        None => Err(Error::message(call.alloc, "there is no such function")),
     }
 }
 

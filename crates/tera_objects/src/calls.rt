@@ -3,14 +3,13 @@ use crate::boxes::{
     built_in_answer, built_in_function_answer, built_in_test_answer, escape_by, filter_answer,
     function_answer, lent, test_answer, write_by,
 };
+use crate::call::Call;
 use crate::objects::Objects;
-use crate::over::ObjectsOver;
+use crate::over::CallerObjects;
 use std::alloc::{AllocError, Global};
-use tera_built_ins::EscapeFn;
-use tera_state::{Filter, Function, Scopes, Test};
-use tera_values::{Kwargs, Shape, TeraResult, Value};
+use tera_values::{Shape, TeraResult, Value};
 
-impl Objects for ObjectsOver<Box<dyn EscapeFn>, Box<dyn Filter>, Box<dyn Test>, Box<dyn Function>> {
+impl Objects for CallerObjects {
     ghost use Rattle.tera_objects.specs.Kept.{engine_of};
 
     ghost engine = { engine_of (record {
@@ -54,50 +53,27 @@ impl Objects for ObjectsOver<Box<dyn EscapeFn>, Box<dyn Filter>, Box<dyn Test>, 
         self.knows_function(name)
     }
 
-    fn call_filter(
-        &self,
-        alloc: Global,
-        scopes: &Scopes<'_>,
-        autoescape: bool,
-        name: &str,
-        value: &Value,
-        arguments: Kwargs,
-    ) -> TeraResult<Value> {
-        let Some(filter) = self.filters.table.get(name) else {
-            return built_in_answer(&self.escape, alloc, autoescape, name, value, &arguments);
+    fn call_filter(&self, call: Call<'_>, value: &Value) -> TeraResult<Value> {
+        let Some(filter) = self.filters.table.get(call.name) else {
+            return built_in_answer(&self.escape, &call, value);
         };
-        let state = lent(self, scopes, autoescape);
-        filter_answer(filter, value, arguments, &state)
+        let state = lent(self, &call);
+        filter_answer(filter, value, call.arguments, &state)
     }
 
-    fn call_test(
-        &self,
-        alloc: Global,
-        scopes: &Scopes<'_>,
-        autoescape: bool,
-        name: &str,
-        value: &Value,
-        arguments: Kwargs,
-    ) -> TeraResult<bool> {
-        let Some(test) = self.tests.get(name) else {
-            return built_in_test_answer(alloc, name, value, &arguments);
+    fn call_test(&self, call: Call<'_>, value: &Value) -> TeraResult<bool> {
+        let Some(test) = self.tests.get(call.name) else {
+            return built_in_test_answer(&call, value);
         };
-        let state = lent(self, scopes, autoescape);
-        test_answer(test, value, arguments, &state)
+        let state = lent(self, &call);
+        test_answer(test, value, call.arguments, &state)
     }
 
-    fn call_function(
-        &self,
-        alloc: Global,
-        scopes: &Scopes<'_>,
-        autoescape: bool,
-        name: &str,
-        arguments: Kwargs,
-    ) -> TeraResult<Value> {
-        let Some(function) = self.functions.get(name) else {
-            return built_in_function_answer(alloc, name, &arguments);
+    fn call_function(&self, call: Call<'_>) -> TeraResult<Value> {
+        let Some(function) = self.functions.get(call.name) else {
+            return built_in_function_answer(&call);
         };
-        let state = lent(self, scopes, autoescape);
-        function_answer(function, arguments, &state)
+        let state = lent(self, &call);
+        function_answer(function, call.arguments, &state)
     }
 }

@@ -1,8 +1,8 @@
 //! What an engine has of its caller: filters, tests, functions and the escape.
 #![tactic(auto)]
 
-mod apply;
 mod boxes;
+pub mod call;
 mod calls;
 pub mod filters;
 mod marked;
@@ -11,7 +11,7 @@ pub mod over;
 mod standard;
 pub mod table;
 
-pub use apply::{filter, function, test};
+pub use call::Call;
 pub use filters::OwnFilters;
 pub use objects::Objects;
 pub use over::{CallerObjects, ObjectsOver};

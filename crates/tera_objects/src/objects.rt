@@ -1,14 +1,13 @@
 // What a rendering asks of an engine's objects.
 ghost use Rattle.std.specs.Prelude.{◌≡◌, ◌++◌, string_bytes, OnOk, OnErr};
 ghost use Rattle.tera_errors.specs.Prelude.{Gives};
-ghost use Rattle.tera_values.specs.Prelude.{plain};
-ghost use Rattle.tera_state.specs.Prelude.{rendered, around_of, variables_of};
+ghost use Rattle.tera_state.specs.Prelude.{rendered};
 ghost use Rattle.tera_objects.specs.Engine.{Engine, has_filter, has_test, has_function};
-ghost use Rattle.tera_objects.specs.Calling.{seen_in, filtered_by, tested_by, called_by};
+ghost use Rattle.tera_objects.specs.Called.{filtered, tested, called};
 
+use crate::call::Call;
 use std::alloc::{AllocError, Global};
-use tera_state::Scopes;
-use tera_values::{Kwargs, TeraResult, Value};
+use tera_values::{TeraResult, Value};
 
 /// The escape of an engine, and its filters, tests and functions: what is built in, and the caller's own. What renders takes
 /// these by a type parameter, since no functions that call each other may name a trait object.
@@ -43,46 +42,14 @@ pub trait Objects: Drop {
 
     /// What the filter of this name makes of the value, with its own faults; a `Message` where there is none. An object sees
     /// the scopes, and whether texts are escaped.
-    fn call_filter(
-        &self,
-        alloc: Global,
-        scopes: &Scopes<'_>,
-        autoescape: bool,
-        name: &str,
-        value: &Value,
-        arguments: Kwargs,
-    ) -> TeraResult<Value>
-        ensures { Gives (λ v. v) result (filtered_by plain (engine self.now)
-            (seen_in plain (engine self.now)
-            (around_of scopes.now) (variables_of scopes.now) autoescape)
-            name.now value.now arguments) };
+    fn call_filter(&self, call: Call<'_>, value: &Value) -> TeraResult<Value>
+        ensures { Gives (λ v. v) result (filtered (engine self.now) call.entry value.now) };
 
     /// Whether the test of this name holds of the value.
-    fn call_test(
-        &self,
-        alloc: Global,
-        scopes: &Scopes<'_>,
-        autoescape: bool,
-        name: &str,
-        value: &Value,
-        arguments: Kwargs,
-    ) -> TeraResult<bool>
-        ensures { Gives (λ b. b) result (tested_by plain (engine self.now)
-            (seen_in plain (engine self.now)
-            (around_of scopes.now) (variables_of scopes.now) autoescape)
-            name.now value.now arguments) };
+    fn call_test(&self, call: Call<'_>, value: &Value) -> TeraResult<bool>
+        ensures { Gives (λ b. b) result (tested (engine self.now) call.entry value.now) };
 
     /// What the function of this name makes of the arguments.
-    fn call_function(
-        &self,
-        alloc: Global,
-        scopes: &Scopes<'_>,
-        autoescape: bool,
-        name: &str,
-        arguments: Kwargs,
-    ) -> TeraResult<Value>
-        ensures { Gives (λ v. v) result (called_by plain (engine self.now)
-            (seen_in plain (engine self.now)
-            (around_of scopes.now) (variables_of scopes.now) autoescape)
-            name.now arguments) };
+    fn call_function(&self, call: Call<'_>) -> TeraResult<Value>
+        ensures { Gives (λ v. v) result (called (engine self.now) call.entry) };
 }

@@ -7,4 +7,4 @@ use Rattle.tera_objects.proofs.boxes.built_in_answer.Goals as goal
 
 pub returns : goal.returns
 returns g c =
-    subst (λ (escape : Text → Text). Gives (λ v. v) c.call_named.result (filtered_in plain (record { autoescape = c.args.autoescape; escape = escape }) c.args.name.now c.args.value.now c.args.arguments.now)) c.lent_escape-lent.ensures c.call_named.ensures
+    subst (λ (escape : Text → Text). Gives (λ v. v) c.call_named.result (filtered_in plain (record { autoescape = c.args.call.now.autoescape; escape = escape }) c.args.call.now.name.now c.args.value.now c.args.call.now.arguments)) c.lent_escape-lent.ensures c.call_named.ensures

@@ -1,4 +1,4 @@
-use Rattle.std.proofs.Common.{◌≡◌, refl, is_some}
+use Rattle.std.proofs.Common.{refl, is_some}
 use Rattle.tera_built_ins.specs.Filters.{filter_named}
 use Rattle.tera_built_ins.specs.TestTable.{test_named}
 use Rattle.tera_built_ins.specs.FunctionTable.{function_named}

@@ -7,16 +7,18 @@ ghost use Rattle.tera_syntax_expressions.specs.Expressions as spec;
 use tera_syntax_tokens::input::{Tokens, same};
 use tera_syntax_tokens::token::Kind;
 
-/// The level of what an expression goes on to with this token, and 12 where none does.
+/// The least level of an expression before this token that goes on with it, and the level of what
+/// it goes on to. Both are 12 where none does.
 #[inline(always)]
-#[tactic(auto, unfolding(crate::specs::Expressions::gives))]
-pub(crate) fn gives(kind: Kind) -> u8
-    ensures { result ≡ spec.gives kind }
+#[tactic(auto, unfolding(crate::specs::Expressions::needs, crate::specs::Expressions::gives))]
+fn levels(kind: Kind) -> (u8, u8)
+    ensures needs { result.0 ≡ spec.needs kind }
+    ensures gives { result.1 ≡ spec.gives kind }
 {
     match kind {
-        Kind::If => 0,
-        Kind::Or => 1,
-        Kind::And => 2,
+        Kind::If => (1, 0),
+        Kind::Or => (1, 1),
+        Kind::And => (2, 2),
         Kind::Not
         | Kind::Equal
         | Kind::NotEqual
@@ -25,28 +27,23 @@ pub(crate) fn gives(kind: Kind) -> u8
         | Kind::LessOrEqual
         | Kind::GreaterOrEqual
         | Kind::In
-        | Kind::Is => 4,
-        Kind::Tilde => 5,
-        Kind::Plus | Kind::Minus => 6,
-        Kind::Star | Kind::Slash | Kind::FloorSlash | Kind::Percent => 7,
-        Kind::Power => 9,
-        Kind::Bar => 10,
-        Kind::Dot | Kind::OptionalDot | Kind::LeftBracket | Kind::OptionalBracket => 11,
-        _ => 12,
+        | Kind::Is => (4, 4),
+        Kind::Tilde => (5, 5),
+        Kind::Plus | Kind::Minus => (6, 6),
+        Kind::Star | Kind::Slash | Kind::FloorSlash | Kind::Percent => (7, 7),
+        Kind::Power => (10, 9),
+        Kind::Bar => (10, 10),
+        Kind::Dot | Kind::OptionalDot | Kind::LeftBracket | Kind::OptionalBracket => (11, 11),
+        _ => (12, 12),
     }
 }
 
-/// The least level of an expression before this token that goes on with it.
+/// The level of what an expression goes on to with this token, and 12 where none does.
 #[inline(always)]
-#[tactic(auto, unfolding(crate::specs::Expressions::needs))]
-pub(crate) fn needs(kind: Kind) -> u8
-    ensures { result ≡ spec.needs kind }
+pub(crate) fn gives(kind: Kind) -> u8
+    ensures { result ≡ spec.gives kind }
 {
-    match kind {
-        Kind::If => 1,
-        Kind::Power => 10,
-        _ => gives(kind),
-    }
+    levels(kind).1
 }
 
 /// Whether an expression of the level `have` goes on with this token, to the level `floor` or above.
@@ -54,7 +51,8 @@ pub(crate) fn needs(kind: Kind) -> u8
 pub(crate) fn goes_on(floor: u8, have: u8, kind: Kind) -> bool
     ensures { result ≡ spec.goes_on floor have kind }
 {
-    floor <= gives(kind) && needs(kind) <= have
+    let (needs, gives) = levels(kind);
+    floor <= gives && needs <= have
 }
 
 /// The level of what begins with this token.

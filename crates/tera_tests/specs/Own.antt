@@ -14,12 +14,12 @@ use Rattle.tera_state.specs.View.{View, escaping_in, escaped_if_needed}
 use Rattle.tera_tests.specs.declared.own.Refusal.{Refusal}
 use Rattle.tera_tests.specs.declared.own.Refusal.TheVariants as refusal
 
--- with what an object refuses
+-- with what an object refuses; where it says that memory is lacking, any fault may stand here
 abbrev pub fault_of : Refusal → Fault
 fault_of refusal.InvalidArgument = invalid_argument
 fault_of refusal.MissingArgument = missing_argument
-fault_of refusal.Message = message
 fault_of refusal.TemplateNotFound = template_not_found
+fault_of other = message
 
 -- a value, and for undefined a dash
 abbrev pub shown : Val → Val

@@ -206,6 +206,7 @@ pub enum Refusal {
     MissingArgument,
     Message,
     TemplateNotFound,
+    OutOfMemory,
 }
 
 /// A filter, a test and a function that refuse.
@@ -224,6 +225,7 @@ impl Refuses {
             Refusal::MissingArgument => Error::missing_argument(),
             Refusal::Message => Error::message(self.alloc, "no"),
             Refusal::TemplateNotFound => Error::template_not_found(),
+            Refusal::OutOfMemory => Error::out_of_memory(),
         }
     }
 }
@@ -264,45 +266,9 @@ impl Function for Refuses {
     }
 }
 
-/// Says that memory was refused.
+/// An escape that says that memory was refused.
 #[derive(Drop)]
 pub struct LacksMemory;
-
-impl Filter for LacksMemory {
-    ghost meaning = { λ o v given view. Ok v };
-
-    ghost safe = { λ _. false };
-
-    fn call(&self, _value: &Value, _kwargs: Kwargs, _state: &State<'_>) -> TeraResult<Value> {
-        Err(Error::out_of_memory())
-    }
-
-    fn is_safe(&self) -> bool {
-        false
-    }
-}
-
-impl Test for LacksMemory {
-    ghost meaning = { λ o v given view. Ok true };
-
-    fn call(&self, _value: &Value, _kwargs: Kwargs, _state: &State<'_>) -> TeraResult<bool> {
-        Err(Error::out_of_memory())
-    }
-}
-
-impl Function for LacksMemory {
-    ghost meaning = { λ o given view. Ok (bool true) };
-
-    ghost safe = { λ _. false };
-
-    fn call(&self, _kwargs: Kwargs, _state: &State<'_>) -> TeraResult<Value> {
-        Err(Error::out_of_memory())
-    }
-
-    fn is_safe(&self) -> bool {
-        false
-    }
-}
 
 impl EscapeFn for LacksMemory {
     ghost escaped = { λ o input. input };

@@ -305,13 +305,12 @@ const DEFINERS: &str = r#"@@ prefix child/ parent/
 {% component X() %}user{% endcomponent %}
 @@ end
 @@ add
-@@ str off
-{{<X/>}}
-@@ end
+@@ component X off
 @@ template other.html
 {% component X() %}o{% endcomponent %}
 @@ end
 @@ add
+@@ component X off
 @@ str off
 {{<X/>}}
 @@ end
@@ -326,6 +325,7 @@ ok
 user
 ok
 fault Message
+user
 user
 
 @@ prefix p/

@@ -13,7 +13,6 @@ fn with_filters(alloc: Global, engine: &mut Tera) -> TeraResult<()> {
     engine.register_filter("plain", Box::new(alloc, saying(alloc, "<b>x</b>", false))?)?;
     engine.register_filter("bad", refusing(alloc, Refusal::InvalidArgument)?)?;
     engine.register_filter("refused", refusing(alloc, Refusal::Message)?)?;
-    engine.register_filter("lacking", Box::new(alloc, LacksMemory)?)?;
     engine.register_filter("trimmed", Box::new(alloc, UsesState { alloc })?)
 }
 
@@ -24,14 +23,19 @@ fn with_functions(alloc: Global, engine: &mut Tera) -> TeraResult<()> {
     engine.register_function("missing", refusing(alloc, Refusal::MissingArgument)?)?;
     engine.register_function("refused", refusing(alloc, Refusal::Message)?)?;
     engine.register_function("absent", refusing(alloc, Refusal::TemplateNotFound)?)?;
-    engine.register_function("lacking", Box::new(alloc, LacksMemory)?)?;
     engine.register_function("esc_if_needed", Box::new(alloc, UsesState { alloc })?)
 }
 
 fn with_tests(alloc: Global, engine: &mut Tera) -> TeraResult<()> {
     engine.register_test("wrong", refusing(alloc, Refusal::InvalidArgument)?)?;
-    engine.register_test("lacking", Box::new(alloc, LacksMemory)?)?;
     engine.register_test("missing", refusing(alloc, Refusal::MissingArgument)?)
+}
+
+/// An object of each kind that says that memory was refused.
+fn with_lacking(alloc: Global, engine: &mut Tera) -> TeraResult<()> {
+    engine.register_filter("lacking", refusing(alloc, Refusal::OutOfMemory)?)?;
+    engine.register_function("lacking", refusing(alloc, Refusal::OutOfMemory)?)?;
+    engine.register_test("lacking", refusing(alloc, Refusal::OutOfMemory)?)
 }
 
 fn engine(alloc: Global) -> TeraResult<Tera> {
@@ -39,6 +43,7 @@ fn engine(alloc: Global) -> TeraResult<Tera> {
     with_filters(alloc, &mut engine)?;
     with_functions(alloc, &mut engine)?;
     with_tests(alloc, &mut engine)?;
+    with_lacking(alloc, &mut engine)?;
     Ok(engine)
 }
 

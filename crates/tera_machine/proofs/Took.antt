@@ -152,10 +152,10 @@ lacked w p q u c c' k r e = subst (λ x. BodyRan w p q u c (Err x) c' k) (sym e)
 
 module _ (w : World) {O : Type 0} (m : VirtualMachine O) (file : Name) (a : Asked) (b0 : OpenBlocks) (c0 : Configuration) {most : ℕ} (may : BodyWithin w (place_at m file b0 c0) (request_of a) (use_of a) (config_of c0) most) where
   module _ {inside : Inside} {b1 : OpenBlocks} {c1 : Configuration} (entry : Enters w m file a b0 c0 (Ok inside) b1 c1) where
-    pub may_run : EndsWithin w (place_at m inside.chunk.now.file b1 c1) inside.chunk.now.code 0 (config_of c1) most
+    pub may_run : EndsWithin w (place_at m inside.definer.chunk.now.file b1 c1) inside.definer.chunk.now.code 0 (config_of c1) most
     may_run = inner_within entry.0 may
 
-    module _ (c3 : Configuration) {j : ℕ} (over : Ends w (place_at m inside.chunk.now.file b1 c1) inside.chunk.now.code 0 (config_of c1) (Finished (config_of c3) j)) where
+    module _ (c3 : Configuration) {j : ℕ} (over : Ends w (place_at m inside.definer.chunk.now.file b1 c1) inside.definer.chunk.now.code 0 (config_of c1) (Finished (config_of c3) j)) where
       ended : left (request_of a) (use_of a) (config_of c0) (config_of c3) ≢ None
       ended = can_leave entry.0 may (config_of c3) j over
 
@@ -214,7 +214,7 @@ module _ (w : World) {O : Type 0} (m : VirtualMachine O) (file : Name) (a : Aske
         body_stayed (Err r) leaves = tt
 
     -- a fault in the body
-    pub run_failed : (r : SeenError) (c3 : Config) (j : ℕ) → Ran w (place_at m inside.chunk.now.file b1 c1) inside.chunk.now.code (config_of c1) (Err r) c3 j → BodyRan w (place_at m file b0 c0) (request_of a) (use_of a) (config_of c0) (Err r) c3 j
+    pub run_failed : (r : SeenError) (c3 : Config) (j : ℕ) → Ran w (place_at m inside.definer.chunk.now.file b1 c1) inside.definer.chunk.now.code (config_of c1) (Err r) c3 j → BodyRan w (place_at m file b0 c0) (request_of a) (use_of a) (config_of c0) (Err r) c3 j
     run_failed None c3 j x = tt
     run_failed (Some f) c3 j x = body_broke entry.0 f j x
 

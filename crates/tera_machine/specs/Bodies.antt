@@ -66,7 +66,7 @@ pub record Keeps (a : Asked) (inside : Inside) (blocks0 : OpenBlocks) (c0 : Conf
 
 abbrev pub Enters : {O : Type 0} → World → VirtualMachine O → Name → Asked → OpenBlocks → Configuration → Result Inside SeenError → OpenBlocks → Configuration → Type 0
 Enters w m file a blocks0 c0 (Ok inside) blocks c =
-    Entered w (place_at m file blocks0 c0) (request_of a) (config_of c0) (place_at m inside.chunk.now.file blocks c) inside.chunk.now.code (config_of c)
+    Entered w (place_at m file blocks0 c0) (request_of a) (config_of c0) (place_at m inside.definer.chunk.now.file blocks c) inside.definer.chunk.now.code (config_of c)
     × Keeps a inside blocks0 c0 blocks c
 Enters w m file a blocks0 c0 (Err None) blocks c = Unit {0}
 Enters w m file a blocks0 c0 (Err (Some fault)) blocks c =

@@ -23,7 +23,7 @@ use tera_code::Chunk;
 use tera_errors::Error;
 use tera_objects::Objects;
 use tera_operators::Operand;
-use tera_registry::{Definer, Definers, Home};
+use tera_registry::{Definer, Definers};
 use tera_state::Stack;
 use tera_values::{Name, TeraResult};
 
@@ -34,11 +34,10 @@ pub struct Outer {
     pub ended: Ended,
 }
 
-/// A body that is entered, and what is to be again behind it.
+/// A body that is entered, which this definer has, and what is to be again behind it.
 #[derive(Drop)]
 pub struct Inside<'t> {
-    pub chunk: &'t Chunk,
-    pub home: Home,
+    pub definer: Definer<'t>,
     pub above: Definers<'t>,
     pub outer: Outer,
 }
@@ -175,8 +174,7 @@ impl<'t, O: Objects> VirtualMachine<'t, O> {
         let above = blocks.enter(asked, &definer)?;
         let outer = configuration.begin_body()?;
         Ok(Inside {
-            chunk: definer.chunk,
-            home: definer.home,
+            definer,
             above,
             outer,
         })
@@ -196,8 +194,7 @@ impl<'t, O: Objects> VirtualMachine<'t, O> {
         ensures lacks { IfErr result Lacks }
     {
         let Inside {
-            chunk: _,
-            home: _,
+            definer: _,
             above,
             outer,
         } = inside;

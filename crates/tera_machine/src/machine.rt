@@ -357,7 +357,8 @@ impl<'t, O: Objects> VirtualMachine<'t, O> {
             Ok(inside) => inside,
             Err(error) => return Err(error),
         };
-        match self.run_counted::<M, L>(inside.chunk, inside.home, blocks, configuration, steps) {
+        let body = inside.definer;
+        match self.run_counted::<M, L>(body.chunk, body.home, blocks, configuration, steps) {
             Ok(()) => {}
             Err(error) => return Err(error),
         }

@@ -1,9 +1,11 @@
--- The readers and writers in inputs and outputs.
-use Rattle.tera_run_script.specs.declared.standard.ReaderInput.{ReaderInput}
-use Rattle.tera_run_script.specs.declared.standard.WriterOutput.{WriterOutput}
+-- Readers and writers as inputs and outputs.
+use Rattle.tera_run_script.specs.Passage.{Passage}
+use Rattle.tera_run_script.specs.declared.standard.Standard.{Standard}
 
-abbrev pub reader_inside : {R : Type 0} → ReaderInput R → R
-reader_inside input = input.reader
+-- the reader or the writer, where it stands
+abbrev pub device_inside : {D : Type 0} → Standard D → D
+device_inside s = s.device
 
-abbrev pub writer_inside : {W : Type 0} → WriterOutput W → W
-writer_inside output = output.writer
+-- what went through it
+abbrev pub passed_through : {D : Type 0} → Standard D → Passage
+passed_through s = record { bytes = s.trace.bytes; failures = s.trace.failures }

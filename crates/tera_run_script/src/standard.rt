@@ -1,7 +1,7 @@
 // Readers and writers of the standard library as inputs and outputs.
-ghost use Rattle.std.specs.Prelude.{◌≡◌};
+ghost use Rattle.std.specs.Prelude.{◌≡◌, IsTrue};
 ghost use Rattle.tera_run_script.specs.Passage.{unused};
-ghost use Rattle.tera_run_script.specs.Standard.{reader_inside, writer_inside};
+ghost use Rattle.tera_run_script.specs.Standard.{device_inside, passed_through};
 
 use crate::stream::{Failure, Input, Output};
 use crate::trace::Trace;
@@ -20,98 +20,74 @@ macro_rules! uninterrupted {
     };
 }
 
-/// A reader as an input. A read that was interrupted is tried again.
+/// A reader as an input, or a writer as an output. A read or a write that was interrupted is tried again.
 #[derive(Drop)]
-pub struct ReaderInput<R> {
-    reader: R,
-    ended: bool,
+pub struct Standard<D> {
+    device: D,
+    /// Whether the reader has told its end, or the writer holds nothing back.
+    is_done: bool,
     trace: Trace,
 }
 
-impl<R: Read> ReaderInput<R> {
-    /// Takes the reader where it stands.
-    pub fn new(reader: R) -> ReaderInput<R>
-        ensures passed { ⟦<ReaderInput<R> as Input>⟧.passed result ≡ unused }
-        ensures device { ⟦<ReaderInput<R> as Input>⟧.remaining result ≡ R.remaining reader }
-        ensures reader { reader_inside result ≡ reader }
+/// A reader as an input.
+pub type ReaderInput<R> = Standard<R>;
+
+/// A writer as an output.
+pub type WriterOutput<W> = Standard<W>;
+
+impl<D> Standard<D> {
+    /// Takes the device where it stands.
+    pub fn new(device: D) -> Standard<D>
+        ensures passed { passed_through result ≡ unused }
+        ensures device { device_inside result ≡ device }
     {
-        ReaderInput {
-            reader,
-            ended: false,
+        Standard {
+            device,
+            is_done: false,
             trace: Trace::new(),
         }
     }
+
+    /// The device, as it stands now.
+    pub fn into_inner(self) -> D
+        ensures { result ≡ device_inside self }
+    {
+        let Standard {
+            device,
+            is_done: _,
+            trace: _,
+        } = self;
+        device
+    }
 }
 
-impl<R: Read> Input for ReaderInput<R> {
-    ghost use Rattle.std.specs.Prelude.{IsTrue};
-    ghost use Rattle.tera_run_script.specs.Passage.{Passage};
+impl<R: Read> Input for Standard<R> {
+    ghost passed = { passed_through };
 
-    ghost passed = { λ s. record { bytes = s.trace.bytes; failures = s.trace.failures } };
+    ghost ended = { λ s. IsTrue s.is_done };
 
-    ghost ended = { λ s. IsTrue s.ended };
-
-    ghost remaining = { λ s. R.remaining s.reader };
+    ghost remaining = { λ s. R.remaining (device_inside s) };
 
     fn read(&mut self, buffer: &mut [u8]) -> Result<usize, Failure> {
-        uninterrupted!(self.reader.read(buffer), taken => {
+        uninterrupted!(self.device.read(buffer), taken => {
             self.trace = Trace::with(&self.trace, &buffer[..taken], 0);
-            self.ended = taken == 0 && !buffer.is_empty();
+            self.is_done = taken == 0 && !buffer.is_empty();
             return Ok(taken);
         });
         Err(self.trace.fail())
     }
 }
 
-/// A writer as an output. A write that was interrupted is tried again.
-#[derive(Drop)]
-pub struct WriterOutput<W> {
-    writer: W,
-    is_flushed: bool,
-    trace: Trace,
-}
+impl<W: Write> Output for Standard<W> {
+    ghost passed = { passed_through };
 
-impl<W: Write> WriterOutput<W> {
-    /// Takes the writer where it stands.
-    pub fn new(writer: W) -> WriterOutput<W>
-        ensures passed { ⟦<WriterOutput<W> as Output>⟧.passed result ≡ unused }
-        ensures device { ⟦<WriterOutput<W> as Output>⟧.contents result ≡ W.contents writer }
-        ensures writer { writer_inside result ≡ writer }
-    {
-        WriterOutput {
-            writer,
-            is_flushed: false,
-            trace: Trace::new(),
-        }
-    }
+    ghost settled = { λ s. IsTrue s.is_done };
 
-    /// The writer, as it stands now.
-    pub fn into_inner(self) -> W
-        ensures writer { result ≡ writer_inside self }
-        ensures device { W.contents result ≡ ⟦<WriterOutput<W> as Output>⟧.contents self }
-    {
-        let WriterOutput {
-            writer,
-            is_flushed: _,
-            trace: _,
-        } = self;
-        writer
-    }
-}
-
-impl<W: Write> Output for WriterOutput<W> {
-    ghost use Rattle.std.specs.Prelude.{IsTrue};
-    ghost use Rattle.tera_run_script.specs.Passage.{Passage};
-
-    ghost passed = { λ s. record { bytes = s.trace.bytes; failures = s.trace.failures } };
-
-    ghost settled = { λ s. IsTrue s.is_flushed };
-
-    ghost contents = { λ s. W.contents s.writer };
+    ghost contents = { λ s. W.contents (device_inside s) };
 
     fn write(&mut self, piece: &[u8]) -> Result<usize, Failure> {
-        self.is_flushed = false;
-        uninterrupted!(self.writer.write(piece), taken => {
+        self.is_done = false;
+        uninterrupted!(self.device.write(piece), taken => {
             if taken == 0 && !piece.is_empty() {
                 break;
             }
@@ -122,8 +98,8 @@ impl<W: Write> Output for WriterOutput<W> {
     }
 
     fn flush(&mut self) -> Result<(), Failure> {
-        if self.writer.flush().is_ok() {
-            self.is_flushed = true;
+        if self.device.flush().is_ok() {
+            self.is_done = true;
             return Ok(());
         }
         Err(self.trace.fail())

@@ -1,10 +1,10 @@
 use Rattle.std.proofs.Common.{◌≡◌}
 use Rattle.std.specs.Io.KnownBytes.{Keeps}
-use Rattle.tera_run_script.proofs.standard.ReaderInputInput.read.Given as goal
+use Rattle.tera_run_script.proofs.standard.StandardInput.read.Given as goal
 
 abbrev pub invariant-loop : goal.invariant-loop
 invariant-loop g l = record {
   bytes : l.self.trace.bytes ≡ l.initial.self.trace.bytes;
   failures : l.self.trace.failures ≡ l.initial.self.trace.failures;
-  device : Keeps (g.R.Read.remaining l.initial.self.reader) (g.R.Read.remaining l.self.reader);
+  device : Keeps (g.R.Read.remaining l.initial.self.device) (g.R.Read.remaining l.self.device);
 }

@@ -2,12 +2,26 @@
 use Rattle.std.specs.Prelude.{◌≡◌, Some, None, Result, Ok, Err}
 use Rattle.tera_errors.specs.Answer.{SeenError}
 use Rattle.tera_objects.specs.Engine.{Engine}
+use Rattle.tera_objects.specs.Kept.{Meanings, engine_of}
 use Rattle.tera_objects.specs.Moving.{with_those_of, MovedInPart}
+use Rattle.tera_objects.specs.declared.over.ObjectsOver.{ObjectsOver}
 use Rattle.tera_meaning.specs.Registry.{Registry}
+use Rattle.tera.specs.Configuring.{Configures}
+use Rattle.tera.specs.Registry.{registry_of}
+use Rattle.tera.specs.declared.engine.TeraOver.{TeraOver}
 
 -- the registry with what this makes of its engine
 abbrev pub with_engine : (Engine → Engine) → Registry → Registry
 with_engine change r = record r { engine = change r.engine }
+
+-- how a call ends that registers: with its engine changed like this, whatever the objects mean,
+-- or with a refusal and the engine of before
+abbrev pub Registers : {E F T G : Type 0} → Result (Unit {0}) SeenError
+    → (Meanings E F T G → Engine → Engine)
+    → TeraOver (ObjectsOver E F T G) → TeraOver (ObjectsOver E F T G) → Type 0
+Registers {E} {F} {T} {G} result change old new = (m : Meanings E F T G) →
+    let seen : TeraOver (ObjectsOver E F T G) → Registry = registry_of (engine_of m) in
+    Configures result (Ok (with_engine (change m) (seen old))) (seen old) (seen new)
 
 -- how a call ends that moves what another engine has: with all of it,
 -- or for want of memory with the first of it

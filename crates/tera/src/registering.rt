@@ -1,9 +1,7 @@
 // The caller's filters, tests, functions and escape.
-ghost use Rattle.std.specs.Prelude.{◌≡◌, Ok};
+ghost use Rattle.std.specs.Prelude.{◌≡◌};
 ghost use Rattle.tera_values.specs.Prelude.{escape_html};
 ghost use Rattle.tera_objects.specs.Prelude.{with_escape, with_filter, with_test, with_function, Meanings, engine_of};
-ghost use Rattle.tera.specs.Configuring.{Configures};
-ghost use Rattle.tera.specs.Registering.{with_engine, MovesFrom};
 
 use crate::engine::TeraOver;
 use std::mem::replace;
@@ -14,6 +12,7 @@ use tera_values::TeraResult;
 /// and its functions `Box<dyn Function>`. The contracts hold whatever the objects mean.
 impl<E: Drop, F: Drop, T: Drop, G: Drop> TeraOver<ObjectsOver<E, F, T, G>> {
     ghost use Rattle.tera.specs.Registry.{registry_of};
+    ghost use Rattle.tera.specs.Registering.{with_engine, Registers, MovesFrom};
 
     /// Texts are escaped by this from now on, also in templates that are there. The escape of before is dropped. Takes no memory.
     pub fn set_escape_fn(&mut self, escape: E)
@@ -34,30 +33,22 @@ impl<E: Drop, F: Drop, T: Drop, G: Drop> TeraOver<ObjectsOver<E, F, T, G>> {
     /// The name stands for this filter from now on, also in templates that are there; a filter of the caller that it stood for is
     /// dropped. Want of memory leaves all as it was, and drops this one.
     pub fn register_filter(&mut self, name: &str, filter: F) -> TeraResult<()>
-        ensures { (m : Meanings E F T G) → let seen = registry_of (engine_of m) in
-            Configures result
-            (Ok (with_engine (with_filter name.now (m.filter filter)) (seen self.old)))
-            (seen self.old) (seen self.new) }
+        ensures { Registers result (λ m. with_filter name.now (m.filter filter)) self.old self.new }
     {
         self.objects.register_filter(name, filter)
     }
 
     /// The name stands for this test from now on, as for a filter.
     pub fn register_test(&mut self, name: &str, test: T) -> TeraResult<()>
-        ensures { (m : Meanings E F T G) → let seen = registry_of (engine_of m) in
-            Configures result
-            (Ok (with_engine (with_test name.now (m.test test)) (seen self.old)))
-            (seen self.old) (seen self.new) }
+        ensures { Registers result (λ m. with_test name.now (m.test test)) self.old self.new }
     {
         self.objects.register_test(name, test)
     }
 
     /// The name stands for this function from now on, as for a filter.
     pub fn register_function(&mut self, name: &str, function: G) -> TeraResult<()>
-        ensures { (m : Meanings E F T G) → let seen = registry_of (engine_of m) in
-            Configures result
-            (Ok (with_engine (with_function name.now (m.function function)) (seen self.old)))
-            (seen self.old) (seen self.new) }
+        ensures { Registers result (λ m. with_function name.now (m.function function))
+            self.old self.new }
     {
         self.objects.register_function(name, function)
     }

@@ -1,11 +1,12 @@
 -- A rendering of a template, from what was found by its name.
-use Rattle.std.proofs.Common.{◌≡◌, Bool, List, [], ◌∷◌, Some, None, Result, Ok, Err, refl, sym, ap, ap₂, ◌∙◌, subst}
+use Rattle.std.proofs.Common.{◌≡◌, List, [], ◌∷◌, Some, None, Result, Ok, Err, refl, sym, ap, ap₂, ◌∙◌, subst}
 use Rattle.tera_errors.specs.Site.{Text, Name}
 use Rattle.tera_errors.specs.Fault.{Fault, message, template_not_found}
 use Rattle.tera_errors.specs.Answer.{SeenError, Tells, Gives, GivesOneOf, SaysOneOf}
 use Rattle.tera_values.specs.Alphabet.{marking}
 use Rattle.tera_values.specs.Val.{Val}
 use Rattle.tera_values.specs.Named.{Named}
+use Rattle.tera_syntax_tree.specs.Tree.{Nodes}
 use Rattle.tera_meaning.specs.Registry.{Registry}
 use Rattle.tera_meaning.specs.Resolve.{resolve, root}
 use Rattle.tera_state.specs.Scope.{nothing_set}
@@ -16,7 +17,7 @@ use Rattle.tera_code.specs.Code.{nodes_code}
 use Rattle.tera_code.specs.Listing.{Listing}
 use Rattle.tera_marks.specs.Origin.{Traces}
 use Rattle.tera_marks.proofs.Traced.{templates_are_traced, blocks_are_traced}
-use Rattle.tera_machine.specs.Subject.{Subject, meant}
+use Rattle.tera_machine.specs.Subject.{meant}
 use Rattle.tera_registry.specs.Templates.{Leads, with_templates, definers_of}
 use Rattle.tera_registry.specs.declared.templates.FoundTemplate.{FoundTemplate}
 use Rattle.tera_registry.specs.declared.templates.Definers.{Definers}
@@ -35,21 +36,19 @@ module _ (r : Registry) (name : Name) (found : FoundTemplate) (leads : Leads r n
   code-found = ap (λ (l : Listing). l.code) leads.code ∙ ap (λ ns. nodes_code ns 0) (sym nodes-found)
 
 -- what the body that was found means is what the template means
-answer-found : (r : Registry) (name : Name) (context : Named Val) (found : FoundTemplate) (flag : Bool) (leads : Leads r name found) → flag ≡ autoescapes r found.name.now
-    → meant (subject_of_file r found.name.now found.chunk.now.file context flag) (begun nothing_set) ≡ template_meaning r leads.entry context
-answer-found r name context found flag leads is =
+answer-found : (r : Registry) (name : Name) (context : Named Val) (found : FoundTemplate) (leads : Leads r name found)
+    → meant (subject_of_file r found.name.now found.chunk.now.file context) (begun nothing_set) ≡ template_meaning r leads.entry context
+answer-found r name context found leads =
     let top = root r leads.entry in
-    let m : Subject → Answer Signal = λ s. meant s (begun nothing_set) in
-    ap (λ file. m (subject_of (alone r) (Some found.name.now) file (nodes_of_file r found.chunk.now.file) context flag)) (file-found r name found leads)
-    ∙ ap (λ ns. m (subject_of (alone r) (Some found.name.now) top.0 ns context flag)) (nodes-found r name found leads)
-    ∙ ap (λ b. m (subject_of (alone r) (Some found.name.now) top.0 top.1.tree.nodes context b)) (is ∙ ap (autoescapes r) leads.named)
-    ∙ ap (λ n. m (subject_of (alone r) (Some n) top.0 top.1.tree.nodes context (autoescapes r leads.entry.0))) leads.named
+    let m : Name → Name → Nodes → Answer Signal = λ n file ns. meant (subject_of (alone r) (Some n) file ns context (autoescapes r n)) (begun nothing_set) in
+    ap (λ file. m found.name.now file (nodes_of_file r found.chunk.now.file)) (file-found r name found leads)
+    ∙ ap (m found.name.now top.0) (nodes-found r name found leads)
+    ∙ ap (λ n. m n top.0 top.1.tree.nodes) leads.named
 
 -- so its text is what the name renders to
-pub text-found : (r : Registry) (name : Name) (context : Named Val) (found : FoundTemplate) (flag : Bool) → Leads r name found → flag ≡ autoescapes r found.name.now
-    → text_meant (subject_of_file r found.name.now found.chunk.now.file context flag) ≡ render r name context
-text-found r name context found flag leads is =
-    ap text_of (answer-found r name context found flag leads is)
+pub text-found : (r : Registry) (name : Name) (context : Named Val) (found : FoundTemplate) → Leads r name found → text_meant (subject_of_file r found.name.now found.chunk.now.file context) ≡ render r name context
+text-found r name context found leads =
+    ap text_of (answer-found r name context found leads)
     ∙ sym (ap (λ o. render_template r o context) leads.resolves)
 
 module _ (r : Registry) (name block : Name) (context : Named Val) (found : FoundTemplate) (leads : Leads r name found) (ds : Definers) (of_block : (s : Registry) → definers_of ds ≡ definers (with_templates s found.templates.now) (Some found.name.now) block) where
@@ -69,10 +68,9 @@ module _ (r : Registry) (name block : Name) (context : Named Val) (found : Found
   block-missing e = meant-by (template_meaning r leads.entry context) [] refl e
 
   -- any other has the text of the last one that ended
-  pub block-found : (flag : Bool) (d : Definer) (more : List Definer) → flag ≡ autoescapes r found.name.now → definers_of ds ≡ d ∷ more
-      → block_meant block (subject_of_file r found.name.now found.chunk.now.file context flag) ≡ render_block r name block context
-  block-found flag d more is e =
-      sym (meant-by (meant (subject_of_file r found.name.now found.chunk.now.file context flag) (begun nothing_set)) (d ∷ more) (sym (answer-found r name context found flag leads is)) e)
+  pub block-found : (d : Definer) (more : List Definer) → definers_of ds ≡ d ∷ more → block_meant block (subject_of_file r found.name.now found.chunk.now.file context) ≡ render_block r name block context
+  block-found d more e =
+      sym (meant-by (meant (subject_of_file r found.name.now found.chunk.now.file context) (begun nothing_set)) (d ∷ more) (sym (answer-found r name context found leads)) e)
 
 module _ (r : Registry) (name : Name) (context : Named Val) where
   by_name : (answer : Result Text Fault) → answer ≡ render r name context → ByName r name context answer

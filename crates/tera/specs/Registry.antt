@@ -13,7 +13,7 @@ use Rattle.tera_components.specs.Definition.{Info, definition_of, info_of}
 use Rattle.tera_meaning.specs.Run.{begun}
 pub use Rattle.tera_meaning.specs.Registry.{Entry, Registry}
 use Rattle.tera_meaning.specs.Resolve.{entry_at}
-use Rattle.tera_meaning.specs.Rendering.{alone, outermost, text_of, block_of}
+use Rattle.tera_meaning.specs.Rendering.{alone, autoescapes, outermost, text_of, block_of}
 use Rattle.tera_meaning.specs.Known.{lacks_a_callee}
 use Rattle.tera_meaning.specs.Components.{Component, component, one_off_name}
 use Rattle.tera_meaning.specs.Accepted.{misses_an_include}
@@ -72,15 +72,11 @@ nodes_in (Some t) = t.1.tree.nodes
 abbrev pub nodes_of_file : Registry → Name → Nodes
 nodes_of_file r file = nodes_in (entry_at file r.templates)
 
--- the text of this file, where it is rendered as that of a template, or of none
-abbrev pub subject_in : Registry → Option Name → Name → Named Val → Bool → Subject
-subject_in r template file context autoescape =
-    subject_of (alone r) template file (nodes_of_file r file) context autoescape
-
 -- the nodes of a template's text with which the rendering of a template begins
-abbrev pub subject_of_file : Registry → Name → Name → Named Val → Bool → Subject
-subject_of_file r template file context autoescape =
-    subject_in r (Some template) file context autoescape
+abbrev pub subject_of_file : Registry → Name → Name → Named Val → Subject
+subject_of_file r template file context =
+    subject_of (alone r) (Some template) file (nodes_of_file r file) context
+    (autoescapes r template)
 
 -- the body of a component, with this around its variables
 abbrev pub subject_of_component : Registry → Option Component → Around → Bool → Subject

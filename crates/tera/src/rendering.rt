@@ -7,7 +7,7 @@ ghost use Rattle.tera_meaning.specs.Prelude.{outermost};
 ghost use Rattle.tera_code.specs.Prelude.{nodes_code};
 ghost use Rattle.tera_registry.specs.Prelude.{with_templates};
 ghost use Rattle.tera.specs.Rendering.{OneOff, allowed};
-ghost use Rattle.tera_machine.specs.Prelude.{Subject, IsLinked, engine_of, template_of};
+ghost use Rattle.tera_machine.specs.Prelude.{Subject, IsLinked, engine_of};
 
 use crate::engine::TeraOver;
 use std::alloc::{AllocError, Global};
@@ -28,7 +28,7 @@ use tera_values::{Context, Error, Name, TeraResult};
 const ONE_OFF: &str = "__tera_one_off";
 
 impl<O: Objects> TeraOver<O> {
-    ghost use Rattle.tera.specs.Registry.{registry_of, nodes_of_file, place_in, subject_of, subject_beside, subject_of_file, text_meant, one_off_meant, block_meant};
+    ghost use Rattle.tera.specs.Registry.{registry_of, place_in, subject_beside, subject_of_file, text_meant, one_off_meant, block_meant};
 
     pub(crate) fn read_and_render(
         &self,
@@ -89,95 +89,54 @@ impl<O: Objects> TeraOver<O> {
             &self.objects,
         );
         let machine = alone.with_components(own.as_slice());
-        self.run_body::<L>(&machine, &chunk, context, blank)
+        let scopes = self.scopes_for(&chunk, context)?;
+        self.run_within::<L>(&machine, &chunk, scopes, blank)
     }
 
-    // The text of a template that was found, from the body of its root on: the file that its code names says of which.
+    // The text of a template that was found, from the body of its root on: the file that its code names says of which. The
+    // subject is that body's.
     pub(crate) fn render_found(
         &self,
         found: FoundTemplate<'_>,
         context: &Context,
-        autoescape: bool,
     ) -> TeraResult<String>
-        requires linked { with_templates (registry_of O.engine self.now) found.templates.now
-            ≡ registry_of O.engine self.now }
-        requires code { found.chunk.now.code
-            ≡ nodes_code (nodes_of_file (registry_of O.engine self.now) found.chunk.now.file) 0 }
-        ensures { Gives string_bytes result
-            (text_meant (subject_of_file (registry_of O.engine self.now)
-            found.entry.name.now found.entry.chunk.now.file context.now autoescape)) }
+        ghost about: { Subject }
+        requires subject { about ≡ subject_of_file (registry_of O.engine self.now) found.name.now
+            found.chunk.now.file context.now }
+        requires linked { with_templates about.world.registry found.templates.now
+            ≡ about.world.registry }
+        requires code { found.chunk.now.code ≡ nodes_code about.tree 0 }
+        ensures { Gives string_bytes result (text_meant about) }
     {
+        let autoescape = self.escapes(found);
         let machine = VirtualMachine::for_template(self.alloc, autoescape, found, &self.objects);
-        self.run_body::<Brand>(&machine, found.chunk, context, Blank::new(1))
+        let scopes = self.scopes_for(found.chunk, context)?;
+        self.run_within::<Brand>(&machine, found.chunk, scopes, Blank::new(1))
     }
 
-    // The text that a block of a template had when it ended last, while all of the template was rendered.
-    pub(crate) fn render_found_block(
+    // The text that a block of a template had when it ended last, while all of the template was rendered. The subject is as above.
+    pub(crate) fn render_found_block<L: Ledger>(
         &self,
         found: FoundTemplate<'_>,
         block: &Name,
         context: &Context,
-        autoescape: bool,
-    ) -> TeraResult<String>
-        requires linked { with_templates (registry_of O.engine self.now) found.templates.now
-            ≡ registry_of O.engine self.now }
-        requires code { found.chunk.now.code
-            ≡ nodes_code (nodes_of_file (registry_of O.engine self.now) found.chunk.now.file) 0 }
-        ensures { Gives string_bytes result
-            (block_meant block.now (subject_of_file (registry_of O.engine self.now)
-            found.entry.name.now found.entry.chunk.now.file context.now autoescape)) }
-    {
-        let machine = VirtualMachine::for_template(self.alloc, autoescape, found, &self.objects);
-        self.run_for_block::<Brand>(&machine, found.chunk, block, context, Blank::new(1))
-    }
-
-    // The text that a block had when it ended last, while a body was run. The subject is the body's.
-    fn run_for_block<L: Ledger>(
-        &self,
-        machine: &VirtualMachine<'_, O>,
-        chunk: &Chunk,
-        block: &Name,
-        context: &Context,
         blank: Blank,
     ) -> TeraResult<String>
         ghost about: { Subject }
         requires ledger { (blank.name ≡ L.name) × (blank.parts ≡ L.parts) × (L.parts ≡ 1) }
-        requires registry { about.world.registry ≡ registry_of O.engine self.now }
-        requires engine { engine_of O.engine machine.now ≡ about.world.registry.engine }
-        requires linked { IsLinked machine.now about.world }
-        requires outside { machine.now.depth ≡ 0 }
-        requires subject { about ≡ subject_of about.world (template_of machine.now)
-            chunk.now.file about.tree context.now machine.now.autoescape }
-        requires code { chunk.now.code ≡ nodes_code about.tree 0 }
+        requires subject { about ≡ subject_of_file (registry_of O.engine self.now) found.name.now
+            found.chunk.now.file context.now }
+        requires linked { with_templates about.world.registry found.templates.now
+            ≡ about.world.registry }
+        requires code { found.chunk.now.code ≡ nodes_code about.tree 0 }
         ensures { Gives string_bytes result (block_meant block.now about) }
     {
-        let scopes = self.scopes_for(chunk, context)?;
+        let autoescape = self.escapes(found);
+        let machine = VirtualMachine::for_template(self.alloc, autoescape, found, &self.objects);
+        let scopes = self.scopes_for(found.chunk, context)?;
         let mut configuration = Configuration::new(self.alloc, scopes);
         let mut steps = Steps::<L>::new(blank);
-        machine.run_for_block::<L>(chunk, block, &mut configuration, &mut steps)
-    }
-
-    // The text of a body that reads this context. The subject is the body's: it tells the machine what it means.
-    fn run_body<L: Ledger>(
-        &self,
-        machine: &VirtualMachine<'_, O>,
-        chunk: &Chunk,
-        context: &Context,
-        blank: Blank,
-    ) -> TeraResult<String>
-        ghost about: { Subject }
-        requires ledger { (blank.name ≡ L.name) × (blank.parts ≡ L.parts) × (L.parts ≡ 1) }
-        requires registry { about.world.registry ≡ registry_of O.engine self.now }
-        requires engine { engine_of O.engine machine.now ≡ about.world.registry.engine }
-        requires linked { IsLinked machine.now about.world }
-        requires outside { machine.now.depth ≡ 0 }
-        requires subject { about ≡ subject_of about.world (template_of machine.now)
-            chunk.now.file about.tree context.now machine.now.autoescape }
-        requires code { chunk.now.code ≡ nodes_code about.tree 0 }
-        ensures { Gives string_bytes result (text_meant about) }
-    {
-        let scopes = self.scopes_for(chunk, context)?;
-        self.run_within::<L>(machine, chunk, scopes, blank)
+        machine.run_for_block::<L>(found.chunk, block, &mut configuration, &mut steps)
     }
 
     // The scopes of a body that reads this context: names that its code reads often are found without a search.
@@ -195,7 +154,7 @@ impl<O: Objects> TeraOver<O> {
         Ok(scopes)
     }
 
-    // The text of a body that reads these scopes.
+    // The text of a body that reads these scopes. The subject is the body's: it tells the machine what it means.
     pub(crate) fn run_within<L: Ledger>(
         &self,
         machine: &VirtualMachine<'_, O>,

@@ -8,6 +8,8 @@ ghost use Rattle.tera.specs.Rendering.{ByName, BlockByName, AppendsOneOf};
 use crate::engine::TeraOver;
 use crate::texts::ends_with_one_of;
 use std::collections::BTreeSet;
+use std::marker::Brand;
+use std::sync::ledger::Blank;
 use tera_objects::Objects;
 use tera_registry::FoundTemplate;
 use tera_values::{Context, Error, Name, TeraResult};
@@ -70,13 +72,13 @@ impl<O: Objects> TeraOver<O> {
             (ByName (registry_of O.engine self.now) name.now context.now) }
     {
         match self.templates.find(name) {
-            Some(found) => { self.render_found(found, context, self.escapes(found)) }
+            Some(found) => self.render_found(found, context),
             None => Err(Error::template_not_found()),
         }
     }
 
     // Whether texts are escaped where the template that was found is rendered.
-    fn escapes(&self, found: FoundTemplate<'_>) -> bool
+    pub(crate) fn escapes(&self, found: FoundTemplate<'_>) -> bool
         ensures { result ≡ autoescapes (registry_of O.engine self.now) found.entry.name.now }
     {
         ends_with_one_of(found.name, self.suffixes.as_slice())
@@ -103,7 +105,7 @@ impl<O: Objects> TeraOver<O> {
             Some(found) => match found.definers(block).next() {
                 Some(_) => {
                     let wanted = Name::new(self.alloc, block)?;
-                    self.render_found_block(found, &wanted, context, self.escapes(found))
+                    self.render_found_block::<Brand>(found, &wanted, context, Blank::new(1))
                 }
                 None => Err(Error::message(self.alloc, "no template has this block")),
             },

@@ -1,4 +1,4 @@
-use Rattle.std.proofs.Common.{Global, Result, subst, string_bytes}
+use Rattle.std.proofs.Common.{Global, Result, subst, string_bytes, rules}
 use Rattle.tera_errors.specs.Site.{Text}
 use Rattle.tera_errors.specs.Fault.{Fault}
 use Rattle.tera_errors.specs.Answer.{Gives}
@@ -7,15 +7,15 @@ use Rattle.tera.proofs.ByName.{code-found, text-found, renders, not_there}
 use Rattle.tera.proofs.engine.TeraOver.render.Goals as goal
 
 pub render_found-requires : goal.render_found-requires
-render_found-requires g c =
+render_found-requires g c κs within =
     let r = registry_of g.O.Objects.engine c.args.self.now in
     let leads = c.in-Some.ensures r in
-    record { linked = leads.among; code = code-found r c.args.name.now c.in-Some.found leads }
+    search (rules, leads.among, code-found r c.args.name.now c.in-Some.found leads)
 
 pub returns-in-Some : goal.returns-in-Some
 returns-in-Some g c =
     let r = registry_of g.O.Objects.engine c.args.self.now in
-    let is = text-found r c.args.name.now c.args.context.now c.in-Some.found c.escapes.result (c.in-Some.ensures r) c.escapes.ensures in
+    let is = text-found r c.args.name.now c.args.context.now c.in-Some.found (c.in-Some.ensures r) in
     let P : Result Text Fault → Type 0 = Gives (string_bytes {Z = Global}) c.render_found.result in
     renders r c.args.name.now c.args.context.now (string_bytes {Z = Global}) c.render_found.result (subst P is c.render_found.ensures)
 

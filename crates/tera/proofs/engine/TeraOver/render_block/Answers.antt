@@ -1,4 +1,4 @@
-use Rattle.std.proofs.Common.{Global, Result, sym, ap, ◌∙◌, subst, string_bytes}
+use Rattle.std.proofs.Common.{Global, Result, sym, ap, ◌∙◌, subst, string_bytes, rules}
 use Rattle.tera_errors.specs.Site.{Text, Name}
 use Rattle.tera_errors.specs.Fault.{Fault}
 use Rattle.tera_errors.specs.Answer.{Gives}
@@ -8,18 +8,18 @@ use Rattle.tera.proofs.ByName.{code-found, block-missing, block-found, renders-b
 use Rattle.tera.proofs.engine.TeraOver.render_block.Goals as goal
 
 pub render_found_block-requires : goal.render_found_block-requires
-render_found_block-requires g c =
+render_found_block-requires g c κs within =
     let r = registry_of g.O.Objects.engine c.args.self.now in
     let leads = c.in-Some.ensures r in
-    record { linked = leads.among; code = code-found r c.args.name.now c.in-Some.found leads }
+    search (rules, leads.among, code-found r c.args.name.now c.in-Some.found leads)
 
 pub returns-in_ok-wanted-in-Some-next : goal.returns-in_ok-wanted-in-Some-next
 returns-in_ok-wanted-in-Some-next g c =
     let r = registry_of g.O.Objects.engine c.args.self.now in
     let nearest = c.in-Some-next.ensures in
-    let subject = subject_of_file r c.in-Some.found.name.now c.in-Some.found.chunk.now.file c.args.context.now c.escapes.result in
+    let subject = subject_of_file r c.in-Some.found.name.now c.in-Some.found.chunk.now.file c.args.context.now in
     let same = ap (λ (n : Name). block_meant n subject) (sym (same_ok _ _ c.in_ok-wanted-in-Some-next.ensures)) in
-    let is = same ∙ block-found r c.args.name.now c.args.block.now c.args.context.now c.in-Some.found (c.in-Some.ensures r) c.definers.result c.definers.ensures c.escapes.result nearest.definer _ c.escapes.ensures nearest.is in
+    let is = same ∙ block-found r c.args.name.now c.args.block.now c.args.context.now c.in-Some.found (c.in-Some.ensures r) c.definers.result c.definers.ensures nearest.definer _ nearest.is in
     let P : Result Text Fault → Type 0 = Gives (string_bytes {Z = Global}) c.render_found_block.result in
     renders-block r c.args.name.now c.args.block.now c.args.context.now (string_bytes {Z = Global}) c.render_found_block.result (subst P is c.render_found_block.ensures)
 

@@ -1,10 +1,7 @@
-use Rattle.tera_machine.specs.Subject.{template_of}
-use Rattle.tera.specs.Registry.{registry_of, subject_in}
 use Rattle.tera.proofs.engine.TeraOver.render_found.Given as goal
 
-abbrev pub ghost-run_body : goal.ghost-run_body
-ghost-run_body g a =
-    subject_in (registry_of g.O.Objects.engine a.self.now) (template_of a.machine.now) a.chunk.now.file a.context.now a.machine.now.autoescape
+abbrev pub ghost-run_within : goal.ghost-run_within
+ghost-run_within g a = g.about
 
-abbrev pub ghosts-run_body : goal.ghosts-run_body
-ghosts-run_body g a = record { name = a.blank.name; parts = a.blank.parts }
+abbrev pub ghosts-run_within : goal.ghosts-run_within
+ghosts-run_within g a = record { name = a.blank.name; parts = a.blank.parts }

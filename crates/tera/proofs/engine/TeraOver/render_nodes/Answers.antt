@@ -35,5 +35,5 @@ returns g c =
     let lacks = c.lacks_a_callee.ensures (registry_of g.O.Objects.engine c.args.self.now) (let tree : Tree = record { parent = None; nodes = nodes_of c.args.nodes.now } in tree) one_off_name refl code own c.requires.1.1.1.1 in
     let known = ap (λ (s : Subject). lacks_a_callee s.world.registry.engine (is_there s.world) s.tree) c.requires.1.1.1.0 ∙ sym lacks ∙ c.if-lacks_a_callee.false in
     let there = ap (λ (s : Subject). misses_an_include s.world.registry s.tree) c.requires.1.1.1.0 ∙ sym (c.misses_an_include.ensures (registry_of g.O.Objects.engine c.args.self.now)) ∙ c.if-misses_an_include.false in
-    let P : Result Text Fault → Type 0 = Gives (string_bytes {Z = Global}) c.run_body.result in
-    subst P (nothing-missing g.about known there) c.run_body.ensures
+    let P : Result Text Fault → Type 0 = Gives (string_bytes {Z = Global}) c.run_within.result in
+    subst P (nothing-missing g.about known there) c.run_within.ensures

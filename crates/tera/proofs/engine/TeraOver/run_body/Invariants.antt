@@ -1,4 +1,0 @@
-use Rattle.tera.proofs.engine.TeraOver.run_body.Given as goal
-
-abbrev pub ghost-run_within : goal.ghost-run_within
-ghost-run_within g a = g.about

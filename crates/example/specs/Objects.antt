@@ -7,7 +7,8 @@ use Rattle.tera.specs.View.{View, escaped_if_needed}
 
 -- what is written for a value, between two tags
 abbrev pub strong : Val → View → Result Val Fault
-strong v view = then (escaped_if_needed view v) (λ t. Ok (text (codes "<b>" ++ t ++ codes "</b>") false))
+strong v view =
+    then (escaped_if_needed view v) (λ t. Ok (text (codes "<b>" ++ t ++ codes "</b>") false))
 
 -- whether an age is eighteen or more
 abbrev pub is_adult : Val → Result Bool Fault

@@ -75,7 +75,8 @@ abbrev pub default_of : {A B : Type 0} → B → (A → Result B Fault) → Opti
 default_of default reading None = Ok default
 default_of default reading (Some v) = reading v
 
-module _ {C A : Type 0} (reading : ValOf C → Result A Fault) (name : Name) (given : Named (ValOf C)) where
+module _ {C A : Type 0} (reading : ValOf C → Result A Fault) (name : Name)
+    (given : Named (ValOf C)) where
   -- an argument that may be left out
   abbrev pub optional : Result (Option A) Fault
   optional = optional_of reading (at_name name given)
@@ -85,5 +86,6 @@ module _ {C A : Type 0} (reading : ValOf C → Result A Fault) (name : Name) (gi
   needed = needed_of reading (at_name name given)
 
 -- an argument with what it is where it is left out
-abbrev pub or_default : {C A : Type 0} → A → (ValOf C → Result A Fault) → Name → Named (ValOf C) → Result A Fault
+abbrev pub or_default : {C A : Type 0} → A → (ValOf C → Result A Fault) → Name → Named (ValOf C)
+    → Result A Fault
 or_default default reading name given = default_of default reading (at_name name given)

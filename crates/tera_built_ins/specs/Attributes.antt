@@ -21,6 +21,7 @@ abbrev pub attribute_of : Text → Val → Result Val Fault
 attribute_of path v = or_refused (from_path path v)
 
 -- the same, and the value itself where no path is given
-abbrev pub attribute_or_itself : {C : Type 0} → Alphabet C → Option (GivenOf C) → Val → Result Val Fault
+abbrev pub attribute_or_itself : {C : Type 0} → Alphabet C → Option (GivenOf C) → Val
+    → Result Val Fault
 attribute_or_itself alphabet None v = Ok v
 attribute_or_itself alphabet (Some path) v = attribute_of (alphabet.seen path.text) v

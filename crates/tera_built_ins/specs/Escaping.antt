@@ -24,7 +24,8 @@ abbrev pub escaping_of : {E : Type 0} → (E → Text → Text) → declared.Esc
 escaping_of meaning e = record { autoescape = e.autoescape; escape = meaning e.escape.now }
 
 -- what a filter makes of what it is given, where escapes have these meanings
-abbrev pub applied : {E : Type 0} → (E → Text → Text) → (Escaping → Val → Named Val → Result Val Fault) → filtering.Filtering E → Result Val Fault
+abbrev pub applied : {E : Type 0} → (E → Text → Text)
+    → (Escaping → Val → Named Val → Result Val Fault) → filtering.Filtering E → Result Val Fault
 applied meaning filter f = filter (escaping_of meaning f.escaping) f.value.now f.arguments.now
 
 -- the escape of a text: nothing else in a built-in escapes

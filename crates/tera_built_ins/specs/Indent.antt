@@ -19,12 +19,14 @@ module _ {C : Type 0} where
 
   abbrev pub moved_lines : List C → Bool → Bool → List (List C) → List (List C)
   moved_lines padding first blank [] = []
-  moved_lines padding first blank (t ∷ ts) = cond first (padding ++ t) t ∷ each (later_line padding blank) ts
+  moved_lines padding first blank (t ∷ ts) =
+      cond first (padding ++ t) t ∷ each (later_line padding blank) ts
 
 -- the lines with a line feed between them, and one at the end where there was one
 abbrev pub indented : {C : Type 0} → (C → ℕ) → List C → List C → Bool → Bool → List C → List C
 indented code feed padding first blank t =
-    joined code feed (moved_lines padding first blank (lines code t)) ++ cond (ends_line code t) feed []
+    joined code feed (moved_lines padding first blank (lines code t))
+    ++ cond (ends_line code t) feed []
 
 module _ {C : Type 0} (alphabet : Alphabet C) where
   -- one character, where something is given
@@ -49,5 +51,6 @@ module _ {C : Type 0} (alphabet : Alphabet C) where
       let padding = repeat (min width 1000) (unit view safe indentation) in
       let feed = alphabet.spelled made (codes "\n") in
       if is_character indentation
-      then Ok (text (indented alphabet.code feed padding first blank (part alphabet view safe g)) safe)
+      then Ok (text
+      (indented alphabet.code feed padding first blank (part alphabet view safe g)) safe)
       else Err message

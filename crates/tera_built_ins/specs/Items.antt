@@ -19,4 +19,6 @@ module _ {C : Type 0} where
 
   -- the item at a place, where the first place is 0
   abbrev pub nth_of : ValOf C → Named (ValOf C) → Result (ValOf C) Fault
-  nth_of v given = as_array v ▸ λ vs. needed (as_natural (2 ^ 64)) (codes "n") given ▸ λ n. Ok (or_none (slice_get vs n))
+  nth_of v given =
+      as_array v ▸ λ vs. needed (as_natural (2 ^ 64)) (codes "n") given ▸ λ n.
+      Ok (or_none (slice_get vs n))

@@ -20,7 +20,8 @@ module _ {C : Type 0} (alphabet : Alphabet C) (view : Escaping) where
   -- an item as it is printed: into a safe answer its escape, unless it is safe itself or undefined
   abbrev pub item_part : Bool → ValOf C → List C
   item_part safe v =
-      if safe && not (is_undefined v) && not (is_safe v) then escape_of alphabet view (printed_of alphabet v) else printed_of alphabet v
+      if safe && not (is_undefined v) && not (is_safe v)
+      then escape_of alphabet view (printed_of alphabet v) else printed_of alphabet v
 
   -- what stands between two items: nothing where nothing is given
   abbrev pub separator_part : Bool → Option (GivenOf C) → List C

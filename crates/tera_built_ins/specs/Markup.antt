@@ -30,7 +30,7 @@ escape_xml_of = escaped_by escape_xml
 abbrev pub with_breaks : Text → Text
 with_breaks t =
     let put = λ (from : Text) (t : Text). replaced plain.code from (codes "<br>") t in
-    put (13 ∷ []) (put (10 ∷ []) (put (13 ∷ 10 ∷ []) t))
+    put (codes "\r") (put (codes "\n") (put (codes "\r\n") t))
 
 -- the ends of lines as markup; nothing is escaped, and the answer is not marked safe
 abbrev pub newlines_to_br_of : {C : Type 0} → Alphabet C → ValOf C → Result (ValOf C) Fault

@@ -18,11 +18,15 @@ is_numeral base ds = nat_lt 0 (length ds) && list_all (λ d. is_digit d base) ds
 
 -- the number of a numeral, behind a sign or none
 abbrev pub signed_numeral : {C : Type 0} → ℕ → List ℕ → Result (ValOf C) Fault
-signed_numeral base t = cond (is_numeral base (without_leading_sign t)) (kept (signed_digits_value base t)) (Err message)
+signed_numeral base t =
+    cond (is_numeral base (without_leading_sign t)) (kept (signed_digits_value base t))
+    (Err message)
 
 -- what tells the base in front of a numeral
 abbrev pub prefix : ℕ → List ℕ
-prefix base = cond (nat_eq base 2) (codes "0b") (cond (nat_eq base 8) (codes "0o") (cond (nat_eq base 16) (codes "0x") []))
+prefix base =
+    cond (nat_eq base 2) (codes "0b")
+    (cond (nat_eq base 8) (codes "0o") (cond (nat_eq base 16) (codes "0x") []))
 
 -- white space at both ends goes first, and then all such prefixes
 abbrev pub numeral_in : ℕ → List ℕ → List ℕ

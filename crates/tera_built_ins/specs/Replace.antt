@@ -14,7 +14,8 @@ abbrev pub replaced : {C : Type 0} → (C → ℕ) → List ℕ → List C → L
 replaced code from to t = joined code to (pieces code from t)
 
 -- the pattern is looked for as it stands
-abbrev pub replace_of : {C : Type 0} → Alphabet C → Escaping → ValOf C → Named (ValOf C) → Result (ValOf C) Fault
+abbrev pub replace_of : {C : Type 0} → Alphabet C → Escaping → ValOf C → Named (ValOf C)
+    → Result (ValOf C) Fault
 replace_of alphabet view v given =
     as_text v ▸ λ g.
     needed as_text (codes "from") given ▸ λ from.

@@ -4,7 +4,8 @@ use mir.Syntax.{w128}
 
 -- each of so many numbers, each a step behind the one before, has room
 abbrev pub HasRoom : ℤ → ℤ → ℕ → Type 0
-HasRoom start step count = (place : ℕ) → place < count → FitsSigned w128 (start +ℤ (step *ℤ pos place))
+HasRoom start step count =
+    (place : ℕ) → place < count → FitsSigned w128 (start +ℤ (step *ℤ pos place))
 
 -- each of so many strides begins within the distance
 abbrev pub EachIsBelow : ℤ → ℕ → ℕ → Type 0

@@ -59,7 +59,8 @@ module _ {C : Type 0} (alphabet : Alphabet C) (v : ValOf C) (given : Named (ValO
   even_test = as_integer v ▸ λ z. Ok (divides (pos 2) z)
 
   abbrev pub divisible_by_test : Result Bool Fault
-  divisible_by_test = as_integer v ▸ λ z. needed as_integer (codes "divisor") given ▸ λ d. Ok (divides d z)
+  divisible_by_test =
+      as_integer v ▸ λ z. needed as_integer (codes "divisor") given ▸ λ d. Ok (divides d z)
 
   abbrev pub starting_with_test : Result Bool Fault
   starting_with_test = as_text v ▸ λ whole. needed as_text (codes "pat") given ▸ λ part.
@@ -71,4 +72,5 @@ module _ {C : Type 0} (alphabet : Alphabet C) (v : ValOf C) (given : Named (ValO
 
   -- an equal item of an array, a part of a text, a key of a map
   abbrev pub containing_test : Result Bool Fault
-  containing_test = needed as_any (codes "pat") given ▸ λ part. contains (alphabet.bare v) (alphabet.bare part)
+  containing_test =
+      needed as_any (codes "pat") given ▸ λ part. contains (alphabet.bare v) (alphabet.bare part)

@@ -30,7 +30,8 @@ module _ {C : Type 0} (alphabet : Alphabet C) where
   off_both pattern t = off_end pattern (off_start pattern t)
 
 -- what is left of a text keeps its mark
-abbrev pub what_is_left : {C : Type 0} → (Option (GivenOf C) → List C → List C) → ValOf C → Named (ValOf C) → Result (ValOf C) Fault
+abbrev pub what_is_left : {C : Type 0} → (Option (GivenOf C) → List C → List C) → ValOf C
+    → Named (ValOf C) → Result (ValOf C) Fault
 what_is_left left v given =
     as_text v ▸ λ g.
     optional as_text (codes "pat") given ▸ λ pattern.

@@ -11,13 +11,15 @@ use Rattle.tera_built_ins.specs.Arguments.{◌▸◌, as_text, as_bytes, as_natu
 
 -- of more than n extended clusters the first n and an end, and else the text
 abbrev pub truncated : ℕ → Text → Text → Text
-truncated n end t = if nat_lt n (length (graphemes true t)) then concat (take n (graphemes true t)) ++ end else t
+truncated n end t =
+    if nat_lt n (length (graphemes true t)) then concat (take n (graphemes true t)) ++ end else t
 
 -- what stands for the rest of a text: U+2026, as UTF-8 has it
 abbrev pub ellipsis : Text
 ellipsis = 226 ∷ 128 ∷ 166 ∷ []
 
-abbrev pub truncate_of : {C : Type 0} → Alphabet C → ValOf C → Named (ValOf C) → Result (ValOf C) Fault
+abbrev pub truncate_of : {C : Type 0} → Alphabet C → ValOf C → Named (ValOf C)
+    → Result (ValOf C) Fault
 truncate_of alphabet v given =
     as_text v ▸ λ g.
     needed (as_natural (2 ^ 64)) (codes "length") given ▸ λ n.

@@ -10,7 +10,7 @@ ghost use Rattle.tera_built_ins.specs.Indent as spec;
 
 use crate::arguments::{Given, as_text, flag, optional_text, size_or};
 use crate::escaping::{EscapeFn, Filtering};
-use crate::parts::{given_safe, made, part};
+use crate::safe_parts::{given_safe, made, part};
 use std::alloc::Global;
 use tera_values::{Error, TeraResult, Value};
 

@@ -10,7 +10,7 @@ ghost use Rattle.tera_built_ins.specs.Join.{is_safe_text, item_part, separator_p
 
 use crate::arguments::{Given, as_array, optional_text};
 use crate::escaping::{EscapeFn, Escaping, Filtering};
-use crate::parts::{given_safe, made, part};
+use crate::safe_parts::{given_safe, made, part};
 use std::borrow::CowStr;
 use tera_values::{Shape, TeraResult, Value};
 

@@ -7,7 +7,7 @@ ghost use Rattle.tera_built_ins.specs.Replace.{replaced, replace_of};
 
 use crate::arguments::{as_text, needed_text};
 use crate::escaping::{EscapeFn, Filtering};
-use crate::parts::{made, part};
+use crate::safe_parts::{made, part};
 use std::alloc::Global;
 use tera_values::{TeraResult, Value};
 

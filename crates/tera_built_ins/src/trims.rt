@@ -6,7 +6,7 @@ ghost use Rattle.tera_built_ins.specs.Reading.{given_of};
 ghost use Rattle.tera_built_ins.specs.Trims as spec;
 
 use crate::arguments::{Given, as_text, optional_text};
-use crate::parts::made;
+use crate::safe_parts::made;
 use std::alloc::Global;
 use tera_values::{Kwargs, TeraResult, Value};
 

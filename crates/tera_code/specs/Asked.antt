@@ -27,7 +27,8 @@ loaded_name other = None
 
 -- the integer that it puts on top of the operands, if it has at most 64 bits with its sign
 abbrev pub loaded_integer : Instruction → Option (ℤ × Span)
-loaded_integer (instruction.LoadConst value span) = option_map (λ z. (z, span)) (small_integer value)
+loaded_integer (instruction.LoadConst value span) =
+    option_map (λ z. (z, span)) (small_integer value)
 loaded_integer other = None
 
 -- the constant that it puts on top of the operands
@@ -50,7 +51,8 @@ abbrev pub bound_name : Instruction → Option (site.Name × Bool)
 bound_name (instruction.Store name is_global) = Some (name, is_global)
 bound_name other = None
 
--- the loop that it opens: the names of keys and values, whether turns are counted, and the size of the body
+-- the loop that it opens: the names of keys and values, whether turns are counted, and the size of
+-- the body
 abbrev pub started_loop : Instruction → Option (Option site.Name × site.Name × Bool × ℕ)
 started_loop (instruction.StartLoop key name counts size) = Some (key, name, counts, size)
 started_loop other = None
@@ -90,14 +92,19 @@ pub record Compares (code : List Instruction) (at : ℕ) (c : Comparison) : Type
 -- a constant, and an operator behind it that compares
 abbrev pub comparison_of : Val × Span → BinaryOperator × Span → Option Comparison
 comparison_of c o =
-    cond (is_comparison o.0) (Some (record { constant = c.0; constant_span = c.1; operator = o.0; span = o.1 })) None
+    cond (is_comparison o.0)
+    (Some (record { constant = c.0; constant_span = c.1; operator = o.0; span = o.1 })) None
 
 -- the comparison that the two instructions at a place make, if they do
 abbrev pub comparison_at : List Instruction → ℕ → Option Comparison
 comparison_at code at =
-    option_and_then (λ c. option_and_then (comparison_of c) (option_and_then applied_operator (slice_get code (at + 1)))) (option_and_then loaded_constant (slice_get code at))
+    option_and_then
+    (λ c. option_and_then (comparison_of c)
+    (option_and_then applied_operator (slice_get code (at + 1))))
+    (option_and_then loaded_constant (slice_get code at))
 
--- whether the topmost operand is used up at a place, by the instruction there or by such a comparison
+-- whether the topmost operand is used up at a place, by the instruction there or by such a
+-- comparison
 abbrev pub uses_top_at : List Instruction → ℕ → Bool
 uses_top_at code at =
     unwrap_or (option_map uses_top (slice_get code at)) false || is_some (comparison_at code at)

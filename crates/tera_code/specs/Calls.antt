@@ -22,7 +22,8 @@ abbrev pub applied_code : CallKind → Applied → Span → Code
 applied_code k a span =
     let parts = out-Applied a in
     let all = arguments_of parts.arguments.items in
-    expr_code (expr_of parts.value) ++ (arguments_code all ++ call_of k parts.name.now (argument_names all) span ∷ [])
+    expr_code (expr_of parts.value)
+    ++ (arguments_code all ++ call_of k parts.name.now (argument_names all) span ∷ [])
 
 -- the component of a tag is handed the text on top of the operands
 abbrev pub handed_to : ComponentTag → Span → Code

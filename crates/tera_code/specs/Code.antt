@@ -13,7 +13,9 @@ Code = List Instruction
 
 -- one of two, by the operand that stands on top
 abbrev pub choice_tail : Code → Code → Code
-choice_tail body other = instruction.PopJumpIfFalse (length body + 1) ∷ (body ++ (instruction.Jump (length other) ∷ other))
+choice_tail body other =
+    instruction.PopJumpIfFalse (length body + 1)
+    ∷ (body ++ (instruction.Jump (length other) ∷ other))
 
 -- first this, then one of two
 abbrev pub choice_code : Code → Code → Code → Code
@@ -24,17 +26,23 @@ abbrev pub is_context : site.Name → Bool
 is_context name = bytes_eq name (codes "__tera_context")
 
 abbrev pub name_code : site.Name → Span → Code
-name_code name span = cond (is_context name) (instruction.LoadContext span ∷ []) (instruction.LoadName name span ∷ [])
+name_code name span =
+    cond (is_context name) (instruction.LoadContext span ∷ []) (instruction.LoadName name span ∷ [])
 
 -- a loop over the operand that stands on top
 abbrev pub loop_tail : Option site.Name → site.Name → Code → Code → Code
 loop_tail key name body other =
-    instruction.StartLoop key name true (length body) ∷ (body ++ (instruction.NextTurn ∷ instruction.EndLoop (length other) ∷ other))
+    instruction.StartLoop key name true (length body)
+    ∷ (body ++ (instruction.NextTurn ∷ instruction.EndLoop (length other) ∷ other))
 
--- an array of what is kept in the turns over the operand that stands on top, and an empty one where there is none
+-- an array of what is kept in the turns over the operand that stands on top, and an empty one where
+-- there is none
 abbrev pub comprehension_tail : Option site.Name → site.Name → Code → Span → Code
 comprehension_tail key name turn span =
-    instruction.StartLoop key name false (length turn) ∷ (turn ++ (instruction.NextTurn ∷ instruction.EndComprehension span ∷ instruction.MakeArray [] span ∷ []))
+    instruction.StartLoop key name false (length turn)
+    ∷ (turn ++
+    (instruction.NextTurn ∷ instruction.EndComprehension span ∷ instruction.MakeArray [] span
+    ∷ []))
 
 abbrev pub keep_code : Code → Code
 keep_code value = value ++ instruction.Keep ∷ []
@@ -71,7 +79,9 @@ abbrev mutual
   expr_code (Index target index optional span) =
       expr_code target ++ (expr_code index ++ instruction.LoadItem optional span ∷ [])
   expr_code (Slice target start end step optional span) =
-      expr_code target ++ (bound_code start ++ (bound_code end ++ (bound_code step ++ instruction.Slice optional span ∷ [])))
+      expr_code target
+      ++ (bound_code start
+      ++ (bound_code end ++ (bound_code step ++ instruction.Slice optional span ∷ [])))
   expr_code (Not operand span) = expr_code operand ++ instruction.Not ∷ []
   expr_code (Negate operand span) = expr_code operand ++ instruction.Negate ∷ []
   expr_code (Binary operator left right span) =
@@ -82,16 +92,22 @@ abbrev mutual
       expr_code left ++ (instruction.JumpIfTrueOrPop (length (expr_code right)) ∷ expr_code right)
   expr_code (Ternary value condition other span) =
       choice_code (expr_code condition) (expr_code value) (expr_code other)
-  expr_code (Array items span) = items_code items ++ instruction.MakeArray (spreads_of items) span ∷ []
-  expr_code (Map entries span) = entries_code entries ++ instruction.MakeMap (keys_in entries) span ∷ []
+  expr_code (Array items span) =
+      items_code items ++ instruction.MakeArray (spreads_of items) span ∷ []
+  expr_code (Map entries span) =
+      entries_code entries ++ instruction.MakeMap (keys_in entries) span ∷ []
   expr_code (Comprehension value key name target condition span) =
       expr_code target ++ comprehension_tail key name (turn_code condition (expr_code value)) span
   expr_code (Super arguments span) =
       arguments_code arguments ++ instruction.TakeAbove (arguments_length arguments) span ∷ []
   expr_code (Filter value name arguments span) =
-      expr_code value ++ (arguments_code arguments ++ instruction.ApplyFilter name (argument_names arguments) span ∷ [])
+      expr_code value
+      ++ (arguments_code arguments
+      ++ instruction.ApplyFilter name (argument_names arguments) span ∷ [])
   expr_code (Test value name arguments span) =
-      expr_code value ++ (arguments_code arguments ++ instruction.ApplyTest name (argument_names arguments) span ∷ [])
+      expr_code value
+      ++ (arguments_code arguments ++ instruction.ApplyTest name (argument_names arguments) span
+      ∷ [])
   expr_code (Call name arguments span) =
       arguments_code arguments ++ instruction.CallFunction name (argument_names arguments) span ∷ []
   expr_code (Component name attributes span) =
@@ -133,32 +149,40 @@ print_code None value = value ++ instruction.WriteTop ∷ []
 abbrev pub filters_code : Filters → Code
 filters_code NoFilters = []
 filters_code (MoreFilters name arguments span rest) =
-    arguments_code arguments ++ (instruction.ApplyFilter name (argument_names arguments) span ∷ filters_code rest)
+    arguments_code arguments
+    ++ (instruction.ApplyFilter name (argument_names arguments) span ∷ filters_code rest)
 
 -- the text that a body puts out, through the filters, on top of the operands
 abbrev pub section_code : Filters → Code → Code
-section_code fs body = instruction.StartCapture ∷ (body ++ (instruction.EndCapture (first_span fs) ∷ filters_code fs))
+section_code fs body =
+    instruction.StartCapture ∷ (body ++ (instruction.EndCapture (first_span fs) ∷ filters_code fs))
 
 -- the text that a body puts out, on top of the operands
 abbrev pub captured_code : Code → Span → Code
 captured_code body span = instruction.StartCapture ∷ (body ++ instruction.EndCapture span ∷ [])
 
--- a component is handed the text that is on top of the operands, and what it makes of that and of its attributes is put out
+-- a component is handed the text that is on top of the operands, and what it makes of that and of
+-- its attributes is put out
 abbrev pub handed_code : site.Name → Entries → Span → Code
 handed_code name attributes span =
-    entries_code attributes ++ (instruction.TakeComponent name (keys_in attributes) true span ∷ instruction.WriteTop ∷ [])
+    entries_code attributes
+    ++ (instruction.TakeComponent name (keys_in attributes) true span ∷ instruction.WriteTop
+    ∷ [])
 
--- the number is that of the captures that were begun in the innermost loop: a jump to its end drops them
+-- the number is that of the captures that were begun in the innermost loop: a jump to its end drops
+-- them
 abbrev mutual
   pub node_code : Node → ℕ → Code
   node_code (Content t span) drops = instruction.WriteText t ∷ []
   node_code (Print value) drops = print_code (named value) (expr_code value)
   node_code (If condition body other) drops =
       choice_code (expr_code condition) (nodes_code body drops) (nodes_code other drops)
-  node_code (Set name value is_global) drops = expr_code value ++ instruction.Store name is_global ∷ []
+  node_code (Set name value is_global) drops =
+      expr_code value ++ instruction.Store name is_global ∷ []
   node_code (Capture name fs body is_global) drops =
       section_code fs (nodes_code body (suc drops)) ++ instruction.Store name is_global ∷ []
-  node_code (FilterSection fs body) drops = section_code fs (nodes_code body (suc drops)) ++ instruction.WriteTop ∷ []
+  node_code (FilterSection fs body) drops =
+      section_code fs (nodes_code body (suc drops)) ++ instruction.WriteTop ∷ []
   node_code (For key name target body other) drops =
       expr_code target ++ loop_tail key name (nodes_code body 0) (nodes_code other drops)
   node_code (Block name body span) drops = instruction.TakeBlock name span ∷ []

@@ -67,25 +67,30 @@ constant_of s other = val.none
 
 -- the instruction that is meant
 abbrev pub unpacked : Shelf → Packed → Instruction
-unpacked s (packed.WriteText start end) = instruction.WriteText (take (end - start) (drop start s.pool))
+unpacked s (packed.WriteText start end) =
+    instruction.WriteText (take (end - start) (drop start s.pool))
 unpacked s packed.WriteTop = instruction.WriteTop
 unpacked s (packed.LoadNone span) = instruction.LoadConst val.none (span_at s span)
 unpacked s (packed.LoadBool flag span) = instruction.LoadConst (val.bool flag) (span_at s span)
 unpacked s (packed.LoadInt span number) = instruction.LoadConst (val.int number) (span_at s span)
-unpacked s (packed.LoadConst constant span) = instruction.LoadConst (get_or s.constants constant val.none) (span_at s span)
+unpacked s (packed.LoadConst constant span) =
+    instruction.LoadConst (get_or s.constants constant val.none) (span_at s span)
 unpacked s (packed.WriteName name span) = instruction.WriteName (name_at s name) (span_at s span)
 unpacked s (packed.LoadName name span) = instruction.LoadName (name_at s name) (span_at s span)
 unpacked s (packed.LoadContext span) = instruction.LoadContext (span_at s span)
-unpacked s (packed.LoadAttribute name optional span) = instruction.LoadAttribute (name_at s name) optional (span_at s span)
+unpacked s (packed.LoadAttribute name optional span) =
+    instruction.LoadAttribute (name_at s name) optional (span_at s span)
 unpacked s (packed.LoadItem optional span) = instruction.LoadItem optional (span_at s span)
 unpacked s (packed.Slice optional span) = instruction.Slice optional (span_at s span)
 unpacked s packed.Not = instruction.Not
 unpacked s packed.Negate = instruction.Negate
 unpacked s (packed.Binary operator span) = instruction.Binary operator (span_at s span)
-unpacked s (packed.MakeArray start end span) = instruction.MakeArray (take (end - start) (drop start s.spreads)) (span_at s span)
+unpacked s (packed.MakeArray start end span) =
+    instruction.MakeArray (take (end - start) (drop start s.spreads)) (span_at s span)
 unpacked s (packed.MakeMap keys span) = instruction.MakeMap (get_or s.keys keys []) (span_at s span)
 unpacked s (packed.Store name is_global) = instruction.Store (name_at s name) is_global
-unpacked s (packed.StartLoop counts names size) = instruction.StartLoop (loop_at s names).key (loop_at s names).name counts size
+unpacked s (packed.StartLoop counts names size) =
+    instruction.StartLoop (loop_at s names).key (loop_at s names).name counts size
 unpacked s packed.NextTurn = instruction.NextTurn
 unpacked s (packed.EndLoop skip) = instruction.EndLoop skip
 unpacked s packed.Keep = instruction.Keep
@@ -99,34 +104,43 @@ unpacked s (packed.PopJumpIfFalse skip) = instruction.PopJumpIfFalse skip
 unpacked s (packed.JumpIfFalseOrPop skip) = instruction.JumpIfFalseOrPop skip
 unpacked s (packed.JumpIfTrueOrPop skip) = instruction.JumpIfTrueOrPop skip
 unpacked s (packed.TakeBlock name span) = instruction.TakeBlock (name_at s name) (span_at s span)
-unpacked s (packed.TakeInclude reference span) = instruction.TakeInclude (reference_at s reference) (span_at s span)
+unpacked s (packed.TakeInclude reference span) =
+    instruction.TakeInclude (reference_at s reference) (span_at s span)
 unpacked s (packed.TakeComponent has_body reference keys span) =
-    instruction.TakeComponent (reference_at s reference) (get_or s.keys keys []) has_body (span_at s span)
+    instruction.TakeComponent (reference_at s reference) (get_or s.keys keys []) has_body
+    (span_at s span)
 unpacked s (packed.TakeAbove span arguments) = instruction.TakeAbove arguments (span_at s span)
-unpacked s (packed.ApplyFilter call span) = instruction.ApplyFilter (call_at s call).0 (call_at s call).1 (span_at s span)
-unpacked s (packed.ApplyTest call span) = instruction.ApplyTest (call_at s call).0 (call_at s call).1 (span_at s span)
-unpacked s (packed.CallFunction call span) = instruction.CallFunction (call_at s call).0 (call_at s call).1 (span_at s span)
+unpacked s (packed.ApplyFilter call span) =
+    instruction.ApplyFilter (call_at s call).0 (call_at s call).1 (span_at s span)
+unpacked s (packed.ApplyTest call span) =
+    instruction.ApplyTest (call_at s call).0 (call_at s call).1 (span_at s span)
+unpacked s (packed.CallFunction call span) =
+    instruction.CallFunction (call_at s call).0 (call_at s call).1 (span_at s span)
 
 -- what it names is there
 abbrev pub Within : Shelf → Packed → Type 0
-Within s (packed.WriteText start end) = (start ≤ end) × (IsCharBoundary s.pool start × IsCharBoundary s.pool end)
+Within s (packed.WriteText start end) =
+    (start ≤ end) × (IsCharBoundary s.pool start × IsCharBoundary s.pool end)
 Within s packed.WriteTop = Unit {0}
 Within s (packed.LoadNone span) = span < length s.spans
 Within s (packed.LoadBool flag span) = span < length s.spans
 Within s (packed.LoadInt span number) = span < length s.spans
 -- a small integer stands in the instruction itself
 Within s (packed.LoadConst constant span) =
-    (constant < length s.constants) × (span < length s.spans) × (small_integer (get_or s.constants constant val.none) ≡ None)
+    (constant < length s.constants) × (span < length s.spans)
+    × (small_integer (get_or s.constants constant val.none) ≡ None)
 Within s (packed.WriteName name span) = (name < length s.names) × (span < length s.spans)
 Within s (packed.LoadName name span) = (name < length s.names) × (span < length s.spans)
 Within s (packed.LoadContext span) = span < length s.spans
-Within s (packed.LoadAttribute name optional span) = (name < length s.names) × (span < length s.spans)
+Within s (packed.LoadAttribute name optional span) =
+    (name < length s.names) × (span < length s.spans)
 Within s (packed.LoadItem optional span) = span < length s.spans
 Within s (packed.Slice optional span) = span < length s.spans
 Within s packed.Not = Unit {0}
 Within s packed.Negate = Unit {0}
 Within s (packed.Binary operator span) = span < length s.spans
-Within s (packed.MakeArray start end span) = (start ≤ end) × (end ≤ length s.spreads) × (span < length s.spans)
+Within s (packed.MakeArray start end span) =
+    (start ≤ end) × (end ≤ length s.spreads) × (span < length s.spans)
 Within s (packed.MakeMap keys span) = (keys < length s.keys) × (span < length s.spans)
 Within s (packed.Store name is_global) = name < length s.names
 Within s (packed.StartLoop counts names size) = names < length s.loops
@@ -143,7 +157,8 @@ Within s (packed.PopJumpIfFalse skip) = Unit {0}
 Within s (packed.JumpIfFalseOrPop skip) = Unit {0}
 Within s (packed.JumpIfTrueOrPop skip) = Unit {0}
 Within s (packed.TakeBlock name span) = (name < length s.names) × (span < length s.spans)
-Within s (packed.TakeInclude reference span) = (reference < length s.references) × (span < length s.spans)
+Within s (packed.TakeInclude reference span) =
+    (reference < length s.references) × (span < length s.spans)
 Within s (packed.TakeComponent has_body reference keys span) =
     (reference < length s.references) × (keys < length s.keys) × (span < length s.spans)
 Within s (packed.TakeAbove span arguments) = span < length s.spans

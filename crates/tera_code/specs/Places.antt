@@ -1,4 +1,5 @@
--- Places that are kept for jumps while what they pass is written. No public contract speaks of them.
+-- Places that are kept for jumps while what they pass is written. No public contract speaks of
+-- them.
 use Rattle.std.specs.Prelude.{ℕ, suc, ◌-◌, Bool, [], ◌∷◌, length, set, option_copied}
 use Rattle.tera_syntax_tree.specs.declared.expression.Heading.{Heading}
 use Rattle.tera_code.specs.declared.instruction.Instruction.{Instruction}

@@ -7,9 +7,9 @@ ghost use Rattle.tera_syntax_tree.specs.Prelude.{Super, MoreFilters, NoFilters, 
 
 use crate::call_kind::CallKind;
 use crate::compiler::Compiler;
-use crate::content::{Keys, LentName, Names};
 use crate::instruction::Instruction;
-use crate::parts::keys;
+use crate::lent_parts::{Keys, LentName, Names};
+use crate::single_forms::keys;
 use std::alloc::{AllocError, Global};
 use tera_errors::lacking;
 use tera_syntax_tree::{Applied, Argument, Called, ComponentTag, Entry, SectionFilter};

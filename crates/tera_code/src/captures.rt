@@ -5,8 +5,8 @@ ghost use Rattle.tera_code.specs.Code.{node_code, nodes_code, section_code, capt
 ghost use Rattle.tera_syntax_tree.specs.Prelude.{Set, first_span, expr_of, filters_of, nodes_of};
 
 use crate::compiler::Compiler;
-use crate::content::LentName;
 use crate::instruction::Instruction;
+use crate::lent_parts::LentName;
 use std::alloc::AllocError;
 use tera_syntax_tree::{Expression, Node, SectionFilter};
 use tera_values::Span;

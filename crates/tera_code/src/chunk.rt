@@ -9,9 +9,9 @@ ghost use Rattle.tera_syntax_tree.specs.Prelude.{items_of};
 
 use crate::callee::Callee;
 use crate::comparison::Comparison;
-use crate::content::Text;
 use crate::instruction::Instruction;
-use crate::lent::LentInstruction;
+use crate::lent_instruction::LentInstruction;
+use crate::lent_parts::Text;
 use crate::packed::{Packed, Tables};
 use crate::reference::Reference;
 use crate::room::Room;

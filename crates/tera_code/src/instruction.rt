@@ -4,7 +4,7 @@ ghost use Rattle.tera_code.specs.Calls.{call_of};
 
 use crate::call_kind::CallKind;
 use crate::constant::Constant;
-use crate::content::{Keys, LentName, Names, Spreads, Text};
+use crate::lent_parts::{Keys, LentName, Names, Spreads, Text};
 use tera_syntax_tree::BinaryOperator;
 use tera_values::{Sought, Span};
 

@@ -5,8 +5,8 @@ ghost use Rattle.tera_code.specs.Places.{looped};
 ghost use Rattle.tera_syntax_tree.specs.Prelude.{comprehension_of, expr_of, optional_of};
 
 use crate::compiler::Compiler;
-use crate::content::{LentName, Spreads};
 use crate::instruction::Instruction;
+use crate::lent_parts::{LentName, Spreads};
 use std::alloc::{AllocError, Global};
 use tera_errors::lacking;
 use tera_syntax_tree::{Collected, Heading};

@@ -8,10 +8,10 @@ ghost use Rattle.tera_syntax_tree.specs.Prelude.{expr_of, for_of, node_of, nodes
 
 use crate::chunk::Chunk;
 use crate::compiler::Compiler;
-use crate::content::LentName;
 use crate::instruction::Instruction;
-use crate::parts::is_context;
+use crate::lent_parts::LentName;
 use crate::room::Room;
+use crate::single_forms::is_context;
 use std::alloc::{AllocError, Global};
 use tera_syntax_tree::{ComponentTag, Expression, Heading, Node};
 use tera_values::Span;

@@ -8,11 +8,11 @@ ghost use Rattle.tera_code.specs.declared.instruction.Instruction.TheVariants as
 
 use crate::call_kind::CallKind;
 use crate::constant::{Constant, Kept, small_integer};
-use crate::content::{Keys, LentName, Names, Spreads};
 use crate::instruction::Instruction;
-use crate::parts::{add_spreads, copied};
+use crate::lent_parts::{Keys, LentName, Names, Spreads};
 use crate::reference::Reference;
 use crate::seen::{PLACES, Seen};
+use crate::single_forms::{add_spreads, copied};
 use std::alloc::{AllocError, Global};
 use tera_errors::lacking;
 use tera_syntax_tree::{BinaryOperator, Item, OwnedKey};

@@ -6,8 +6,8 @@ ghost use Rattle.tera_code.specs.Packed.{Within, shelf_of, span_at, name_at, cal
 
 use crate::call_kind::CallKind;
 use crate::constant::Constant;
-use crate::content::{Keys, LentName, Names, Spreads, Text};
 use crate::instruction::Instruction;
+use crate::lent_parts::{Keys, LentName, Names, Spreads, Text};
 use crate::packed::{Packed, Tables};
 use tera_values::{Name, Sought, Span};
 

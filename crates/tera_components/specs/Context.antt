@@ -62,7 +62,8 @@ abbrev pub others : {C : Type 0} → Signature → List (Name × ValOf C) → Li
 others s given = filter (λ a. not (is_among a.0 (parameter_names s))) given
 
 -- they go to the map of all others; where there is none, they are a fault
-abbrev pub with_rest : {C : Type 0} → Option Name → List (Name × ValOf C) → Named (ValOf C) → Option (Named (ValOf C))
+abbrev pub with_rest : {C : Type 0} → Option Name → List (Name × ValOf C) → Named (ValOf C)
+    → Option (Named (ValOf C))
 with_rest (Some rest) over context = Some (put rest (map (entries (text_keys over))) context)
 with_rest None [] context = Some context
 with_rest None (a ∷ over) context = None
@@ -71,12 +72,16 @@ abbrev pub with_body : {C : Type 0} → Option (ValOf C) → Named (ValOf C) →
 with_body None context = context
 with_body (Some body) context = put (codes "body") body context
 
-module _ {C : Type 0} (alphabet : Alphabet C) (look : Name → ValOf C) (given : List (Name × ValOf C)) where
-  -- the value of a parameter: what is given, undefined too; else what is looked up; else the default
+module _ {C : Type 0} (alphabet : Alphabet C) (look : Name → ValOf C)
+    (given : List (Name × ValOf C)) where
+  -- the value of a parameter: what is given, undefined too; else what is looked up; else the
+  -- default
   abbrev pub parameter_value_in : Parameter → Option (ValOf C)
   parameter_value_in p =
       let default = option_map (literal_value_in alphabet) p.default in
-      let value = option_or (at_name p.name given) (option_or (looked_up look p.is_implicit p.name) default) in
+      let value =
+      option_or (at_name p.name given)
+      (option_or (looked_up look p.is_implicit p.name) default) in
       option_and_then (fitting p.of_type) value
 
   -- each at its name, or none where one has no value that fits
@@ -85,15 +90,20 @@ module _ {C : Type 0} (alphabet : Alphabet C) (look : Name → ValOf C) (given :
   with_parameters_in (p ∷ ps) context =
       option_and_then (λ v. with_parameters_in ps (put p.name v context)) (parameter_value_in p)
 
--- The context of a component that is given these arguments and at will a body, where names are looked up like this: its
--- parameters, what takes all other arguments, and `body`. None where an argument is missing, unknown or of another type.
-abbrev pub component_context_in : {C : Type 0} → Alphabet C → Signature → List (Name × ValOf C) → Option (ValOf C) → (Name → ValOf C) → Option (Named (ValOf C))
+-- The context of a component that is given these arguments and at will a body, where names are
+-- looked up like this: its
+-- parameters, what takes all other arguments, and `body`. None where an argument is missing,
+-- unknown or of another type.
+abbrev pub component_context_in : {C : Type 0} → Alphabet C → Signature → List (Name × ValOf C)
+    → Option (ValOf C) → (Name → ValOf C) → Option (Named (ValOf C))
 component_context_in alphabet s given body look =
-    option_and_then (with_rest s.rest (others s given)) (with_parameters_in alphabet look given s.parameters (with_body body []))
+    option_and_then (with_rest s.rest (others s given))
+    (with_parameters_in alphabet look given s.parameters (with_body body []))
 
 -- of texts of bytes: this is what runs
 abbrev pub literal_value : Literal → Val
 literal_value = literal_value_in plain
 
-abbrev pub component_context : Signature → List (Name × Val) → Option Val → (Name → Val) → Option (Named Val)
+abbrev pub component_context : Signature → List (Name × Val) → Option Val → (Name → Val)
+    → Option (Named Val)
 component_context = component_context_in plain

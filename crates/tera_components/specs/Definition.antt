@@ -38,7 +38,13 @@ pub record Info : Type 0 where
   pub formals : List Formal
 
 abbrev pub formal_of : Parameter → Formal
-formal_of p = record { name = p.name; is_implicit = p.is_implicit; of_type = p.of_type; default = option_map literal_value p.default }
+formal_of p =
+    record {
+      name = p.name;
+      is_implicit = p.is_implicit;
+      of_type = p.of_type;
+      default = option_map literal_value p.default;
+    }
 
 abbrev pub definition_of : Signature → Definition
 definition_of s = record { name = s.name; formals = map_list formal_of s.parameters; rest = s.rest }
@@ -51,15 +57,24 @@ name_code = coded_list coded_ℕ
 
 abbrev pub formal_code : Coded Formal
 formal_code =
-    code_by (Name × (Bool × (Option ArgumentType × Option Val))) (coded× name_code (coded× coded_bool (coded× (coded_option the_row.coded) (coded_option val_code)))) (λ f. (f.name, (f.is_implicit, (f.of_type, f.default)))) (λ p. record { name = p.0; is_implicit = p.1.0; of_type = p.1.1.0; default = p.1.1.1 }) (λ _. refl)
+    code_by (Name × (Bool × (Option ArgumentType × Option Val)))
+    (coded× name_code
+    (coded× coded_bool (coded× (coded_option the_row.coded) (coded_option val_code))))
+    (λ f. (f.name, (f.is_implicit, (f.of_type, f.default))))
+    (λ p. record { name = p.0; is_implicit = p.1.0; of_type = p.1.1.0; default = p.1.1.1 })
+    (λ _. refl)
 
 abbrev pub definition_code : Coded Definition
 definition_code =
-    code_by (Name × (List Formal × Option Name)) (coded× name_code (coded× (coded_list formal_code) (coded_option name_code))) (λ d. (d.name, (d.formals, d.rest))) (λ p. record { name = p.0; formals = p.1.0; rest = p.1.1 }) (λ _. refl)
+    code_by (Name × (List Formal × Option Name))
+    (coded× name_code (coded× (coded_list formal_code) (coded_option name_code)))
+    (λ d. (d.name, (d.formals, d.rest)))
+    (λ p. record { name = p.0; formals = p.1.0; rest = p.1.1 }) (λ _. refl)
 
 abbrev pub info_code : Coded Info
 info_code =
-    code_by (Name × List Formal) (coded× name_code (coded_list formal_code)) (λ i. (i.name, i.formals)) (λ p. record { name = p.0; formals = p.1 }) (λ _. refl)
+    code_by (Name × List Formal) (coded× name_code (coded_list formal_code))
+    (λ i. (i.name, i.formals)) (λ p. record { name = p.0; formals = p.1 }) (λ _. refl)
 
 -- what stands at a text key; other keys name no argument
 abbrev pub named_by : {C : Type 0} → KeyVal × ValOf C → Option (Name × ValOf C)
@@ -76,7 +91,8 @@ formal_names d = map_list (λ f. f.name) d.formals
 
 -- the text keys of a map are the names of the parameters
 abbrev pub AreNames : List (KeyVal × Val) → List Formal → Type 0
-AreNames names formals = (n : Name) → is_some (find (ktext n) names) ≡ is_among n (map_list (λ f. f.name) formals)
+AreNames names formals =
+    (n : Name) → is_some (find (ktext n) names) ≡ is_among n (map_list (λ f. f.name) formals)
 
 -- the arguments that no parameter takes, in their order
 abbrev pub left_over : Definition → List (Name × Val) → List (Name × Val)
@@ -100,7 +116,8 @@ or_message None = Err message
 module _ (look : Name → Val) (given : List (Name × Val)) where
   -- what is given, undefined too; else what is looked up; else the default
   abbrev pub offered : Formal → Option Val
-  offered f = option_or (at_name f.name given) (option_or (looked_up look f.is_implicit f.name) f.default)
+  offered f =
+      option_or (at_name f.name given) (option_or (looked_up look f.is_implicit f.name) f.default)
 
   abbrev pub formal_value : Formal → Option Val
   formal_value f = option_and_then (fitting f.of_type) (offered f)
@@ -108,11 +125,17 @@ module _ (look : Name → Val) (given : List (Name × Val)) where
   -- each at its name, or none where one has no value that fits
   abbrev pub with_formals : List Formal → Named Val → Option (Named Val)
   with_formals [] context = Some context
-  with_formals (f ∷ fs) context = option_and_then (λ v. with_formals fs (put f.name v context)) (formal_value f)
+  with_formals (f ∷ fs) context =
+      option_and_then (λ v. with_formals fs (put f.name v context)) (formal_value f)
 
--- how a call ends that binds these arguments and at will a body, where implicit parameters are looked up in these scopes: with
+-- how a call ends that binds these arguments and at will a body, where implicit parameters are
+-- looked up in these scopes: with
 -- the context that the signature means, or a refusal in words
-abbrev pub Binds : Definition → List (Name × Val) → Option Val → Scopes → Result (Named Val) SeenError → Type 0
+abbrev pub Binds : Definition → List (Name × Val) → Option Val → Scopes
+    → Result (Named Val) SeenError → Type 0
 Binds d given body scopes answer =
     (s : Signature) → d ≡ definition_of s →
-    Gives (λ c. c) answer (or_message (component_context s given body (λ n. look_implicit n (around_of scopes) (variables_of scopes))))
+    Gives (λ c. c) answer
+    (or_message
+    (component_context s given body
+    (λ n. look_implicit n (around_of scopes) (variables_of scopes))))

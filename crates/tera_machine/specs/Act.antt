@@ -41,14 +41,16 @@ put_out (Err fault) c = Faults fault
 
 abbrev pub stored_in : Bool → site.Name → List Evaluated → Config → Did
 stored_in is_global name [] c = Sticks
-stored_in is_global name (a ∷ rest) c = Goes (with_vars (assign is_global name a.value) (holding rest c)) On
+stored_in is_global name (a ∷ rest) c =
+    Goes (with_vars (assign is_global name a.value) (holding rest c)) On
 
 abbrev pub top_written_in : Here → List Evaluated → Config → Did
 top_written_in here [] c = Sticks
 top_written_in here (a ∷ rest) c = put_out (output here a) (holding rest c)
 
 abbrev pub name_written : Here → site.Name → Span → Config → Did
-name_written here name span c = put_out (output here (record { value = look name here.around c.run.vars; span = span })) c
+name_written here name span c =
+    put_out (output here (record { value = look name here.around c.run.vars; span = span })) c
 
 abbrev pub on_one : (Evaluated → Outcome) → List Evaluated → Config → Did
 on_one f [] c = Sticks
@@ -59,7 +61,8 @@ on_two f [] c = Sticks
 on_two f (b ∷ []) c = Sticks
 on_two f (b ∷ a ∷ rest) c = outcome (f a b) rest c
 
-abbrev pub on_four : (Evaluated → Evaluated → Evaluated → Evaluated → Outcome) → List Evaluated → Config → Did
+abbrev pub on_four : (Evaluated → Evaluated → Evaluated → Evaluated → Outcome) → List Evaluated
+    → Config → Did
 on_four f [] c = Sticks
 on_four f (w ∷ []) c = Sticks
 on_four f (w ∷ z ∷ []) c = Sticks
@@ -68,9 +71,11 @@ on_four f (w ∷ z ∷ y ∷ x ∷ rest) c = outcome (f x y z w) rest c
 
 -- the n topmost operands, the last one first, and those below
 abbrev pub topmost : ℕ → List Evaluated → Option (List Evaluated × List Evaluated)
-topmost n operands = cond (nat_le n (length operands)) (Some (reverse (take n operands), drop n operands)) None
+topmost n operands =
+    cond (nat_le n (length operands)) (Some (reverse (take n operands), drop n operands)) None
 
-abbrev pub made_of : (List Evaluated → Outcome) → Option (List Evaluated × List Evaluated) → Config → Did
+abbrev pub made_of : (List Evaluated → Outcome) → Option (List Evaluated × List Evaluated) → Config
+    → Did
 made_of f None c = Sticks
 made_of f (Some (all, rest)) c = outcome (f all) rest c
 
@@ -84,7 +89,8 @@ branched false go skip stay = Goes stay (Skip skip)
 
 abbrev pub popped_branch_in : ℕ → List Evaluated → Config → Did
 popped_branch_in skip [] c = Sticks
-popped_branch_in skip (a ∷ rest) c = branched (truthy a.value) (holding rest c) skip (holding rest c)
+popped_branch_in skip (a ∷ rest) c =
+    branched (truthy a.value) (holding rest c) skip (holding rest c)
 
 -- whether a truth is not this one
 abbrev pub differs : Bool → Bool → Bool
@@ -93,7 +99,8 @@ differs true b = not b
 
 abbrev pub kept_if_in : Bool → ℕ → List Evaluated → Config → Did
 kept_if_in truth skip [] c = Sticks
-kept_if_in truth skip (a ∷ rest) c = branched (differs truth (truthy a.value)) (holding rest c) skip c
+kept_if_in truth skip (a ∷ rest) c =
+    branched (differs truth (truthy a.value)) (holding rest c) skip c
 
 abbrev pub stored : Bool → site.Name → Config → Did
 stored is_global name c = stored_in is_global name c.operands c
@@ -114,7 +121,8 @@ abbrev pub context_loaded : Around → Span → Config → Did
 context_loaded around span c = pushed (dump around c.run.vars) span c
 
 abbrev pub attribute_loaded : site.Name → site.Name → Bool → Span → Config → Did
-attribute_loaded file name optional span c = on_one (λ a. attribute_of file optional a name span) c.operands c
+attribute_loaded file name optional span c =
+    on_one (λ a. attribute_of file optional a name span) c.operands c
 
 abbrev pub item_loaded : site.Name → Bool → Span → Config → Did
 item_loaded file optional span c = on_two (λ a i. item_of file optional a i span) c.operands c
@@ -136,10 +144,12 @@ array_made file spreads span c =
     on_many (λ all. array_of file (zip spreads all) span) (length spreads) c.operands c
 
 abbrev pub map_made : site.Name → List (Option Key) → Span → Config → Did
-map_made file keys span c = on_many (λ all. map_of file (zip keys all) span) (length keys) c.operands c
+map_made file keys span c =
+    on_many (λ all. map_of file (zip keys all) span) (length keys) c.operands c
 
 -- a call on the operand below its arguments
-abbrev pub called_on : (Evaluated → List (site.Name × Evaluated) → Outcome) → List site.Name → Option (List Evaluated × List Evaluated) → Config → Did
+abbrev pub called_on : (Evaluated → List (site.Name × Evaluated) → Outcome) → List site.Name
+    → Option (List Evaluated × List Evaluated) → Config → Did
 called_on f names None c = Sticks
 called_on f names (Some (all, [])) c = Sticks
 called_on f names (Some (all, a ∷ rest)) c = outcome (f a (zip names all)) rest c
@@ -147,15 +157,23 @@ called_on f names (Some (all, a ∷ rest)) c = outcome (f a (zip names all)) res
 -- what an object sees is the variables where the instruction stands
 abbrev pub filter_called : Here → site.Name → List site.Name → Span → Config → Did
 filter_called here name names span c =
-    called_on (λ a given. filter_applied_by here.file (filtered_at plain here c.run.vars name) a given span) names (topmost (length names) c.operands) c
+    called_on
+    (λ a given.
+    filter_applied_by here.file (filtered_at plain here c.run.vars name) a given span) names
+    (topmost (length names) c.operands) c
 
 abbrev pub test_called : Here → site.Name → List site.Name → Span → Config → Did
 test_called here name names span c =
-    called_on (λ a given. test_applied_by here.file (tested_at plain here c.run.vars name) a given span) names (topmost (length names) c.operands) c
+    called_on
+    (λ a given.
+    test_applied_by here.file (tested_at plain here c.run.vars name) a given span) names
+    (topmost (length names) c.operands) c
 
 abbrev pub function_answered : Here → site.Name → List site.Name → Span → Config → Did
 function_answered here name names span c =
-    on_many (λ all. function_called_by here.file (called_at plain here c.run.vars name) (zip names all) span) (length names) c.operands c
+    on_many (λ all.
+    function_called_by here.file (called_at plain here c.run.vars name) (zip names all) span)
+    (length names) c.operands c
 
 abbrev pub called : CallKind → Here → site.Name → List site.Name → Span → Config → Did
 called kind.Function = function_answered
@@ -192,16 +210,20 @@ handed true [] = None
 handed true (a ∷ rest) = Some (Some a.value, rest)
 
 -- a component is given these entries; its text becomes an operand, safe where texts are escaped
-abbrev pub component_asked : Bool → site.Name → Span → Result (List (KeyVal × Val)) Fault → Option (Option Val × List Evaluated) → Config → Did
+abbrev pub component_asked : Bool → site.Name → Span → Result (List (KeyVal × Val)) Fault
+    → Option (Option Val × List Evaluated) → Config → Did
 component_asked safe name span given None c = Sticks
 component_asked safe name span (Err fault) (Some (body, rest)) c = Faults fault
 component_asked safe name span (Ok given) (Some (body, rest)) c =
-    Goes (holding rest c) (Ask (AComponent name (named_arguments given) body span) (Pushed safe span))
+    Goes (holding rest c)
+    (Ask (AComponent name (named_arguments given) body span) (Pushed safe span))
 
-abbrev pub component_given : Here → site.Name → List (Option Key) → Bool → Span → Option (List Evaluated × List Evaluated) → Config → Did
+abbrev pub component_given : Here → site.Name → List (Option Key) → Bool → Span
+    → Option (List Evaluated × List Evaluated) → Config → Did
 component_given here name keys has_body span None c = Sticks
 component_given here name keys has_body span (Some (all, rest)) c =
-    component_asked here.autoescape name span (map_entries here.file (zip keys all)) (handed has_body rest) c
+    component_asked here.autoescape name span (map_entries here.file (zip keys all))
+    (handed has_body rest) c
 
 abbrev pub component_taken : Here → site.Name → List (Option Key) → Bool → Span → Config → Did
 component_taken here name keys has_body span c =
@@ -273,11 +295,14 @@ beneath_in places coming = drop (length places) coming
 abbrev pub beneath : Configuration → List (List (List Turn))
 beneath c = beneath_in c.places (coming_of c.scopes) ∷ coming_around c.scopes
 
--- the code does this to a configuration; what is around its variables stays, and so do the loops around the body
-abbrev pub Does : (Config → Did) → Configuration → Result declared.Flow SeenError → Configuration → Type 0
+-- the code does this to a configuration; what is around its variables stays, and so do the loops
+-- around the body
+abbrev pub Does : (Config → Did) → Configuration → Result declared.Flow SeenError → Configuration
+    → Type 0
 Does does before result after =
     Acted (does (config_of before)) result (config_of after)
-    × ((around_of after.scopes ≡ around_of before.scopes) × OnOk result (beneath after ≡ beneath before))
+    × ((around_of after.scopes ≡ around_of before.scopes)
+    × OnOk result (beneath after ≡ beneath before))
 
 -- what goes on at the next instruction, unless memory was refused
 abbrev pub going_on : {E : Type 0} → Result (Unit {0}) E → Result declared.Flow SeenError

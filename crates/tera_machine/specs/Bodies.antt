@@ -24,7 +24,8 @@ use Rattle.tera_machine.specs.Exec.{Finished, Broken, entered, used, BodyEnds}
 use Rattle.tera_machine.specs.Subject.{place_at}
 use Rattle.tera_machine.specs.Wanted.{ended_by, Noted}
 
--- the blocks that are open in a body, by those that are open where it is asked for, and the other way round
+-- the blocks that are open in a body, by those that are open where it is asked for, and the other
+-- way round
 abbrev pub opened_by : Asked → List Name → List Name
 opened_by (asked.Block name span) names = name.now ∷ names
 opened_by (asked.Above span) names = names
@@ -34,9 +35,15 @@ closed_by (asked.Block name span) names = drop 1 names
 closed_by (asked.Above span) names = names
 
 -- the body to take, which this definer has
-pub record IsBody (w : World) (p : Place) (a : Asked) (v : Variables) (nearest : Nearest) : Type 0 where
+pub record IsBody (w : World) (p : Place) (a : Asked) (v : Variables)
+    (nearest : Nearest) : Type 0 where
   pub definer : Definer
-  pub takes : way w p (request_of a) v ≡ Takes (record p { file = definer.file; opened = opened_by a p.opened; above = definers_of nearest.above }) v definer.body
+  pub takes : way w p (request_of a) v
+      ≡ Takes (record p {
+        file = definer.file;
+        opened = opened_by a p.opened;
+        above = definers_of nearest.above;
+      }) v definer.body
   pub code : nearest.chunk.now ≡ listing_of definer.file definer.body
 
 -- the body is found, or the request is refused, unless memory was refused
@@ -46,7 +53,8 @@ FindsBody w p a v (Err None) = Unit {0}
 FindsBody w p a v (Err (Some fault)) = way w p (request_of a) v ≡ Refuses fault
 
 -- a body is entered: its place, its code and where it begins
-pub record Entered (w : World) (p : Place) (q : Request) (c : Config) (p' : Place) (code : Code) (c' : Config) : Type 0 where
+pub record Entered (w : World) (p : Place) (q : Request) (c : Config) (p' : Place) (code : Code)
+    (c' : Config) : Type 0 where
   pub vars : Variables
   pub body : Nodes
   pub takes : way w p q c.run.vars ≡ Takes p' vars body
@@ -54,7 +62,8 @@ pub record Entered (w : World) (p : Place) (q : Request) (c : Config) (p' : Plac
   pub config : c' ≡ entered vars c
 
 -- what is kept for the body around
-pub record Keeps (a : Asked) (inside : Inside) (blocks0 : OpenBlocks) (c0 : Configuration) (blocks : OpenBlocks) (c : Configuration) : Type 0 where
+pub record Keeps (a : Asked) (inside : Inside) (blocks0 : OpenBlocks) (c0 : Configuration)
+    (blocks : OpenBlocks) (c : Configuration) : Type 0 where
   pub names : blocks.names ≡ opened_by a blocks0.names
   pub above : inside.above ≡ blocks0.above
   pub wanted : blocks.wanted ≡ blocks0.wanted
@@ -64,9 +73,12 @@ pub record Keeps (a : Asked) (inside : Inside) (blocks0 : OpenBlocks) (c0 : Conf
   pub none : c.places ≡ []
   pub scopes : c.scopes ≡ c0.scopes
 
-abbrev pub Enters : {O : Type 0} → World → VirtualMachine O → Name → Asked → OpenBlocks → Configuration → Result Inside SeenError → OpenBlocks → Configuration → Type 0
+abbrev pub Enters : {O : Type 0} → World → VirtualMachine O → Name → Asked → OpenBlocks
+    → Configuration → Result Inside SeenError → OpenBlocks → Configuration → Type 0
 Enters w m file a blocks0 c0 (Ok inside) blocks c =
-    Entered w (place_at m file blocks0 c0) (request_of a) (config_of c0) (place_at m inside.definer.chunk.now.file blocks c) inside.definer.chunk.now.code (config_of c)
+    Entered w (place_at m file blocks0 c0) (request_of a) (config_of c0)
+    (place_at m inside.definer.chunk.now.file blocks c) inside.definer.chunk.now.code
+    (config_of c)
     × Keeps a inside blocks0 c0 blocks c
 Enters w m file a blocks0 c0 (Err None) blocks c = Unit {0}
 Enters w m file a blocks0 c0 (Err (Some fault)) blocks c =
@@ -76,10 +88,19 @@ Enters w m file a blocks0 c0 (Err (Some fault)) blocks c =
 abbrev pub closed_in : List Text → Request → Use → List (Name × Text) → List Loop → Config → Config
 closed_in [] q u blocks loops c = c
 closed_in (t ∷ ts) q u blocks loops c =
-    used u (left_of q c.run.vars c.run) (record { operands = c.operands; captures = ts; loops = loops; run = record { vars = c.run.vars; text = t; blocks = blocks } })
+    used u (left_of q c.run.vars c.run)
+    (record {
+      operands = c.operands;
+      captures = ts;
+      loops = loops;
+      run = record { vars = c.run.vars; text = t; blocks = blocks };
+    })
 
-pub record Leaves (a : Asked) (inside : Inside) (blocks0 : OpenBlocks) (c0 : Configuration) (blocks : OpenBlocks) (c : Configuration) : Type 0 where
-  pub config : config_of c ≡ closed_in (config_of c0).captures (request_of a) (use_of a) inside.outer.ended.all (loops_at inside.outer.places (coming_of c0.scopes)) (config_of c0)
+pub record Leaves (a : Asked) (inside : Inside) (blocks0 : OpenBlocks) (c0 : Configuration)
+    (blocks : OpenBlocks) (c : Configuration) : Type 0 where
+  pub config : config_of c
+      ≡ closed_in (config_of c0).captures (request_of a) (use_of a) inside.outer.ended.all
+      (loops_at inside.outer.places (coming_of c0.scopes)) (config_of c0)
   pub names : blocks.names ≡ closed_by a blocks0.names
   pub above : blocks.above ≡ inside.above
   pub noted : Noted blocks0.wanted (ended_by a (config_of c0).run.text) blocks.wanted
@@ -88,7 +109,8 @@ pub record Leaves (a : Asked) (inside : Inside) (blocks0 : OpenBlocks) (c0 : Con
   pub scopes : c.scopes ≡ c0.scopes
 
 -- what stays while a body runs, and the blocks that ended in it
-pub record Stays (blocks0 : OpenBlocks) (c0 : Configuration) (blocks : OpenBlocks) (c : Configuration) : Type 0 where
+pub record Stays (blocks0 : OpenBlocks) (c0 : Configuration) (blocks : OpenBlocks)
+    (c : Configuration) : Type 0 where
   pub names : blocks.names ≡ blocks0.names
   pub above : blocks.above ≡ blocks0.above
   pub included : blocks.included ≡ blocks0.included
@@ -99,7 +121,8 @@ pub record Stays (blocks0 : OpenBlocks) (c0 : Configuration) (blocks : OpenBlock
   pub noted : Noted blocks0.wanted since blocks.wanted
 
 -- a request was answered as the machine does, unless memory was refused
-abbrev pub BodyRan : World → Place → Request → Use → Config → Result (Unit {0}) SeenError → Config → ℕ → Type 0
+abbrev pub BodyRan : World → Place → Request → Use → Config → Result (Unit {0}) SeenError → Config
+    → ℕ → Type 0
 BodyRan w p q u c (Ok done) c' k = BodyEnds w p q u c (Finished c' k)
 BodyRan w p q u c (Err None) c' k = Unit {0}
 BodyRan w p q u c (Err (Some f)) c' k = BodyEnds w p q u c (Broken f k)

@@ -10,7 +10,8 @@ use Rattle.tera_machine.specs.Did.{Did, Goes, Sticks}
 use Rattle.tera_machine.specs.Loops.{innermost}
 
 abbrev pub capture_started : Config → Did
-capture_started c = Goes (record c { captures = c.run.text ∷ c.captures; run = record c.run { text = [] } }) On
+capture_started c =
+    Goes (record c { captures = c.run.text ∷ c.captures; run = record c.run { text = [] } }) On
 
 -- the captured text as an operand, and the text around it goes on
 abbrev pub captured_in : Bool → Span → List Text → Config → Did
@@ -28,7 +29,10 @@ capture_ended safe span c = captured_in safe span c.captures c
 -- so many captures are dropped
 abbrev pub dropped : ℕ → Config → Config
 dropped k c =
-    record c { captures = drop k c.captures; run = record c.run { text = around_layers k c.run.text c.captures } }
+    record c {
+      captures = drop k c.captures;
+      run = record c.run { text = around_layers k c.run.text c.captures };
+    }
 
 -- so many instructions behind the body of the innermost loop, or the end where none is open
 abbrev pub past : ℕ → Option (ℕ × ℕ) → Flow
@@ -38,7 +42,8 @@ past n (Some (start, size)) = To start (size + n)
 abbrev pub past_body : ℕ → List Loop → Flow
 past_body n loops = past n (innermost loops)
 
--- out of so many captures: the loop is left at its end, and the turn at the one instruction before that
+-- out of so many captures: the loop is left at its end, and the turn at the one instruction before
+-- that
 abbrev pub loop_left : ℕ → Config → Did
 loop_left drops c = Goes (dropped drops c) (past_body 1 c.loops)
 

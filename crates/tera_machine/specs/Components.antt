@@ -26,10 +26,13 @@ first_kept name [] = None
 first_kept name (k ∷ ks) = if bytes_eq name k.0.name then Some k else first_kept name ks
 
 -- the component's code, the context of the call, and how many components are open then
-pub record IsCalled (w : World) (p : Place) (q : Request) (v : Variables) (called : Called) : Type 0 where
+pub record IsCalled (w : World) (p : Place) (q : Request) (v : Variables)
+    (called : Called) : Type 0 where
   pub file : Name
   pub body : Nodes
-  pub takes : way w p q v ≡ Takes (place_of_component (in_component called.context p.around v) p.autoescape (suc p.depth) file) nothing_set body
+  pub takes : way w p q v
+      ≡ Takes (place_of_component (in_component called.context p.around v) p.autoescape
+      (suc p.depth) file) nothing_set body
   pub code : called.code.now ≡ listing_of file body
   pub depth : called.depth ≡ suc p.depth
 

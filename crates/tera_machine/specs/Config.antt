@@ -10,7 +10,8 @@ use Rattle.tera_meaning.specs.Run.{Run}
 use Rattle.tera_machine.specs.declared.configuration.Configuration.{Configuration}
 use Rattle.tera_machine.specs.declared.place.LoopPlace.{LoopPlace}
 
--- an open loop of the body that runs: where the loop's own body starts, how long that is, the turns to come, and what a
+-- an open loop of the body that runs: where the loop's own body starts, how long that is, the turns
+-- to come, and what a
 -- comprehension kept so far
 pub record Loop : Type 0 where
   pub start : ℕ
@@ -18,7 +19,8 @@ pub record Loop : Type 0 where
   pub rest : List Turn
   pub kept : List Val
 
--- operands that wait, the topmost first; the texts around those that are captured, and the open loops, the innermost
+-- operands that wait, the topmost first; the texts around those that are captured, and the open
+-- loops, the innermost
 -- first; and what was done so far
 pub record Config : Type 0 where
   pub operands : List Evaluated

@@ -46,18 +46,28 @@ entered v c =
 -- what goes on where a body's text was made
 abbrev pub used : Use → Run → Config → Config
 used Written done c =
-    record c { run = record { vars = done.vars; text = c.run.text ++ done.text; blocks = c.run.blocks ++ done.blocks } }
+    record c {
+      run = record
+          { vars = done.vars; text = c.run.text ++ done.text; blocks = c.run.blocks ++ done.blocks };
+    }
 used (Pushed safe span) done c = record c {
   operands = record { value = text done.text safe; span = span } ∷ c.operands;
   run = record { vars = done.vars; text = c.run.text; blocks = c.run.blocks ++ done.blocks };
 }
 
--- how a body is left, by its open loops and the texts around it, from the configurations before it and at its end
+-- how a body is left, by its open loops and the texts around it, from the configurations before it
+-- and at its end
 abbrev pub left_in : List Loop → List Text → Request → Use → Config → Config → Option Config
 left_in (l ∷ ls) captures q u c c' = None
 left_in [] [] q u c c' = None
 left_in [] (t ∷ ts) q u c c' =
-    Some (used u (left_of q c.run.vars c'.run) (record { operands = c'.operands; captures = ts; loops = c.loops; run = record c.run { text = t } }))
+    Some (used u (left_of q c.run.vars c'.run)
+    (record {
+      operands = c'.operands;
+      captures = ts;
+      loops = c.loops;
+      run = record c.run { text = t };
+    }))
 
 abbrev pub left : Request → Use → Config → Config → Option Config
 left q u c c' = left_in c'.loops c'.captures q u c c'
@@ -75,7 +85,8 @@ leaving q u c Stuck = Stuck
 -- a body that a request takes, where runs of code are given
 abbrev pub taken : Runner → Request → Use → Config → Way → End
 taken go q u c (Refuses f) = Broken f 0
-taken go q u c (Takes place vars body) = leaving q u c (go place (nodes_code body 0) 0 (entered vars c))
+taken go q u c (Takes place vars body) =
+    leaving q u c (go place (nodes_code body 0) 0 (entered vars c))
 
 -- a place past the end of the code sticks
 abbrev pub within_code : ℕ → (ℕ → Config → End) → ℕ → Config → End
@@ -118,7 +129,8 @@ IsOver Unfinished = ⊥
 IsOver Stuck = Unit {0}
 
 -- the machine ends by itself, after at most m instructions
-pub record EndsWithin (w : World) (p : Place) (code : Code) (ip : ℕ) (c : Config) (m : ℕ) : Type 0 where
+pub record EndsWithin (w : World) (p : Place) (code : Code) (ip : ℕ) (c : Config)
+    (m : ℕ) : Type 0 where
   pub depth : ℕ
   pub within : Within m (exec w depth p code ip c)
 
@@ -128,7 +140,8 @@ pub record Ends (w : World) (p : Place) (code : Code) (ip : ℕ) (c : Config) (o
   pub is : exec w depth p code ip c ≡ o
 
 -- a request's body ends so
-pub record BodyEnds (w : World) (p : Place) (q : Request) (u : Use) (c : Config) (o : End) : Type 0 where
+pub record BodyEnds (w : World) (p : Place) (q : Request) (u : Use) (c : Config)
+    (o : End) : Type 0 where
   pub depth : ℕ
   pub is : body_by w (exec w depth) p q u c ≡ o
 

@@ -10,12 +10,14 @@ use Rattle.tera_machine.specs.declared.asked.AskedTemplate.{AskedTemplate}
 use Rattle.tera_machine.specs.declared.machine.Flow as declared
 use Rattle.tera_machine.specs.declared.machine.Flow.TheVariants as flow
 
--- what is made of another body's text: it is written, or a value on top of the operands, which may be marked safe
+-- what is made of another body's text: it is written, or a value on top of the operands, which may
+-- be marked safe
 pub data Use : Type 0 where
   Written : Use
   Pushed : (safe : Bool) (span : Span) → Use
 
--- at the next instruction; so many behind that; so many behind a place; at the end; or at the next one, when another body
+-- at the next instruction; so many behind that; so many behind a place; at the end; or at the next
+-- one, when another body
 -- was taken
 pub data Flow : Type 0 where
   On : Flow

@@ -10,7 +10,8 @@ use Rattle.tera_registry.specs.Templates.{with_templates}
 use Rattle.tera_registry.specs.declared.templates.FoundTemplate.{FoundTemplate}
 
 -- the template that an include takes, with the code of its own body
-pub record IsTemplate (w : World) (p : Place) (q : Request) (v : Variables) (found : FoundTemplate) : Type 0 where
+pub record IsTemplate (w : World) (p : Place) (q : Request) (v : Variables)
+    (found : FoundTemplate) : Type 0 where
   pub entry : Entry
   pub takes : way w p q v ≡ Takes (place_of_include p v entry.0) nothing_set entry.1.tree.nodes
   pub named : found.name.now ≡ entry.0
@@ -18,7 +19,8 @@ pub record IsTemplate (w : World) (p : Place) (q : Request) (v : Variables) (fou
   pub among : with_templates w.registry found.templates.now ≡ w.registry
 
 -- the template is found, or the request is refused, unless memory was refused
-abbrev pub FindsTemplate : World → Place → Request → Variables → Result FoundTemplate SeenError → Type 0
+abbrev pub FindsTemplate : World → Place → Request → Variables → Result FoundTemplate SeenError
+    → Type 0
 FindsTemplate w p q v (Ok found) = IsTemplate w p q v found
 FindsTemplate w p q v (Err None) = Unit {0}
 FindsTemplate w p q v (Err (Some fault)) = way w p q v ≡ Refuses fault

@@ -30,7 +30,9 @@ below_at start (o ∷ os) all = drop o (take start all) ∷ below_at o os (take 
 abbrev pub layers_at : ℕ → List ℕ → Text → Layers
 layers_at start outer all = record { now = drop start all; below = below_at start outer all }
 
--- each of these places is between two characters, none is before those further out, and the outermost text begins in front
+-- each of these places is between two characters, none is before those further out, and the
+-- outermost text begins in front
 abbrev pub AreStarts : ℕ → List ℕ → Text → Type 0
 AreStarts start [] all = start ≡ 0
-AreStarts start (o ∷ os) all = (start ≤ length all) × IsUtf8 (drop start all) × AreStarts o os (take start all)
+AreStarts start (o ∷ os) all =
+    (start ≤ length all) × IsUtf8 (drop start all) × AreStarts o os (take start all)

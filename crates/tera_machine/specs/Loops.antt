@@ -12,11 +12,14 @@ use Rattle.tera_machine.specs.Config.{Config, Loop}
 use Rattle.tera_machine.specs.Flow.{On, Skip, To}
 use Rattle.tera_machine.specs.Did.{Did, Goes, Faults, Sticks, holding, with_vars}
 
--- the first turn is opened, or the body and the end of the loop are passed; the body starts at the next place
+-- the first turn is opened, or the body and the end of the loop are passed; the body starts at the
+-- next place
 abbrev pub begun_over : ℕ → ℕ → List Turn → Config → Did
 begun_over next size [] c = Goes c (Skip (size + 2))
 begun_over next size (t ∷ ts) c =
-    Goes (with_vars (open_turn t) (record c { loops = record { start = next; size = size; rest = ts; kept = [] } ∷ c.loops })) On
+    Goes (with_vars (open_turn t)
+    (record c
+    { loops = record { start = next; size = size; rest = ts; kept = [] } ∷ c.loops })) On
 
 abbrev pub begun_with : ℕ → ℕ → Result (List Turn) Fault → Config → Did
 begun_with next size (Ok turns) c = begun_over next size turns c
@@ -35,7 +38,8 @@ loop_started here next key name counts size c =
 abbrev pub went_round : List Turn → Loop → List Loop → Config → Did
 went_round [] l ls c = Goes c On
 went_round (t ∷ ts) l ls c =
-    Goes (with_vars (λ v. open_turn t (close_turn v)) (record c { loops = record l { rest = ts } ∷ ls })) (To l.start 0)
+    Goes (with_vars (λ v. open_turn t (close_turn v))
+    (record c { loops = record l { rest = ts } ∷ ls })) (To l.start 0)
 
 abbrev pub round_in : List Loop → Config → Did
 round_in [] c = Sticks
@@ -81,7 +85,8 @@ kept c = kept_in c.operands c.loops c
 abbrev pub collected_in : Span → List Loop → Config → Did
 collected_in span [] c = Sticks
 collected_in span (l ∷ ls) c =
-    Goes (without_loop ls (holding (record { value = array (vals l.kept); span = span } ∷ c.operands) c)) (Skip 1)
+    Goes (without_loop ls
+    (holding (record { value = array (vals l.kept); span = span } ∷ c.operands) c)) (Skip 1)
 
 abbrev pub comprehension_ended : Span → Config → Did
 comprehension_ended span c = collected_in span c.loops c

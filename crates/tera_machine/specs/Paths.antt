@@ -45,7 +45,8 @@ Reaches s code at n a = Comes s code at n (topped a s.config)
 
 -- and the last one did not go on, for this reason
 abbrev pub Breaks : Start → Code → ℕ → SeenError → Type 0
-Breaks s code n e = (c : Config) → Acted (done s.here code (suc (n - s.count)) s.at s.config) (Err e) c
+Breaks s code n e =
+    (c : Config) → Acted (done s.here code (suc (n - s.count)) s.at s.config) (Err e) c
 
 -- the constant with which an operand is compared
 abbrev pub constant_of : Comparison → Evaluated

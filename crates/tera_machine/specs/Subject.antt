@@ -60,7 +60,8 @@ AreBeside m w = kept_beside m.beside ≡ map (kept_as one_off_name) w.beside
 -- the templates are those of the registry, and so is the one that is rendered
 abbrev pub IsLinked : {O : Type 0} → VirtualMachine O → World → Type 0
 IsLinked m w =
-    is_from m.template w.registry × ((with_templates w.registry m.templates.now ≡ w.registry) × AreBeside m w)
+    is_from m.template w.registry
+    × ((with_templates w.registry m.templates.now ≡ w.registry) × AreBeside m w)
 
 -- where a body of this file stands while the machine runs it, with these templates and blocks open
 abbrev pub place_at : {O : Type 0} → VirtualMachine O → Name → OpenBlocks → Configuration → Place

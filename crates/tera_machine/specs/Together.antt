@@ -26,7 +26,8 @@ onto next Sticks = Sticks
 -- so many instructions from a place on, one behind another; the last of them may do anything
 abbrev pub done : Here → Code → ℕ → ℕ → Config → Did
 done here code zero ip c = Goes c On
-done here code (suc k) ip c = onto (done_at here (ip + k) (slice_get code (ip + k))) (done here code k ip c)
+done here code (suc k) ip c =
+    onto (done_at here (ip + k) (slice_get code (ip + k))) (done here code k ip c)
 
 -- all of them went on at the next one
 abbrev pub WentOn : Did → Type 0

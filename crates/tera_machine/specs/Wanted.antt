@@ -13,7 +13,8 @@ is_wanted (Some wanted) name = bytes_eq wanted name
 -- the text of the last of these blocks that is wanted, or the one from before
 abbrev pub last_of : Option Name → Option Text → List (Name × Text) → Option Text
 last_of wanted before [] = before
-last_of wanted before (b ∷ bs) = last_of wanted (if is_wanted wanted b.0 then Some b.1 else before) bs
+last_of wanted before (b ∷ bs) =
+    last_of wanted (if is_wanted wanted b.0 then Some b.1 else before) bs
 
 -- the block that a body is, which ends with this text
 abbrev pub ended_by : Asked → Text → List (Name × Text)

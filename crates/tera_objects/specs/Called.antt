@@ -13,7 +13,8 @@ module _ (engine : Engine) (call : Call) where
   -- what an object of the caller sees where the call stands
   abbrev pub seen : View
   seen =
-      seen_in plain engine (around_of call.scopes.now) (variables_of call.scopes.now) call.autoescape
+      seen_in plain engine (around_of call.scopes.now)
+      (variables_of call.scopes.now) call.autoescape
 
   -- what the filter, the test and the function of its name make of its arguments
   abbrev pub filtered : Val → Result Val Fault

@@ -26,26 +26,35 @@ module _ {C : Type 0} (alphabet : Alphabet C) where
   -- what an object sees where these are the variables, with this around them: values without marks
   abbrev pub seen_in : Engine → AroundOf C → VariablesOf C → Bool → View
   seen_in engine around variables autoescape =
-      record { look = λ name. alphabet.bare (look name around variables); autoescape = autoescape; escape = engine.escape; filters = built_in_filters engine }
+      record {
+        look = λ name. alphabet.bare (look name around variables);
+        autoescape = autoescape;
+        escape = engine.escape;
+        filters = built_in_filters engine;
+      }
 
   -- arguments without marks
   abbrev pub all_bare : Named (ValOf C) → Named Val
   all_bare given = map (λ g. (g.0, alphabet.bare g.1)) given
 
   module _ (view : View) where
-    -- A built-in works on characters. An object is handed values without marks, and what it answers comes from outside.
-    abbrev pub filter_called : Option (Callee OwnFilter BuiltInFilter) → ValOf C → Named (ValOf C) → Result (ValOf C) Fault
+    -- A built-in works on characters. An object is handed values without marks, and what it answers
+    -- comes from outside.
+    abbrev pub filter_called : Option (Callee OwnFilter BuiltInFilter) → ValOf C → Named (ValOf C)
+        → Result (ValOf C) Fault
     filter_called None v given = Err message
     filter_called (Some (own o)) v given =
         alphabet.answers (answer_of o.safe (o.meaning (alphabet.bare v) (all_bare given) view))
     filter_called (Some (built_in b)) v given = filter_of alphabet (escaping_in view) b v given
 
-    abbrev pub test_called : Option (Callee OwnTest BuiltInTest) → ValOf C → Named (ValOf C) → Result Bool Fault
+    abbrev pub test_called : Option (Callee OwnTest BuiltInTest) → ValOf C → Named (ValOf C)
+        → Result Bool Fault
     test_called None v given = Err message
     test_called (Some (own o)) v given = o.meaning (alphabet.bare v) (all_bare given) view
     test_called (Some (built_in b)) v given = test_of alphabet b v given
 
-    abbrev pub function_called : Option (Callee OwnFunction BuiltInFunction) → Named (ValOf C) → Result (ValOf C) Fault
+    abbrev pub function_called : Option (Callee OwnFunction BuiltInFunction) → Named (ValOf C)
+        → Result (ValOf C) Fault
     function_called None given = Err message
     function_called (Some (own o)) given =
         alphabet.answers (answer_of o.safe (o.meaning (all_bare given) view))

@@ -1,4 +1,5 @@
--- What an engine gives to every rendering: by what texts are escaped, and what filters, tests and functions there are.
+-- What an engine gives to every rendering: by what texts are escaped, and what filters, tests and
+-- functions there are.
 use Rattle.std.specs.Prelude.{Bool, [], Option, Some, None, is_some, Result}
 use Rattle.tera_errors.specs.Site.{Name, Text}
 use Rattle.tera_errors.specs.Fault.{Fault}
@@ -13,7 +14,8 @@ use Rattle.tera_built_ins.specs.TestTable.{test_named}
 use Rattle.tera_built_ins.specs.FunctionTable.{function_named}
 use Rattle.tera_state.specs.View.{View, NamedFilters}
 
--- a filter of the caller: what it makes of a value and arguments, where it sees this of the rendering, and whether its texts
+-- a filter of the caller: what it makes of a value and arguments, where it sees this of the
+-- rendering, and whether its texts
 -- are marked safe
 pub record OwnFilter : Type 0 where
   pub meaning : Val → Named Val → View → Result Val Fault
@@ -85,7 +87,8 @@ abbrev pub with_test : Name → OwnTest → Engine → Engine
 with_test name test engine = record engine { tests = put name test engine.tests }
 
 abbrev pub with_function : Name → OwnFunction → Engine → Engine
-with_function name function engine = record engine { functions = put name function engine.functions }
+with_function name function engine =
+    record engine { functions = put name function engine.functions }
 
 abbrev pub with_escape : (Text → Text) → Engine → Engine
 with_escape escape engine = record engine { escape = escape }

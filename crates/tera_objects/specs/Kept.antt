@@ -22,11 +22,19 @@ each meaning here = map (λ e. (e.0, meaning e.1)) here
 -- An escape that is left out is that of HTML.
 abbrev pub engine_of : {E F T G : Type 0} → Meanings E F T G → ObjectsOver E F T G → Engine
 engine_of m o =
-    record { escape = escape_or_html m.escape o.escape; filters = each m.filter (listed o.filters.table); tests = each m.test (listed o.tests); functions = each m.function (listed o.functions) }
+    record {
+      escape = escape_or_html m.escape o.escape;
+      filters = each m.filter (listed o.filters.table);
+      tests =
+          each m.test (listed o.tests);
+      functions = each m.function (listed o.functions);
+    }
 
--- A call that registers: when it is done the engine is changed like this, whatever the objects mean; refused for want of memory,
+-- A call that registers: when it is done the engine is changed like this, whatever the objects
+-- mean; refused for want of memory,
 -- it is as it was.
-pub record Registers {E F T G : Type 0} (result : Result (Unit {0}) SeenError) (old new : ObjectsOver E F T G) (change : Meanings E F T G → Engine → Engine) : Type 0 where
+pub record Registers {E F T G : Type 0} (result : Result (Unit {0}) SeenError)
+    (old new : ObjectsOver E F T G) (change : Meanings E F T G → Engine → Engine) : Type 0 where
   pub ok : (m : Meanings E F T G) → OnOk result (engine_of m new ≡ change m (engine_of m old))
   pub err : (m : Meanings E F T G) → OnErr result (engine_of m new ≡ engine_of m old)
   pub lacks : IfErr result Lacks

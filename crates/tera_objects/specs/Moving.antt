@@ -27,8 +27,11 @@ with_those_of other engine =
 
 -- Want of memory may leave the first of them moved, up to some filter, some test or some function.
 pub data MovedInPart (other engine left : Engine) : Type 0 where
-  to_a_filter : (k : ℕ) → left ≡ with_filters (take k other.filters) engine → MovedInPart other engine left
-  to_a_test : (k : ℕ) → left ≡ with_tests (take k other.tests) (with_filters other.filters engine) → MovedInPart other engine left
+  to_a_filter : (k : ℕ) → left ≡ with_filters (take k other.filters) engine
+      → MovedInPart other engine left
+  to_a_test : (k : ℕ) → left ≡ with_tests (take k other.tests) (with_filters other.filters engine)
+      → MovedInPart other engine left
   to_a_function : (k : ℕ)
-      → left ≡ with_functions (take k other.functions) (with_tests other.tests (with_filters other.filters engine))
+      → left ≡ with_functions (take k other.functions)
+      (with_tests other.tests (with_filters other.filters engine))
       → MovedInPart other engine left

@@ -18,14 +18,17 @@ is_missing other = false
 
 -- a part of a value that is not undefined; the optional form gives undefined for undefined and none
 abbrev pub part_of : {C : Type 0} → Name → Bool → EvaluatedOf C → Span → OutcomeOf C → OutcomeOf C
-part_of file false target span part = cond (is_undefined target.value) (fault_at file target.span) part
+part_of file false target span part =
+    cond (is_undefined target.value) (fault_at file target.span) part
 part_of file true target span part = cond (is_missing target.value) (at_span undefined span) part
 
--- whatever the part is: whether the answer is undefined without it, or a fault without it; if neither, the part is the answer
+-- whatever the part is: whether the answer is undefined without it, or a fault without it; if
+-- neither, the part is the answer
 abbrev pub Decides : Result Bool SeenError → (Span → Outcome → Outcome) → Type 0
 Decides (Ok true) meant = (span : Span) (part : Outcome) → meant span part ≡ at_span undefined span
 Decides (Ok false) meant = (span : Span) (part : Outcome) → meant span part ≡ part
-Decides (Err e) meant = (span : Span) (part : Outcome) → IsErr (meant span part) × Says e (meant span part)
+Decides (Err e) meant =
+    (span : Span) (part : Outcome) → IsErr (meant span part) × Says e (meant span part)
 
 -- the value at a text key of a map, and undefined of anything else
 abbrev pub attribute_of : {C : Type 0} → Name → Bool → EvaluatedOf C → Name → Span → OutcomeOf C
@@ -33,7 +36,8 @@ attribute_of file optional target name span =
     part_of file optional target span (at_span (or_undefined (attr name target.value)) span)
 
 -- what stands at an index
-abbrev pub item_in : {C : Type 0} → Alphabet C → Name → Bool → EvaluatedOf C → EvaluatedOf C → Span → OutcomeOf C
+abbrev pub item_in : {C : Type 0} → Alphabet C → Name → Bool → EvaluatedOf C → EvaluatedOf C → Span
+    → OutcomeOf C
 item_in a file optional target index span =
     part_of file optional target span
     (then (placed file (get_item_in a target.value index.value) index.span) (λ v.
@@ -49,7 +53,8 @@ abbrev pub bound_at : {C : Type 0} → Name → EvaluatedOf C → Result (Option
 bound_at file a = known file (bound_of a.value) a.span
 
 -- the part between two bounds, in steps
-abbrev pub sliced_in : {C : Type 0} → Alphabet C → Name → Bool → EvaluatedOf C → EvaluatedOf C → EvaluatedOf C → EvaluatedOf C → Span → OutcomeOf C
+abbrev pub sliced_in : {C : Type 0} → Alphabet C → Name → Bool → EvaluatedOf C → EvaluatedOf C
+    → EvaluatedOf C → EvaluatedOf C → Span → OutcomeOf C
 sliced_in a file optional target start end step span =
     part_of file optional target span
     (then (bound_at file start) (λ s.

@@ -38,7 +38,8 @@ are_named names all = list_all (λ e. is_named names e.0) all
 
 -- what a text key finds in the one it finds in the other, too
 abbrev pub AreAmong : List (KeyVal × Val) → List (KeyVal × Val) → Type 0
-AreAmong names all = (n : Name) → is_some (find (ktext n) all) ≡ true → is_some (find (ktext n) names) ≡ true
+AreAmong names all =
+    (n : Name) → is_some (find (ktext n) all) ≡ true → is_some (find (ktext n) names) ≡ true
 
 -- the key of an operand is this one
 abbrev pub is_at : KeyVal → Option Key → Bool

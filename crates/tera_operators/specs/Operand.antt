@@ -18,7 +18,9 @@ Evaluated = EvaluatedOf ℕ
 
 abbrev pub evaluated_code : Coded Evaluated
 evaluated_code =
-    code_by (Val × (ℕ × ℕ)) (coded× val_code (coded× coded_ℕ coded_ℕ)) (λ o. (o.value, (o.span.start, o.span.end))) (λ p. record { value = p.0; span = record { start = p.1.0; end = p.1.1 } }) (λ _. refl)
+    code_by (Val × (ℕ × ℕ)) (coded× val_code (coded× coded_ℕ coded_ℕ))
+    (λ o. (o.value, (o.span.start, o.span.end)))
+    (λ p. record { value = p.0; span = record { start = p.1.0; end = p.1.1 } }) (λ _. refl)
 
 -- what an operator answers
 abbrev pub OutcomeOf : Type 0 → Type 0

@@ -20,7 +20,8 @@ abbrev pub not_of : {C : Type 0} → EvaluatedOf C → EvaluatedOf C
 not_of a = record { value = bool (not (truthy a.value)); span = a.span }
 
 -- a result or a fault at the combined span
-abbrev pub combined : {C : Type 0} → Name → EvaluatedOf C → EvaluatedOf C → Result (ValOf C) Fault → OutcomeOf C
+abbrev pub combined : {C : Type 0} → Name → EvaluatedOf C → EvaluatedOf C → Result (ValOf C) Fault
+    → OutcomeOf C
 combined file a b result = then (placed file result (spanning a b)) (λ v. at_span v (spanning a b))
 
 -- an operand that is no number is a fault at its place
@@ -33,42 +34,63 @@ numbers file a b = then (number_at file a) (λ m. then (number_at file b) (λ n.
 
 -- a zero divisor is a fault at the right operand
 abbrev pub divisor_of : {C : Type 0} → Name → EvaluatedOf C → EvaluatedOf C → Result ℤ Fault
-divisor_of file a b = then (numbers file a b) (λ mn. cond (int_eq mn.1 (pos 0)) (fault_at file b.span) (Ok mn.1))
+divisor_of file a b =
+    then (numbers file a b) (λ mn. cond (int_eq mn.1 (pos 0)) (fault_at file b.span) (Ok mn.1))
 
 -- values are reckoned with and compared without their marks
 module _ {C : Type 0} (alphabet : Alphabet C) where
   -- a value that is no number, and a result that is too large, are faults at the operand
   abbrev pub negative_in : Name → EvaluatedOf C → OutcomeOf C
-  negative_in file a = then (placed file (alphabet.answers (negate (alphabet.bare a.value))) a.span) (λ v. at_span v a.span)
+  negative_in file a =
+      then (placed file (alphabet.answers (negate (alphabet.bare a.value))) a.span)
+      (λ v. at_span v a.span)
 
-  abbrev pub calculated_in : Name → (Val → Val → Result Val Fault) → EvaluatedOf C → EvaluatedOf C → OutcomeOf C
-  calculated_in file f a b = then (numbers file a b) (λ mn. combined file a b (alphabet.answers (f (alphabet.bare a.value) (alphabet.bare b.value))))
+  abbrev pub calculated_in : Name → (Val → Val → Result Val Fault) → EvaluatedOf C → EvaluatedOf C
+      → OutcomeOf C
+  calculated_in file f a b =
+      then (numbers file a b)
+      (λ mn. combined file a b
+      (alphabet.answers (f (alphabet.bare a.value) (alphabet.bare b.value))))
 
-  abbrev pub divided_in : Name → (Val → Val → Result Val Fault) → EvaluatedOf C → EvaluatedOf C → OutcomeOf C
-  divided_in file f a b = then (divisor_of file a b) (λ n. combined file a b (alphabet.answers (f (alphabet.bare a.value) (alphabet.bare b.value))))
+  abbrev pub divided_in : Name → (Val → Val → Result Val Fault) → EvaluatedOf C → EvaluatedOf C
+      → OutcomeOf C
+  divided_in file f a b =
+      then (divisor_of file a b)
+      (λ n. combined file a b
+      (alphabet.answers (f (alphabet.bare a.value) (alphabet.bare b.value))))
 
   -- how the left operand stands to the right one, where the two are comparable
   abbrev pub standing_in : Name → EvaluatedOf C → EvaluatedOf C → Result Ordering Fault
-  standing_in file a b = cond (comparable (alphabet.bare a.value) (alphabet.bare b.value)) (Ok (order (alphabet.bare a.value) (alphabet.bare b.value))) (fault_at file (spanning a b))
+  standing_in file a b =
+      cond (comparable (alphabet.bare a.value) (alphabet.bare b.value))
+      (Ok (order (alphabet.bare a.value) (alphabet.bare b.value))) (fault_at file (spanning a b))
 
   abbrev pub compared_in : Name → (Ordering → Bool) → EvaluatedOf C → EvaluatedOf C → OutcomeOf C
-  compared_in file test a b = then (standing_in file a b) (λ o. at_span (bool (test o)) (spanning a b))
+  compared_in file test a b =
+      then (standing_in file a b) (λ o. at_span (bool (test o)) (spanning a b))
 
   -- what has nothing in it is a fault at its place
   abbrev pub contained_in : Name → EvaluatedOf C → EvaluatedOf C → Span → OutcomeOf C
-  contained_in file a b span = then (placed file (contains (alphabet.bare b.value) (alphabet.bare a.value)) b.span) (λ has. at_span (bool has) span)
+  contained_in file a b span =
+      then (placed file (contains (alphabet.bare b.value) (alphabet.bare a.value)) b.span)
+      (λ has. at_span (bool has) span)
 
   abbrev pub binary_in : Name → BinaryOperator → EvaluatedOf C → EvaluatedOf C → Span → OutcomeOf C
-  binary_in file op.Add a b span = combined file a b (alphabet.answers (add (alphabet.bare a.value) (alphabet.bare b.value)))
+  binary_in file op.Add a b span =
+      combined file a b (alphabet.answers (add (alphabet.bare a.value) (alphabet.bare b.value)))
   binary_in file op.Subtract a b span = calculated_in file sub a b
   binary_in file op.Multiply a b span = calculated_in file mul a b
   binary_in file op.Divide a b span = divided_in file div a b
   binary_in file op.FloorDivide a b span = divided_in file floor_div a b
   binary_in file op.Remainder a b span = divided_in file rem a b
   binary_in file op.Power a b span = calculated_in file pow a b
-  binary_in file op.Concat a b span = at_span (text (printed_of alphabet a.value ++ printed_of alphabet b.value) false) (spanning a b)
-  binary_in file op.Equal a b span = at_span (bool (same (alphabet.bare a.value) (alphabet.bare b.value))) (spanning a b)
-  binary_in file op.NotEqual a b span = at_span (bool (not (same (alphabet.bare a.value) (alphabet.bare b.value)))) (spanning a b)
+  binary_in file op.Concat a b span =
+      at_span (text (printed_of alphabet a.value ++ printed_of alphabet b.value) false)
+      (spanning a b)
+  binary_in file op.Equal a b span =
+      at_span (bool (same (alphabet.bare a.value) (alphabet.bare b.value))) (spanning a b)
+  binary_in file op.NotEqual a b span =
+      at_span (bool (not (same (alphabet.bare a.value) (alphabet.bare b.value)))) (spanning a b)
   binary_in file op.Less a b span = compared_in file is_lt a b
   binary_in file op.Greater a b span = compared_in file is_gt a b
   binary_in file op.LessOrEqual a b span = compared_in file is_le a b
@@ -111,7 +133,10 @@ contained = contained_in plain
 abbrev pub binary_of : Name → BinaryOperator → Evaluated → Evaluated → Span → Outcome
 binary_of = binary_in plain
 
--- the operator makes the value of the two values, at the combined span: in every file and wherever they stand
+-- the operator makes the value of the two values, at the combined span: in every file and wherever
+-- they stand
 abbrev pub Makes : BinaryOperator → Val → Val → Val → Type 0
 Makes operator v w made = (file : Name) (left right span : Span) →
-    binary_of file operator (record { value = v; span = left }) (record { value = w; span = right }) span ≡ at_span made (record { start = left.start; end = right.end })
+    binary_of file operator (record { value = v; span = left })
+    (record { value = w; span = right }) span
+    ≡ at_span made (record { start = left.start; end = right.end })

@@ -3,12 +3,12 @@
 
 pub mod access;
 pub mod arithmetic;
-pub mod arrays;
+pub mod array_literals;
 pub mod calls;
 pub mod compare;
 pub mod in_place;
 pub mod listed;
-pub mod maps;
+pub mod map_literals;
 pub mod membership;
 pub mod operand;
 pub mod operator;
@@ -17,12 +17,12 @@ pub mod text;
 
 pub use access::{attribute, item, slice};
 pub use arithmetic::negative;
-pub use arrays::array;
+pub use array_literals::array;
 pub use calls::{arguments, operand_or_call_fault};
 pub use compare::{is_comparison, not};
 pub use in_place::binary_in_place;
 pub use listed::Entries;
-pub use maps::{entries, map};
+pub use map_literals::{entries, map};
 pub use operand::{LentOperand, Operand};
 pub use operator::binary;
 pub use place::{fault_at, operand_or_fault};

@@ -6,7 +6,7 @@ ghost use Rattle.tera_syntax_tree.specs.Prelude.{key_option};
 ghost use Rattle.tera_values.specs.Prelude.{ktext, key_view, find};
 ghost use Rattle.tera_operators.specs.Entries.{listed, is_at, is_key_named, is_named, are_named, AreAmong};
 
-use crate::maps::key_from;
+use crate::map_literals::key_from;
 use crate::operand::Operand;
 use std::alloc::Global;
 use std::marker::Model;

@@ -23,7 +23,8 @@ pub data Act : Type 0 where
   render_named : (name : Name) → Act
   -- render the block of this name in it
   render_block_named : (name : Name) (block : Name) → Act
-  -- render the component of this name, where entries of the context with these names are implicits, and all others arguments
+  -- render the component of this name, where entries of the context with these names are implicits,
+  -- and all others arguments
   render_component_named : (name : Name) (autoescape : Bool) (implicits : List Name) → Act
   -- render each component by itself
   preview_components : (autoescape : Bool) → Act

@@ -3,11 +3,12 @@ use Rattle.std.specs.Prelude.{◌≡◌, ℕ, List, ◌++◌, Option, Result}
 use Rattle.std.specs.Global.{Vec}
 use Rattle.std.specs.Io.KnownBytes.{Consumes, Appends, IsAtEnd}
 use Rattle.tera_run_script.specs.Passage.{Passage, Puts, ReadsAll}
-use Rattle.tera_run_script.specs.declared.input.ReadError.{ReadError}
+use Rattle.tera_run_script.specs.declared.reading.ReadError.{ReadError}
 use Rattle.tera_run_script.specs.declared.stream.Failure.{Failure}
 
 -- the bytes that went through a stream, and how what is known of its device changed with them
-pub record Through {S : Type 0} (Moves : Option (List ℕ) → Option (List ℕ) → List ℕ → Type 0) (passed : S → Passage) (device : S → Option (List ℕ))
+pub record Through {S : Type 0} (Moves : Option (List ℕ) → Option (List ℕ) → List ℕ → Type 0)
+    (passed : S → Passage) (device : S → Option (List ℕ))
     (old new : S) : Type 0 where
   pub bytes : List ℕ
   pub through : (passed new).bytes ≡ (passed old).bytes ++ bytes
@@ -26,7 +27,8 @@ abbrev pub HasEnded : {R : Type 0} → (R → Type 0) → (R → Option (List �
 HasEnded ended remaining input = ended input × IsAtEnd (remaining input)
 
 -- reads to the end
-pub record Reads {R : Type 0} (passed : R → Passage) (ended : R → Type 0) (remaining : R → Option (List ℕ))
+pub record Reads {R : Type 0} (passed : R → Passage) (ended : R → Type 0)
+    (remaining : R → Option (List ℕ))
     (old new : R) (result : Result (Vec ℕ) ReadError) : Type 0 where
   pub read : ReadsAll (passed old) (passed new) (HasEnded ended remaining new) result
   pub device : FromDevice passed remaining old new

@@ -1,8 +1,8 @@
 -- What contracts see of a stream.
 use Rattle.std.specs.Prelude.{◌≡◌, ℕ, ◌<◌, ◌≤◌, List, [], ◌++◌, length, take, Result, Ok, Err}
 use Rattle.std.specs.Global.{Vec}
-use Rattle.tera_run_script.specs.declared.input.ReadError.{ReadError}
-use Rattle.tera_run_script.specs.declared.input.ReadError.TheVariants.{Device, NoMemory}
+use Rattle.tera_run_script.specs.declared.reading.ReadError.{ReadError}
+use Rattle.tera_run_script.specs.declared.reading.ReadError.TheVariants.{Device, NoMemory}
 use Rattle.tera_run_script.specs.declared.stream.Failure.{Failure}
 
 -- the bytes that went through it so far, and how often it failed
@@ -16,7 +16,8 @@ unused = record { bytes = []; failures = 0 }
 
 -- a read or a write of a piece: as many bytes as it answers went through, or it failed and none did
 abbrev pub Passes : Passage → Passage → List ℕ → Result ℕ Failure → Type 0
-Passes old new piece (Ok n) = (n ≤ length piece) × (new.bytes ≡ old.bytes ++ take n piece) × (new.failures ≡ old.failures)
+Passes old new piece (Ok n) =
+    (n ≤ length piece) × (new.bytes ≡ old.bytes ++ take n piece) × (new.failures ≡ old.failures)
 Passes old new piece (Err failure) = (new.bytes ≡ old.bytes) × (old.failures < new.failures)
 
 abbrev pub Flushes : Passage → Passage → Result (Unit {0}) Failure → Type 0

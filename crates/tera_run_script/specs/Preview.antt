@@ -23,15 +23,18 @@ abbrev pub told : Result Text Fault → Text
 told (Ok text) = text
 told (Err fault) = fault_line (Some fault)
 
--- the name of a component, and then what it is by itself: the entries that its parameters name are its arguments, all entries
+-- the name of a component, and then what it is by itself: the entries that its parameters name are
+-- its arguments, all entries
 -- are implicits, and there is no body
 abbrev pub shown : Registry → Named Val → Bool → Name → Text
 shown r context autoescape name =
     codes "# " ++ name ++ codes "\n"
-    ++ told (render_component r name (arguments_for (info_at r name) context) context None autoescape)
+    ++ told (render_component r name
+    (arguments_for (info_at r name) context) context None autoescape)
 
 -- all components, in byte order of their names
-pub record Previews (r : Registry) (context : Named Val) (autoescape : Bool) (answer : Result Text Fault) : Type 0 where
+pub record Previews (r : Registry) (context : Named Val) (autoescape : Bool)
+    (answer : Result Text Fault) : Type 0 where
   pub names : List Name
   pub are : AreComponentNames r names
   pub is : answer ≡ Ok (join_by (shown r context autoescape) (codes "\n") names)

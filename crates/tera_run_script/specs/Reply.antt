@@ -62,7 +62,8 @@ site_of (Some missing_argument) = None
 abbrev pub place : Option Site → Text
 place None = []
 place (Some site) =
-    codes " " ++ site.file ++ codes " " ++ decimal site.span.start ++ codes " " ++ decimal site.span.end
+    codes " " ++ site.file ++ codes " " ++ decimal site.span.start ++ codes " "
+    ++ decimal site.span.end
 
 abbrev pub fault_line : SeenError → Text
 fault_line refusal = codes "fault " ++ word_of refusal ++ place (site_of refusal)

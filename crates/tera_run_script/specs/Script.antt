@@ -3,7 +3,7 @@ use Rattle.std.specs.Prelude.{ℕ, zero, suc, ◌+◌, ℤ, Bool, true, false, n
 use Rattle.std.specs.Char.{is_whitespace}
 use Rattle.std.specs.List.{list_all}
 use Rattle.std.specs.Option.{option_map, option_and_then}
-use Rattle.std.specs.Str.{all_ascii_digits, bytes_eq, chars, is_utf8}
+use Rattle.std.specs.Str.{all_ascii_digits, byte, bytes_eq, chars, is_utf8}
 use Rattle.std.specs.Str.Parse.{starts_with_minus, signed_digits_value}
 use Rattle.tera.specs.Site.{Name, Text}
 use Rattle.tera.specs.Number.{in_range}
@@ -26,16 +26,16 @@ pub data Head : Type 0 where
 
 -- no white space but spaces
 abbrev pub is_plain : Text → Bool
-is_plain line = list_all (λ c. c == 32 || not (is_whitespace c)) (chars line)
+is_plain line = list_all (λ c. c == byte " " || not (is_whitespace c)) (chars line)
 
 abbrev pub is_filled : Text → Bool
 is_filled [] = false
-is_filled (byte ∷ bytes) = true
+is_filled (b ∷ bytes) = true
 
 -- a field is not empty
 abbrev pub checked_field : Text → Option Text
 checked_field [] = None
-checked_field (byte ∷ bytes) = Some (byte ∷ bytes)
+checked_field (b ∷ bytes) = Some (b ∷ bytes)
 
 -- the one field, where there is one alone
 abbrev pub only_field : List Text → Option Text
@@ -61,12 +61,14 @@ checked_fields fields = if list_all is_filled fields then Some fields else None
 
 -- `on` or `off`
 abbrev pub switch : Text → Option Bool
-switch field = if bytes_eq field (codes "on") then Some true else if bytes_eq field (codes "off") then Some false else None
+switch field =
+    if bytes_eq field (codes "on") then Some true else if bytes_eq field (codes "off")
+    then Some false else None
 
 -- one digit or more
 abbrev pub is_digits : Text → Bool
 is_digits [] = false
-is_digits (byte ∷ bytes) = all_ascii_digits (byte ∷ bytes)
+is_digits (b ∷ bytes) = all_ascii_digits (b ∷ bytes)
 
 abbrev pub unsigned : Text → Text
 unsigned field = if starts_with_minus field then drop 1 field else field
@@ -113,10 +115,12 @@ abbrev pub component_head : List Text → Option (Text × Bool × List Text)
 component_head [] = None
 component_head (name ∷ []) = None
 component_head (name ∷ flag ∷ fields) =
-    option_and_then (λ n. option_map (λ autoescape. (n, autoescape, fields)) (switch flag)) (checked_field name)
+    option_and_then (λ n. option_map (λ autoescape. (n, autoescape, fields)) (switch flag))
+    (checked_field name)
 
 abbrev pub component_act : Text × Bool × List Text → Option Act
-component_act head = option_map (λ implicits. render_component_named head.0 head.1 implicits) (checked_fields head.2)
+component_act head =
+    option_map (λ implicits. render_component_named head.0 head.1 implicits) (checked_fields head.2)
 
 -- the name of a component, `on` or `off`, and the names of implicits
 abbrev pub component_of : List Text → Option Act
@@ -164,7 +168,8 @@ head_named word fields = either_head (opening_named word fields) (act_named word
 abbrev pub head_of_words : List Text → Option Head
 head_of_words [] = None
 head_of_words (mark ∷ []) = None
-head_of_words (mark ∷ word ∷ fields) = if bytes_eq mark (codes "@@") then head_named word fields else None
+head_of_words (mark ∷ word ∷ fields) =
+    if bytes_eq mark (codes "@@") then head_named word fields else None
 
 -- A command line is `@@`, a word and fields, with one space before each.
 abbrev pub head_of : Text → Option Head
@@ -182,7 +187,8 @@ ends_body line = bytes_eq line (codes "@@ end")
 -- the lines before the one that ends a body, if one does
 abbrev pub body_lines : List Text → Option (List Text)
 body_lines [] = None
-body_lines (line ∷ lines) = if ends_body line then Some [] else option_map (λ body. line ∷ body) (body_lines lines)
+body_lines (line ∷ lines) =
+    if ends_body line then Some [] else option_map (λ body. line ∷ body) (body_lines lines)
 
 -- the commands before the first unreadable line, and the number of that line, if there is one
 pub record Script : Type 0 where
@@ -199,21 +205,25 @@ stopped n = record { acts = []; unreadable = Some n }
 -- what opens a body, with the lines of that body, if one does follow
 abbrev pub with_opening : ℕ → Opening → Option (List Text) → (ℕ → Script) → Script
 with_opening n opening None rest = stopped n
-with_opening n opening (Some body) rest = before (with_body opening (joined body)) (rest (length body + 1))
+with_opening n opening (Some body) rest =
+    before (with_body opening (joined body)) (rest (length body + 1))
 
--- a command line with the lines that may be its body; the rest of the script is given by how many of them are taken
+-- a command line with the lines that may be its body; the rest of the script is given by how many
+-- of them are taken
 abbrev pub with_command : ℕ → Option Head → Option (List Text) → (ℕ → Script) → Script
 with_command n None body rest = stopped n
 with_command n (Some (alone act)) body rest = before act (rest 0)
 with_command n (Some (opens opening)) body rest = with_opening n opening body rest
 
--- The script of lines, of which the first is line n. So many of them belong to a body that was read before.
+-- The script of lines, of which the first is line n. So many of them belong to a body that was read
+-- before.
 abbrev pub script_of_lines : ℕ → ℕ → List Text → Script
 script_of_lines n taken [] = record { acts = []; unreadable = None }
 script_of_lines n (suc taken) (line ∷ lines) = script_of_lines (n + 1) taken lines
 script_of_lines n zero ([] ∷ lines) = script_of_lines (n + 1) zero lines
-script_of_lines n zero ((byte ∷ bytes) ∷ lines) =
-    with_command n (head_of (byte ∷ bytes)) (body_lines lines) (λ taken. script_of_lines (n + 1) taken lines)
+script_of_lines n zero ((b ∷ bytes) ∷ lines) =
+    with_command n (head_of (b ∷ bytes)) (body_lines lines)
+    (λ taken. script_of_lines (n + 1) taken lines)
 
 -- Lines are counted from 1. Bytes that are no UTF-8 are unreadable at the first.
 abbrev pub script_of : List ℕ → Script

@@ -29,7 +29,8 @@ texts_seen pair = option_map (λ texts. (texts.0.now, texts.1.now)) pair
 abbrev pub fields_seen : Option (Vec (Bor Text)) → Option (List Text)
 fields_seen fields = option_map (λ texts. texts_of texts.items) fields
 
-abbrev pub component_head_seen : Option (Bor Text × Bool × Option (Bor Text)) → Option (Text × Bool × List Text)
+abbrev pub component_head_seen : Option (Bor Text × Bool × Option (Bor Text))
+    → Option (Text × Bool × List Text)
 component_head_seen head = option_map (λ h. (h.0.now, h.1, words_after h.2)) head
 
 abbrev pub site_seen : Option (Bor Report) → Option Site

@@ -16,7 +16,8 @@ use Rattle.tera_run_script.specs.Preview.{Previews}
 use Rattle.tera_run_script.specs.Reply.{Replied, done, says, refuses, line_of}
 use Rattle.tera_run_script.specs.Script.{script_of}
 
--- what a run keeps between its commands: the registry, the context, and the templates that wait, in the order in which they came
+-- what a run keeps between its commands: the registry, the context, and the templates that wait, in
+-- the order in which they came
 pub record Session : Type 0 where
   pub registry : Registry
   pub context : Named Val
@@ -47,32 +48,41 @@ Rendered done Meant = ⊥
 Rendered (says text) Meant = Meant (Ok text)
 Rendered (refuses refusal) Meant = SaysOneOf refusal Meant
 
--- What a command may be answered, and the session that it then leaves. Want of memory may always be the answer.
+-- What a command may be answered, and the session that it then leaves. Want of memory may always be
+-- the answer.
 -- No template waits after an adding, whether it was accepted or refused.
 abbrev pub Answers : Session → Act → Replied → Session → Type 0
-Answers now (put_value name value) reply next = Keeps reply now (record now { context = put name value now.context }) next
-Answers now (join_batch name body) reply next = Keeps reply now (record now { batch = now.batch ++ (name, body) ∷ [] }) next
+Answers now (put_value name value) reply next =
+    Keeps reply now (record now { context = put name value now.context }) next
+Answers now (join_batch name body) reply next =
+    Keeps reply now (record now { batch = now.batch ++ (name, body) ∷ [] }) next
 Answers now add_batch reply next =
     Configured reply (Adds now.registry now.batch) now.registry next.registry
     × (next ≡ record now { registry = next.registry; batch = [] })
 Answers now (set_suffixes suffixes) reply next =
-    Configured reply (λ meant. Ok (with_suffixes suffixes now.registry) ≡ meant) now.registry next.registry
+    Configured reply
+    (λ meant. Ok (with_suffixes suffixes now.registry) ≡ meant) now.registry next.registry
     × (next ≡ record now { registry = next.registry })
 Answers now (set_prefixes prefixes) reply next =
-    Configured reply (λ meant. with_prefixes prefixes now.registry ≡ meant) now.registry next.registry
+    Configured reply
+    (λ meant. with_prefixes prefixes now.registry ≡ meant) now.registry next.registry
     × (next ≡ record now { registry = next.registry })
-Answers now (render_named name) reply next = Rendered reply (ByName now.registry name now.context) × (next ≡ now)
+Answers now (render_named name) reply next =
+    Rendered reply (ByName now.registry name now.context) × (next ≡ now)
 Answers now (render_block_named name block) reply next =
     Rendered reply (BlockByName now.registry name block now.context) × (next ≡ now)
 Answers now (render_component_named name autoescape implicits) reply next =
-    Rendered reply (ComponentByName now.registry name (without_names implicits now.context) (with_names implicits now.context) None autoescape)
+    Rendered reply
+    (ComponentByName now.registry name (without_names implicits now.context)
+    (with_names implicits now.context) None autoescape)
     × (next ≡ now)
 Answers now (preview_components autoescape) reply next =
     Rendered reply (Previews now.registry now.context autoescape) × (next ≡ now)
 Answers now (render_text autoescape body) reply next =
     Rendered reply (OneOff now.registry body now.context autoescape) × (next ≡ now)
 
--- one reply a command, each in the session that the commands before it left; the last session is what they all leave
+-- one reply a command, each in the session that the commands before it left; the last session is
+-- what they all leave
 abbrev pub Replies : Session → List Act → List Replied → Session → Type 0
 Replies now [] [] last = now ≡ last
 Replies now [] (reply ∷ replies) last = ⊥
@@ -80,13 +90,16 @@ Replies now (act ∷ acts) [] last = ⊥
 Replies now (act ∷ acts) (reply ∷ replies) last =
     (next : Session) × Answers now act reply next × Replies next acts replies last
 
--- A run of the commands that begins with the old registry may be answered so, and leave the new one.
-pub record Leads (old : Registry) (acts : List Act) (replies : List Replied) (new : Registry) : Type 0 where
+-- A run of the commands that begins with the old registry may be answered so, and leave the new
+-- one.
+pub record Leads (old : Registry) (acts : List Act) (replies : List Replied)
+    (new : Registry) : Type 0 where
   pub context : Named Val
   pub batch : List (Name × Text)
   pub replied : Replies (fresh old) acts replies (session new context batch)
 
--- The commands that these bytes spell may be answered so, and leave the new registry in place of the old one. The answers are
+-- The commands that these bytes spell may be answered so, and leave the new registry in place of
+-- the old one. The answers are
 -- written in order.
 pub record Program (old new : Registry) (input output : List ℕ) : Type 0 where
   pub replies : List Replied

@@ -2,10 +2,11 @@
 use Rattle.std.specs.Prelude.{ℕ, Bool, List, [], Option, Some, None, ◌==◌}
 use Rattle.std.specs.List.{slice_split}
 use Rattle.std.specs.Borrow.{Bor}
+use Rattle.std.specs.Str.{byte}
 use Rattle.tera.specs.Site.{Text}
 
 abbrev pub is_space : ℕ → Bool
-is_space byte = byte == 32
+is_space b = b == byte " "
 
 -- what stands between the spaces
 abbrev pub words_of : Text → List Text

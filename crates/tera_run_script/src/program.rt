@@ -7,8 +7,8 @@ ghost use Rattle.tera_run_script.specs.Reply.{line_of, reply_seen};
 ghost use Rattle.tera_run_script.specs.Run.{Ran};
 
 use crate::execute::run_commands;
-use crate::input::{ReadError, read_all};
 use crate::outcome::Outcome;
+use crate::reading::{ReadError, read_all};
 use crate::reply::{Reply, write_reply};
 use crate::script::script_of;
 use crate::stream::{Failure, Input, Output};

@@ -16,7 +16,8 @@ value_in (b ∷ bs) f l n = if is_for f l n b then Some b.value else value_in bs
 
 abbrev pub with_binding : List Binding → ℕ → ℕ → Name → Val → List Binding
 with_binding [] f l n v = record { frame = f; layer = l; name = n; value = v } ∷ []
-with_binding (b ∷ bs) f l n v = if is_for f l n b then record b { value = v } ∷ bs else b ∷ with_binding bs f l n v
+with_binding (b ∷ bs) f l n v =
+    if is_for f l n b then record b { value = v } ∷ bs else b ∷ with_binding bs f l n v
 
 -- the place of a binding, where the first stands at k
 abbrev pub place_from : ℕ → List Binding → ℕ → ℕ → Name → Option ℕ
@@ -38,7 +39,9 @@ IsOnce (b ∷ bs) = (value_in bs b.frame b.layer b.name ≡ None) × IsOnce bs
 -- what the layer binds
 abbrev pub layer_of : List Binding → ℕ → ℕ → Bindings
 layer_of [] f l = []
-layer_of (b ∷ bs) f l = if nat_eq b.frame f && nat_eq b.layer l then (b.name, b.value) ∷ layer_of bs f l else layer_of bs f l
+layer_of (b ∷ bs) f l =
+    if nat_eq b.frame f && nat_eq b.layer l then (b.name, b.value) ∷ layer_of bs f l
+    else layer_of bs f l
 
 -- layer l of frame f comes after layer j of frame g
 abbrev pub is_beyond : ℕ → ℕ → ℕ → ℕ → Bool
@@ -59,4 +62,6 @@ end_with f l end = cond (is_beyond f l end.frame end.layer) (record { frame = f;
 
 -- an end for what is left without layer l of frame f
 abbrev pub end_without : ℕ → ℕ → Layer → Layer
-end_without f l end = cond (nat_eq f end.frame && nat_eq l end.layer && nat_lt 0 l) (record { frame = f; layer = l - 1 }) end
+end_without f l end =
+    cond (nat_eq f end.frame && nat_eq l end.layer && nat_lt 0 l)
+    (record { frame = f; layer = l - 1 }) end

@@ -8,4 +8,5 @@ use Rattle.tera_state.specs.declared.contexts.Known.{Known}
 -- what is kept in a slot is what the context has, or else the global one
 abbrev pub IsKnown : Named Val → Named Val → Option Known → Type 0
 IsKnown context global None = Unit {0}
-IsKnown context global (Some k) = option_copied k.value ≡ option_or (at_name k.name context) (at_name k.name global)
+IsKnown context global (Some k) =
+    option_copied k.value ≡ option_or (at_name k.name context) (at_name k.name global)

@@ -48,7 +48,8 @@ turn_of sets l =
 
 -- the turns that are still to come
 abbrev pub to_come : ForLoop → List Turn
-to_come l = turns_from (heading_of l) (length (items_of l)) (suc l.index) (drop (suc l.index) (items_of l))
+to_come l =
+    turns_from (heading_of l) (length (items_of l)) (suc l.index) (drop (suc l.index) (items_of l))
 
 abbrev pub value_at : Option Item → Option Val
 value_at None = None

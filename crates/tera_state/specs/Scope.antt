@@ -93,16 +93,21 @@ handed_down whole o = None
 handed_down included o = defined o
 handed_down called o = None
 
--- open turns, set variables, the includer, the context, the global context: the first that binds the name answers
-abbrev pub bound : {C : Type 0} → Name → FrameOf C → List (FrameOf C × VariablesOf C) → VariablesOf C → Option (ValOf C)
+-- open turns, set variables, the includer, the context, the global context: the first that binds
+-- the name answers
+abbrev pub bound : {C : Type 0} → Name → FrameOf C → List (FrameOf C × VariablesOf C)
+    → VariablesOf C → Option (ValOf C)
 bound n f [] v = option_or (in_variables n v) (outermost n f)
-bound n f (u ∷ us) v = option_or (in_variables n v) (option_or (handed_down f.kind (bound n u.0 us u.1)) (outermost n f))
+bound n f (u ∷ us) v =
+    option_or (in_variables n v)
+    (option_or (handed_down f.kind (bound n u.0 us u.1)) (outermost n f))
 
 abbrev pub look : {C : Type 0} → Name → AroundOf C → VariablesOf C → ValOf C
 look n around v = unwrap_or (bound n around.frame around.above v) undefined
 
 -- the first in this frame and those above that is not undefined
-abbrev pub bound_above : {C : Type 0} → Name → FrameOf C → List (FrameOf C × VariablesOf C) → VariablesOf C → Option (ValOf C)
+abbrev pub bound_above : {C : Type 0} → Name → FrameOf C → List (FrameOf C × VariablesOf C)
+    → VariablesOf C → Option (ValOf C)
 bound_above n f [] v = defined (bound n f [] v)
 bound_above n f (u ∷ us) v = option_or (defined (bound n f (u ∷ us) v)) (bound_above n u.0 us u.1)
 
@@ -140,7 +145,11 @@ close_turn v = record v { turns = inner_turns v.turns }
 -- the counters of a turn, of so many in all, after this many
 abbrev pub counters : {C : Type 0} → ℕ → ℕ → BindingsOf C
 counters size index =
-    (codes "__tera_loop_index", int (pos (index + 1))) ∷ (codes "__tera_loop_index0", int (pos index)) ∷ (codes "__tera_loop_first", bool (nat_eq index 0)) ∷ (codes "__tera_loop_last", bool (nat_eq (index + 1) size)) ∷ (codes "__tera_loop_length", int (pos size)) ∷ []
+    (codes "__tera_loop_index", int (pos (index + 1)))
+    ∷ (codes "__tera_loop_index0", int (pos index))
+    ∷ (codes "__tera_loop_first", bool (nat_eq index 0))
+    ∷ (codes "__tera_loop_last", bool (nat_eq (index + 1) size))
+    ∷ (codes "__tera_loop_length", int (pos size)) ∷ []
 
 -- the names of a turn: that of the value, then that of the key
 abbrev pub named_item : {C : Type 0} → Option Name → Name → ItemOf C → BindingsOf C
@@ -157,7 +166,11 @@ pub record Heading : Type 0 where
 -- a fresh turn
 abbrev pub turn : {C : Type 0} → Heading → ℕ → ℕ → ItemOf C → TurnOf C
 turn h size index i =
-    record { counters = cond h.counts (counters size index) []; sets = []; names = named_item h.key h.name i }
+    record {
+      counters = cond h.counts (counters size index) [];
+      sets = [];
+      names = named_item h.key h.name i;
+    }
 
 abbrev pub turns_from : {C : Type 0} → Heading → ℕ → ℕ → List (ItemOf C) → List (TurnOf C)
 turns_from h size index [] = []
@@ -168,12 +181,15 @@ is_map (map_of es) = true
 is_map v = false
 
 -- the turns of a loop over the items, which with a key must be those of a map
-abbrev pub turns_over : {C : Type 0} → Heading → Option (List (ItemOf C)) → Result (List (TurnOf C)) Fault
+abbrev pub turns_over : {C : Type 0} → Heading → Option (List (ItemOf C))
+    → Result (List (TurnOf C)) Fault
 turns_over h None = Err message
 turns_over h (Some is) = Ok (turns_from h (length is) 0 is)
 
-abbrev pub loop_turns_in : {C : Type 0} → Alphabet C → Heading → ValOf C → Result (List (TurnOf C)) Fault
-loop_turns_in a h v = cond (is_some h.key && not (is_map v)) (Err message) (turns_over h (items_in a v))
+abbrev pub loop_turns_in : {C : Type 0} → Alphabet C → Heading → ValOf C
+    → Result (List (TurnOf C)) Fault
+loop_turns_in a h v =
+    cond (is_some h.key && not (is_map v)) (Err message) (turns_over h (items_in a v))
 
 abbrev pub loop_turns : Heading → ValOf ℕ → Result (List (TurnOf ℕ)) Fault
 loop_turns = loop_turns_in plain
@@ -184,15 +200,22 @@ nothing_set = record { turns = []; sets = [] }
 
 -- around the body of a template, of an include and of a component
 abbrev pub outside : {C : Type 0} → Named (ValOf C) → Named (ValOf C) → AroundOf C
-outside context global = record { frame = record { kind = whole; context = context; global = global }; above = [] }
+outside context global =
+    record { frame = record { kind = whole; context = context; global = global }; above = [] }
 
 abbrev pub in_include : {C : Type 0} → AroundOf C → VariablesOf C → AroundOf C
 in_include around v =
-    record { frame = record { kind = included; context = around.frame.context; global = [] }; above = (around.frame, v) ∷ around.above }
+    record {
+      frame = record { kind = included; context = around.frame.context; global = [] };
+      above = (around.frame, v) ∷ around.above;
+    }
 
 abbrev pub in_component : {C : Type 0} → Named (ValOf C) → AroundOf C → VariablesOf C → AroundOf C
 in_component context around v =
-    record { frame = record { kind = called; context = context; global = [] }; above = (around.frame, v) ∷ around.above }
+    record {
+      frame = record { kind = called; context = context; global = [] };
+      above = (around.frame, v) ∷ around.above;
+    }
 
 -- what is set in the turns, that of inner ones over that of outer ones
 abbrev pub put_turns : {C : Type 0} → List (TurnOf C) → Named (ValOf C) → Named (ValOf C)
@@ -200,7 +223,8 @@ put_turns [] m = m
 put_turns (t ∷ ts) m = put_all t.sets (put_turns ts m)
 
 abbrev pub dumped : {C : Type 0} → AroundOf C → VariablesOf C → Named (ValOf C)
-dumped around v = put_turns v.turns (put_all v.sets (put_all around.frame.context around.frame.global))
+dumped around v =
+    put_turns v.turns (put_all v.sets (put_all around.frame.context around.frame.global))
 
 -- `__tera_context`: what this state alone binds, in byte order of the names
 abbrev pub dump : {C : Type 0} → AroundOf C → VariablesOf C → ValOf C

@@ -52,16 +52,19 @@ abbrev pub variables_of : Scopes → Variables
 variables_of s = variables_at s.bindings (length s.below) s.frame
 
 abbrev pub around_of : Scopes → Around
-around_of s = record { frame = frame_of s.frame.standing s.below; above = above_of s.bindings s.below }
+around_of s =
+    record { frame = frame_of s.frame.standing s.below; above = above_of s.bindings s.below }
 
 -- what a name stands for in a body with so many frames below it, and in that or one above it
 abbrev pub bound_at : Scopes → ℕ → Frame → Name → Option Val
 bound_at s k f n =
-    bound n (frame_of f.standing (lower k s.below)) (above_of s.bindings (lower k s.below)) (variables_at s.bindings k f)
+    bound n (frame_of f.standing (lower k s.below)) (above_of s.bindings (lower k s.below))
+    (variables_at s.bindings k f)
 
 abbrev pub bound_above_at : Scopes → ℕ → Frame → Name → Option Val
 bound_above_at s k f n =
-    bound_above n (frame_of f.standing (lower k s.below)) (above_of s.bindings (lower k s.below)) (variables_at s.bindings k f)
+    bound_above n (frame_of f.standing (lower k s.below)) (above_of s.bindings (lower k s.below))
+    (variables_at s.bindings k f)
 
 -- the turns that are still to come of each open loop, the innermost loop first
 abbrev pub coming_of : Scopes → List (List Turn)
@@ -71,7 +74,8 @@ coming_of s = map to_come s.frame.loops
 abbrev pub coming_around : Scopes → List (List (List Turn))
 coming_around s = map (λ f. map to_come f.loops) s.below
 
--- the innermost loop's next turn is opened in the place of its last, or nothing changes where it has none
+-- the innermost loop's next turn is opened in the place of its last, or nothing changes where it
+-- has none
 abbrev pub GoesRound : Bool → List (List Turn) → Variables → List (List Turn) → Variables → Type 0
 GoesRound more [] v coming v' = (more ≡ false) × (coming ≡ []) × (v' ≡ v)
 GoesRound more ([] ∷ outer) v coming v' = (more ≡ false) × (coming ≡ [] ∷ outer) × (v' ≡ v)
@@ -79,4 +83,5 @@ GoesRound more ((t ∷ ts) ∷ outer) v coming v' =
     (more ≡ true) × (coming ≡ ts ∷ outer) × (v' ≡ open_turn t (close_turn v))
 
 abbrev pub TakesTurn : Bool → Scopes → Scopes → Type 0
-TakesTurn more old new = GoesRound more (coming_of old) (variables_of old) (coming_of new) (variables_of new)
+TakesTurn more old new =
+    GoesRound more (coming_of old) (variables_of old) (coming_of new) (variables_of new)

@@ -22,7 +22,8 @@ use Rattle.tera_state.specs.declared.state.StateOver.{StateOver}
 abbrev pub NamedFilters : Type 0
 NamedFilters = Name → Option BuiltInFilter
 
--- the look-up, which gives undefined where nothing binds the name; whether text is escaped; the escape; and the built-in filters
+-- the look-up, which gives undefined where nothing binds the name; whether text is escaped; the
+-- escape; and the built-in filters
 pub record View : Type 0 where
   pub look : Name → Val
   pub autoescape : Bool
@@ -32,7 +33,12 @@ pub record View : Type 0 where
 -- the view where these are the variables, with this around them
 abbrev pub view_at : Around → Variables → Bool → (Text → Text) → NamedFilters → View
 view_at around variables autoescape escape filters =
-    record { look = λ name. look name around variables; autoescape = autoescape; escape = escape; filters = filters }
+    record {
+      look = λ name. look name around variables;
+      autoescape = autoescape;
+      escape = escape;
+      filters = filters;
+    }
 
 -- the built-in filters without those whose names are taken; none at all where there are no filters
 abbrev pub filters_left : Option (List Name) → NamedFilters
@@ -50,7 +56,12 @@ lent_names = option_map (λ names. names.now)
 -- the view of a state, where escapes have these meanings
 abbrev pub view_of : {E : Type 0} → (E → Text → Text) → StateOver E → View
 view_of meaning s =
-    record { look = look_in_source s.source; autoescape = s.autoescape; escape = escape_or_html meaning s.escape; filters = filters_left (lent_names s.taken) }
+    record {
+      look = look_in_source s.source;
+      autoescape = s.autoescape;
+      escape = escape_or_html meaning s.escape;
+      filters = filters_left (lent_names s.taken);
+    }
 
 -- what a built-in sees of it
 abbrev pub escaping_in : View → Escaping

@@ -4,7 +4,7 @@ ghost use Rattle.std.specs.Option.{option_or};
 ghost use Rattle.tera_values.specs.Prelude.{at_name};
 ghost use Rattle.tera_errors.specs.Prelude.{Gives};
 
-use crate::lent::Lent;
+use crate::lent_names::Lent;
 use std::alloc::{AllocError, Global};
 use std::marker::Model;
 use tera_errors::lacking;

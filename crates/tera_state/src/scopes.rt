@@ -14,7 +14,7 @@ use crate::bindings::Bindings;
 use crate::contexts::Contexts;
 use crate::found::Found;
 use crate::frame::{Frame, Standing};
-use crate::lent::Lent;
+use crate::lent_names::Lent;
 use crate::loops::ForLoop;
 use crate::open_loops::OpenLoops;
 use crate::stack::Stack;

@@ -11,7 +11,7 @@ use Rattle.tera_syntax_tokens.specs.declared.refusal.Refusal.TheVariants.{Syntax
 use Rattle.tera_syntax_tokens.specs.Bytes.{place}
 use Rattle.tera_syntax_tokens.specs.Cut.{Piece, Words, FoundPiece, words, trims_before, opening_at, opens, piece, cut, pieces}
 use Rattle.tera_syntax_tree.specs.Delimiters.{Delims}
-use Rattle.tera_syntax_tree.specs.Depth.{nodes_depth}
+use Rattle.tera_syntax_tree.specs.Depth.{nodes_depth, max_tree_depth}
 use Rattle.tera_syntax.specs.File.{spelled, file}
 use Rattle.tera_syntax.specs.Reads.{SpellsNone}
 use Rattle.tera_syntax.specs.Spells.{Spells}
@@ -40,10 +40,10 @@ refused_too meant OutOfMemory (Syntax other place) h e = absurd (h tt)
 refused_too meant (Syntax why at) OutOfMemory h e = tt
 refused_too meant OutOfMemory OutOfMemory h e = tt
 
-pub spells_none : (name : Name) (d : Delims) (text : Text) → file 200 (pieces d text) ≡ None → SpellsNone name d text
-spells_none name d text h tree flat spells = let e = file_complete 200 tree spells (omega arith) flat.0 (flat.2, flat.4) in absurd (cc)
+pub spells_none : (name : Name) (d : Delims) (text : Text) → file max_tree_depth (pieces d text) ≡ None → SpellsNone name d text
+spells_none name d text h tree flat spells = let e = file_complete max_tree_depth tree spells (omega arith) flat.0 (flat.2, flat.4) in absurd (cc)
 
-words_read : (words : Text) (at : Span) → (n : Tree) × (file 200 (Words words at ∷ []) ≡ Some n)
+words_read : (words : Text) (at : Span) → (n : Tree) × (file max_tree_depth (Words words at ∷ []) ≡ Some n)
 words_read [] at = (_, refl)
 words_read (b ∷ bs) at = (_, refl)
 
@@ -51,7 +51,7 @@ abbrev IsWords : Piece → Type 0
 IsWords (Words text at) = Unit {0}
 IsWords _ = ⊥
 
-piece_read : (p : Piece) → IsWords p → (n : Tree) × (file 200 (p ∷ []) ≡ Some n)
+piece_read : (p : Piece) → IsWords p → (n : Tree) × (file max_tree_depth (p ∷ []) ≡ Some n)
 piece_read (Words text at) h = words_read text at
 piece_read _ h = absurd h
 
@@ -81,18 +81,18 @@ one_piece d text o l e =
     ∙ ap (λ rest. (all_words d text).piece ∷ cut d false 0 (all_words d text).next rest) r
     ∙ ap (λ rest. (all_words d text).piece ∷ rest) (cut_nothing d false (all_words d text).next [] refl)
 
-unread_by : (q : Bool) (d : Delims) (text : Text) → opens d text ≡ q → 0 < length text → place (opens d) text ≡ length text → file 200 (pieces d text) ≡ None → ⊥
+unread_by : (q : Bool) (d : Delims) (text : Text) → opens d text ≡ q → 0 < length text → place (opens d) text ≡ length text → file max_tree_depth (pieces d text) ≡ None → ⊥
 unread_by true d text o l e h = let z = place_here (opens d) 0 text l o in absurd (omega arith)
 unread_by false d text o l e h =
     let p = one_piece d text (unopened d text o) l e in
     let w = piece_read (all_words d text).piece tt in
-    let f : file 200 (pieces d text) ≡ Some w.0 = ap (file 200) p ∙ w.1 in cc
+    let f : file max_tree_depth (pieces d text) ≡ Some w.0 = ap (file max_tree_depth) p ∙ w.1 in cc
 
-unread_opens : (d : Delims) (text : Text) → place (opens d) text ≡ length text → file 200 (pieces d text) ≡ None → ⊥
-unread_opens d [] e h = let f : file 200 (pieces d []) ≡ Some (record { parent = None; nodes = NoNodes }) = ap (file 200) (cut_nothing d false 0 [] refl) in cc
+unread_opens : (d : Delims) (text : Text) → place (opens d) text ≡ length text → file max_tree_depth (pieces d text) ≡ None → ⊥
+unread_opens d [] e h = let f : file max_tree_depth (pieces d []) ≡ Some (record { parent = None; nodes = NoNodes }) = ap (file max_tree_depth) (cut_nothing d false 0 [] refl) in cc
 unread_opens d (b ∷ bs) e h = unread_by (opens d (b ∷ bs)) d (b ∷ bs) refl (omega arith) e h
 
-pub plain : (d : Delims) (text : Text) → file 200 (pieces d text) ≡ None → (at : ℕ) × IsTrue (opens d (drop at text))
+pub plain : (d : Delims) (text : Text) → file max_tree_depth (pieces d text) ≡ None → (at : ℕ) × IsTrue (opens d (drop at text))
 plain d text h =
     let m = place_le (opens d) text in
     by_order (place (opens d) text) (length text)

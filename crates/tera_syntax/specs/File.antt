@@ -9,7 +9,8 @@ use Rattle.tera_syntax.specs.Heads.{is_extends}
 use Rattle.tera_syntax.specs.Grammar.{is_space}
 use Rattle.tera_syntax.specs.Reader.{Progress, begun, quoted_name, step, finished}
 
--- how far the reading is: what the text extends, whether white space and comments alone were read, and what was read
+-- how far the reading is: what the text extends, whether white space and comments alone were read,
+-- and what was read
 pub record File : Type 0 where
   pub parent : Option Name
   pub is_front : Bool
@@ -31,7 +32,10 @@ is_front_piece Broken = false
 
 -- a piece that is no tag `extends`, or stands too late to be one
 abbrev pub kept : ℕ → File → Piece → Option File
-kept limit f piece = option_map (λ s. record { parent = f.parent; is_front = f.is_front && is_front_piece piece; progress = s }) (step limit f.progress piece)
+kept limit f piece =
+    option_map
+    (λ s. record { parent = f.parent; is_front = f.is_front && is_front_piece piece; progress = s })
+    (step limit f.progress piece)
 
 abbrev pub is_extends_piece : Piece → Bool
 is_extends_piece (Words words place) = false
@@ -49,16 +53,20 @@ parent_in Broken = None
 
 -- a piece more, where nodes are no deeper than this
 abbrev pub file_step : ℕ → File → Piece → Option File
-file_step limit f piece = if f.is_front && is_extends_piece piece then extending (parent_in piece) else kept limit f piece
+file_step limit f piece =
+    if f.is_front && is_extends_piece piece then extending (parent_in piece) else kept limit f piece
 
 -- the tree, at the end of the text
 abbrev pub file_finished : File → Option Tree
-file_finished f = option_map (λ nodes. record { parent = f.parent; nodes = nodes }) (finished f.progress.statements f.progress.found)
+file_finished f =
+    option_map (λ nodes. record { parent = f.parent; nodes = nodes })
+    (finished f.progress.statements f.progress.found)
 
 -- the tree of all pieces behind what was read
 abbrev pub file_run : ℕ → File → List Piece → Option Tree
 file_run limit f [] = file_finished f
-file_run limit f (piece ∷ rest) = option_and_then (λ g. file_run limit g rest) (file_step limit f piece)
+file_run limit f (piece ∷ rest) =
+    option_and_then (λ g. file_run limit g rest) (file_step limit f piece)
 
 -- the tree of all pieces, no deeper than this
 abbrev pub spelled : ℕ → List Piece → Option Tree
@@ -66,8 +74,10 @@ spelled limit pieces = file_run limit file_begun pieces
 
 -- a tree, if no two of its blocks have one name, and no two of its components
 abbrev pub once : Tree → Option Tree
-once tree = if has_each_block_once tree.nodes && has_each_component_once tree.nodes then Some tree else None
+once tree =
+    if has_each_block_once tree.nodes && has_each_component_once tree.nodes then Some tree else None
 
--- the tree of all pieces, no deeper than this, if no two of its blocks have one name, and no two of its components
+-- the tree of all pieces, no deeper than this, if no two of its blocks have one name, and no two of
+-- its components
 abbrev pub file : ℕ → List Piece → Option Tree
 file limit pieces = option_and_then once (spelled limit pieces)

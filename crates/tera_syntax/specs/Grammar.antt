@@ -22,7 +22,8 @@ pub data DerivesWhole : Expr → Input → Type 0 where
 
 -- The tokens from here to the end of the tag are filters in a row.
 pub data DerivesPipe : Filters → Input → Type 0 where
-  pipe : {fs : Filters} {i end : Input} → DerivesFilters fs i end → kind end ≡ k.End → DerivesPipe fs i
+  pipe : {fs : Filters} {i end : Input} → DerivesFilters fs i end → kind end ≡ k.End
+      → DerivesPipe fs i
 
 -- the tag is this word alone, which is of this kind
 abbrev pub IsWord : Kind → site.Text → List Token → Type 0
@@ -36,7 +37,8 @@ Begins word tokens = (first tokens ≡ k.Name) × (text (begin false tokens) ≡
 abbrev pub Quotes : site.Text → site.Name → List Token → Type 0
 Quotes word name tokens =
     let i = next (begin false tokens) in
-    Begins word tokens × (kind i ≡ k.Text) × (literal (text i) ≡ Some name) × (kind (next i) ≡ k.End)
+    Begins word tokens × (kind i ≡ k.Text) × (literal (text i) ≡ Some name)
+    × (kind (next i) ≡ k.End)
 
 -- the word that binds a name, in all turns or in this one
 abbrev pub set_word : Bool → site.Text
@@ -45,62 +47,101 @@ set_word false = codes "set"
 
 -- A tag that is a statement in these surroundings.
 pub data Simple : Surroundings → Node → List Token → Type 0 where
-  set : {q : Surroundings} {is_global : Bool} {e : Expr} {tokens : List Token} → Begins (set_word is_global) tokens → Names (next (begin q.in_loop tokens)) k.Assign → DerivesWhole e (next (next (next (begin q.in_loop tokens))))
+  set : {q : Surroundings} {is_global : Bool} {e : Expr} {tokens : List Token}
+      → Begins (set_word is_global) tokens → Names (next (begin q.in_loop tokens)) k.Assign
+      → DerivesWhole e (next (next (next (begin q.in_loop tokens))))
       → Simple q (Set (text (next (begin q.in_loop tokens))) e is_global) tokens
   -- the span is that of the name with its quotes
-  includes : {q : Surroundings} {name : site.Name} {tokens : List Token} → Quotes (codes "include") name tokens
-      → Simple q (Include name (span (start (next (begin false tokens))) (next (next (begin false tokens))))) tokens
-  breaks : {q : Surroundings} {tokens : List Token} → IsTrue q.may_leave → IsWord k.Name (codes "break") tokens → Simple q Break tokens
-  continues : {q : Surroundings} {tokens : List Token} → IsTrue q.may_leave → IsWord k.Name (codes "continue") tokens → Simple q Continue tokens
+  includes : {q : Surroundings} {name : site.Name} {tokens : List Token}
+      → Quotes (codes "include") name tokens
+      → Simple q
+      (Include name
+      (span (start (next (begin false tokens))) (next (next (begin false tokens))))) tokens
+  breaks : {q : Surroundings} {tokens : List Token} → IsTrue q.may_leave
+      → IsWord k.Name (codes "break") tokens → Simple q Break tokens
+  continues : {q : Surroundings} {tokens : List Token} → IsTrue q.may_leave
+      → IsWord k.Name (codes "continue") tokens → Simple q Continue tokens
 
 -- The first tag of a statement with a body.
 pub data Opens : Surroundings → Head → List Token → Type 0 where
-  choice : {q : Surroundings} {c : Expr} {tokens : List Token} → first tokens ≡ k.If → DerivesWhole c (next (begin q.in_loop tokens)) → Opens q (IfHead c) tokens
-  loop : {q : Surroundings} {key : Option site.Name} {name : site.Name} {e : Expr} {i : Input} {tokens : List Token} → first tokens ≡ k.For → Calls key name (next (begin q.in_loop tokens)) i → DerivesWhole e i
+  choice : {q : Surroundings} {c : Expr} {tokens : List Token} → first tokens ≡ k.If
+      → DerivesWhole c (next (begin q.in_loop tokens)) → Opens q (IfHead c) tokens
+  loop : {q : Surroundings} {key : Option site.Name} {name : site.Name} {e : Expr} {i : Input}
+      {tokens : List Token} → first tokens ≡ k.For
+      → Calls key name (next (begin q.in_loop tokens)) i → DerivesWhole e i
       → Opens q (ForHead key name e) tokens
-  capture : {q : Surroundings} {is_global : Bool} {tokens : List Token} → Begins (set_word is_global) tokens → Names (next (begin q.in_loop tokens)) k.End
+  capture : {q : Surroundings} {is_global : Bool} {tokens : List Token}
+      → Begins (set_word is_global) tokens → Names (next (begin q.in_loop tokens)) k.End
       → Opens q (SetHead (text (next (begin q.in_loop tokens))) NoFilters is_global) tokens
-  filtered : {q : Surroundings} {is_global : Bool} {fs : Filters} {tokens : List Token} → Begins (set_word is_global) tokens → Names (next (begin q.in_loop tokens)) k.Bar → DerivesPipe fs (next (next (next (begin q.in_loop tokens))))
+  filtered : {q : Surroundings} {is_global : Bool} {fs : Filters} {tokens : List Token}
+      → Begins (set_word is_global) tokens → Names (next (begin q.in_loop tokens)) k.Bar
+      → DerivesPipe fs (next (next (next (begin q.in_loop tokens))))
       → Opens q (SetHead (text (next (begin q.in_loop tokens))) fs is_global) tokens
-  section : {q : Surroundings} {fs : Filters} {tokens : List Token} → Begins (codes "filter") tokens → DerivesPipe fs (next (begin q.in_loop tokens)) → Opens q (SectionHead fs) tokens
+  section : {q : Surroundings} {fs : Filters} {tokens : List Token} → Begins (codes "filter") tokens
+      → DerivesPipe fs (next (begin q.in_loop tokens)) → Opens q (SectionHead fs) tokens
   -- its name may be a reserved word
-  block : {q : Surroundings} {tokens : List Token} → IsTrue q.may_have_blocks → Begins (codes "block") tokens
-      → is_word (kind (next (begin q.in_loop tokens))) ≡ true → kind (next (next (begin q.in_loop tokens))) ≡ k.End
-      → Opens q (BlockHead (text (next (begin q.in_loop tokens))) (span (start (next (begin q.in_loop tokens))) (next (next (begin q.in_loop tokens))))) tokens
+  block : {q : Surroundings} {tokens : List Token} → IsTrue q.may_have_blocks
+      → Begins (codes "block") tokens
+      → is_word (kind (next (begin q.in_loop tokens))) ≡ true
+      → kind (next (next (begin q.in_loop tokens))) ≡ k.End
+      → Opens q
+      (BlockHead (text (next (begin q.in_loop tokens)))
+      (span (start (next (begin q.in_loop tokens)))
+      (next (next (begin q.in_loop tokens))))) tokens
   -- its name may be a reserved word; the span is that of `<` to `>`
-  call : {q : Surroundings} {xs : Entries} {a : Input} {tokens : List Token} → first tokens ≡ k.Less → is_word (kind (next (begin q.in_loop tokens))) ≡ true
-      → DerivesAttributes xs (next (next (begin q.in_loop tokens))) a → kind a ≡ k.Greater → kind (next a) ≡ k.End
-      → Opens q (CallHead (text (next (begin q.in_loop tokens))) xs (span (start (begin q.in_loop tokens)) (next a))) tokens
-  definition : {q : Surroundings} {s : Signature} {j : Input} {tokens : List Token} → IsTrue q.is_top → Begins (codes "component") tokens → DerivesSignature s (next (begin false tokens)) j → kind j ≡ k.End
+  call : {q : Surroundings} {xs : Entries} {a : Input} {tokens : List Token} → first tokens ≡ k.Less
+      → is_word (kind (next (begin q.in_loop tokens))) ≡ true
+      → DerivesAttributes xs (next (next (begin q.in_loop tokens))) a → kind a ≡ k.Greater
+      → kind (next a) ≡ k.End
+      → Opens q
+      (CallHead (text (next (begin q.in_loop tokens))) xs
+      (span (start (begin q.in_loop tokens)) (next a))) tokens
+  definition : {q : Surroundings} {s : Signature} {j : Input} {tokens : List Token}
+      → IsTrue q.is_top → Begins (codes "component") tokens
+      → DerivesSignature s (next (begin false tokens)) j → kind j ≡ k.End
       → Opens q (DefinitionHead s) tokens
 
--- A tag that goes on with a statement: what follows is a statement that stands alone in the other body.
+-- A tag that goes on with a statement: what follows is a statement that stands alone in the other
+-- body.
 pub data GoesOn : Surroundings → Head → List Token → Type 0 where
-  elif : {q : Surroundings} {c : Expr} {tokens : List Token} → first tokens ≡ k.Elif → DerivesWhole c (next (begin q.in_loop tokens)) → GoesOn q (IfHead c) tokens
+  elif : {q : Surroundings} {c : Expr} {tokens : List Token} → first tokens ≡ k.Elif
+      → DerivesWhole c (next (begin q.in_loop tokens)) → GoesOn q (IfHead c) tokens
 
 mutual
   -- The pieces from the first place to the second are nodes in these surroundings.
   pub data DerivesNodes : Surroundings → Nodes → List Piece → List Piece → Type 0 where
     empty : {q : Surroundings} {i : List Piece} → DerivesNodes q NoNodes i i
-    content : {q : Surroundings} {words : site.Text} {place : Span} {rest : Nodes} {i j : List Piece} → words ≢ [] → DerivesNodes q rest i j
+    content : {q : Surroundings} {words : site.Text} {place : Span} {rest : Nodes}
+        {i j : List Piece} → words ≢ [] → DerivesNodes q rest i j
         → DerivesNodes q (MoreNodes (Content words place) rest) (Words words place ∷ i) j
     -- text of which trimming leaves nothing is no node
-    blank : {q : Surroundings} {place : Span} {nodes : Nodes} {i j : List Piece} → DerivesNodes q nodes i j → DerivesNodes q nodes (Words [] place ∷ i) j
-    comment : {q : Surroundings} {nodes : Nodes} {i j : List Piece} → DerivesNodes q nodes i j → DerivesNodes q nodes (Comment ∷ i) j
-    print : {q : Surroundings} {value : Expr} {tokens : List Token} {rest : Nodes} {i j : List Piece} → DerivesWhole value (begin q.in_loop tokens) → DerivesNodes q rest i j
+    blank : {q : Surroundings} {place : Span} {nodes : Nodes} {i j : List Piece}
+        → DerivesNodes q nodes i j → DerivesNodes q nodes (Words [] place ∷ i) j
+    comment : {q : Surroundings} {nodes : Nodes} {i j : List Piece} → DerivesNodes q nodes i j
+        → DerivesNodes q nodes (Comment ∷ i) j
+    print : {q : Surroundings} {value : Expr} {tokens : List Token} {rest : Nodes}
+        {i j : List Piece} → DerivesWhole value (begin q.in_loop tokens) → DerivesNodes q rest i j
         → DerivesNodes q (MoreNodes (Print value) rest) (Variable tokens ∷ i) j
-    single : {q : Surroundings} {node : Node} {tokens : List Token} {rest : Nodes} {i j : List Piece} → Simple q node tokens → DerivesNodes q rest i j
+    single : {q : Surroundings} {node : Node} {tokens : List Token} {rest : Nodes}
+        {i j : List Piece} → Simple q node tokens → DerivesNodes q rest i j
         → DerivesNodes q (MoreNodes node rest) (Block tokens ∷ i) j
-    bodied : {q : Surroundings} {head : Head} {tokens : List Token} {body other rest : Nodes} {i m l j : List Piece} → Opens q head tokens → DerivesNodes (inside head q) body i m
-        → DerivesRest q head other m l → DerivesNodes q rest l j → DerivesNodes q (MoreNodes (make head body other) rest) (Block tokens ∷ i) j
+    bodied : {q : Surroundings} {head : Head} {tokens : List Token} {body other rest : Nodes}
+        {i m l j : List Piece} → Opens q head tokens → DerivesNodes (inside head q) body i m
+        → DerivesRest q head other m l → DerivesNodes q rest l j
+        → DerivesNodes q (MoreNodes (make head body other) rest) (Block tokens ∷ i) j
 
   -- What follows the body of a statement with this head, up to its end.
   pub data DerivesRest : Surroundings → Head → Nodes → List Piece → List Piece → Type 0 where
-    ended : {q : Surroundings} {head : Head} {tokens : List Token} {i : List Piece} → IsTrue (ends head tokens) → DerivesRest q head NoNodes (Block tokens ∷ i) i
-    split : {q : Surroundings} {head : Head} {tokens last : List Token} {body : Nodes} {i j : List Piece} → IsTrue (splits head) → IsWord k.Else (codes "else") tokens
-        → DerivesNodes (nested q) body i (Block last ∷ j) → IsTrue (ends head last) → DerivesRest q head body (Block tokens ∷ i) j
-    chained : {q : Surroundings} {head further : Head} {tokens : List Token} {body other : Nodes} {i m j : List Piece} → IsTrue (chains head) → GoesOn q further tokens
-        → DerivesNodes (inside further q) body i m → DerivesRest q further other m j → DerivesRest q head (MoreNodes (make further body other) NoNodes) (Block tokens ∷ i) j
+    ended : {q : Surroundings} {head : Head} {tokens : List Token} {i : List Piece}
+        → IsTrue (ends head tokens) → DerivesRest q head NoNodes (Block tokens ∷ i) i
+    split : {q : Surroundings} {head : Head} {tokens last : List Token} {body : Nodes}
+        {i j : List Piece} → IsTrue (splits head) → IsWord k.Else (codes "else") tokens
+        → DerivesNodes (nested q) body i (Block last ∷ j) → IsTrue (ends head last)
+        → DerivesRest q head body (Block tokens ∷ i) j
+    chained : {q : Surroundings} {head further : Head} {tokens : List Token} {body other : Nodes}
+        {i m j : List Piece} → IsTrue (chains head) → GoesOn q further tokens
+        → DerivesNodes (inside further q) body i m → DerivesRest q further other m j
+        → DerivesRest q head (MoreNodes (make further body other) NoNodes) (Block tokens ∷ i) j
 
 -- the tag is `extends` and this name in quotes
 abbrev pub Extends : site.Name → List Token → Type 0
@@ -113,11 +154,15 @@ is_space words = length (trim_start words) == 0
 -- The pieces from the first place to the second are white space and comments.
 pub data Front : List Piece → List Piece → Type 0 where
   nothing : {i : List Piece} → Front i i
-  space : {words : site.Text} {place : Span} {i j : List Piece} → IsTrue (is_space words) → Front i j → Front (Words words place ∷ i) j
+  space : {words : site.Text} {place : Span} {i j : List Piece} → IsTrue (is_space words)
+      → Front i j → Front (Words words place ∷ i) j
   remark : {i j : List Piece} → Front i j → Front (Comment ∷ i) j
 
--- All pieces of a text are nodes. Where it extends a template, the tag stands before them, and what stands before the tag is no node.
+-- All pieces of a text are nodes. Where it extends a template, the tag stands before them, and what
+-- stands before the tag is no node.
 pub data DerivesFile : Option site.Name → Nodes → List Piece → Type 0 where
-  root : {nodes : Nodes} {i : List Piece} → DerivesNodes outside nodes i [] → DerivesFile None nodes i
-  child : {name : site.Name} {tokens : List Token} {nodes : Nodes} {i j : List Piece} → Front i (Block tokens ∷ j) → Extends name tokens → DerivesNodes outside nodes j []
+  root : {nodes : Nodes} {i : List Piece} → DerivesNodes outside nodes i []
+      → DerivesFile None nodes i
+  child : {name : site.Name} {tokens : List Token} {nodes : Nodes} {i j : List Piece}
+      → Front i (Block tokens ∷ j) → Extends name tokens → DerivesNodes outside nodes j []
       → DerivesFile (Some name) nodes i

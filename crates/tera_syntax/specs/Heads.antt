@@ -17,7 +17,13 @@ outside = record { in_loop = false; may_leave = false; is_top = true; may_have_b
 
 -- what stands in a statement that changes nothing else: no component is defined there
 abbrev pub nested : Surroundings → Surroundings
-nested q = record { in_loop = q.in_loop; may_leave = q.may_leave; is_top = false; may_have_blocks = q.may_have_blocks }
+nested q =
+    record {
+      in_loop = q.in_loop;
+      may_leave = q.may_leave;
+      is_top = false;
+      may_have_blocks = q.may_have_blocks;
+    }
 
 pub data Head : Type 0 where
   IfHead : (condition : Expr) → Head
@@ -60,12 +66,27 @@ abbrev pub chains : Head → Bool
 chains (IfHead c) = true
 chains _ = false
 
--- What its body stands in. A block's body keeps the names of a loop around it, and can't leave a turn of that loop; the body
--- that a component is handed can. The body of a component's definition is in no loop, and has no blocks.
+-- What its body stands in. A block's body keeps the names of a loop around it, and can't leave a
+-- turn of that loop; the body
+-- that a component is handed can. The body of a component's definition is in no loop, and has no
+-- blocks.
 abbrev pub inside : Head → Surroundings → Surroundings
-inside (ForHead key n e) around = record { in_loop = true; may_leave = true; is_top = false; may_have_blocks = around.may_have_blocks }
-inside (BlockHead n span) around = record { in_loop = around.in_loop; may_leave = false; is_top = false; may_have_blocks = around.may_have_blocks }
-inside (DefinitionHead s) around = record { in_loop = false; may_leave = false; is_top = false; may_have_blocks = false }
+inside (ForHead key n e) around =
+    record {
+      in_loop = true;
+      may_leave = true;
+      is_top = false;
+      may_have_blocks = around.may_have_blocks;
+    }
+inside (BlockHead n span) around =
+    record {
+      in_loop = around.in_loop;
+      may_leave = false;
+      is_top = false;
+      may_have_blocks = around.may_have_blocks;
+    }
+inside (DefinitionHead s) around =
+    record { in_loop = false; may_leave = false; is_top = false; may_have_blocks = false }
 inside _ around = nested around
 
 -- the kind of a tag's first token
@@ -74,7 +95,8 @@ first tokens = kind (begin false tokens)
 
 -- a tag that begins with the word `extends`
 abbrev pub is_extends : List Token → Bool
-is_extends tokens = same k.Name (first tokens) && bytes_eq (text (begin false tokens)) (codes "extends")
+is_extends tokens =
+    same k.Name (first tokens) && bytes_eq (text (begin false tokens)) (codes "extends")
 
 -- the tokens are this word, and behind it this name
 abbrev pub is_named : site.Text → site.Name → List Token → Bool
@@ -83,7 +105,8 @@ is_named word name tokens = false
 
 -- behind the first token stand a slash, this name and what closes
 abbrev pub is_call_end : site.Name → List Token → Bool
-is_call_end name (t ∷ u ∷ v ∷ w ∷ []) = same k.Slash u.kind && ((is_word v.kind && bytes_eq v.text name) && same k.Greater w.kind)
+is_call_end name (t ∷ u ∷ v ∷ w ∷ []) =
+    same k.Slash u.kind && ((is_word v.kind && bytes_eq v.text name) && same k.Greater w.kind)
 is_call_end name tokens = false
 
 -- the kind of the first token of its end
@@ -91,15 +114,19 @@ abbrev pub end_kind : Head → Kind
 end_kind (CallHead n all span) = k.Less
 end_kind _ = k.Name
 
--- The tokens are its end, by the first one's kind. Behind the word that ends a block or a component its name may stand.
+-- The tokens are its end, by the first one's kind. Behind the word that ends a block or a component
+-- its name may stand.
 abbrev pub is_end : Head → List Token → Bool
 is_end (IfHead c) tokens = is_alone (codes "endif") tokens
 is_end (ForHead key n e) tokens = is_alone (codes "endfor") tokens
-is_end (SetHead n fs is_global) tokens = is_alone (codes "endset") tokens || (is_global && is_alone (codes "endset_global") tokens)
+is_end (SetHead n fs is_global) tokens =
+    is_alone (codes "endset") tokens || (is_global && is_alone (codes "endset_global") tokens)
 is_end (SectionHead fs) tokens = is_alone (codes "endfilter") tokens
-is_end (BlockHead n span) tokens = is_alone (codes "endblock") tokens || is_named (codes "endblock") n tokens
+is_end (BlockHead n span) tokens =
+    is_alone (codes "endblock") tokens || is_named (codes "endblock") n tokens
 is_end (CallHead n all span) tokens = is_call_end n tokens
-is_end (DefinitionHead s) tokens = is_alone (codes "endcomponent") tokens || is_named (codes "endcomponent") s.name tokens
+is_end (DefinitionHead s) tokens =
+    is_alone (codes "endcomponent") tokens || is_named (codes "endcomponent") s.name tokens
 
 -- the tag ends a statement with this head
 abbrev pub ends : Head → List Token → Bool

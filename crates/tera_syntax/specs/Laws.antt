@@ -15,5 +15,7 @@ OneReading = (name : Name) (d : Delims) (text : Text) (one other : Tree)
 
 -- All spans of a tree are stretches of the text that spells it.
 abbrev pub SpansInside : Type 0
-SpansInside = (name : Name) (d : Delimiters) (text : Text) (tree : Tree) → IsTrue (accepted (delimiters_of d)) → IsUtf8 text
+SpansInside =
+    (name : Name) (d : Delimiters) (text : Text) (tree : Tree) → IsTrue (accepted (delimiters_of d))
+    → IsUtf8 text
     → Spells name (delimiters_of d) text tree → Inside (length text) tree

@@ -13,6 +13,9 @@ StandsWithin size s = Within size s.whole × Within size s.end
 abbrev pub NamesWithin : ℕ → List PlacedName → Type 0
 NamesWithin size names = All (λ n. Within size n.span) names
 
--- where this lies in a text and the names that were there stand in it, so do those that are there now
-abbrev pub StayWithin : (ℕ → Type 0) → List PlacedName → Result (Unit {0}) Refusal → List PlacedName → Type 0
-StayWithin Lies old result new = (size : ℕ) → Lies size → NamesWithin size old → OnOk result (NamesWithin size new)
+-- where this lies in a text and the names that were there stand in it, so do those that are there
+-- now
+abbrev pub StayWithin : (ℕ → Type 0) → List PlacedName → Result (Unit {0}) Refusal → List PlacedName
+    → Type 0
+StayWithin Lies old result new =
+    (size : ℕ) → Lies size → NamesWithin size old → OnOk result (NamesWithin size new)

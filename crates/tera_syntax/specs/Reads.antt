@@ -16,15 +16,19 @@ SpellsNone name d text = (tree : Tree) → IsWellFormed tree → Spells name d t
 
 -- the fault is a syntax error at a stretch of the text
 abbrev pub IsSyntaxError : Name → Text → Fault → Type 0
-IsSyntaxError name text fault = (span : Span) × (fault ≡ syntax_error (record { file = name; span = span })) × Within (length text) span
+IsSyntaxError name text fault =
+    (span : Span) × (fault ≡ syntax_error (record { file = name; span = span }))
+    × Within (length text) span
 
 -- every well-formed tree that the text spells is this one
 abbrev pub SpellsOnly : Name → Delims → Text → Tree → Type 0
-SpellsOnly name d text tree = (other : Tree) → IsWellFormed other → Spells name d text other → other ≡ tree
+SpellsOnly name d text tree =
+    (other : Tree) → IsWellFormed other → Spells name d text other → other ≡ tree
 
 -- The well-formed tree that the text spells, and no other; where it spells none, a syntax error.
 abbrev pub Reads : Name → Delims → Text → Result Tree Fault → Type 0
-Reads name d text (Ok tree) = Spells name d text tree × IsWellFormed tree × SpellsOnly name d text tree
+Reads name d text (Ok tree) =
+    Spells name d text tree × IsWellFormed tree × SpellsOnly name d text tree
 Reads name d text (Err fault) = IsSyntaxError name text fault × SpellsNone name d text
 
 -- A text in which no start delimiter begins is read.

@@ -27,12 +27,14 @@ abbrev pub heading_of : Heading → Head
 heading_of h = ForHead (option_copied h.key) h.name.now (expr_of h.target)
 
 abbrev call_of : ComponentTag → Span → Head
-call_of t span = let parts = out-ComponentTag t in CallHead parts.name.now (entries_of parts.attributes.items) span
+call_of t span = let parts = out-ComponentTag t in
+    CallHead parts.name.now (entries_of parts.attributes.items) span
 
 abbrev pub head_of : head.Head → Head
 head_of (variant.If c) = IfHead (expr_of c.value)
 head_of (variant.For h) = heading_of h.value
-head_of (variant.Set c is_global) = SetHead c.value.name.now (filters_of c.value.filters.items) is_global
+head_of (variant.Set c is_global) =
+    SetHead c.value.name.now (filters_of c.value.filters.items) is_global
 head_of (variant.Section fs) = SectionHead (filters_of fs.items)
 head_of (variant.Block t span) = BlockHead t.now span
 head_of (variant.Call t span) = call_of t.value span
@@ -43,23 +45,42 @@ body_of None = None
 body_of (Some nodes) = Some (nodes_of nodes.items)
 
 abbrev pub statement_of : statement.OpenStatement → OpenStatement
-statement_of f = record { before = nodes_of f.before.items; head = head_of f.head; body = body_of f.body; is_chained = f.is_chained; surroundings = f.surroundings }
+statement_of f =
+    record {
+      before = nodes_of f.before.items;
+      head = head_of f.head;
+      body = body_of f.body;
+      is_chained = f.is_chained;
+      surroundings = f.surroundings;
+    }
 
 -- the innermost stands last in memory
 abbrev pub statements_of : List statement.OpenStatement → List OpenStatement
 statements_of fs = map statement_of (reverse fs)
 
 abbrev pub progress_of : progress.Progress → Progress
-progress_of s = record { statements = statements_of s.statements.items; found = nodes_of s.found.items; surroundings = s.surroundings }
+progress_of s =
+    record {
+      statements = statements_of s.statements.items;
+      found = nodes_of s.found.items;
+      surroundings = s.surroundings;
+    }
 
 abbrev pub file_of : file.File → File
-file_of f = record { parent = quoted_option f.parent; is_front = f.is_front; progress = progress_of f.progress }
+file_of f =
+    record {
+      parent = quoted_option f.parent;
+      is_front = f.is_front;
+      progress = progress_of f.progress;
+    }
 
 abbrev pub names_of : List PlacedName → List Name
 names_of names = map (λ n. n.name.now) names
 
--- These names are put behind those that were there. Memory may lack for it, and nothing else is refused.
-abbrev pub Gathers : List Name → List PlacedName → Result (Unit {0}) Refusal → List PlacedName → Type 0
+-- These names are put behind those that were there. Memory may lack for it, and nothing else is
+-- refused.
+abbrev pub Gathers : List Name → List PlacedName → Result (Unit {0}) Refusal → List PlacedName
+    → Type 0
 Gathers more old (Ok done) new = names_of new ≡ names_of old ++ more
 Gathers more old (Err refusal) new = refusal ≡ OutOfMemory
 

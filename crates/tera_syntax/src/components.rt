@@ -3,14 +3,15 @@ ghost use Rattle.std.specs.Prelude.{option_and_then};
 ghost use Rattle.tera_syntax.specs.Reader as spec;
 ghost use Rattle.tera_syntax.specs.View.{Becomes, head_of, progress_of};
 ghost use Rattle.tera_syntax_tokens.specs.Prelude.{Answers, begin, input, tokens_of};
+ghost use Rattle.tera_syntax_tree.specs.Depth.{max_tree_depth};
 
 use crate::heads::Head;
 use crate::progress::Progress;
 use std::alloc::Global;
 use tera_syntax_expressions::components::attributes;
-use tera_syntax_tokens::input::{Tokens, is_word, same};
 use tera_syntax_tokens::refusal::{Reason, Refusal};
 use tera_syntax_tokens::token::{Kind, Token};
+use tera_syntax_tokens::tokens::{Tokens, is_word, same};
 use tera_syntax_tree::ComponentTag;
 
 /// A tag that begins with `<`.
@@ -21,8 +22,9 @@ pub(crate) fn call<'s>(
 ) -> Result<(), Refusal>
     ensures { let s = progress_of progress.old in
         let tokens = tokens_of tag.now in
-        let meant = spec.calling (spec.room 200 s) (begin s.surroundings.in_loop tokens) in
-        Becomes (option_and_then (spec.taken 200 s tokens) meant) result progress.new }
+        let here = begin s.surroundings.in_loop tokens in
+        let meant = spec.calling (spec.room max_tree_depth s) here in
+        Becomes (option_and_then (spec.taken max_tree_depth s tokens) meant) result progress.new }
 {
     let mut ahead = Tokens::begin(tag, progress.surroundings.in_loop);
     let start = ahead.start();

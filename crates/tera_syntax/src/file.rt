@@ -7,6 +7,7 @@ ghost use Rattle.tera_syntax.specs.Reader.{quoted_name};
 ghost use Rattle.tera_syntax.specs.View.{FileBecomes, file_of};
 ghost use Rattle.tera_syntax_tokens.specs.Prelude.{Answers, IsSyntax, piece_of, PointsWithin, PieceInside, tokens_of};
 ghost use Rattle.tera_syntax_tokens.specs.declared.token.Token as token;
+ghost use Rattle.tera_syntax_tree.specs.Depth.{max_tree_depth};
 ghost use Rattle.tera_syntax_tree.specs.Prelude.{tree_of};
 
 use crate::heads::is_extends;
@@ -78,7 +79,7 @@ impl<'s> File<'s> {
         tokens: &[Token<'s>],
     ) -> Result<(), Refusal>
         ensures value { let meant = piece_of tokens.now piece.entry in
-            FileBecomes (spec.file_step 200 (file_of self.old) meant) result self.new }
+            FileBecomes (spec.file_step max_tree_depth (file_of self.old) meant) result self.new }
         ensures points { (size : ℕ) → StandsWithin size spans
             → PieceInside size (piece_of tokens.now piece.entry)
             → IfErr result (PointsWithin size) }
@@ -96,7 +97,7 @@ impl<'s> File<'s> {
     /// The same, where a refusal points at a token or behind the last one.
     fn take(&mut self, alloc: Global, piece: Piece<'s>, tokens: &[Token<'s>]) -> Result<(), Refusal>
         ensures { let meant = piece_of tokens.now piece.entry in
-            FileBecomes (spec.file_step 200 (file_of self.old) meant) result self.new }
+            FileBecomes (spec.file_step max_tree_depth (file_of self.old) meant) result self.new }
     {
         if self.is_front && is_extends_piece(piece, tokens) {
             self.extend(alloc, tokens)
@@ -119,7 +120,7 @@ impl<'s> File<'s> {
     /// Any other piece.
     fn keep(&mut self, alloc: Global, piece: Piece<'s>, tokens: &[Token<'s>]) -> Result<(), Refusal>
         ensures { let meant = piece_of tokens.now piece.entry in
-            FileBecomes (spec.kept 200 (file_of self.old) meant) result self.new }
+            FileBecomes (spec.kept max_tree_depth (file_of self.old) meant) result self.new }
     {
         self.is_front = self.is_front && is_front_piece(piece);
         step(&mut self.progress, alloc, piece, tokens)

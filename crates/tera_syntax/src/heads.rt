@@ -7,8 +7,8 @@ ghost use Rattle.tera_syntax_tree.specs.Prelude.{node_of, nodes_of};
 
 use tera_errors::Span;
 use tera_syntax_tokens::cut::is_alone;
-use tera_syntax_tokens::input::{Tokens, is_word, same};
 use tera_syntax_tokens::token::{Kind, Token};
+use tera_syntax_tokens::tokens::{Tokens, is_word, same};
 use tera_syntax_tree::{
     Captured, ComponentTag, Expression, Heading, Node, SectionFilter, Signature,
 };

@@ -4,19 +4,20 @@ ghost use Rattle.tera_syntax.specs.Heads as heads;
 ghost use Rattle.tera_syntax.specs.Reader as spec;
 ghost use Rattle.tera_syntax.specs.View.{Becomes, body_of, statement_of, head_of, progress_of};
 ghost use Rattle.tera_syntax_tokens.specs.Prelude.{Answers, IsSyntax, tokens_of};
+ghost use Rattle.tera_syntax_tree.specs.Depth.{max_tree_depth};
 ghost use Rattle.tera_syntax_tree.specs.Prelude.{node_of, nodes_of};
 
 use crate::heads::{Head, Surroundings, is_extends};
 use std::alloc::Global;
 use std::mem::replace;
 use tera_errors::Span;
-use tera_syntax_tokens::input::Tokens;
 use tera_syntax_tokens::refusal::{Reason, Refusal};
 use tera_syntax_tokens::token::Token;
+use tera_syntax_tokens::tokens::Tokens;
 use tera_syntax_tree::Node;
 
 /// How deep a tree may be.
-const MAX_DEPTH: usize = 200;
+const MAX_TREE_DEPTH: usize = 200;
 
 /// A statement whose end is not read yet.
 #[derive(Drop)]
@@ -114,9 +115,9 @@ impl<'s> Progress<'s> {
 
     /// How deep an expression of a tag may be here.
     pub fn room(&self) -> usize
-        ensures { result ≡ spec.room 200 (progress_of self.now) }
+        ensures { result ≡ spec.room max_tree_depth (progress_of self.now) }
     {
-        MAX_DEPTH.saturating_sub(self.statements.len() + 1)
+        MAX_TREE_DEPTH.saturating_sub(self.statements.len() + 1)
     }
 
     /// What it stands in that is open.
@@ -131,9 +132,9 @@ impl<'s> Progress<'s> {
 
     /// Whether a node may stand here.
     pub fn has_room(&self) -> bool
-        ensures { result ≡ spec.has_room 200 (progress_of self.now) }
+        ensures { result ≡ spec.has_room max_tree_depth (progress_of self.now) }
     {
-        self.statements.len() < MAX_DEPTH
+        self.statements.len() < MAX_TREE_DEPTH
     }
 
     /// Puts a node behind those that were read, where it may stand.
@@ -154,8 +155,8 @@ impl<'s> Progress<'s> {
         head: Head<'s>,
         tag: &[Token<'_>],
     ) -> Result<(), Refusal>
-        ensures { let meant = spec.opened 200 is_chained (progress_of self.old) (head_of head.entry)
-            in
+        ensures { let so_far = progress_of self.old in
+            let meant = spec.opened max_tree_depth is_chained so_far (head_of head.entry) in
             Becomes meant result self.new }
     {
         if !self.has_room() {

@@ -5,6 +5,7 @@ ghost use Rattle.tera_syntax.specs.File as spec;
 ghost use Rattle.tera_syntax.specs.Reads.{Reads, ReadsPlainText};
 ghost use Rattle.tera_syntax.specs.View.{file_of};
 ghost use Rattle.tera_syntax_tokens.specs.Prelude.{Answers, pieces, PointsWithin};
+ghost use Rattle.tera_syntax_tree.specs.Depth.{max_tree_depth};
 ghost use Rattle.tera_syntax_tree.specs.Prelude.{accepted, delimiters_of, Inside, tree_of};
 
 use crate::blocks::once;
@@ -45,7 +46,7 @@ fn read<'s>(
 ) -> Result<ParserOutput<'s>, Refusal>
     requires { IsTrue (accepted (delimiters_of delimiters.now)) }
     ensures value { let all = pieces (delimiters_of delimiters.now) source.now in
-        Answers tree_of (spec.file 200 all) result }
+        Answers tree_of (spec.file max_tree_depth all) result }
     ensures points { IfErr result (PointsWithin (length source.now)) }
 {
     let mut file = File::begin(alloc);

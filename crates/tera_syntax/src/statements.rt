@@ -3,6 +3,7 @@ ghost use Rattle.std.specs.Prelude.{◌≡◌, ◌∷◌, [], IfSome};
 ghost use Rattle.tera_syntax.specs.Reader as spec;
 ghost use Rattle.tera_syntax.specs.View.{Becomes, heading_of, progress_of};
 ghost use Rattle.tera_syntax_tokens.specs.Prelude.{Answers, piece_of, begin, next, input, token_of, tokens_of};
+ghost use Rattle.tera_syntax_tree.specs.Depth.{max_tree_depth};
 ghost use Rattle.tera_syntax_tree.specs.Prelude.{expr_of, filters_of, node_of};
 
 use crate::components::call;
@@ -14,10 +15,11 @@ use tera_errors::Span;
 use tera_syntax_expressions::expressions::expr;
 use tera_syntax_expressions::filters::filters;
 use tera_syntax_expressions::headings::{LoopNames, names};
+use tera_syntax_expressions::precedence;
 use tera_syntax_tokens::cut::{Piece, is_alone};
-use tera_syntax_tokens::input::{Tokens, same};
 use tera_syntax_tokens::refusal::{Reason, Refusal};
 use tera_syntax_tokens::token::{Kind, Token};
+use tera_syntax_tokens::tokens::{Tokens, same};
 use tera_syntax_tree::{Expression, Heading, Node, SectionFilter};
 
 /// An expression that is all from here to the end of the tag.
@@ -29,7 +31,7 @@ pub(crate) fn whole<'s>(
 ) -> Result<Expression<'s>, Refusal>
     ensures { Answers expr_of (spec.whole limit (input tokens.old)) result }
 {
-    let value = expr(alloc, tokens, limit, 0)?;
+    let value = expr(alloc, tokens, limit, precedence::CHOICE)?;
     if same(Kind::End, tokens.kind()) {
         Ok(value.expression)
     } else {
@@ -82,7 +84,7 @@ pub(crate) fn put<'s>(
     node: Node<'s>,
     tag: &[Token<'_>],
 ) -> Result<(), Refusal>
-    ensures { Becomes (spec.put 200 (progress_of progress.old) (node_of node.entry))
+    ensures { Becomes (spec.put max_tree_depth (progress_of progress.old) (node_of node.entry))
         result progress.new }
 {
     if !progress.has_room() {
@@ -98,7 +100,8 @@ fn statement<'s>(
     alloc: Global,
     tag: &[Token<'s>],
 ) -> Result<(), Refusal>
-    ensures { let meant = spec.statement 200 (progress_of progress.old) (tokens_of tag.now) in
+    ensures { let so_far = progress_of progress.old in
+        let meant = spec.statement max_tree_depth so_far (tokens_of tag.now) in
         Becomes meant result progress.new }
 {
     match first(tag) {
@@ -131,7 +134,7 @@ fn statement<'s>(
 }
 
 fn put_words<'s>(progress: &mut Progress<'s>, text: &'s str, span: Span) -> Result<(), Refusal>
-    ensures { let meant = spec.put_words 200 (progress_of progress.old) text.now span in
+    ensures { let meant = spec.put_words max_tree_depth (progress_of progress.old) text.now span in
         Becomes meant result progress.new }
 {
     if text.is_empty() {
@@ -162,8 +165,8 @@ fn lone_name<'s>(tag: &[Token<'s>]) -> Option<Token<'s>>
 fn print<'s>(progress: &mut Progress<'s>, alloc: Global, tag: &[Token<'s>]) -> Result<(), Refusal>
     ensures { let s = progress_of progress.old in
         let tokens = tokens_of tag.now in
-        let value = spec.whole (spec.room 200 s) (begin s.surroundings.in_loop tokens) in
-        Becomes (spec.printed 200 s value) result progress.new }
+        let value = spec.whole (spec.room max_tree_depth s) (begin s.surroundings.in_loop tokens) in
+        Becomes (spec.printed max_tree_depth s value) result progress.new }
 {
     match lone_name(tag) {
         Some(token) if progress.room() > 0 => progress.add(Node::PrintName {
@@ -186,7 +189,7 @@ pub(crate) fn step<'s>(
     tokens: &[Token<'s>],
 ) -> Result<(), Refusal>
     ensures { let meant = piece_of tokens.now piece.entry in
-        Becomes (spec.step 200 (progress_of progress.old) meant) result progress.new }
+        Becomes (spec.step max_tree_depth (progress_of progress.old) meant) result progress.new }
 {
     match piece {
         Piece::Words(text, span) => put_words(progress, text, span),

@@ -3,6 +3,7 @@ ghost use Rattle.std.specs.Prelude.{◌≡◌, IfOk, false, get_or, option_and_t
 ghost use Rattle.tera_syntax.specs.Reader as spec;
 ghost use Rattle.tera_syntax.specs.View.{Becomes, progress_of};
 ghost use Rattle.tera_syntax_tokens.specs.Prelude.{Answers, begin, next, input, Token, tokens_of};
+ghost use Rattle.tera_syntax_tree.specs.Depth.{max_tree_depth};
 ghost use Rattle.tera_syntax_tree.specs.Prelude.{node_of, quoted_of};
 
 use crate::heads::Head;
@@ -11,10 +12,10 @@ use crate::statements::{behind, pipe, put, whole};
 use std::alloc::Global;
 use tera_syntax_expressions::parameters::signature;
 use tera_syntax_tokens::cut::is_alone;
-use tera_syntax_tokens::input::{Tokens, is_word, same};
 use tera_syntax_tokens::literal::literal;
 use tera_syntax_tokens::refusal::{Reason, Refusal};
 use tera_syntax_tokens::token::{Kind, Token};
+use tera_syntax_tokens::tokens::{Tokens, is_word, same};
 use tera_syntax_tree::{Captured, Node, Quoted};
 
 /// A tag that begins with `set` or `set_global`.
@@ -27,8 +28,8 @@ fn set<'s>(
     ensures { let s = progress_of progress.old in
         let tokens = tokens_of tag.now in
         let behind = next (begin s.surroundings.in_loop tokens) in
-        let meant = spec.setting (spec.room 200 s) is_global behind in
-        Becomes (option_and_then (spec.taken 200 s tokens) meant) result progress.new }
+        let meant = spec.setting (spec.room max_tree_depth s) is_global behind in
+        Becomes (option_and_then (spec.taken max_tree_depth s tokens) meant) result progress.new }
 {
     let mut ahead = behind(tag, progress.surroundings.in_loop);
     if !same(Kind::Name, ahead.kind()) {
@@ -59,8 +60,8 @@ fn section<'s>(progress: &mut Progress<'s>, alloc: Global, tag: &[Token<'s>]) ->
     ensures { let s = progress_of progress.old in
         let tokens = tokens_of tag.now in
         let behind = next (begin s.surroundings.in_loop tokens) in
-        let meant = spec.sectioning (spec.room 200 s) behind in
-        Becomes (option_and_then (spec.taken 200 s tokens) meant) result progress.new }
+        let meant = spec.sectioning (spec.room max_tree_depth s) behind in
+        Becomes (option_and_then (spec.taken max_tree_depth s tokens) meant) result progress.new }
 {
     let mut ahead = behind(tag, progress.surroundings.in_loop);
     let filters = pipe(alloc, &mut ahead, progress.room())?;
@@ -73,7 +74,7 @@ fn block<'s>(progress: &mut Progress<'s>, alloc: Global, tag: &[Token<'s>]) -> R
         let tokens = tokens_of tag.now in
         let behind = next (begin s.surroundings.in_loop tokens) in
         let meant = spec.blocking s.surroundings.may_have_blocks behind in
-        Becomes (option_and_then (spec.taken 200 s tokens) meant) result progress.new }
+        Becomes (option_and_then (spec.taken max_tree_depth s tokens) meant) result progress.new }
 {
     if !progress.surroundings.may_have_blocks {
         return Err(refused(tag, Reason::OutOfPlace));
@@ -97,8 +98,8 @@ fn define<'s>(progress: &mut Progress<'s>, alloc: Global, tag: &[Token<'s>]) -> 
     ensures { let s = progress_of progress.old in
         let tokens = tokens_of tag.now in
         let behind = next (begin false tokens) in
-        let meant = spec.defining s.surroundings.is_top (spec.room 200 s) behind in
-        Becomes (option_and_then (spec.taken 200 s tokens) meant) result progress.new }
+        let meant = spec.defining s.surroundings.is_top (spec.room max_tree_depth s) behind in
+        Becomes (option_and_then (spec.taken max_tree_depth s tokens) meant) result progress.new }
 {
     if !progress.surroundings.is_top {
         return Err(refused(tag, Reason::OutOfPlace));
@@ -139,7 +140,7 @@ fn include<'s>(progress: &mut Progress<'s>, alloc: Global, tag: &[Token<'s>]) ->
     ensures { let s = progress_of progress.old in
         let tokens = tokens_of tag.now in
         let meant = spec.including (next (begin false tokens)) in
-        Becomes (option_and_then (spec.taken 200 s tokens) meant) result progress.new }
+        Becomes (option_and_then (spec.taken max_tree_depth s tokens) meant) result progress.new }
 {
     let mut ahead = behind(tag, false);
     let start = ahead.start();
@@ -158,7 +159,7 @@ fn leave<'s>(
     ensures { let s = progress_of progress.old in
         let tokens = tokens_of tag.now in
         let meant = spec.leaving s.surroundings.may_leave word.now tokens (node_of node.entry) in
-        Becomes (option_and_then (spec.taken 200 s tokens) meant) result progress.new }
+        Becomes (option_and_then (spec.taken max_tree_depth s tokens) meant) result progress.new }
 {
     if !progress.surroundings.may_leave {
         return Err(refused(tag, Reason::NotOpen));
@@ -205,8 +206,8 @@ pub(crate) fn named<'s>(
 ) -> Result<(), Refusal>
     ensures { let s = progress_of progress.old in
         let tokens = tokens_of tag.now in
-        let meant = spec.named (spec.room 200 s) s.surroundings tokens word.now in
-        Becomes (option_and_then (spec.taken 200 s tokens) meant) result progress.new }
+        let meant = spec.named (spec.room max_tree_depth s) s.surroundings tokens word.now in
+        Becomes (option_and_then (spec.taken max_tree_depth s tokens) meant) result progress.new }
 {
     if !may_begin(first_byte(word), word.len()) {
         return progress.shut(alloc, tag);

@@ -11,7 +11,7 @@ use Rattle.tera_syntax_expressions.specs.Expressions.{Deep, needs, gives, begins
 use Rattle.tera_syntax_expressions.proofs.Steps as steps
 use Rattle.tera_syntax_expressions.proofs.Extent.{next-left}
 use Rattle.tera_syntax_expressions.proofs.ArgumentRows.{no-call, call-opens}
-use Rattle.tera_syntax_expressions.proofs.Precedence.{le-true}
+use Rattle.tera_syntax_expressions.proofs.GoingOn.{le-true}
 use Rattle.tera_syntax_expressions.proofs.Turning.{stay}
 
 -- this operand, at this level, before this token

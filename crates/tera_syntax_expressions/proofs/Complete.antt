@@ -11,7 +11,7 @@ use Rattle.tera_syntax_expressions.specs.Arguments.{call_form, begins_attribute}
 use Rattle.tera_syntax_expressions.specs.Loops.{behind_loop}
 use Rattle.tera_syntax_expressions.specs.Expressions.{deep, needs, gives, expr, behind_dots, join_items, one_item, join_entries}
 use Rattle.tera_syntax_expressions.proofs.Steps.{differ, unlike, alike, test-name}
-use Rattle.tera_syntax_expressions.proofs.Precedence.{operator-depth, is-no-end, operator-needs, dot-needs, bracket-needs, needs-some, not-three, not-eight, stops-up, ends-up, ends, eight-of-nine, needed-kinds, given-kinds, closing-kinds, level-at, begin-kinds, ends-bound, ends-target, at-most}
+use Rattle.tera_syntax_expressions.proofs.GoingOn.{operator-depth, is-no-end, operator-needs, dot-needs, bracket-needs, needs-some, not-three, not-eight, stops-up, ends-up, ends, eight-of-nine, needed-kinds, given-kinds, closing-kinds, level-at, begin-kinds, ends-bound, ends-target, at-most}
 use Rattle.tera_syntax_expressions.proofs.Extent.{next-left, token, word-left, shorter, shorter-entry, shorter-entries, shorter-part, shorter-step, shorter-item, shorter-all, shorter-attribute, shorter-attributes, shorter-argument, shorter-given, starts-so, item-starts, entry-starts, argument-starts, step-begins, condition-begins}
 use Rattle.tera_syntax_expressions.proofs.Rows.{join-none, join-join, join-no-entries, join-entries, got-none, got-one, got-more, got-first}
 use Rattle.tera_syntax_expressions.proofs.Forms.{deep-node, some-depth, infixed-is, operator-is, power-is, not_in-is, choice-is, attribute-is, index-is, slice-is, prefixed-is, item-none, item-one, item-more, behind-last, behind-comma, empty-is, array-is, no-condition-is, condition-is, comprehension-is, key-is, dots-is, entry-none, entry-one, entry-more, map-is, int-is, quoted-is, part-colon, part-bracket, part-some, step-none, step-some}

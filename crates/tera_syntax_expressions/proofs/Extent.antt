@@ -10,7 +10,7 @@ use Rattle.tera_syntax_expressions.specs.Grammar.{Derives, quoted, tighter, choi
 use Rattle.tera_syntax_expressions.specs.Headings.{Calls, value, key_and_value}
 use Rattle.tera_errors.specs.Site as site
 use Rattle.tera_syntax_expressions.proofs.Steps.{unlike, alike, test-name}
-use Rattle.tera_syntax_expressions.proofs.Precedence.{is-no-end, dot-needs, bracket-needs}
+use Rattle.tera_syntax_expressions.proofs.GoingOn.{is-no-end, dot-needs, bracket-needs}
 
 pub next-left : (s : Kind) (i : Input) → kind i ≡ s → (s ≡ k.End → ⊥) → left i ≡ suc (left (next i))
 unfolding left next kind

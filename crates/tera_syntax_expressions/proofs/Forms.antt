@@ -19,7 +19,7 @@ use Rattle.tera_syntax_expressions.proofs.Steps as steps
 use Rattle.tera_syntax_expressions.proofs.Steps.{differ, unlike, alike}
 use Rattle.tera_syntax_expressions.proofs.Extent.{key-kind}
 use Rattle.tera_syntax_expressions.proofs.Calls.{calls-is}
-use Rattle.tera_syntax_expressions.proofs.Precedence.{and-false}
+use Rattle.tera_syntax_expressions.proofs.GoingOn.{and-false}
 
 pub deep-node : (limit d : ℕ) (x : Expr) (j : Input) → suc d ≤ limit → depth x ≡ suc d → node limit d x j ≡ Some (deep x, j)
 unfolding node

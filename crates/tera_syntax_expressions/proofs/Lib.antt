@@ -1,6 +1,6 @@
 pub mod Turns
 pub mod Steps
-pub mod Precedence
+pub mod GoingOn
 pub mod Rows
 pub mod Calls
 pub mod Gathered

@@ -16,7 +16,7 @@ use Rattle.tera_syntax_expressions.specs.Headings.{Calls, calls}
 use Rattle.tera_syntax_expressions.specs.Arguments.{is_call, call_form, is_test_name}
 use Rattle.tera_syntax_expressions.specs.Expressions as r
 use Rattle.tera_syntax_expressions.specs.Expressions.{Deep, deep, needs, gives, begins, goes_on, floor_in, opened, climb, level, level_with, expr, head, node, prefixed, infixed, applied, behind_dots, join_items, one_item, join_entries}
-use Rattle.tera_syntax_expressions.proofs.Precedence.{gives-below, on-means, operator-depth, operator-needs}
+use Rattle.tera_syntax_expressions.proofs.GoingOn.{gives-below, on-means, operator-depth, operator-needs}
 use Rattle.tera_syntax_expressions.proofs.Calls.{calls-got}
 use Rattle.tera_syntax_expressions.proofs.ArgumentRows.{Reads, arguments-got, call-depth}
 use Rattle.tera_syntax_expressions.proofs.Passing.{passed-got}

@@ -8,7 +8,7 @@ use Rattle.tera_syntax_tokens.specs.Input.{Input, Parsed, Parser, and_then, same
 use Rattle.tera_syntax_expressions.specs.Expressions as r
 use Rattle.tera_syntax_expressions.specs.Expressions.{Deep, deep, needs, gives, begins, goes_on, floor_in, opened, climb, level, level_with, expr, head}
 use Rattle.tera_syntax_expressions.proofs.Steps as steps
-use Rattle.tera_syntax_expressions.proofs.Precedence.{Stops, le-true, between, closes, on, off, level-at}
+use Rattle.tera_syntax_expressions.proofs.GoingOn.{Stops, le-true, between, closes, on, off, level-at}
 use Rattle.tera_syntax_expressions.proofs.Extent.{next-left}
 
 pub if-mono : {A : Type 0} (c : Bool) (d e : Option A) (y : A) → (d ≡ Some y → e ≡ Some y) → (if c then d else None) ≡ Some y → (if c then e else None) ≡ Some y

@@ -31,7 +31,8 @@ name_cmp = slice_cmp nat_cmp
 abbrev pub put_argument : Name → Expr → Arguments → Option Arguments
 put_argument n x NoArguments = Some (MoreArguments n x NoArguments)
 put_argument n x (MoreArguments m y rest) = match_ordering (name_cmp n m)
-    (Some (MoreArguments n x (MoreArguments m y rest))) None (option_map (MoreArguments m y) (put_argument n x rest))
+    (Some (MoreArguments n x (MoreArguments m y rest))) None
+    (option_map (MoreArguments m y) (put_argument n x rest))
 
 -- in the order of their names, so that no name stands twice
 abbrev pub IsBefore : Name → Arguments → Type 0
@@ -44,8 +45,11 @@ AreInOrder (MoreArguments n x rest) = IsBefore n rest × AreInOrder rest
 
 -- the name of an argument, any word, and the place behind the sign that follows
 unfoldable pub argument_name : Parser Name
-argument_name = λ i. if is_word (kind i) then and_then (expect k.Assign (next i)) (λ _. λ j. Some (text i, j)) else None
+argument_name =
+    λ i. if is_word (kind i) then and_then (expect k.Assign (next i)) (λ _. λ j. Some (text i, j))
+    else None
 
--- an attribute of a component begins with its name, any word, or with the brace before a map that is spread
+-- an attribute of a component begins with its name, any word, or with the brace before a map that
+-- is spread
 unfoldable pub begins_attribute : Kind → Bool
 begins_attribute s = is_word s || same k.LeftBrace s

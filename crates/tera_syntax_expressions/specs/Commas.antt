@@ -6,4 +6,6 @@ use Rattle.tera_syntax_tokens.specs.Input.{Parser, and_then, expect, kind, next,
 
 -- a comma, or what closes: whether it is a comma
 unfoldable pub comma_or : Kind → Parser Bool
-comma_or closing = λ i. if same Comma (kind i) then Some (true, next i) else and_then (expect closing i) (λ done. λ j. Some (false, j))
+comma_or closing =
+    λ i. if same Comma (kind i) then Some (true, next i)
+    else and_then (expect closing i) (λ done. λ j. Some (false, j))

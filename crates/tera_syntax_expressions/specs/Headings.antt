@@ -12,7 +12,8 @@ Names i s = (kind i ≡ k.Name) × (kind (next i) ≡ s)
 -- what a loop calls its items, up to `in`; of two names the first is the key's
 pub data Calls : Option Name → Name → Input → Input → Type 0 where
   value : {i : Input} → Names i k.In → Calls None (text i) i (next (next i))
-  key_and_value : {i : Input} → Names i k.Comma → Names (next (next i)) k.In → Calls (Some (text i)) (text (next (next i))) i (next (next (next (next i))))
+  key_and_value : {i : Input} → Names i k.Comma → Names (next (next i)) k.In
+      → Calls (Some (text i)) (text (next (next i))) i (next (next (next (next i))))
 
 -- The same as a function.
 unfoldable pub name : Parser Name
@@ -24,7 +25,9 @@ called key word = λ i. and_then (expect k.In i) (λ _. λ j. Some ((key, word),
 
 -- behind the first name
 unfoldable pub calls_behind : Name → Parser (Option Name × Name)
-calls_behind first = λ i. if same k.Comma (kind i) then and_then (name (next i)) (called (Some first)) else called None first i
+calls_behind first =
+    λ i. if same k.Comma (kind i) then and_then (name (next i)) (called (Some first))
+    else called None first i
 
 unfoldable pub calls : Parser (Option Name × Name)
 calls = name >>= calls_behind

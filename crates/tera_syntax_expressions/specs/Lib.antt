@@ -1,4 +1,5 @@
 pub mod Applications
+pub mod Precedence
 pub mod Keys
 pub mod Commas
 pub mod Loops

@@ -25,25 +25,35 @@ mutual
   -- The tokens from the first place to the second are a value that is written out.
   pub data DerivesLiteral : Literal → Input → Input → Type 0 where
     plain : {x : Literal} {i : Input} → plain_at i ≡ Some x → DerivesLiteral x i (next i)
-    minus : {z : ℤ} {i : Input} → kind i ≡ k.Minus → kind (next i) ≡ k.Int → integer (text (next i)) ≡ Some z → DerivesLiteral (IntegerLiteral (neg_ℤ z)) i (next (next i))
-    array : {xs : Literals} {i a : Input} → kind i ≡ k.LeftBracket → DerivesLiterals xs (next i) a → kind a ≡ k.RightBracket → DerivesLiteral (ArrayLiteral xs) i (next a)
-    map : {xs : LiteralEntries} {i a : Input} → kind i ≡ k.LeftBrace → DerivesLiteralEntries xs (next i) a → kind a ≡ k.RightBrace → DerivesLiteral (MapLiteral xs) i (next a)
+    minus : {z : ℤ} {i : Input} → kind i ≡ k.Minus → kind (next i) ≡ k.Int
+        → integer (text (next i)) ≡ Some z
+        → DerivesLiteral (IntegerLiteral (neg_ℤ z)) i (next (next i))
+    array : {xs : Literals} {i a : Input} → kind i ≡ k.LeftBracket → DerivesLiterals xs (next i) a
+        → kind a ≡ k.RightBracket → DerivesLiteral (ArrayLiteral xs) i (next a)
+    map : {xs : LiteralEntries} {i a : Input} → kind i ≡ k.LeftBrace
+        → DerivesLiteralEntries xs (next i) a → kind a ≡ k.RightBrace
+        → DerivesLiteral (MapLiteral xs) i (next a)
 
   -- values with commas between, and at will one behind the last
   pub data DerivesLiterals : Literals → Input → Input → Type 0 where
     none : {i : Input} → DerivesLiterals NoLiterals i i
-    one : {x : Literal} {i j : Input} → DerivesLiteral x i j → DerivesLiterals (MoreLiterals x NoLiterals) i j
-    more : {x : Literal} {xs : Literals} {i a j : Input} → DerivesLiteral x i a → kind a ≡ k.Comma → DerivesLiterals xs (next a) j → DerivesLiterals (MoreLiterals x xs) i j
+    one : {x : Literal} {i j : Input} → DerivesLiteral x i j
+        → DerivesLiterals (MoreLiterals x NoLiterals) i j
+    more : {x : Literal} {xs : Literals} {i a j : Input} → DerivesLiteral x i a → kind a ≡ k.Comma
+        → DerivesLiterals xs (next a) j → DerivesLiterals (MoreLiterals x xs) i j
 
   -- entries with commas between, and at will one behind the last
   pub data DerivesLiteralEntries : LiteralEntries → Input → Input → Type 0 where
     no_entries : {i : Input} → DerivesLiteralEntries NoLiteralEntries i i
-    one_entry : {key : Key} {x : Literal} {i j : Input} → DerivesLiteralEntry key x i j → DerivesLiteralEntries (MoreLiteralEntries key x NoLiteralEntries) i j
-    more_entries : {key : Key} {x : Literal} {xs : LiteralEntries} {i a j : Input} → DerivesLiteralEntry key x i a → kind a ≡ k.Comma → DerivesLiteralEntries xs (next a) j
+    one_entry : {key : Key} {x : Literal} {i j : Input} → DerivesLiteralEntry key x i j
+        → DerivesLiteralEntries (MoreLiteralEntries key x NoLiteralEntries) i j
+    more_entries : {key : Key} {x : Literal} {xs : LiteralEntries} {i a j : Input}
+        → DerivesLiteralEntry key x i a → kind a ≡ k.Comma → DerivesLiteralEntries xs (next a) j
         → DerivesLiteralEntries (MoreLiteralEntries key x xs) i j
 
   pub data DerivesLiteralEntry : Key → Literal → Input → Input → Type 0 where
-    entry : {key : Key} {x : Literal} {i j : Input} → key_at i ≡ Some key → kind (next i) ≡ k.Colon → DerivesLiteral x (next (next i)) j → DerivesLiteralEntry key x i j
+    entry : {key : Key} {x : Literal} {i j : Input} → key_at i ≡ Some key → kind (next i) ≡ k.Colon
+        → DerivesLiteral x (next (next i)) j → DerivesLiteralEntry key x i j
 
 -- The same as a function.
 abbrev pub join_literals : Literals → Literals → Literals
@@ -55,23 +65,28 @@ one_literal x = MoreLiterals x NoLiterals
 
 abbrev pub join_literal_entries : LiteralEntries → LiteralEntries → LiteralEntries
 join_literal_entries NoLiteralEntries tail = tail
-join_literal_entries (MoreLiteralEntries key x rest) tail = MoreLiteralEntries key x (join_literal_entries rest tail)
+join_literal_entries (MoreLiteralEntries key x rest) tail =
+    MoreLiteralEntries key x (join_literal_entries rest tail)
 
 abbrev pub one_literal_entry : Key → Literal → LiteralEntries
 one_literal_entry key x = MoreLiteralEntries key x NoLiteralEntries
 
--- Parts with commas between, up to a token of this kind: a step reads one and puts it behind those that were found.
+-- Parts with commas between, up to a token of this kind: a step reads one and puts it behind those
+-- that were found.
 module _ {A : Type 0} (closing : Kind) (step : A → Parser A) where
   abbrev pub closed : A → Parser A
   closed found = λ j. and_then (expect closing j) (λ _. λ a. Some (found, a))
 
   -- behind a part stands a comma and more, or what closes
   abbrev pub behind_part : (A → Parser A) → A → Parser A
-  behind_part further found = λ j. if same k.Comma (kind j) then further found (next j) else closed found j
+  behind_part further found =
+      λ j. if same k.Comma (kind j) then further found (next j) else closed found j
 
   unfoldable pub parts_from : ℕ → A → Parser A
   parts_from zero found = refuse
-  parts_from (suc n) found = λ i. if same closing (kind i) then Some (found, next i) else and_then (step found i) (behind_part (parts_from n))
+  parts_from (suc n) found =
+      λ i. if same closing (kind i) then Some (found, next i)
+      else and_then (step found i) (behind_part (parts_from n))
 
 abbrev pub literal_at : Option Literal → Parser Literal
 literal_at None = refuse
@@ -79,7 +94,9 @@ literal_at (Some x) = λ i. Some (x, next i)
 
 -- behind a minus
 unfoldable pub negative : Parser Literal
-negative = λ i. if same k.Int (kind i) then literal_at (option_map (λ z. IntegerLiteral (neg_ℤ z)) (integer (text i))) i else None
+negative =
+    λ i. if same k.Int (kind i)
+    then literal_at (option_map (λ z. IntegerLiteral (neg_ℤ z)) (integer (text i))) i else None
 
 abbrev pub keyed_by : Option Key → Parser Key
 keyed_by None = refuse
@@ -93,10 +110,14 @@ written_key = λ i. keyed_by (key_at i) i
 module _ (part : Parser Literal) where
   -- a value behind those that were found
   unfoldable pub written_item : Literals → Parser Literals
-  written_item found = λ i. and_then (part i) (λ x. λ j. Some (join_literals found (one_literal x), j))
+  written_item found =
+      λ i. and_then (part i) (λ x. λ j. Some (join_literals found (one_literal x), j))
 
   unfoldable pub written_entry : LiteralEntries → Parser LiteralEntries
-  written_entry found = λ i. and_then (written_key i) (λ key. λ j. and_then (part j) (λ x. λ a. Some (join_literal_entries found (one_literal_entry key x), a)))
+  written_entry found =
+      λ i. and_then (written_key i)
+      (λ key. λ j.
+      and_then (part j) (λ x. λ a. Some (join_literal_entries found (one_literal_entry key x), a)))
 
   unfoldable pub written_items : Parser Literals
   written_items = λ i. parts_from k.RightBracket written_item (left i) NoLiterals i
@@ -105,8 +126,10 @@ module _ (part : Parser Literal) where
   written_entries = λ i. parts_from k.RightBrace written_entry (left i) NoLiteralEntries i
 
   abbrev pub written_by : Kind → Parser Literal
-  written_by k.LeftBracket = λ i. and_then (written_items (next i)) (λ xs. λ j. Some (ArrayLiteral xs, j))
-  written_by k.LeftBrace = λ i. and_then (written_entries (next i)) (λ xs. λ j. Some (MapLiteral xs, j))
+  written_by k.LeftBracket =
+      λ i. and_then (written_items (next i)) (λ xs. λ j. Some (ArrayLiteral xs, j))
+  written_by k.LeftBrace =
+      λ i. and_then (written_entries (next i)) (λ xs. λ j. Some (MapLiteral xs, j))
   written_by k.Minus = λ i. negative (next i)
   written_by _ = λ i. literal_at (plain_at i) i
 

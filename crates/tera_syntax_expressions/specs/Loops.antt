@@ -15,7 +15,9 @@ loop_word word =
 
 -- inside a loop's body `loop`, a dot and one of five words are one name
 unfoldable pub loop_name : Input → Option Name
-loop_name i = if (i.in_loop && bytes_eq (text i) (codes "loop")) && same k.Dot (kind (next i)) then loop_word (text (next (next i))) else None
+loop_name i =
+    if (i.in_loop && bytes_eq (text i) (codes "loop")) && same k.Dot (kind (next i))
+    then loop_word (text (next (next i))) else None
 
 -- the place behind these three
 abbrev pub behind_loop : Input → Input

@@ -26,39 +26,51 @@ type_of word =
 -- the type of a parameter, if it is written: a colon there begins it
 pub data DerivesType : Option ArgumentType → Input → Input → Type 0 where
   untyped : {i : Input} → (kind i ≡ k.Colon → ⊥) → DerivesType None i i
-  typed : {t : ArgumentType} {i : Input} → kind i ≡ k.Colon → is_word (kind (next i)) ≡ true → type_of (text (next i)) ≡ Some t → DerivesType (Some t) i (next (next i))
+  typed : {t : ArgumentType} {i : Input} → kind i ≡ k.Colon → is_word (kind (next i)) ≡ true
+      → type_of (text (next i)) ≡ Some t → DerivesType (Some t) i (next (next i))
 
 -- its default, if it is written: a sign there begins it
 pub data DerivesDefault : Option Literal → Input → Input → Type 0 where
   required : {i : Input} → (kind i ≡ k.Assign → ⊥) → DerivesDefault None i i
-  defaults : {x : Literal} {i j : Input} → kind i ≡ k.Assign → DerivesLiteral x (next i) j → DerivesDefault (Some x) i j
+  defaults : {x : Literal} {i j : Input} → kind i ≡ k.Assign → DerivesLiteral x (next i) j
+      → DerivesDefault (Some x) i j
 
 -- a parameter by this name, from behind the name on
 pub data DerivesNamed : Bool → Name → Parameter → Input → Input → Type 0 where
-  named : {is_implicit : Bool} {n : Name} {t : Option ArgumentType} {d : Option Literal} {i a j : Input} → DerivesType t i a → DerivesDefault d a j
-      → DerivesNamed is_implicit n (record { name = n; is_implicit = is_implicit; of_type = t; default = d }) i j
+  named : {is_implicit : Bool} {n : Name} {t : Option ArgumentType} {d : Option Literal}
+      {i a j : Input} → DerivesType t i a → DerivesDefault d a j
+      → DerivesNamed is_implicit n
+      (record { name = n; is_implicit = is_implicit; of_type = t; default = d }) i j
 
 -- a parameter, whose name is not reserved
 pub data DerivesParameter : Parameter → Input → Input → Type 0 where
-  explicit : {p : Parameter} {i j : Input} → kind i ≡ k.Name → DerivesNamed false (text i) p (next i) j → DerivesParameter p i j
-  implicit : {p : Parameter} {i j : Input} → kind i ≡ k.At → kind (next i) ≡ k.Name → DerivesNamed true (text (next i)) p (next (next i)) j → DerivesParameter p i j
+  explicit : {p : Parameter} {i j : Input} → kind i ≡ k.Name
+      → DerivesNamed false (text i) p (next i) j → DerivesParameter p i j
+  implicit : {p : Parameter} {i j : Input} → kind i ≡ k.At → kind (next i) ≡ k.Name
+      → DerivesNamed true (text (next i)) p (next (next i)) j → DerivesParameter p i j
 
 -- Parameters with commas between; last may stand the name of what takes all other arguments.
 pub data DerivesParameters : List Parameter → Option Name → Input → Input → Type 0 where
-  last : {p : Parameter} {i j : Input} → DerivesParameter p i j → DerivesParameters (p ∷ []) None i j
-  rest : {i : Input} → kind i ≡ k.Spread → kind (next i) ≡ k.Name → DerivesParameters [] (Some (text (next i))) i (next (next i))
-  more : {p : Parameter} {ps : List Parameter} {r : Option Name} {i a j : Input} → DerivesParameter p i a → kind a ≡ k.Comma → DerivesParameters ps r (next a) j
+  last : {p : Parameter} {i j : Input} → DerivesParameter p i j
+      → DerivesParameters (p ∷ []) None i j
+  rest : {i : Input} → kind i ≡ k.Spread → kind (next i) ≡ k.Name
+      → DerivesParameters [] (Some (text (next i))) i (next (next i))
+  more : {p : Parameter} {ps : List Parameter} {r : Option Name} {i a j : Input}
+      → DerivesParameter p i a → kind a ≡ k.Comma → DerivesParameters ps r (next a) j
       → DerivesParameters (p ∷ ps) r i j
 
 -- what stands in the parentheses of a signature
 pub data DerivesAll : List Parameter → Option Name → Input → Input → Type 0 where
   none : {i : Input} → DerivesAll [] None i i
-  some : {ps : List Parameter} {r : Option Name} {i j : Input} → DerivesParameters ps r i j → DerivesAll ps r i j
+  some : {ps : List Parameter} {r : Option Name} {i j : Input} → DerivesParameters ps r i j
+      → DerivesAll ps r i j
 
 -- A component's name, which may be a reserved word, and its parameters in parentheses.
 pub data DerivesSignature : Signature → Input → Input → Type 0 where
-  signs : {ps : List Parameter} {r : Option Name} {i a : Input} → is_word (kind i) ≡ true → kind (next i) ≡ k.LeftParenthesis → DerivesAll ps r (next (next i)) a
-      → kind a ≡ k.RightParenthesis → IsTrue (has_fit_parameters (record { name = text i; parameters = ps; rest = r }))
+  signs : {ps : List Parameter} {r : Option Name} {i a : Input} → is_word (kind i) ≡ true
+      → kind (next i) ≡ k.LeftParenthesis → DerivesAll ps r (next (next i)) a
+      → kind a ≡ k.RightParenthesis
+      → IsTrue (has_fit_parameters (record { name = text i; parameters = ps; rest = r }))
       → DerivesSignature (record { name = text i; parameters = ps; rest = r }) i (next a)
 
 -- The same as a function, where defaults are no deeper than the limit.
@@ -78,12 +90,16 @@ unfoldable pub rest_name : List Parameter → Parser (List Parameter × Option N
 rest_name found = λ i. and_then (name i) (λ n. λ j. Some ((found, Some n), j))
 
 -- behind a parameter stands a comma and more, or they end
-abbrev pub behind_parameter : (List Parameter → Parser (List Parameter × Option Name)) → List Parameter → Parser (List Parameter × Option Name)
-behind_parameter further found = λ j. if same k.Comma (kind j) then further found (next j) else Some ((found, None), j)
+abbrev pub behind_parameter : (List Parameter → Parser (List Parameter × Option Name))
+    → List Parameter → Parser (List Parameter × Option Name)
+behind_parameter further found =
+    λ j. if same k.Comma (kind j) then further found (next j) else Some ((found, None), j)
 
 module _ (limit : ℕ) where
   unfoldable pub default_value : Parser (Option Literal)
-  default_value = λ i. if same k.Assign (kind i) then and_then (written limit (next i)) (λ x. λ j. Some (Some x, j)) else Some (None, i)
+  default_value =
+      λ i. if same k.Assign (kind i)
+      then and_then (written limit (next i)) (λ x. λ j. Some (Some x, j)) else Some (None, i)
 
   -- from behind its name on
   unfoldable pub named_parameter : Bool → Name → Parser Parameter
@@ -95,7 +111,8 @@ module _ (limit : ℕ) where
   parameter_by_name is_implicit = name >>= named_parameter is_implicit
 
   unfoldable pub parameter : Parser Parameter
-  parameter = λ i. if same k.At (kind i) then parameter_by_name true (next i) else parameter_by_name false i
+  parameter =
+      λ i. if same k.At (kind i) then parameter_by_name true (next i) else parameter_by_name false i
 
   -- a parameter behind those that were found
   unfoldable pub with_parameter : List Parameter → Parser (List Parameter)
@@ -103,17 +120,23 @@ module _ (limit : ℕ) where
 
   unfoldable pub parameters_from : ℕ → List Parameter → Parser (List Parameter × Option Name)
   parameters_from zero found = refuse
-  parameters_from (suc n) found = λ i. if same k.Spread (kind i) then rest_name found (next i) else and_then (with_parameter found i) (behind_parameter (parameters_from n))
+  parameters_from (suc n) found =
+      λ i. if same k.Spread (kind i) then rest_name found (next i)
+      else and_then (with_parameter found i) (behind_parameter (parameters_from n))
 
   -- what stands in the parentheses
   unfoldable pub all_parameters : Parser (List Parameter × Option Name)
-  all_parameters = λ i. if same k.RightParenthesis (kind i) then Some (([], None), i) else parameters_from (left i) [] i
+  all_parameters =
+      λ i. if same k.RightParenthesis (kind i) then Some (([], None), i)
+      else parameters_from (left i) [] i
 
 abbrev pub fit : Signature → Parser Signature
 fit s = λ j. if has_fit_parameters s then Some (s, j) else None
 
 abbrev pub signature_by : Name → List Parameter × Option Name → Parser Signature
-signature_by n p = λ i. and_then (expect k.RightParenthesis i) (λ _. fit (record { name = n; parameters = p.0; rest = p.1 }))
+signature_by n p =
+    λ i. and_then (expect k.RightParenthesis i)
+    (λ _. fit (record { name = n; parameters = p.0; rest = p.1 }))
 
 -- from behind the name on
 unfoldable pub signature_from : ℕ → Name → Parser Signature

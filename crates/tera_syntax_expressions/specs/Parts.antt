@@ -13,7 +13,7 @@ use Rattle.tera_syntax_tree.specs.Tree.{Expr, Parameter, Key, Optional, Not, Neg
 use Rattle.tera_syntax_tree.specs.View.{expr_of, optional_of, items_of, entries_of, parameter_of}
 use Rattle.tera_syntax_tokens.specs.declared.refusal.Refusal.{Refusal}
 use Rattle.tera_syntax_tokens.specs.declared.refusal.Refusal.TheVariants.{Syntax, OutOfMemory}
-use Rattle.tera_syntax_tokens.specs.declared.input.Tokens.{Tokens}
+use Rattle.tera_syntax_tokens.specs.declared.tokens.Tokens.{Tokens}
 use Rattle.tera_syntax_tokens.specs.Answers.{Refuses}
 use Rattle.tera_syntax_tokens.specs.Input.{Input, Parsed, Parser, and_then, left}
 use Rattle.tera_syntax_tokens.specs.Takes.{Takes, input}
@@ -49,42 +49,63 @@ infix_of (form.Binary operator) = Binary operator
 
 -- a function value that reads expressions to a depth
 pub record Nests (limit : ℕ) (pre : Global → MutBor Tokens → ℕ → ℕ → Type 0)
-    (post : Global → MutBor Tokens → ℕ → ℕ → Result declared.Deep Refusal → MutBor Tokens → Type 0) : Type 0 where
+    (post : Global → MutBor Tokens → ℕ → ℕ → Result declared.Deep Refusal → MutBor Tokens
+    → Type 0) : Type 0 where
   pub callable : (alloc : Global) (old : MutBor Tokens) (floor : ℕ) → pre alloc old limit floor
-  pub reads : (alloc : Global) (old new : MutBor Tokens) (floor : ℕ) (r : Result declared.Deep Refusal) → post alloc old limit floor r new
+  pub reads : (alloc : Global) (old new : MutBor Tokens) (floor : ℕ)
+      (r : Result declared.Deep Refusal) → post alloc old limit floor r new
       → Takes deep_of (expr limit floor (input old.now)) r new.now
 
--- What a rule gives was read, seen by view: a rule is given how deep a form may be, and what reads its parts.
-abbrev pub Follows : {X Y F : Type 0} → (X → Y) → (ℕ → (ℕ → Parser Deep) → Parser Y) → Reader F → Tokens → Result X Refusal → Tokens → Type 0
-Follows view rule reader old r new = Takes view (rule reader.limit (expr reader.below) (input old)) r new
+-- What a rule gives was read, seen by view: a rule is given how deep a form may be, and what reads
+-- its parts.
+abbrev pub Follows : {X Y F : Type 0} → (X → Y) → (ℕ → (ℕ → Parser Deep) → Parser Y) → Reader F
+    → Tokens → Result X Refusal → Tokens → Type 0
+Follows view rule reader old r new =
+    Takes view (rule reader.limit (expr reader.below) (input old)) r new
 
 -- the same of a rule that goes on from an operand, which starts at a place
-abbrev pub GoesOn : {F : Type 0} → (ℕ → (ℕ → Parser Deep) → ℕ → Deep → Parser Deep) → Reader F → ℕ → declared.Deep → Tokens → Result declared.Deep Refusal → Tokens → Type 0
-GoesOn rule reader start x old r new = Takes deep_of (rule reader.limit (expr reader.below) start (deep_of x) (input old)) r new
+abbrev pub GoesOn : {F : Type 0} → (ℕ → (ℕ → Parser Deep) → ℕ → Deep → Parser Deep) → Reader F → ℕ
+    → declared.Deep → Tokens → Result declared.Deep Refusal → Tokens → Type 0
+GoesOn rule reader start x old r new =
+    Takes deep_of (rule reader.limit (expr reader.below) start (deep_of x) (input old)) r new
 
--- the same of a rule for a row, seen by view, from its first part on: the rule is given how often it may turn, what was found, and how deep that is
-abbrev pub FollowsRow : {A S F : Type 0} → (List A → S) → (ℕ → (ℕ → Parser Deep) → ℕ → S → ℕ → Parser (S × ℕ)) → S → Reader F → Tokens → Result (Vec A Global × ℕ) Refusal → Tokens → Type 0
-FollowsRow view rule none reader old r new = Takes (λ p. (view p.0.items, p.1)) (rule reader.limit (expr reader.below) (left (input old)) none 0 (input old)) r new
+-- the same of a rule for a row, seen by view, from its first part on: the rule is given how often
+-- it may turn, what was found, and how deep that is
+abbrev pub FollowsRow : {A S F : Type 0} → (List A → S)
+    → (ℕ → (ℕ → Parser Deep) → ℕ → S → ℕ → Parser (S × ℕ)) → S → Reader F → Tokens
+    → Result (Vec A Global × ℕ) Refusal → Tokens → Type 0
+FollowsRow view rule none reader old r new =
+    Takes (λ p. (view p.0.items, p.1))
+    (rule reader.limit (expr reader.below) (left (input old)) none 0 (input old)) r new
 
 -- a part was put among those that were there, and its depth is the answer
-abbrev pub TakesPart : {A S : Type 0} → (List A → S) → (S → Parser (S × ℕ)) → Vec A Global → Vec A Global → Input → Result ℕ Refusal → Tokens → Type 0
-TakesPart view meant old parts i r new = Takes (λ d. (view parts.items, d)) (meant (view old.items) i) r new
+abbrev pub TakesPart : {A S : Type 0} → (List A → S) → (S → Parser (S × ℕ)) → Vec A Global
+    → Vec A Global → Input → Result ℕ Refusal → Tokens → Type 0
+TakesPart view meant old parts i r new =
+    Takes (λ d. (view parts.items, d)) (meant (view old.items) i) r new
 
 -- an item was read behind those that were there, and its depth is the answer
-abbrev pub TakesItem : Parsed Deep → Bool → List item.Item → List item.Item → Result ℕ Refusal → Tokens → Type 0
-TakesItem meant is_spread old items (Ok d) new = (x : Deep) × (meant ≡ Some (x, input new)) × (x.depth ≡ d) × (items_of items ≡ join_items (items_of old) (one_item is_spread x.expr))
+abbrev pub TakesItem : Parsed Deep → Bool → List item.Item → List item.Item → Result ℕ Refusal
+    → Tokens → Type 0
+TakesItem meant is_spread old items (Ok d) new =
+    (x : Deep) × (meant ≡ Some (x, input new)) × (x.depth ≡ d)
+    × (items_of items ≡ join_items (items_of old) (one_item is_spread x.expr))
 TakesItem meant is_spread old items (Err refusal) new = Refuses meant refusal
 
 -- an entry was read behind those that were there, and its depth is the answer
-abbrev pub TakesEntry : Parsed (Option Key) → Parser Deep → List entry.Entry → List entry.Entry → Result ℕ Refusal → Tokens → Type 0
-TakesEntry meant sub old entries (Ok d) new = (key : Option Key) × (j : Input) × (x : Deep) × (meant ≡ Some (key, j)) × (sub j ≡ Some (x, input new)) × (x.depth ≡ d)
+abbrev pub TakesEntry : Parsed (Option Key) → Parser Deep → List entry.Entry → List entry.Entry
+    → Result ℕ Refusal → Tokens → Type 0
+TakesEntry meant sub old entries (Ok d) new =
+    (key : Option Key) × (j : Input) × (x : Deep) × (meant ≡ Some (key, j))
+    × (sub j ≡ Some (x, input new)) × (x.depth ≡ d)
     × (entries_of entries ≡ join_entries (entries_of old) (one_entry key x.expr))
 TakesEntry meant sub old entries (Err refusal) new = Refuses (and_then meant (λ key. sub)) refusal
 
 -- how many of the arguments stand before the place of this name; none where one has it
 abbrev pub place_of : Name → Arguments → Option ℕ
 place_of n NoArguments = Some 0
-place_of n (MoreArguments m y rest) = match_ordering (name_cmp n m) (Some 0) None (option_map suc (place_of n rest))
+place_of n (MoreArguments m y rest) =
+    match_ordering (name_cmp n m) (Some 0) None (option_map suc (place_of n rest))
 
 -- the names of a signature: those of its parameters, and of what takes all other arguments
 abbrev pub signature_names : List parameter.Parameter → Option Name → List Name
@@ -92,5 +113,6 @@ signature_names [] rest = rest_names rest
 signature_names (p ∷ ps) rest = p.name.now ∷ signature_names ps rest
 
 -- what stands in its parentheses
-abbrev pub parameters_of : Vec parameter.Parameter Global × Option (Bor Name) → List Parameter × Option Name
+abbrev pub parameters_of : Vec parameter.Parameter Global × Option (Bor Name)
+    → List Parameter × Option Name
 parameters_of p = (map parameter_of p.0.items, option_copied p.1)

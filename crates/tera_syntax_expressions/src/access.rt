@@ -7,11 +7,12 @@ ghost use Rattle.tera_syntax_expressions.specs.Parts.{Follows, Nests, deep_of, p
 
 use crate::expressions::{Deep, Read};
 use crate::making::{absent, present};
+use crate::precedence;
 use crate::reader::{Part, Reader, larger};
 use std::alloc::Global;
-use tera_syntax_tokens::input::{Tokens, is_word, same};
 use tera_syntax_tokens::refusal::{Reason, Refusal};
 use tera_syntax_tokens::token::Kind;
+use tera_syntax_tokens::tokens::{Tokens, is_word, same};
 use tera_syntax_tree::{Bounds, Expression, Indexed, Sliced};
 
 /// How a part of a value is asked for.
@@ -69,7 +70,7 @@ impl<'s, F: Fn(Global, &mut Tokens<'_, 's>, usize, u8) -> Read<'s>> Reader<F> {
         if same(Kind::Colon, tokens.kind()) {
             return self.slice(tokens, at, x, absent());
         }
-        let y = self.sub(tokens, 0)?;
+        let y = self.sub(tokens, precedence::CHOICE)?;
         if same(Kind::RightBracket, tokens.kind()) {
             self.index(tokens, at, x, y)
         } else {
@@ -89,7 +90,7 @@ impl<'s, F: Fn(Global, &mut Tokens<'_, 's>, usize, u8) -> Read<'s>> Reader<F> {
         if same(Kind::RightBracket, tokens.kind()) {
             return Ok(absent());
         }
-        let x = self.sub(tokens, 0)?;
+        let x = self.sub(tokens, precedence::CHOICE)?;
         Ok(present(self.alloc, x)?)
     }
 

@@ -9,9 +9,9 @@ use crate::expressions::{Deep, Read, Row};
 use crate::reader::Reader;
 use crate::signs::Application;
 use std::alloc::Global;
-use tera_syntax_tokens::input::{Tokens, is_word, same};
 use tera_syntax_tokens::refusal::{Reason, Refusal};
 use tera_syntax_tokens::token::Kind;
+use tera_syntax_tokens::tokens::{Tokens, is_word, same};
 use tera_syntax_tree::Argument;
 
 impl<'s, F: Fn(Global, &mut Tokens<'_, 's>, usize, u8) -> Read<'s>> Reader<F> {

@@ -9,13 +9,14 @@ ghost use Rattle.tera_syntax_expressions.specs.Parts.{FollowsRow, Nests, TakesPa
 use crate::commas::{between_commas, take_comma};
 use crate::expressions::{Deep, Depth, Read, Row};
 use crate::levels::kinds;
+use crate::precedence;
 use crate::reader::{Reader, larger};
 use std::alloc::{AllocError, Global};
 use std::cmp::Ordering;
 use tera_errors::Span;
-use tera_syntax_tokens::input::{Tokens, is_word, same};
 use tera_syntax_tokens::refusal::{Reason, Refusal};
 use tera_syntax_tokens::token::Kind;
+use tera_syntax_tokens::tokens::{Tokens, is_word, same};
 use tera_syntax_tree::{Argument, Called, Expression};
 
 impl<'s, F: Fn(Global, &mut Tokens<'_, 's>, usize, u8) -> Read<'s>> Reader<F> {
@@ -62,7 +63,7 @@ impl<'s, F: Fn(Global, &mut Tokens<'_, 's>, usize, u8) -> Read<'s>> Reader<F> {
             Ok(()) => {}
             Err(refusal) => return Err(refusal),
         }
-        let x = match self.sub(tokens, 0) {
+        let x = match self.sub(tokens, precedence::CHOICE) {
             Ok(x) => x,
             Err(refusal) => return Err(refusal),
         };

@@ -7,12 +7,13 @@ ghost use Rattle.tera_syntax_expressions.specs.Parts.{GoesOn, Nests, deep_of};
 use crate::access::Access;
 use crate::expressions::{Deep, Read};
 use crate::levels::{begins, gives, goes_on};
+use crate::precedence;
 use crate::reader::Reader;
 use crate::signs::Infix::{self, Binary};
 use std::alloc::Global;
-use tera_syntax_tokens::input::{Tokens, same, start_at};
 use tera_syntax_tokens::refusal::{Reason, Refusal};
 use tera_syntax_tokens::token::{Kind, Token};
+use tera_syntax_tokens::tokens::{Tokens, same, start_at};
 use tera_syntax_tree::BinaryOperator as Operator;
 
 impl<'s, F: Fn(Global, &mut Tokens<'_, 's>, usize, u8) -> Read<'s>> Reader<F> {
@@ -27,7 +28,13 @@ impl<'s, F: Fn(Global, &mut Tokens<'_, 's>, usize, u8) -> Read<'s>> Reader<F> {
         let turns = tokens.left();
         let opens = opened(tokens);
         let begins = begins(tokens.kind());
-        if begins < if opens == 0 { floor } else { 0 } {
+        if begins
+            < if opens == 0 {
+                floor
+            } else {
+                precedence::CHOICE
+            }
+        {
             return Err(tokens.refuse(Reason::NoExpression));
         }
         let start = tokens.start();
@@ -55,7 +62,15 @@ impl<'s, F: Fn(Global, &mut Tokens<'_, 's>, usize, u8) -> Read<'s>> Reader<F> {
     {
         for _turn in 0..turns {
             let kind = tokens.kind();
-            if goes_on(if opens == 0 { floor } else { 0 }, have, kind) {
+            if goes_on(
+                if opens == 0 {
+                    floor
+                } else {
+                    precedence::CHOICE
+                },
+                have,
+                kind,
+            ) {
                 x = self.operation(tokens, start, x)?;
                 have = gives(kind);
             } else if opens == 0 {
@@ -65,7 +80,7 @@ impl<'s, F: Fn(Global, &mut Tokens<'_, 's>, usize, u8) -> Read<'s>> Reader<F> {
                     Ok(()) => {
                         opens -= 1;
                         start = start_at(run, opens);
-                        have = 11;
+                        have = precedence::OPERAND;
                     }
                     Err(refusal) => return Err(refusal),
                 }
@@ -81,23 +96,23 @@ impl<'s, F: Fn(Global, &mut Tokens<'_, 's>, usize, u8) -> Read<'s>> Reader<F> {
         ensures { GoesOn spec.operation self.now start x.entry tokens.old result tokens.new }
     {
         let (level, op) = match tokens.kind() {
-            Kind::Or => (2, Infix::Or),
-            Kind::And => (3, Infix::And),
-            Kind::Equal => (5, Binary(Operator::Equal)),
-            Kind::NotEqual => (5, Binary(Operator::NotEqual)),
-            Kind::Less => (5, Binary(Operator::Less)),
-            Kind::Greater => (5, Binary(Operator::Greater)),
-            Kind::LessOrEqual => (5, Binary(Operator::LessOrEqual)),
-            Kind::GreaterOrEqual => (5, Binary(Operator::GreaterOrEqual)),
-            Kind::In => (5, Binary(Operator::In)),
-            Kind::Tilde => (6, Binary(Operator::Concat)),
-            Kind::Plus => (7, Binary(Operator::Add)),
-            Kind::Minus => (7, Binary(Operator::Subtract)),
-            Kind::Star => (8, Binary(Operator::Multiply)),
-            Kind::Slash => (8, Binary(Operator::Divide)),
-            Kind::FloorSlash => (8, Binary(Operator::FloorDivide)),
-            Kind::Percent => (8, Binary(Operator::Remainder)),
-            Kind::Power => (8, Binary(Operator::Power)),
+            Kind::Or => (precedence::AND, Infix::Or),
+            Kind::And => (precedence::NOT, Infix::And),
+            Kind::Equal => (precedence::CONCATENATION, Binary(Operator::Equal)),
+            Kind::NotEqual => (precedence::CONCATENATION, Binary(Operator::NotEqual)),
+            Kind::Less => (precedence::CONCATENATION, Binary(Operator::Less)),
+            Kind::Greater => (precedence::CONCATENATION, Binary(Operator::Greater)),
+            Kind::LessOrEqual => (precedence::CONCATENATION, Binary(Operator::LessOrEqual)),
+            Kind::GreaterOrEqual => (precedence::CONCATENATION, Binary(Operator::GreaterOrEqual)),
+            Kind::In => (precedence::CONCATENATION, Binary(Operator::In)),
+            Kind::Tilde => (precedence::SUM, Binary(Operator::Concat)),
+            Kind::Plus => (precedence::PRODUCT, Binary(Operator::Add)),
+            Kind::Minus => (precedence::PRODUCT, Binary(Operator::Subtract)),
+            Kind::Star => (precedence::MINUS, Binary(Operator::Multiply)),
+            Kind::Slash => (precedence::MINUS, Binary(Operator::Divide)),
+            Kind::FloorSlash => (precedence::MINUS, Binary(Operator::FloorDivide)),
+            Kind::Percent => (precedence::MINUS, Binary(Operator::Remainder)),
+            Kind::Power => (precedence::MINUS, Binary(Operator::Power)),
             _ => return self.suffixed(tokens, start, x),
         };
         self.infixed(tokens, level, op, start, x)

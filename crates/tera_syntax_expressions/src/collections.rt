@@ -5,15 +5,17 @@ ghost use Rattle.tera_syntax_tokens.specs.Prelude.{kind, left, same, Takes, inpu
 ghost use Rattle.tera_syntax_expressions.specs.Expressions as spec;
 ghost use Rattle.tera_syntax_expressions.specs.Keys.{key_at};
 ghost use Rattle.tera_syntax_expressions.specs.Parts.{FollowsRow, TakesItem, TakesEntry, Nests, deep_of};
+ghost use Rattle.tera_syntax_expressions.specs.Precedence as precedence;
 
 use crate::commas::{between_commas, take_comma};
 use crate::expressions::{Deep, Depth, Read, Row};
+use crate::precedence;
 use crate::reader::{Reader, larger};
 use std::alloc::{AllocError, Global};
-use tera_syntax_tokens::input::{Tokens, same};
 use tera_syntax_tokens::literal::{integer, literal};
 use tera_syntax_tokens::refusal::{Reason, Refusal};
 use tera_syntax_tokens::token::Kind;
+use tera_syntax_tokens::tokens::{Tokens, same};
 use tera_syntax_tree::{Entry, Expression, Item, LiteralKey};
 
 impl<'s, F: Fn(Global, &mut Tokens<'_, 's>, usize, u8) -> Read<'s>> Reader<F> {
@@ -30,7 +32,7 @@ impl<'s, F: Fn(Global, &mut Tokens<'_, 's>, usize, u8) -> Read<'s>> Reader<F> {
             return self.node(tokens, 0, expression);
         }
         let is_spread = take_dots(tokens);
-        let x = self.sub(tokens, 0)?;
+        let x = self.sub(tokens, precedence::CHOICE)?;
         if !is_spread && same(Kind::For, tokens.kind()) {
             return self.comprehension(tokens, start, x);
         }
@@ -81,12 +83,13 @@ impl<'s, F: Fn(Global, &mut Tokens<'_, 's>, usize, u8) -> Read<'s>> Reader<F> {
     /// An item, behind those that were read, and its depth.
     fn item(&self, tokens: &mut Tokens<'_, 's>, found: &mut Vec<Item<'s>>) -> Depth
         requires { Nests self.now.below (F.pre self.now.expr) (F.post self.now.expr) }
-        ensures { TakesItem (spec.expr self.now.below 0 (spec.behind_dots (input tokens.old)))
-            (same Kind.Spread (kind (input tokens.old)))
+        ensures { let here = input tokens.old in
+            TakesItem (spec.expr self.now.below precedence.choice (spec.behind_dots here))
+            (same Kind.Spread (kind here))
             found.old.items found.new.items result tokens.new }
     {
         let is_spread = take_dots(tokens);
-        let x = self.sub(tokens, 0)?;
+        let x = self.sub(tokens, precedence::CHOICE)?;
         found.push(Item {
             is_spread,
             value: x.expression,
@@ -122,14 +125,15 @@ impl<'s, F: Fn(Global, &mut Tokens<'_, 's>, usize, u8) -> Read<'s>> Reader<F> {
     /// An entry, behind those that were read, and its depth.
     fn entry(&self, tokens: &mut Tokens<'_, 's>, found: &mut Vec<Entry<'s>>) -> Depth
         requires { Nests self.now.below (F.pre self.now.expr) (F.post self.now.expr) }
-        ensures { TakesEntry (spec.entry_key (input tokens.old)) (spec.expr self.now.below 0)
+        ensures { let expr = spec.expr self.now.below precedence.choice in
+            TakesEntry (spec.entry_key (input tokens.old)) expr
             found.old.items found.new.items result tokens.new }
     {
         let key = match entry_key(self.alloc, tokens) {
             Ok(key) => key,
             Err(refusal) => return Err(refusal),
         };
-        let x = match self.sub(tokens, 0) {
+        let x = match self.sub(tokens, precedence::CHOICE) {
             Ok(x) => x,
             Err(refusal) => return Err(refusal),
         };

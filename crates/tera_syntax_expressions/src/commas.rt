@@ -2,9 +2,9 @@
 ghost use Rattle.tera_syntax_tokens.specs.Prelude.{Takes, input};
 ghost use Rattle.tera_syntax_expressions.specs.Commas.{comma_or};
 
-use tera_syntax_tokens::input::{Tokens, same};
 use tera_syntax_tokens::refusal::Refusal;
 use tera_syntax_tokens::token::Kind;
+use tera_syntax_tokens::tokens::{Tokens, same};
 
 /// Parts with commas between, and one behind the last at will, up to the token that closes: all that were found, and how deep
 /// the deepest is. Each turn reads a part, puts it among the others and tells how deep it is.

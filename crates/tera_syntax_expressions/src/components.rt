@@ -8,12 +8,13 @@ ghost use Rattle.tera_syntax_expressions.specs.Parts.{Follows, FollowsRow, Nests
 
 use crate::arguments::argument_name;
 use crate::expressions::{Deep, Depth, Read, Row, expr};
+use crate::precedence;
 use crate::reader::{Reader, larger};
 use std::alloc::Global;
-use tera_syntax_tokens::input::{Tokens, is_word, same};
 use tera_syntax_tokens::literal::literal;
 use tera_syntax_tokens::refusal::{Reason, Refusal};
 use tera_syntax_tokens::token::Kind;
+use tera_syntax_tokens::tokens::{Tokens, is_word, same};
 use tera_syntax_tree::{ComponentTag, Entry, Expression, LiteralKey, Quoted};
 
 /// Attributes up to where none begins, no deeper than `limit`, and the greatest depth.
@@ -190,7 +191,7 @@ impl<'s, F: Fn(Global, &mut Tokens<'_, 's>, usize, u8) -> Read<'s>> Reader<F> {
         ensures { let meant = spec.braced self.now.limit (spec.expr self.now.below) in
             Takes deep_of (meant (input tokens.old)) result tokens.new }
     {
-        let x = self.sub(tokens, 0)?;
+        let x = self.sub(tokens, precedence::CHOICE)?;
         tokens.expect(Kind::RightBrace)?;
         Ok(x)
     }

@@ -7,11 +7,12 @@ ghost use Rattle.tera_syntax_expressions.specs.Parts.{Follows, GoesOn, Nests, pa
 use crate::expressions::{Deep, Read};
 use crate::headings::{LoopNames, names};
 use crate::making::{absent, present};
+use crate::precedence;
 use crate::reader::{Part, Reader, larger};
 use std::alloc::Global;
-use tera_syntax_tokens::input::{Tokens, same};
 use tera_syntax_tokens::refusal::Refusal;
 use tera_syntax_tokens::token::Kind;
+use tera_syntax_tokens::tokens::{Tokens, same};
 use tera_syntax_tree::{Collected, Expression, Heading};
 
 impl<'s, F: Fn(Global, &mut Tokens<'_, 's>, usize, u8) -> Read<'s>> Reader<F> {
@@ -28,7 +29,7 @@ impl<'s, F: Fn(Global, &mut Tokens<'_, 's>, usize, u8) -> Read<'s>> Reader<F> {
     {
         tokens.take();
         let names = names(tokens)?;
-        let target = self.sub(tokens, 1)?;
+        let target = self.sub(tokens, precedence::OR)?;
         let only = self.condition(tokens)?;
         tokens.expect(Kind::RightBracket)?;
         let (a, b, c) = (x.depth, target.depth, only.depth);
@@ -56,7 +57,7 @@ impl<'s, F: Fn(Global, &mut Tokens<'_, 's>, usize, u8) -> Read<'s>> Reader<F> {
             return Ok(absent());
         }
         tokens.take();
-        let x = self.sub(tokens, 1)?;
+        let x = self.sub(tokens, precedence::OR)?;
         Ok(present(self.alloc, x)?)
     }
 }

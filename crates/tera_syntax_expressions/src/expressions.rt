@@ -6,8 +6,8 @@ ghost use Rattle.tera_syntax_expressions.specs.Parts.{deep_of};
 use crate::levels::stands_alone;
 use crate::reader::{Reader, reader_within};
 use std::alloc::Global;
-use tera_syntax_tokens::input::Tokens;
 use tera_syntax_tokens::refusal::{Reason, Refusal};
+use tera_syntax_tokens::tokens::Tokens;
 use tera_syntax_tree::Expression;
 
 /// An expression, and how deep it is.

@@ -7,9 +7,9 @@ ghost use Rattle.tera_syntax_expressions.specs.Parts.{FollowsRow, Nests, TakesPa
 use crate::expressions::{Deep, Depth, Read, Row, expr};
 use crate::reader::{Reader, larger, reader_within};
 use std::alloc::Global;
-use tera_syntax_tokens::input::{Tokens, is_word, same};
 use tera_syntax_tokens::refusal::{Reason, Refusal};
 use tera_syntax_tokens::token::Kind;
+use tera_syntax_tokens::tokens::{Tokens, is_word, same};
 use tera_syntax_tree::SectionFilter;
 
 /// Filters with bars between, no deeper than `limit`, and the greatest depth.

@@ -4,9 +4,9 @@ ghost use Rattle.tera_syntax_tokens.specs.Prelude.{Takes, input};
 ghost use Rattle.tera_syntax_expressions.specs.Headings as spec;
 ghost use Rattle.tera_syntax_expressions.specs.Parts.{names_of};
 
-use tera_syntax_tokens::input::{Tokens, same};
 use tera_syntax_tokens::refusal::{Reason, Refusal};
 use tera_syntax_tokens::token::Kind;
+use tera_syntax_tokens::tokens::{Tokens, same};
 
 /// What a loop calls its items, and their keys where it names them.
 #[derive(Drop)]

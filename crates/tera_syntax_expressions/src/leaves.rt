@@ -8,13 +8,14 @@ ghost use Rattle.tera_syntax_expressions.specs.Parts.{Follows, Nests, deep_of};
 
 use crate::arguments::is_call;
 use crate::expressions::{Deep, Read};
+use crate::precedence;
 use crate::reader::Reader;
 use crate::signs::Prefix;
 use std::alloc::Global;
-use tera_syntax_tokens::input::{Tokens, same};
 use tera_syntax_tokens::literal::{integer, literal};
 use tera_syntax_tokens::refusal::{Reason, Refusal};
 use tera_syntax_tokens::token::Kind;
+use tera_syntax_tokens::tokens::{Tokens, same};
 use tera_syntax_tree::Expression;
 
 impl<'s, F: Fn(Global, &mut Tokens<'_, 's>, usize, u8) -> Read<'s>> Reader<F> {
@@ -25,8 +26,8 @@ impl<'s, F: Fn(Global, &mut Tokens<'_, 's>, usize, u8) -> Read<'s>> Reader<F> {
         ensures { Follows deep_of spec.head self.now tokens.old result tokens.new }
     {
         match tokens.kind() {
-            Kind::Minus => self.prefixed(tokens, 8, Prefix::Negate),
-            Kind::Not => self.prefixed(tokens, 3, Prefix::Not),
+            Kind::Minus => self.prefixed(tokens, precedence::MINUS, Prefix::Negate),
+            Kind::Not => self.prefixed(tokens, precedence::NOT, Prefix::Not),
             Kind::Int => self.int(tokens),
             Kind::Text => self.text(tokens),
             Kind::True => self.constant(tokens, true),

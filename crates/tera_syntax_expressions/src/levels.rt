@@ -3,12 +3,14 @@ ghost use Rattle.std.specs.Prelude.{◌≡◌, ◌&&◌, ◌||◌, ℕ, IsTrue, 
 ghost use Rattle.tera_syntax_tokens.specs.Prelude.{Parser, kind, next, same as spec_same, input};
 ghost use Rattle.tera_syntax_tokens.specs.declared.token.Kind.TheVariants as Kind;
 ghost use Rattle.tera_syntax_expressions.specs.Expressions as spec;
+ghost use Rattle.tera_syntax_expressions.specs.Precedence as precedence;
 
-use tera_syntax_tokens::input::{Tokens, same};
+use crate::precedence;
 use tera_syntax_tokens::token::Kind;
+use tera_syntax_tokens::tokens::{Tokens, same};
 
 /// The least level of an expression before this token that goes on with it, and the level of what
-/// it goes on to. Both are 12 where none does.
+/// it goes on to.
 #[inline(always)]
 #[tactic(auto, unfolding(crate::specs::Expressions::needs, crate::specs::Expressions::gives))]
 fn levels(kind: Kind) -> (u8, u8)
@@ -16,9 +18,9 @@ fn levels(kind: Kind) -> (u8, u8)
     ensures gives { result.1 ≡ spec.gives kind }
 {
     match kind {
-        Kind::If => (1, 0),
-        Kind::Or => (1, 1),
-        Kind::And => (2, 2),
+        Kind::If => (precedence::OR, precedence::CHOICE),
+        Kind::Or => (precedence::OR, precedence::OR),
+        Kind::And => (precedence::AND, precedence::AND),
         Kind::Not
         | Kind::Equal
         | Kind::NotEqual
@@ -27,18 +29,24 @@ fn levels(kind: Kind) -> (u8, u8)
         | Kind::LessOrEqual
         | Kind::GreaterOrEqual
         | Kind::In
-        | Kind::Is => (4, 4),
-        Kind::Tilde => (5, 5),
-        Kind::Plus | Kind::Minus => (6, 6),
-        Kind::Star | Kind::Slash | Kind::FloorSlash | Kind::Percent => (7, 7),
-        Kind::Power => (10, 9),
-        Kind::Bar => (10, 10),
-        Kind::Dot | Kind::OptionalDot | Kind::LeftBracket | Kind::OptionalBracket => (11, 11),
-        _ => (12, 12),
+        | Kind::Is => (precedence::COMPARISON, precedence::COMPARISON),
+        Kind::Tilde => (precedence::CONCATENATION, precedence::CONCATENATION),
+        Kind::Plus | Kind::Minus => (precedence::SUM, precedence::SUM),
+        Kind::Star | Kind::Slash | Kind::FloorSlash | Kind::Percent => (
+            precedence::PRODUCT,
+            precedence::PRODUCT,
+        ),
+        Kind::Power => (precedence::FILTER, precedence::POWER),
+        Kind::Bar => (precedence::FILTER, precedence::FILTER),
+        Kind::Dot | Kind::OptionalDot | Kind::LeftBracket | Kind::OptionalBracket => (
+            precedence::OPERAND,
+            precedence::OPERAND,
+        ),
+        _ => (precedence::NOTHING, precedence::NOTHING),
     }
 }
 
-/// The level of what an expression goes on to with this token, and 12 where none does.
+/// The level of what an expression goes on to with this token.
 #[inline(always)]
 pub(crate) fn gives(kind: Kind) -> u8
     ensures { result ≡ spec.gives kind }
@@ -61,9 +69,9 @@ pub(crate) fn begins(kind: Kind) -> u8
     ensures { result ≡ spec.begins kind }
 {
     match kind {
-        Kind::Not => 3,
-        Kind::Minus => 8,
-        _ => 11,
+        Kind::Not => precedence::NOT,
+        Kind::Minus => precedence::MINUS,
+        _ => precedence::OPERAND,
     }
 }
 
@@ -86,13 +94,13 @@ pub(crate) fn kinds(tokens: &Tokens<'_, '_>) -> (Kind, Kind)
 fn is_alone(floor: u8, first: Kind, second: Kind) -> bool
     ensures { let is_leaf = (spec_same Kind.Name first || spec_same Kind.Int first)
         || spec_same Kind.Text first in
-        let goes_on = spec.goes_on floor 11 second in
+        let goes_on = spec.goes_on floor precedence.operand second in
         let is_called = spec_same Kind.LeftParenthesis second in
-        result ≡ (((is_leaf && nat_le floor 11) && not goes_on) && not is_called) }
+        result ≡ (((is_leaf && nat_le floor precedence.operand) && not goes_on) && not is_called) }
 {
     (same(Kind::Name, first) || same(Kind::Int, first) || same(Kind::Text, first))
-        && floor <= 11
-        && !goes_on(floor, 11, second)
+        && floor <= precedence::OPERAND
+        && !goes_on(floor, precedence::OPERAND, second)
         && !same(Kind::LeftParenthesis, second)
 }
 

@@ -23,5 +23,7 @@ mod making;
 mod operators;
 /// Signatures of components.
 pub mod parameters;
+/// Levels of precedence.
+pub mod precedence;
 mod reader;
 mod signs;

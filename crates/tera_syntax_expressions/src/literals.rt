@@ -7,10 +7,10 @@ ghost use Rattle.tera_syntax_expressions.specs.Literals as spec;
 use crate::collections::key_at;
 use crate::commas::take_comma;
 use std::alloc::{AllocError, Global};
-use tera_syntax_tokens::input::{Tokens, same};
 use tera_syntax_tokens::literal::{integer, literal};
 use tera_syntax_tokens::refusal::{Reason, Refusal};
 use tera_syntax_tokens::token::Kind;
+use tera_syntax_tokens::tokens::{Tokens, same};
 use tera_syntax_tree::{Literal, LiteralEntry, LiteralKey};
 
 /// A value that is written out, no deeper than `limit`.

@@ -10,8 +10,8 @@ use crate::expressions::{Deep, Read};
 use crate::reader::{Part, Reader, larger};
 use crate::signs::{Application, make_application};
 use std::alloc::{AllocError, Global};
-use tera_syntax_tokens::input::Tokens;
 use tera_syntax_tokens::refusal::Refusal;
+use tera_syntax_tokens::tokens::Tokens;
 use tera_syntax_tree::{Applied, Expression};
 
 impl<'s, F: Fn(Global, &mut Tokens<'_, 's>, usize, u8) -> Read<'s>> Reader<F> {

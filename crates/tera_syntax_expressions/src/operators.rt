@@ -4,12 +4,13 @@ ghost use Rattle.tera_syntax_expressions.specs.Expressions as spec;
 ghost use Rattle.tera_syntax_expressions.specs.Parts.{GoesOn, Nests, deep_of, infix_of, prefix_of};
 
 use crate::expressions::{Deep, Read};
+use crate::precedence;
 use crate::reader::{Reader, larger};
 use crate::signs::{Infix, Prefix, make_infix, make_prefix};
 use std::alloc::Global;
-use tera_syntax_tokens::input::{Tokens, same};
 use tera_syntax_tokens::refusal::{Reason, Refusal};
 use tera_syntax_tokens::token::Kind;
+use tera_syntax_tokens::tokens::{Tokens, same};
 use tera_syntax_tree::{BinaryOperator, Choice, Expression, Operands};
 
 impl<'s, F: Fn(Global, &mut Tokens<'_, 's>, usize, u8) -> Read<'s>> Reader<F> {
@@ -60,7 +61,8 @@ impl<'s, F: Fn(Global, &mut Tokens<'_, 's>, usize, u8) -> Read<'s>> Reader<F> {
         if !same(Kind::In, tokens.kind()) {
             return Err(tokens.refuse(Reason::Expected(Kind::In)));
         }
-        let y = self.infixed(tokens, 5, Infix::Binary(BinaryOperator::In), start, x)?;
+        let within = Infix::Binary(BinaryOperator::In);
+        let y = self.infixed(tokens, precedence::CONCATENATION, within, start, x)?;
         self.inverse(tokens, start, y)
     }
 
@@ -71,9 +73,9 @@ impl<'s, F: Fn(Global, &mut Tokens<'_, 's>, usize, u8) -> Read<'s>> Reader<F> {
         ensures { GoesOn spec.choice self.now start x.entry tokens.old result tokens.new }
     {
         tokens.take();
-        let y = self.sub(tokens, 1)?;
+        let y = self.sub(tokens, precedence::OR)?;
         tokens.expect(Kind::Else)?;
-        let z = self.sub(tokens, 0)?;
+        let z = self.sub(tokens, precedence::CHOICE)?;
         let depth = larger(x.depth, larger(y.depth, z.depth));
         let span = tokens.span(start);
         let choice = Choice {

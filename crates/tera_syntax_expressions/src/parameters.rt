@@ -10,9 +10,9 @@ use crate::headings::name;
 use crate::literals::written;
 use std::alloc::Global;
 use std::collections::HashSet;
-use tera_syntax_tokens::input::{Tokens, is_word, same};
 use tera_syntax_tokens::refusal::{Reason, Refusal};
 use tera_syntax_tokens::token::Kind;
+use tera_syntax_tokens::tokens::{Tokens, is_word, same};
 use tera_syntax_tree::{ArgumentType, Literal, Parameter, Signature};
 
 /// What reading parameters gives: each, and the name of what takes all other arguments.

@@ -7,8 +7,8 @@ ghost use Rattle.tera_syntax_expressions.specs.Parts.{Nests, deep_of};
 
 use crate::expressions::{Deep, Read};
 use std::alloc::Global;
-use tera_syntax_tokens::input::Tokens;
 use tera_syntax_tokens::refusal::{Reason, Refusal};
+use tera_syntax_tokens::tokens::Tokens;
 use tera_syntax_tree::Expression;
 
 /// A part that need not be written, in a box if it is, and how deep it is.

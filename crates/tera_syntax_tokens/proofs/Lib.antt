@@ -1,5 +1,5 @@
 pub mod Places
-pub mod Tokens
+pub mod Sizes
 pub mod Literals
 pub mod Insides
 pub mod Openings

@@ -12,7 +12,7 @@ use Rattle.tera_syntax_tokens.specs.Token.{Token, token, tokens_of, measured, ne
 use Rattle.tera_syntax_tokens.specs.Input.{Input, kind, kind_of, start, start_of, next, after}
 use Rattle.tera_syntax_tokens.specs.Stretches.{InOrder}
 use Rattle.tera_syntax_tokens.specs.Inside.{Inside, inside, closing, closing_in, open_after, prefixed, ended, token_then}
-use Rattle.tera_syntax_tokens.proofs.Tokens.{measured_sized, token_size}
+use Rattle.tera_syntax_tokens.proofs.Sizes.{measured_sized, token_size}
 use Rattle.tera_syntax_tokens.proofs.Insides.{closing_found}
 
 pub in_order-le : (size from : ℕ) (ts : List Token) → InOrder size from ts → from ≤ size

@@ -21,7 +21,7 @@ use Rattle.tera_syntax_tokens.specs.declared.cut.Tag.TheVariants as tag
 use Rattle.tera_syntax_tokens.specs.declared.cut.Opening.{Opening}
 use Rattle.tera_syntax_tree.specs.Delimiters.{Delims, delimiters_of, accepted}
 use Rattle.tera_syntax_tree.specs.declared.delimiters.Delimiters.{Delimiters}
-use Rattle.tera_syntax_tokens.proofs.Tokens.{measured_sized}
+use Rattle.tera_syntax_tokens.proofs.Sizes.{measured_sized}
 use Rattle.tera_syntax_tokens.proofs.Places.{by_order, begins_is, word_fits, place_le, place_passes}
 use Rattle.tera_syntax_tokens.proofs.Openings.{opening_boundary}
 use Rattle.tera_syntax_tokens.proofs.Insides.{ends_here, no_token, takes_token, nothing, ending_fits}

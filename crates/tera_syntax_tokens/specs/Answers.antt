@@ -16,7 +16,8 @@ Answers view meant (Err refusal) = Refuses meant refusal
 
 -- the rest is what follows the place `next` in a text that stands at a place
 abbrev pub Follows : ℕ → Text → ℕ → Text → Type 0
-Follows at text next rest = (at ≤ next) × (next ≤ at + length text) × (rest ≡ drop (next - at) text) × IsUtf8 rest
+Follows at text next rest =
+    (at ≤ next) × (next ≤ at + length text) × (rest ≡ drop (next - at) text) × IsUtf8 rest
 
 abbrev pub IsSyntax : Refusal → Type 0
 IsSyntax (Syntax why span) = Unit {0}

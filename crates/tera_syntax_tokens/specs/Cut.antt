@@ -28,7 +28,8 @@ pub record FoundPiece : Type 0 where
   pub trims : Bool
 
 abbrev pub opened_by : Tag → Text → Text → Option Opening
-opened_by kind start text = if begins start text then Some (record { tag = kind; size = length start }) else None
+opened_by kind start text =
+    if begins start text then Some (record { tag = kind; size = length start }) else None
 
 abbrev pub longer : Option Opening → Option Opening → Option Opening
 longer None b = b
@@ -59,7 +60,8 @@ start_trimmed trims text = if trims then trim_start text else text
 abbrev pub end_trimmed : Bool → Text → Text
 end_trimmed trims text = if trims then trim_end text else text
 
--- the first n bytes of a text that stands at a place, without the white space that a `-` on either side removes
+-- the first n bytes of a text that stands at a place, without the white space that a `-` on either
+-- side removes
 abbrev pub words : Bool → Bool → ℕ → ℕ → Text → Piece
 words before behind n at text =
     let front = start_trimmed before (take n text) in
@@ -71,7 +73,13 @@ words before behind n at text =
 unfoldable pub comment : Text → ℕ → Text → Option FoundPiece
 comment end at text =
     let n = place (begins end) text in
-    if nat_lt n (length text) then Some (record { piece = Comment; next = at + (n + length end); trims = ends_with (λ a b. a == b) (take n text) hyphen }) else None
+    if nat_lt n (length text)
+    then Some
+    (record {
+      piece = Comment;
+      next = at + (n + length end);
+      trims = ends_with (λ a b. a == b) (take n text) hyphen;
+    }) else None
 
 abbrev pub tag_of : (List Token → Piece) → Option Inside → Option FoundPiece
 tag_of make None = None
@@ -98,7 +106,8 @@ endraw_of d kind at text = None
 
 abbrev pub endraw_by : Delims → ℕ → Text → Option Opening → Option Inside
 endraw_by d at text None = None
-endraw_by d at text (Some o) = endraw_of d o.tag (at + start_size o text) (drop (start_size o text) text)
+endraw_by d at text (Some o) =
+    endraw_of d o.tag (at + start_size o text) (drop (start_size o text) text)
 
 -- the tag `endraw` at the front of a text that stands at a place
 unfoldable pub endraw : Delims → ℕ → Text → Option Inside
@@ -107,16 +116,20 @@ endraw d at text = endraw_by d at text (opening_at d text)
 abbrev pub ends_raw : Delims → Text → Bool
 ends_raw d text = is_some (endraw d 0 text)
 
--- What the tag `raw` gives: the text behind it, up to the first tag `endraw`, as one piece. None where there is no such tag.
+-- What the tag `raw` gives: the text behind it, up to the first tag `endraw`, as one piece. None
+-- where there is no such tag.
 unfoldable pub raw : Delims → Bool → ℕ → Text → Option FoundPiece
 raw d trims at text =
     let n = place (ends_raw d) text in
-    tag_of (λ tokens. words trims (trims_before (drop n text) (opening_at d (drop n text))) n at text) (endraw d (at + n) (drop n text))
+    tag_of (λ tokens.
+    words trims (trims_before (drop n text) (opening_at d (drop n text))) n at text)
+    (endraw d (at + n) (drop n text))
 
 -- What a block gives by its inside, where the text behind its start delimiter stands at a place.
 abbrev pub block : Delims → ℕ → Text → Option Inside → Option FoundPiece
 block d at text None = None
-block d at text (Some x) = if is_alone (codes "raw") x.tokens then raw d x.trims x.next (drop (x.next - at) text)
+block d at text (Some x) =
+    if is_alone (codes "raw") x.tokens then raw d x.trims x.next (drop (x.next - at) text)
     else tag_of Block (Some x)
 
 abbrev pub behind : Delims → Tag → ℕ → Text → Option FoundPiece
@@ -127,8 +140,13 @@ behind d tag.Comment at text = comment d.comment_end at text
 abbrev pub piece_by : Delims → Bool → ℕ → Text → Option Opening → Option FoundPiece
 piece_by d trims at text None =
     let n = place (opens d) text in
-    Some (record { piece = words trims (trims_before (drop n text) (opening_at d (drop n text))) n at text; next = at + n; trims = false })
-piece_by d trims at text (Some o) = behind d o.tag (at + start_size o text) (drop (start_size o text) text)
+    Some (record {
+      piece = words trims (trims_before (drop n text) (opening_at d (drop n text))) n at text;
+      next = at + n;
+      trims = false;
+    })
+piece_by d trims at text (Some o) =
+    behind d o.tag (at + start_size o text) (drop (start_size o text) text)
 
 -- The first piece of a text that stands at a place; a `-` before it may trim it.
 unfoldable pub piece : Delims → Bool → ℕ → Text → Option FoundPiece
@@ -142,7 +160,8 @@ piece_then (Some f) more = f.piece ∷ more f
 unfoldable pub cut : Delims → Bool → ℕ → ℕ → Text → List Piece
 cut d trims skip at [] = []
 cut d trims (suc n) at (b ∷ bs) = cut d trims n (suc at) bs
-cut d trims zero at (b ∷ bs) = piece_then (piece d trims at (b ∷ bs)) (λ f. cut d f.trims (f.next - suc at) (suc at) bs)
+cut d trims zero at (b ∷ bs) =
+    piece_then (piece d trims at (b ∷ bs)) (λ f. cut d f.trims (f.next - suc at) (suc at) bs)
 
 abbrev pub pieces : Delims → Text → List Piece
 pieces d text = cut d false 0 0 text

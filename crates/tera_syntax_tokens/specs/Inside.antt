@@ -12,7 +12,9 @@ hyphen = codes "-"
 
 -- What ends the tag at the front of the text: `-` with the end delimiter, or that alone.
 abbrev pub closing : Text → Text → Option Ending
-closing end text = if begins hyphen text && begins end (drop 1 text) then Some (record { size = length end + 1; trims = true })
+closing end text =
+    if begins hyphen text && begins end (drop 1 text)
+    then Some (record { size = length end + 1; trims = true })
     else (if begins end text then Some (record { size = length end; trims = false }) else None)
 
 -- the tokens of a tag, the place behind its end delimiter, and whether a `-` stands there
@@ -48,11 +50,14 @@ open_after opened kind = opened
 abbrev pub closing_in : ℕ → Text → Text → Option Ending
 closing_in opened end text = if opened == 0 then closing end text else None
 
--- What stands behind a start delimiter, by the place where the text stands, with brackets open, and after bytes that are passed
--- over: before each blank and each token the end of the tag is tried. None where the tag has no end, or something that is no token.
+-- What stands behind a start delimiter, by the place where the text stands, with brackets open, and
+-- after bytes that are passed
+-- over: before each blank and each token the end of the tag is tried. None where the tag has no
+-- end, or something that is no token.
 unfoldable pub inside : Text → ℕ → ℕ → ℕ → Text → Option Inside
 inside end opened skip at [] = None
 inside end opened (suc n) at (b ∷ bs) = inside end opened n (suc at) bs
 inside end opened zero at (b ∷ bs) = ended at (closing_in opened end (b ∷ bs))
     (if is_blank b then inside end opened 0 (suc at) bs
-    else token_then (next_token at (b ∷ bs)) (λ t. inside end (open_after opened t.kind) (length t.text - 1) (suc at) bs))
+    else token_then (next_token at (b ∷ bs))
+    (λ t. inside end (open_after opened t.kind) (length t.text - 1) (suc at) bs))

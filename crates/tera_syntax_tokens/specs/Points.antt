@@ -7,7 +7,8 @@ use Rattle.tera_syntax_tree.specs.Inside.{Within}
 
 -- into the text, which stands at a place
 abbrev pub PointsInto : ℕ → Text → Refusal → Type 0
-PointsInto at text (Syntax why span) = (at ≤ span.start) × (span.start ≤ span.end) × (span.end ≤ at + length text)
+PointsInto at text (Syntax why span) =
+    (at ≤ span.start) × (span.start ≤ span.end) × (span.end ≤ at + length text)
 PointsInto at text OutOfMemory = Unit {0}
 
 -- at a stretch of a text of this size

@@ -7,7 +7,8 @@ use Rattle.tera_syntax_tokens.specs.Cut.{Piece, Words, Comment, Variable, Block,
 -- the tokens stand one behind another from a place on, in a text of this size
 abbrev pub InOrder : ℕ → ℕ → List Token → Type 0
 InOrder size from [] = from ≤ size
-InOrder size from (t ∷ ts) = (from ≤ t.span.start) × (t.span.start ≤ t.span.end) × InOrder size t.span.end ts
+InOrder size from (t ∷ ts) =
+    (from ≤ t.span.start) × (t.span.start ≤ t.span.end) × InOrder size t.span.end ts
 
 -- what the piece covers is a stretch of a text of this size
 abbrev pub PieceInside : ℕ → Piece → Type 0

@@ -1,7 +1,7 @@
 -- How a function that takes tokens stands to its definition.
 use Rattle.std.specs.Prelude.{◌≡◌, Some, Result, Ok, Err}
 use Rattle.tera_syntax_tokens.specs.declared.refusal.Refusal.{Refusal}
-use Rattle.tera_syntax_tokens.specs.declared.input.Tokens.{Tokens}
+use Rattle.tera_syntax_tokens.specs.declared.tokens.Tokens.{Tokens}
 use Rattle.tera_syntax_tokens.specs.Answers.{Refuses}
 use Rattle.tera_syntax_tokens.specs.Token.{tokens_of}
 use Rattle.tera_syntax_tokens.specs.Input.{Input, Parsed}

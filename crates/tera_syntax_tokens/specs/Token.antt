@@ -1,5 +1,6 @@
 -- Tokens of a tag.
 use Rattle.std.specs.Prelude.{ℕ, suc, ◌+◌, List, [], ◌∷◌, map, take, get_or, Bool, false, not, ◌&&◌, ◌||◌, ◌==◌, nat_le, Option, Some, None, option_map, bytes_eq, codes, if◌then◌else◌}
+use Rattle.std.specs.Str.{byte}
 use Rattle.tera_errors.specs.Site.{Text}
 use Rattle.tera_errors.specs.declared.span.Span.{Span}
 use Rattle.tera_syntax_tokens.specs.Bytes.{run}
@@ -21,62 +22,67 @@ tokens_of ts = map token_of ts
 
 -- space, tab, line feed and carriage return separate tokens
 abbrev pub is_blank : ℕ → Bool
-is_blank b = ((b == 32 || b == 9) || b == 10) || b == 13
+is_blank b = ((b == byte " " || b == byte "\t") || b == byte "\n") || b == byte "\r"
 
 abbrev pub is_letter : ℕ → Bool
-is_letter b = ((nat_le 65 b && nat_le b 90) || (nat_le 97 b && nat_le b 122)) || b == 95
+is_letter b =
+    ((nat_le (byte "A") b && nat_le b (byte "Z")) || (nat_le (byte "a") b && nat_le b (byte "z")))
+    || b == byte "_"
 
 abbrev pub is_digit : ℕ → Bool
-is_digit b = nat_le 48 b && nat_le b 57
+is_digit b = nat_le (byte "0") b && nat_le b (byte "9")
 
 abbrev pub is_name_byte : ℕ → Bool
 is_name_byte b = is_letter b || is_digit b
 
 -- a text stands between two of these: `"`, `'` and a backtick
 abbrev pub is_quote : ℕ → Bool
-is_quote b = (b == 34 || b == 39) || b == 96
+is_quote b = (b == byte "\"" || b == byte "'") || b == byte "`"
 
--- How many bytes there are up to the quote that closes a text, and with it. A backslash takes the byte behind it along.
+-- How many bytes there are up to the quote that closes a text, and with it. A backslash takes the
+-- byte behind it along.
 unfoldable pub quoted : ℕ → Bool → Text → Option ℕ
 quoted quote escaped [] = None
-quoted quote escaped (b ∷ bs) = if not escaped && b == quote then Some 1 else option_map suc (quoted quote (not escaped && b == 92) bs)
+quoted quote escaped (b ∷ bs) =
+    if not escaped && b == quote then Some 1
+    else option_map suc (quoted quote (not escaped && b == byte "\\") bs)
 
 -- the signs of two bytes
 abbrev pub pair : ℕ → ℕ → Option Kind
 pair b c =
-    if b == 61 && c == 61 then Some k.Equal else (
-    if b == 33 && c == 61 then Some k.NotEqual else (
-    if b == 60 && c == 61 then Some k.LessOrEqual else (
-    if b == 62 && c == 61 then Some k.GreaterOrEqual else (
-    if b == 42 && c == 42 then Some k.Power else (
-    if b == 47 && c == 47 then Some k.FloorSlash else (
-    if b == 47 && c == 62 then Some k.TagEnd else (
-    if b == 63 && c == 46 then Some k.OptionalDot else (
-    if b == 63 && c == 91 then Some k.OptionalBracket else None))))))))
+    if b == byte "=" && c == byte "=" then Some k.Equal else (
+    if b == byte "!" && c == byte "=" then Some k.NotEqual else (
+    if b == byte "<" && c == byte "=" then Some k.LessOrEqual else (
+    if b == byte ">" && c == byte "=" then Some k.GreaterOrEqual else (
+    if b == byte "*" && c == byte "*" then Some k.Power else (
+    if b == byte "/" && c == byte "/" then Some k.FloorSlash else (
+    if b == byte "/" && c == byte ">" then Some k.TagEnd else (
+    if b == byte "?" && c == byte "." then Some k.OptionalDot else (
+    if b == byte "?" && c == byte "[" then Some k.OptionalBracket else None))))))))
 
 -- the signs of one byte
 abbrev pub single : ℕ → Option Kind
 single b =
-    if b == 60 then Some k.Less else (
-    if b == 62 then Some k.Greater else (
-    if b == 43 then Some k.Plus else (
-    if b == 45 then Some k.Minus else (
-    if b == 42 then Some k.Star else (
-    if b == 47 then Some k.Slash else (
-    if b == 37 then Some k.Percent else (
-    if b == 126 then Some k.Tilde else (
-    if b == 124 then Some k.Bar else (
-    if b == 46 then Some k.Dot else (
-    if b == 91 then Some k.LeftBracket else (
-    if b == 93 then Some k.RightBracket else (
-    if b == 40 then Some k.LeftParenthesis else (
-    if b == 41 then Some k.RightParenthesis else (
-    if b == 123 then Some k.LeftBrace else (
-    if b == 125 then Some k.RightBrace else (
-    if b == 44 then Some k.Comma else (
-    if b == 58 then Some k.Colon else (
-    if b == 61 then Some k.Assign else (
-    if b == 64 then Some k.At else None)))))))))))))))))))
+    if b == byte "<" then Some k.Less else (
+    if b == byte ">" then Some k.Greater else (
+    if b == byte "+" then Some k.Plus else (
+    if b == byte "-" then Some k.Minus else (
+    if b == byte "*" then Some k.Star else (
+    if b == byte "/" then Some k.Slash else (
+    if b == byte "%" then Some k.Percent else (
+    if b == byte "~" then Some k.Tilde else (
+    if b == byte "|" then Some k.Bar else (
+    if b == byte "." then Some k.Dot else (
+    if b == byte "[" then Some k.LeftBracket else (
+    if b == byte "]" then Some k.RightBracket else (
+    if b == byte "(" then Some k.LeftParenthesis else (
+    if b == byte ")" then Some k.RightParenthesis else (
+    if b == byte "{" then Some k.LeftBrace else (
+    if b == byte "}" then Some k.RightBrace else (
+    if b == byte "," then Some k.Comma else (
+    if b == byte ":" then Some k.Colon else (
+    if b == byte "=" then Some k.Assign else (
+    if b == byte "@" then Some k.At else None)))))))))))))))))))
 
 abbrev pub of_size : ℕ → Option Kind → Option Measure
 of_size n None = None
@@ -88,7 +94,9 @@ or_else (Some m) other = Some m
 
 -- the sign that three bytes begin with, the longest
 unfoldable pub sign : ℕ → ℕ → ℕ → Option Measure
-sign b c d = if (b == 46 && c == 46) && d == 46 then Some (record { kind = k.Spread; size = 3 })
+sign b c d =
+    if (b == byte "." && c == byte ".") && d == byte "."
+    then Some (record { kind = k.Spread; size = 3 })
     else or_else (of_size 2 (pair b c)) (of_size 1 (single b))
 
 abbrev pub text_of_size : Option ℕ → Option Measure
@@ -98,9 +106,11 @@ text_of_size (Some n) = Some (record { kind = k.Text; size = 1 + n })
 -- What a text begins with, by its longest token. Past its end stands 0.
 unfoldable pub measured : Text → Option Measure
 measured [] = None
-measured (b ∷ bs) = if is_letter b then Some (record { kind = k.Name; size = 1 + run is_name_byte bs }) else (
+measured (b ∷ bs) =
+    if is_letter b then Some (record { kind = k.Name; size = 1 + run is_name_byte bs }) else (
     if is_digit b then Some (record { kind = k.Int; size = 1 + run is_digit bs }) else (
-    if is_quote b then text_of_size (quoted b false bs) else sign b (get_or bs 0 0) (get_or bs 1 0)))
+    if is_quote b then text_of_size (quoted b false bs)
+    else sign b (get_or bs 0 0) (get_or bs 1 0)))
 
 -- the kind of a word: those that are reserved have their own
 unfoldable pub word_kind : Text → Kind
@@ -126,7 +136,12 @@ named kind word = kind
 
 -- the first token of a text that stands at a place, of this measure
 abbrev pub token : ℕ → Text → Measure → Token
-token at text m = record { kind = named m.kind (take m.size text); text = take m.size text; span = record { start = at; end = at + m.size } }
+token at text m =
+    record {
+      kind = named m.kind (take m.size text);
+      text = take m.size text;
+      span = record { start = at; end = at + m.size };
+    }
 
 -- the longest token at the front of a text that stands at a place
 unfoldable pub next_token : ℕ → Text → Option Token

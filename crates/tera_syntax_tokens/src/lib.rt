@@ -3,9 +3,9 @@
 
 pub(crate) mod bytes;
 pub mod cut;
-pub mod input;
 pub(crate) mod inside;
 pub mod literal;
 pub(crate) mod raw;
 pub mod refusal;
 pub mod token;
+pub mod tokens;

@@ -20,7 +20,8 @@ abbrev mutual
   expr_calls (Name n span) = []
   expr_calls (Attribute e n optional span) = expr_calls e
   expr_calls (Index a b optional span) = expr_calls a ++ expr_calls b
-  expr_calls (Slice e a b c optional span) = expr_calls e ++ (optional_calls a ++ (optional_calls b ++ optional_calls c))
+  expr_calls (Slice e a b c optional span) =
+      expr_calls e ++ (optional_calls a ++ (optional_calls b ++ optional_calls c))
   expr_calls (Not e span) = expr_calls e
   expr_calls (Negate e span) = expr_calls e
   expr_calls (Binary op a b span) = expr_calls a ++ expr_calls b
@@ -54,7 +55,8 @@ abbrev mutual
 
 abbrev pub filters_calls : Filters → List Callee
 filters_calls NoFilters = []
-filters_calls (MoreFilters n all span rest) = (arguments_calls all ++ AFilter n ∷ []) ++ filters_calls rest
+filters_calls (MoreFilters n all span rest) =
+    (arguments_calls all ++ AFilter n ∷ []) ++ filters_calls rest
 
 -- what a block or a component calls is no part of what the nodes around it call
 abbrev mutual
@@ -68,7 +70,8 @@ abbrev mutual
   node_calls (For key n e body other) = expr_calls e ++ (calls body ++ calls other)
   node_calls (Block n body span) = []
   node_calls (Include n span) = []
-  node_calls (ComponentCall n all body span) = calls body ++ (entries_calls all ++ AComponent n ∷ [])
+  node_calls (ComponentCall n all body span) =
+      calls body ++ (entries_calls all ++ AComponent n ∷ [])
   node_calls (Definition s body) = []
   node_calls Break = []
   node_calls Continue = []

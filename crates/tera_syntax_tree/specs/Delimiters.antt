@@ -41,10 +41,14 @@ abbrev pub differ : Text → Text → Bool
 differ a b = not (bytes_eq a b)
 
 abbrev pub are_filled : Delims → Bool
-are_filled d = ((((is_filled d.block_start && is_filled d.block_end) && is_filled d.variable_start) && is_filled d.variable_end) && is_filled d.comment_start) && is_filled d.comment_end
+are_filled d =
+    ((((is_filled d.block_start && is_filled d.block_end) && is_filled d.variable_start)
+    && is_filled d.variable_end) && is_filled d.comment_start) && is_filled d.comment_end
 
 abbrev pub do_differ : Delims → Bool
-do_differ d = (differ d.block_start d.variable_start && differ d.block_start d.comment_start) && differ d.variable_start d.comment_start
+do_differ d =
+    (differ d.block_start d.variable_start && differ d.block_start d.comment_start)
+    && differ d.variable_start d.comment_start
 
 -- Delimiters can be used where none is empty and no two start delimiters are equal.
 unfoldable pub accepted : Delims → Bool

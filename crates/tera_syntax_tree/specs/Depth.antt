@@ -63,7 +63,8 @@ abbrev mutual
 
   pub literal_entries_depth : LiteralEntries → ℕ
   literal_entries_depth NoLiteralEntries = 0
-  literal_entries_depth (MoreLiteralEntries k v rest) = max (literal_depth v) (literal_entries_depth rest)
+  literal_entries_depth (MoreLiteralEntries k v rest) =
+      max (literal_depth v) (literal_entries_depth rest)
 
 abbrev pub default_depth : Option Literal → ℕ
 default_depth None = 0
@@ -86,7 +87,8 @@ abbrev mutual
   node_depth (Set n e is_global) = suc (depth e)
   node_depth (Capture n fs body is_global) = suc (max (filters_depth fs) (nodes_depth body))
   node_depth (FilterSection fs body) = suc (max (filters_depth fs) (nodes_depth body))
-  node_depth (For key n e body other) = suc (max (depth e) (max (nodes_depth body) (nodes_depth other)))
+  node_depth (For key n e body other) =
+      suc (max (depth e) (max (nodes_depth body) (nodes_depth other)))
   node_depth (Block n body span) = suc (nodes_depth body)
   node_depth (Include n span) = 1
   node_depth (ComponentCall n all body span) = suc (max (entries_depth all) (nodes_depth body))
@@ -98,7 +100,14 @@ abbrev mutual
   nodes_depth NoNodes = 0
   nodes_depth (MoreNodes n rest) = max (node_depth n) (nodes_depth rest)
 
--- what the grammar allows: at most 200 deep, nothing out of its place, and no two blocks and no two components of one name
+-- how deep a tree may be
+abbrev pub max_tree_depth : ℕ
+max_tree_depth = 200
+
+-- what the grammar allows: no deeper than that, nothing out of its place, and no two blocks and no
+-- two components of one name
 abbrev pub IsWellFormed : Tree → Type 0
-IsWellFormed t = (nodes_depth t.nodes ≤ 200) × IsTrue (in_place false t.nodes) × IsTrue (has_each_block_once t.nodes)
+IsWellFormed t =
+    (nodes_depth t.nodes ≤ max_tree_depth) × IsTrue (in_place false t.nodes)
+    × IsTrue (has_each_block_once t.nodes)
     × IsTrue (defines_at_top t.nodes) × IsTrue (has_each_component_once t.nodes)

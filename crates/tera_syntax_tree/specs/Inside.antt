@@ -15,21 +15,27 @@ abbrev mutual
   ExprInside size (Text t span) = Within size span
   ExprInside size (Name n span) = Within size span
   ExprInside size (Attribute e n optional span) = ExprInside size e × Within size span
-  ExprInside size (Index a b optional span) = ExprInside size a × ExprInside size b × Within size span
+  ExprInside size (Index a b optional span) =
+      ExprInside size a × ExprInside size b × Within size span
   ExprInside size (Slice e a b c optional span) =
-      ExprInside size e × OptionalInside size a × OptionalInside size b × OptionalInside size c × Within size span
+      ExprInside size e × OptionalInside size a × OptionalInside size b × OptionalInside size c
+      × Within size span
   ExprInside size (Not e span) = ExprInside size e × Within size span
   ExprInside size (Negate e span) = ExprInside size e × Within size span
   ExprInside size (Binary op a b span) = ExprInside size a × ExprInside size b × Within size span
   ExprInside size (And a b span) = ExprInside size a × ExprInside size b × Within size span
   ExprInside size (Or a b span) = ExprInside size a × ExprInside size b × Within size span
-  ExprInside size (Ternary v c o span) = ExprInside size v × ExprInside size c × ExprInside size o × Within size span
+  ExprInside size (Ternary v c o span) =
+      ExprInside size v × ExprInside size c × ExprInside size o × Within size span
   ExprInside size (Array all span) = ItemsInside size all × Within size span
   ExprInside size (Map all span) = EntriesInside size all × Within size span
-  ExprInside size (Comprehension v key n e c span) = ExprInside size v × ExprInside size e × OptionalInside size c × Within size span
+  ExprInside size (Comprehension v key n e c span) =
+      ExprInside size v × ExprInside size e × OptionalInside size c × Within size span
   ExprInside size (Super all span) = ArgumentsInside size all × Within size span
-  ExprInside size (Filter e n all span) = ExprInside size e × ArgumentsInside size all × Within size span
-  ExprInside size (Test e n all span) = ExprInside size e × ArgumentsInside size all × Within size span
+  ExprInside size (Filter e n all span) =
+      ExprInside size e × ArgumentsInside size all × Within size span
+  ExprInside size (Test e n all span) =
+      ExprInside size e × ArgumentsInside size all × Within size span
   ExprInside size (Call n all span) = ArgumentsInside size all × Within size span
   ExprInside size (Component n all span) = EntriesInside size all × Within size span
 
@@ -51,20 +57,24 @@ abbrev mutual
 
 abbrev pub FiltersInside : ℕ → Filters → Type 0
 FiltersInside size NoFilters = Unit {0}
-FiltersInside size (MoreFilters n all span rest) = ArgumentsInside size all × Within size span × FiltersInside size rest
+FiltersInside size (MoreFilters n all span rest) =
+    ArgumentsInside size all × Within size span × FiltersInside size rest
 
 abbrev mutual
   pub NodeInside : ℕ → Node → Type 0
   NodeInside size (Content t span) = Within size span
   NodeInside size (Print e) = ExprInside size e
-  NodeInside size (If c body other) = ExprInside size c × NodesInside size body × NodesInside size other
+  NodeInside size (If c body other) =
+      ExprInside size c × NodesInside size body × NodesInside size other
   NodeInside size (Set n e is_global) = ExprInside size e
   NodeInside size (Capture n fs body is_global) = FiltersInside size fs × NodesInside size body
   NodeInside size (FilterSection fs body) = FiltersInside size fs × NodesInside size body
-  NodeInside size (For key n e body other) = ExprInside size e × NodesInside size body × NodesInside size other
+  NodeInside size (For key n e body other) =
+      ExprInside size e × NodesInside size body × NodesInside size other
   NodeInside size (Block n body span) = NodesInside size body × Within size span
   NodeInside size (Include n span) = Within size span
-  NodeInside size (ComponentCall n all body span) = EntriesInside size all × NodesInside size body × Within size span
+  NodeInside size (ComponentCall n all body span) =
+      EntriesInside size all × NodesInside size body × Within size span
   NodeInside size (Definition s body) = NodesInside size body
   NodeInside size Break = Unit {0}
   NodeInside size Continue = Unit {0}

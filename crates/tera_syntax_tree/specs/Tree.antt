@@ -20,7 +20,8 @@ mutual
     Name : (name : site.Name) (span : Span) → Expr
     Attribute : (target : Expr) (name : site.Name) (optional : Bool) (span : Span) → Expr
     Index : (target : Expr) (index : Expr) (optional : Bool) (span : Span) → Expr
-    Slice : (target : Expr) (start : Optional) (end : Optional) (step : Optional) (optional : Bool) (span : Span) → Expr
+    Slice : (target : Expr) (start : Optional) (end : Optional) (step : Optional) (optional : Bool)
+        (span : Span) → Expr
     Not : (operand : Expr) (span : Span) → Expr
     Negate : (operand : Expr) (span : Span) → Expr
     Binary : (operator : BinaryOperator) (left : Expr) (right : Expr) (span : Span) → Expr
@@ -29,7 +30,8 @@ mutual
     Ternary : (value : Expr) (condition : Expr) (other : Expr) (span : Span) → Expr
     Array : (items : Items) (span : Span) → Expr
     Map : (entries : Entries) (span : Span) → Expr
-    Comprehension : (value : Expr) (key : Option site.Name) (name : site.Name) (target : Expr) (condition : Optional) (span : Span) → Expr
+    Comprehension : (value : Expr) (key : Option site.Name) (name : site.Name) (target : Expr)
+        (condition : Optional) (span : Span) → Expr
     Super : (arguments : Arguments) (span : Span) → Expr
     Filter : (value : Expr) (name : site.Name) (arguments : Arguments) (span : Span) → Expr
     Test : (value : Expr) (name : site.Name) (arguments : Arguments) (span : Span) → Expr
@@ -73,7 +75,8 @@ mutual
     NoLiteralEntries : LiteralEntries
     MoreLiteralEntries : (key : Key) (value : Literal) (rest : LiteralEntries) → LiteralEntries
 
--- what a component is given by a name; where it is implicit and not given, it is looked up in the callers
+-- what a component is given by a name; where it is implicit and not given, it is looked up in the
+-- callers
 pub record Parameter : Type 0 where
   pub name : site.Name
   pub is_implicit : Bool
@@ -91,7 +94,8 @@ pub data Filters : Type 0 where
   NoFilters : Filters
   MoreFilters : (name : site.Name) (arguments : Arguments) (span : Span) (rest : Filters) → Filters
 
--- where a fault in the text itself is reported: at the first filter. Where there is none, nothing is refused.
+-- where a fault in the text itself is reported: at the first filter. Where there is none, nothing
+-- is refused.
 abbrev pub first_span : Filters → Span
 first_span NoFilters = record { start = 0; end = 0 }
 first_span (MoreFilters name all span rest) = span
@@ -104,7 +108,8 @@ mutual
     Set : (name : site.Name) (value : Expr) (is_global : Bool) → Node
     Capture : (name : site.Name) (filters : Filters) (body : Nodes) (is_global : Bool) → Node
     FilterSection : (filters : Filters) (body : Nodes) → Node
-    For : (key : Option site.Name) (name : site.Name) (target : Expr) (body : Nodes) (other : Nodes) → Node
+    For : (key : Option site.Name) (name : site.Name) (target : Expr) (body : Nodes) (other : Nodes)
+        → Node
     Block : (name : site.Name) (body : Nodes) (span : Span) → Node
     -- the template to which the name resolves
     Include : (name : site.Name) (span : Span) → Node

@@ -70,7 +70,8 @@ abbrev mutual
   expr_of (expression.Name t span) = Name t.now span
   expr_of (expression.Attribute' optional p e t span) = Attribute (expr_of e) t.now optional span
   expr_of (expression.Index' optional p a b span) = Index (expr_of a) (expr_of b) optional span
-  expr_of (expression.Slice' optional p e a b c span) = Slice (expr_of e) (held_of a) (held_of b) (held_of c) optional span
+  expr_of (expression.Slice' optional p e a b c span) =
+      Slice (expr_of e) (held_of a) (held_of b) (held_of c) optional span
   expr_of (expression.Not' p e span) = Not (expr_of e) span
   expr_of (expression.Negate' p e span) = Negate (expr_of e) span
   expr_of (expression.Binary' op p a b span) = Binary op (expr_of a) (expr_of b) span
@@ -79,12 +80,16 @@ abbrev mutual
   expr_of (expression.Ternary' p v c o span) = Ternary (expr_of v) (expr_of c) (expr_of o) span
   expr_of (expression.Array' m all span) = Array (row_items all) span
   expr_of (expression.Map' m all span) = Map (row_entries all) span
-  expr_of (expression.Comprehension' p v key n e c span) = Comprehension (expr_of v) (option_copied key) n.now (expr_of e) (held_of c) span
+  expr_of (expression.Comprehension' p v key n e c span) =
+      Comprehension (expr_of v) (option_copied key) n.now (expr_of e) (held_of c) span
   expr_of (expression.Super' m all span) = Super (row_arguments all) span
-  expr_of (expression.Filter' p (Applied' e t m all) span) = Filter (expr_of e) t.now (row_arguments all) span
-  expr_of (expression.Test' p (Applied' e t m all) span) = Test (expr_of e) t.now (row_arguments all) span
+  expr_of (expression.Filter' p (Applied' e t m all) span) =
+      Filter (expr_of e) t.now (row_arguments all) span
+  expr_of (expression.Test' p (Applied' e t m all) span) =
+      Test (expr_of e) t.now (row_arguments all) span
   expr_of (expression.Call' p (Called' t m all) span) = Call t.now (row_arguments all) span
-  expr_of (expression.Component' p (ComponentTag' t m all) span) = Component t.now (row_entries all) span
+  expr_of (expression.Component' p (ComponentTag' t m all) span) =
+      Component t.now (row_entries all) span
 
   pub held_of : Held-Bounds-start → Optional
   held_of Bounds-start-None' = Absent
@@ -96,7 +101,8 @@ abbrev mutual
 
   pub row_entries : {m : _} → Row_of-Entry m → Entries
   row_entries end_of-Entry = NoEntries
-  row_entries (more_of-Entry k e rest) = MoreEntries (literal_option k) (expr_of e) (row_entries rest)
+  row_entries (more_of-Entry k e rest) =
+      MoreEntries (literal_option k) (expr_of e) (row_entries rest)
 
   pub row_arguments : {m : _} → Row_of-Argument m → Arguments
   row_arguments end_of-Argument = NoArguments
@@ -108,11 +114,15 @@ optional_of (Some b) = Present (expr_of b.value)
 
 -- a comprehension of these parts
 abbrev pub comprehension_of : Collected → Span → Expr
-comprehension_of c span = Comprehension (expr_of c.value) (option_copied c.heading.key) c.heading.name.now (expr_of c.heading.target) (optional_of c.condition) span
+comprehension_of c span =
+    Comprehension (expr_of c.value) (option_copied c.heading.key) c.heading.name.now
+    (expr_of c.heading.target) (optional_of c.condition) span
 
 -- a slice of these bounds
 abbrev pub slice_of : Sliced → Bool → Span → Expr
-slice_of s optional span = Slice (expr_of s.target) (optional_of s.bounds.start) (optional_of s.bounds.end) (optional_of s.bounds.step) optional span
+slice_of s optional span =
+    Slice (expr_of s.target) (optional_of s.bounds.start) (optional_of s.bounds.end)
+    (optional_of s.bounds.step) optional span
 
 abbrev pub items_of : List item.Item → Items
 items_of [] = NoItems
@@ -128,19 +138,23 @@ arguments_of (a ∷ rest) = MoreArguments a.name.now (expr_of a.value) (argument
 
 -- a filter or a test of these parts
 abbrev pub applied_of : (Expr → site.Name → Arguments → Span → Expr) → Applied → Span → Expr
-applied_of form a span = let parts = out-Applied a in form (expr_of parts.value) parts.name.now (arguments_of parts.arguments.items) span
+applied_of form a span = let parts = out-Applied a in
+    form (expr_of parts.value) parts.name.now (arguments_of parts.arguments.items) span
 
 -- a call of these parts
 abbrev pub called_of : Called → Span → Expr
-called_of c span = let parts = out-Called c in Call parts.name.now (arguments_of parts.arguments.items) span
+called_of c span =
+    let parts = out-Called c in Call parts.name.now (arguments_of parts.arguments.items) span
 
 -- a component that this tag calls
 abbrev pub tag_of : ComponentTag → Span → Expr
-tag_of t span = let parts = out-ComponentTag t in Component parts.name.now (entries_of parts.attributes.items) span
+tag_of t span = let parts = out-ComponentTag t in
+    Component parts.name.now (entries_of parts.attributes.items) span
 
 abbrev pub filters_of : List SectionFilter → Filters
 filters_of [] = NoFilters
-filters_of (f ∷ rest) = MoreFilters f.name.now (arguments_of f.arguments.items) f.span (filters_of rest)
+filters_of (f ∷ rest) =
+    MoreFilters f.name.now (arguments_of f.arguments.items) f.span (filters_of rest)
 
 abbrev mutual
   pub written_of : declared_literal.Literal → Literal
@@ -157,7 +171,8 @@ abbrev mutual
 
   pub row_literal_entries : {m : _} → Row_of-LiteralEntry m → LiteralEntries
   row_literal_entries end_of-LiteralEntry = NoLiteralEntries
-  row_literal_entries (more_of-LiteralEntry k v rest) = MoreLiteralEntries (literal_of k) (written_of v) (row_literal_entries rest)
+  row_literal_entries (more_of-LiteralEntry k v rest) =
+      MoreLiteralEntries (literal_of k) (written_of v) (row_literal_entries rest)
 
 abbrev pub literals_of : List declared_literal.Literal → Literals
 literals_of [] = NoLiterals
@@ -165,16 +180,28 @@ literals_of (v ∷ rest) = MoreLiterals (written_of v) (literals_of rest)
 
 abbrev pub literal_entries_of : List LiteralEntry → LiteralEntries
 literal_entries_of [] = NoLiteralEntries
-literal_entries_of (e ∷ rest) = MoreLiteralEntries (literal_of e.key) (written_of e.value) (literal_entries_of rest)
+literal_entries_of (e ∷ rest) =
+    MoreLiteralEntries (literal_of e.key) (written_of e.value) (literal_entries_of rest)
 
 abbrev pub written_option : Option declared_literal.Literal → Option Literal
 written_option = option_map written_of
 
 abbrev pub parameter_of : parameter.Parameter → Parameter
-parameter_of p = record { name = p.name.now; is_implicit = p.is_implicit; of_type = p.of_type; default = written_option p.default }
+parameter_of p =
+    record {
+      name = p.name.now;
+      is_implicit = p.is_implicit;
+      of_type = p.of_type;
+      default = written_option p.default;
+    }
 
 abbrev pub signature_of : signature.Signature → Signature
-signature_of s = record { name = s.name.now; parameters = map_list parameter_of s.parameters.items; rest = option_copied s.rest }
+signature_of s =
+    record {
+      name = s.name.now;
+      parameters = map_list parameter_of s.parameters.items;
+      rest = option_copied s.rest;
+    }
 
 -- a name, filters and a body of which the text is captured
 abbrev pub capture_of : Captured → Nodes → Bool → Node
@@ -182,7 +209,8 @@ capture_of c body is_global = Capture c.name.now (filters_of c.filters.items) bo
 
 -- a component that is handed a body
 abbrev pub component_call_of : ComponentTag → Nodes → Span → Node
-component_call_of t body span = let parts = out-ComponentTag t in ComponentCall parts.name.now (entries_of parts.attributes.items) body span
+component_call_of t body span = let parts = out-ComponentTag t in
+    ComponentCall parts.name.now (entries_of parts.attributes.items) body span
 
 abbrev mutual
   pub node_of : declared.Node → Node
@@ -193,7 +221,9 @@ abbrev mutual
   node_of (variant.Set t e is_global) = Set t.now (expr_of e.value) is_global
   node_of (variant.Capture' is_global c m body) = capture_of c.value (row_nodes body) is_global
   node_of (variant.FilterSection' fs m body) = FilterSection (filters_of fs.items) (row_nodes body)
-  node_of (variant.For' h m body n other) = For (option_copied h.value.key) h.value.name.now (expr_of h.value.target) (row_nodes body) (row_nodes other)
+  node_of (variant.For' h m body n other) =
+      For (option_copied h.value.key) h.value.name.now (expr_of h.value.target) (row_nodes body)
+      (row_nodes other)
   node_of (variant.Block' t m body span) = Block t.now (row_nodes body) span
   node_of (variant.Include t span) = Include (quoted_of t) span
   node_of (variant.ComponentCall' c m body span) = component_call_of c.value (row_nodes body) span
@@ -211,7 +241,9 @@ nodes_of (n ∷ ns) = MoreNodes (node_of n) (nodes_of ns)
 
 -- a loop with this heading
 abbrev pub for_of : Heading → List declared.Node → List declared.Node → Node
-for_of h body other = For (option_copied h.key) h.name.now (expr_of h.target) (nodes_of body) (nodes_of other)
+for_of h body other =
+    For (option_copied h.key) h.name.now (expr_of h.target) (nodes_of body) (nodes_of other)
 
 abbrev pub tree_of : ParserOutput → Tree
-tree_of output = record { parent = quoted_option output.parent; nodes = nodes_of output.nodes.items }
+tree_of output =
+    record { parent = quoted_option output.parent; nodes = nodes_of output.nodes.items }

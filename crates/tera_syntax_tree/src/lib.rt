@@ -2,9 +2,9 @@
 #![tactic(auto)]
 
 pub mod component;
+pub mod constructors;
 pub mod delimiters;
 pub mod expression;
-pub mod make;
 pub mod node;
 pub mod quoted;
 

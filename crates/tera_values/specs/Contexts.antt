@@ -10,7 +10,8 @@ NamedIsFound = (es : Named Val) (n : Name) (v : Val) → at_name n (put n v es) 
 
 -- and every other name what it found before
 abbrev pub OtherNamesAreKept : Type 0
-OtherNamesAreKept = (es : Named Val) (n m : Name) (v : Val) → m ≢ n → at_name m (put n v es) ≡ at_name m es
+OtherNamesAreKept =
+    (es : Named Val) (n m : Name) (v : Val) → m ≢ n → at_name m (put n v es) ≡ at_name m es
 
 -- and names in byte order stay so
 abbrev pub PutKeepsOrder : Type 0

@@ -16,4 +16,6 @@ DivisionIsEuclids = (a b : ℤ) → b ≢ pos 0 → IsDivision a b (int_div_eucl
 
 -- and where the values of `//` and `%` are integers, they are these
 abbrev pub ValuesAreDivided : Type 0
-ValuesAreDivided = (a b q r : ℤ) → floor_div (int a) (int b) ≡ Ok (int q) → rem (int a) (int b) ≡ Ok (int r) → IsDivision a b q r
+ValuesAreDivided =
+    (a b q r : ℤ) → floor_div (int a) (int b) ≡ Ok (int q) → rem (int a) (int b) ≡ Ok (int r)
+    → IsDivision a b q r

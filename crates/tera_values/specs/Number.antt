@@ -48,7 +48,9 @@ remainder a b = unless_zero b (within (int_rem_euclid a b))
 
 -- the exact quotient, or a fault where it is not whole
 abbrev pub exact_quotient : ℤ → ℤ → Result Val Fault
-exact_quotient a b = unless_zero b (cond (int_eq (int_rem_euclid a b) (pos 0)) (within (int_div_euclid a b)) (Err message))
+exact_quotient a b =
+    unless_zero b
+    (cond (int_eq (int_rem_euclid a b) (pos 0)) (within (int_div_euclid a b)) (Err message))
 
 abbrev pub power : ℤ → ℤ → Result Val Fault
 power a (pos n) = within (int_pow a n)

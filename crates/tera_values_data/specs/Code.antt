@@ -5,7 +5,8 @@ use Rattle.std.proofs.Common.{◌∙◌, ap}
 use Rattle.tera_values_data.specs.Val.{Val, Vals, Entries, KeyVal, kbool, kint, ktext, undefined, none, bool, int, text, bytes, array, map, no_items, item, no_entries, entry}
 
 pub data Tag : Type 0 where
-  t_undefined t_none t_false t_true t_int t_text t_safe t_bytes t_array t_item t_map t_kfalse t_ktrue t_kint t_ktext : Tag
+  t_undefined t_none t_false t_true t_int t_text t_safe t_bytes : Tag
+  t_array t_item t_map t_kfalse t_ktrue t_kint t_ktext : Tag
 
 abbrev pub tag : ℕ → Tag
 tag zero = t_undefined
@@ -94,7 +95,8 @@ pub run-append : (ps qs : List Step) (s : List Val) → run (ps ++ qs) s ≡ run
 run-append [] qs s = refl
 run-append (p ∷ ps) qs s = run-append ps qs (step (tag p.0) p.1.0 p.1.1 s)
 
-pub run-key : (k : KeyVal) (v : Val) (es : Entries) (s : List Val) → run (key_step k ∷ []) (v ∷ map es ∷ s) ≡ map (entry k v es) ∷ s
+pub run-key : (k : KeyVal) (v : Val) (es : Entries) (s : List Val)
+    → run (key_step k ∷ []) (v ∷ map es ∷ s) ≡ map (entry k v es) ∷ s
 run-key (kbool false) v es s = refl
 run-key (kbool true) v es s = refl
 run-key (kint z) v es s = refl
@@ -117,13 +119,17 @@ mutual
   run-items no_items s = refl
   run-items (item v vs) s =
       run-append (item_steps vs ++ steps v) (bare 9 ∷ []) s
-      ∙ ap (run (bare 9 ∷ [])) (run-append (item_steps vs) (steps v) s ∙ ap (run (steps v)) (run-items vs s) ∙ run-steps v (array vs ∷ s))
+      ∙ ap (run (bare 9 ∷ []))
+      (run-append (item_steps vs) (steps v) s ∙ ap (run (steps v)) (run-items vs s)
+      ∙ run-steps v (array vs ∷ s))
 
   pub run-entries : (es : Entries) (s : List Val) → run (entry_steps es) s ≡ map es ∷ s
   run-entries no_entries s = refl
   run-entries (entry k v es) s =
       run-append (entry_steps es ++ steps v) (key_step k ∷ []) s
-      ∙ ap (run (key_step k ∷ [])) (run-append (entry_steps es) (steps v) s ∙ ap (run (steps v)) (run-entries es s) ∙ run-steps v (map es ∷ s))
+      ∙ ap (run (key_step k ∷ []))
+      (run-append (entry_steps es) (steps v) s ∙ ap (run (steps v)) (run-entries es s)
+      ∙ run-steps v (map es ∷ s))
       ∙ run-key k v es s
 
 pub top-steps : (v : Val) → top (run (steps v) []) ≡ v
@@ -139,7 +145,9 @@ abbrev pub key_of : Step → KeyVal
 key_of p = key_at (tag p.0) p.1.0 p.1.1
 
 abbrev pub val_code : Coded Val
-val_code = code_by (List Step) (coded_list (coded× coded_ℕ (coded× coded_ℤ (coded_list coded_ℕ)))) steps (λ ps. top (run ps [])) top-steps
+val_code =
+    code_by (List Step) (coded_list (coded× coded_ℕ (coded× coded_ℤ (coded_list coded_ℕ)))) steps
+    (λ ps. top (run ps [])) top-steps
 
 pub key_of-step : (k : KeyVal) → key_of (key_step k) ≡ k
 key_of-step (kbool false) = refl
@@ -148,7 +156,8 @@ key_of-step (kint z) = refl
 key_of-step (ktext t) = refl
 
 abbrev pub key_code : Coded KeyVal
-key_code = code_by Step (coded× coded_ℕ (coded× coded_ℤ (coded_list coded_ℕ))) key_step key_of key_of-step
+key_code =
+    code_by Step (coded× coded_ℕ (coded× coded_ℤ (coded_list coded_ℕ))) key_step key_of key_of-step
 
 abbrev pub entries_code : Coded (List (KeyVal × Val))
 entries_code = coded_list (coded× key_code val_code)

@@ -1,22 +1,23 @@
 -- The escapes of markup.
 use Rattle.std.specs.Prelude.{ℕ, List, [], ◌∷◌, cond, nat_eq, codes}
+use Rattle.std.specs.Str.{byte}
 use Rattle.tera_values_data.specs.Growth.{by_byte}
 
 -- what stands for one byte
 abbrev pub escape_byte : ℕ → List ℕ
 escape_byte b =
-    cond (nat_eq b 38) (codes "&amp;")
-    (cond (nat_eq b 60) (codes "&lt;")
-    (cond (nat_eq b 62) (codes "&gt;")
-    (cond (nat_eq b 34) (codes "&quot;")
-    (cond (nat_eq b 39) (codes "&#x27;") (b ∷ [])))))
+    cond (nat_eq b (byte "&")) (codes "&amp;")
+    (cond (nat_eq b (byte "<")) (codes "&lt;")
+    (cond (nat_eq b (byte ">")) (codes "&gt;")
+    (cond (nat_eq b (byte "\"")) (codes "&quot;")
+    (cond (nat_eq b (byte "'")) (codes "&#x27;") (b ∷ [])))))
 
 abbrev pub escape_html : List ℕ → List ℕ
 escape_html = by_byte escape_byte
 
 -- what stands for one byte in XML, where the apostrophe has a name
 abbrev pub escape_xml_byte : ℕ → List ℕ
-escape_xml_byte b = cond (nat_eq b 39) (codes "&apos;") (escape_byte b)
+escape_xml_byte b = cond (nat_eq b (byte "'")) (codes "&apos;") (escape_byte b)
 
 abbrev pub escape_xml : List ℕ → List ℕ
 escape_xml = by_byte escape_xml_byte

@@ -30,9 +30,12 @@ entries_below : (es : List Entry) → most deep-Entry es ≤ entries_size (entri
 entries_below [] = omega arith
 entries_below (e ∷ es) = omega (arith, entries_below es)
 
-pub entries_fall : (es : List Entry) → max (most deep-Entry es) 0 ≤ entries_size (entries (entry_views es))
+pub entries_fall : (es : List Entry)
+    → max (most deep-Entry es) 0 ≤ entries_size (entries (entry_views es))
 entries_fall es = omega (arith, entries_below es)
 
-pub table_falls : (alloc : Global) (table : Option (Box (List (KeyVal × Val)) Global)) → deep-Map (record { alloc = alloc; table = table }) ≤ entries_size (entries (boxed_entries table)) + 1
+pub table_falls : (alloc : Global) (table : Option (Box (List (KeyVal × Val)) Global))
+    → deep-Map (record { alloc = alloc; table = table }) ≤ entries_size
+    (entries (boxed_entries table)) + 1
 table_falls alloc None = omega arith
 table_falls alloc (Some table) = omega arith

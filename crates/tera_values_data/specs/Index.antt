@@ -16,8 +16,10 @@ nth_key by_key es p = key_at es (slice_index_or by_key p 0)
 -- Every place of an entry stands in by_key, nothing else does, and the keys rise along it.
 pub record IsIndex (by_key : List ℕ) (es : List (KeyVal × Val)) : Type 0 where
   pub below : (p : ℕ) → p < length by_key → slice_index_or by_key p 0 < length es
-  pub rising : (p q : ℕ) → p < q → q < length by_key → key_cmp (nth_key by_key es p) (nth_key by_key es q) ≡ Less
-  pub reached : (i : ℕ) → i < length es → (p : ℕ) × (p < length by_key) × (slice_index_or by_key p 0 ≡ i)
+  pub rising : (p q : ℕ) → p < q → q < length by_key
+      → key_cmp (nth_key by_key es p) (nth_key by_key es q) ≡ Less
+  pub reached : (i : ℕ) → i < length es
+      → (p : ℕ) × (p < length by_key) × (slice_index_or by_key p 0 ≡ i)
 
 -- the key stands p-th
 pub record IsAt (by_key : List ℕ) (es : List (KeyVal × Val)) (k : KeyVal) (p : ℕ) : Type 0 where
@@ -28,7 +30,8 @@ pub record IsAt (by_key : List ℕ) (es : List (KeyVal × Val)) (k : KeyVal) (p 
 pub record IsGapFor (by_key : List ℕ) (es : List (KeyVal × Val)) (k : KeyVal) (p : ℕ) : Type 0 where
   pub in_range : p ≤ length by_key
   pub smaller_before : (j : ℕ) → j < p → key_cmp (nth_key by_key es j) k ≡ Less
-  pub greater_after : (j : ℕ) → p ≤ j → j < length by_key → key_cmp (nth_key by_key es j) k ≡ Greater
+  pub greater_after : (j : ℕ) → p ≤ j → j < length by_key
+      → key_cmp (nth_key by_key es j) k ≡ Greater
 
 -- no two entries have one key
 abbrev pub IsDistinct : List (KeyVal × Val) → Type 0

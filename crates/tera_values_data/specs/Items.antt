@@ -49,14 +49,16 @@ abbrev pub byte_at : {C : Type 0} → Option ℕ → List ℕ → ValOf C
 byte_at None bs = undefined
 byte_at (Some i) bs = byte_or_undefined (slice_get bs i)
 
-abbrev pub found_at : {C : Type 0} → Result KeyVal Fault → List (KeyVal × ValOf C) → Result (ValOf C) Fault
+abbrev pub found_at : {C : Type 0} → Result KeyVal Fault → List (KeyVal × ValOf C)
+    → Result (ValOf C) Fault
 found_at (Ok k) es = Ok (or_undefined (find k es))
 found_at (Err f) es = Err f
 
 abbrev pub get_item_in : {C : Type 0} → Alphabet C → ValOf C → ValOf C → Result (ValOf C) Fault
 get_item_in a (map es) i = found_at (key_in a i) (pairs es)
 get_item_in a (array vs) (int z) = Ok (item_at (place_of z (length (list_of vs))) (list_of vs))
-get_item_in a (text t s) (int z) = Ok (char_from_in a (place_of z (length (chars (a.seen t)))) (chars (a.seen t)))
+get_item_in a (text t s) (int z) =
+    Ok (char_from_in a (place_of z (length (chars (a.seen t)))) (chars (a.seen t)))
 get_item_in a (bytes t) (int z) = Ok (byte_at (place_of z (length t)) t)
 get_item_in a v i = Err message
 

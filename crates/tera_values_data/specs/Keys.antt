@@ -27,4 +27,7 @@ key_bytes (kint z) = []
 key_bytes (ktext t) = t
 
 abbrev pub key_cmp : KeyVal → KeyVal → Ordering
-key_cmp = then_cmp (on key_rank nat_cmp) (then_cmp (on key_bool bool_cmp) (then_cmp (on key_number int_cmp) (on key_bytes (slice_cmp nat_cmp))))
+key_cmp =
+    then_cmp (on key_rank nat_cmp)
+    (then_cmp (on key_bool bool_cmp)
+    (then_cmp (on key_number int_cmp) (on key_bytes (slice_cmp nat_cmp))))

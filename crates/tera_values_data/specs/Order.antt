@@ -26,7 +26,8 @@ by_answer Greater a b c = c
 -- an entry put among entries in key order, in place of one of its key
 abbrev pub put : KeyVal → Val → Entries → Entries
 put k v no_entries = entry k v no_entries
-put k v (entry j w es) = by_answer (key_cmp k j) (entry k v (entry j w es)) (entry k v es) (entry j w (put k v es))
+put k v (entry j w es) =
+    by_answer (key_cmp k j) (entry k v (entry j w es)) (entry k v es) (entry j w (put k v es))
 
 -- a value without its marks, and with the entries of each map in key order
 abbrev mutual
@@ -69,7 +70,8 @@ abbrev mutual
   entries_cmp no_entries no_entries = Equal
   entries_cmp no_entries (entry j w fs) = Less
   entries_cmp (entry k v es) no_entries = Greater
-  entries_cmp (entry k v es) (entry j w fs) = ordering_then (key_cmp k j) (ordering_then (content_cmp v w) (entries_cmp es fs))
+  entries_cmp (entry k v es) (entry j w fs) =
+      ordering_then (key_cmp k j) (ordering_then (content_cmp v w) (entries_cmp es fs))
 
 abbrev pub order : Val → Val → Ordering
 order = on plain content_cmp
@@ -81,7 +83,8 @@ same = eq_by_cmp order
 abbrev pub pair_order : KeyVal × Val → KeyVal × Val → Ordering
 pair_order a b = ordering_then (key_cmp a.0 b.0) (order a.1 b.1)
 
--- Two values of one kind that has an order, and arrays whose pairs of items are comparable up to and with the first unequal one.
+-- Two values of one kind that has an order, and arrays whose pairs of items are comparable up to
+-- and with the first unequal one.
 abbrev mutual
   pub comparable : Val → Val → Bool
   comparable (bool a) (bool b) = true
@@ -94,11 +97,13 @@ abbrev mutual
   pub comparable_items : Vals → Vals → Bool
   comparable_items no_items b = true
   comparable_items (item v vs) no_items = true
-  comparable_items (item v vs) (item w ws) = cond (comparable v w) (cond (same v w) (comparable_items vs ws) true) false
+  comparable_items (item v vs) (item w ws) =
+      cond (comparable v w) (cond (same v w) (comparable_items vs ws) true) false
 
 -- how a value stands to another, where the two are comparable
 abbrev pub checked_order : Val → Val → Option Ordering
 checked_order v w = cond (comparable v w) (Some (order v w)) None
 
 abbrev pub checked_items : List Val → List Val → Option Ordering
-checked_items vs ws = cond (comparable_items (vals vs) (vals ws)) (Some (slice_cmp order vs ws)) None
+checked_items vs ws =
+    cond (comparable_items (vals vs) (vals ws)) (Some (slice_cmp order vs ws)) None

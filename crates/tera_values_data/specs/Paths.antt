@@ -1,11 +1,12 @@
 -- Paths: pieces between full stops, each a text key of a map or the digits of a place in an array.
 use Rattle.std.specs.Prelude.{ℕ, ◌+◌, ◌-◌, ◌*◌, ◌&&◌, Bool, true, cond, nat_lt, nat_le, eqb, List, [], ◌∷◌, length, slice_get, Option, Some, None}
 use Rattle.std.specs.List.{slice_split}
+use Rattle.std.specs.Str.{byte}
 use Rattle.tera_values_data.specs.Val.{Val, ktext, array, map, list_of}
 use Rattle.tera_values_data.specs.Access.{find, pairs}
 
 abbrev pub is_digit : ℕ → Bool
-is_digit b = nat_le 48 b && nat_le b 57
+is_digit b = nat_le (byte "0") b && nat_le b (byte "9")
 
 abbrev pub all_digits : List ℕ → Bool
 all_digits [] = true
@@ -14,12 +15,14 @@ all_digits (b ∷ bs) = is_digit b && all_digits bs
 -- the number whose digits are n's and then these
 abbrev pub number : ℕ → List ℕ → ℕ
 number n [] = n
-number n (b ∷ bs) = number (n * 10 + (b - 48)) bs
+number n (b ∷ bs) = number (n * 10 + (b - byte "0")) bs
 
 -- the place that one digit or more name among n items
 abbrev pub place_named : List ℕ → ℕ → Option ℕ
 place_named [] n = None
-place_named (b ∷ bs) n = cond (all_digits (b ∷ bs)) (cond (nat_lt (number 0 (b ∷ bs)) n) (Some (number 0 (b ∷ bs))) None) None
+place_named (b ∷ bs) n =
+    cond (all_digits (b ∷ bs))
+    (cond (nat_lt (number 0 (b ∷ bs)) n) (Some (number 0 (b ∷ bs))) None) None
 
 abbrev pub item_named : Option ℕ → List Val → Option Val
 item_named None vs = None
@@ -40,4 +43,4 @@ walk [] v = v
 walk (p ∷ ps) v = walk ps (then_step p v)
 
 abbrev pub from_path : List ℕ → Val → Option Val
-from_path p v = walk (slice_split (λ b. eqb b 46) p) (Some v)
+from_path p v = walk (slice_split (λ b. eqb b (byte ".")) p) (Some v)

@@ -2,6 +2,7 @@
 use Rattle.std.specs.Prelude.{ℕ, Bool, true, false, cond, List, [], ◌∷◌, ◌++◌, codes, nat_eq}
 use Rattle.std.specs.Fmt.{signed_decimal}
 use Rattle.std.specs.Str.Lossy.{utf8_lossy}
+use Rattle.std.specs.Str.{byte}
 use Rattle.tera_values_data.specs.Alphabet.{Alphabet, plain, made}
 use Rattle.tera_values_data.specs.Growth.{by_byte}
 use Rattle.tera_values_data.specs.Val.{Val, ValOf, Vals, ValsOf, Entries, EntriesOf, KeyVal, kbool, kint, ktext, undefined, none, bool, int, text, bytes, array, map, no_items, item, no_entries, entry}
@@ -13,17 +14,17 @@ bool_text false = codes "false"
 -- one byte of a quoted text
 abbrev pub quoted_byte : ℕ → List ℕ
 quoted_byte b =
-    cond (nat_eq b 92) (92 ∷ 92 ∷ [])
-    (cond (nat_eq b 34) (92 ∷ 34 ∷ [])
-    (cond (nat_eq b 10) (92 ∷ 110 ∷ [])
-    (cond (nat_eq b 13) (92 ∷ 114 ∷ [])
-    (cond (nat_eq b 9) (92 ∷ 116 ∷ []) (b ∷ [])))))
+    cond (nat_eq b (byte "\\")) (codes "\\\\")
+    (cond (nat_eq b (byte "\"")) (codes "\\\"")
+    (cond (nat_eq b (byte "\n")) (codes "\\n")
+    (cond (nat_eq b (byte "\r")) (codes "\\r")
+    (cond (nat_eq b (byte "\t")) (codes "\\t") (b ∷ [])))))
 
 abbrev pub escaped : List ℕ → List ℕ
 escaped = by_byte quoted_byte
 
 abbrev pub quoted : List ℕ → List ℕ
-quoted t = 34 ∷ escaped t ++ 34 ∷ []
+quoted t = codes "\"" ++ escaped t ++ codes "\""
 
 abbrev pub key_text : KeyVal → List ℕ
 key_text (kbool b) = bool_text b
@@ -43,7 +44,8 @@ module _ {C : Type 0} (a : Alphabet C) where
     inside_of (array no_items) = codes "[]"
     inside_of (array (item v vs)) = codes "[" ++ inside_of v ++ rest_inside_of vs ++ codes "]"
     inside_of (map no_entries) = codes "{}"
-    inside_of (map (entry k v es)) = codes "{" ++ key_text k ++ codes ": " ++ inside_of v ++ pairs_inside_of es ++ codes "}"
+    inside_of (map (entry k v es)) =
+        codes "{" ++ key_text k ++ codes ": " ++ inside_of v ++ pairs_inside_of es ++ codes "}"
 
     pub rest_inside_of : ValsOf C → List ℕ
     rest_inside_of no_items = []
@@ -51,7 +53,8 @@ module _ {C : Type 0} (a : Alphabet C) where
 
     pub pairs_inside_of : EntriesOf C → List ℕ
     pairs_inside_of no_entries = []
-    pairs_inside_of (entry k v es) = codes ", " ++ key_text k ++ codes ": " ++ inside_of v ++ pairs_inside_of es
+    pairs_inside_of (entry k v es) =
+        codes ", " ++ key_text k ++ codes ": " ++ inside_of v ++ pairs_inside_of es
 
   abbrev pub printed_of : ValOf C → List C
   printed_of undefined = []

@@ -17,7 +17,9 @@ EqualityIsByContent = (v w : Val) → (same v w ≡ true) ↔ (plain v ≡ plain
 
 -- maps are equal where each key finds equal values
 abbrev pub MapsAreFinite : Type 0
-MapsAreFinite = (es fs : List (KeyVal × Val)) → (same (map (entries es)) (map (entries fs)) ≡ true) ↔ FindsSame es fs
+MapsAreFinite =
+    (es fs : List (KeyVal × Val))
+    → (same (map (entries es)) (map (entries fs)) ≡ true) ↔ FindsSame es fs
 
 abbrev pub ComparableIsSymmetric : Type 0
 ComparableIsSymmetric = (v w : Val) → comparable v w ≡ comparable w v
@@ -28,8 +30,11 @@ TextsPrintThemselves = (t : List ℕ) (safe : Bool) → printed (text t safe) �
 
 -- a key finds what was put at it last
 abbrev pub InsertedIsFound : Type 0
-InsertedIsFound = (es : List (KeyVal × Val)) (k : KeyVal) (v : Val) → find k (insert_pair es k v) ≡ Some v
+InsertedIsFound =
+    (es : List (KeyVal × Val)) (k : KeyVal) (v : Val) → find k (insert_pair es k v) ≡ Some v
 
 -- and every other key what it found before
 abbrev pub OthersAreKept : Type 0
-OthersAreKept = (es : List (KeyVal × Val)) (k j : KeyVal) (v : Val) → key_eq j k ≢ true → find j (insert_pair es k v) ≡ find j es
+OthersAreKept =
+    (es : List (KeyVal × Val)) (k j : KeyVal) (v : Val) → key_eq j k ≢ true
+    → find j (insert_pair es k v) ≡ find j es

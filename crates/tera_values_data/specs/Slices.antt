@@ -8,7 +8,8 @@ use Rattle.tera_values_data.specs.Val.{Val, ValOf, Vals, KeyVal, undefined, text
 use Rattle.tera_values_data.specs.Access.{find, pairs, key_of}
 use Rattle.tera_values_data.specs.Order.{same}
 
--- how many of n items stand before the place that a number names; a negative one counts from the end
+-- how many of n items stand before the place that a number names; a negative one counts from the
+-- end
 abbrev pub before : ℕ → ℤ → ℕ
 before n (pos k) = min k n
 before n (negsuc k) = n - suc k
@@ -27,15 +28,18 @@ abbrev pub upward : ℕ → ℕ → ℕ → ℕ → List ℕ
 upward zero a end step = []
 upward (suc n) a end step = cond (nat_lt a end) (a ∷ upward n (a + step) end step) []
 
--- the place after which a stand, that after which a - step stand, .. while more than the end stand there, and n places at most
+-- the place after which a stand, that after which a - step stand, .. while more than the end stand
+-- there, and n places at most
 abbrev pub downward : ℕ → ℕ → ℕ → ℕ → List ℕ
 downward zero a end step = []
 downward (suc n) a end step = cond (nat_lt end a) ((a - 1) ∷ downward n (a - step) end step) []
 
--- the places of a slice of n items, by a step that is not 0: from the start on, and the end is not among them
+-- the places of a slice of n items, by a step that is not 0: from the start on, and the end is not
+-- among them
 abbrev pub places : Option ℤ → Option ℤ → ℤ → ℕ → List ℕ
 places start end (pos step) n = upward n (bound (before n) 0 start) (bound (before n) n end) step
-places start end (negsuc k) n = downward n (bound (through n) n start) (bound (through n) 0 end) (suc k)
+places start end (negsuc k) n =
+    downward n (bound (through n) n start) (bound (through n) 0 end) (suc k)
 
 abbrev pub picked_items : {C : Type 0} → List ℕ → List (ValOf C) → List (ValOf C)
 picked_items ps vs = map_list (λ p. slice_index_or vs p undefined) ps
@@ -48,9 +52,16 @@ abbrev pub unless_still : {C : Type 0} → ℤ → ValOf C → Result (ValOf C) 
 unless_still step v = cond (int_eq step (pos 0)) (Err message) (Ok v)
 
 -- the items or characters from the start to the end, by the step, which is 1 where none is given
-abbrev pub slice_in : {C : Type 0} → Alphabet C → Option ℤ → Option ℤ → Option ℤ → ValOf C → Result (ValOf C) Fault
-slice_in a start end step (array vs) = let by = unwrap_or step (pos 1) in unless_still by (array (vals (picked_items (places start end by (length (list_of vs))) (list_of vs))))
-slice_in a start end step (text t s) = let by = unwrap_or step (pos 1) in unless_still by (text (a.spelled made (encode_utf8_all (picked_chars (places start end by (length (chars (a.seen t)))) (chars (a.seen t))))) false)
+abbrev pub slice_in : {C : Type 0} → Alphabet C → Option ℤ → Option ℤ → Option ℤ → ValOf C
+    → Result (ValOf C) Fault
+slice_in a start end step (array vs) = let by = unwrap_or step (pos 1) in
+    unless_still by
+    (array (vals (picked_items (places start end by (length (list_of vs))) (list_of vs))))
+slice_in a start end step (text t s) = let by = unwrap_or step (pos 1) in
+    unless_still by
+    (text (a.spelled made
+    (encode_utf8_all
+    (picked_chars (places start end by (length (chars (a.seen t)))) (chars (a.seen t))))) false)
 slice_in a start end step v = Err message
 
 abbrev pub slice : Option ℤ → Option ℤ → Option ℤ → Val → Result Val Fault
@@ -59,7 +70,8 @@ slice = slice_in plain
 -- the last item or character first
 abbrev pub reversed_in : {C : Type 0} → Alphabet C → ValOf C → Result (ValOf C) Fault
 reversed_in a (array vs) = Ok (array (vals (reverse_list (list_of vs))))
-reversed_in a (text t s) = Ok (text (a.spelled made (encode_utf8_all (reverse_list (chars (a.seen t))))) false)
+reversed_in a (text t s) =
+    Ok (text (a.spelled made (encode_utf8_all (reverse_list (chars (a.seen t))))) false)
 reversed_in a v = Err message
 
 abbrev pub reversed : Val → Result Val Fault

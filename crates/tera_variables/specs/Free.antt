@@ -38,7 +38,8 @@ abbrev mutual
   expr_free (Name n span) = only n
   expr_free (Attribute e n optional span) = expr_free e
   expr_free (Index a b optional span) = expr_free a ∪ expr_free b
-  expr_free (Slice e a b c optional span) = expr_free e ∪ (optional_free a ∪ (optional_free b ∪ optional_free c))
+  expr_free (Slice e a b c optional span) =
+      expr_free e ∪ (optional_free a ∪ (optional_free b ∪ optional_free c))
   expr_free (Not e span) = expr_free e
   expr_free (Negate e span) = expr_free e
   expr_free (Binary op a b span) = expr_free a ∪ expr_free b
@@ -47,7 +48,8 @@ abbrev mutual
   expr_free (Ternary v c o span) = expr_free v ∪ (expr_free c ∪ expr_free o)
   expr_free (Array all span) = items_free all
   expr_free (Map all span) = entries_free all
-  expr_free (Comprehension v key n e c span) = ((expr_free v ∪ optional_free c) ∖ loop_names key n) ∪ expr_free e
+  expr_free (Comprehension v key n e c span) =
+      ((expr_free v ∪ optional_free c) ∖ loop_names key n) ∪ expr_free e
   expr_free (Super all span) = arguments_free all
   expr_free (Filter e n all span) = expr_free e ∪ arguments_free all
   expr_free (Test e n all span) = expr_free e ∪ arguments_free all
@@ -74,19 +76,22 @@ abbrev pub filters_free : Filters → Names
 filters_free NoFilters = nobody
 filters_free (MoreFilters n all span rest) = arguments_free all ∪ filters_free rest
 
--- What setting a name binds behind it, or, where it stands in a loop's body, behind that loop: there what `set` binds has ended, and
+-- What setting a name binds behind it, or, where it stands in a loop's body, behind that loop:
+-- there what `set` binds has ended, and
 -- what `set_global` binds has not.
 abbrev pub set_binds : Bool → Bool → site.Name → Names
 set_binds in_loop is_global n = if is_global || not in_loop then only n else nobody
 
--- The names that are bound behind nodes, or behind the loop in whose body they stand. A component keeps to itself what it sets.
+-- The names that are bound behind nodes, or behind the loop in whose body they stand. A component
+-- keeps to itself what it sets.
 abbrev mutual
   pub node_binds : Bool → Node → Names
   node_binds in_loop (Content t span) = nobody
   node_binds in_loop (Print e) = nobody
   node_binds in_loop (If c body other) = binds in_loop body ∪ binds in_loop other
   node_binds in_loop (Set n e is_global) = set_binds in_loop is_global n
-  node_binds in_loop (Capture n fs body is_global) = set_binds in_loop is_global n ∪ binds in_loop body
+  node_binds in_loop (Capture n fs body is_global) =
+      set_binds in_loop is_global n ∪ binds in_loop body
   node_binds in_loop (FilterSection fs body) = binds in_loop body
   node_binds in_loop (For key n e body other) = binds true body ∪ binds in_loop other
   node_binds in_loop (Block n body span) = binds in_loop body
@@ -100,7 +105,8 @@ abbrev mutual
   binds in_loop NoNodes = nobody
   binds in_loop (MoreNodes n rest) = node_binds in_loop n ∪ binds in_loop rest
 
--- The names that nodes look up and that nothing binds which stands before in the text, or around. Components are no part of the
+-- The names that nodes look up and that nothing binds which stands before in the text, or around.
+-- Components are no part of the
 -- text around them.
 abbrev mutual
   pub node_free : Node → Names
@@ -110,7 +116,8 @@ abbrev mutual
   node_free (Set n e is_global) = expr_free e
   node_free (Capture n fs body is_global) = filters_free fs ∪ free body
   node_free (FilterSection fs body) = filters_free fs ∪ free body
-  node_free (For key n e body other) = expr_free e ∪ ((free body ∖ loop_names key n) ∪ (free other ∖ binds true body))
+  node_free (For key n e body other) =
+      expr_free e ∪ ((free body ∖ loop_names key n) ∪ (free other ∖ binds true body))
   node_free (Block n body span) = free body
   node_free (Include n span) = nobody
   node_free (ComponentCall n all body span) = entries_free all ∪ free body

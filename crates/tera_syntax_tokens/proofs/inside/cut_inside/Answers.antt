@@ -1,7 +1,7 @@
 use Rattle.std.proofs.Common.{◌≡◌, ◌+◌, ◌<◌, drop, length, ap, sym, ◌∙◌, Some, None, ◌++◌, [], ◌∷◌, arith, append-nil}
 use Rattle.tera_syntax_tokens.specs.Token.{token_of, tokens_of}
 use Rattle.tera_syntax_tokens.specs.Inside.{inside, closing_in, open_after, prefixed}
-use Rattle.tera_syntax_tokens.proofs.Tokens.{token_size}
+use Rattle.tera_syntax_tokens.proofs.Sizes.{token_size}
 use Rattle.tera_syntax_tokens.proofs.Insides.{ends_here, passes_blank, no_token, takes_token, prefixed-append, ending_boundary, none_from, tokens_of-push, nothing, closing_found}
 use Rattle.std.proofs.lemmas.List.{length-drop, drop_all}
 use Rattle.tera_syntax_tokens.proofs.inside.cut_inside.Goals as goal

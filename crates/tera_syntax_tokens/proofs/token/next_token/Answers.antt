@@ -1,6 +1,6 @@
 use Rattle.std.proofs.Common.{◌≡◌, ◌+◌, ◌-◌, drop, take, Some, None, ◌∙◌, ap, refl, arith}
 use Rattle.tera_syntax_tokens.specs.Token.{measured}
-use Rattle.tera_syntax_tokens.proofs.Tokens.{no_token, a_token, start_boundary, end_boundary, end_le}
+use Rattle.tera_syntax_tokens.proofs.Sizes.{no_token, a_token, start_boundary, end_boundary, end_le}
 use Rattle.tera_syntax_tokens.proofs.token.next_token.Goals as goal
 
 pub returns-in-None : goal.returns-in-None

@@ -1,6 +1,6 @@
 use Rattle.std.proofs.Common.{false, sym, ◌∙◌}
 use Rattle.tera_syntax_tokens.specs.Token.{quoted}
-use Rattle.tera_syntax_tokens.proofs.Tokens.{quote_closes, quote_goes_on, quote_ends}
+use Rattle.tera_syntax_tokens.proofs.Sizes.{quote_closes, quote_goes_on, quote_ends}
 use Rattle.tera_syntax_tokens.proofs.token.quoted_len.Goals as goal
 
 pub returns-then-is_free-clause-value : goal.returns-then-is_free-clause-value

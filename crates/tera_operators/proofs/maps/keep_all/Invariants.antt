@@ -1,6 +1,0 @@
-use Rattle.std.proofs.Common.{◌≡◌, drop}
-use Rattle.tera_operators.specs.Literals.{kept}
-use Rattle.tera_operators.proofs.maps.keep_all.Given as goal
-
-abbrev pub invariant-loop-place : goal.invariant-loop-place
-invariant-loop-place l = kept l.initial.all l.more ≡ kept l.all (drop l.place l.more)

@@ -154,20 +154,20 @@ called_on f names None c = Sticks
 called_on f names (Some (all, [])) c = Sticks
 called_on f names (Some (all, a ∷ rest)) c = outcome (f a (zip names all)) rest c
 
+abbrev pub on_target : (Evaluated → List (site.Name × Evaluated) → Outcome) → List site.Name
+    → Config → Did
+on_target f names c = called_on f names (topmost (length names) c.operands) c
+
 -- what an object sees is the variables where the instruction stands
 abbrev pub filter_called : Here → site.Name → List site.Name → Span → Config → Did
 filter_called here name names span c =
-    called_on
-    (λ a given.
-    filter_applied_by here.file (filtered_at plain here c.run.vars name) a given span) names
-    (topmost (length names) c.operands) c
+    let filter = filtered_at plain here c.run.vars name in
+    on_target (λ a given. filter_applied_by here.file filter a given span) names c
 
 abbrev pub test_called : Here → site.Name → List site.Name → Span → Config → Did
 test_called here name names span c =
-    called_on
-    (λ a given.
-    test_applied_by here.file (tested_at plain here c.run.vars name) a given span) names
-    (topmost (length names) c.operands) c
+    let test = tested_at plain here c.run.vars name in
+    on_target (λ a given. test_applied_by here.file test a given span) names c
 
 abbrev pub function_answered : Here → site.Name → List site.Name → Span → Config → Did
 function_answered here name names span c =

@@ -45,19 +45,19 @@ module _ {C : Type 0} (alphabet : Alphabet C) where
       then (placed file (alphabet.answers (negate (alphabet.bare a.value))) a.span)
       (λ v. at_span v a.span)
 
+  -- what comes of the two values, as an operand
+  abbrev pub answered_in : Name → (Val → Val → Result Val Fault) → EvaluatedOf C → EvaluatedOf C
+      → OutcomeOf C
+  answered_in file f a b =
+      combined file a b (alphabet.answers (f (alphabet.bare a.value) (alphabet.bare b.value)))
+
   abbrev pub calculated_in : Name → (Val → Val → Result Val Fault) → EvaluatedOf C → EvaluatedOf C
       → OutcomeOf C
-  calculated_in file f a b =
-      then (numbers file a b)
-      (λ mn. combined file a b
-      (alphabet.answers (f (alphabet.bare a.value) (alphabet.bare b.value))))
+  calculated_in file f a b = then (numbers file a b) (λ mn. answered_in file f a b)
 
   abbrev pub divided_in : Name → (Val → Val → Result Val Fault) → EvaluatedOf C → EvaluatedOf C
       → OutcomeOf C
-  divided_in file f a b =
-      then (divisor_of file a b)
-      (λ n. combined file a b
-      (alphabet.answers (f (alphabet.bare a.value) (alphabet.bare b.value))))
+  divided_in file f a b = then (divisor_of file a b) (λ n. answered_in file f a b)
 
   -- how the left operand stands to the right one, where the two are comparable
   abbrev pub standing_in : Name → EvaluatedOf C → EvaluatedOf C → Result Ordering Fault

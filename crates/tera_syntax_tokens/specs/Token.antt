@@ -48,41 +48,38 @@ quoted quote escaped (b ∷ bs) =
     else option_map suc (quoted quote (not escaped && b == byte "\\") bs)
 
 -- the signs of two bytes
-abbrev pub pair : ℕ → ℕ → Option Kind
-pair b c =
-    if b == byte "=" && c == byte "=" then Some k.Equal else (
-    if b == byte "!" && c == byte "=" then Some k.NotEqual else (
-    if b == byte "<" && c == byte "=" then Some k.LessOrEqual else (
-    if b == byte ">" && c == byte "=" then Some k.GreaterOrEqual else (
-    if b == byte "*" && c == byte "*" then Some k.Power else (
-    if b == byte "/" && c == byte "/" then Some k.FloorSlash else (
-    if b == byte "/" && c == byte ">" then Some k.TagEnd else (
-    if b == byte "?" && c == byte "." then Some k.OptionalDot else (
-    if b == byte "?" && c == byte "[" then Some k.OptionalBracket else None))))))))
+abbrev pub pairs : List (Text × Kind)
+pairs =
+    (codes "==", k.Equal) ∷ (codes "!=", k.NotEqual)
+    ∷ (codes "<=", k.LessOrEqual) ∷ (codes ">=", k.GreaterOrEqual)
+    ∷ (codes "**", k.Power) ∷ (codes "//", k.FloorSlash) ∷ (codes "/>", k.TagEnd)
+    ∷ (codes "?.", k.OptionalDot) ∷ (codes "?[", k.OptionalBracket) ∷ []
 
 -- the signs of one byte
+abbrev pub singles : List (ℕ × Kind)
+singles =
+    (byte "<", k.Less) ∷ (byte ">", k.Greater)
+    ∷ (byte "+", k.Plus) ∷ (byte "-", k.Minus) ∷ (byte "*", k.Star) ∷ (byte "/", k.Slash)
+    ∷ (byte "%", k.Percent) ∷ (byte "~", k.Tilde) ∷ (byte "|", k.Bar) ∷ (byte ".", k.Dot)
+    ∷ (byte "[", k.LeftBracket) ∷ (byte "]", k.RightBracket)
+    ∷ (byte "(", k.LeftParenthesis) ∷ (byte ")", k.RightParenthesis)
+    ∷ (byte "{", k.LeftBrace) ∷ (byte "}", k.RightBrace)
+    ∷ (byte ",", k.Comma) ∷ (byte ":", k.Colon) ∷ (byte "=", k.Assign) ∷ (byte "@", k.At) ∷ []
+
+abbrev pub pair_in : List (Text × Kind) → ℕ → ℕ → Option Kind
+pair_in [] b c = None
+pair_in (row ∷ rows) b c =
+    if b == get_or row.0 0 0 && c == get_or row.0 1 0 then Some row.1 else pair_in rows b c
+
+abbrev pub pair : ℕ → ℕ → Option Kind
+pair = pair_in pairs
+
+abbrev pub single_in : List (ℕ × Kind) → ℕ → Option Kind
+single_in [] b = None
+single_in (row ∷ rows) b = if b == row.0 then Some row.1 else single_in rows b
+
 abbrev pub single : ℕ → Option Kind
-single b =
-    if b == byte "<" then Some k.Less else (
-    if b == byte ">" then Some k.Greater else (
-    if b == byte "+" then Some k.Plus else (
-    if b == byte "-" then Some k.Minus else (
-    if b == byte "*" then Some k.Star else (
-    if b == byte "/" then Some k.Slash else (
-    if b == byte "%" then Some k.Percent else (
-    if b == byte "~" then Some k.Tilde else (
-    if b == byte "|" then Some k.Bar else (
-    if b == byte "." then Some k.Dot else (
-    if b == byte "[" then Some k.LeftBracket else (
-    if b == byte "]" then Some k.RightBracket else (
-    if b == byte "(" then Some k.LeftParenthesis else (
-    if b == byte ")" then Some k.RightParenthesis else (
-    if b == byte "{" then Some k.LeftBrace else (
-    if b == byte "}" then Some k.RightBrace else (
-    if b == byte "," then Some k.Comma else (
-    if b == byte ":" then Some k.Colon else (
-    if b == byte "=" then Some k.Assign else (
-    if b == byte "@" then Some k.At else None)))))))))))))))))))
+single = single_in singles
 
 abbrev pub of_size : ℕ → Option Kind → Option Measure
 of_size n None = None

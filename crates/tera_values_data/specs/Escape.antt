@@ -1,16 +1,18 @@
 -- The escapes of markup.
 use Rattle.std.specs.Prelude.{ℕ, List, [], ◌∷◌, cond, nat_eq, codes}
 use Rattle.std.specs.Str.{byte}
-use Rattle.tera_values_data.specs.Growth.{by_byte}
+use Rattle.tera_values_data.specs.Growth.{by_byte, form_in}
 
 -- what stands for one byte
 abbrev pub escape_byte : ℕ → List ℕ
-escape_byte b =
-    cond (nat_eq b (byte "&")) (codes "&amp;")
-    (cond (nat_eq b (byte "<")) (codes "&lt;")
-    (cond (nat_eq b (byte ">")) (codes "&gt;")
-    (cond (nat_eq b (byte "\"")) (codes "&quot;")
-    (cond (nat_eq b (byte "'")) (codes "&#x27;") (b ∷ [])))))
+escape_byte =
+    form_in (
+    (byte "&", codes "&amp;")
+    ∷ (byte "<", codes "&lt;")
+    ∷ (byte ">", codes "&gt;")
+    ∷ (byte "\"", codes "&quot;")
+    ∷ (byte "'", codes "&#x27;")
+    ∷ [])
 
 abbrev pub escape_html : List ℕ → List ℕ
 escape_html = by_byte escape_byte

@@ -1,5 +1,5 @@
 -- Texts that only grow, and texts in which bytes stand in other forms.
-use Rattle.std.specs.Prelude.{◌≡◌, ℕ, ◌<◌, ◌≤◌, Bool, false, ◌||◌, nat_eq, List, [], ◌∷◌, ◌++◌, Option, Some, None, slice_index_or}
+use Rattle.std.specs.Prelude.{◌≡◌, ℕ, ◌<◌, ◌≤◌, Bool, false, ◌||◌, cond, nat_eq, List, [], ◌∷◌, ◌++◌, Option, Some, None, slice_index_or}
 
 -- what was there is still there, with more after it
 pub record Keeps (old new : List ℕ) : Type 0 where
@@ -10,6 +10,11 @@ pub record Keeps (old new : List ℕ) : Type 0 where
 abbrev pub by_byte : (ℕ → List ℕ) → List ℕ → List ℕ
 by_byte form [] = []
 by_byte form (b ∷ bs) = form b ++ by_byte form bs
+
+-- the form of a byte in a table, or else the byte itself
+abbrev pub form_in : List (ℕ × List ℕ) → ℕ → List ℕ
+form_in [] b = b ∷ []
+form_in (row ∷ rows) b = cond (nat_eq b row.0) row.1 (form_in rows b)
 
 -- a form of its own, or the byte itself
 abbrev pub form_or_byte : ℕ → Option (List ℕ) → List ℕ

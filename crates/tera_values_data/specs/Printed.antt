@@ -4,7 +4,7 @@ use Rattle.std.specs.Fmt.{signed_decimal}
 use Rattle.std.specs.Str.Lossy.{utf8_lossy}
 use Rattle.std.specs.Str.{byte}
 use Rattle.tera_values_data.specs.Alphabet.{Alphabet, plain, made}
-use Rattle.tera_values_data.specs.Growth.{by_byte}
+use Rattle.tera_values_data.specs.Growth.{by_byte, form_in}
 use Rattle.tera_values_data.specs.Val.{Val, ValOf, Vals, ValsOf, Entries, EntriesOf, KeyVal, kbool, kint, ktext, undefined, none, bool, int, text, bytes, array, map, no_items, item, no_entries, entry}
 
 abbrev pub bool_text : Bool → List ℕ
@@ -13,12 +13,10 @@ bool_text false = codes "false"
 
 -- one byte of a quoted text
 abbrev pub quoted_byte : ℕ → List ℕ
-quoted_byte b =
-    cond (nat_eq b (byte "\\")) (codes "\\\\")
-    (cond (nat_eq b (byte "\"")) (codes "\\\"")
-    (cond (nat_eq b (byte "\n")) (codes "\\n")
-    (cond (nat_eq b (byte "\r")) (codes "\\r")
-    (cond (nat_eq b (byte "\t")) (codes "\\t") (b ∷ [])))))
+quoted_byte =
+    form_in (
+    (byte "\\", codes "\\\\") ∷ (byte "\"", codes "\\\"")
+    ∷ (byte "\n", codes "\\n") ∷ (byte "\r", codes "\\r") ∷ (byte "\t", codes "\\t") ∷ [])
 
 abbrev pub escaped : List ℕ → List ℕ
 escaped = by_byte quoted_byte

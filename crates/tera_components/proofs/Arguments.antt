@@ -7,10 +7,9 @@ use Rattle.std.proofs.lemmas.Map.Text.{is_eq-slice_cmp}
 use Rattle.tera_errors.specs.Fault.{Fault}
 use Rattle.tera_errors.specs.Site.{Name}
 use Rattle.tera_syntax_tree.specs.Blocks.{is_among}
-use Rattle.tera_values.specs.Val.{Val, KeyVal, kbool, kint, ktext, map, entries}
-use Rattle.tera_values.specs.Access.{key_eq, find, insert_pair, pairs}
+use Rattle.tera_values.specs.Val.{Val, KeyVal, kbool, kint, ktext}
+use Rattle.tera_values.specs.Access.{key_eq, find, insert_pair}
 use Rattle.tera_values_data.proofs.Keys.{key_exact, is_eq_true}
-use Rattle.tera_operators.proofs.Views.{pairs_entries}
 use Rattle.tera_values.specs.Named.{Named, at_name, text_keys}
 use Rattle.tera_components.specs.Definition.{Formal, AreNames, named_arguments}
 
@@ -72,8 +71,7 @@ are_names_more names new name v fs more f h is named longer n =
     ∙ ap (λ gs. is_among n (map_list (λ (g : Formal). g.name) gs)) (sym longer)
 
 -- those of a map of values by name
-pub named_arguments-map : (m : Named Val) (es : List (KeyVal × Val)) (v : Val) → ◌≡◌ {A = Result Val Fault} (Ok (map (entries (text_keys m)))) (Ok v) → map (entries es) ≡ v → named_arguments es ≡ m
-named_arguments-map m es v made is =
-    let same : entries es ≡ entries (text_keys m) = cc in
-    let all : es ≡ text_keys m = sym (pairs_entries es) ∙ ap pairs same ∙ pairs_entries (text_keys m) in
+pub named_arguments-map : (m : Named Val) (es : List (KeyVal × Val)) → ◌≡◌ {A = Result (List (KeyVal × Val)) Fault} (Ok (text_keys m)) (Ok es) → named_arguments es ≡ m
+named_arguments-map m es made =
+    let all : es ≡ text_keys m = cc in
     ap named_arguments all ∙ named_arguments-text_keys m

@@ -14,7 +14,7 @@ use std::marker::Model;
 use tera_operators::Entries;
 use tera_state::Scopes;
 use tera_syntax_tree::Signature;
-use tera_values::{Context, Key, Kwargs, Map, Name, Shape, TeraResult, Value};
+use tera_values::{Context, Key, Kwargs, Map, Name, TeraResult, Value};
 
 /// What a component is given, as its signature says. It borrows nothing from the source.
 #[derive(Drop)]
@@ -199,14 +199,9 @@ impl ComponentDefinition {
     ) -> TeraResult<Kwargs>
         ensures { Binds self.now given.now body caller.now result }
     {
-        let given = given.to_value()?;
-        match given.shape() {
-            Shape::Map(given) => {
-                let given = Entries::of_map(given);
-                self.bind(alloc, &given, caller, body)
-            }
-            _ => unreachable!(),
-        }
+        let given = given.to_map()?;
+        let entries = Entries::of_map(&given);
+        self.bind(alloc, &entries, caller, body)
     }
 
     /// The same as a context, for callers who keep it.

@@ -90,8 +90,3 @@ collected_in span (l ∷ ls) c =
 
 abbrev pub comprehension_ended : Span → Config → Did
 comprehension_ended span c = collected_in span c.loops c
-
--- the topmost of a stack
-abbrev pub first_of : {X : Type 0} → List X → Option X
-first_of [] = None
-first_of (x ∷ xs) = Some x

@@ -61,10 +61,7 @@ impl<'t> OpenBlocks<'t> {
         let mut height = self.names.len();
         while height > 0 {
             height -= 1;
-            let Some(other) = self.names.at_height(height) else {
-                unreachable!()
-            };
-            if name.sought().is(other) {
+            if name.sought().is(self.names.at_height(height)) {
                 return true;
             }
         }

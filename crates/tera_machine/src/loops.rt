@@ -1,11 +1,11 @@
 // Instructions of loops.
-ghost use Rattle.std.specs.Prelude.{◌≡◌, ◌≢◌, [], option_copied};
+ghost use Rattle.std.specs.Prelude.{◌≡◌, ◌≢◌, []};
 ghost use Rattle.tera_errors.specs.Prelude.{Gives};
 ghost use Rattle.tera_operators.specs.Prelude.{placed};
 ghost use Rattle.tera_state.specs.Prelude.{Heading, loop_turns, around_of, turns_left};
 ghost use Rattle.tera_machine.specs.Config.{config_of};
 ghost use Rattle.tera_machine.specs.Act.{IsReady, IsSmall, Does, beneath};
-ghost use Rattle.tera_machine.specs.Loops.{loop_started, turned, loop_ended, kept, comprehension_ended, innermost, Closes, first_of};
+ghost use Rattle.tera_machine.specs.Loops.{loop_started, turned, loop_ended, kept, comprehension_ended, innermost, Closes};
 ghost use Rattle.tera_machine.specs.Subject.{here_of};
 
 use crate::configuration::Configuration;
@@ -15,19 +15,8 @@ use std::alloc::Global;
 use tera_code::LentName;
 use tera_objects::Objects;
 use tera_operators::{Operand, fault_at};
-use tera_state::{ForLoop, Stack};
+use tera_state::ForLoop;
 use tera_values::{Span, TeraResult, Value};
-
-// The topmost place.
-fn top(places: &Stack<LoopPlace>) -> Option<&LoopPlace>
-    ensures { option_copied result ≡ first_of places.now }
-{
-    let height = places.len();
-    if height == 0 {
-        return None;
-    }
-    places.at_height(height - 1)
-}
 
 // The loop over the operand at its first turn, or none where there is no item. What is no target of a loop is a fault at
 // the operand.
@@ -102,10 +91,7 @@ impl<'c> Configuration<'c> {
         if !self.scopes.next_turn() {
             return Ok(Flow::On);
         }
-        match top(&self.places) {
-            Some(place) => Ok(Flow::To(place.start, 0)),
-            None => unreachable!(),
-        }
+        Ok(Flow::To(self.places.top().start, 0))
     }
 
     // Closes the innermost loop, and hands out what it kept.
@@ -160,9 +146,10 @@ impl<'c> Configuration<'c> {
         if !self.scopes.is_in_loop() {
             return None;
         }
-        match top(&self.places) {
-            Some(place) => Some((place.start, place.size)),
-            None => None,
+        if self.places.len() == 0 {
+            return None;
         }
+        let place = self.places.top();
+        Some((place.start, place.size))
     }
 }

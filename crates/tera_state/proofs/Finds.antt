@@ -3,7 +3,7 @@ use Rattle.std.proofs.Common.{◌≡◌, inl, inr, ℕ, suc, ◌+◌, ◌-◌, �
 use Rattle.std.specs.Prelude.{slice_get}
 use Rattle.std.specs.Option.{option_or}
 use Rattle.std.proofs.lemmas.List.{drop_more, get_or-reverse, length-reverse, drop_all, length-drop}
-use Rattle.std.proofs.lemmas.Option.{slice_get_cases, slice_get_within, get_or_from_slice_get}
+use Rattle.std.proofs.lemmas.Option.{slice_get_within, get_or_from_slice_get}
 use Rattle.tera_values.specs.Val.{Val}
 use Rattle.tera_values.specs.Named.{Named}
 use Rattle.tera_state.specs.Bound.{layer_of}
@@ -50,15 +50,6 @@ module _ {X : Type 0} where
 
   pub lower_at : (xs : List X) (k : ℕ) (x : X) → 0 < k → slice_get (reverse xs) (k - 1) ≡ Some x → lower k xs ≡ x ∷ lower (k - 1) xs
   lower_at xs k x lt h = let e : k ≡ suc (k - 1) = omega (arith, lt) in ap (λ (j : ℕ). lower j xs) e ∙ lower_step xs (k - 1) x h
-
-  pub missing : {P : Type 0} (xs : List X) (k : ℕ) → 0 < k → k ≤ length xs → slice_get (reverse xs) (k - 1) ≡ None → P
-  missing xs k lt le h = elim ((slice_get_cases (reverse xs) (k - 1)).1) [
-    | inl t ↦ absurd (some_none (sym t.2 ∙ h))
-    | inr t ↦ absurd (omega (arith, t.0, length-reverse xs, lt, le))
-  ]
-    where
-      some_none : {x : X} → Some x ≡ None → ⊥
-      some_none e = cc
 
 -- the turns of the loops from a layer outwards
 pub turns_step : (bs : List Binding) (f : ℕ) (ls : List ForLoop) (k : ℕ) (l : ForLoop) → 0 < k → k ≤ length ls → slice_get (reverse ls) (k - 1) ≡ Some l → turns_of bs f (lower k ls) ≡ turn_of (layer_of bs f k) l ∷ turns_of bs f (lower (k - 1) ls)

@@ -200,11 +200,9 @@ fn in_outer<'a>(
     if layer == 0 {
         return Found::Nothing;
     }
-    match loops.at_height(layer - 1) {
-        Some(turn) => match in_turn(bindings, frame, layer, turn, name) {
-            Found::Nothing => in_outer(bindings, frame, loops, layer - 1, name),
-            found => found,
-        },
-        None => Found::Nothing,
+    let turn = loops.at_height(layer - 1);
+    match in_turn(bindings, frame, layer, turn, name) {
+        Found::Nothing => in_outer(bindings, frame, loops, layer - 1, name),
+        found => found,
     }
 }

@@ -116,16 +116,12 @@ impl<'c> Scopes<'c> {
                     if height == 0 {
                         return Found::Nothing;
                     }
-                    match self.below.at_height(height - 1) {
-                        Some(includer) => {
-                            let found = self.bound_at(height - 1, includer, name);
-                            if found.is_undefined() {
-                                kept(self.context_at(height - 1, includer).get(name))
-                            } else {
-                                found
-                            }
-                        }
-                        None => Found::Nothing,
+                    let includer = self.below.at_height(height - 1);
+                    let found = self.bound_at(height - 1, includer, name);
+                    if found.is_undefined() {
+                        kept(self.context_at(height - 1, includer).get(name))
+                    } else {
+                        found
                     }
                 }
             },
@@ -154,10 +150,8 @@ impl<'c> Scopes<'c> {
         if height == 0 {
             return Found::Nothing;
         }
-        match self.below.at_height(height - 1) {
-            Some(caller) => self.implicit_at(height - 1, caller, name),
-            None => Found::Nothing,
-        }
+        let caller = self.below.at_height(height - 1);
+        self.implicit_at(height - 1, caller, name)
     }
 
     // The context of a body with so many frames below it.
@@ -173,10 +167,8 @@ impl<'c> Scopes<'c> {
         if height == 0 {
             return Lent::new(None);
         }
-        match self.below.at_height(height - 1) {
-            Some(includer) => self.context_at(height - 1, includer),
-            None => Lent::new(None),
-        }
+        let includer = self.below.at_height(height - 1);
+        self.context_at(height - 1, includer)
     }
 
     /// What `__tera_context` stands for: the map of all that this body itself binds, the names of its loops excepted.

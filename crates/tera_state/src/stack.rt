@@ -60,6 +60,15 @@ impl<T: Drop> Stack<T> {
         self.items.pop().unwrap()
     }
 
+    /// The topmost value, where it is known that there is one.
+    #[inline(always)]
+    pub fn top(&self) -> &T
+        requires { self.now ≢ [] }
+        ensures { slice_get self.now 0 ≡ Some result.now }
+    {
+        self.items.last().unwrap()
+    }
+
     /// The topmost value, to be changed where it lies, where it is known that there is one.
     #[inline(always)]
     pub fn top_mut(&mut self) -> &mut T
@@ -78,13 +87,12 @@ impl<T: Drop> Stack<T> {
         self.items.len()
     }
 
-    /// The value with so many below it.
-    pub fn at_height(&self, height: usize) -> Option<&T>
-        ensures { MatchOption result
-            (slice_get (reverse self.now) height ≡ None)
-            (λ v. slice_get (reverse self.now) height ≡ Some v.now) }
+    /// The value with so many below it, where it is known that there is one.
+    pub fn at_height(&self, height: usize) -> &T
+        requires { height < length self.now }
+        ensures { slice_get (reverse self.now) height ≡ Some result.now }
     {
-        self.items.get(height)
+        &self.items[height]
     }
 
     /// Takes so many off, in the order in which they were put there.

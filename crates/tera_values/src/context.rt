@@ -110,14 +110,21 @@ impl Context {
     }
 
     /// The map of the values at their names, in byte order of these.
-    pub fn to_value(&self) -> TeraResult<Value>
-        ensures { Gives (λ v. v) result (Ok (map_of (entries (text_keys self.now)))) }
+    pub fn to_map(&self) -> TeraResult<Map>
+        ensures { Gives (λ all. all) result (Ok (text_keys self.now)) }
     {
         let mut all = Map::new(self.alloc);
         for (name, value) in self.ordered()? {
             all.insert(Key::Text(name), value)?;
         }
-        Ok(Value::map(all))
+        Ok(all)
+    }
+
+    /// The same map as a value.
+    pub fn to_value(&self) -> TeraResult<Value>
+        ensures { Gives (λ v. v) result (Ok (map_of (entries (text_keys self.now)))) }
+    {
+        Ok(Value::map(self.to_map()?))
     }
 
     /// The names, in byte order.

@@ -14,5 +14,5 @@ pub returns : goal.returns
 returns c = λ s e.
     let look : Name → Val = λ n. look_implicit n (around_of c.args.caller.now) (variables_of c.args.caller.now) in
     subst (λ (given : List (Name × Val)). Gives (λ (m : Named Val). m) c.bind.result (or_message (component_context s given c.args.body look)))
-    (ap named_arguments c.of_map-given.ensures ∙ named_arguments-map c.args.given.now c.in-Map.given.now c.in_ok-given.given c.in_ok-given.ensures c.in-Map.ensures)
+    (ap named_arguments c.of_map-entries.ensures ∙ named_arguments-map c.args.given.now _ c.in_ok-given.ensures)
     (c.bind.ensures s e)

@@ -1,9 +1,8 @@
-use Rattle.std.proofs.Common.{rules, ◌∙◌, sym, ap, arith}
+use Rattle.std.proofs.Common.{rules, ◌∙◌, sym, ap}
 use Rattle.tera_values.specs.Named.{at_name}
 use Rattle.tera_state.specs.Found.{found_value}
 use Rattle.tera_state.specs.Stack.{lower}
 use Rattle.tera_state.specs.Scopes.{frame_of, above_of, variables_at}
-use Rattle.tera_state.proofs.Finds.{missing}
 use Rattle.tera_state.proofs.Beyond.{kept_first, bound_split, from_beyond, whole_beyond, called_beyond, from_context, from_includer}
 use Rattle.tera_state.proofs.scopes.Scopes.+bound_at.Goals as goal
 
@@ -23,17 +22,14 @@ returns-in-Called t c =
 
 pub returns-then-is_undefined : goal.returns-then-is_undefined
 returns-then-is_undefined t c =
-    from_context c.args.name.now c.args.self.now.bindings c.args.self.now.below c.args.height c.args.body.now c.in-Some.includer.now c.in-Nothing.ensures (search rules) c.requires c.in-Included.is c.in-Some.ensures (found_value c.bound_at-found.result) c.bound_at-found.ensures _
+    from_context c.args.name.now c.args.self.now.bindings c.args.self.now.below c.args.height c.args.body.now c.at_height-includer.result.now c.in-Nothing.ensures (search rules) c.requires c.in-Included.is c.at_height-includer.ensures (found_value c.bound_at-found.result) c.bound_at-found.ensures _
     (sym c.is_undefined.ensures ∙ c.if-is_undefined.true)
     (c.kept-then-is_undefined.ensures ∙ c.get-then-is_undefined.ensures ∙ ap (at_name c.args.name.now) c.context_at.ensures)
 
 pub returns-else-is_undefined : goal.returns-else-is_undefined
 returns-else-is_undefined t c =
-    from_includer c.args.name.now c.args.self.now.bindings c.args.self.now.below c.args.height c.args.body.now c.in-Some.includer.now c.in-Nothing.ensures (search rules) c.requires c.in-Included.is c.in-Some.ensures (found_value c.bound_at-found.result) c.bound_at-found.ensures
+    from_includer c.args.name.now c.args.self.now.bindings c.args.self.now.below c.args.height c.args.body.now c.at_height-includer.result.now c.in-Nothing.ensures (search rules) c.requires c.in-Included.is c.at_height-includer.ensures (found_value c.bound_at-found.result) c.bound_at-found.ensures
     (sym c.is_undefined.ensures ∙ c.if-is_undefined.false)
-
-pub returns-in-None : goal.returns-in-None
-returns-in-None t c = missing c.args.self.now.below c.args.height (search rules) (omega (arith, c.requires)) c.in-None.ensures
 
 pub returns-in_default : goal.returns-in_default
 returns-in_default t c =

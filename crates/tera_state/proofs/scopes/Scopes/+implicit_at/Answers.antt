@@ -2,7 +2,6 @@ use Rattle.std.proofs.Common.{rules, ◌≡◌, ◌≤◌, ◌<◌, ◌∙◌, s
 use Rattle.tera_state.specs.Found.{found_value}
 use Rattle.tera_state.specs.Stack.{lower}
 use Rattle.tera_state.specs.Scopes.{frame_of, above_of, variables_at}
-use Rattle.tera_state.proofs.Finds.{missing}
 use Rattle.tera_state.proofs.Beyond.{implicit_here, implicit_above, above_caller}
 use Rattle.tera_state.proofs.scopes.Scopes.+implicit_at.Goals as goal
 
@@ -12,8 +11,8 @@ returns-then-not-is_undefined t c =
     let kept : c.is_undefined.result ≡ false = search rules in
     implicit_here c.args.name.now (frame_of c.args.body.now.standing fs) (above_of c.args.self.now.bindings fs) (variables_at c.args.self.now.bindings c.args.height c.args.body.now) (found_value c.bound_at-found.result) c.bound_at-found.ensures (sym c.is_undefined.ensures ∙ kept)
 
-pub returns-in-Some : goal.returns-in-Some
-returns-in-Some t c =
+pub returns : goal.returns
+returns t c =
     let n = c.args.name.now in
     let bs = c.args.self.now.bindings in
     let below = c.args.self.now.below in
@@ -23,7 +22,4 @@ returns-in-Some t c =
     let within : h ≤ length below = omega (arith, c.requires) in
     let gone : c.is_undefined.result ≡ true = search rules in
     implicit_above n (frame_of c.args.body.now.standing fs) (above_of bs fs) (variables_at bs h c.args.body.now) (found_value c.bound_at-found.result) (found_value c.implicit_at.result) c.bound_at-found.ensures (sym c.is_undefined.ensures ∙ gone)
-    (c.implicit_at.ensures ∙ sym (above_caller n bs below h c.in-Some.caller.now positive within c.in-Some.ensures))
-
-pub returns-in-None : goal.returns-in-None
-returns-in-None t c = missing c.args.self.now.below c.args.height (search rules) (omega (arith, c.requires)) c.in-None.ensures
+    (c.implicit_at.ensures ∙ sym (above_caller n bs below h c.at_height-caller.result.now positive within c.at_height-caller.ensures))

@@ -1,8 +1,8 @@
-use Rattle.std.proofs.Common.{◌≡◌, List, Ok, string_bytes, sym, ap, ◌∙◌, rules}
-use Rattle.tera_values_data.specs.Val.{Val, KeyVal, entries, map as map_of}
+use Rattle.std.proofs.Common.{◌≡◌, Ok, string_bytes, sym, ap, ◌∙◌, rules}
+use Rattle.tera_values_data.specs.Val.{Val, KeyVal}
 use Rattle.tera_values.proofs.Named.{texts}
 use Rattle.tera_values.proofs.Contents.{filled_none, filled_next, filled_all}
-use Rattle.tera_values.proofs.context.Context.to_value.Goals as goal
+use Rattle.tera_values.proofs.context.Context.to_map.Goals as goal
 
 pub loop-name-init : goal.loop-name-init
 loop-name-init c =
@@ -15,4 +15,4 @@ loop-name-preserved c =
 
 pub returns : goal.returns
 returns c =
-    ap (λ (l : List (KeyVal × Val)). Ok (map_of (entries l))) (sym (filled_all c.args.self.now c.loop-name.all _ (ap texts c.in-None.ensures.steps.0) c.loop-name.invariant)) ∙ ap Ok (sym c.map.ensures)
+    ap Ok (sym (filled_all c.args.self.now c.loop-name.all _ (ap texts c.in-None.ensures.steps.0) c.loop-name.invariant))

@@ -24,8 +24,8 @@ macro_rules! uninterrupted {
 #[derive(Drop)]
 pub struct Standard<D> {
     device: D,
-    /// Whether the reader has told its end, or the writer holds nothing back.
-    is_done: bool,
+    /// Whether nothing is owed any more: the reader has told its end, or the writer holds nothing back.
+    is_settled: bool,
     trace: Trace,
 }
 
@@ -43,7 +43,7 @@ impl<D> Standard<D> {
     {
         Standard {
             device,
-            is_done: false,
+            is_settled: false,
             trace: Trace::new(),
         }
     }
@@ -54,7 +54,7 @@ impl<D> Standard<D> {
     {
         let Standard {
             device,
-            is_done: _,
+            is_settled: _,
             trace: _,
         } = self;
         device
@@ -64,14 +64,14 @@ impl<D> Standard<D> {
 impl<R: Read> Input for Standard<R> {
     ghost passed = { passed_through };
 
-    ghost ended = { λ s. IsTrue s.is_done };
+    ghost ended = { λ s. IsTrue s.is_settled };
 
     ghost remaining = { λ s. R.remaining (device_inside s) };
 
     fn read(&mut self, buffer: &mut [u8]) -> Result<usize, Failure> {
         uninterrupted!(self.device.read(buffer), taken => {
             self.trace = Trace::with(&self.trace, &buffer[..taken], 0);
-            self.is_done = taken == 0 && !buffer.is_empty();
+            self.is_settled = taken == 0 && !buffer.is_empty();
             return Ok(taken);
         });
         Err(self.trace.fail())
@@ -81,12 +81,12 @@ impl<R: Read> Input for Standard<R> {
 impl<W: Write> Output for Standard<W> {
     ghost passed = { passed_through };
 
-    ghost settled = { λ s. IsTrue s.is_done };
+    ghost settled = { λ s. IsTrue s.is_settled };
 
     ghost contents = { λ s. W.contents (device_inside s) };
 
     fn write(&mut self, piece: &[u8]) -> Result<usize, Failure> {
-        self.is_done = false;
+        self.is_settled = false;
         uninterrupted!(self.device.write(piece), taken => {
             if taken == 0 && !piece.is_empty() {
                 break;
@@ -99,7 +99,7 @@ impl<W: Write> Output for Standard<W> {
 
     fn flush(&mut self) -> Result<(), Failure> {
         if self.device.flush().is_ok() {
-            self.is_done = true;
+            self.is_settled = true;
             return Ok(());
         }
         Err(self.trace.fail())

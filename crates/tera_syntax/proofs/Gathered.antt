@@ -1,7 +1,7 @@
--- What a node's bodies say of the node: the names of its blocks, and that all in it lies inside.
-use Rattle.std.proofs.Common.{◌≡◌, ℕ, ◌+◌, ◌<◌, List, ◌∷◌, ◌++◌, map, length, drop, get_or, Vec, Box, Bor, Bool, Global, Result, Ok, Err, ◌⊎◌, inl, inr, refl, ap, sym, ◌∙◌, subst}
-use Rattle.std.proofs.lemmas.List.{append_assoc, drop_more, map-append}
-use Rattle.tera_errors.specs.Site.{Name, Text}
+-- What a node's bodies say of the node: its blocks and where they stand, and that all in it lies inside.
+use Rattle.std.proofs.Common.{◌≡◌, ℕ, ◌+◌, ◌<◌, List, ◌∷◌, ◌++◌, length, drop, get_or, Vec, Box, Bor, Bool, Global, Result, Ok, Err, ◌⊎◌, inl, inr, refl, ap, sym, ◌∙◌, subst}
+use Rattle.std.proofs.lemmas.List.{append_assoc, drop_more}
+use Rattle.tera_errors.specs.Site.{Text}
 use Rattle.tera_errors.specs.declared.span.Span.{Span}
 use Rattle.tera_syntax_tokens.specs.declared.refusal.Refusal.{Refusal}
 use Rattle.tera_syntax_tree.specs.declared.expression.Expression.{Expression}
@@ -13,12 +13,12 @@ use Rattle.tera_syntax_tree.specs.declared.node.Captured.{Captured}
 use Rattle.tera_syntax_tree.specs.declared.node.SectionFilter.{SectionFilter}
 use Rattle.tera_syntax_tree.specs.declared.node.Node.TheVariants as variant
 use Rattle.tera_syntax_tree.specs.Tree.{Node}
-use Rattle.tera_syntax_tree.specs.Blocks.{blocks, block_names}
 use Rattle.tera_syntax_tree.specs.Inside.{Within, NodeInside, NodesInside}
 use Rattle.tera_syntax_tree.specs.View.{node_of, nodes_of}
 use Rattle.tera_syntax_tree.proofs.Views.{view_if, view_for, view_capture, view_section, view_block, view_component_call, view_definition}
 use Rattle.tera_syntax.specs.declared.blocks.PlacedName.{PlacedName}
-use Rattle.tera_syntax.specs.View.{Gathers, names_of, node_names}
+use Rattle.tera_syntax.specs.Names.{NameAt, node_blocks_at, blocks_at}
+use Rattle.tera_syntax.specs.View.{Gathers, names_of}
 
 -- the next node, and those behind it
 pub next_inside : (size : ℕ) (nodes : List declared.Node) (i : ℕ) (n : declared.Node) → i < length nodes → n ≡ get_or nodes i n → NodesInside size (nodes_of (drop i nodes)) → NodeInside size (node_of n) × NodesInside size (nodes_of (drop (i + 1) nodes))
@@ -27,16 +27,16 @@ next_inside size nodes i n l e h =
     (subst (λ m. NodeInside size (node_of m)) (sym e) p.0, p.1)
 
 -- names that are gathered behind what was gathered before
-pub gathered_behind : (result : Result (Unit {0}) Refusal) (old middle new : List PlacedName) (a b : List Name) → names_of middle ≡ names_of old ++ a → Gathers b middle result new → Gathers (a ++ b) old result new
+pub gathered_behind : (result : Result (Unit {0}) Refusal) (old middle new : List PlacedName) (a b : List NameAt) → names_of middle ≡ names_of old ++ a → Gathers b middle result new → Gathers (a ++ b) old result new
 gathered_behind (Ok done) old middle new a b m h = h ∙ ap (λ x. x ++ b) m ∙ append_assoc (names_of old) a b
 gathered_behind (Err refusal) old middle new a b m h = h
 
--- the names of a node's blocks are these, and this lies inside where the node does
-abbrev pub Holds : declared.Node → List Name → (ℕ → Type 0) → Type 0
-Holds node names Parts = (node_names (node_of node) ≡ names) × ((size : ℕ) → NodeInside size (node_of node) → Parts size)
+-- the blocks of a node are these, and this lies inside where the node does
+abbrev pub Holds : declared.Node → List NameAt → (ℕ → Type 0) → Type 0
+Holds node names Parts = (node_blocks_at (node_of node) ≡ names) × ((size : ℕ) → NodeInside size (node_of node) → Parts size)
 
-by_view : (node : declared.Node) (names : List Name) (Parts : ℕ → Type 0) {made : Node} → node_of node ≡ made → node_names made ≡ names → ((size : ℕ) → NodeInside size made → Parts size) → Holds node names Parts
-by_view node names Parts view named parts = (ap node_names view ∙ named, λ size inside. parts size (subst (NodeInside size) view inside))
+by_view : (node : declared.Node) (names : List NameAt) (Parts : ℕ → Type 0) {made : Node} → node_of node ≡ made → node_blocks_at made ≡ names → ((size : ℕ) → NodeInside size made → Parts size) → Holds node names Parts
+by_view node names Parts view named parts = (ap node_blocks_at view ∙ named, λ size inside. parts size (subst (NodeInside size) view inside))
 
 -- a node that is no block and has one body
 abbrev pub HasBody : declared.Node → Vec declared.Node Global → Type 0
@@ -44,10 +44,10 @@ HasBody node body =
     ((is_global : Bool) × (c : Box Captured Global) × (node ≡ variant.Capture is_global c body)) ⊎ (((filters : Vec SectionFilter Global) × (node ≡ variant.FilterSection filters body))
     ⊎ (((t : Box ComponentTag Global) × (span : Span) × (node ≡ variant.ComponentCall t body span)) ⊎ ((s : Box Signature Global) × (node ≡ variant.Definition s body))))
 
-pub body_holds : (node : declared.Node) (body : Vec declared.Node Global) (xs : List declared.Node) → xs ≡ body.items → HasBody node body → Holds node (block_names (nodes_of xs)) (λ size. NodesInside size (nodes_of xs))
-body_holds node body xs a is = subst (λ xs. Holds node (block_names (nodes_of xs)) (λ size. NodesInside size (nodes_of xs))) (sym a) (by_head is)
+pub body_holds : (node : declared.Node) (body : Vec declared.Node Global) (xs : List declared.Node) → xs ≡ body.items → HasBody node body → Holds node (blocks_at (nodes_of xs)) (λ size. NodesInside size (nodes_of xs))
+body_holds node body xs a is = subst (λ xs. Holds node (blocks_at (nodes_of xs)) (λ size. NodesInside size (nodes_of xs))) (sym a) (by_head is)
   where
-    by_head : HasBody node body → Holds node (block_names (nodes_of body.items)) (λ size. NodesInside size (nodes_of body.items))
+    by_head : HasBody node body → Holds node (blocks_at (nodes_of body.items)) (λ size. NodesInside size (nodes_of body.items))
     by_head (inl p) = by_view node _ _ (ap node_of p.2 ∙ view_capture p.0 p.1 body) refl (λ size inside. inside.1)
     by_head (inr (inl p)) = by_view node _ _ (ap node_of p.1 ∙ view_section p.0 body) refl (λ size inside. inside.1)
     by_head (inr (inr (inl p))) = by_view node _ _ (ap node_of p.2 ∙ view_component_call p.0 body p.1) refl (λ size inside. inside.1)
@@ -58,19 +58,16 @@ abbrev pub HasBodies : declared.Node → Vec declared.Node Global → Vec declar
 HasBodies node body other = ((c : Box Expression Global) × (node ≡ variant.If c body other)) ⊎ ((h : Box Heading Global) × (node ≡ variant.For h body other))
 
 abbrev Both : declared.Node → List declared.Node → List declared.Node → Type 0
-Both node xs ys = Holds node (block_names (nodes_of xs) ++ block_names (nodes_of ys)) (λ size. NodesInside size (nodes_of xs) × NodesInside size (nodes_of ys))
+Both node xs ys = Holds node (blocks_at (nodes_of xs) ++ blocks_at (nodes_of ys)) (λ size. NodesInside size (nodes_of xs) × NodesInside size (nodes_of ys))
 
 pub bodies_hold : (node : declared.Node) (body other : Vec declared.Node Global) (xs ys : List declared.Node) → xs ≡ body.items → ys ≡ other.items → HasBodies node body other → Both node xs ys
 bodies_hold node body other xs ys a b is = subst (λ xs. Both node xs ys) (sym a) (subst (Both node body.items) (sym b) (by_head is))
   where
-    names : map (λ b. b.0) (blocks (nodes_of body.items) ++ blocks (nodes_of other.items)) ≡ block_names (nodes_of body.items) ++ block_names (nodes_of other.items)
-    names = map-append (λ b. b.0) (blocks (nodes_of body.items)) (blocks (nodes_of other.items))
-
     by_head : HasBodies node body other → Both node body.items other.items
-    by_head (inl p) = by_view node _ _ (ap node_of p.1 ∙ view_if p.0 body other) names (λ size inside. (inside.1, inside.2))
-    by_head (inr p) = by_view node _ _ (ap node_of p.1 ∙ view_for p.0 body other) names (λ size inside. (inside.1, inside.2))
+    by_head (inl p) = by_view node _ _ (ap node_of p.1 ∙ view_if p.0 body other) refl (λ size inside. (inside.1, inside.2))
+    by_head (inr p) = by_view node _ _ (ap node_of p.1 ∙ view_for p.0 body other) refl (λ size inside. (inside.1, inside.2))
 
 pub block_holds : (node : declared.Node) (t : Bor Text) (body : Vec declared.Node Global) (span : Span) (xs : List declared.Node) → xs ≡ body.items → node ≡ variant.Block t body span
-    → Holds node (t.now ∷ block_names (nodes_of xs)) (λ size. NodesInside size (nodes_of xs) × Within size span)
+    → Holds node ((t.now, span) ∷ blocks_at (nodes_of xs)) (λ size. NodesInside size (nodes_of xs) × Within size span)
 block_holds node t body span xs a is =
-    subst (λ xs. Holds node (t.now ∷ block_names (nodes_of xs)) (λ size. NodesInside size (nodes_of xs) × Within size span)) (sym a) (by_view node _ _ (ap node_of is ∙ view_block t body span) refl (λ size inside. inside))
+    subst (λ xs. Holds node ((t.now, span) ∷ blocks_at (nodes_of xs)) (λ size. NodesInside size (nodes_of xs) × Within size span)) (sym a) (by_view node _ _ (ap node_of is ∙ view_block t body span) refl (λ size inside. inside))

@@ -1,6 +1,7 @@
 pub mod Rows
 pub mod Gathered
 pub mod Again
+pub mod Doubled
 pub mod Whole
 pub mod Lone
 pub mod Begun

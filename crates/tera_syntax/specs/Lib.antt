@@ -4,6 +4,7 @@ pub mod Spells
 pub mod Reads
 pub mod Reader
 pub mod File
+pub mod Names
 pub mod View
 pub mod Places
 pub mod Laws

@@ -8,14 +8,12 @@ use Rattle.tera_syntax_tree.specs.declared.node.Node as declared
 use Rattle.tera_syntax_tokens.specs.declared.refusal.Refusal.{Refusal}
 use Rattle.tera_syntax_tokens.specs.declared.refusal.Refusal.TheVariants.{OutOfMemory}
 use Rattle.tera_syntax_tokens.specs.Answers.{Refuses}
-use Rattle.tera_errors.specs.Site.{Name}
-use Rattle.tera_syntax_tree.specs.Tree.{Node, Nodes}
-use Rattle.tera_syntax_tree.specs.Blocks.{node_blocks}
-use Rattle.tera_syntax_tree.specs.Definitions.{node_definitions}
+use Rattle.tera_syntax_tree.specs.Tree.{Nodes}
 use Rattle.tera_syntax_tree.specs.View.{expr_of, entries_of, filters_of, signature_of, nodes_of, quoted_option}
 use Rattle.tera_syntax.specs.Heads.{Head, IfHead, ForHead, SetHead, SectionHead, BlockHead, CallHead, DefinitionHead}
 use Rattle.tera_syntax.specs.Reader.{OpenStatement, Progress}
 use Rattle.tera_syntax.specs.File.{File}
+use Rattle.tera_syntax.specs.Names.{NameAt}
 use Rattle.tera_syntax.specs.declared.blocks.PlacedName.{PlacedName}
 use Rattle.tera_syntax.specs.declared.file.File as file
 use Rattle.tera_syntax.specs.declared.heads.Head as head
@@ -74,23 +72,15 @@ file_of f =
       progress = progress_of f.progress;
     }
 
-abbrev pub names_of : List PlacedName → List Name
-names_of names = map (λ n. n.name.now) names
+abbrev pub names_of : List PlacedName → List NameAt
+names_of names = map (λ n. (n.name.now, n.span)) names
 
 -- These names are put behind those that were there. Memory may lack for it, and nothing else is
 -- refused.
-abbrev pub Gathers : List Name → List PlacedName → Result (Unit {0}) Refusal → List PlacedName
+abbrev pub Gathers : List NameAt → List PlacedName → Result (Unit {0}) Refusal → List PlacedName
     → Type 0
 Gathers more old (Ok done) new = names_of new ≡ names_of old ++ more
 Gathers more old (Err refusal) new = refusal ≡ OutOfMemory
-
--- the names of the blocks of a node
-abbrev pub node_names : Node → List Name
-node_names node = map (λ b. b.0) (node_blocks node)
-
--- the names of the components that a node defines
-abbrev pub node_components : Node → List Name
-node_components node = map (λ d. d.0.name) (node_definitions node)
 
 -- What is read becomes what is meant. After a refusal nothing is said of it.
 abbrev pub Becomes : Option Progress → Result (Unit {0}) Refusal → progress.Progress → Type 0

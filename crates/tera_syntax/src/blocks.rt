@@ -1,11 +1,12 @@
 // The names of a tree's blocks and components.
-ghost use Rattle.std.specs.Prelude.{ℕ, ◌≡◌, ◌≤◌, IfOk, IfErr, IfSome, Some, None, is_some, not, if◌then◌else◌};
+ghost use Rattle.std.specs.Prelude.{ℕ, ◌≡◌, ◌≤◌, IfOk, IfErr};
 ghost use Rattle.tera_syntax.specs.File as spec;
+ghost use Rattle.tera_syntax.specs.Names.{again, blocks_at, components_at, doubled, end_after, node_blocks_at, node_components_at, RefusesOnly, tree_doubled};
 ghost use Rattle.tera_syntax.specs.Places.{NamesWithin, StayWithin};
-ghost use Rattle.tera_syntax.specs.View.{Gathers, names_of, node_components, node_names};
+ghost use Rattle.tera_syntax.specs.View.{Gathers, names_of};
 ghost use Rattle.tera_syntax_tokens.specs.Prelude.{Answers, PointsWithin};
 ghost use Rattle.tera_syntax_tokens.specs.declared.refusal.Refusal.TheVariants.{OutOfMemory};
-ghost use Rattle.tera_syntax_tree.specs.Prelude.{are_distinct, block_names, component_names, Inside, NodeInside, NodesInside, Within, node_of, nodes_of, tree_of};
+ghost use Rattle.tera_syntax_tree.specs.Prelude.{Inside, NodeInside, NodesInside, node_of, nodes_of, tree_of};
 
 use std::alloc::Global;
 use std::collections::HashMap;
@@ -23,7 +24,7 @@ struct PlacedName<'s> {
 /// Puts the names of all blocks of the nodes behind those that are there.
 #[cycle(names)]
 fn gather<'s>(names: &mut Vec<PlacedName<'s>>, nodes: &[Node<'s>]) -> Result<(), Refusal>
-    ensures gathered { let more = block_names (nodes_of nodes.now) in
+    ensures gathered { let more = blocks_at (nodes_of nodes.now) in
         Gathers more names.old.items result names.new.items }
     ensures points { StayWithin (λ size. NodesInside size (nodes_of nodes.now))
         names.old.items result names.new.items }
@@ -36,7 +37,7 @@ fn gather<'s>(names: &mut Vec<PlacedName<'s>>, nodes: &[Node<'s>]) -> Result<(),
 
 #[cycle(names)]
 fn gather_node<'s>(names: &mut Vec<PlacedName<'s>>, node: &Node<'s>) -> Result<(), Refusal>
-    ensures gathered { let more = node_names (node_of node.now) in
+    ensures gathered { let more = node_blocks_at (node_of node.now) in
         Gathers more names.old.items result names.new.items }
     ensures points { StayWithin (λ size. NodeInside size (node_of node.now))
         names.old.items result names.new.items }
@@ -62,7 +63,7 @@ fn gather_node<'s>(names: &mut Vec<PlacedName<'s>>, node: &Node<'s>) -> Result<(
 /// Puts the names of all components that the nodes define behind those that are there. One stands
 /// behind the text before it.
 fn gather_components<'s>(names: &mut Vec<PlacedName<'s>>, nodes: &[Node<'s>]) -> Result<(), Refusal>
-    ensures gathered { let more = component_names (nodes_of nodes.now) in
+    ensures gathered { let more = components_at 0 (nodes_of nodes.now) in
         Gathers more names.old.items result names.new.items }
     ensures points { StayWithin (λ size. NodesInside size (nodes_of nodes.now))
         names.old.items result names.new.items }
@@ -80,7 +81,7 @@ fn gather_component<'s>(
     node: &Node<'s>,
     at: usize,
 ) -> Result<(), Refusal>
-    ensures gathered { let more = node_components (node_of node.now) in
+    ensures gathered { let more = node_components_at at (node_of node.now) in
         Gathers more names.old.items result names.new.items }
     ensures points { StayWithin (λ size. at ≤ size) names.old.items result names.new.items }
 {
@@ -95,7 +96,8 @@ fn gather_component<'s>(
 
 /// Where a text ends, and before any other node the place that is given.
 fn end_of(node: &Node<'_>, at: usize) -> usize
-    ensures { (size : ℕ) → NodeInside size (node_of node.now) → at ≤ size → result ≤ size }
+    ensures value { result ≡ end_after at (node_of node.now) }
+    ensures points { (size : ℕ) → NodeInside size (node_of node.now) → at ≤ size → result ≤ size }
 {
     match node {
         Node::Content { text: _, span } => span.end,
@@ -106,10 +108,8 @@ fn end_of(node: &Node<'_>, at: usize) -> usize
 /// Where the first name that stands again stands next, if one does. The names are read from behind,
 /// beside where each of them stands first of all that was read.
 fn twice(alloc: Global, names: &[PlacedName<'_>]) -> Result<Option<Span>, Refusal>
-    ensures ok { IfOk result (λ found. is_some found ≡ not (are_distinct (names_of names.now))) }
+    ensures ok { IfOk result (λ found. found ≡ again (names_of names.now)) }
     ensures lacks { IfErr result (λ refusal. refusal ≡ OutOfMemory) }
-    ensures points { (size : ℕ) → NamesWithin size names.now
-        → IfOk result (λ found. IfSome found (Within size)) }
 {
     let mut behind: HashMap<&str, Span> = HashMap::new(alloc);
     let mut found = None;
@@ -125,9 +125,7 @@ fn twice(alloc: Global, names: &[PlacedName<'_>]) -> Result<Option<Span>, Refusa
 
 /// Refuses names of which two are the same, for this reason, where the second stands.
 fn all_differ(alloc: Global, names: &[PlacedName<'_>], why: Reason) -> Result<(), Refusal>
-    ensures value { let differ = are_distinct (names_of names.now) in
-        Answers (λ done. names_of names.now) (if differ then Some (names_of names.now) else None)
-        result }
+    ensures value { RefusesOnly (doubled why (names_of names.now)) result }
     ensures points { (size : ℕ) → NamesWithin size names.now → IfErr result (PointsWithin size) }
 {
     match twice(alloc, names)? {
@@ -139,6 +137,7 @@ fn all_differ(alloc: Global, names: &[PlacedName<'_>], why: Reason) -> Result<()
 /// The tree, where no two of its blocks have one name, and no two of its components.
 pub(crate) fn once<'s>(alloc: Global, output: ParserOutput<'s>) -> Result<ParserOutput<'s>, Refusal>
     ensures value { Answers tree_of (spec.once (tree_of output.entry)) result }
+    ensures refused { RefusesOnly (tree_doubled (tree_of output.entry)) result }
     ensures points { (size : ℕ) → Inside size (tree_of output.entry)
         → IfErr result (PointsWithin size) }
 {

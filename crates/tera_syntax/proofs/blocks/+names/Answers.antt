@@ -32,7 +32,7 @@ gather_node-returns-in_ok-gather-in-If-clause-points t c size inside before =
 pub gather_node-returns-in_ok-push-in-Block-clause-gathered : goal.gather_node-returns-in_ok-push-in-Block-clause-gathered
 gather_node-returns-in_ok-push-in-Block-clause-gathered t c =
     let h = block_holds c.args.node.now c.in-Block.name c.in-Block.body c.in-Block.span _ c.as_slice.ensures.value c.in-Block.is in
-    let pushed = ap names_of c.in_ok-push-in-Block.ensures.items ∙ map-append (λ n. n.name.now) c.args.names.now.items (_ ∷ []) in
+    let pushed = ap names_of c.in_ok-push-in-Block.ensures.items ∙ map-append (λ n. (n.name.now, n.span)) c.args.names.now.items (_ ∷ []) in
     subst (λ names. Gathers names c.args.names.now.items c.gather.result c.gather.new.names.items) (sym h.0) (gathered_behind _ _ _ _ _ _ pushed c.gather.ensures.gathered)
 
 pub gather_node-returns-in_ok-push-in-Block-clause-points : goal.gather_node-returns-in_ok-push-in-Block-clause-points

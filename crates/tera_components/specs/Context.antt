@@ -91,9 +91,8 @@ module _ {C : Type 0} (alphabet : Alphabet C) (look : Name → ValOf C)
       option_and_then (λ v. with_parameters_in ps (put p.name v context)) (parameter_value_in p)
 
 -- The context of a component that is given these arguments and at will a body, where names are
--- looked up like this: its
--- parameters, what takes all other arguments, and `body`. None where an argument is missing,
--- unknown or of another type.
+-- looked up like this: its parameters, what takes all other arguments, and `body`. None where an
+-- argument is missing, unknown or of another type.
 abbrev pub component_context_in : {C : Type 0} → Alphabet C → Signature → List (Name × ValOf C)
     → Option (ValOf C) → (Name → ValOf C) → Option (Named (ValOf C))
 component_context_in alphabet s given body look =

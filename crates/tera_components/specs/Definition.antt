@@ -129,8 +129,7 @@ module _ (look : Name → Val) (given : List (Name × Val)) where
       option_and_then (λ v. with_formals fs (put f.name v context)) (formal_value f)
 
 -- how a call ends that binds these arguments and at will a body, where implicit parameters are
--- looked up in these scopes: with
--- the context that the signature means, or a refusal in words
+-- looked up in these scopes: with the context that the signature means, or a refusal in words
 abbrev pub Binds : Definition → List (Name × Val) → Option Val → Scopes
     → Result (Named Val) SeenError → Type 0
 Binds d given body scopes answer =

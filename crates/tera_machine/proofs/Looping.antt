@@ -1,11 +1,11 @@
 -- Open loops, by their places and by their turns to come.
-use Rattle.std.proofs.Common.{◌≡◌, ◌≢◌, false, List, [], ◌∷◌, None, refl, sym, ap, ap₂, ◌∙◌, true≢false}
-use Rattle.std.specs.Prelude.{IsTrue, ◌↔◌, Bool, ℕ, zero, suc, drop, length}
+use Rattle.std.proofs.Common.{◌≡◌, ◌≢◌, false, List, [], ◌∷◌, Some, None, refl, sym, ap, ap₂, ◌∙◌, true≢false}
+use Rattle.std.specs.Prelude.{IsTrue, ◌↔◌, Bool, true, ℕ, zero, suc, drop, length, slice_get, option_map}
 use Rattle.tera_state.specs.Scope.{Turn, Variables}
 use Rattle.tera_state.specs.Scopes.{GoesRound}
 use Rattle.tera_machine.specs.declared.place.LoopPlace.{LoopPlace}
 use Rattle.tera_machine.specs.Config.{Config, loops_at}
-use Rattle.tera_machine.specs.Flow.{On}
+use Rattle.tera_machine.specs.Flow.{On, To}
 use Rattle.tera_machine.specs.Did.{Goes, Sticks}
 use Rattle.tera_machine.specs.Loops.{turned, innermost}
 use Rattle.tera_machine.specs.Act.{beneath_in}
@@ -31,6 +31,15 @@ none_open (ts ∷ tss) h =
     let e : IsTrue false = h.1 (λ e. cc) in
     absurd (true≢false (sym e))
 
+pub some_open : (coming : List (List Turn)) → (IsTrue true ↔ (coming ≢ [])) → coming ≢ []
+some_open coming h = h.0 refl
+
+-- the innermost loop is that of the topmost place
+pub top_innermost : (places : List LoopPlace) (coming : List (List Turn)) (place : LoopPlace) → coming ≢ [] → slice_get places 0 ≡ Some place → innermost (loops_at places coming) ≡ Some (place.start, place.size)
+top_innermost [] coming place h e = cc
+top_innermost (p ∷ ps) [] place h e = absurd (h refl)
+top_innermost (p ∷ ps) (ts ∷ outer) place h e = ap (option_map (λ q. (q.start, q.size))) e
+
 -- where no turn is to come the machine goes on behind the loop's body
 pub goes_past : (c : Config) (places : List LoopPlace) (coming coming' : List (List Turn)) (v v' : Variables) → turned (looping c places coming v) ≢ Sticks → GoesRound false coming v coming' v' → turned (looping c places coming v) ≡ Goes (looping c places coming' v') On
 goes_past c [] coming coming' v v' h k = absurd (h refl)
@@ -38,6 +47,16 @@ goes_past c (p ∷ ps) [] coming' v v' h k = absurd (h refl)
 goes_past c (p ∷ ps) ([] ∷ outer) coming' v v' h k =
     ap₂ (λ tss w. Goes (looping c (p ∷ ps) tss w) On) (sym k.1) (sym k.2)
 goes_past c (p ∷ ps) ((t ∷ ts) ∷ outer) coming' v v' h k = absurd (true≢false (sym k.0))
+
+-- where a turn is to come it goes on where the loop's body starts
+pub goes_round : (c : Config) (places : List LoopPlace) (coming coming' : List (List Turn)) (v v' : Variables) (place : LoopPlace) → turned (looping c places coming v) ≢ Sticks → GoesRound true coming v coming' v' → slice_get places 0 ≡ Some place → turned (looping c places coming v) ≡ Goes (looping c places coming' v') (To place.start 0)
+goes_round c [] coming coming' v v' place h k e = absurd (h refl)
+goes_round c (p ∷ ps) [] coming' v v' place h k e = absurd (h refl)
+goes_round c (p ∷ ps) ([] ∷ outer) coming' v v' place h k e = absurd (true≢false k.0)
+goes_round c (p ∷ ps) ((t ∷ ts) ∷ outer) coming' v v' place h k e =
+    let same : p ≡ place = cc in
+    ap₂ (λ tss w. Goes (looping c (p ∷ ps) tss w) (To p.start 0)) (sym k.1) (sym k.2)
+    ∙ ap (λ q. Goes (looping c (p ∷ ps) coming' v') (To q.start 0)) same
 
 abbrev nothing : List (List Turn)
 nothing = []

@@ -161,13 +161,15 @@ on_target f names c = called_on f names (topmost (length names) c.operands) c
 -- what an object sees is the variables where the instruction stands
 abbrev pub filter_called : Here → site.Name → List site.Name → Span → Config → Did
 filter_called here name names span c =
-    let filter = filtered_at plain here c.run.vars name in
-    on_target (λ a given. filter_applied_by here.file filter a given span) names c
+    on_target
+    (λ a given. filter_applied_by here.file (filtered_at plain here c.run.vars name) a given span)
+    names c
 
 abbrev pub test_called : Here → site.Name → List site.Name → Span → Config → Did
 test_called here name names span c =
-    let test = tested_at plain here c.run.vars name in
-    on_target (λ a given. test_applied_by here.file test a given span) names c
+    on_target
+    (λ a given. test_applied_by here.file (tested_at plain here c.run.vars name) a given span)
+    names c
 
 abbrev pub function_answered : Here → site.Name → List site.Name → Span → Config → Did
 function_answered here name names span c =

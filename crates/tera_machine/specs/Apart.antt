@@ -1,6 +1,5 @@
 -- How the machine enters and leaves a body that stands in a state of its own: that of a template
--- that is included, and that
--- of a component.
+-- that is included, and that of a component.
 use Rattle.std.specs.Prelude.{◌≡◌, List, [], ◌∷◌, ◌++◌}
 use Rattle.tera_errors.specs.Site.{Name, Text}
 use Rattle.tera_values.specs.Val.{text}

@@ -11,8 +11,7 @@ use Rattle.tera_machine.specs.declared.configuration.Configuration.{Configuratio
 use Rattle.tera_machine.specs.declared.place.LoopPlace.{LoopPlace}
 
 -- an open loop of the body that runs: where the loop's own body starts, how long that is, the turns
--- to come, and what a
--- comprehension kept so far
+-- to come, and what a comprehension kept so far
 pub record Loop : Type 0 where
   pub start : ℕ
   pub size : ℕ
@@ -20,8 +19,7 @@ pub record Loop : Type 0 where
   pub kept : List Val
 
 -- operands that wait, the topmost first; the texts around those that are captured, and the open
--- loops, the innermost
--- first; and what was done so far
+-- loops, the innermost first; and what was done so far
 pub record Config : Type 0 where
   pub operands : List Evaluated
   pub captures : List Text

@@ -15,8 +15,7 @@ use Rattle.tera_built_ins.specs.FunctionTable.{function_named}
 use Rattle.tera_state.specs.View.{View, NamedFilters}
 
 -- a filter of the caller: what it makes of a value and arguments, where it sees this of the
--- rendering, and whether its texts
--- are marked safe
+-- rendering, and whether its texts are marked safe
 pub record OwnFilter : Type 0 where
   pub meaning : Val → Named Val → View → Result Val Fault
   pub safe : Bool

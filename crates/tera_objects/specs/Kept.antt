@@ -31,8 +31,7 @@ engine_of m o =
     }
 
 -- A call that registers: when it is done the engine is changed like this, whatever the objects
--- mean; refused for want of memory,
--- it is as it was.
+-- mean; refused for want of memory, it is as it was.
 pub record Registers {E F T G : Type 0} (result : Result (Unit {0}) SeenError)
     (old new : ObjectsOver E F T G) (change : Meanings E F T G → Engine → Engine) : Type 0 where
   pub ok : (m : Meanings E F T G) → OnOk result (engine_of m new ≡ change m (engine_of m old))

@@ -24,8 +24,7 @@ told (Ok text) = text
 told (Err fault) = fault_line (Some fault)
 
 -- the name of a component, and then what it is by itself: the entries that its parameters name are
--- its arguments, all entries
--- are implicits, and there is no body
+-- its arguments, all entries are implicits, and there is no body
 abbrev pub shown : Registry → Named Val → Bool → Name → Text
 shown r context autoescape name =
     codes "# " ++ name ++ codes "\n"

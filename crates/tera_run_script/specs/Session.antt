@@ -49,8 +49,7 @@ Rendered (says text) Meant = Meant (Ok text)
 Rendered (refuses refusal) Meant = SaysOneOf refusal Meant
 
 -- What a command may be answered, and the session that it then leaves. Want of memory may always be
--- the answer.
--- No template waits after an adding, whether it was accepted or refused.
+-- the answer. No template waits after an adding, whether it was accepted or refused.
 abbrev pub Answers : Session → Act → Replied → Session → Type 0
 Answers now (put_value name value) reply next =
     Keeps reply now (record now { context = put name value now.context }) next
@@ -99,8 +98,7 @@ pub record Leads (old : Registry) (acts : List Act) (replies : List Replied)
   pub replied : Replies (fresh old) acts replies (session new context batch)
 
 -- The commands that these bytes spell may be answered so, and leave the new registry in place of
--- the old one. The answers are
--- written in order.
+-- the old one. The answers are written in order.
 pub record Program (old new : Registry) (input output : List ℕ) : Type 0 where
   pub replies : List Replied
   pub leads : Leads old (script_of input).acts replies new

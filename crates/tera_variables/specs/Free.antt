@@ -77,8 +77,7 @@ filters_free NoFilters = nobody
 filters_free (MoreFilters n all span rest) = arguments_free all ∪ filters_free rest
 
 -- What setting a name binds behind it, or, where it stands in a loop's body, behind that loop:
--- there what `set` binds has ended, and
--- what `set_global` binds has not.
+-- there what `set` binds has ended, and what `set_global` binds has not.
 abbrev pub set_binds : Bool → Bool → site.Name → Names
 set_binds in_loop is_global n = if is_global || not in_loop then only n else nobody
 
@@ -106,8 +105,7 @@ abbrev mutual
   binds in_loop (MoreNodes n rest) = node_binds in_loop n ∪ binds in_loop rest
 
 -- The names that nodes look up and that nothing binds which stands before in the text, or around.
--- Components are no part of the
--- text around them.
+-- Components are no part of the text around them.
 abbrev mutual
   pub node_free : Node → Names
   node_free (Content t span) = nobody

@@ -1,5 +1,5 @@
 -- Texts written as markup.
-use Rattle.std.specs.Prelude.{[], ◌∷◌, false, codes, Result, Ok}
+use Rattle.std.specs.Prelude.{false, codes, Result, Ok}
 use Rattle.tera_errors.specs.Site.{Text}
 use Rattle.tera_errors.specs.Fault.{Fault}
 use Rattle.tera_values.specs.Alphabet.{Alphabet, plain, made}

@@ -1,5 +1,5 @@
 -- The names that a template wants to be given.
-use Rattle.std.specs.Prelude.{◌≡◌, ℕ, zero, suc, Bool, false, not, ◌&&◌, ◌||◌, nat_eq, List, ◌∷◌, length, codes, Option, Some, None, Result, Ok, Err}
+use Rattle.std.specs.Prelude.{◌≡◌, ℕ, zero, suc, not, ◌&&◌, nat_eq, List, ◌∷◌, length, codes, Option, Some, None, Result, Ok, Err}
 use Rattle.std.specs.List.{list_any, starts_with}
 use Rattle.std.specs.List.Sorted.{IsStrictlySortedBy}
 use Rattle.tera_errors.specs.Site.{Name}
@@ -7,7 +7,6 @@ use Rattle.tera_errors.specs.Fault.{Fault, template_not_found}
 use Rattle.tera_syntax_tree.specs.Blocks.{is_among}
 use Rattle.tera_values.specs.Named.{name_cmp}
 use Rattle.tera_meaning.specs.Registry.{Entry, Registry}
-use Rattle.tera_meaning.specs.Resolve.{resolve}
 use Rattle.tera_meaning.specs.Lineage.{ancestors}
 use Rattle.tera_meaning.specs.Accepted.{includes_of}
 use Rattle.tera_variables.specs.Free.{Names, nobody, ◌∪◌, free}

@@ -1,5 +1,5 @@
 -- Links: what a name leads to, by the place of a template and by its name.
-use Rattle.std.proofs.Common.{◌≡◌, ℕ, List, [], Vec, map, option_map, Some, String, Global, refl, sym, ap, subst, ◌∙◌, slice_get}
+use Rattle.std.proofs.Common.{◌≡◌, ℕ, List, [], Vec, option_map, Some, String, Global, refl, sym, ap, subst, ◌∙◌}
 use Rattle.std.specs.declared.collections.BTreeMap.{BTreeMap}
 use Rattle.std.specs.declared.rc.Rc.{Rc}
 use Rattle.std.proofs.lemmas.List.Elements.{All-nil}

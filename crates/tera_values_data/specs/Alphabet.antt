@@ -16,10 +16,8 @@ abbrev pub Marked : Type 0
 Marked = ℕ × Mark
 
 -- how characters are seen as bytes, one and a text; how a text is spelled by them; a text that is
--- trusted from here on,
--- which may have been safe before; a value as it is without marks, as it comes from outside, alone
--- or by names, and as an
--- answer from there
+-- trusted from here on, which may have been safe before; a value as it is without marks, as it
+-- comes from outside, alone or by names, and as an answer from there
 pub record Alphabet (C : Type 0) : Type 0 where
   pub code : C → ℕ
   pub seen : List C → List ℕ

@@ -1,6 +1,6 @@
 use Rattle.std.proofs.Common.{ap, refl, sym, ◌∙◌}
 use Rattle.tera_machine.specs.Act.{branched}
-use Rattle.tera_machine.proofs.Reaching.{more, more_did}
+use Rattle.tera_machine.proofs.Reaching.{more_did}
 use Rattle.tera_machine.proofs.paths.tested.Goals as goal
 
 pub returns-then-is_truthy-clause-goes : goal.returns-then-is_truthy-clause-goes

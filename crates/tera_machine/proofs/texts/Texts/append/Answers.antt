@@ -1,4 +1,4 @@
-use Rattle.std.proofs.Common.{◌≡◌, List, ℕ, ◌++◌, string_bytes, sym, ap, ◌∙◌, subst}
+use Rattle.std.proofs.Common.{◌++◌, string_bytes, sym, ap, ◌∙◌, subst}
 use Rattle.tera_machine.specs.Layers.{Layers, layers_at, AreStarts}
 use Rattle.tera_machine.proofs.Starts.{layers-append, starts-append}
 use Rattle.tera_machine.proofs.texts.Texts.append.Goals as goal

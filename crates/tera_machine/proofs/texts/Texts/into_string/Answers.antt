@@ -1,4 +1,4 @@
-use Rattle.std.proofs.Common.{◌≡◌, string_bytes, sym, ap, ◌∙◌}
+use Rattle.std.proofs.Common.{string_bytes, sym, ap, ◌∙◌}
 use Rattle.tera_machine.specs.Layers.{Layers}
 use Rattle.tera_machine.proofs.Starts.{layers-all}
 use Rattle.tera_machine.proofs.texts.Texts.into_string.Goals as goal

@@ -1,5 +1,4 @@
 use Rattle.std.proofs.Common.{◌≡◌, Ok, string_bytes, sym, ap, ◌∙◌, rules}
-use Rattle.tera_values_data.specs.Val.{Val, KeyVal}
 use Rattle.tera_values.proofs.Named.{texts}
 use Rattle.tera_values.proofs.Contents.{filled_none, filled_next, filled_all}
 use Rattle.tera_values.proofs.context.Context.to_map.Goals as goal

@@ -305,12 +305,13 @@ const DEFINERS: &str = r#"@@ prefix child/ parent/
 {% component X() %}user{% endcomponent %}
 @@ end
 @@ add
-@@ component X off
+@@ str off
+{{<X/>}}
+@@ end
 @@ template other.html
 {% component X() %}o{% endcomponent %}
 @@ end
 @@ add
-@@ component X off
 @@ str off
 {{<X/>}}
 @@ end
@@ -325,7 +326,6 @@ ok
 user
 ok
 fault Message
-user
 user
 
 @@ prefix p/

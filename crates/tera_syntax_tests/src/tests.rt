@@ -8,4 +8,4 @@ mod places;
 mod readings;
 mod rows;
 mod sections;
-mod shown;
+mod trees_in_words;

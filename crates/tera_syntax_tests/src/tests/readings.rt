@@ -9,7 +9,7 @@ use super::nests::{Depth, NESTS, Nest};
 use super::places::{PLACES, Place};
 use super::rows::{OTHERS, Other, REFUSED, Row, TREES, Text, UNUSABLE, Unusable};
 use super::sections::{SECTIONS, UNREAD_SECTIONS};
-use super::shown::Shown;
+use super::trees_in_words::Shown;
 use std::alloc::Global;
 use tera_errors::{ErrorKind, Span, TeraResult};
 use tera_syntax::{Delimiters, ParserOutput, parse};

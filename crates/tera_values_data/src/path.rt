@@ -1,5 +1,5 @@
 // Paths: names and places between full stops.
-ghost use Rattle.std.specs.Prelude.{◌≡◌, option_copied, slice_get};
+ghost use Rattle.std.specs.Prelude.{◌≡◌, option_copied};
 ghost use Rattle.tera_values_data.specs.Paths.{place_named, step_to, from_path};
 
 use crate::shape::Shape;
@@ -29,15 +29,6 @@ fn place_named(digits: &[u8], length: usize) -> Option<usize>
     }
 }
 
-fn nth_item(items: &[Value], place: usize) -> Option<&Value>
-    ensures { option_copied result ≡ slice_get items.now place }
-{
-    match items.get(place) {
-        Some(item) => Some(item),
-        None => None,
-    }
-}
-
 impl Value {
     fn step(&self, piece: &str) -> Option<&Value>
         ensures { option_copied result ≡ step_to piece.now self.now }
@@ -45,7 +36,7 @@ impl Value {
         match self.shape() {
             Shape::Map(all) => all.get_text(piece),
             Shape::Array(items) => match place_named(piece.as_bytes(), items.len()) {
-                Some(place) => nth_item(items, place),
+                Some(place) => items.get(place),
                 None => None,
             },
             _ => None,

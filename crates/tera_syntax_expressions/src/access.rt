@@ -8,7 +8,7 @@ ghost use Rattle.tera_syntax_expressions.specs.Parts.{Follows, Nests, deep_of, p
 use crate::expressions::{Deep, Read};
 use crate::making::{absent, present};
 use crate::precedence;
-use crate::reader::{Part, Reader, larger};
+use crate::reader::{Part, Reader};
 use std::alloc::Global;
 use tera_syntax_tokens::refusal::{Reason, Refusal};
 use tera_syntax_tokens::token::Kind;
@@ -116,7 +116,7 @@ impl<'s, F: Fn(Global, &mut Tokens<'_, 's>, usize, u8) -> Read<'s>> Reader<F> {
             Takes deep_of (meant (input tokens.old)) result tokens.new }
     {
         tokens.take();
-        let depth = larger(x.depth, y.depth);
+        let depth = x.depth.max(y.depth);
         let (target, index) = (x.expression, y.expression);
         let parts = Box::new(self.alloc, Indexed { target, index })?;
         let span = tokens.span(at.start);
@@ -136,7 +136,7 @@ impl<'s, F: Fn(Global, &mut Tokens<'_, 's>, usize, u8) -> Read<'s>> Reader<F> {
         let r = self.step(tokens)?;
         tokens.expect(Kind::RightBracket)?;
         let (a, b, c) = (p.depth, q.depth, r.depth);
-        let depth = larger(x.depth, larger(a, larger(b, c)));
+        let depth = x.depth.max(a.max(b.max(c)));
         let bounds = Bounds {
             start: p.expression,
             end: q.expression,

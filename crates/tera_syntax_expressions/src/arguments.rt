@@ -10,7 +10,7 @@ use crate::commas::{between_commas, take_comma};
 use crate::expressions::{Deep, Depth, Read, Row};
 use crate::levels::kinds;
 use crate::precedence;
-use crate::reader::{Reader, larger};
+use crate::reader::Reader;
 use std::alloc::{AllocError, Global};
 use std::cmp::Ordering;
 use tera_errors::Span;

@@ -10,7 +10,7 @@ ghost use Rattle.tera_syntax_expressions.specs.Precedence as precedence;
 use crate::commas::{between_commas, take_comma};
 use crate::expressions::{Deep, Depth, Read, Row};
 use crate::precedence;
-use crate::reader::{Reader, larger};
+use crate::reader::Reader;
 use std::alloc::{AllocError, Global};
 use tera_syntax_tokens::literal::{integer, literal};
 use tera_syntax_tokens::refusal::{Reason, Refusal};

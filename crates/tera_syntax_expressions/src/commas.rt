@@ -21,7 +21,7 @@ macro_rules! between_commas {
                 Ok(x) => x,
                 Err(refusal) => return Err(refusal),
             };
-            $depth = larger($depth, x);
+            $depth = $depth.max(x);
             match take_comma($tokens, $closing) {
                 Ok(true) => {}
                 Ok(false) => return Ok(($found, $depth)),

@@ -9,7 +9,7 @@ ghost use Rattle.tera_syntax_expressions.specs.Parts.{Follows, FollowsRow, Nests
 use crate::arguments::argument_name;
 use crate::expressions::{Deep, Depth, Read, Row, expr};
 use crate::precedence;
-use crate::reader::{Reader, larger};
+use crate::reader::Reader;
 use std::alloc::Global;
 use tera_syntax_tokens::literal::literal;
 use tera_syntax_tokens::refusal::{Reason, Refusal};
@@ -94,7 +94,7 @@ impl<'s, F: Fn(Global, &mut Tokens<'_, 's>, usize, u8) -> Read<'s>> Reader<F> {
                 Ok(x) => x,
                 Err(refusal) => return Err(refusal),
             };
-            depth = larger(depth, x);
+            depth = depth.max(x);
         }
         Ok((found, depth))
     }

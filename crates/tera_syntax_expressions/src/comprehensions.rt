@@ -8,7 +8,7 @@ use crate::expressions::{Deep, Read};
 use crate::headings::{LoopNames, names};
 use crate::making::{absent, present};
 use crate::precedence;
-use crate::reader::{Part, Reader, larger};
+use crate::reader::{Part, Reader};
 use std::alloc::Global;
 use tera_syntax_tokens::refusal::Refusal;
 use tera_syntax_tokens::token::Kind;
@@ -33,7 +33,7 @@ impl<'s, F: Fn(Global, &mut Tokens<'_, 's>, usize, u8) -> Read<'s>> Reader<F> {
         let only = self.condition(tokens)?;
         tokens.expect(Kind::RightBracket)?;
         let (a, b, c) = (x.depth, target.depth, only.depth);
-        let depth = larger(a, larger(b, c));
+        let depth = a.max(b.max(c));
         let collected = Collected {
             value: x.expression,
             heading: heading(names, target.expression),

@@ -5,7 +5,7 @@ ghost use Rattle.tera_syntax_expressions.specs.Expressions as spec;
 ghost use Rattle.tera_syntax_expressions.specs.Parts.{FollowsRow, Nests, TakesPart};
 
 use crate::expressions::{Deep, Depth, Read, Row, expr};
-use crate::reader::{Reader, larger, reader_within};
+use crate::reader::{Reader, reader_within};
 use std::alloc::Global;
 use tera_syntax_tokens::refusal::{Reason, Refusal};
 use tera_syntax_tokens::token::Kind;
@@ -40,7 +40,7 @@ impl<'s, F: Fn(Global, &mut Tokens<'_, 's>, usize, u8) -> Read<'s>> Reader<F> {
                 Ok(x) => x,
                 Err(refusal) => return Err(refusal),
             };
-            depth = larger(depth, x);
+            depth = depth.max(x);
             if !same(Kind::Bar, tokens.kind()) {
                 return Ok((found, depth));
             }

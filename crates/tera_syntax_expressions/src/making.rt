@@ -7,7 +7,7 @@ ghost use Rattle.tera_syntax_expressions.specs.Expressions as spec;
 ghost use Rattle.tera_syntax_expressions.specs.Parts.{Nests, deep_of, part_of};
 
 use crate::expressions::{Deep, Read};
-use crate::reader::{Part, Reader, larger};
+use crate::reader::{Part, Reader};
 use crate::signs::{Application, make_application};
 use std::alloc::{AllocError, Global};
 use tera_syntax_tokens::refusal::Refusal;
@@ -45,7 +45,7 @@ impl<'s, F: Fn(Global, &mut Tokens<'_, 's>, usize, u8) -> Read<'s>> Reader<F> {
         let name = tokens.text();
         tokens.take();
         let (arguments, b) = self.given(tokens)?;
-        let depth = larger(x.depth, b);
+        let depth = x.depth.max(b);
         let applied = Applied {
             value: x.expression,
             name,

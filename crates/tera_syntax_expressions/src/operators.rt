@@ -5,7 +5,7 @@ ghost use Rattle.tera_syntax_expressions.specs.Parts.{GoesOn, Nests, deep_of, in
 
 use crate::expressions::{Deep, Read};
 use crate::precedence;
-use crate::reader::{Reader, larger};
+use crate::reader::Reader;
 use crate::signs::{Infix, Prefix, make_infix, make_prefix};
 use std::alloc::Global;
 use tera_syntax_tokens::refusal::{Reason, Refusal};
@@ -45,7 +45,7 @@ impl<'s, F: Fn(Global, &mut Tokens<'_, 's>, usize, u8) -> Read<'s>> Reader<F> {
     {
         tokens.take();
         let y = self.sub(tokens, level)?;
-        let depth = larger(x.depth, y.depth);
+        let depth = x.depth.max(y.depth);
         let (left, right) = (x.expression, y.expression);
         let operands = Box::new(self.alloc, Operands { left, right })?;
         self.node(tokens, depth, make_infix(op, operands, tokens.span(start)))
@@ -76,7 +76,7 @@ impl<'s, F: Fn(Global, &mut Tokens<'_, 's>, usize, u8) -> Read<'s>> Reader<F> {
         let y = self.sub(tokens, precedence::OR)?;
         tokens.expect(Kind::Else)?;
         let z = self.sub(tokens, precedence::CHOICE)?;
-        let depth = larger(x.depth, larger(y.depth, z.depth));
+        let depth = x.depth.max(y.depth.max(z.depth));
         let span = tokens.span(start);
         let choice = Choice {
             value: x.expression,

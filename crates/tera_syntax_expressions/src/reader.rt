@@ -1,5 +1,4 @@
 // What every form is read with.
-ghost use Rattle.std.specs.Prelude.{◌≡◌, max};
 ghost use Rattle.tera_syntax_tree.specs.Prelude.{expr_of};
 ghost use Rattle.tera_syntax_tokens.specs.Prelude.{Takes, input};
 ghost use Rattle.tera_syntax_expressions.specs.Expressions as spec;
@@ -72,11 +71,4 @@ impl<'s, F: Fn(Global, &mut Tokens<'_, 's>, usize, u8) -> Read<'s>> Reader<F> {
             depth: depth + 1,
         })
     }
-}
-
-/// The larger of two depths.
-pub(crate) fn larger(a: usize, b: usize) -> usize
-    ensures { result ≡ max a b }
-{
-    if a < b { b } else { a }
 }

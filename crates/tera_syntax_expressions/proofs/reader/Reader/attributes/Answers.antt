@@ -20,4 +20,4 @@ pub loop-turn-preserved : goal.loop-turn-preserved
 loop-turn-preserved g c =
     let e = attributes-turn c.args.self.now.limit (expr c.args.self.now.below) _ _ (entries_of c.loop-turn.found.items) c.loop-turn.depth (input c.loop-turn.tokens) c.loop-turn-test.true c.loop-turn.invariant
     (tested begins_attribute c.kind.ensures c.begins_attribute.ensures c.if-not-begins_attribute.false) c.in-Ok.ensures in
-    e ∙ ap (λ m. attributes_from c.args.self.now.limit (expr c.args.self.now.below) (c.left-turn-end.result - (c.loop-turn._turn + 1)) (entries_of c.any_attribute.new.found.items) m (input c.any_attribute.new.tokens)) (sym c.larger-depth.ensures)
+    e ∙ ap (λ m. attributes_from c.args.self.now.limit (expr c.args.self.now.below) (c.left-turn-end.result - (c.loop-turn._turn + 1)) (entries_of c.any_attribute.new.found.items) m (input c.any_attribute.new.tokens)) (sym c.max-depth.ensures)

@@ -12,8 +12,8 @@ returns-in-Err g c = refused c.in-Err.refusal (filters_turn c.args.self.now.limi
 
 pub loop-turn-preserved : goal.loop-turn-preserved
 loop-turn-preserved g c = filters_more c.args.self.now.limit (expr c.args.self.now.below) _ _ (filters_of c.loop-turn.found.items) c.loop-turn.depth (input c.loop-turn.tokens) c.loop-turn-test.true c.loop-turn.invariant
-    c.in-Ok.ensures (tested (same Bar) c.kind.ensures c.same.ensures c.if-not-same.false) c.larger-depth.ensures c.take.ensures
+    c.in-Ok.ensures (tested (same Bar) c.kind.ensures c.same.ensures c.if-not-same.false) c.max-depth.ensures c.take.ensures
 
 pub returns-then-not-same : goal.returns-then-not-same
 returns-then-not-same g c = filters_over c.args.self.now.limit (expr c.args.self.now.below) _ _ (filters_of c.loop-turn.found.items) c.loop-turn.depth (input c.loop-turn.tokens) c.loop-turn-test.true c.loop-turn.invariant
-    c.in-Ok.ensures (tested (same Bar) c.kind.ensures c.same.ensures c.if-not-same.true) c.larger-depth.ensures
+    c.in-Ok.ensures (tested (same Bar) c.kind.ensures c.same.ensures c.if-not-same.true) c.max-depth.ensures

@@ -2,7 +2,7 @@
 use Rattle.std.proofs.Common.{◌≡◌, ℕ, suc, ◌<◌, ◌-◌, List, [], ◌∷◌, Bool, true, nat_lt, Some, refl, ap, ap₂, ◌∙◌, arith}
 use Rattle.std.proofs.lemmas.Grind.{common_steps}
 use Rattle.tera_syntax_tokens.specs.declared.token.Kind.TheVariants as k
-use Rattle.tera_syntax_tokens.specs.Input.{begin, kind, next, same, start, text}
+use Rattle.tera_syntax_tokens.specs.Input.{begin, kind, next, start, text}
 use Rattle.tera_syntax_tokens.specs.Token.{Token}
 use Rattle.tera_syntax_tree.specs.Tree.{Name, Print}
 use Rattle.tera_syntax_expressions.specs.Expressions.{expr, gives, head, needs, node}
@@ -15,7 +15,7 @@ use Rattle.tera_syntax_tree.specs.Depth.{max_tree_depth}
 
 -- it reads as this name, wherever an expression may stand
 pub name_is_whole : (limit : ℕ) (in_loop : Bool) (t : Token) → t.kind ≡ k.Name → whole (suc limit) (begin in_loop (t ∷ [])) ≡ Some (Name t.text t.span)
-unfolding whole expr head kind start is_call node next same gives needs text loop_name
+unfolding whole expr head kind start is_call node next gives needs text loop_name
 name_is_whole limit in_loop t h =
     let i = begin in_loop (t ∷ []) in
     let lt : nat_lt 0 (suc limit) ≡ true = grind (arith, common_steps) in

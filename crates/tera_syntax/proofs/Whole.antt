@@ -99,7 +99,7 @@ called_sound limit from i head h =
     called_from limit from i head (attributes limit (next i)) g.0 refl g.1
 
 stops : (s : Kind) → s ≡ k.Greater → begins_attribute s ≡ false
-unfolding begins_attribute is_word same
+unfolding begins_attribute is_word
 stops s h = ap begins_attribute h
 
 pub called_complete : (limit from : ℕ) (i a : Input) (xs : Entries) → is_word (kind i) ≡ true → DerivesAttributes xs (next i) a → kind a ≡ k.Greater → kind (next a) ≡ k.End → entries_depth xs ≤ limit

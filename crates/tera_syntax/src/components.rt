@@ -11,7 +11,7 @@ use std::alloc::Global;
 use tera_syntax_expressions::components::attributes;
 use tera_syntax_tokens::refusal::{Reason, Refusal};
 use tera_syntax_tokens::token::{Kind, Token};
-use tera_syntax_tokens::tokens::{Tokens, is_word, same};
+use tera_syntax_tokens::tokens::{Tokens, is_word};
 use tera_syntax_tree::ComponentTag;
 
 /// A tag that begins with `<`.
@@ -29,7 +29,7 @@ pub(crate) fn call<'s>(
     let mut ahead = Tokens::begin(tag, progress.surroundings.in_loop);
     let start = ahead.start();
     ahead.take();
-    if same(Kind::Slash, ahead.kind()) {
+    if ahead.kind() == Kind::Slash {
         return progress.shut(alloc, tag);
     }
     let head = called(alloc, &mut ahead, progress.room(), start)?;
@@ -52,11 +52,11 @@ fn called<'s>(
     let name = ahead.text();
     ahead.take();
     let (attributes, _depth) = attributes(alloc, ahead, limit)?;
-    if !same(Kind::Greater, ahead.kind()) {
+    if ahead.kind() != Kind::Greater {
         return Err(ahead.refuse(Reason::Expected(Kind::Greater)));
     }
     ahead.take();
-    if !same(Kind::End, ahead.kind()) {
+    if ahead.kind() != Kind::End {
         return Err(ahead.refuse(Reason::TagGoesOn));
     }
     let tag = Box::new(alloc, ComponentTag { name, attributes })?;

@@ -8,7 +8,7 @@ ghost use Rattle.tera_syntax_tree.specs.Prelude.{node_of, nodes_of};
 use tera_errors::Span;
 use tera_syntax_tokens::cut::is_alone;
 use tera_syntax_tokens::token::{Kind, Token};
-use tera_syntax_tokens::tokens::{Tokens, is_word, same};
+use tera_syntax_tokens::tokens::{Tokens, is_word};
 use tera_syntax_tree::{
     Captured, ComponentTag, Expression, Heading, Node, SectionFilter, Signature,
 };
@@ -176,7 +176,7 @@ impl<'s> Head<'s> {
     pub fn is_ended_by(&self, tokens: &[Token<'_>]) -> bool
         ensures { result ≡ spec.ends (head_of self.now) (tokens_of tokens.now) }
     {
-        same(self.end_kind(), first(tokens)) && self.is_end(tokens)
+        first(tokens) == self.end_kind() && self.is_end(tokens)
     }
 }
 
@@ -191,7 +191,7 @@ pub(crate) fn first(tokens: &[Token<'_>]) -> Kind
 pub(crate) fn is_extends(tag: &[Token<'_>]) -> bool
     ensures { result ≡ spec.is_extends (tokens_of tag.now) }
 {
-    same(Kind::Name, first(tag)) && Tokens::begin(tag, false).text() == "extends"
+    first(tag) == Kind::Name && Tokens::begin(tag, false).text() == "extends"
 }
 
 /// Whether the tokens are this word, and behind it this name.
@@ -210,8 +210,8 @@ fn is_call_end(name: &str, tokens: &[Token<'_>]) -> bool
 {
     match tokens {
         [_, slash, named, close] => {
-            same(Kind::Slash, slash.kind)
-                && (is_word(named.kind) && named.text == name && same(Kind::Greater, close.kind))
+            slash.kind == Kind::Slash
+                && (is_word(named.kind) && named.text == name && close.kind == Kind::Greater)
         }
         _ => false,
     }

@@ -19,7 +19,7 @@ use tera_syntax_expressions::precedence;
 use tera_syntax_tokens::cut::{Piece, is_alone};
 use tera_syntax_tokens::refusal::{Reason, Refusal};
 use tera_syntax_tokens::token::{Kind, Token};
-use tera_syntax_tokens::tokens::{Tokens, same};
+use tera_syntax_tokens::tokens::Tokens;
 use tera_syntax_tree::{Expression, Heading, Node, SectionFilter};
 
 /// An expression that is all from here to the end of the tag.
@@ -32,7 +32,7 @@ pub(crate) fn whole<'s>(
     ensures { Answers expr_of (spec.whole limit (input tokens.old)) result }
 {
     let value = expr(alloc, tokens, limit, precedence::CHOICE)?;
-    if same(Kind::End, tokens.kind()) {
+    if tokens.kind() == Kind::End {
         Ok(value.expression)
     } else {
         Err(tokens.refuse(Reason::TagGoesOn))
@@ -49,7 +49,7 @@ pub(crate) fn pipe<'s>(
     ensures { Answers (λ fs. filters_of fs.items) (spec.pipe limit (input tokens.old)) result }
 {
     let (filters, _depth) = filters(alloc, tokens, limit)?;
-    if same(Kind::End, tokens.kind()) {
+    if tokens.kind() == Kind::End {
         Ok(filters)
     } else {
         Err(tokens.refuse(Reason::TagGoesOn))

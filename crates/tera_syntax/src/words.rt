@@ -15,7 +15,7 @@ use tera_syntax_tokens::cut::is_alone;
 use tera_syntax_tokens::literal::literal;
 use tera_syntax_tokens::refusal::{Reason, Refusal};
 use tera_syntax_tokens::token::{Kind, Token};
-use tera_syntax_tokens::tokens::{Tokens, is_word, same};
+use tera_syntax_tokens::tokens::{Tokens, is_word};
 use tera_syntax_tree::{Captured, Node, Quoted};
 
 /// A tag that begins with `set` or `set_global`.
@@ -32,7 +32,7 @@ fn set<'s>(
         Becomes (option_and_then (spec.taken max_tree_depth s tokens) meant) result progress.new }
 {
     let mut ahead = behind(tag, progress.surroundings.in_loop);
-    if !same(Kind::Name, ahead.kind()) {
+    if ahead.kind() != Kind::Name {
         return Err(ahead.refuse(Reason::Expected(Kind::Name)));
     }
     let name = ahead.text();
@@ -86,7 +86,7 @@ fn block<'s>(progress: &mut Progress<'s>, alloc: Global, tag: &[Token<'s>]) -> R
     let name = ahead.text();
     let start = ahead.start();
     ahead.take();
-    if !same(Kind::End, ahead.kind()) {
+    if ahead.kind() != Kind::End {
         return Err(ahead.refuse(Reason::TagGoesOn));
     }
     progress.open(alloc, false, Head::Block(name, ahead.span(start)), tag)
@@ -106,7 +106,7 @@ fn define<'s>(progress: &mut Progress<'s>, alloc: Global, tag: &[Token<'s>]) -> 
     }
     let mut ahead = behind(tag, false);
     let signature = signature(alloc, &mut ahead, progress.room())?;
-    if !same(Kind::End, ahead.kind()) {
+    if ahead.kind() != Kind::End {
         return Err(ahead.refuse(Reason::TagGoesOn));
     }
     let signature = Box::new(alloc, signature)?;
@@ -121,12 +121,12 @@ pub(crate) fn quoted_name<'s>(
     ensures value { Answers quoted_of (spec.quoted_name_at (input ahead.old)) result }
     ensures place { IfOk result (λ name. input ahead.new ≡ next (input ahead.old)) }
 {
-    if !same(Kind::Text, ahead.kind()) {
+    if ahead.kind() != Kind::Text {
         return Err(ahead.refuse(Reason::Expected(Kind::Text)));
     }
     let quoted = ahead.text();
     ahead.take();
-    if !same(Kind::End, ahead.kind()) {
+    if ahead.kind() != Kind::End {
         return Err(ahead.refuse(Reason::TagGoesOn));
     }
     match literal(alloc, quoted)? {

@@ -31,7 +31,7 @@ one_of : (p q : Bool) → (p || q) ≡ true → (p ≡ true) ⊎ (q ≡ true)
 one_of true q h = inl refl
 one_of false q h = inr h
 
-not_open : (n : ℕ) (os : List ℕ) (i : Input) → same k.LeftParenthesis (kind i) ≡ false → opened n os i ≡ Some (os, i)
+pub not_open : (n : ℕ) (os : List ℕ) (i : Input) → same k.LeftParenthesis (kind i) ≡ false → opened n os i ≡ Some (os, i)
 unfolding opened
 not_open zero os i h = refl
 not_open (suc n) os i h = rw h refl

@@ -24,11 +24,9 @@ chosen true o p y h = inl (refl, h)
 chosen false o p y h = inr (refl, h)
 
 pub same-is : (a b : Kind) → same a b ≡ true → b ≡ a
-unfolding same
-same-is a b h = sym (same_true the_type (search rules) _ _ h)
+same-is a b h = same_true the_type (search rules) _ _ h
 
 pub same-refl : (a : Kind) → same a a ≡ true
-unfolding same
 same-refl a = search rules
 
 -- a kind beside another

@@ -1,6 +1,7 @@
 -- A recursion on a count of turns, beside a loop that counts up.
-use Rattle.std.proofs.Common.{◌≡◌, ℕ, zero, suc, ◌+◌, ◌-◌, ◌<◌, ◌≤◌, ap, ap₂, ◌∙◌, arith, refl, sym, Option, Some, None, Bool, max, List, [], ◌∷◌, ◌++◌, true, drop, drop-drop, nat_eq, false, if◌then◌else◌}
+use Rattle.std.proofs.Common.{◌≡◌, ℕ, zero, suc, ◌+◌, ◌-◌, ◌<◌, ◌≤◌, ap, ap₂, ◌∙◌, arith, refl, sym, Option, Some, None, Bool, not, max, List, [], ◌∷◌, ◌++◌, true, drop, drop-drop, nat_eq, false, if◌then◌else◌}
 use Rattle.std.proofs.lemmas.Grind.{common_steps}
+use Rattle.std.proofs.Math.Bool.{not-not}
 use Rattle.tera_syntax_tokens.specs.declared.refusal.Refusal.{Refusal}
 use Rattle.tera_syntax_tokens.specs.declared.refusal.Refusal.TheVariants.{Syntax, OutOfMemory}
 use Rattle.tera_syntax_tokens.specs.Answers.{Refuses, IsSyntax}
@@ -87,6 +88,10 @@ items_of-push (j ∷ all) i = ap (MoreItems j.is_spread (expr_of j.value)) (item
 -- what a test of a token's kind tells of the next token
 pub tested : (test : Kind → Bool) {at here : Kind} {b v : Bool} → at ≡ here → b ≡ test at → b ≡ v → test here ≡ v
 tested test e t v = ap test (sym e) ∙ sym t ∙ v
+
+-- the same where the code asks for the contrary
+pub tested-not : (test : Kind → Bool) {at here : Kind} {b v : Bool} → at ≡ here → b ≡ not (test at) → b ≡ v → test here ≡ not v
+tested-not test {at} e t v = tested test e (ap not t ∙ not-not (test at)) (ap not v)
 
 -- behind a part stands a comma and more, or what closes
 abbrev pub behind : {S : Type 0} → Kind → (S → Parser S) → S → Parser S

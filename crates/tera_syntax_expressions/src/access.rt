@@ -12,7 +12,7 @@ use crate::reader::{Part, Reader};
 use std::alloc::Global;
 use tera_syntax_tokens::refusal::{Reason, Refusal};
 use tera_syntax_tokens::token::Kind;
-use tera_syntax_tokens::tokens::{Tokens, is_word, same};
+use tera_syntax_tokens::tokens::{Tokens, is_word};
 use tera_syntax_tree::{Bounds, Expression, Indexed, Sliced};
 
 /// How a part of a value is asked for.
@@ -64,14 +64,14 @@ impl<'s, F: Fn(Global, &mut Tokens<'_, 's>, usize, u8) -> Read<'s>> Reader<F> {
             Takes deep_of (meant (input tokens.old)) result tokens.new }
     {
         tokens.take();
-        if same(Kind::RightBracket, tokens.kind()) {
+        if tokens.kind() == Kind::RightBracket {
             return Err(tokens.refuse(Reason::NoExpression));
         }
-        if same(Kind::Colon, tokens.kind()) {
+        if tokens.kind() == Kind::Colon {
             return self.slice(tokens, at, x, absent());
         }
         let y = self.sub(tokens, precedence::CHOICE)?;
-        if same(Kind::RightBracket, tokens.kind()) {
+        if tokens.kind() == Kind::RightBracket {
             self.index(tokens, at, x, y)
         } else {
             self.slice(tokens, at, x, present(self.alloc, y)?)
@@ -84,10 +84,10 @@ impl<'s, F: Fn(Global, &mut Tokens<'_, 's>, usize, u8) -> Read<'s>> Reader<F> {
         requires { Nests self.now.below (F.pre self.now.expr) (F.post self.now.expr) }
         ensures { Follows part_of spec.part self.now tokens.old result tokens.new }
     {
-        if same(Kind::Colon, tokens.kind()) {
+        if tokens.kind() == Kind::Colon {
             return Ok(absent());
         }
-        if same(Kind::RightBracket, tokens.kind()) {
+        if tokens.kind() == Kind::RightBracket {
             return Ok(absent());
         }
         let x = self.sub(tokens, precedence::CHOICE)?;
@@ -100,7 +100,7 @@ impl<'s, F: Fn(Global, &mut Tokens<'_, 's>, usize, u8) -> Read<'s>> Reader<F> {
         requires { Nests self.now.below (F.pre self.now.expr) (F.post self.now.expr) }
         ensures { Follows part_of spec.step self.now tokens.old result tokens.new }
     {
-        if same(Kind::Colon, tokens.kind()) {
+        if tokens.kind() == Kind::Colon {
             tokens.take();
             return self.part(tokens);
         }

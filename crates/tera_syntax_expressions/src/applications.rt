@@ -11,7 +11,7 @@ use crate::signs::Application;
 use std::alloc::Global;
 use tera_syntax_tokens::refusal::{Reason, Refusal};
 use tera_syntax_tokens::token::Kind;
-use tera_syntax_tokens::tokens::{Tokens, is_word, same};
+use tera_syntax_tokens::tokens::{Tokens, is_word};
 use tera_syntax_tree::Argument;
 
 impl<'s, F: Fn(Global, &mut Tokens<'_, 's>, usize, u8) -> Read<'s>> Reader<F> {
@@ -35,7 +35,7 @@ impl<'s, F: Fn(Global, &mut Tokens<'_, 's>, usize, u8) -> Read<'s>> Reader<F> {
         ensures { GoesOn spec.tested self.now start x.entry tokens.old result tokens.new }
     {
         tokens.take();
-        if !same(Kind::Not, tokens.kind()) {
+        if tokens.kind() != Kind::Not {
             return self.test_by_name(tokens, start, x);
         }
         tokens.take();
@@ -62,7 +62,7 @@ impl<'s, F: Fn(Global, &mut Tokens<'_, 's>, usize, u8) -> Read<'s>> Reader<F> {
         ensures { Follows (λ p. (arguments_of p.0.items, p.1)) spec.given self.now
             tokens.old result tokens.new }
     {
-        if !same(Kind::LeftParenthesis, tokens.kind()) {
+        if tokens.kind() != Kind::LeftParenthesis {
             return Ok((Vec::new(self.alloc), 0));
         }
         tokens.take();
@@ -75,5 +75,5 @@ impl<'s, F: Fn(Global, &mut Tokens<'_, 's>, usize, u8) -> Read<'s>> Reader<F> {
 fn is_test_name(kind: Kind) -> bool
     ensures { result ≡ call.is_test_name kind }
 {
-    is_word(kind) && !same(Kind::Not, kind)
+    is_word(kind) && kind != Kind::Not
 }

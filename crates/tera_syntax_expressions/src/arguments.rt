@@ -16,7 +16,7 @@ use std::cmp::Ordering;
 use tera_errors::Span;
 use tera_syntax_tokens::refusal::{Reason, Refusal};
 use tera_syntax_tokens::token::Kind;
-use tera_syntax_tokens::tokens::{Tokens, is_word, same};
+use tera_syntax_tokens::tokens::{Tokens, is_word};
 use tera_syntax_tree::{Argument, Called, Expression};
 
 impl<'s, F: Fn(Global, &mut Tokens<'_, 's>, usize, u8) -> Read<'s>> Reader<F> {
@@ -112,7 +112,7 @@ fn place(found: &[Argument<'_>], name: &str) -> Option<usize>
 pub(crate) fn is_call(tokens: &Tokens<'_, '_>) -> bool
     ensures { result ≡ call.is_call (input tokens.now) }
 {
-    same(Kind::LeftParenthesis, kinds(tokens).1)
+    kinds(tokens).1 == Kind::LeftParenthesis
 }
 
 /// The form of a call by this name.

@@ -13,7 +13,7 @@ use crate::signs::Infix::{self, Binary};
 use std::alloc::Global;
 use tera_syntax_tokens::refusal::{Reason, Refusal};
 use tera_syntax_tokens::token::{Kind, Token};
-use tera_syntax_tokens::tokens::{Tokens, same, start_at};
+use tera_syntax_tokens::tokens::{Tokens, start_at};
 use tera_syntax_tree::BinaryOperator as Operator;
 
 impl<'s, F: Fn(Global, &mut Tokens<'_, 's>, usize, u8) -> Read<'s>> Reader<F> {
@@ -148,7 +148,7 @@ pub(crate) fn opened(tokens: &mut Tokens<'_, '_>) -> usize
 {
     let mut count = 0usize;
     for _turn in 0..tokens.left() {
-        if !same(Kind::LeftParenthesis, tokens.kind()) {
+        if tokens.kind() != Kind::LeftParenthesis {
             break;
         }
         tokens.take();

@@ -15,7 +15,7 @@ use std::alloc::{AllocError, Global};
 use tera_syntax_tokens::literal::{integer, literal};
 use tera_syntax_tokens::refusal::{Reason, Refusal};
 use tera_syntax_tokens::token::Kind;
-use tera_syntax_tokens::tokens::{Tokens, same};
+use tera_syntax_tokens::tokens::Tokens;
 use tera_syntax_tree::{Entry, Expression, Item, LiteralKey};
 
 impl<'s, F: Fn(Global, &mut Tokens<'_, 's>, usize, u8) -> Read<'s>> Reader<F> {
@@ -26,14 +26,14 @@ impl<'s, F: Fn(Global, &mut Tokens<'_, 's>, usize, u8) -> Read<'s>> Reader<F> {
         ensures { let meant = spec.bracketed self.now.limit (spec.expr self.now.below) start in
             Takes deep_of (meant (input tokens.old)) result tokens.new }
     {
-        if same(Kind::RightBracket, tokens.kind()) {
+        if tokens.kind() == Kind::RightBracket {
             tokens.take();
             let expression = Expression::array(Vec::new(self.alloc), tokens.span(start));
             return self.node(tokens, 0, expression);
         }
         let is_spread = take_dots(tokens);
         let x = self.sub(tokens, precedence::CHOICE)?;
-        if !is_spread && same(Kind::For, tokens.kind()) {
+        if !is_spread && tokens.kind() == Kind::For {
             return self.comprehension(tokens, start, x);
         }
         let mut found = Vec::new(self.alloc);
@@ -60,7 +60,7 @@ impl<'s, F: Fn(Global, &mut Tokens<'_, 's>, usize, u8) -> Read<'s>> Reader<F> {
             (items_of found.entry.items) depth in
             Takes (λ p. (items_of p.0.items, p.1)) (meant (input tokens.old)) result tokens.new }
     {
-        if same(Kind::Comma, tokens.kind()) {
+        if tokens.kind() == Kind::Comma {
             tokens.take();
             return self.items(tokens, found, depth);
         }
@@ -153,7 +153,7 @@ pub(crate) fn entry_key<'s>(
 ) -> Result<Option<LiteralKey<'s>>, Refusal>
     ensures { Takes literal_option (spec.entry_key (input tokens.old)) result tokens.new }
 {
-    if same(Kind::Spread, tokens.kind()) {
+    if tokens.kind() == Kind::Spread {
         tokens.take();
         return Ok(None);
     }
@@ -195,7 +195,7 @@ pub(crate) fn take_dots(tokens: &mut Tokens<'_, '_>) -> bool
     ensures value { result ≡ same Kind.Spread (kind (input tokens.old)) }
     ensures rest { input tokens.new ≡ spec.behind_dots (input tokens.old) }
 {
-    if same(Kind::Spread, tokens.kind()) {
+    if tokens.kind() == Kind::Spread {
         tokens.take();
         true
     } else {

@@ -4,7 +4,7 @@ ghost use Rattle.tera_syntax_expressions.specs.Commas.{comma_or};
 
 use tera_syntax_tokens::refusal::Refusal;
 use tera_syntax_tokens::token::Kind;
-use tera_syntax_tokens::tokens::{Tokens, same};
+use tera_syntax_tokens::tokens::Tokens;
 
 /// Parts with commas between, and one behind the last at will, up to the token that closes: all that were found, and how deep
 /// the deepest is. Each turn reads a part, puts it among the others and tells how deep it is.
@@ -13,7 +13,7 @@ macro_rules! between_commas {
         let mut $found = $none;
         let mut $depth = $least;
         for _turn in 0..$tokens.left() {
-            if same($closing, $tokens.kind()) {
+            if $tokens.kind() == $closing {
                 $tokens.take();
                 return Ok(($found, $depth));
             }
@@ -40,7 +40,7 @@ pub(crate) use between_commas;
 pub(crate) fn take_comma(tokens: &mut Tokens<'_, '_>, closing: Kind) -> Result<bool, Refusal>
     ensures { Takes (λ more. more) (comma_or closing (input tokens.old)) result tokens.new }
 {
-    if same(Kind::Comma, tokens.kind()) {
+    if tokens.kind() == Kind::Comma {
         tokens.take();
         return Ok(true);
     }

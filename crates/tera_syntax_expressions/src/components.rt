@@ -14,7 +14,7 @@ use std::alloc::Global;
 use tera_syntax_tokens::literal::literal;
 use tera_syntax_tokens::refusal::{Reason, Refusal};
 use tera_syntax_tokens::token::Kind;
-use tera_syntax_tokens::tokens::{Tokens, is_word, same};
+use tera_syntax_tokens::tokens::{Tokens, is_word};
 use tera_syntax_tree::{ComponentTag, Entry, Expression, LiteralKey, Quoted};
 
 /// Attributes up to where none begins, no deeper than `limit`, and the greatest depth.
@@ -106,7 +106,7 @@ impl<'s, F: Fn(Global, &mut Tokens<'_, 's>, usize, u8) -> Read<'s>> Reader<F> {
         ensures { let meant = spec.any_attribute self.now.limit (spec.expr self.now.below) in
             TakesPart entries_of meant found.old found.new (input tokens.old) result tokens.new }
     {
-        if same(Kind::LeftBrace, tokens.kind()) {
+        if tokens.kind() == Kind::LeftBrace {
             tokens.take();
             self.spread_attribute(tokens, found)
         } else {
@@ -163,11 +163,11 @@ impl<'s, F: Fn(Global, &mut Tokens<'_, 's>, usize, u8) -> Read<'s>> Reader<F> {
         ensures { let meant = spec.attribute_value self.now.limit (spec.expr self.now.below) in
             Takes deep_of (meant (input tokens.old)) result tokens.new }
     {
-        if same(Kind::LeftBrace, tokens.kind()) {
+        if tokens.kind() == Kind::LeftBrace {
             tokens.take();
             return self.braced(tokens);
         }
-        if !same(Kind::Text, tokens.kind()) {
+        if tokens.kind() != Kind::Text {
             return Err(tokens.refuse(Reason::Expected(Kind::Text)));
         }
         let start = tokens.start();
@@ -202,5 +202,5 @@ impl<'s, F: Fn(Global, &mut Tokens<'_, 's>, usize, u8) -> Read<'s>> Reader<F> {
 fn begins_attribute(kind: Kind) -> bool
     ensures { result ≡ call.begins_attribute kind }
 {
-    is_word(kind) || same(Kind::LeftBrace, kind)
+    is_word(kind) || kind == Kind::LeftBrace
 }

@@ -12,7 +12,7 @@ use crate::reader::{Part, Reader};
 use std::alloc::Global;
 use tera_syntax_tokens::refusal::Refusal;
 use tera_syntax_tokens::token::Kind;
-use tera_syntax_tokens::tokens::{Tokens, same};
+use tera_syntax_tokens::tokens::Tokens;
 use tera_syntax_tree::{Collected, Expression, Heading};
 
 impl<'s, F: Fn(Global, &mut Tokens<'_, 's>, usize, u8) -> Read<'s>> Reader<F> {
@@ -53,7 +53,7 @@ impl<'s, F: Fn(Global, &mut Tokens<'_, 's>, usize, u8) -> Read<'s>> Reader<F> {
         requires { Nests self.now.below (F.pre self.now.expr) (F.post self.now.expr) }
         ensures { Follows part_of spec.condition self.now tokens.old result tokens.new }
     {
-        if !same(Kind::If, tokens.kind()) {
+        if tokens.kind() != Kind::If {
             return Ok(absent());
         }
         tokens.take();

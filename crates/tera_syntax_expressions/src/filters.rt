@@ -9,7 +9,7 @@ use crate::reader::{Reader, reader_within};
 use std::alloc::Global;
 use tera_syntax_tokens::refusal::{Reason, Refusal};
 use tera_syntax_tokens::token::Kind;
-use tera_syntax_tokens::tokens::{Tokens, is_word, same};
+use tera_syntax_tokens::tokens::{Tokens, is_word};
 use tera_syntax_tree::SectionFilter;
 
 /// Filters with bars between, no deeper than `limit`, and the greatest depth.
@@ -41,7 +41,7 @@ impl<'s, F: Fn(Global, &mut Tokens<'_, 's>, usize, u8) -> Read<'s>> Reader<F> {
                 Err(refusal) => return Err(refusal),
             };
             depth = depth.max(x);
-            if !same(Kind::Bar, tokens.kind()) {
+            if tokens.kind() != Kind::Bar {
                 return Ok((found, depth));
             }
             tokens.take();

@@ -6,7 +6,7 @@ ghost use Rattle.tera_syntax_expressions.specs.Parts.{names_of};
 
 use tera_syntax_tokens::refusal::{Reason, Refusal};
 use tera_syntax_tokens::token::Kind;
-use tera_syntax_tokens::tokens::{Tokens, same};
+use tera_syntax_tokens::tokens::Tokens;
 
 /// What a loop calls its items, and their keys where it names them.
 #[derive(Drop)]
@@ -23,7 +23,7 @@ pub fn names<'s>(tokens: &mut Tokens<'_, 's>) -> Result<LoopNames<'s>, Refusal>
     ensures { Takes names_of (spec.calls (input tokens.old)) result tokens.new }
 {
     let first = name(tokens)?;
-    if !same(Kind::Comma, tokens.kind()) {
+    if tokens.kind() != Kind::Comma {
         return called(tokens, None, first);
     }
     tokens.take();
@@ -50,7 +50,7 @@ fn called<'s>(
 pub(crate) fn name<'s>(tokens: &mut Tokens<'_, 's>) -> Result<&'s str, Refusal>
     ensures { Takes (λ t. t.now) (spec.name (input tokens.old)) result tokens.new }
 {
-    if !same(Kind::Name, tokens.kind()) {
+    if tokens.kind() != Kind::Name {
         return Err(tokens.refuse(Reason::Expected(Kind::Name)));
     }
     let name = tokens.text();

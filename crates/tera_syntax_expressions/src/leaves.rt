@@ -15,7 +15,7 @@ use std::alloc::Global;
 use tera_syntax_tokens::literal::{integer, literal};
 use tera_syntax_tokens::refusal::{Reason, Refusal};
 use tera_syntax_tokens::token::Kind;
-use tera_syntax_tokens::tokens::{Tokens, same};
+use tera_syntax_tokens::tokens::Tokens;
 use tera_syntax_tree::Expression;
 
 impl<'s, F: Fn(Global, &mut Tokens<'_, 's>, usize, u8) -> Read<'s>> Reader<F> {
@@ -148,7 +148,7 @@ fn loop_name(tokens: &Tokens<'_, '_>) -> Option<&'static str>
         in_loop: tokens.in_loop,
     };
     ahead.take();
-    if !same(Kind::Dot, ahead.kind()) {
+    if ahead.kind() != Kind::Dot {
         return None;
     }
     ahead.take();

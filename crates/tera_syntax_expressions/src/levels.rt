@@ -1,13 +1,13 @@
 // Levels of precedence: which tokens go on with an expression, and to what.
 ghost use Rattle.std.specs.Prelude.{◌≡◌, ◌&&◌, ◌||◌, ℕ, IsTrue, nat_le, not};
-ghost use Rattle.tera_syntax_tokens.specs.Prelude.{Parser, kind, next, same as spec_same, input};
+ghost use Rattle.tera_syntax_tokens.specs.Prelude.{Parser, kind, next, same, input};
 ghost use Rattle.tera_syntax_tokens.specs.declared.token.Kind.TheVariants as Kind;
 ghost use Rattle.tera_syntax_expressions.specs.Expressions as spec;
 ghost use Rattle.tera_syntax_expressions.specs.Precedence as precedence;
 
 use crate::precedence;
 use tera_syntax_tokens::token::Kind;
-use tera_syntax_tokens::tokens::{Tokens, same};
+use tera_syntax_tokens::tokens::Tokens;
 
 /// The least level of an expression before this token that goes on with it, and the level of what
 /// it goes on to.
@@ -92,16 +92,16 @@ pub(crate) fn kinds(tokens: &Tokens<'_, '_>) -> (Kind, Kind)
 /// Whether the first of two tokens is a name, an integer or a text, and the second neither goes on with it to this level nor
 /// opens the arguments of a call.
 fn is_alone(floor: u8, first: Kind, second: Kind) -> bool
-    ensures { let is_leaf = (spec_same Kind.Name first || spec_same Kind.Int first)
-        || spec_same Kind.Text first in
+    ensures { let is_leaf = (same Kind.Name first || same Kind.Int first)
+        || same Kind.Text first in
         let goes_on = spec.goes_on floor precedence.operand second in
-        let is_called = spec_same Kind.LeftParenthesis second in
+        let is_called = same Kind.LeftParenthesis second in
         result ≡ (((is_leaf && nat_le floor precedence.operand) && not goes_on) && not is_called) }
 {
-    (same(Kind::Name, first) || same(Kind::Int, first) || same(Kind::Text, first))
+    (first == Kind::Name || first == Kind::Int || first == Kind::Text)
         && floor <= precedence::OPERAND
         && !goes_on(floor, precedence::OPERAND, second)
-        && !same(Kind::LeftParenthesis, second)
+        && second != Kind::LeftParenthesis
 }
 
 /// Whether the next operand is a name, an integer or a text, and nothing goes on with it to this level. Most are.

@@ -10,7 +10,7 @@ use std::alloc::{AllocError, Global};
 use tera_syntax_tokens::literal::{integer, literal};
 use tera_syntax_tokens::refusal::{Reason, Refusal};
 use tera_syntax_tokens::token::Kind;
-use tera_syntax_tokens::tokens::{Tokens, same};
+use tera_syntax_tokens::tokens::Tokens;
 use tera_syntax_tree::{Literal, LiteralEntry, LiteralKey};
 
 /// A value that is written out, no deeper than `limit`.
@@ -69,7 +69,7 @@ fn items<'s>(
 {
     let mut found = Vec::new(alloc);
     for _turn in 0..tokens.left() {
-        if same(Kind::RightBracket, tokens.kind()) {
+        if tokens.kind() == Kind::RightBracket {
             tokens.take();
             return Ok(found);
         }
@@ -117,7 +117,7 @@ fn entries<'s>(
 {
     let mut found = Vec::new(alloc);
     for _turn in 0..tokens.left() {
-        if same(Kind::RightBrace, tokens.kind()) {
+        if tokens.kind() == Kind::RightBrace {
             tokens.take();
             return Ok(found);
         }
@@ -178,7 +178,7 @@ fn key<'s>(alloc: Global, tokens: &mut Tokens<'_, 's>) -> Result<LiteralKey<'s>,
 fn negative<'s>(tokens: &mut Tokens<'_, 's>) -> Result<Literal<'s>, Refusal>
     ensures { Takes written_of (spec.negative (input tokens.old)) result tokens.new }
 {
-    if !same(Kind::Int, tokens.kind()) {
+    if tokens.kind() != Kind::Int {
         return Err(tokens.refuse(Reason::NoLiteral));
     }
     match integer(tokens.text()) {

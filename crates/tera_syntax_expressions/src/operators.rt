@@ -10,7 +10,7 @@ use crate::signs::{Infix, Prefix, make_infix, make_prefix};
 use std::alloc::Global;
 use tera_syntax_tokens::refusal::{Reason, Refusal};
 use tera_syntax_tokens::token::Kind;
-use tera_syntax_tokens::tokens::{Tokens, same};
+use tera_syntax_tokens::tokens::Tokens;
 use tera_syntax_tree::{BinaryOperator, Choice, Expression, Operands};
 
 impl<'s, F: Fn(Global, &mut Tokens<'_, 's>, usize, u8) -> Read<'s>> Reader<F> {
@@ -58,7 +58,7 @@ impl<'s, F: Fn(Global, &mut Tokens<'_, 's>, usize, u8) -> Read<'s>> Reader<F> {
         ensures { GoesOn spec.not_in self.now start x.entry tokens.old result tokens.new }
     {
         tokens.take();
-        if !same(Kind::In, tokens.kind()) {
+        if tokens.kind() != Kind::In {
             return Err(tokens.refuse(Reason::Expected(Kind::In)));
         }
         let within = Infix::Binary(BinaryOperator::In);

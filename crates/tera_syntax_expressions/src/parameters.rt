@@ -12,7 +12,7 @@ use std::alloc::Global;
 use std::collections::HashSet;
 use tera_syntax_tokens::refusal::{Reason, Refusal};
 use tera_syntax_tokens::token::Kind;
-use tera_syntax_tokens::tokens::{Tokens, is_word, same};
+use tera_syntax_tokens::tokens::{Tokens, is_word};
 use tera_syntax_tree::{ArgumentType, Literal, Parameter, Signature};
 
 /// What reading parameters gives: each, and the name of what takes all other arguments.
@@ -55,7 +55,7 @@ fn all_parameters<'s>(alloc: Global, tokens: &mut Tokens<'_, 's>, limit: usize) 
     ensures { let meant = spec.all_parameters limit (input tokens.old) in
         Takes parameters_of meant result tokens.new }
 {
-    if same(Kind::RightParenthesis, tokens.kind()) {
+    if tokens.kind() == Kind::RightParenthesis {
         return Ok((Vec::new(alloc), None));
     }
     parameters(alloc, tokens, limit)
@@ -69,7 +69,7 @@ fn parameters<'s>(alloc: Global, tokens: &mut Tokens<'_, 's>, limit: usize) -> P
 {
     let mut found = Vec::new(alloc);
     for _turn in 0..tokens.left() {
-        if same(Kind::Spread, tokens.kind()) {
+        if tokens.kind() == Kind::Spread {
             tokens.take();
             match name(tokens) {
                 Ok(rest) => return Ok((found, Some(rest))),
@@ -81,7 +81,7 @@ fn parameters<'s>(alloc: Global, tokens: &mut Tokens<'_, 's>, limit: usize) -> P
             Err(refusal) => return Err(refusal),
         };
         found.push(parameter)?;
-        if !same(Kind::Comma, tokens.kind()) {
+        if tokens.kind() != Kind::Comma {
             return Ok((found, None));
         }
         tokens.take();
@@ -94,7 +94,7 @@ fn parameters<'s>(alloc: Global, tokens: &mut Tokens<'_, 's>, limit: usize) -> P
 fn parameter<'s>(alloc: Global, tokens: &mut Tokens<'_, 's>, limit: usize) -> OneParameter<'s>
     ensures { Takes parameter_of (spec.parameter limit (input tokens.old)) result tokens.new }
 {
-    if same(Kind::At, tokens.kind()) {
+    if tokens.kind() == Kind::At {
         tokens.take();
         parameter_by_name(alloc, tokens, limit, true)
     } else {
@@ -129,7 +129,7 @@ fn parameter_by_name<'s>(
 fn parameter_type(tokens: &mut Tokens<'_, '_>) -> Result<Option<ArgumentType>, Refusal>
     ensures { Takes (λ t. t) (spec.parameter_type (input tokens.old)) result tokens.new }
 {
-    if !same(Kind::Colon, tokens.kind()) {
+    if tokens.kind() != Kind::Colon {
         return Ok(None);
     }
     tokens.take();
@@ -169,7 +169,7 @@ fn default_value<'s>(
 ) -> Result<Option<Literal<'s>>, Refusal>
     ensures { Takes written_option (spec.default_value limit (input tokens.old)) result tokens.new }
 {
-    if !same(Kind::Assign, tokens.kind()) {
+    if tokens.kind() != Kind::Assign {
         return Ok(None);
     }
     tokens.take();

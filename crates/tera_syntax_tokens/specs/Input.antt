@@ -63,8 +63,9 @@ abbrev pub starts : List Token → ℕ → List ℕ
 starts run zero = []
 starts run (suc n) = start_of (drop n run) ∷ starts run n
 
-unfoldable pub same : Kind → Kind → Bool
-same = sameb the_type
+-- the kind that is there is the one that is wanted
+abbrev pub same : Kind → Kind → Bool
+same wanted there = sameb the_type there wanted
 
 -- words, reserved ones too: an attribute may have any for its name
 unfoldable pub is_word : Kind → Bool

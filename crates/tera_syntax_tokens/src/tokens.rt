@@ -98,7 +98,7 @@ impl<'t, 's> Tokens<'t, 's> {
     pub fn expect(&mut self, kind: Kind) -> Result<(), Refusal>
         ensures { Takes (λ done. done) (spec.expect kind (input self.old)) result self.new }
     {
-        if same(kind, self.kind()) {
+        if self.kind() == kind {
             self.take();
             Ok(())
         } else {
@@ -121,14 +121,6 @@ impl<'t, 's> Tokens<'t, 's> {
             ),
         }
     }
-}
-
-/// Whether the kinds are one.
-#[tactic(auto, unfolding(crate::specs::Input::same))]
-pub fn same(a: Kind, b: Kind) -> bool
-    ensures { result ≡ spec.same a b }
-{
-    a == b
 }
 
 /// Whether a token of this kind is a word, reserved or not.

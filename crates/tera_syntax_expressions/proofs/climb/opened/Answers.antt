@@ -1,11 +1,12 @@
-use Rattle.std.proofs.Common.{rules, arith, ◌≡◌, true}
+use Rattle.std.proofs.Common.{rules, arith, ◌≡◌, ◌∙◌, true}
 use Rattle.std.proofs.lemmas.Grind.{common_steps}
 use Rattle.tera_syntax_tokens.specs.declared.token.Kind.TheVariants.{LeftParenthesis}
 use Rattle.tera_syntax_tokens.specs.Input.{starts, same, kind}
 use Rattle.tera_syntax_tokens.specs.Takes.{input}
 use Rattle.tera_syntax_tokens.specs.Token.{tokens_of}
 use Rattle.tera_syntax_expressions.specs.Expressions.{opened}
-use Rattle.tera_syntax_expressions.proofs.Turns.{one_more, opened_turn}
+use Rattle.tera_syntax_expressions.proofs.Alone.{not_open}
+use Rattle.tera_syntax_expressions.proofs.Turns.{tested-not, one_more, opened_turn}
 use Rattle.tera_syntax_expressions.proofs.climb.opened.Goals as goal
 
 pub loop-turn-preserved : goal.loop-turn-preserved
@@ -15,3 +16,6 @@ loop-turn-preserved c =
     let s : same LeftParenthesis (kind (input c.loop-turn.tokens)) ≡ true = first_of (search rules, grind (arith, common_steps)) in
     let p = opened_turn _ c.loop-turn.count (tokens_of c.args.tokens.now.ahead.now) (input c.loop-turn.tokens) (input c.take.new.self) e inv.1 s c.take.ensures in
     (omega arith, p.0, p.1)
+
+pub returns-then-ne : goal.returns-then-ne
+returns-then-ne c = c.loop-turn.invariant.2 ∙ not_open _ _ _ (tested-not (same LeftParenthesis) c.kind.ensures c.ne.ensures c.if-ne.true)

@@ -12,23 +12,23 @@ use Rattle.tera_syntax_expressions.proofs.literals.+written.Goals as goal
 
 -- a value was read behind those that were found: what the loop stands for is what is behind it
 behind-item : (t : _) (c : items-In-Ok t) → Behind (written_items (written c.args.limit) (input c.args.tokens.now)) RightBracket (parts_from RightBracket (written_item (written c.args.limit)) (c.left-turn-end.result - (c.loop-turn._turn + 1))) (literals_of c.item.new.found.items) (input c.item.new.tokens)
-behind-item t c = record { is = turn_part RightBracket (written_item (written c.args.limit)) _ _ (literals_of c.loop-turn.found.items) (input c.loop-turn.tokens) c.loop-turn-test.true c.loop-turn.invariant (tested (same RightBracket) c.kind.ensures c.same.ensures c.if-same.false) c.in-Ok.ensures }
+behind-item t c = record { is = turn_part RightBracket (written_item (written c.args.limit)) _ _ (literals_of c.loop-turn.found.items) (input c.loop-turn.tokens) c.loop-turn-test.true c.loop-turn.invariant (tested (same RightBracket) c.kind.ensures c.eq.ensures c.if-eq.false) c.in-Ok.ensures }
 
 -- the same of an entry
 behind-entry : (t : _) (c : entries-In-Ok t) → Behind (written_entries (written c.args.limit) (input c.args.tokens.now)) RightBrace (parts_from RightBrace (written_entry (written c.args.limit)) (c.left-turn-end.result - (c.loop-turn._turn + 1))) (literal_entries_of c.entry.new.found.items) (input c.entry.new.tokens)
-behind-entry t c = record { is = turn_part RightBrace (written_entry (written c.args.limit)) _ _ (literal_entries_of c.loop-turn.found.items) (input c.loop-turn.tokens) c.loop-turn-test.true c.loop-turn.invariant (tested (same RightBrace) c.kind.ensures c.same.ensures c.if-same.false) c.in-Ok.ensures }
+behind-entry t c = record { is = turn_part RightBrace (written_entry (written c.args.limit)) _ _ (literal_entries_of c.loop-turn.found.items) (input c.loop-turn.tokens) c.loop-turn-test.true c.loop-turn.invariant (tested (same RightBrace) c.kind.ensures c.eq.ensures c.if-eq.false) c.in-Ok.ensures }
 
-pub items-returns-then-same : goal.items-returns-then-same
-items-returns-then-same t c = turn_end RightBracket (written_item (written c.args.limit)) _ _ (literals_of c.loop-turn.found.items) (input c.loop-turn.tokens) c.loop-turn-test.true c.loop-turn.invariant (tested (same RightBracket) c.kind.ensures c.same.ensures c.if-same.true) _ c.take.ensures
+pub items-returns-then-eq : goal.items-returns-then-eq
+items-returns-then-eq t c = turn_end RightBracket (written_item (written c.args.limit)) _ _ (literals_of c.loop-turn.found.items) (input c.loop-turn.tokens) c.loop-turn-test.true c.loop-turn.invariant (tested (same RightBracket) c.kind.ensures c.eq.ensures c.if-eq.true) _ c.take.ensures
 
-pub entries-returns-then-same : goal.entries-returns-then-same
-entries-returns-then-same t c = turn_end RightBrace (written_entry (written c.args.limit)) _ _ (literal_entries_of c.loop-turn.found.items) (input c.loop-turn.tokens) c.loop-turn-test.true c.loop-turn.invariant (tested (same RightBrace) c.kind.ensures c.same.ensures c.if-same.true) _ c.take.ensures
+pub entries-returns-then-eq : goal.entries-returns-then-eq
+entries-returns-then-eq t c = turn_end RightBrace (written_entry (written c.args.limit)) _ _ (literal_entries_of c.loop-turn.found.items) (input c.loop-turn.tokens) c.loop-turn-test.true c.loop-turn.invariant (tested (same RightBrace) c.kind.ensures c.eq.ensures c.if-eq.true) _ c.take.ensures
 
 pub items-returns-in-Err : goal.items-returns-in-Err
-items-returns-in-Err t c = refused c.in-Err.refusal (turn_part RightBracket (written_item (written c.args.limit)) _ _ (literals_of c.loop-turn.found.items) (input c.loop-turn.tokens) c.loop-turn-test.true c.loop-turn.invariant (tested (same RightBracket) c.kind.ensures c.same.ensures c.if-same.false)) c.in-Err.ensures
+items-returns-in-Err t c = refused c.in-Err.refusal (turn_part RightBracket (written_item (written c.args.limit)) _ _ (literals_of c.loop-turn.found.items) (input c.loop-turn.tokens) c.loop-turn-test.true c.loop-turn.invariant (tested (same RightBracket) c.kind.ensures c.eq.ensures c.if-eq.false)) c.in-Err.ensures
 
 pub entries-returns-in-Err : goal.entries-returns-in-Err
-entries-returns-in-Err t c = refused c.in-Err.refusal (turn_part RightBrace (written_entry (written c.args.limit)) _ _ (literal_entries_of c.loop-turn.found.items) (input c.loop-turn.tokens) c.loop-turn-test.true c.loop-turn.invariant (tested (same RightBrace) c.kind.ensures c.same.ensures c.if-same.false)) c.in-Err.ensures
+entries-returns-in-Err t c = refused c.in-Err.refusal (turn_part RightBrace (written_entry (written c.args.limit)) _ _ (literal_entries_of c.loop-turn.found.items) (input c.loop-turn.tokens) c.loop-turn-test.true c.loop-turn.invariant (tested (same RightBrace) c.kind.ensures c.eq.ensures c.if-eq.false)) c.in-Err.ensures
 
 pub items-loop-turn-preserved : goal.items-loop-turn-preserved
 items-loop-turn-preserved t c = read_behind (behind-item t (goal.at.items-loop-turn-preserved t c).In-Ok) (rw c.in-Ok-true.field-0-test at c.in-Ok-true.ensures)

@@ -16,15 +16,15 @@ behind-entry : (g : Over) (c : After-max-depth g) → Behind (entries_from c.arg
 behind-entry g c =
     let x = c.in-Ok.ensures in
     entries_read c.args.self.now.limit (expr c.args.self.now.below) _ _ (entries_of c.loop-turn.found.items) c.loop-turn.depth (input c.loop-turn.tokens) c.loop-turn-test.true c.loop-turn.invariant
-    (tested (same RightBrace) c.kind.ensures c.same.ensures c.if-same.false) x.3 x.4 x.6 (c.max-depth.ensures ∙ ap (max c.loop-turn.depth) (sym x.5))
+    (tested (same RightBrace) c.kind.ensures c.eq.ensures c.if-eq.false) x.3 x.4 x.6 (c.max-depth.ensures ∙ ap (max c.loop-turn.depth) (sym x.5))
 
-pub returns-then-same : goal.returns-then-same
-returns-then-same g c = entries_end c.args.self.now.limit (expr c.args.self.now.below) _ _ (entries_of c.loop-turn.found.items) c.loop-turn.depth (input c.loop-turn.tokens) c.loop-turn-test.true c.loop-turn.invariant
-    (tested (same RightBrace) c.kind.ensures c.same.ensures c.if-same.true) c.take.ensures
+pub returns-then-eq : goal.returns-then-eq
+returns-then-eq g c = entries_end c.args.self.now.limit (expr c.args.self.now.below) _ _ (entries_of c.loop-turn.found.items) c.loop-turn.depth (input c.loop-turn.tokens) c.loop-turn-test.true c.loop-turn.invariant
+    (tested (same RightBrace) c.kind.ensures c.eq.ensures c.if-eq.true) c.take.ensures
 
 pub returns-in-Err : goal.returns-in-Err
 returns-in-Err g c = refused c.in-Err.refusal (entries_none c.args.self.now.limit (expr c.args.self.now.below) _ _ (entries_of c.loop-turn.found.items) c.loop-turn.depth (input c.loop-turn.tokens) c.loop-turn-test.true c.loop-turn.invariant
-    (tested (same RightBrace) c.kind.ensures c.same.ensures c.if-same.false)) c.in-Err.ensures
+    (tested (same RightBrace) c.kind.ensures c.eq.ensures c.if-eq.false)) c.in-Err.ensures
 
 pub loop-turn-preserved : goal.loop-turn-preserved
 loop-turn-preserved g c = read_behind (behind-entry g (goal.at.loop-turn-preserved g c).After-max-depth) (rw c.in-Ok-true.field-0-test at c.in-Ok-true.ensures)

@@ -3,7 +3,7 @@ use Rattle.tera_syntax_tokens.specs.declared.token.Kind.TheVariants.{Bar}
 use Rattle.tera_syntax_tokens.specs.Input.{same}
 use Rattle.tera_syntax_tokens.specs.Takes.{input}
 use Rattle.tera_syntax_expressions.specs.Expressions.{expr}
-use Rattle.tera_syntax_expressions.proofs.Turns.{tested, refused}
+use Rattle.tera_syntax_expressions.proofs.Turns.{tested-not, refused}
 use Rattle.tera_syntax_expressions.proofs.FilterRows.{filters_turn, filters_more, filters_over}
 use Rattle.tera_syntax_expressions.proofs.reader.Reader.filters.Goals as goal
 
@@ -12,8 +12,8 @@ returns-in-Err g c = refused c.in-Err.refusal (filters_turn c.args.self.now.limi
 
 pub loop-turn-preserved : goal.loop-turn-preserved
 loop-turn-preserved g c = filters_more c.args.self.now.limit (expr c.args.self.now.below) _ _ (filters_of c.loop-turn.found.items) c.loop-turn.depth (input c.loop-turn.tokens) c.loop-turn-test.true c.loop-turn.invariant
-    c.in-Ok.ensures (tested (same Bar) c.kind.ensures c.same.ensures c.if-not-same.false) c.max-depth.ensures c.take.ensures
+    c.in-Ok.ensures (tested-not (same Bar) c.kind.ensures c.ne.ensures c.if-ne.false) c.max-depth.ensures c.take.ensures
 
-pub returns-then-not-same : goal.returns-then-not-same
-returns-then-not-same g c = filters_over c.args.self.now.limit (expr c.args.self.now.below) _ _ (filters_of c.loop-turn.found.items) c.loop-turn.depth (input c.loop-turn.tokens) c.loop-turn-test.true c.loop-turn.invariant
-    c.in-Ok.ensures (tested (same Bar) c.kind.ensures c.same.ensures c.if-not-same.true) c.max-depth.ensures
+pub returns-then-ne : goal.returns-then-ne
+returns-then-ne g c = filters_over c.args.self.now.limit (expr c.args.self.now.below) _ _ (filters_of c.loop-turn.found.items) c.loop-turn.depth (input c.loop-turn.tokens) c.loop-turn-test.true c.loop-turn.invariant
+    c.in-Ok.ensures (tested-not (same Bar) c.kind.ensures c.ne.ensures c.if-ne.true) c.max-depth.ensures

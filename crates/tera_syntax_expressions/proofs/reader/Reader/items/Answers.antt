@@ -16,15 +16,15 @@ behind-item : (g : Over) (c : After-max-depth g) → Behind (items_from c.args.s
 behind-item g c =
     let x = c.in-Ok.ensures in
     items_read c.args.self.now.limit (expr c.args.self.now.below) _ _ (items_of c.loop-turn.found.items) c.loop-turn.depth (input c.loop-turn.tokens) c.loop-turn-test.true c.loop-turn.invariant
-    (tested (same RightBracket) c.kind.ensures c.same.ensures c.if-same.false) x.1 x.3 (c.max-depth.ensures ∙ ap (max c.loop-turn.depth) (sym x.2))
+    (tested (same RightBracket) c.kind.ensures c.eq.ensures c.if-eq.false) x.1 x.3 (c.max-depth.ensures ∙ ap (max c.loop-turn.depth) (sym x.2))
 
-pub returns-then-same : goal.returns-then-same
-returns-then-same g c = items_end c.args.self.now.limit (expr c.args.self.now.below) _ _ (items_of c.loop-turn.found.items) c.loop-turn.depth (input c.loop-turn.tokens) c.loop-turn-test.true c.loop-turn.invariant
-    (tested (same RightBracket) c.kind.ensures c.same.ensures c.if-same.true) c.take.ensures
+pub returns-then-eq : goal.returns-then-eq
+returns-then-eq g c = items_end c.args.self.now.limit (expr c.args.self.now.below) _ _ (items_of c.loop-turn.found.items) c.loop-turn.depth (input c.loop-turn.tokens) c.loop-turn-test.true c.loop-turn.invariant
+    (tested (same RightBracket) c.kind.ensures c.eq.ensures c.if-eq.true) c.take.ensures
 
 pub returns-in-Err : goal.returns-in-Err
 returns-in-Err g c = refused c.in-Err.refusal (items_next c.args.self.now.limit (expr c.args.self.now.below) _ _ (items_of c.loop-turn.found.items) c.loop-turn.depth (input c.loop-turn.tokens) c.loop-turn-test.true c.loop-turn.invariant
-    (tested (same RightBracket) c.kind.ensures c.same.ensures c.if-same.false)) c.in-Err.ensures
+    (tested (same RightBracket) c.kind.ensures c.eq.ensures c.if-eq.false)) c.in-Err.ensures
 
 pub loop-turn-preserved : goal.loop-turn-preserved
 loop-turn-preserved g c = read_behind (behind-item g (goal.at.loop-turn-preserved g c).After-max-depth) (rw c.in-Ok-true.field-0-test at c.in-Ok-true.ensures)

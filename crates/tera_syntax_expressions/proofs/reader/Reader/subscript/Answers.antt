@@ -16,7 +16,7 @@ any-refusal : {Y : Type 0} {meant : Option Y} (r : Refusal) → meant ≡ None �
 any-refusal (Syntax why place) e = e
 any-refusal OutOfMemory e = tt
 
-pub returns-then-same : goal.returns-then-same
-returns-then-same g c =
+pub returns-then-eq : goal.returns-then-eq
+returns-then-eq g c =
     any-refusal c.refuse.result (subscript-none c.args.self.now.limit (expr c.args.self.now.below) c.args.at.optional c.args.at.start (deep_of c.args.x) (input c.args.tokens.now)
-    (ap (λ i. same RightBracket (kind i)) (sym c.take.ensures) ∙ tested (same RightBracket) c.kind.ensures c.same.ensures c.if-same.true))
+    (ap (λ i. same RightBracket (kind i)) (sym c.take.ensures) ∙ tested (same RightBracket) c.kind.ensures c.eq.ensures c.if-eq.true))

@@ -67,9 +67,8 @@ chains (IfHead c) = true
 chains _ = false
 
 -- What its body stands in. A block's body keeps the names of a loop around it, and can't leave a
--- turn of that loop; the body
--- that a component is handed can. The body of a component's definition is in no loop, and has no
--- blocks.
+-- turn of that loop; the body that a component is handed can. The body of a component's definition
+-- is in no loop, and has no blocks.
 abbrev pub inside : Head → Surroundings → Surroundings
 inside (ForHead key n e) around =
     record {

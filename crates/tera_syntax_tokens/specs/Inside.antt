@@ -51,9 +51,8 @@ abbrev pub closing_in : ℕ → Text → Text → Option Ending
 closing_in opened end text = if opened == 0 then closing end text else None
 
 -- What stands behind a start delimiter, by the place where the text stands, with brackets open, and
--- after bytes that are passed
--- over: before each blank and each token the end of the tag is tried. None where the tag has no
--- end, or something that is no token.
+-- after bytes that are passed over: before each blank and each token the end of the tag is tried.
+-- None where the tag has no end, or something that is no token.
 unfoldable pub inside : Text → ℕ → ℕ → ℕ → Text → Option Inside
 inside end opened skip at [] = None
 inside end opened (suc n) at (b ∷ bs) = inside end opened n (suc at) bs

@@ -32,8 +32,7 @@ abbrev pub has_each_component_once : Nodes → Bool
 has_each_component_once nodes = are_distinct (component_names nodes)
 
 -- The first flag says whether a component may be defined here, which is outside of all else alone,
--- the second whether a block
--- may stand here, which is in no component.
+-- the second whether a block may stand here, which is in no component.
 abbrev mutual
   pub node_defined_in_place : Bool → Bool → Node → Bool
   node_defined_in_place top blocks (Content t span) = true

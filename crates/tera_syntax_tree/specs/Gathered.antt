@@ -4,8 +4,7 @@ use Rattle.tera_errors.specs.Site as site
 use Rattle.tera_syntax_tree.specs.Tree.{Node, Content, Print, If, Set, Capture, FilterSection, For, Block, Include, ComponentCall, Definition, Break, Continue, Nodes, NoNodes, MoreNodes}
 
 -- In the order of the text. The first function tells what a block gives, by its name, its body and
--- what that gives, the second
--- what an include gives. Any other node gives what those inside it do.
+-- what that gives, the second what an include gives. Any other node gives what those inside it do.
 abbrev mutual
   pub node_gathered : {A : Type 0} → (site.Name → Nodes → List A → List A) → (site.Name → List A)
       → Node → List A

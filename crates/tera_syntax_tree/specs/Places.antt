@@ -3,9 +3,8 @@ use Rattle.std.specs.Prelude.{Bool, true, false, ◌&&◌}
 use Rattle.tera_syntax_tree.specs.Tree.{Node, Content, Print, If, Set, Capture, FilterSection, For, Block, Include, ComponentCall, Definition, Break, Continue, Nodes, NoNodes, MoreNodes}
 
 -- They stand in the body of a loop alone; the flag says whether the nodes do. What stands behind a
--- loop's `else` is no part
--- of its body, and the body of a block is no part of a loop around it, while that which a component
--- is handed is.
+-- loop's `else` is no part of its body, and the body of a block is no part of a loop around it,
+-- while that which a component is handed is.
 abbrev mutual
   pub node_in_place : Bool → Node → Bool
   node_in_place q (Content t span) = true

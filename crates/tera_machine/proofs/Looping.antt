@@ -31,9 +31,6 @@ none_open (ts ∷ tss) h =
     let e : IsTrue false = h.1 (λ e. cc) in
     absurd (true≢false (sym e))
 
-pub some_open : (coming : List (List Turn)) → (IsTrue true ↔ (coming ≢ [])) → coming ≢ []
-some_open coming h = h.0 refl
-
 -- the innermost loop is that of the topmost place
 pub top_innermost : (places : List LoopPlace) (coming : List (List Turn)) (place : LoopPlace) → coming ≢ [] → slice_get places 0 ≡ Some place → innermost (loops_at places coming) ≡ Some (place.start, place.size)
 top_innermost [] coming place h e = cc

@@ -76,8 +76,7 @@ module _ {C : Type 0} (alphabet : Alphabet C) where
       (λ has. at_span (bool has) span)
 
   abbrev pub binary_in : Name → BinaryOperator → EvaluatedOf C → EvaluatedOf C → Span → OutcomeOf C
-  binary_in file op.Add a b span =
-      combined file a b (alphabet.answers (add (alphabet.bare a.value) (alphabet.bare b.value)))
+  binary_in file op.Add a b span = answered_in file add a b
   binary_in file op.Subtract a b span = calculated_in file sub a b
   binary_in file op.Multiply a b span = calculated_in file mul a b
   binary_in file op.Divide a b span = divided_in file div a b

@@ -14,6 +14,7 @@ use Rattle.tera_syntax_tokens.specs.declared.token.Kind.{Kind}
 use Rattle.tera_syntax_tokens.specs.declared.token.Kind.TheVariants.{LeftParenthesis, RightParenthesis, RightBracket, RightBrace, Comma, Spread}
 use Rattle.tera_syntax_tokens.specs.Input.{Input, Parsed, Parser, and_then, kind, next, after, same, start, starts, start_of, expect}
 use Rattle.tera_syntax_expressions.specs.Commas.{comma_or}
+use Rattle.tera_syntax_expressions.specs.Precedence as precedence
 use Rattle.tera_syntax_expressions.specs.Expressions.{Deep, join_items, one_item, join_entries, one_entry, entry_key, entry_rest, entries_from, behind_dots, behind_item, items_from, expr, level, climb, goes_on, gives, operation, floor_in, opened}
 
 pub one_more : {X : Type 0} {x : X} (f : ℕ → X) (n at : ℕ) → at < n → x ≡ f (n - at) → x ≡ f (suc (n - (at + 1)))
@@ -38,8 +39,8 @@ expr_none (suc n) floor i h = absurd (omega arith)
 -- a turn of `climb`, by the count of open parentheses
 abbrev pub climb_turn : ℕ → (ℕ → Parser Deep) → ℕ → ℕ → ℕ → ℕ → ℕ → List Token → Deep → Input → Parsed Deep
 climb_turn limit sub n opens floor have from run x i =
-    if goes_on (if nat_eq opens 0 then floor else 0) have (kind i) then and_then (operation limit sub from x i) (climb limit sub n (starts run opens) floor (gives (kind i)) from)
-    else (if nat_eq opens 0 then Some (x, i) else (if same RightParenthesis (kind i) then climb limit sub n (starts run (opens - 1)) floor 11 (start_of (drop (opens - 1) run)) x (next i) else None))
+    if goes_on (if nat_eq opens 0 then floor else precedence.choice) have (kind i) then and_then (operation limit sub from x i) (climb limit sub n (starts run opens) floor (gives (kind i)) from)
+    else (if nat_eq opens 0 then Some (x, i) else (if same RightParenthesis (kind i) then climb limit sub n (starts run (opens - 1)) floor precedence.operand (start_of (drop (opens - 1) run)) x (next i) else None))
 
 climb_here : (limit : ℕ) (sub : ℕ → Parser Deep) (n opens floor have from : ℕ) (run : List Token) (x : Deep) (i : Input)
     → climb limit sub (suc n) (starts run opens) floor have from x i ≡ climb_turn limit sub n opens floor have from run x i
@@ -52,7 +53,7 @@ pub climb_once : {meant : Parsed Deep} (limit : ℕ) (sub : ℕ → Parser Deep)
 climb_once limit sub n at opens floor have from run x i lt turn =
     one_more (λ n. climb limit sub n (starts run opens) floor have from x i) n at lt turn ∙ climb_here limit sub (n - (at + 1)) opens floor have from run x i
 
-pub floor_is : (run : List Token) (opens floor : ℕ) → floor_in (starts run opens) floor ≡ (if nat_eq opens 0 then floor else 0)
+pub floor_is : (run : List Token) (opens floor : ℕ) → floor_in (starts run opens) floor ≡ (if nat_eq opens 0 then floor else precedence.choice)
 floor_is run zero floor = refl
 floor_is run (suc p) floor = let f : nat_eq (suc p) 0 ≡ false = grind (arith, common_steps) in rw f refl
 

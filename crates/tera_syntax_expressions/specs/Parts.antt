@@ -12,7 +12,6 @@ use Rattle.tera_syntax_tree.specs.Definitions.{rest_names}
 use Rattle.tera_syntax_tree.specs.Tree.{Expr, Parameter, Key, Optional, Not, Negate, And, Or, Binary, Arguments, NoArguments, MoreArguments}
 use Rattle.tera_syntax_tree.specs.View.{expr_of, optional_of, items_of, entries_of, parameter_of}
 use Rattle.tera_syntax_tokens.specs.declared.refusal.Refusal.{Refusal}
-use Rattle.tera_syntax_tokens.specs.declared.refusal.Refusal.TheVariants.{Syntax, OutOfMemory}
 use Rattle.tera_syntax_tokens.specs.declared.tokens.Tokens.{Tokens}
 use Rattle.tera_syntax_tokens.specs.Answers.{Refuses}
 use Rattle.tera_syntax_tokens.specs.Input.{Input, Parsed, Parser, and_then, left}

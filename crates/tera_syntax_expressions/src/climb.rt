@@ -1,8 +1,9 @@
 // The climb from operator to operator. Open parentheses are counted, and cost no call.
-ghost use Rattle.std.specs.Prelude.{◌≡◌, [], Some};
+ghost use Rattle.std.specs.Prelude.{◌≡◌, [], Some, nat_eq, if◌then◌else◌};
 ghost use Rattle.tera_syntax_tokens.specs.Prelude.{left, starts, Takes, input, tokens_of};
 ghost use Rattle.tera_syntax_expressions.specs.Expressions as spec;
 ghost use Rattle.tera_syntax_expressions.specs.Parts.{GoesOn, Nests, deep_of};
+ghost use Rattle.tera_syntax_expressions.specs.Precedence as precedence;
 
 use crate::access::Access;
 use crate::expressions::{Deep, Read};
@@ -28,13 +29,7 @@ impl<'s, F: Fn(Global, &mut Tokens<'_, 's>, usize, u8) -> Read<'s>> Reader<F> {
         let turns = tokens.left();
         let opens = opened(tokens);
         let begins = begins(tokens.kind());
-        if begins
-            < if opens == 0 {
-                floor
-            } else {
-                precedence::CHOICE
-            }
-        {
+        if begins < floor_in(opens, floor) {
             return Err(tokens.refuse(Reason::NoExpression));
         }
         let start = tokens.start();
@@ -62,15 +57,7 @@ impl<'s, F: Fn(Global, &mut Tokens<'_, 's>, usize, u8) -> Read<'s>> Reader<F> {
     {
         for _turn in 0..turns {
             let kind = tokens.kind();
-            if goes_on(
-                if opens == 0 {
-                    floor
-                } else {
-                    precedence::CHOICE
-                },
-                have,
-                kind,
-            ) {
+            if goes_on(floor_in(opens, floor), have, kind) {
                 x = self.operation(tokens, start, x)?;
                 have = gives(kind);
             } else if opens == 0 {
@@ -137,6 +124,18 @@ impl<'s, F: Fn(Global, &mut Tokens<'_, 's>, usize, u8) -> Read<'s>> Reader<F> {
             Kind::OptionalBracket => self.subscript(tokens, Access::new(start, true), x),
             _ => Err(tokens.refuse(Reason::NoOperation)),
         }
+    }
+}
+
+/// The least level of what stands here. Inside open parentheses any expression may.
+#[inline(always)]
+fn floor_in(opens: usize, floor: u8) -> u8
+    ensures { result ≡ (if nat_eq opens 0 then floor else precedence.choice) }
+{
+    if opens == 0 {
+        floor
+    } else {
+        precedence::CHOICE
     }
 }
 

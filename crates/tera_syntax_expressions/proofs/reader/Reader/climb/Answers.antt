@@ -14,9 +14,9 @@ returns-in_err-x g c =
     let e = climb_once c.args.self.now.limit (expr c.args.self.now.below) _ _ c.loop-turn.opens c.args.floor c.loop-turn.have c.loop-turn.start (tokens_of c.args.run.now) (deep_of c.loop-turn.x) (input c.loop-turn.tokens) c.loop-turn-test.true c.loop-turn.invariant in
     first_of (search rules, grind (arith, common_steps))
 
-pub returns-then-opens-eq0-2 : goal.returns-then-opens-eq0-2
+pub returns-then-opens-eq0 : goal.returns-then-opens-eq0
 unfolding expect
-returns-then-opens-eq0-2 g c =
+returns-then-opens-eq0 g c =
     let e = climb_once c.args.self.now.limit (expr c.args.self.now.below) _ _ c.loop-turn.opens c.args.floor c.loop-turn.have c.loop-turn.start (tokens_of c.args.run.now) (deep_of c.loop-turn.x) (input c.loop-turn.tokens) c.loop-turn-test.true c.loop-turn.invariant in
     first_of (search rules, grind (arith, common_steps))
 

@@ -11,7 +11,7 @@ use Rattle.tera_state.specs.Scope.{Around, nothing_set}
 use Rattle.tera_objects.specs.Engine.{Engine}
 use Rattle.tera_components.specs.Definition.{Info, definition_of, info_of}
 use Rattle.tera_meaning.specs.Run.{begun}
-pub use Rattle.tera_meaning.specs.Registry.{Entry, Registry}
+pub use Rattle.tera_meaning.specs.Registry.{Entry, Registry, new_registry, standard_suffixes}
 use Rattle.tera_meaning.specs.Resolve.{entry_at}
 use Rattle.tera_meaning.specs.Rendering.{alone, autoescapes, outermost, text_of, block_of}
 use Rattle.tera_meaning.specs.Known.{lacks_a_callee}

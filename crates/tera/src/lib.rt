@@ -10,12 +10,17 @@ mod texts;
 
 pub use engine::{Tera, TeraOver};
 pub use tera_built_ins::EscapeFn;
-pub use tera_code::{Chunk, Compiler, Instruction, Steps};
+pub use tera_code::{
+    CallKind, Callee, Chunk, Comparison, Compiler, Constant, Instruction, Keys, LentInstruction,
+    LentName, Names, Reference, Spreads, Steps, Text,
+};
 pub use tera_components::{ComponentArg, ComponentDefinition, ComponentInfo};
-pub use tera_machine::VirtualMachine;
-pub use tera_objects::{CallerObjects, Objects};
+pub use tera_machine::{Configuration, Ended, LoopPlace, Texts, VirtualMachine};
+pub use tera_objects::{Call, CallerObjects, Objects, ObjectsOver, OwnFilters, Table};
+pub use tera_operators::{Entries, LentOperand, Operand};
+pub use tera_registry::{Component, Defined, Definer, Definers, FoundTemplate, Home, Templates};
 pub use tera_state::{
-    Filter, ForLoop, ForLoopIterator, Function, State, StateOver, StringInput, Test,
+    Filter, ForLoop, ForLoopIterator, Found, Function, Stack, State, StateOver, StringInput, Test,
 };
 pub use tera_syntax::parse;
 pub use tera_syntax_tree::{
@@ -25,6 +30,6 @@ pub use tera_syntax_tree::{
     Signature, Sliced,
 };
 pub use tera_values::{
-    ArgFromValue, Context, Error, ErrorKind, Key, Kwargs, Map, ReportError, Span, TeraResult,
-    Value, ValueKind, escape_html, number,
+    ArgFromValue, Context, Counter, Error, ErrorKind, Key, Kwargs, Map, Name, ReportError, Shape,
+    Sought, Span, TeraResult, Value, ValueKind, escape_html, escape_xml, number,
 };

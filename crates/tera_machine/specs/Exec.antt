@@ -47,8 +47,11 @@ entered v c =
 abbrev pub used : Use → Run → Config → Config
 used Written done c =
     record c {
-      run = record
-          { vars = done.vars; text = c.run.text ++ done.text; blocks = c.run.blocks ++ done.blocks };
+      run = record {
+        vars = done.vars;
+        text = c.run.text ++ done.text;
+        blocks = c.run.blocks ++ done.blocks;
+      };
     }
 used (Pushed safe span) done c = record c {
   operands = record { value = text done.text safe; span = span } ∷ c.operands;

@@ -18,8 +18,8 @@ pub struct AskedTemplate<'f> {
     pub span: Span,
 }
 
-/// A component to run, at the span of its call, by its name and the number of the reference: the entries that its attributes make, at will the text that it is handed, and
-/// whether the text that it makes is safe.
+/// A component to run, at the span of its call, by its name and the number of the reference: the entries that its attributes
+/// make, the text that it is handed, if it is handed one, and whether the text that it makes is safe.
 #[derive(Drop)]
 pub struct AskedComponent<'f> {
     pub name: &'f Name,

@@ -149,7 +149,7 @@ impl<'t, O: Objects> VirtualMachine<'t, O> {
         let scopes = &configuration.scopes;
         let context = match component.definition.bind(self.alloc, &given, scopes, body) {
             Ok(context) => context,
-            Err(refusal) => return Err(fault_at(self.alloc, chunk.file(), &refusal, span)),
+            Err(error) => return Err(fault_at(self.alloc, chunk.file(), &error, span)),
         };
         if self.depth >= MAX_DEPTH {
             let words = "components call one another too deep";

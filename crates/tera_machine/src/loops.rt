@@ -42,7 +42,7 @@ fn opened(
     };
     match opened {
         Ok(opened) => Ok(opened),
-        Err(refusal) => Err(fault_at(alloc, file, &refusal, span)),
+        Err(error) => Err(fault_at(alloc, file, &error, span)),
     }
 }
 

@@ -60,9 +60,12 @@ impl Limit for Brand {
     ghost most = { 0 };
 }
 
-/// Runs compiled bodies. It holds what no run changes: among the templates it finds what is included and what components are
-/// called, of the template that is rendered, where one is, it takes blocks, it asks the objects for filters, tests, functions and
-/// the escape, and it knows the components of a text beside the templates, and how many components are open around what it runs.
+/// Runs compiled bodies. It holds what no run changes:
+/// - the templates, among which it finds what is included and what components are called;
+/// - the objects, which it asks for filters, tests, functions and the escape;
+/// - the template that is rendered, if one is, of which it takes blocks;
+/// - the components of a text beside the templates;
+/// - how many components are open around what it runs.
 #[derive_where(Clone, Copy)]
 pub struct VirtualMachine<'t, O> {
     pub(crate) alloc: Global,

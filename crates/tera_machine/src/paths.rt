@@ -42,8 +42,8 @@ fn lent<'a>(found: &Found<'a>, span: Span) -> Option<LentOperand<'a>>
     }
 }
 
-/// Takes the attributes of an operand that the instructions behind a place take, one of another. The place becomes that of the
-/// last of them. So wherever the reading began.
+/// Takes the attributes of an operand that the instructions behind a place take, each of what the one before gave. The place
+/// becomes that of the last of these instructions. That holds wherever the reading of the path began.
 fn attributes<'v, L: Ledger>(
     alloc: Global,
     chunk: &Chunk,

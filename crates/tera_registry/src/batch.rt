@@ -42,7 +42,7 @@ pub fn put_all(
     for (name, text) in batch {
         let template = match read(alloc, delimiters, name, text) {
             Ok(template) => template,
-            Err(refusal) => return Err(refusal),
+            Err(error) => return Err(error),
         };
         put(templates, Rc::new(alloc, template)?)?;
     }
@@ -56,7 +56,7 @@ fn read(alloc: Global, delimiters: &Delimiters, name: &str, text: &str) -> TeraR
 {
     match parse(alloc, name, text, delimiters) {
         Ok(output) => made(alloc, &output, name, text),
-        Err(refusal) => Err(refusal),
+        Err(error) => Err(error),
     }
 }
 

@@ -107,7 +107,7 @@ fn further(top: Top, steps: usize, most: usize) -> TeraResult<Top>
     })
 }
 
-/// Notes the top of a place, and of those above it that is not known yet.
+/// Notes what stands at the top above a place, and above each of those in between of which it is not known yet.
 fn note(ups: &[Up], tops: &mut [Option<Top>], of: usize, top: Top)
     requires there { of < length ups.now }
     requires inside { Inside ups.now }

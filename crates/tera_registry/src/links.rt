@@ -31,7 +31,7 @@ pub struct Link {
     pub to: Destination,
 }
 
-/// Which body of which template code is, so that its links are found. A home is a hint: a link is asked for its name when it is
+/// Which body of which template some code is, so that its links are found. A home is a hint: a link is asked for its name when it is
 /// used, and where it has another the name is looked up.
 #[derive(Clone, Copy)]
 pub struct Home {

@@ -233,7 +233,7 @@ impl Templates {
         let mut all = self.all.clone()?;
         match put_all(self.alloc, delimiters, &mut all, batch) {
             Ok(()) => {}
-            Err(refusal) => return Err(refusal),
+            Err(error) => return Err(error),
         }
         let links = match link(
             self.alloc,
@@ -260,7 +260,7 @@ impl Templates {
         Some(self.found_at(place))
     }
 
-    /// The same for the name of a reference, which has this number in code at home there: what is linked is not looked up.
+    /// The same for the name of a reference that has this number in code which is at home there: what is linked is not looked up.
     pub fn find_linked(&self, name: &Name, home: Home, number: usize) -> Option<FoundTemplate<'_>>
         ensures { (r : Registry) → Finds (with_templates r self.now) name.now result }
     {
@@ -368,7 +368,7 @@ impl Templates {
         Some(self.defined_at(*choice))
     }
 
-    /// The same for the name of a reference, which has this number in code at home there: what is linked is not looked up.
+    /// The same for the name of a reference that has this number in code which is at home there: what is linked is not looked up.
     pub fn component_linked(&self, name: &Name, home: Home, number: usize) -> Option<Defined<'_>>
         ensures { (r : Registry) → IsDefined (component (with_templates r self.now) name.now)
             result }

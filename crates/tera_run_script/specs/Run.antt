@@ -47,7 +47,8 @@ pub data Fails (registry_old registry_new : Registry) (reader_old reader_new : P
       (unrun : registry_new ≡ registry_old) (unwritten : writer_new ≡ writer_old)
       → Fails registry_old registry_new reader_old reader_new ended writer_old writer_new
   at_write :
-      (broken : BreaksOff registry_old registry_new reader_old reader_new ended writer_old writer_new)
+      (broken : BreaksOff registry_old registry_new reader_old reader_new ended writer_old
+      writer_new)
       → Fails registry_old registry_new reader_old reader_new ended writer_old writer_new
 
 -- A run of the program, by what it comes to.

@@ -4,7 +4,7 @@ use Rattle.tera_registry.proofs.batch.put_all.Goals as goal
 
 pub returns-in-Err-clause-answer : goal.returns-in-Err-clause-answer
 returns-in-Err-clause-answer c =
-    putting-stops c.in-Err.refusal _ _ _ _ c.loop-name.name-index _ c.loop-name.invariant.putting (pair-at c.args.batch.now c.loop-name.name-index _ c.loop-name-test.true) c.in-Err.ensures
+    putting-stops c.in-Err.error _ _ _ _ c.loop-name.name-index _ c.loop-name.invariant.putting (pair-at c.args.batch.now c.loop-name.name-index _ c.loop-name-test.true) c.in-Err.ensures
 
 pub loop-name-preserved : goal.loop-name-preserved
 loop-name-preserved c =

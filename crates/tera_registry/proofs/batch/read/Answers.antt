@@ -8,4 +8,4 @@ returns-in-Ok c =
     makes entry_of _ _ _ (tree_of c.in-Ok.output) c.made.result c.in-Ok.ensures.reads c.made.ensures.ok c.made.ensures.lacks
 
 pub returns-in-Err : goal.returns-in-Err
-returns-in-Err c = makes-none _ _ _ c.in-Err.refusal c.in-Err.ensures.reads
+returns-in-Err c = makes-none _ _ _ c.in-Err.error c.in-Err.ensures.reads

@@ -10,7 +10,7 @@ put_all-requires-clause-rises g c = copies-rise _ _ c.in_ok-all.ensures.cases.0 
 
 pub returns-in-Err : goal.returns-in-Err
 returns-in-Err g c = λ r same of.
-    (add-unread r (delimiters_of c.args.delimiters.now) (pairs_of c.args.batch.now) c.args.self.now.all.items c.in_ok-all.all.items c.args.self.now.prefixes.items same c.in_ok-all.ensures.cases.0 c.in-Err.refusal c.in-Err.ensures.answer, refl)
+    (add-unread r (delimiters_of c.args.delimiters.now) (pairs_of c.args.batch.now) c.args.self.now.all.items c.in_ok-all.all.items c.args.self.now.prefixes.items same c.in_ok-all.ensures.cases.0 c.in-Err.error c.in-Err.ensures.answer, refl)
 
 pub returns-in-Err-link : goal.returns-in-Err-link
 returns-in-Err-link g c = λ r same of.

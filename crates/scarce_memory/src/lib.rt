@@ -55,18 +55,14 @@ pub fn with_little<T, F: FnOnce() -> T>(alloc: Global, call: F) -> Option<T>
 
 /// What the call answers where all memory is taken but for so many pieces of `ROOM` bytes; none where there are not even these.
 /// The C library keeps up to seven pieces of each of 64 sizes for itself that were given back. Where a call is tried hundreds of
-/// times these lie anywhere, and it takes a thousand pieces that there is always one of `ROOM` left between them.
+/// times these lie anywhere: with a thousand pieces there is always one of `ROOM` left between them.
 pub fn with_pieces<T, F: FnOnce() -> T>(alloc: Global, pieces: usize, call: F) -> Option<T>
     requires { F.IsAlwaysCallable call }
 {
     let mut taken = Vec::with_capacity(alloc, 200_000).ok()?;
     let mut little = Vec::with_capacity(alloc, pieces).ok()?;
     take_pieces(alloc, &mut little, ROOM, pieces);
-    let mut size: usize = 1 << 34;
-    for _ in 0..18 {
-        take_pieces(alloc, &mut taken, size, MOST);
-        size = size / 2;
-    }
+    take_halves(alloc, &mut taken, 18);
     drop(little);
     let answer = call();
     drop(taken);
@@ -144,14 +140,19 @@ fn take_all_but(alloc: Global, taken: &mut Vec<Vec<u8>>, room: usize) -> bool {
 
 /// Takes all the memory that there is.
 fn take_all(alloc: Global, taken: &mut Vec<Vec<u8>>) {
-    let mut size: usize = 1 << 34;
-    for _ in 0..34 {
-        take_pieces(alloc, taken, size, MOST);
-        size = size / 2;
-    }
+    take_halves(alloc, taken, 34);
     // The C library keeps small pieces that were given back, by their size, and hands them out for that size alone.
     for place in 0..64 {
         take_pieces(alloc, taken, 1032 - 16 * place, MOST);
+    }
+}
+
+/// Takes pieces of 16 GiB until there are no more, then of half of that, and so on for so many sizes.
+fn take_halves(alloc: Global, taken: &mut Vec<Vec<u8>>, sizes: usize) {
+    let mut size: usize = 1 << 34;
+    for _ in 0..sizes {
+        take_pieces(alloc, taken, size, MOST);
+        size = size / 2;
     }
 }
 

@@ -57,7 +57,7 @@ module _ {E F T G : Type 0} (objects : Meanings E F T G) where
   Ends (RegisterFrom other) answer now next =
       MovesFrom answer (engine_of objects other.objects) now next
 
-  -- Calls in turn, with their answers, lead from one registry to another.
+  -- Calls one after another, with their answers, lead from one registry to another.
   abbrev pub Leads : Registry → List (CallOver E F T G) → List Answer → Registry → Type 0
   Leads now [] [] last = now ≡ last
   Leads now [] (answer ∷ answers) last = ⊥

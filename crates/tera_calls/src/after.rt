@@ -19,7 +19,7 @@ pub struct Outcome {
     pub text: TeraResult<String>,
 }
 
-/// Makes the calls in turn, whether or not one is refused, and then the rendering. `Tera::new` makes the engine that has no template
+/// Makes the calls one after another, whether or not one is refused, and then the rendering. `Tera::new` makes the engine that has no template
 /// and no objects yet.
 ///
 /// This is the law of the engine: the rendering's answer is exactly the text, or the fault with its kind and, for a

@@ -106,7 +106,7 @@ pub fn make_call(engine: &mut Tera, call: Call<'_>) -> TeraResult<()>
     }
 }
 
-/// Makes the calls in turn, and goes on after one that was refused. There is one answer a call. An error says that the answers
+/// Makes the calls one after another, and goes on after one that was refused. There is one answer a call. An error says that the answers
 /// found no room: then no call was made.
 pub fn make_calls(
     alloc: Global,

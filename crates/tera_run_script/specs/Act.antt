@@ -17,7 +17,7 @@ pub data Act : Type 0 where
   add_batch : Act
   -- autoescape the templates whose names end in one of these
   set_suffixes : (suffixes : List Text) → Act
-  -- look for a name that is no template behind these, in turn
+  -- look for a name that is no template behind these, one after another
   set_prefixes : (prefixes : List Text) → Act
   -- render the template of this name
   render_named : (name : Name) → Act

@@ -34,7 +34,7 @@ pub enum Command<'a> {
     Suffix {
         suffixes: Vec<&'a str>,
     },
-    /// Puts these in front of a name that is no template, in turn.
+    /// Puts these in front of a name that is no template, one after another.
     Prefix {
         prefixes: Vec<&'a str>,
     },

@@ -69,8 +69,22 @@ a{% set x %}b{% endset %}c{{ x }} => acb
 {% set x %}{% break %}{% endset %} !! syntax
 "#;
 
+// A capture is safe exactly where texts are escaped.
+const WITHOUT_ESCAPE: &str = r#"
+{% set x %}<b>{{ text }}</b>{% endset %}{{ x }} => <b><b></b>
+{% set x %}<{% endset %}{{ x | escape }} => &lt;
+{% set x %}{{ safe }}{% endset %}{{ x | escape }} => &lt;b&gt;
+{% for x in ["<"] %}{% set y %}{{ x }}{% endset %}{{ y ~ y }}{% endfor %} => <<
+"#;
+
 #[test]
 fn sets(rt: HostRuntime) {
     let line = wrong(rt.alloc(), true, CASES);
+    assert!(rt; line.is_none(), "at line {line:?}");
+}
+
+#[test]
+fn captures_without_escape(rt: HostRuntime) {
+    let line = wrong(rt.alloc(), false, WITHOUT_ESCAPE);
     assert!(rt; line.is_none(), "at line {line:?}");
 }

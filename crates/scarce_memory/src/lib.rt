@@ -115,7 +115,7 @@ pub fn with_room<T, F: FnOnce() -> T>(alloc: Global, room: usize, call: F) -> Op
 }
 
 /// How many bytes are left, each piece with the 16 that the C library keeps beside it. The pieces lie in this list for
-/// that time, and it needs a place for each.
+/// that time, and it needs a position for each.
 pub fn left(alloc: Global, pieces: &mut Vec<Vec<u8>>) -> usize {
     take_all(alloc, pieces);
     let mut sum: usize = 0;
@@ -142,8 +142,8 @@ fn take_all_but(alloc: Global, taken: &mut Vec<Vec<u8>>, room: usize) -> bool {
 fn take_all(alloc: Global, taken: &mut Vec<Vec<u8>>) {
     take_halves(alloc, taken, 34);
     // The C library keeps small pieces that were given back, by their size, and hands them out for that size alone.
-    for place in 0..64 {
-        take_pieces(alloc, taken, 1032 - 16 * place, MOST);
+    for position in 0..64 {
+        take_pieces(alloc, taken, 1032 - 16 * position, MOST);
     }
 }
 

@@ -8,7 +8,7 @@ use Rattle.tera_meaning.specs.Registry.{Registry}
 use Rattle.tera_registry.specs.Templates.{is_empty}
 
 -- how a configuring call ends: with the registry that is meant,
--- or with a refusal and the one of before
+-- or with an error and the one of before
 abbrev pub Configures : Result (Unit {0}) SeenError → Result Registry Fault
     → Registry → Registry → Type 0
 Configures (Ok u) meant old new = meant ≡ Ok new

@@ -15,7 +15,7 @@ abbrev pub with_engine : (Engine → Engine) → Registry → Registry
 with_engine change r = record r { engine = change r.engine }
 
 -- how a call ends that registers: with its engine changed like this, whatever the objects mean,
--- or with a refusal and the engine of before
+-- or with an error and the engine of before
 abbrev pub Registers : {E F T G : Type 0} → Result (Unit {0}) SeenError
     → (Meanings E F T G → Engine → Engine)
     → TeraOver (ObjectsOver E F T G) → TeraOver (ObjectsOver E F T G) → Type 0

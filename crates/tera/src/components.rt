@@ -74,7 +74,7 @@ impl<O: Objects> TeraOver<O> {
         }
     }
 
-    /// Appends what `render_component` answers. After a refusal the vector is as before.
+    /// Appends what `render_component` answers. After an error the vector is as before.
     pub fn render_component_to(
         &self,
         name: &str,

@@ -156,7 +156,7 @@ impl<O: Objects> TeraOver<O> {
         self.read_and_render(input, context, autoescape)
     }
 
-    /// Appends what `render_str` answers. After a refusal the vector is as before.
+    /// Appends what `render_str` answers. After an error the vector is as before.
     pub fn render_str_to(
         &self,
         input: &str,

@@ -53,7 +53,7 @@ impl<O: Objects> TeraOver<O> {
         }
     }
 
-    // The text of these nodes, which stand beside the registry; a refusal where they call or include what is not there. The
+    // The text of these nodes, which stand beside the registry; an error where they call or include what is not there. The
     // subject is theirs.
     fn render_nodes<L: Ledger>(
         &self,

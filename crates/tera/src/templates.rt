@@ -84,7 +84,7 @@ impl<O: Objects> TeraOver<O> {
         ends_with_one_of(found.name, self.suffixes.as_slice())
     }
 
-    /// Appends what `render` answers. After a refusal the vector is as before.
+    /// Appends what `render` answers. After an error the vector is as before.
     pub fn render_to(&self, name: &str, context: &Context, out: &mut Vec<u8>) -> TeraResult<()>
         ensures { AppendsOneOf result out.old.items out.new.items
             (ByName (registry_of O.engine self.now) name.now context.now) }
@@ -113,7 +113,7 @@ impl<O: Objects> TeraOver<O> {
         }
     }
 
-    /// Appends what `render_block` answers. After a refusal the vector is as before.
+    /// Appends what `render_block` answers. After an error the vector is as before.
     pub fn render_block_to(
         &self,
         name: &str,

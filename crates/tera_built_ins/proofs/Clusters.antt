@@ -10,15 +10,15 @@ use Rattle.unicode_segmentation.proofs.SegmentsLemmas.{concat-segments}
 use Rattle.tera_built_ins.specs.Truncate.{truncated}
 
 -- what stands before the n-th piece is as long as its offset says
-place-of : (from : ℕ) (ps : List (List ℕ)) (n at : ℕ) (p : List ℕ) → slice_get (with_offsets from ps) n ≡ Some (at, p) → (n < length ps) × (at ≡ from + length (concat (take n ps)))
+position-of : (from : ℕ) (ps : List (List ℕ)) (n at : ℕ) (p : List ℕ) → slice_get (with_offsets from ps) n ≡ Some (at, p) → (n < length ps) × (at ≡ from + length (concat (take n ps)))
 unfolding with_offsets
-place-of from [] zero at p h = cc
-place-of from [] (suc n) at p h = cc
-place-of from (q ∷ ps) zero at p h =
+position-of from [] zero at p h = cc
+position-of from [] (suc n) at p h = cc
+position-of from (q ∷ ps) zero at p h =
     let e : from ≡ at = ap (λ x. x.0) (same_Some (from, q) (at, p) h) in
     (omega arith, omega (arith, e))
-place-of from (q ∷ ps) (suc n) at p h =
-    let r = place-of (from + length q) ps n at p h in
+position-of from (q ∷ ps) (suc n) at p h =
+    let r = position-of (from + length q) ps n at p h in
     let l : length (q ++ concat (take n ps)) ≡ length q + length (concat (take n ps)) = length-append q (concat (take n ps)) in
     (omega (arith, r.0), omega (arith, r.1, l))
 
@@ -41,7 +41,7 @@ take-front (c ∷ t) u = ap (λ r. c ∷ r) (take-front t u)
 pub cut-is : (t end : List ℕ) (n at : ℕ) (p : List ℕ) → IsUtf8 t → slice_get (with_offsets 0 (graphemes true t)) n ≡ Some (at, p) → truncated n end t ≡ take at t ++ end
 cut-is t end n at p u h =
     let ps = graphemes true t in
-    let r = place-of 0 ps n at p h in
+    let r = position-of 0 ps n at p h in
     let near : at ≡ length (concat (take n ps)) = omega (arith, r.1) in
     let long : nat_lt n (length ps) ≡ true = grind (arith, common_steps, r.0) in
     let front = concat (take n ps) in

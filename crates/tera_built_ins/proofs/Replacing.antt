@@ -48,7 +48,7 @@ at-match p ps to t = rw (begins-own (p ∷ ps) t) (rw (past p ps ps t) (joined-m
 no-match : (p : ℕ) (ps to : List ℕ) (c : ℕ) (t : List ℕ) → begins byte (p ∷ ps) (c ∷ t) ≡ false → replaced byte (p ∷ ps) to (c ∷ t) ≡ c ∷ replaced byte (p ∷ ps) to t
 no-match p ps to c t h = rw h (joined-onto to c (cut-parted p ps 0 t))
 
--- and of one that begins with it nowhere before a place
+-- and of one that begins with it nowhere before a position
 up-to : (p : ℕ) (ps to : List ℕ) (a : ℕ) (t : List ℕ) → ((i : ℕ) → i < a → LacksTextAt (p ∷ ps) t i) → replaced byte (p ∷ ps) to t ≡ take a t ++ replaced byte (p ∷ ps) to (drop a t)
 up-to p ps to zero t h = refl
 up-to p ps to (suc a) [] h = refl

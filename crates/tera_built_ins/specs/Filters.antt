@@ -104,6 +104,6 @@ module _ {C : Type 0} (alphabet : Alphabet C) (view : Escaping) where
   filter_in None v given = Err message
   filter_in (Some filter) v given = filter_of filter v given
 
-  -- by its name, and a refusal where no filter has that
+  -- by its name, and a fault where no filter has that
   abbrev pub filtered_in : Name → ValOf C → Named (ValOf C) → Result (ValOf C) Fault
   filtered_in n v given = filter_in (filter_named n) v given

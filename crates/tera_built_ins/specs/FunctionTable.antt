@@ -29,6 +29,6 @@ module _ {C : Type 0} (alphabet : Alphabet C) where
   function_in None given = Err message
   function_in (Some called) given = function_of called given
 
-  -- by its name, and a refusal where no function has that
+  -- by its name, and a fault where no function has that
   abbrev pub called_in : Name → Named (ValOf C) → Result (ValOf C) Fault
   called_in n given = function_in (function_named n) given

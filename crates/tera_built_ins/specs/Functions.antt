@@ -27,7 +27,7 @@ few count = cond (nat_lt 100000 count) (Err message) (Ok count)
 -- as many numbers from the start on, each a step behind the one before
 abbrev pub stepping : {C : Type 0} → ℤ → ℤ → ℕ → List (ValOf C)
 stepping start step count =
-    each (λ place. int (start +ℤ (step *ℤ pos place))) (range_with_len 0 count)
+    each (λ position. int (start +ℤ (step *ℤ pos position))) (range_with_len 0 count)
 
 abbrev pub range_of : {C : Type 0} → Named (ValOf C) → Result (ValOf C) Fault
 range_of given = or_default (pos 0) as_integer (codes "start") given ▸ λ start.

@@ -20,7 +20,7 @@ abbrev pub AllOther : List KeyVal → Type 0
 AllOther [] = Unit {0}
 AllOther (k ∷ ks) = (list_any (key_eq k) ks ≡ false) × AllOther ks
 
--- each group's key with the place of the group, counted from n
+-- each group's key with the position of the group, counted from n
 abbrev pub numbered : {A : Type 0} → ℕ → List (KeyVal × A) → List (KeyVal × Val)
 numbered n [] = []
 numbered n (g ∷ gs) = (g.0, int (pos n)) ∷ numbered (n + 1) gs
@@ -34,7 +34,7 @@ abbrev pub ok_of : {A : Type 0} → Result A Fault → Option A
 ok_of (Ok a) = Some a
 ok_of (Err fault) = None
 
--- the place that a value says
-abbrev pub place_in : Option Val → Option ℕ
-place_in None = None
-place_in (Some v) = ok_of (as_natural (2 ^ 64) v)
+-- the position that a value says
+abbrev pub position_in : Option Val → Option ℕ
+position_in None = None
+position_in (Some v) = ok_of (as_natural (2 ^ 64) v)

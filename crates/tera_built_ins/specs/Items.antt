@@ -17,7 +17,7 @@ module _ {C : Type 0} where
   abbrev pub last_of : ValOf C → Result (ValOf C) Fault
   last_of v = as_array v ▸ λ vs. Ok (or_none (slice_get vs (length vs - 1)))
 
-  -- the item at a place, where the first place is 0
+  -- the item at a position, where the first position is 0
   abbrev pub nth_of : ValOf C → Named (ValOf C) → Result (ValOf C) Fault
   nth_of v given =
       as_array v ▸ λ vs. needed (as_natural (2 ^ 64)) (codes "n") given ▸ λ n.

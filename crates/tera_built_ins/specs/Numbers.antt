@@ -8,12 +8,12 @@ use Rattle.tera_values.specs.Number.{in_range}
 use Rattle.tera_values.specs.Named.{Named}
 use Rattle.tera_built_ins.specs.Arguments.{◌▸◌, as_bytes, or_default}
 
--- what is there, or a refusal
+-- what is there, or a fault
 abbrev pub there : {A : Type 0} → Option A → Result A Fault
 there None = Err message
 there (Some a) = Ok a
 
--- the number, or a refusal where it is out of range
+-- the number, or a fault where it is out of range
 abbrev pub kept : {C : Type 0} → ℤ → Result (ValOf C) Fault
 kept z = cond (in_range z) (Ok (int z)) (Err message)
 

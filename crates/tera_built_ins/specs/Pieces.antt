@@ -27,7 +27,7 @@ module _ {C : Type 0} (code : C → ℕ) where
   abbrev pub trimmed_end : List ℕ → List C → List C
   trimmed_end pattern t = reverse (trimmed_start (reverse pattern) (reverse t))
 
-  -- cut at each place where p ∷ ps stands, from the left
+  -- cut at each position where p ∷ ps stands, from the left
   abbrev pub cut : ℕ → List ℕ → ℕ → List C → List (List C)
   cut p ps k [] = [] ∷ []
   cut p ps (suc k) (c ∷ t) = cut p ps k t
@@ -43,8 +43,8 @@ module _ {C : Type 0} (code : C → ℕ) where
   letters [] = [] ∷ [] ∷ []
   letters (c ∷ t) = cond (goes_on c) (onto_first c (letters t)) ([] ∷ onto_first c (letters t))
 
-  -- the pieces between the places of a pattern; the empty one stands before each character and at
-  -- the end
+  -- the pieces between the positions of a pattern; the empty one stands before each character and
+  -- at the end
   abbrev pub pieces : List ℕ → List C → List (List C)
   pieces [] t = letters t
   pieces (p ∷ ps) t = cut p ps 0 t

@@ -9,7 +9,7 @@ use Rattle.tera_built_ins.specs.Escaping.{Escaping}
 use Rattle.tera_built_ins.specs.Parts.{part}
 use Rattle.tera_built_ins.specs.Pieces.{pieces, joined}
 
--- another text at all places of a pattern, from the left
+-- another text at all positions of a pattern, from the left
 abbrev pub replaced : {C : Type 0} → (C → ℕ) → List ℕ → List C → List C → List C
 replaced code from to t = joined code to (pieces code from t)
 

@@ -12,8 +12,8 @@ use Rattle.tera_built_ins.specs.Pieces.{pieces}
 abbrev pub made_texts : {C : Type 0} → Alphabet C → List Text → List (ValOf C)
 made_texts alphabet ts = map (λ t. text (alphabet.spelled made t) false) ts
 
--- the pieces between the places of a pattern, from the left; the empty pattern stands before each
--- character and at the end
+-- the pieces between the positions of a pattern, from the left; the empty pattern stands before
+-- each character and at the end
 abbrev pub split_of : {C : Type 0} → Alphabet C → ValOf C → Named (ValOf C) → Result (ValOf C) Fault
 split_of alphabet v given =
     as_text v ▸ λ g.

@@ -57,6 +57,6 @@ module _ {C : Type 0} (alphabet : Alphabet C) where
   test_in None v given = Err message
   test_in (Some asked) v given = test_of asked v given
 
-  -- by its name, and a refusal where no test has that
+  -- by its name, and a fault where no test has that
   abbrev pub tested_in : Name → ValOf C → Named (ValOf C) → Result Bool Fault
   tested_in n v given = test_in (test_named n) v given

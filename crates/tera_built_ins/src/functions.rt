@@ -67,7 +67,7 @@ fn stepping(alloc: Global, start: i128, step: i128, count: u128) -> TeraResult<V
 {
     let mut items = Vec::new(alloc);
     let mut number = start;
-    for _place in 0..count {
+    for _position in 0..count {
         items.push(Value::from_int(number))?;
         // There may be no room for what would stand behind the last one.
         number = number.saturating_add(step);

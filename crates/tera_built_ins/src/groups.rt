@@ -5,7 +5,7 @@ ghost use Rattle.tera_errors.specs.Prelude.{Gives, Lacks};
 ghost use Rattle.tera_values.specs.Prelude.{plain, find, map as map_of, entries, key_view};
 ghost use Rattle.tera_built_ins.specs.Arguments.{◌▸◌};
 ghost use Rattle.tera_built_ins.specs.Attributes.{all_of};
-ghost use Rattle.tera_built_ins.specs.Gathering.{AllOther, keyed_view, group_view, numbered, put_in, place_in};
+ghost use Rattle.tera_built_ins.specs.Gathering.{AllOther, keyed_view, group_view, numbered, put_in, position_in};
 ghost use Rattle.tera_built_ins.specs.Groups.{key_or_none, attribute_key, keyed_by, groups, group_arrays, group_by_of};
 
 use crate::arguments::{as_array, needed_text};
@@ -85,39 +85,39 @@ fn gathered(alloc: Global, keyed: Vec<Keyed<'_>>) -> TeraResult<Vec<Group>>
     ensures { Gives (λ v. each group_view v.items) result
         (Ok (groups (each keyed_view keyed.entry.items))) }
 {
-    let mut places = Map::new(alloc);
+    let mut positions = Map::new(alloc);
     let mut gathered = Vec::new(alloc);
     for one in keyed {
         let Keyed { key, item } = one;
-        put_in(alloc, key, item.try_clone()?, &mut places, &mut gathered)?;
+        put_in(alloc, key, item.try_clone()?, &mut positions, &mut gathered)?;
     }
     Ok(gathered)
 }
 
-/// Puts an item behind those of its key. The places are those of the groups by their keys, so that no group is looked
+/// Puts an item behind those of its key. The positions are those of the groups by their keys, so that no group is looked
 /// for among all.
 fn put_in(
     alloc: Global,
     key: Key,
     item: Value,
-    places: &mut Map,
+    positions: &mut Map,
     gathered: &mut Vec<Group>,
 ) -> TeraResult<()>
-    requires { places.old ≡ numbered 0 (each group_view gathered.old.items) }
-    ensures places { OnOk result
-        (places.new ≡ numbered 0 (each group_view gathered.new.items)) }
+    requires { positions.old ≡ numbered 0 (each group_view gathered.old.items) }
+    ensures positions { OnOk result
+        (positions.new ≡ numbered 0 (each group_view gathered.new.items)) }
     ensures groups { OnOk result (each group_view gathered.new.items
         ≡ put_in (key_view key) item (each group_view gathered.old.items)) }
     ensures lacks { IfErr result Lacks }
 {
-    match place_of(places, &key) {
-        Some(place) => {
-            gathered[place].items.push(item)?;
+    match position_of(positions, &key) {
+        Some(position) => {
+            gathered[position].items.push(item)?;
             Ok(())
         }
         None => {
-            let place = gathered.len() as i128;
-            places.insert(key.try_clone()?, Value::from_int(place))?;
+            let position = gathered.len() as i128;
+            positions.insert(key.try_clone()?, Value::from_int(position))?;
             gathered.push(group_of_one(alloc, key, item)?)?;
             Ok(())
         }
@@ -132,10 +132,10 @@ fn group_of_one(alloc: Global, key: Key, item: Value) -> TeraResult<Group>
     Ok(Group { key, items })
 }
 
-fn place_of(places: &Map, key: &Key) -> Option<usize>
-    ensures { result ≡ place_in (find (key_view key.now) places.now) }
+fn position_of(positions: &Map, key: &Key) -> Option<usize>
+    ensures { result ≡ position_in (find (key_view key.now) positions.now) }
 {
-    let number = places.get(key)?.as_i128()?;
+    let number = positions.get(key)?.as_i128()?;
     if number < 0 || number > usize::MAX as i128 {
         return None;
     }

@@ -29,11 +29,11 @@ pub fn last(value: &Value) -> TeraResult<Value>
     or_none(as_array(value)?.last())
 }
 
-/// The item at a place of an array, counted from 0, with its mark; none where the array is shorter.
+/// The item at a position of an array, counted from 0, with its mark; none where the array is shorter.
 pub fn nth(value: &Value, arguments: &Kwargs) -> TeraResult<Value>
     ensures { Gives (λ v. v) result (nth_of value.now arguments.now) }
 {
     let items = as_array(value)?;
-    let place = needed_size(arguments, "n")?;
-    or_none(items.get(place))
+    let position = needed_size(arguments, "n")?;
+    or_none(items.get(position))
 }

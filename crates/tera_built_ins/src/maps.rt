@@ -43,8 +43,8 @@ fn each_of<F: Fn(&Key, &Value) -> TeraResult<Value>>(
 {
     let all = as_map(value)?;
     let mut items = Vec::new(alloc);
-    for place in 0..all.len() {
-        if let Some((key, item)) = all.entry_at(place) {
+    for position in 0..all.len() {
+        if let Some((key, item)) = all.entry_at(position) {
             items.push(make(key, item)?)?;
         }
     }

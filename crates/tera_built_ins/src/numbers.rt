@@ -7,7 +7,7 @@ use crate::arguments::text_or;
 use std::alloc::Global;
 use tera_values::{Error, Kwargs, TeraResult, Value};
 
-/// The number without its sign; a refusal where there is no number, or where no `i128` holds that.
+/// The number without its sign; an error where there is no number, or where no `i128` holds that.
 pub fn abs(alloc: Global, value: &Value) -> TeraResult<Value>
     ensures { Gives (λ v. v) result (abs_of value.now) }
 {

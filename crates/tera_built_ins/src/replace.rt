@@ -11,14 +11,14 @@ use crate::safe_parts::{made, part};
 use std::alloc::Global;
 use tera_values::{TeraResult, Value};
 
-/// The text with another one at all places of a pattern.
+/// The text with another one at all positions of a pattern.
 pub(crate) fn put(alloc: Global, text: &str, from: &str, to: &str) -> TeraResult<String>
     ensures { Gives string_bytes result (Ok (replaced plain.code from.now to.now text.now)) }
 {
     Ok(text.replace(alloc, from, to)?)
 }
 
-/// The text with another one at all places of a pattern, from the left. The empty pattern stands before each character and
+/// The text with another one at all positions of a pattern, from the left. The empty pattern stands before each character and
 /// at the end. In a safe answer all but the pattern is escaped, unless it is safe itself.
 pub fn replace<E: EscapeFn>(filtering: Filtering<'_, E>) -> TeraResult<Value>
     ensures { Gives (λ v. v) result (applied E.escaped (replace_of plain) filtering.entry) }

@@ -9,7 +9,7 @@ use crate::arguments::{as_text, needed_text};
 use std::alloc::Global;
 use tera_values::{Kwargs, TeraResult, Value};
 
-/// What stands between the places of a pattern that is not empty.
+/// What stands between the positions of a pattern that is not empty.
 fn between(alloc: Global, content: &str, pattern: &str) -> TeraResult<Vec<Value>>
     requires { pattern.now ≢ [] }
     ensures { Gives (λ v. v.items) result
@@ -39,7 +39,7 @@ fn letters(alloc: Global, content: &str) -> TeraResult<Vec<Value>>
     Ok(letters)
 }
 
-/// The pieces between the places of `pat`, from the left, none of them marked safe. The empty pattern stands before each
+/// The pieces between the positions of `pat`, from the left, none of them marked safe. The empty pattern stands before each
 /// character and at the end.
 pub fn split(alloc: Global, value: &Value, arguments: &Kwargs) -> TeraResult<Value>
     ensures { Gives (λ v. v) result (split_of plain value.now arguments.now) }

@@ -14,9 +14,9 @@ fn shorten(alloc: Global, content: &str, length: usize, end: &str) -> TeraResult
     ensures { Gives (λ v. v) result (Ok (text (truncated length end.now content.now) false)) }
 {
     match content.grapheme_indices(true).nth(length) {
-        Some((place, _cluster)) => {
+        Some((position, _cluster)) => {
             let mut shortened = String::new(alloc);
-            shortened.push_str(&content[..place])?;
+            shortened.push_str(&content[..position])?;
             shortened.push_str(end)?;
             Value::string(alloc, shortened.as_str())
         }

@@ -26,7 +26,7 @@ Answer = Result (Unit {0}) SeenError
 
 -- where the objects of calls mean this
 module _ {E F T G : Type 0} (objects : Meanings E F T G) where
-  -- How a call ends: with the registry that it makes of the one before, or with a refusal, for its
+  -- How a call ends: with the registry that it makes of the one before, or with an error, for its
   -- fault or for want of memory, and the one before. Only the places of syntax errors are left
   -- open, and how far `register_from` came before memory ran out.
   abbrev pub Ends : CallOver E F T G → Answer → Registry → Registry → Type 0

@@ -20,7 +20,7 @@ use Rattle.tera_code.specs.declared.packed.Tables.{Tables}
 use Rattle.tera_code.specs.Packed.{Shelf, shelf_of, Longer, Grows, Packs, Within, unpacked, span_at, name_at, call_at, reference_at}
 use Rattle.tera_code.specs.Listing.{Listing}
 use Rattle.tera_code.specs.Code.{lengthened}
-use Rattle.tera_code.specs.Places.{filled}
+use Rattle.tera_code.specs.Filling.{filled}
 
 boundary_stays : (bs ds : List ℕ) (i : ℕ) → IsUtf8 bs → IsUtf8 (bs ++ ds) → IsCharBoundary bs i → IsCharBoundary (bs ++ ds) i
 boundary_stays bs ds i u v b =
@@ -58,7 +58,7 @@ slice_longer bs cs i j g l m = ap (λ x. take (j - i) (drop i x)) g ∙ slice_st
 to_longer : {X : Type 0} (xs ys : List X) (n : ℕ) → Longer xs ys → n ≤ length xs → n ≤ length ys
 to_longer xs ys n g l = omega (arith, ap length g, length-append xs (drop (length xs) ys), l)
 
--- what stands at a place stands there still
+-- what stands at a position stands there still
 at_longer : {X : Type 0} (xs ys : List X) (n : ℕ) (d : X) → Longer xs ys → n < length xs → (n < length ys) × (get_or ys n d ≡ get_or xs n d)
 at_longer xs ys n d g l =
     (omega (arith, ap length g, length-append xs (drop (length xs) ys), l), ap (λ z. get_or z n d) g ∙ get_or_append_left xs (drop (length xs) ys) d n l)
@@ -146,12 +146,12 @@ module _ (s t : Shelf) (u : IsUtf8 s.pool) (v : IsUtf8 t.pool) (g : Grows s t) w
       let rest = code_stays ps (All-tail (Within s) p ps h) in
       (All-cons (Within t) p ps first.0 rest.0, ap₂ (λ x xs. x ∷ xs) first.1 rest.1)
 
--- a chunk whose tables grow: its instructions stay, and one is put behind them or at a place that was kept for it
+-- a chunk whose tables grow: its instructions stay, and one is put behind them or at a position that was kept for it
 module _ (s t : Tables) (g : Grows (shelf_of s) (shelf_of t)) (ps : List Packed) (h : All (Within (shelf_of s)) ps) where
   stay : All (Within (shelf_of t)) ps × (map (unpacked (shelf_of t)) ps ≡ map (unpacked (shelf_of s)) ps)
   stay = code_stays (shelf_of s) (shelf_of t) (IsUtf8-string_bytes s.pool) (IsUtf8-string_bytes t.pool) g ps h
 
-  -- no instruction is added, be it for want of a place
+  -- no instruction is added, be it for want of a position
   pub all_stay : (qs : List Packed) → qs ≡ ps → All (Within (shelf_of t)) qs
   all_stay qs e = subst (All (Within (shelf_of t))) (sym e) stay.0
 

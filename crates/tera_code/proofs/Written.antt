@@ -15,7 +15,7 @@ use Rattle.tera_code.specs.declared.instruction.Instruction.{Instruction}
 use Rattle.tera_code.specs.declared.instruction.Instruction.TheVariants as instruction
 use Rattle.tera_code.specs.Listing.{Listing}
 use Rattle.tera_code.specs.Code.{Code, expr_code, bound_code, arguments_code, arguments_length, turn_code, lengthened}
-use Rattle.tera_code.specs.Places.{filled, behind}
+use Rattle.tera_code.specs.Filling.{filled, behind}
 use Rattle.tera_code.proofs.Lengthened.{lengthened-lengthened}
 use Rattle.tera_code.proofs.Filled.{keep_written}
 
@@ -97,10 +97,10 @@ kept l m n condition x value is h e w =
     ∙ ap (λ c. lengthened l (turn_code (optional_of c) (expr_code (expr_of value)))) (sym is)
 
 -- and with one
-pub kept_if : (l m n o p q : Listing) (condition : Option (Box Expression Global)) (b : Box Expression Global) (x y value : Expression) (place count : ℕ) → condition ≡ Some b → m ≡ lengthened l (expr_code (expr_of x)) → x ≡ b.value → place ≡ length m.code
-    → n ≡ lengthened m (instruction.Jump 0 ∷ []) → o ≡ lengthened n (expr_code (expr_of y)) → y ≡ value → p ≡ lengthened o (instruction.Keep ∷ []) → count ≡ behind place p → q ≡ filled place (instruction.PopJumpIfFalse count) p
+pub kept_if : (l m n o p q : Listing) (condition : Option (Box Expression Global)) (b : Box Expression Global) (x y value : Expression) (position count : ℕ) → condition ≡ Some b → m ≡ lengthened l (expr_code (expr_of x)) → x ≡ b.value → position ≡ length m.code
+    → n ≡ lengthened m (instruction.Jump 0 ∷ []) → o ≡ lengthened n (expr_code (expr_of y)) → y ≡ value → p ≡ lengthened o (instruction.Keep ∷ []) → count ≡ behind position p → q ≡ filled position (instruction.PopJumpIfFalse count) p
     → q ≡ lengthened l (turn_code (optional_of condition) (expr_code (expr_of value)))
-kept_if l m n o p q condition b x y value place count is h e at g w d k c put =
+kept_if l m n o p q condition b x y value position count is h e at g w d k c put =
     put
-    ∙ keep_written l m n o p (expr_code (expr_of b.value)) (expr_code (expr_of value)) place count (boxed_written l m x b.value h e) at g (boxed_written n o y value w d) k c
+    ∙ keep_written l m n o p (expr_code (expr_of b.value)) (expr_code (expr_of value)) position count (boxed_written l m x b.value h e) at g (boxed_written n o y value w d) k c
     ∙ ap (λ z. lengthened l (turn_code (optional_of z) (expr_code (expr_of value)))) (sym is)

@@ -83,7 +83,7 @@ uses_top instruction.WriteTop = true
 uses_top (instruction.PopJumpIfFalse skip) = true
 uses_top other = false
 
--- the two instructions at a place compare the topmost operand with a constant
+-- the two instructions at a position compare the topmost operand with a constant
 pub record Compares (code : List Instruction) (at : ℕ) (c : Comparison) : Type 0 where
   pub loads : slice_get code at ≡ Some (instruction.LoadConst c.constant c.constant_span)
   pub applies : slice_get code (at + 1) ≡ Some (instruction.Binary c.operator c.span)
@@ -95,7 +95,7 @@ comparison_of c o =
     cond (is_comparison o.0)
     (Some (record { constant = c.0; constant_span = c.1; operator = o.0; span = o.1 })) None
 
--- the comparison that the two instructions at a place make, if they do
+-- the comparison that the two instructions at a position make, if they do
 abbrev pub comparison_at : List Instruction → ℕ → Option Comparison
 comparison_at code at =
     option_and_then
@@ -103,7 +103,7 @@ comparison_at code at =
     (option_and_then applied_operator (slice_get code (at + 1))))
     (option_and_then loaded_constant (slice_get code at))
 
--- whether the topmost operand is used up at a place, by the instruction there or by such a
+-- whether the topmost operand is used up at a position, by the instruction there or by such a
 -- comparison
 abbrev pub uses_top_at : List Instruction → ℕ → Bool
 uses_top_at code at =

@@ -2,7 +2,7 @@ pub mod Constant
 pub mod Packed
 pub mod Listing
 pub mod Code
-pub mod Places
+pub mod Filling
 pub mod Blocks
 pub mod Asked
 pub mod Called

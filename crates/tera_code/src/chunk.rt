@@ -4,7 +4,7 @@ ghost use Rattle.tera_code.specs.Asked.{loaded_attribute, is_write_top, jump_len
 ghost use Rattle.tera_code.specs.Called.{callee_of, called_by};
 ghost use Rattle.tera_code.specs.Code.{lengthened, spreads_of};
 ghost use Rattle.tera_code.specs.declared.instruction.Instruction.TheVariants as instruction;
-ghost use Rattle.tera_code.specs.Places.{filled};
+ghost use Rattle.tera_code.specs.Filling.{filled};
 ghost use Rattle.tera_syntax_tree.specs.Prelude.{items_of};
 
 use crate::callee::Callee;
@@ -38,11 +38,11 @@ impl Model for Chunk {
     ghost use Rattle.tera_code.specs.Listing.{Listing};
     ghost use Rattle.tera_code.specs.Packed.{Within, shelf_of, unpacked};
     ghost use Rattle.std.specs.Coded.{codes};
-    ghost use Rattle.tera_values.specs.Code.{val_code};
+    ghost use Rattle.tera_values.specs.Coding.{val_coding};
 
     ghost Value = { Listing };
 
-    ghost coded = { Prim.hlevel (codes, val_code) };
+    ghost coded = { Prim.hlevel (codes, val_coding) };
 
     ghost view = { λ c. record {
       file = c.file;
@@ -88,7 +88,7 @@ impl Chunk {
         names
     }
 
-    /// The instruction at this place, from 0, which is counted where there is one. No call hands one out that it doesn't count.
+    /// The instruction at this position, from 0, which is counted where there is one. No call hands one out that it doesn't count.
     #[inline(always)]
     pub fn get<L: Ledger>(&self, at: usize, steps: &mut Steps<L>) -> Option<LentInstruction<'_>>
         ensures found { MatchOption result (slice_get self.now.code at ≡ None)
@@ -100,7 +100,7 @@ impl Chunk {
         counted(self.lent(at), steps)
     }
 
-    /// The attribute that the instruction at this place takes, which is counted where it takes one.
+    /// The attribute that the instruction at this position takes, which is counted where it takes one.
     #[inline(always)]
     pub fn attribute_at<L: Ledger>(
         &self,
@@ -117,7 +117,7 @@ impl Chunk {
         counted(self.lent(at)?.as_attribute(), steps)
     }
 
-    /// Whether the instruction at this place puts out the topmost operand. It is counted where it does.
+    /// Whether the instruction at this position puts out the topmost operand. It is counted where it does.
     #[inline(always)]
     pub fn writes_top_at<L: Ledger>(&self, at: usize, steps: &mut Steps<L>) -> bool
         ensures means { IsTrue result → slice_get self.now.code at ≡ Some instruction.WriteTop }
@@ -134,7 +134,7 @@ impl Chunk {
         }
     }
 
-    /// How many instructions are passed where the instruction at this place finds a falsy operand, which it takes. Only such
+    /// How many instructions are passed where the instruction at this position finds a falsy operand, which it takes. Only such
     /// an instruction is counted.
     #[inline(always)]
     pub fn pop_jump_if_false_at<L: Ledger>(&self, at: usize, steps: &mut Steps<L>) -> Option<usize>
@@ -148,7 +148,7 @@ impl Chunk {
         counted(self.lent(at)?.as_pop_jump_if_false(), steps)
     }
 
-    /// The comparison of the topmost operand with a constant that the two instructions at this place make, which are counted where
+    /// The comparison of the topmost operand with a constant that the two instructions at this position make, which are counted where
     /// they make one.
     #[inline(always)]
     pub fn comparison_at<L: Ledger>(
@@ -167,7 +167,7 @@ impl Chunk {
         Some(comparison)
     }
 
-    /// Whether the topmost operand is used up at this place: the instruction there takes an attribute of it, puts it out or tests
+    /// Whether the topmost operand is used up at this position: the instruction there takes an attribute of it, puts it out or tests
     /// it, or it is compared with a constant. No instruction is handed out, so that none is counted.
     #[inline(always)]
     pub fn uses_top_at(&self, at: usize) -> bool
@@ -179,7 +179,7 @@ impl Chunk {
         }
     }
 
-    // The comparison that the two instructions at this place make, which are not counted.
+    // The comparison that the two instructions at this position make, which are not counted.
     #[inline(always)]
     fn comparison(&self, at: usize) -> Option<Comparison<'_>>
         ensures means { IfSome result (Compares self.now.code at) }
@@ -205,16 +205,16 @@ impl Chunk {
         self.code.len()
     }
 
-    /// What the instruction at this place calls; none where it calls nothing, or where there is none. The instruction is not
+    /// What the instruction at this position calls; none where it calls nothing, or where there is none. The instruction is not
     /// handed out, so that it isn't counted.
-    pub fn callee_at(&self, place: usize) -> Option<Callee<'_>>
+    pub fn callee_at(&self, position: usize) -> Option<Callee<'_>>
         ensures { option_map callee_of result
-            ≡ option_and_then called_by (slice_get self.now.code place) }
+            ≡ option_and_then called_by (slice_get self.now.code position) }
     {
-        self.lent(place)?.callee()
+        self.lent(position)?.callee()
     }
 
-    // The instruction at this place, which is not counted.
+    // The instruction at this position, which is not counted.
     #[inline(always)]
     fn lent(&self, at: usize) -> Option<LentInstruction<'_>>
         ensures found { MatchOption result (slice_get self.now.code at ≡ None)
@@ -295,14 +295,14 @@ impl Chunk {
         &mut self,
         alloc: Global,
         seen: &mut Seen,
-        place: usize,
+        position: usize,
         instruction: Instruction<'_>,
     ) -> Result<(), AllocError>
-        requires { place < length self.old.code }
-        ensures { OnOk result (self.new ≡ filled place instruction.entry self.old) }
+        requires { position < length self.old.code }
+        ensures { OnOk result (self.new ≡ filled position instruction.entry self.old) }
     {
         let packed = self.tables.pack(alloc, seen, instruction)?;
-        self.code[place] = packed;
+        self.code[position] = packed;
         Ok(())
     }
 }

@@ -4,7 +4,7 @@ ghost use Rattle.tera_values.specs.Val as val;
 ghost use Rattle.tera_code.specs.declared.instruction.Instruction.TheVariants as instruction;
 ghost use Rattle.tera_code.specs.Code.{lengthened, spreads_of};
 ghost use Rattle.tera_syntax_tree.specs.Prelude.{items_of};
-ghost use Rattle.tera_code.specs.Places.{filled, behind};
+ghost use Rattle.tera_code.specs.Filling.{filled, behind};
 
 use crate::chunk::Chunk;
 use crate::constant::Constant;
@@ -28,11 +28,11 @@ pub struct Compiler {
 impl Model for Compiler {
     ghost use Rattle.tera_code.specs.Listing.{Listing};
     ghost use Rattle.std.specs.Coded.{codes};
-    ghost use Rattle.tera_values.specs.Code.{val_code};
+    ghost use Rattle.tera_values.specs.Coding.{val_coding};
 
     ghost Value = { Listing };
 
-    ghost coded = { Prim.hlevel (codes, val_code) };
+    ghost coded = { Prim.hlevel (codes, val_coding) };
 
     ghost view = { λ c. c.chunk };
 }
@@ -111,37 +111,37 @@ impl Compiler {
         self.chunk.emit_array(items, span)
     }
 
-    // Keeps a place for a jump, whose length is known once what it passes is written.
+    // Keeps a position for a jump, whose length is known once what it passes is written.
     #[inline(always)]
-    pub(crate) fn keep_place(&mut self) -> Result<usize, AllocError>
-        ensures place { IfOk result (λ place. place ≡ length self.old.code) }
+    pub(crate) fn keep_position(&mut self) -> Result<usize, AllocError>
+        ensures position { IfOk result (λ position. position ≡ length self.old.code) }
         ensures ok { OnOk result (self.new ≡ lengthened self.old (instruction.Jump 0 ∷ [])) }
     {
-        let place = self.chunk.len();
+        let position = self.chunk.len();
         self.emit(Instruction::Jump(0))?;
-        Ok(place)
+        Ok(position)
     }
 
-    // How many instructions stand behind the place.
-    pub(crate) fn behind(&self, place: usize) -> usize
-        requires { place < length self.now.code }
-        ensures { result ≡ behind place self.now }
+    // How many instructions stand behind the position.
+    pub(crate) fn behind(&self, position: usize) -> usize
+        requires { position < length self.now.code }
+        ensures { result ≡ behind position self.now }
     {
-        self.chunk.len() - place - 1
+        self.chunk.len() - position - 1
     }
 
-    // Puts the instruction at the place that was kept for it.
+    // Puts the instruction at the position that was kept for it.
     #[inline(always)]
     pub(crate) fn fill(
         &mut self,
-        place: usize,
+        position: usize,
         instruction: Instruction<'_>,
     ) -> Result<(), AllocError>
-        requires { place < length self.old.code }
-        ensures ok { OnOk result (self.new ≡ filled place instruction.entry self.old) }
+        requires { position < length self.old.code }
+        ensures ok { OnOk result (self.new ≡ filled position instruction.entry self.old) }
     {
         self.chunk
-            .fill(self.alloc, &mut self.seen, place, instruction)
+            .fill(self.alloc, &mut self.seen, position, instruction)
     }
 
     #[inline(always)]

@@ -39,12 +39,12 @@ pub(crate) fn small_integer(value: &Value) -> Option<i64>
 
 impl<'a> Model for Constant<'a> {
     ghost use Rattle.tera_values.specs.Val.{Val};
-    ghost use Rattle.tera_values.specs.Code.{val_code};
+    ghost use Rattle.tera_values.specs.Coding.{val_coding};
     ghost use Rattle.tera_code.specs.Constant.{value_of};
 
     ghost Value = { Val };
 
-    ghost coded = { val_code };
+    ghost coded = { val_coding };
 
     ghost view = { λ c. value_of c.kept };
 }

@@ -135,13 +135,13 @@ impl Compiler {
             (And (expr_of operands.now.left) (expr_of operands.now.right) span)))) }
     {
         self.expression(&operands.left)?;
-        let place = self.keep_place()?;
+        let position = self.keep_position()?;
         self.expression(&operands.right)?;
-        let count = self.behind(place);
+        let count = self.behind(position);
         if is_or {
-            self.fill(place, Instruction::JumpIfTrueOrPop(count))
+            self.fill(position, Instruction::JumpIfTrueOrPop(count))
         } else {
-            self.fill(place, Instruction::JumpIfFalseOrPop(count))
+            self.fill(position, Instruction::JumpIfFalseOrPop(count))
         }
     }
 
@@ -154,11 +154,11 @@ impl Compiler {
             (expr_of choice.now.other) span))) }
     {
         self.expression(&choice.condition)?;
-        let place = self.keep_place()?;
+        let position = self.keep_position()?;
         self.expression(&choice.value)?;
-        let place = self.divide(place)?;
+        let position = self.divide(position)?;
         self.expression(&choice.other)?;
-        self.fill(place, Instruction::Jump(self.behind(place)))
+        self.fill(position, Instruction::Jump(self.behind(position)))
     }
 
     #[cycle(expressions)]

@@ -27,13 +27,13 @@ pub struct LentInstruction<'a> {
 
 impl<'a> Model for LentInstruction<'a> {
     ghost use Rattle.std.specs.Coded.{codes};
-    ghost use Rattle.tera_values.specs.Code.{val_code};
+    ghost use Rattle.tera_values.specs.Coding.{val_coding};
     ghost use Rattle.tera_code.specs.declared.instruction.Instruction.{Instruction as Datum};
     ghost use Rattle.tera_code.specs.Packed.{Within, shelf_of, unpacked};
 
     ghost Value = { Datum };
 
-    ghost coded = { Prim.hlevel (codes, val_code) };
+    ghost coded = { Prim.hlevel (codes, val_coding) };
 
     ghost view = { λ l. unpacked (shelf_of l.tables.now) l.packed.now };
 

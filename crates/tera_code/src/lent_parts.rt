@@ -59,7 +59,7 @@ impl<'a> LentName<'a> {
         LentName::numbered(name, 0)
     }
 
-    /// The same of a reference, which stands at this place among those of its chunk.
+    /// The same of a reference, which stands at this position among those of its chunk.
     pub(crate) fn numbered(name: &'a Name, number: usize) -> LentName<'a>
         ensures { result ≡ name.now }
     {

@@ -1,7 +1,7 @@
 // Loops and comprehensions.
 ghost use Rattle.std.specs.Prelude.{◌≡◌, ◌<◌, OnOk, IfOk, length, option_copied};
 ghost use Rattle.tera_code.specs.Code.{expr_code, turn_code, lengthened};
-ghost use Rattle.tera_code.specs.Places.{looped};
+ghost use Rattle.tera_code.specs.Filling.{looped};
 ghost use Rattle.tera_syntax_tree.specs.Prelude.{comprehension_of, expr_of, optional_of};
 
 use crate::compiler::Compiler;
@@ -26,7 +26,7 @@ impl Compiler {
     {
         let heading = &collected.heading;
         self.expression(&heading.target)?;
-        let start = self.keep_place()?;
+        let start = self.keep_position()?;
         self.turn(collected)?;
         self.end_turns(start, heading, false)?;
         self.emit(Instruction::EndComprehension(span))?;
@@ -46,15 +46,15 @@ impl Compiler {
             }
             Some(condition) => {
                 self.expression(condition)?;
-                let place = self.keep_place()?;
+                let position = self.keep_position()?;
                 self.expression(&collected.value)?;
                 self.emit(Instruction::Keep)?;
-                self.fill(place, Instruction::PopJumpIfFalse(self.behind(place)))
+                self.fill(position, Instruction::PopJumpIfFalse(self.behind(position)))
             }
         }
     }
 
-    // The turns of a loop end, which stand behind the place that was kept for its start.
+    // The turns of a loop end, which stand behind the position that was kept for its start.
     pub(crate) fn end_turns(
         &mut self,
         start: usize,

@@ -17,7 +17,7 @@ use tera_syntax_tree::{ComponentTag, Expression, Heading, Node};
 use tera_values::Span;
 
 impl Compiler {
-    /// The instructions of the nodes, one after another, behind those that are there. After a refusal some may be missing.
+    /// The instructions of the nodes, one after another, behind those that are there. Where memory is refused some may be missing.
     pub fn compile(&mut self, nodes: &[Node]) -> Result<(), AllocError>
         ensures ok { OnOk result (self.new ≡ lengthened self.old
             (nodes_code (nodes_of nodes.now) 0)) }
@@ -26,7 +26,7 @@ impl Compiler {
         self.nodes(nodes, 0)
     }
 
-    /// The instructions of the node, behind those that are there. After a refusal some may be missing.
+    /// The instructions of the node, behind those that are there. Where memory is refused some may be missing.
     pub fn compile_node(&mut self, node: &Node) -> Result<(), AllocError>
         ensures ok { OnOk result (self.new ≡ lengthened self.old (node_code (node_of node.now) 0)) }
     {
@@ -115,11 +115,11 @@ impl Compiler {
             (nodes_code (nodes_of body.now.items) drops)
             (nodes_code (nodes_of other.now.items) drops))) }
     {
-        let place = self.keep_place()?;
+        let position = self.keep_position()?;
         self.body(body, drops)?;
-        let place = self.divide(place)?;
+        let position = self.divide(position)?;
         self.body(other, drops)?;
-        self.fill(place, Instruction::Jump(self.behind(place)))
+        self.fill(position, Instruction::Jump(self.behind(position)))
     }
 
     // The other body runs where there is no turn, and is passed where the loop ends.
@@ -136,12 +136,12 @@ impl Compiler {
             (node_code (for_of heading.now body.now.items other.now.items) drops)) }
     {
         self.expression(&heading.target)?;
-        let place = self.keep_place()?;
+        let position = self.keep_position()?;
         self.body(body, 0)?;
-        self.end_turns(place, heading, true)?;
-        let place = self.keep_place()?;
+        self.end_turns(position, heading, true)?;
+        let position = self.keep_position()?;
         self.body(other, drops)?;
-        self.fill(place, Instruction::EndLoop(self.behind(place)))
+        self.fill(position, Instruction::EndLoop(self.behind(position)))
     }
 
     // A block, whose body is compiled by itself, is put out as the template that is rendered has it; an include, as the template to

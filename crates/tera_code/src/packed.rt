@@ -11,7 +11,7 @@ use crate::constant::{Constant, Kept, small_integer};
 use crate::instruction::Instruction;
 use crate::lent_parts::{Keys, LentName, Names, Spreads};
 use crate::reference::Reference;
-use crate::seen::{PLACES, Seen};
+use crate::seen::{SLOTS, Seen};
 use crate::single_forms::{add_spreads, copied};
 use std::alloc::{AllocError, Global};
 use tera_errors::lacking;
@@ -179,17 +179,17 @@ fn small(number: usize) -> Result<u32, AllocError>
     }
 }
 
-/// Puts the item behind the others, and tells its place.
+/// Puts the item behind the others, and tells its position.
 fn number<T: Drop>(items: &mut Vec<T>, item: T) -> Result<u32, AllocError>
     ensures grows { Longer items.old.items items.new.items }
     ensures ok { IfOk result (λ n. IsAt items.new.items n item) }
 {
-    let place = small(items.len())?;
+    let position = small(items.len())?;
     items.push(item)?;
-    Ok(place)
+    Ok(position)
 }
 
-/// The place of the name among the names, to which it is added where it isn't found at the place that was seen last.
+/// The position of the name among the names, to which it is added where it isn't found at the position that was seen last.
 fn name_number(
     alloc: Global,
     names: &mut Vec<Name>,
@@ -199,16 +199,16 @@ fn name_number(
     ensures grows { Longer names.old.items names.new.items }
     ensures ok { IfOk result (λ n. IsAt names.new.items n name.now) }
 {
-    let slot = (name.hash() % PLACES as u64) as usize;
-    let place = seen.places[slot];
-    if let Some(known) = names.get(place as usize) {
+    let slot = (name.hash() % SLOTS as u64) as usize;
+    let position = seen.positions[slot];
+    if let Some(known) = names.get(position as usize) {
         if name.is(known) {
-            return Ok(place);
+            return Ok(position);
         }
     }
-    let place = number(names, lacking(Name::from_sought(alloc, name))?)?;
-    seen.places[slot] = place;
-    Ok(place)
+    let position = number(names, lacking(Name::from_sought(alloc, name))?)?;
+    seen.positions[slot] = position;
+    Ok(position)
 }
 
 impl Tables {
@@ -272,7 +272,7 @@ impl Tables {
 }
 
 impl Tables {
-    /// Puts a name and a span beside the others, and tells their places.
+    /// Puts a name and a span beside the others, and tells their positions.
     fn name_and_span(
         &mut self,
         alloc: Global,
@@ -351,7 +351,7 @@ impl Tables {
         Ok(Packed::TakeBlock { name, span })
     }
 
-    /// Puts what is taken and stands elsewhere beside the others, and tells its place.
+    /// Puts what is taken and stands elsewhere beside the others, and tells its position.
     fn add_reference(&mut self, name: &LentName<'_>, is_component: bool) -> Result<u32, AllocError>
         ensures grows { Grows (shelf_of self.old) (shelf_of self.new) }
         ensures ok { IfOk result (λ n. IsAt (shelf_of self.new).references n name.now) }
@@ -397,7 +397,7 @@ impl Tables {
         })
     }
 
-    /// Puts what a loop calls its items beside the others, and tells its place.
+    /// Puts what a loop calls its items beside the others, and tells its position.
     fn add_loop(
         &mut self,
         key: &Option<LentName<'_>>,

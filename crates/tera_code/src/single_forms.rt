@@ -4,7 +4,7 @@ ghost use Rattle.tera_values.specs.Val as val;
 ghost use Rattle.tera_code.specs.declared.instruction.Instruction.TheVariants as instruction;
 ghost use Rattle.tera_code.specs.Code.{lengthened, is_context, name_code, spreads_of, keys_in};
 ghost use Rattle.tera_code.specs.Packed.{Longer};
-ghost use Rattle.tera_code.specs.Places.{divided};
+ghost use Rattle.tera_code.specs.Filling.{divided};
 ghost use Rattle.tera_syntax_tree.specs.Prelude.{items_of, entries_of, keys_of, key_option, literal_option};
 
 use crate::compiler::Compiler;
@@ -52,14 +52,14 @@ impl Compiler {
         })
     }
 
-    // The first of two parts ends, which starts behind the place; the place that was kept behind it.
-    pub(crate) fn divide(&mut self, place: usize) -> Result<usize, AllocError>
-        requires { place < length self.old.code }
-        ensures place { IfOk result (λ next. next ≡ length self.old.code) }
-        ensures ok { OnOk result (self.new ≡ divided place self.old) }
+    // The first of two parts ends, which starts behind the position; the position that was kept behind it.
+    pub(crate) fn divide(&mut self, position: usize) -> Result<usize, AllocError>
+        requires { position < length self.old.code }
+        ensures position { IfOk result (λ next. next ≡ length self.old.code) }
+        ensures ok { OnOk result (self.new ≡ divided position self.old) }
     {
-        let next = self.keep_place()?;
-        self.fill(place, Instruction::PopJumpIfFalse(self.behind(place)))?;
+        let next = self.keep_position()?;
+        self.fill(position, Instruction::PopJumpIfFalse(self.behind(position)))?;
         Ok(next)
     }
 

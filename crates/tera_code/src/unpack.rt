@@ -103,7 +103,7 @@ impl Tables {
         Names::new(self.calls[number as usize].arguments.as_slice())
     }
 
-    // The instruction that calls by the name, and with the arguments, that stand at this place.
+    // The instruction that calls by the name, and with the arguments, that stand at this position.
     #[inline(always)]
     fn call_of(&self, kind: CallKind, call: u32, span: u32) -> Instruction<'_>
         requires call { call < length self.now.calls.items }

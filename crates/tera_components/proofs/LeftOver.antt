@@ -8,7 +8,7 @@ use Rattle.tera_errors.specs.Site.{Name}
 use Rattle.tera_syntax_tree.specs.Blocks.{is_among}
 use Rattle.tera_values_data.specs.Index.{key_at, IsDistinct}
 use Rattle.tera_values_data.proofs.Keys.{key_exact, key_tied, is_eq_true}
-use Rattle.tera_values_data.proofs.Places.{find_absent}
+use Rattle.tera_values_data.proofs.Positions.{find_absent}
 use Rattle.tera_values.specs.Val.{Val, KeyVal, kbool, kint, ktext, undefined}
 use Rattle.tera_values.specs.Access.{key_eq, find, insert_pair}
 use Rattle.tera_values.specs.Named.{text_keys}
@@ -42,8 +42,8 @@ absent_before es i one h = find_absent (take i es) (key_at es i) (λ j lt. not_t
     let low : j < i = omega (arith, lt, length-take {A = KeyVal × Val}, h) in
     let key : key_at (take i es) j ≡ key_at es j = ap (λ e. e.0) (get_or-take i es j (kbool false, undefined) low) in
     let tie : key_at es i ≡ key_at (take i es) j = key_exact _ _ (is_eq_true _ same) in
-    let place : i ≡ j = one i j h (omega (arith, low, h)) (tie ∙ key) in
-    omega (arith, low, place)))
+    let position : i ≡ j = one i j h (omega (arith, low, h)) (tie ∙ key) in
+    omega (arith, low, position)))
 
 absent_left : (d : Definition) (es : Pairs) (k : KeyVal) → find k es ≡ None → find k (only_left d es) ≡ None
 absent_left d [] k h = refl

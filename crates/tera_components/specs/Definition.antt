@@ -11,7 +11,7 @@ use Rattle.tera_syntax_tree.specs.contracts.component.ArgumentType.{the_row}
 use Rattle.tera_syntax_tree.specs.Tree.{Parameter, Signature}
 use Rattle.tera_syntax_tree.specs.Blocks.{is_among}
 use Rattle.tera_values.specs.Val.{ValOf, Val, KeyVal, kbool, kint, ktext}
-use Rattle.tera_values.specs.Code.{val_code}
+use Rattle.tera_values.specs.Coding.{val_coding}
 use Rattle.tera_values.specs.Access.{find, insert_pair}
 use Rattle.tera_values.specs.Named.{Named, at_name, put}
 use Rattle.tera_state.specs.Scope.{look_implicit}
@@ -52,28 +52,28 @@ definition_of s = record { name = s.name; formals = map_list formal_of s.paramet
 abbrev pub info_of : Definition → Info
 info_of d = record { name = d.name; formals = d.formals }
 
-abbrev pub name_code : Coded Name
-name_code = coded_list coded_ℕ
+abbrev pub name_coding : Coded Name
+name_coding = coded_list coded_ℕ
 
-abbrev pub formal_code : Coded Formal
-formal_code =
+abbrev pub formal_coding : Coded Formal
+formal_coding =
     code_by (Name × (Bool × (Option ArgumentType × Option Val)))
-    (coded× name_code
-    (coded× coded_bool (coded× (coded_option the_row.coded) (coded_option val_code))))
+    (coded× name_coding
+    (coded× coded_bool (coded× (coded_option the_row.coded) (coded_option val_coding))))
     (λ f. (f.name, (f.is_implicit, (f.of_type, f.default))))
     (λ p. record { name = p.0; is_implicit = p.1.0; of_type = p.1.1.0; default = p.1.1.1 })
     (λ _. refl)
 
-abbrev pub definition_code : Coded Definition
-definition_code =
+abbrev pub definition_coding : Coded Definition
+definition_coding =
     code_by (Name × (List Formal × Option Name))
-    (coded× name_code (coded× (coded_list formal_code) (coded_option name_code)))
+    (coded× name_coding (coded× (coded_list formal_coding) (coded_option name_coding)))
     (λ d. (d.name, (d.formals, d.rest)))
     (λ p. record { name = p.0; formals = p.1.0; rest = p.1.1 }) (λ _. refl)
 
-abbrev pub info_code : Coded Info
-info_code =
-    code_by (Name × List Formal) (coded× name_code (coded_list formal_code))
+abbrev pub info_coding : Coded Info
+info_coding =
+    code_by (Name × List Formal) (coded× name_coding (coded_list formal_coding))
     (λ i. (i.name, i.formals)) (λ p. record { name = p.0; formals = p.1 }) (λ _. refl)
 
 -- what stands at a text key; other keys name no argument
@@ -129,7 +129,7 @@ module _ (look : Name → Val) (given : List (Name × Val)) where
       option_and_then (λ v. with_formals fs (put f.name v context)) (formal_value f)
 
 -- how a call ends that binds these arguments and at will a body, where implicit parameters are
--- looked up in these scopes: with the context that the signature means, or a refusal in words
+-- looked up in these scopes: with the context that the signature means, or a fault
 abbrev pub Binds : Definition → List (Name × Val) → Option Val → Scopes
     → Result (Named Val) SeenError → Type 0
 Binds d given body scopes answer =

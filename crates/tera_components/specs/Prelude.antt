@@ -1,2 +1,2 @@
--- The definitions that contracts of other crates name, passed on from one place.
-pub use Rattle.tera_components.specs.Definition.{definition_code}
+-- The definitions that contracts of other crates name, passed on from one file.
+pub use Rattle.tera_components.specs.Definition.{definition_coding}

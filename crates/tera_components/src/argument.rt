@@ -26,11 +26,11 @@ pub struct ComponentArg {
 }
 
 impl Model for ComponentArg {
-    ghost use Rattle.tera_components.specs.Definition.{Formal, formal_code};
+    ghost use Rattle.tera_components.specs.Definition.{Formal, formal_coding};
 
     ghost Value = { Formal };
 
-    ghost coded = { formal_code };
+    ghost coded = { formal_coding };
 
     ghost view = { λ a. record {
       name = a.name;

@@ -27,11 +27,11 @@ pub struct ComponentDefinition {
 }
 
 impl Model for ComponentDefinition {
-    ghost use Rattle.tera_components.specs.Definition.{Definition, definition_code};
+    ghost use Rattle.tera_components.specs.Definition.{Definition, definition_coding};
 
     ghost Value = { Definition };
 
-    ghost coded = { definition_code };
+    ghost coded = { definition_coding };
 
     ghost view = { λ d. record { name = d.name; formals = d.arguments.items; rest = d.rest } };
 
@@ -115,8 +115,8 @@ impl ComponentDefinition {
             (Ok (text_keys (left_over self.now (named_arguments given.now)))) }
     {
         let mut all = Map::new(alloc);
-        for place in 0..given.len() {
-            if let Some((key, value)) = given.entry_at(place) {
+        for position in 0..given.len() {
+            if let Some((key, value)) = given.entry_at(position) {
                 self.keep(key, value, &mut all)?;
             }
         }

@@ -17,11 +17,11 @@ pub struct ComponentInfo {
 }
 
 impl Model for ComponentInfo {
-    ghost use Rattle.tera_components.specs.Definition.{Info, info_code};
+    ghost use Rattle.tera_components.specs.Definition.{Info, info_coding};
 
     ghost Value = { Info };
 
-    ghost coded = { info_code };
+    ghost coded = { info_coding };
 
     ghost view = { λ i. record { name = i.name; formals = i.args.items } };
 }

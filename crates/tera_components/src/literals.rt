@@ -10,7 +10,7 @@ use std::alloc::Global;
 use tera_syntax_tree::{Literal, LiteralEntry, LiteralKey};
 use tera_values::{Key, Map, TeraResult, Value};
 
-/// What stands at the place of the literal.
+/// What stands at the position of the literal.
 #[cycle(literals)]
 pub(crate) fn value_from(alloc: Global, literal: &Literal<'_>) -> TeraResult<Value>
     ensures { Gives (λ v. v) result (Ok (literal_value (written_of literal.now))) }

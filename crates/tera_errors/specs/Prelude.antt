@@ -1,4 +1,4 @@
--- The definitions that contracts of other crates name, passed on from one place.
+-- The definitions that contracts of other crates name, passed on from one file.
 pub use Rattle.tera_errors.specs.Site.{Name, Site, Text}
 pub use Rattle.tera_errors.specs.Fault.{Fault, invalid_argument, message, missing_argument, rendering_error}
 pub use Rattle.tera_errors.specs.Fault.{template_not_found}

@@ -12,14 +12,14 @@ use Rattle.tera_marks.proofs.Standing.{Stands, ints, arrays, ResultStands, answe
 use Rattle.tera_marks.proofs.Moving.{all-stand}
 use Rattle.tera_marks.proofs.Given.{NamedStand, after-stands, same-stands, as_text-stands, as_integer-stands, needed-stands, or_default-stands}
 
-ints-stand : (number : ℕ → ℤ) (places : List ℕ) → Each Stands (map (λ place. int (number place)) places) (map (λ place. int (number place)) places)
+ints-stand : (number : ℕ → ℤ) (positions : List ℕ) → Each Stands (map (λ position. int (number position)) positions) (map (λ position. int (number position)) positions)
 ints-stand number [] = none
-ints-stand number (place ∷ places) = more (ints (number place)) (ints-stand number places)
+ints-stand number (position ∷ positions) = more (ints (number position)) (ints-stand number positions)
 
 -- so many numbers, unless they are too many
 listed-stands : (start step : ℤ) (count : ℕ) → ResultStands Stands (few count ▸ λ n. Ok (array (vals (stepping start step n)))) (few count ▸ λ n. Ok (array (vals (stepping start step n))))
 listed-stands start step count = after-stands (same-stands (few count)) (λ m n e.
-    rw e (answers (arrays (all-stand (ints-stand (λ (place : ℕ). start +ℤ (step *ℤ pos place)) (range_with_len 0 n))))))
+    rw e (answers (arrays (all-stand (ints-stand (λ (position : ℕ). start +ℤ (step *ℤ pos position)) (range_with_len 0 n))))))
 
 pub range-stands : {given : Named (ValOf Marked)} {others : Named (ValOf ℕ)} → NamedStand given others → ResultStands Stands (range_of given) (range_of others)
 range-stands ns =

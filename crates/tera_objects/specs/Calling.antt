@@ -60,7 +60,7 @@ module _ {C : Type 0} (alphabet : Alphabet C) where
         alphabet.answers (answer_of o.safe (o.meaning (all_bare given) view))
     function_called (Some (built_in b)) given = function_of alphabet b given
 
-  -- by names, and a refusal where the name stands for nothing
+  -- by names, and a fault where the name stands for nothing
   abbrev pub filtered_by : Engine → View → Name → ValOf C → Named (ValOf C) → Result (ValOf C) Fault
   filtered_by engine view name v given = filter_called view (filter_at engine name) v given
 

@@ -49,7 +49,7 @@ listed_more keys xs i key x lt n k e =
     ∙ from_left_last [] (zip ks before) (get_or ks (length before) (key_option key), x)
     ∙ ap (λ (o : Option Key). inserted (listed keys before) o x.value) at
 
--- what is found among the operands before a place, by the last one of them
+-- what is found among the operands before a position, by the last one of them
 found_more : (j : KeyVal) (keys : List (Option OwnedKey)) (xs : List Evaluated) (left : ℕ) (key : Option OwnedKey) (x : Evaluated) → 0 < left → left ≤ length xs → length keys ≡ length xs → key ≡ get_or keys (left - 1) key → x ≡ get_or xs (left - 1) x →
     find j (listed keys (take left xs)) ≡ cond (is_at j (key_option key)) (Some x.value) (find j (listed keys (take (left - 1) xs)))
 found_more j keys xs left key x some within n k e =

@@ -10,4 +10,4 @@ use Rattle.tera_operators.specs.Operand.{fault_at}
 abbrev pub finish : Name → List Val → Option Span → Result (List Val) Fault → Result (List Val) Fault
 finish file acc unfit (Err f) = Err f
 finish file acc None (Ok rest) = Ok (acc ++ rest)
-finish file acc (Some place) (Ok rest) = fault_at file place
+finish file acc (Some position) (Ok rest) = fault_at file position

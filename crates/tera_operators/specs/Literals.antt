@@ -60,7 +60,7 @@ abbrev pub inserted : {C : Type 0} → List (KeyVal × ValOf C) → Option Key �
 inserted all None v = all
 inserted all (Some k) v = insert_pair all (key_val k) v
 
--- without a spread: from the left, and a key that is there keeps its place with the later value
+-- without a spread: from the left, and a key that is there keeps its position with the later value
 abbrev pub from_left : {C : Type 0} → List (KeyVal × ValOf C) → List (Option Key × EvaluatedOf C)
     → List (KeyVal × ValOf C)
 from_left all [] = all

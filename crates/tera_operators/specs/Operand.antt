@@ -6,7 +6,7 @@ use Rattle.tera_errors.specs.Site.{Name}
 use Rattle.tera_errors.specs.Fault.{Fault, rendering_error}
 use Rattle.tera_errors.specs.Answer.{SeenError, Lacks, Tells}
 use Rattle.tera_values.specs.Val.{Val, ValOf}
-use Rattle.tera_values.specs.Code.{val_code}
+use Rattle.tera_values.specs.Coding.{val_coding}
 
 -- a value, and the span at which a fault in it is reported
 pub record EvaluatedOf (C : Type 0) : Type 0 where
@@ -16,9 +16,9 @@ pub record EvaluatedOf (C : Type 0) : Type 0 where
 abbrev pub Evaluated : Type 0
 Evaluated = EvaluatedOf ℕ
 
-abbrev pub evaluated_code : Coded Evaluated
-evaluated_code =
-    code_by (Val × (ℕ × ℕ)) (coded× val_code (coded× coded_ℕ coded_ℕ))
+abbrev pub evaluated_coding : Coded Evaluated
+evaluated_coding =
+    code_by (Val × (ℕ × ℕ)) (coded× val_coding (coded× coded_ℕ coded_ℕ))
     (λ o. (o.value, (o.span.start, o.span.end)))
     (λ p. record { value = p.0; span = record { start = p.1.0; end = p.1.1 } }) (λ _. refl)
 
@@ -50,12 +50,12 @@ abbrev pub then : {A B : Type 0} → Result A Fault → (A → Result B Fault) �
 then (Ok a) go = go a
 then (Err f) go = Err f
 
--- what is answered, where any refusal is a fault at this span
+-- what is answered, where any fault is one at this span
 abbrev pub placed : {A : Type 0} → Name → Result A Fault → Span → Result A Fault
 placed file (Ok a) span = Ok a
 placed file (Err f) span = fault_at file span
 
--- a refusal told as this fault; want of memory stays want of memory
+-- an error told as this fault; want of memory stays want of memory
 abbrev pub Retells : SeenError → SeenError → Fault → Type 0
 Retells None told fault = Lacks told
 Retells (Some refused) told fault = Tells told fault

@@ -24,7 +24,7 @@ abbrev pub combined : {C : Type 0} → Name → EvaluatedOf C → EvaluatedOf C 
     → OutcomeOf C
 combined file a b result = then (placed file result (spanning a b)) (λ v. at_span v (spanning a b))
 
--- an operand that is no number is a fault at its place
+-- an operand that is no number is a fault at its position
 abbrev pub number_at : {C : Type 0} → Name → EvaluatedOf C → Result ℤ Fault
 number_at file a = known file (int_of a.value) a.span
 
@@ -69,7 +69,7 @@ module _ {C : Type 0} (alphabet : Alphabet C) where
   compared_in file test a b =
       then (standing_in file a b) (λ o. at_span (bool (test o)) (spanning a b))
 
-  -- what has nothing in it is a fault at its place
+  -- what has nothing in it is a fault at its position
   abbrev pub contained_in : Name → EvaluatedOf C → EvaluatedOf C → Span → OutcomeOf C
   contained_in file a b span =
       then (placed file (contains (alphabet.bare b.value) (alphabet.bare a.value)) b.span)

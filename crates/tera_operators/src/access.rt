@@ -4,8 +4,8 @@ ghost use Rattle.tera_errors.specs.Prelude.{Gives};
 ghost use Rattle.tera_values.specs.Prelude.{IsScalar};
 ghost use Rattle.tera_operators.specs.Accesses.{is_missing, part_of, Decides, attribute_of, item_of, bound_at, slice_of};
 
+use crate::faults::{operand_or_fault, spanning};
 use crate::operand::{LentOperand, Operand};
-use crate::place::{operand_or_fault, spanning};
 use std::alloc::Global;
 use tera_values::{Error, Shape, Span, TeraResult, Value};
 

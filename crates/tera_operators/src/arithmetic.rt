@@ -1,11 +1,11 @@
-// Arithmetic, with each fault at its place.
+// Arithmetic, with each fault at its position.
 ghost use Rattle.std.specs.Prelude.{ℤ, Result, IsOk};
 ghost use Rattle.tera_errors.specs.Prelude.{Fault, Gives};
 ghost use Rattle.tera_values.specs.Prelude.{Val, integers, on_integers, unless_zero};
 ghost use Rattle.tera_operators.specs.Operators.{number_at, numbers, divisor_of, combined, calculated, divided, negative_of};
 
+use crate::faults::{operand_or_fault, spanning};
 use crate::operand::Operand;
-use crate::place::{operand_or_fault, spanning};
 use std::alloc::Global;
 use tera_values::{Error, TeraResult, Value, number};
 

@@ -29,8 +29,8 @@ fn append(items: &[Value], all: &mut Vec<Value>) -> TeraResult<()>
     Ok(())
 }
 
-/// `[1, ...more]`: each operand is an item, or, where its place among the spreads says so, an array whose items stand in
-/// its place. Of the spreads that are no arrays the last one is the fault. The array is in shared form, so a copy is a count.
+/// `[1, ...more]`: each operand is an item, or, where its position among the spreads says so, an array whose items stand in
+/// its position. Of the spreads that are no arrays the last one is the fault. The array is in shared form, so a copy is a count.
 pub fn array(
     alloc: Global,
     file: &str,
@@ -54,11 +54,11 @@ pub fn array(
         }
     }
     match unfit {
-        Some(place) => Err(Error::rendering(
+        Some(position) => Err(Error::rendering(
             alloc,
             "only an array can be spread here",
             file,
-            place,
+            position,
         )),
         None => Ok(Operand::new(Value::array(items).shared(alloc)?, span)),
     }

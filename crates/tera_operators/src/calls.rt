@@ -6,8 +6,8 @@ ghost use Rattle.tera_values.specs.Prelude.{Val};
 ghost use Rattle.tera_operators.specs.Operand.{at_span, then};
 ghost use Rattle.tera_operators.specs.Calls.{by_name, placed_call};
 
+use crate::faults::fault_at;
 use crate::operand::Operand;
-use crate::place::fault_at;
 use std::alloc::Global;
 use tera_values::{ErrorKind, Kwargs, Name, Span, TeraResult, Value};
 
@@ -23,7 +23,7 @@ pub fn arguments(alloc: Global, names: &[Name], operands: Vec<Operand>) -> TeraR
     Ok(all)
 }
 
-/// The answer as an operand at the call, or its refusal as a fault: at the value where something is of a wrong type, and else
+/// The answer as an operand at the call, or its error as a fault: at the value where something is of a wrong type, and else
 /// at the call.
 pub fn operand_or_call_fault(
     alloc: Global,
@@ -37,12 +37,12 @@ pub fn operand_or_call_fault(
 {
     match answer {
         Ok(made) => Ok(Operand::new(made, call)),
-        Err(refusal) => {
-            let span = match refusal.kind() {
+        Err(error) => {
+            let span = match error.kind() {
                 ErrorKind::InvalidArgument => value,
                 _ => call,
             };
-            Err(fault_at(alloc, file, &refusal, span))
+            Err(fault_at(alloc, file, &error, span))
         }
     }
 }

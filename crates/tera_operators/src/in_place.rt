@@ -6,8 +6,8 @@ ghost use Rattle.tera_errors.specs.declared.span.Span.{Span};
 ghost use Rattle.tera_values.specs.Prelude.{int, sum, difference, product, quotient, remainder};
 ghost use Rattle.tera_operators.specs.Operators.{Makes, binary_of};
 
+use crate::faults::spanning;
 use crate::operand::Operand;
-use crate::place::spanning;
 use tera_syntax_tree::BinaryOperator;
 use tera_values::{Shape, Value};
 

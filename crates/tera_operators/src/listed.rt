@@ -30,12 +30,12 @@ pub struct Entries<'k>(Form<'k>);
 impl<'k> Model for Entries<'k> {
     ghost use Rattle.std.specs.Prelude.{List};
     ghost use Rattle.tera_values.specs.Val.{Val, KeyVal};
-    ghost use Rattle.tera_values.specs.Code.{entries_code};
+    ghost use Rattle.tera_values.specs.Coding.{entries_coding};
     ghost use Rattle.tera_operators.specs.Entries.{entries_in, Fits};
 
     ghost Value = { List (KeyVal × Val) };
 
-    ghost coded = { entries_code };
+    ghost coded = { entries_coding };
 
     ghost view = { λ e. entries_in e.0 };
 
@@ -176,8 +176,8 @@ fn is_named(key: &Key, names: &Map) -> bool
 fn map_named(map: &Map, names: &Map) -> bool
     ensures { result ≡ are_named names.now map.now }
 {
-    for place in 0..map.len() {
-        if let Some((key, _)) = map.entry_at(place) {
+    for position in 0..map.len() {
+        if let Some((key, _)) = map.entry_at(position) {
             if !is_named(key, names) {
                 return false;
             }

@@ -69,8 +69,8 @@ fn keep_all(all: &mut Map, more: &Map) -> TeraResult<()>
     ensures ok { OnOk result (all.new ≡ kept all.old more.now) }
     ensures lacks { IfErr result Lacks }
 {
-    for place in 0..more.len() {
-        if let Some((key, value)) = more.entry_at(place) {
+    for position in 0..more.len() {
+        if let Some((key, value)) = more.entry_at(position) {
             keep_copy(all, key, value)?;
         }
     }

@@ -3,8 +3,8 @@ ghost use Rattle.std.specs.Prelude.{IsOk};
 ghost use Rattle.tera_errors.specs.Prelude.{Gives};
 ghost use Rattle.tera_operators.specs.Operators.{contained};
 
+use crate::faults::fault_at;
 use crate::operand::Operand;
-use crate::place::fault_at;
 use std::alloc::Global;
 use tera_values::{Span, TeraResult, Value};
 
@@ -21,6 +21,6 @@ pub(crate) fn is_in(
 {
     match right.value().contains(alloc, left.value()) {
         Ok(found) => Ok(Operand::new(Value::from_bool(found), span)),
-        Err(refusal) => Err(fault_at(alloc, file, &refusal, right.span())),
+        Err(error) => Err(fault_at(alloc, file, &error, right.span())),
     }
 }

@@ -15,11 +15,11 @@ pub struct Operand {
 }
 
 impl Model for Operand {
-    ghost use Rattle.tera_operators.specs.Operand.{Evaluated, evaluated_code};
+    ghost use Rattle.tera_operators.specs.Operand.{Evaluated, evaluated_coding};
 
     ghost Value = { Evaluated };
 
-    ghost coded = { evaluated_code };
+    ghost coded = { evaluated_coding };
 
     ghost view = { λ o. record { value = o.value; span = o.span } };
 }
@@ -80,11 +80,11 @@ pub struct LentOperand<'v> {
 impl<'v> Model for LentOperand<'v> {
     ghost use Rattle.std.specs.Prelude.{option_copied, unwrap_or};
     ghost use Rattle.tera_values.specs.Val.{undefined};
-    ghost use Rattle.tera_operators.specs.Operand.{Evaluated, evaluated_code};
+    ghost use Rattle.tera_operators.specs.Operand.{Evaluated, evaluated_coding};
 
     ghost Value = { Evaluated };
 
-    ghost coded = { evaluated_code };
+    ghost coded = { evaluated_coding };
 
     ghost view = { λ o. record {
       value = unwrap_or (option_copied o.value) undefined;

@@ -4,8 +4,8 @@ ghost use Rattle.tera_errors.specs.Prelude.{Gives};
 ghost use Rattle.tera_values.specs.Prelude.{text, printed};
 ghost use Rattle.tera_operators.specs.Operand.{at_span, spanning};
 
+use crate::faults::spanning;
 use crate::operand::Operand;
-use crate::place::spanning;
 use std::alloc::Global;
 use tera_values::{TeraResult, Value};
 

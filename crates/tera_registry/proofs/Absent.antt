@@ -24,7 +24,7 @@ any-none-get p (x ∷ xs) h =
     let rest : list_any p xs ≡ false = any-none-get p xs (λ k y at. h (suc k) y at) in
     rw first rest
 
--- none before a place passes
+-- none before a position passes
 abbrev pub NoneYet : {X : Type 0} → (X → Bool) → List X → ℕ → Type 0
 NoneYet {X} p xs i = (k : ℕ) (x : X) → k < i → slice_get xs k ≡ Some x → p x ≡ false
 

@@ -17,7 +17,7 @@ use Rattle.tera_code.specs.Code.{listing_of}
 use Rattle.tera_code.specs.Listing.{Listing}
 use Rattle.tera_code.specs.Blocks.{block_of, block_listing, block_listings}
 use Rattle.tera_registry.specs.declared.definers.At.{At}
-use Rattle.tera_registry.specs.Places.{IsPlace}
+use Rattle.tera_registry.specs.Positions.{IsPosition}
 use Rattle.tera_registry.specs.declared.template.Template.{Template as Stored}
 use Rattle.tera_registry.specs.declared.lineage.Up.{Up}
 use Rattle.tera_registry.specs.declared.lineage.Up.TheVariants as which
@@ -25,7 +25,7 @@ use Rattle.tera_registry.specs.Links.{IsUp, ArePlaced}
 use Rattle.tera_registry.specs.Order.{Rises}
 use Rattle.tera_registry.specs.Kept.{entries_of, seen}
 use Rattle.tera_registry.proofs.Linked.{found-placed}
-use Rattle.tera_registry.specs.Definers.{blocks_of, from_block, from_template, from_place, from_found, above_block, above_template, above_place, IsFirst, Grounded, Climbable, ancestors_at}
+use Rattle.tera_registry.specs.Definers.{blocks_of, from_block, from_template, from_position, from_found, above_block, above_template, above_position, IsFirst, Grounded, Climbable, ancestors_at}
 use Rattle.tera_registry.proofs.Element.{element}
 use Rattle.tera_registry.proofs.Kept.{length-entries}
 use Rattle.tera_registry.proofs.Placed.{named}
@@ -135,11 +135,11 @@ pub nobody : (r : Registry) (block : Name) (t : Entry) → entry_at block (block
 nobody r block t none alone =
     none-own block t (ancestors r t) none ∙ ap (definers_in block) (none-above r t alone)
 
-pub at-place : (r : Registry) (t : Entry) (at : At) (b : Name × Nodes) → slice_get r.templates at.template ≡ Some t → slice_get (blocks_of t) at.block ≡ Some b → from_place r at ≡ record { file = t.0; body = b.1 } ∷ definers_in b.0 (ancestors r t)
-at-place r t at b here there =
+pub at-position : (r : Registry) (t : Entry) (at : At) (b : Name × Nodes) → slice_get r.templates at.template ≡ Some t → slice_get (blocks_of t) at.block ≡ Some b → from_position r at ≡ record { file = t.0; body = b.1 } ∷ definers_in b.0 (ancestors r t)
+at-position r t at b here there =
     ap (from_template r at.block) here ∙ ap (from_block r t) there
 
-pub at-above : (r : Registry) (t : Entry) (at : At) (b : Name × Nodes) → slice_get r.templates at.template ≡ Some t → slice_get (blocks_of t) at.block ≡ Some b → above_place r at ≡ definers_in b.0 (ancestors r t)
+pub at-above : (r : Registry) (t : Entry) (at : At) (b : Name × Nodes) → slice_get r.templates at.template ≡ Some t → slice_get (blocks_of t) at.block ≡ Some b → above_position r at ≡ definers_in b.0 (ancestors r t)
 at-above r t at b here there =
     ap (above_template r at.block) here ∙ ap (above_block r t) there
 
@@ -148,13 +148,13 @@ found-first r None ds f = sym f
 found-first r (Some at) ds f = sym f.0
 
 -- the first is a template's own, where it has the block
-pub first-own : (r : Registry) (block : Name) (t : Entry) (at : At) → slice_get r.templates at.template ≡ Some t → IsPlace (blocks_of t) (Some at.block) (entry_at block (blocks_of t)) → IsFirst r (Some at) (definers_in block (t ∷ ancestors r t))
-first-own r block t at here place =
-    let b = element (blocks_of t) at.block place.1 in
-    let found : entry_at block (blocks_of t) ≡ Some b.0 = place.0 ∙ b.1 in
+pub first-own : (r : Registry) (block : Name) (t : Entry) (at : At) → slice_get r.templates at.template ≡ Some t → IsPosition (blocks_of t) (Some at.block) (entry_at block (blocks_of t)) → IsFirst r (Some at) (definers_in block (t ∷ ancestors r t))
+first-own r block t at here position =
+    let b = element (blocks_of t) at.block position.1 in
+    let found : entry_at block (blocks_of t) ≡ Some b.0 = position.0 ∙ b.1 in
     let first = own-first block t (ancestors r t) b.0 found in
     let same : block ≡ (b.0).0 = named (blocks_of t) block b.0 found in
-    let there : from_place r at ≡ record { file = t.0; body = (b.0).1 } ∷ definers_in (b.0).0 (ancestors r t) = at-place r t at b.0 here b.1 in (
+    let there : from_position r at ≡ record { file = t.0; body = (b.0).1 } ∷ definers_in (b.0).0 (ancestors r t) = at-position r t at b.0 here b.1 in (
       first ∙ ap (λ n. record { file = t.0; body = (b.0).1 } ∷ definers_in n (ancestors r t)) same ∙ sym there,
       ap is_none_left first,
     )
@@ -168,11 +168,11 @@ pub kept-block : (bs : List Block) (file : Name) (ns : List (Name × Nodes)) (k 
 kept-block bs file ns k b same lt is =
     let kept : slice_get (map block_of bs) k ≡ Some (block_of b) = slice_get-map block_of bs k ∙ ap (option_map block_of) (slice_get_read bs (length bs) k b refl lt is) in
     let meant : option_map (block_listing file) (slice_get ns k) ≡ Some (block_of b) = sym (slice_get-map (block_listing file) ns k) ∙ ap (λ l. slice_get l k) (sym same) ∙ kept in
-    by_place (slice_get ns k) refl meant
+    by_position (slice_get ns k) refl meant
   where
-    by_place : (o : Option (Name × Nodes)) → slice_get ns k ≡ o → option_map (block_listing file) o ≡ Some (block_of b) → (n : Name × Nodes) × (slice_get ns k ≡ Some n) × (b.name ≡ n.0) × (b.code ≡ listing_of file n.1)
-    by_place None at e = (let x : None ≡ Some (block_of b) = e in cc)
-    by_place (Some n) at e =
+    by_position : (o : Option (Name × Nodes)) → slice_get ns k ≡ o → option_map (block_listing file) o ≡ Some (block_of b) → (n : Name × Nodes) × (slice_get ns k ≡ Some n) × (b.name ≡ n.0) × (b.code ≡ listing_of file n.1)
+    by_position None at e = (let x : None ≡ Some (block_of b) = e in cc)
+    by_position (Some n) at e =
         (let x : Some (block_listing file n) ≡ Some (block_of b) = e in
         let y : block_of b ≡ block_listing file n = cc in
         (n, at, ap (λ (p : Name × Listing). p.0) y, ap (λ (p : Name × Listing). p.1) y))
@@ -192,7 +192,7 @@ pub lent-block : (bs lent : List Block) (file : Name) (ns : List (Name × Nodes)
 lent-block bs lent file ns k b e same lt is =
     kept-block lent file ns k b (ap (map block_of) e ∙ same) lt is
 
--- What each template extends stands at its place.
+-- What each template extends stands at its position.
 
 pub listed : (r : Registry) (ts : List (Rc Stored Global)) (ups : List Up) (i : ℕ) → Climbable r ts ups → i < length ts → i < length ups
 listed r ts ups i c lt = omega (arith, c.above.as_many, ap length c.same, length-entries ts)

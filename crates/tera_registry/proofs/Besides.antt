@@ -20,13 +20,13 @@ use Rattle.tera_registry.specs.declared.choices.Choice.{Choice}
 use Rattle.tera_registry.specs.Known.{is_there, code_lacks}
 use Rattle.tera_registry.specs.Components.{kept_of, kept_all, kept_names}
 use Rattle.tera_registry.specs.Choices.{chosen, chosen_of, AreChosen}
-use Rattle.tera_registry.proofs.Definitions.{component-none, component-place}
+use Rattle.tera_registry.proofs.Definitions.{component-none, component-position}
 use Rattle.tera_registry.proofs.Choosing.{kept-names-are}
 use Rattle.tera_registry.proofs.Lacking.{codes_lack_as_tree}
 
 taken-there : (r : Registry) (n : Name) (c : Option Choice) → chosen_of r n ≡ c → is_some c ≡ is_some (component r n)
 taken-there r n None e = sym (ap is_some (component-none r n None (sym e) refl))
-taken-there r n (Some c) e = sym (ap is_some (component-place r n c e).is)
+taken-there r n (Some c) e = sym (ap is_some (component-position r n c e).is)
 
 by-name : (file n : Name) (d : Signature × Nodes) (ds : List (Signature × Nodes)) (b : Bool) → list_any (λ m. bytes_eq n m) (map (λ d. d.0.name) ds) ≡ is_some (component_named file n ds) → (b || list_any (λ m. bytes_eq n m) (map (λ d. d.0.name) ds)) ≡ is_some (if b then Some (record { file = file; signature = d.0; body = d.1 }) else component_named file n ds)
 by-name file n d ds true rest = refl

@@ -14,7 +14,7 @@ use Rattle.tera_registry.specs.Choices.{ties_at}
 use Rattle.tera_registry.specs.Links.{climbed}
 use Rattle.tera_registry.proofs.Rows.{drop-at, take-more}
 
--- The templates before a place have no fault.
+-- The templates before a position have no fault.
 pub record Checked (r : Registry) (i : ℕ) : Type 0 where
   pub is : first_fault r [] r.templates ≡ first_fault r (take i r.templates) (drop i r.templates)
 

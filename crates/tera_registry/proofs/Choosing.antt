@@ -55,35 +55,35 @@ left-out old name w q is =
     ]
 
 -- one name more
-pub chosen-more : (q n : Name) (place p k : ℕ) (names : List Name) (old : Option Choice) → slice_get names k ≡ Some n → chosen_in q place p k (drop k names) old ≡ chosen_in q place p (k + 1) (drop (k + 1) names) (if bytes_eq q n then better_choice old (record { template = place; component = k; priority = p }) else old)
-chosen-more q n place p k names old at =
+pub chosen-more : (q n : Name) (position p k : ℕ) (names : List Name) (old : Option Choice) → slice_get names k ≡ Some n → chosen_in q position p k (drop k names) old ≡ chosen_in q position p (k + 1) (drop (k + 1) names) (if bytes_eq q n then better_choice old (record { template = position; component = k; priority = p }) else old)
+chosen-more q n position p k names old at =
     let next : suc k ≡ k + 1 = omega arith in
-    let new = if bytes_eq q n then better_choice old (record { template = place; component = k; priority = p }) else old in
-    ap (λ ns. chosen_in q place p k ns old) (drop-at names k n at) ∙ ap (λ i. chosen_in q place p i (drop (k + 1) names) new) next
+    let new = if bytes_eq q n then better_choice old (record { template = position; component = k; priority = p }) else old in
+    ap (λ ns. chosen_in q position p k ns old) (drop-at names k n at) ∙ ap (λ i. chosen_in q position p i (drop (k + 1) names) new) next
 
 -- all names
-pub chosen-all-names : (q : Name) (place p k : ℕ) (names : List Name) (old : Option Choice) → length names ≤ k → chosen_in q place p k (drop k names) old ≡ old
-chosen-all-names q place p k names old over = ap (λ ns. chosen_in q place p k ns old) (drop_all k names over)
+pub chosen-all-names : (q : Name) (position p k : ℕ) (names : List Name) (old : Option Choice) → length names ≤ k → chosen_in q position p k (drop k names) old ≡ old
+chosen-all-names q position p k names old over = ap (λ ns. chosen_in q position p k ns old) (drop_all k names over)
 
 -- one template more
-pub chosen-push : (r : Registry) (q : Name) (place : ℕ) (ts : List Entry) (t : Entry) (old : Option Choice) → chosen_from r q place (ts ++ t ∷ []) old ≡ chosen_in q (place + length ts) (priority r t.0) 0 (component_names t.1.tree.nodes) (chosen_from r q place ts old)
-chosen-push r q place [] t old =
-    let e : place ≡ place + 0 = omega arith in
+pub chosen-push : (r : Registry) (q : Name) (position : ℕ) (ts : List Entry) (t : Entry) (old : Option Choice) → chosen_from r q position (ts ++ t ∷ []) old ≡ chosen_in q (position + length ts) (priority r t.0) 0 (component_names t.1.tree.nodes) (chosen_from r q position ts old)
+chosen-push r q position [] t old =
+    let e : position ≡ position + 0 = omega arith in
     ap (λ i. chosen_in q i (priority r t.0) 0 (component_names t.1.tree.nodes) old) e
-chosen-push r q place (u ∷ ts) t old =
-    let next = chosen_in q place (priority r u.0) 0 (component_names u.1.tree.nodes) old in
-    let e : suc place + length ts ≡ place + length (u ∷ ts) = omega arith in
-    chosen-push r q (suc place) ts t next ∙ ap (λ i. chosen_in q i (priority r t.0) 0 (component_names t.1.tree.nodes) (chosen_from r q (suc place) ts next)) e
+chosen-push r q position (u ∷ ts) t old =
+    let next = chosen_in q position (priority r u.0) 0 (component_names u.1.tree.nodes) old in
+    let e : suc position + length ts ≡ position + length (u ∷ ts) = omega arith in
+    chosen-push r q (suc position) ts t next ∙ ap (λ i. chosen_in q i (priority r t.0) 0 (component_names t.1.tree.nodes) (chosen_from r q (suc position) ts next)) e
 
 pub name-at : (cs : List Component) (k : ℕ) (c : Component) → k < length cs → c ≡ get_or cs k c → slice_get (kept_names cs) k ≡ Some c.definition.name
 name-at cs k c lt is =
     slice_get-map (λ (c : Component). c.definition.name) cs k ∙ ap (option_map (λ (c : Component). c.definition.name)) (slice_get_read cs (length cs) k c refl lt is)
 
-pub chosen-next : (r : Registry) (q : Name) (place : ℕ) (t : Entry) → slice_get r.templates place ≡ Some t → chosen_in q place (priority r t.0) 0 (component_names t.1.tree.nodes) (chosen_from r q 0 (take place r.templates) None) ≡ chosen_from r q 0 (take (place + 1) r.templates) None
-chosen-next r q place t at =
-    let before = take place r.templates in
-    let here : 0 + length before ≡ place = omega (arith, length-take place r.templates, slice_get_within r.templates place t at) in
-    sym (chosen-push r q 0 before t None ∙ ap (λ i. chosen_in q i (priority r t.0) 0 (component_names t.1.tree.nodes) (chosen_from r q 0 before None)) here) ∙ ap (λ l. chosen_from r q 0 l None) (take-more r.templates place t at)
+pub chosen-next : (r : Registry) (q : Name) (position : ℕ) (t : Entry) → slice_get r.templates position ≡ Some t → chosen_in q position (priority r t.0) 0 (component_names t.1.tree.nodes) (chosen_from r q 0 (take position r.templates) None) ≡ chosen_from r q 0 (take (position + 1) r.templates) None
+chosen-next r q position t at =
+    let before = take position r.templates in
+    let here : 0 + length before ≡ position = omega (arith, length-take position r.templates, slice_get_within r.templates position t at) in
+    sym (chosen-push r q 0 before t None ∙ ap (λ i. chosen_in q i (priority r t.0) 0 (component_names t.1.tree.nodes) (chosen_from r q 0 before None)) here) ∙ ap (λ l. chosen_from r q 0 l None) (take-more r.templates position t at)
 
 -- The names of the components that are kept.
 
@@ -100,6 +100,6 @@ any-same f g [] same = refl
 any-same f g (n ∷ ns) same = ap (λ b. b || list_any f ns) (same n) ∙ ap (λ b. g n || b) (any-same f g ns same)
 
 -- a template that ties with what was taken before it
-pub ties-is : (r : Registry) (place : ℕ) (t : Entry) (cs : List Component) (taken : BTreeMap (String Global) Choice Global) (p : ℕ) → kept_names cs ≡ component_names t.1.tree.nodes → p ≡ priority r t.0 → ((q : Name) → chosen taken q ≡ chosen_from r q 0 (take place r.templates) None) → list_any (λ c. is_tied (chosen taken c.definition.name) p) cs ≡ ties_at r place t
-ties-is r place t cs taken p names good known =
-    any-over (λ n. is_tied (chosen taken n) p) cs ∙ ap (list_any (λ n. is_tied (chosen taken n) p)) names ∙ any-same _ (is_tie r (take place r.templates) t) (component_names t.1.tree.nodes) (λ n. ap (λ o. is_tied o p) (known n) ∙ ap (is_tied (chosen_from r n 0 (take place r.templates) None)) good ∙ tie-of r n place t)
+pub ties-is : (r : Registry) (position : ℕ) (t : Entry) (cs : List Component) (taken : BTreeMap (String Global) Choice Global) (p : ℕ) → kept_names cs ≡ component_names t.1.tree.nodes → p ≡ priority r t.0 → ((q : Name) → chosen taken q ≡ chosen_from r q 0 (take position r.templates) None) → list_any (λ c. is_tied (chosen taken c.definition.name) p) cs ≡ ties_at r position t
+ties-is r position t cs taken p names good known =
+    any-over (λ n. is_tied (chosen taken n) p) cs ∙ ap (list_any (λ n. is_tied (chosen taken n) p)) names ∙ any-same _ (is_tie r (take position r.templates) t) (component_names t.1.tree.nodes) (λ n. ap (λ o. is_tied o p) (known n) ∙ ap (is_tied (chosen_from r n 0 (take position r.templates) None)) good ∙ tie-of r n position t)

@@ -1,4 +1,4 @@
--- Edges between places are includes between templates, and walks along the ones are walks along the others.
+-- Edges between positions are includes between templates, and walks along the ones are walks along the others.
 use Rattle.std.proofs.Common.{◌≡◌, ℕ, zero, suc, Bool, ◌||◌, List, [], ◌∷◌, length, Option, Some, None, Vec, String, Global, refl, sym, ap, ◌∙◌, arith, slice_get}
 use Rattle.std.specs.List.{list_any, cons_option}
 use Rattle.std.proofs.lemmas.Option.{slice_get_within}

@@ -1,4 +1,4 @@
--- The component of a name, found by place.
+-- The component of a name, found by position.
 use Rattle.std.proofs.Common.{◌≡◌, ℕ, ◌<◌, is_some, List, [], ◌∷◌, ◌++◌, length, map, get_or, Option, Some, None, Result, Ok, option_map, option_and_then, Box, Vec, Global, String, refl, sym, ap, ap₂, ◌∙◌, arith, slice_get}
 use Rattle.std.specs.declared.collections.BTreeMap.{BTreeMap}
 use Rattle.std.specs.List.{list_any}
@@ -44,15 +44,15 @@ component-none r n c e none =
     ap (option_and_then (component_in n)) is
 
 -- where the definition stands that is taken
-pub record Place (r : Registry) (n : Name) (c : Choice) : Type 0 where
+pub record ChosenAt (r : Registry) (n : Name) (c : Choice) : Type 0 where
   pub template : Entry
   pub definition : Signature × Nodes
   pub template_at : slice_get r.templates c.template ≡ Some template
   pub at : slice_get (definitions template.1.tree.nodes) c.component ≡ Some definition
   pub is : component r n ≡ Some (record { file = template.0; signature = definition.0; body = definition.1 })
 
-pub component-place : (r : Registry) (n : Name) (c : Choice) → chosen_of r n ≡ Some c → Place r n c
-component-place r n c e =
+pub component-position : (r : Registry) (n : Name) (c : Choice) → chosen_of r n ≡ Some c → ChosenAt r n c
+component-position r n c e =
     let is : IsChosen r n (Some c) (definer_of r n) = rw e at (chosen-is r n) in
     record {
       template = is.template;

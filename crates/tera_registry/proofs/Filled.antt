@@ -6,12 +6,12 @@ use Rattle.std.proofs.lemmas.List.{drop_all}
 use Rattle.tera_meaning.specs.Registry.{Registry, Entry}
 use Rattle.tera_meaning.specs.Accepted.{includes_of}
 use Rattle.tera_registry.specs.Walks.{rows, targets}
-use Rattle.tera_registry.specs.Places.{IsPlace}
+use Rattle.tera_registry.specs.Positions.{IsPosition}
 use Rattle.tera_registry.specs.Edges.{all_at, AreThere, AreEdges}
 use Rattle.tera_registry.proofs.Element.{element, front-at, last-at, past-at}
 use Rattle.tera_registry.proofs.Rows.{drop-at, length-push}
 
--- Of the items before a place all is there that a function gives.
+-- Of the items before a position all is there that a function gives.
 pub record Filled {X Y : Type 0} (h : X → Option Y) (xs : List X) (ys : List Y) (i : ℕ) : Type 0 where
   pub is : ys ++ filter_map h (drop i xs) ≡ filter_map h xs
 
@@ -28,7 +28,7 @@ fill-some h xs ys i x y f is some = record {
 pub fill-ends : {X Y : Type 0} (h : X → Option Y) (xs : List X) (ys : List Y) (i : ℕ) → Filled h xs ys i → length xs ≤ i → ys ≡ filter_map h xs
 fill-ends h xs ys i f le = sym (ap (λ l. ys ++ filter_map h l) (drop_all i xs le) ∙ append-nil ys) ∙ f.is
 
--- Places, one more at a time.
+-- Positions, one more at a time.
 
 cons_option-append : {X : Type 0} (o : Option X) (xs ys : List X) → cons_option o (xs ++ ys) ≡ cons_option o xs ++ ys
 cons_option-append None xs ys = refl
@@ -121,6 +121,6 @@ fewer-is f xs n is =
     ]
 
 -- what a look-up answers is none where nothing resolves
-pub is_none-place : {X : Type 0} (xs : List X) (o : Option ℕ) (x : Option X) → IsPlace xs o x → is_none o ≡ is_none x
-is_none-place xs None x is = ap is_none (sym is)
-is_none-place xs (Some i) x is = (let e = element xs i is.1 in sym (ap is_none (is.0 ∙ e.1)))
+pub is_none-position : {X : Type 0} (xs : List X) (o : Option ℕ) (x : Option X) → IsPosition xs o x → is_none o ≡ is_none x
+is_none-position xs None x is = ap is_none (sym is)
+is_none-position xs (Some i) x is = (let e = element xs i is.1 in sym (ap is_none (is.0 ∙ e.1)))

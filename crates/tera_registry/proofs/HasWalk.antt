@@ -5,7 +5,7 @@ use Rattle.std.proofs.lemmas.List.Folds.{list_any_at}
 use Rattle.std.proofs.lemmas.Bool.{cases_Bool, cases_lt}
 use Rattle.tera_registry.specs.Walks.{targets, has_walk, target}
 
--- a test that fails at each place
+-- a test that fails at each position
 pub list_any-none_at : {X : Type 0} (p : X → Bool) (xs : List X) (d : X) → ((k : ℕ) → k < length xs → p (get_or xs k d) ≡ false) → list_any p xs ≡ false
 list_any-none_at p [] d h = refl
 list_any-none_at p (x ∷ xs) d h =

@@ -51,12 +51,12 @@ module _ (engine : Engine) (there : Name → Bool) where
       let of_components = components_lack components ∙ ap (list_any (λ k. code_lacks engine there k.1.code)) g ∙ kept_lack file (definitions nodes) in
       ap₂ (λ x y. x || y) (code_lacks_as_nodes body.code nodes e) of_components ∙ ap (λ bs. has_unknown engine there nodes || list_any (has_unknown engine there) (map (λ b. b.1) bs ++ map (λ d. d.1) (definitions nodes))) (sym none)
 
-  -- The code is looked through place by place.
+  -- The code is looked through position by position.
 
   abbrev missing_at : Code → ℕ → Bool
   missing_at code i = is_missing engine there (option_and_then called_by (slice_get code i))
 
-  -- nothing that is missing is called before a place
+  -- nothing that is missing is called before a position
   abbrev pub LacksNothing : Code → ℕ → Type 0
   LacksNothing code i = (k : ℕ) → k < i → is_missing engine there (option_and_then called_by (slice_get code k)) ≡ false
 

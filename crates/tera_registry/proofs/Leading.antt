@@ -1,4 +1,4 @@
--- Links: what a name leads to, by the place of a template and by its name.
+-- Links: what a name leads to, by the position of a template and by its name.
 use Rattle.std.proofs.Common.{◌≡◌, ℕ, List, [], Vec, option_map, Some, String, Global, refl, sym, ap, subst, ◌∙◌}
 use Rattle.std.specs.declared.collections.BTreeMap.{BTreeMap}
 use Rattle.std.specs.declared.rc.Rc.{Rc}
@@ -14,16 +14,16 @@ use Rattle.tera_registry.specs.declared.template.Template.{Template as Stored}
 use Rattle.tera_registry.specs.Kept.{seen}
 use Rattle.tera_registry.specs.References.{LeadsTo, AreRight, AreAllRight}
 use Rattle.tera_registry.specs.Order.{Rises}
-use Rattle.tera_registry.specs.Places.{IsPlace}
-use Rattle.tera_registry.proofs.Linked.{at-its-place}
+use Rattle.tera_registry.specs.Positions.{IsPosition}
+use Rattle.tera_registry.proofs.Linked.{at-its-position}
 
-module _ (r : Registry) (choices : BTreeMap (String Global) Choice Global) (name : Name) (place : ℕ) where
-  pub leads-there : IsPlace r.templates (Some place) (resolve r name) → LeadsTo r choices name (destination.Template place)
+module _ (r : Registry) (choices : BTreeMap (String Global) Choice Global) (name : Name) (position : ℕ) where
+  pub leads-there : IsPosition r.templates (Some position) (resolve r name) → LeadsTo r choices name (destination.Template position)
   leads-there is =
-      (slice_get-map (λ (t : Entry). t.0) r.templates place ∙ ap (option_map (λ (t : Entry). t.0)) (sym is.0), is.1)
+      (slice_get-map (λ (t : Entry). t.0) r.templates position ∙ ap (option_map (λ (t : Entry). t.0)) (sym is.0), is.1)
 
-  pub is-there : Rises r.templates → LeadsTo r choices name (destination.Template place) → IsPlace r.templates (Some place) (resolve r name)
-  is-there rises is = (at-its-place r place name (resolve r name) rises is.1 refl is.0, is.1)
+  pub is-there : Rises r.templates → LeadsTo r choices name (destination.Template position) → IsPosition r.templates (Some position) (resolve r name)
+  is-there rises is = (at-its-position r position name (resolve r name) rises is.1 refl is.0, is.1)
 
 -- no body has a link
 pub none-right : (ts : List (Rc Stored Global)) (ps : List (String Global)) (choices : BTreeMap (String Global) Choice Global) (bodies : List (Vec Link Global)) → bodies ≡ [] → AreAllRight (seen ts ps) choices bodies

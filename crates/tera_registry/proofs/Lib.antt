@@ -18,7 +18,7 @@ pub mod Absent
 pub mod Bodies
 pub mod HasWalk
 pub mod Ways
-pub mod Turn
+pub mod Walking
 pub mod Filled
 pub mod Circles
 pub mod First

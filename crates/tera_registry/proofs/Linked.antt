@@ -13,11 +13,11 @@ use Rattle.tera_registry.specs.Links.{IsUp, AreUps, name_at, name_above, ArePlac
 use Rattle.tera_registry.specs.Kept.{entry_of, entries_of, seen}
 use Rattle.tera_registry.proofs.Element.{element}
 use Rattle.tera_registry.specs.Order.{Rises}
-use Rattle.tera_registry.proofs.Kept.{length-entries, named-place}
+use Rattle.tera_registry.proofs.Kept.{length-entries, named-position}
 use Rattle.tera_registry.proofs.Resolved.{first-there-own}
 use Rattle.tera_registry.proofs.Rows.{get-push, length-push}
 
--- what is so of what stands at each of so many places is so of one more
+-- what is so of what stands at each of so many positions is so of one more
 more : {X Y : Type 0} (Is : X → Y → Type 0) (ys : List Y) (xs : List X) (x : X) (many : ℕ) (y : Y) → length xs ≡ many → ((i : ℕ) (v : X) (w : Y) → slice_get xs i ≡ Some v → slice_get ys i ≡ Some w → Is v w) → slice_get ys many ≡ Some y → Is x y → (i : ℕ) (v : X) (w : Y) → slice_get (xs ++ x ∷ []) i ≡ Some v → slice_get ys i ≡ Some w → Is v w
 more Is ys xs x many y as_many those at is = λ i v w got w_at.
     elim (get-push xs x v i got) [
@@ -50,7 +50,7 @@ at-entry : (ts : List (Rc Stored Global)) (k : ℕ) (u : Rc Stored Global) → s
 at-entry ts k u at =
     slice_get-map (λ (v : Rc Stored Global). entry_of v.value) ts k ∙ ap (option_map (λ (v : Rc Stored Global). entry_of v.value)) at
 
--- each template's code is that of its nodes, so that at the place of a root is that of the root
+-- each template's code is that of its nodes, so that at the position of a root is that of the root
 pub linked : (ts : List (Rc Stored Global)) (ps : List (String Global)) (roots : List ℕ) → AreRoots (seen ts ps) roots (length (entries_of ts)) → IsLinked ts ps roots
 linked ts ps roots a = record {
   as_many = a.as_many ∙ length-entries ts;
@@ -100,14 +100,14 @@ placed r ups a = record {
     by_up (up.At i) parent is =
         sym (ap (name_above r) is.1 ∙ ap (λ o. Some (option_map (λ (e : Entry). e.0) o)) is.2.0 ∙ ap Some (sym (slice_get-map (λ (e : Entry). e.0) r.templates i)))
 
--- the template that is found, where it has the name of the one at a place
-pub at-its-place : (r : Registry) (i : ℕ) (n : Name) (o : Option Entry) → Rises r.templates → i < length r.templates → resolve r n ≡ o → slice_get (map (λ e. e.0) r.templates) i ≡ option_map (λ e. e.0) o → resolve r n ≡ slice_get r.templates i
-at-its-place r i n None rises lt found same =
+-- the template that is found, where it has the name of the one at a position
+pub at-its-position : (r : Registry) (i : ℕ) (n : Name) (o : Option Entry) → Rises r.templates → i < length r.templates → resolve r n ≡ o → slice_get (map (λ e. e.0) r.templates) i ≡ option_map (λ e. e.0) o → resolve r n ≡ slice_get r.templates i
+at-its-position r i n None rises lt found same =
     (let e = element r.templates i lt in
     let q : Some (e.0).0 ≡ None = sym (slice_get-map (λ (e : Entry). e.0) r.templates i ∙ ap (option_map (λ (e : Entry). e.0)) e.1) ∙ same in
     cc)
-at-its-place r i n (Some v) rises lt found same =
-    let e = named-place r.templates i v.0 rises same in
+at-its-position r i n (Some v) rises lt found same =
+    let e = named-position r.templates i v.0 rises same in
     let own = first-there-own r.templates (n ∷ map (λ p. p ++ n) r.prefixes) v found in
     found ∙ sym own ∙ e.2 ∙ sym e.1
 
@@ -133,7 +133,7 @@ found-placed r ups rises a = record {
         (let q : Some (slice_get (map (λ (e : Entry). e.0) r.templates) i) ≡ Some (option_map (λ (e : Entry). e.0) (resolve r n)) = same in
         let e : slice_get (map (λ (e : Entry). e.0) r.templates) i ≡ option_map (λ (e : Entry). e.0) (resolve r n) = cc in
         let lt = inside i refl in
-        (n, refl, (at-its-place r i n (resolve r n) rises lt refl e, lt)))
+        (n, refl, (at-its-position r i n (resolve r n) rises lt refl e, lt)))
 
 pub all-ups : (ts : List (Rc Stored Global)) (ps : List (String Global)) (ups lent : List Up) → lent ≡ ups → AreUps (seen ts ps) ups (length ts) → AreUps (seen ts ps) lent (length (entries_of ts))
 all-ups ts ps ups lent e a = rw (length-entries ts, e) a

@@ -30,19 +30,19 @@ use Rattle.tera_registry.specs.Kept.{entry_of, entries_of}
 use Rattle.tera_registry.specs.Choices.{chosen_of, AreChosen}
 use Rattle.tera_registry.specs.Templates.{IsDefined}
 use Rattle.tera_registry.proofs.Adds.{bare, chosen-same}
-use Rattle.tera_registry.proofs.Kept.{entry-at-place, length-entries}
-use Rattle.tera_registry.proofs.Definitions.{component-there, component-place, kept-within, kept-at}
+use Rattle.tera_registry.proofs.Kept.{entry-at-position, length-entries}
+use Rattle.tera_registry.proofs.Definitions.{component-there, component-position, kept-within, kept-at}
 
 -- Templates and prefixes alone decide on what is taken.
 
 pub chosen-in-all : (r : Registry) (choices : BTreeMap (String Global) Choice Global) → AreChosen (bare r.templates r.prefixes) choices → AreChosen r choices
 chosen-in-all r choices known = λ n. known n ∙ chosen-same r n 0 r.templates None
 
--- What is taken of a name stands at its place.
+-- What is taken of a name stands at its position.
 
 pub taken-within : (r : Registry) (ts : List (Rc Stored Global)) (n : Name) (c : Choice) → r.templates ≡ entries_of ts → chosen_of r n ≡ Some c → c.template < length ts
 taken-within r ts n c same e =
-    let p = component-place r n c e in
+    let p = component-position r n c e in
     omega (arith, slice_get_within r.templates c.template p.template p.template_at, ap length same, length-entries ts)
 
 -- a definition of this name in the template that is kept
@@ -53,8 +53,8 @@ pub record Taken (r : Registry) (n : Name) (c : Choice) (u : Stored) : Type 0 wh
 
 pub taken-in : (r : Registry) (ts : List (Rc Stored Global)) (n : Name) (c : Choice) (u : Rc Stored Global) → r.templates ≡ entries_of ts → chosen_of r n ≡ Some c → u ≡ get_or ts c.template u → Taken r n c u.value
 taken-in r ts n c u same e is =
-    let p = component-place r n c e in
-    let at = entry-at-place ts c.template u (taken-within r ts n c same e) is in
+    let p = component-position r n c e in
+    let at = entry-at-position ts c.template u (taken-within r ts n c same e) is in
     let kept : p.template ≡ entry_of u.value = (let q : Some p.template ≡ Some (entry_of u.value) = sym p.template_at ∙ ap (λ es. slice_get es c.template) same ∙ at in cc) in
     record {
       definition = p.definition;

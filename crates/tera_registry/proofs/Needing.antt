@@ -29,7 +29,7 @@ use Rattle.tera_registry.specs.Needs.{is_built_in, as_need, callee_needed, need_
 use Rattle.tera_registry.proofs.Element.{element}
 use Rattle.tera_registry.proofs.Rows.{drop-at}
 
--- Place by place.
+-- Position by position.
 
 needs-split : (code : Code) (k : ℕ) → k < length code → code_needs (drop k code) ≡ cons_option (option_and_then needed_by (slice_get code k)) [] ++ code_needs (drop (k + 1) code)
 needs-split code k lt =

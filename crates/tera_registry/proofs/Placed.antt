@@ -1,4 +1,4 @@
--- Finding and putting by place in a list that rises.
+-- Finding and putting by position in a list that rises.
 use Rattle.std.proofs.Common.{◌≡◌, ℕ, zero, suc, ◌+◌, ◌<◌, ◌≤◌, Bool, true, false, List, [], ◌∷◌, length, map, set, cond, Some, None, refl, sym, ap, ◌∙◌, ◌⊎◌, inl, inr, arith, Ordering, Less, Equal, Greater, slice_get}
 use Rattle.std.specs.Ordering.{ordering_reverse, match_ordering}
 use Rattle.std.specs.Cmp.{IsTotalOrder}
@@ -12,7 +12,7 @@ use Rattle.tera_errors.specs.Site.{Name}
 use Rattle.tera_values.specs.Named.{Named, name_cmp, put}
 use Rattle.tera_meaning.specs.Resolve.{entry_at}
 use Rattle.tera_registry.specs.Order.{Rises}
-use Rattle.tera_registry.specs.Places.{After, Before}
+use Rattle.tera_registry.specs.Positions.{After, Before}
 
 pub names_total : IsTotalOrder name_cmp
 names_total = nat_list_cmp_total
@@ -64,7 +64,7 @@ module _ {A : Type 0} where
   rises-at (x ∷ es) (suc i) zero a b r lt is js = absurd (omega arith)
   rises-at (x ∷ es) (suc i) (suc j) a b r lt is js = rises-at es i j a b r.1 (omega arith) is js
 
-  -- the entry of a name that stands at a place
+  -- the entry of a name that stands at a position
   pub entry-found : (es : Named A) (n : Name) (i : ℕ) (e : Name × A) → Rises es → slice_get es i ≡ Some e → name_cmp e.0 n ≡ Equal → entry_at n es ≡ Some e
   entry-found [] n i e r is same = (let q : None ≡ Some e = is in cc)
   entry-found (x ∷ es) n zero e r is same =
@@ -76,7 +76,7 @@ module _ {A : Type 0} where
       let t : bytes_eq n x.0 ≡ false = apart n x.0 (rw (exact_bytes e.0 n same) at less) in
       ap (λ (b : Bool). cond b (Some x) (entry_at n es)) t ∙ entry-found es n i e r.1 is same)
 
-  -- a name between two places has no entry
+  -- a name between two positions has no entry
   pub entry-none : (es : Named A) (n : Name) (i : ℕ) → After es n i → Before es n i → entry_at n es ≡ None
   entry-none [] n i a b = refl
   entry-none (x ∷ es) n zero a b =

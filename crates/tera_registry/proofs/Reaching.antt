@@ -1,4 +1,4 @@
--- Places that are reached, one more at a time.
+-- Positions that are reached, one more at a time.
 use Rattle.std.proofs.Common.{◌≡◌, ℕ, zero, suc, ◌+◌, ◌<◌, ◌≤◌, Bool, true, false, not, ◌||◌, List, [], ◌∷◌, ◌++◌, length, take, set, get_or-set_other, count_by, cond, replicate, Option, Some, None, inl, inr, refl, sym, ap, ◌∙◌, append_assoc, append-nil, arith, slice_get}
 use Rattle.std.specs.List.{list_any, filter_map, cons_option}
 use Rattle.std.proofs.lemmas.Bool.{cases_eq}
@@ -33,38 +33,38 @@ absorbed false false h = refl
 
 -- One more, or one that is there.
 
-pub reached-already : (es : List Entry) (t : Entry) (ps : List ℕ) (ms : List Bool) (place : ℕ) → is_marked ms place ≡ true → AreReached es ps ms → slice_get es place ≡ Some t → Reaches es (t ∷ []) ps ps ms
-reached-already es t ps ms place is a at = record {
+pub reached-already : (es : List Entry) (t : Entry) (ps : List ℕ) (ms : List Bool) (position : ℕ) → is_marked ms position ≡ true → AreReached es ps ms → slice_get es position ≡ Some t → Reaches es (t ∷ []) ps ps ms
+reached-already es t ps ms position is a at = record {
   reached = a;
   behind = [];
   longer = sym (append-nil ps);
-  those = λ f. absorbed (list_any f (all_at es ps)) (f t) (a.marked place t f is at);
+  those = λ f. absorbed (list_any f (all_at es ps)) (f t) (a.marked position t f is at);
 }
 
-one-more : (es : List Entry) (t : Entry) (ps : List ℕ) (place : ℕ) (f : Entry → Bool) → slice_get es place ≡ Some t → list_any f (all_at es (ps ++ place ∷ [])) ≡ (list_any f (all_at es ps) || (f t || false))
-one-more es t ps place f at =
-    ap (list_any f) (all_at-push es ps place t at) ∙ list_any-append f (all_at es ps) (t ∷ [])
+one-more : (es : List Entry) (t : Entry) (ps : List ℕ) (position : ℕ) (f : Entry → Bool) → slice_get es position ≡ Some t → list_any f (all_at es (ps ++ position ∷ [])) ≡ (list_any f (all_at es ps) || (f t || false))
+one-more es t ps position f at =
+    ap (list_any f) (all_at-push es ps position t at) ∙ list_any-append f (all_at es ps) (t ∷ [])
 
-pub reached-new : (es : List Entry) (t : Entry) (ps : List ℕ) (ms : List Bool) (place : ℕ) → is_marked ms place ≡ false → place < length ms → AreReached es ps ms → slice_get es place ≡ Some t → Reaches es (t ∷ []) ps (ps ++ place ∷ []) (set ms place true)
-reached-new es t ps ms place is lt a at = record {
+pub reached-new : (es : List Entry) (t : Entry) (ps : List ℕ) (ms : List Bool) (position : ℕ) → is_marked ms position ≡ false → position < length ms → AreReached es ps ms → slice_get es position ≡ Some t → Reaches es (t ∷ []) ps (ps ++ position ∷ []) (set ms position true)
+reached-new es t ps ms position is lt a at = record {
   reached = record {
-    as_many = length-set ms place true ∙ a.as_many;
-    there = AreThere-push ps place (length es) a.there (slice_get_within es place t at);
-    counted = (let marks = count-mark-not ms place lt is in omega (arith, length-push ps place, a.counted));
+    as_many = length-set ms position true ∙ a.as_many;
+    there = AreThere-push ps position (length es) a.there (slice_get_within es position t at);
+    counted = (let marks = count-mark-not ms position lt is in omega (arith, length-push ps position, a.counted));
     marked = λ i x f m x_at holds.
-        elim (cases_eq i place) [
+        elim (cases_eq i position) [
           | inl same ↦
               (let e : t ≡ x = (let q : Some t ≡ Some x = sym at ∙ ap (slice_get es) (sym same) ∙ x_at in cc) in
               let here : f t ≡ true = ap f e ∙ holds in
-              one-more es t ps place f at ∙ ap (λ b. list_any f (all_at es ps) || (b || false)) here ∙ or-true (list_any f (all_at es ps)))
+              one-more es t ps position f at ∙ ap (λ b. list_any f (all_at es ps) || (b || false)) here ∙ or-true (list_any f (all_at es ps)))
           | inr other ↦
-              (let before : is_marked ms i ≡ true = sym (get_or-set_other ms place i true false other) ∙ m in
-              one-more es t ps place f at ∙ ap (λ b. b || (f t || false)) (a.marked i x f before x_at holds))
+              (let before : is_marked ms i ≡ true = sym (get_or-set_other ms position i true false other) ∙ m in
+              one-more es t ps position f at ∙ ap (λ b. b || (f t || false)) (a.marked i x f before x_at holds))
         ];
   };
-  behind = place ∷ [];
+  behind = position ∷ [];
   longer = refl;
-  those = λ f. one-more es t ps place f at;
+  those = λ f. one-more es t ps position f at;
 }
 
 -- Some of a list that are there are reached, and the others are to come.
@@ -135,7 +135,7 @@ none-reached es ps ms n none is many = rw (none, is) (record {
   marked = λ i x f m at holds. (let q : false ≡ true = sym (unmarked n i) ∙ m in cc);
 })
 
--- a place that is there
+-- a position that is there
 pub there-at : (ps : List ℕ) (n k p : ℕ) → AreThere ps n → slice_get ps k ≡ Some p → p < n
 there-at ps n k p all at = rw (get_or_from_slice_get ps k p 0 at) at (all k (slice_get_within ps k p at))
 
@@ -160,13 +160,13 @@ closing-begins r from old ps ms none w =
       no_more = λ f back any. sym (those f) ∙ any;
     }
 
-all_at-there : {X : Type 0} (f : X → Bool) (es : List X) (ps : List ℕ) (k place : ℕ) (x : X) → slice_get ps k ≡ Some place → slice_get es place ≡ Some x → f x ≡ true → list_any f (all_at es ps) ≡ true
-all_at-there f es [] k place x p_at at holds = (let q : None ≡ Some place = p_at in cc)
-all_at-there f es (p ∷ ps) zero place x p_at at holds =
-    (let e : p ≡ place = (let q : Some p ≡ Some place = p_at in cc) in
+all_at-there : {X : Type 0} (f : X → Bool) (es : List X) (ps : List ℕ) (k position : ℕ) (x : X) → slice_get ps k ≡ Some position → slice_get es position ≡ Some x → f x ≡ true → list_any f (all_at es ps) ≡ true
+all_at-there f es [] k position x p_at at holds = (let q : None ≡ Some position = p_at in cc)
+all_at-there f es (p ∷ ps) zero position x p_at at holds =
+    (let e : p ≡ position = (let q : Some p ≡ Some position = p_at in cc) in
     ap (λ o. list_any f (cons_option o (all_at es ps))) (ap (slice_get es) e ∙ at) ∙ ap (λ b. b || list_any f (all_at es ps)) holds)
-all_at-there {X} f es (p ∷ ps) (suc k) place x p_at at holds =
-    by_first (slice_get es p) (all_at-there f es ps k place x p_at at holds)
+all_at-there {X} f es (p ∷ ps) (suc k) position x p_at at holds =
+    by_first (slice_get es p) (all_at-there f es ps k position x p_at at holds)
   where
     by_first : (o : Option X) → list_any f (all_at es ps) ≡ true → list_any f (cons_option o (all_at es ps)) ≡ true
     by_first None rest = rest
@@ -176,21 +176,21 @@ either-true : (a b c : Bool) → (a ≡ true → c ≡ true) → (b ≡ true →
 either-true true b c h g any = h refl
 either-true false b c h g any = g any
 
-pub closing-on : (r : Registry) (from : List ℕ) (next place : ℕ) (t : Entry) (ps qs : List ℕ) (ms ns : List Bool) → slice_get ps next ≡ Some place → slice_get r.templates place ≡ Some t → Reaches r.templates (includes_of r t) ps qs ns → Closing r from next ps ms → Closing r from (next + 1) qs ns
-closing-on r from next place t ps qs ms ns p_at at w c =
+pub closing-on : (r : Registry) (from : List ℕ) (next position : ℕ) (t : Entry) (ps qs : List ℕ) (ms ns : List Bool) → slice_get ps next ≡ Some position → slice_get r.templates position ≡ Some t → Reaches r.templates (includes_of r t) ps qs ns → Closing r from next ps ms → Closing r from (next + 1) qs ns
+closing-on r from next position t ps qs ms ns p_at at w c =
     let es = r.templates in
-    let lt = slice_get_within ps next place p_at in
-    let front : take (next + 1) qs ≡ take next ps ++ place ∷ [] = ap (take (next + 1)) w.longer ∙ take-append-le (next + 1) ps w.behind (omega (arith, lt)) ∙ sym (taken ps next place p_at) in
+    let lt = slice_get_within ps next position p_at in
+    let front : take (next + 1) qs ≡ take next ps ++ position ∷ [] = ap (take (next + 1)) w.longer ∙ take-append-le (next + 1) ps w.behind (omega (arith, lt)) ∙ sym (taken ps next position p_at) in
     record {
       reached = w.reached;
       within = omega (arith, lt, ap length w.longer, length-append ps w.behind);
       begun = λ f any. w.those f ∙ ap (λ b. b || list_any f (includes_of r t)) (c.begun f any);
       closed = λ f any.
           let led = λ (u : Entry). list_any f (includes_of r u) in
-          let split : list_any led (all_at es (take (next + 1) qs)) ≡ (list_any led (all_at es (take next ps)) || (led t || false)) = ap (λ l. list_any led (all_at es l)) front ∙ one-more es t (take next ps) place led at in
+          let split : list_any led (all_at es (take (next + 1) qs)) ≡ (list_any led (all_at es (take next ps)) || (led t || false)) = ap (λ l. list_any led (all_at es l)) front ∙ one-more es t (take next ps) position led at in
           w.those f ∙ either-true (list_any led (all_at es (take next ps))) (led t || false) (list_any f (all_at es ps) || list_any f (includes_of r t)) (λ e. ap (λ b. b || list_any f (includes_of r t)) (c.closed f e)) (λ e. ap (λ b. list_any f (all_at es ps) || b) (sym (or-false (led t)) ∙ e) ∙ or-true (list_any f (all_at es ps))) (sym split ∙ any);
       no_more = λ f back any.
-          c.no_more f back (either-true (list_any f (all_at es ps)) (list_any f (includes_of r t)) (list_any f (all_at es ps)) (λ e. e) (λ e. all_at-there f es ps next place t p_at at (back place t at e)) (sym (w.those f) ∙ any));
+          c.no_more f back (either-true (list_any f (all_at es ps)) (list_any f (includes_of r t)) (list_any f (all_at es ps)) (λ e. e) (λ e. all_at-there f es ps next position t p_at at (back position t at e)) (sym (w.those f) ∙ any));
     }
   where
     taken : (xs : List ℕ) (i x : ℕ) → slice_get xs i ≡ Some x → take i xs ++ x ∷ [] ≡ take (i + 1) xs

@@ -1,4 +1,4 @@
--- Lists that grow at their end, and what is left of them from a place on.
+-- Lists that grow at their end, and what is left of them from a position on.
 use Rattle.std.proofs.Common.{◌≡◌, ℕ, zero, suc, ◌+◌, List, [], ◌∷◌, ◌++◌, length, take, drop, Some, None, refl, ap, ◌∙◌, ◌⊎◌, inl, inr, arith, slice_get}
 use Rattle.std.proofs.lemmas.List.{length-append}
 

@@ -67,7 +67,7 @@ any-same p f g (x ∷ xs) h ends =
     let e = neither (p x) (list_any p xs) ends in
     ap (λ b. b || list_any f xs) (h x e.0) ∙ ap (λ b. g x || b) (any-same p f g xs h e.1)
 
--- what follows from a test of each, at places
+-- what follows from a test of each, at positions
 pub any-at : {X : Type 0} (f g : X → Bool) (es : List X) (ks : List ℕ) → ((i : ℕ) (x : X) → slice_get es i ≡ Some x → f x ≡ true → g x ≡ true) → list_any f (all_at es ks) ≡ true → list_any g (all_at es ks) ≡ true
 any-at f g es [] h any = any
 any-at {X} f g es (k ∷ ks) h any = by_first (slice_get es k) refl (any-at f g es ks h) any
@@ -99,7 +99,7 @@ unfolding free_within
 included-within r k t n any =
     elim (cases_Bool (free t.1.tree.nodes n)) [ inl e ↦ rw e refl | inr e ↦ rw e any ]
 
--- of places that are closed under includes, one has what one leads to
+-- of positions that are closed under includes, one has what one leads to
 own-of-within : (r : Registry) (ts : List Entry) (n : Name) → ((f : Entry → Bool) → list_any (λ t. list_any f (includes_of r t)) ts ≡ true → list_any f ts ≡ true) → (k : ℕ) → list_any (λ t. free_within r k t n) ts ≡ true → list_any (λ t. free t.1.tree.nodes n) ts ≡ true
 unfolding free_within
 own-of-within r ts n closed zero any =
@@ -111,13 +111,13 @@ own-of-within r ts n closed (suc k) any =
     ]
 
 -- what is free in one that is reached is free within the first
-pub free-reached : (r : Registry) (from places : List ℕ) (n : Name) → Uncircled r → IsClosure r from places → list_any (λ t. free t.1.tree.nodes n) (all_at r.templates places) ≡ list_any (λ t. free_within r (length r.templates) t n) (all_at r.templates from)
-free-reached r from places n uncircled c =
+pub free-reached : (r : Registry) (from positions : List ℕ) (n : Name) → Uncircled r → IsClosure r from positions → list_any (λ t. free t.1.tree.nodes n) (all_at r.templates positions) ≡ list_any (λ t. free_within r (length r.templates) t n) (all_at r.templates from)
+free-reached r from positions n uncircled c =
     let k = length r.templates in
     let still = λ (i : ℕ) (t : Entry) (at : slice_get r.templates i ≡ Some t). stable r k t n (uncircled.each i t at) in
     same-tests _ _ (λ any.
-    c.no_more (λ t. free_within r k t n) (λ i t at led. sym (still i t at) ∙ included-within r k t n led) (any-at (λ t. free t.1.tree.nodes n) (λ t. free_within r k t n) r.templates places (λ i t at own. sym (still i t at) ∙ own-within r k t n own) any)) (λ any.
-    own-of-within r (all_at r.templates places) n c.closed k (c.begun (λ t. free_within r k t n) any))
+    c.no_more (λ t. free_within r k t n) (λ i t at led. sym (still i t at) ∙ included-within r k t n led) (any-at (λ t. free t.1.tree.nodes n) (λ t. free_within r k t n) r.templates positions (λ i t at own. sym (still i t at) ∙ own-within r k t n own) any)) (λ any.
+    own-of-within r (all_at r.templates positions) n c.closed k (c.begun (λ t. free_within r k t n) any))
 
 -- Templates without a fault lead into no circle.
 
@@ -163,9 +163,9 @@ all-given n [] = sym (none-given (given n))
 all-given n (t ∷ ts) =
     ap (λ b. given_in t n || b) (all-given n ts) ∙ both-given (given n) (free t.1.tree.nodes n) (list_any (λ u. free u.1.tree.nodes n) ts)
 
-pub wanted : (r : Registry) (t : Entry) (from places : List ℕ) → all_at r.templates from ≡ t ∷ ancestors r t → Uncircled r → IsClosure r from places → in_one_of given_in (all_at r.templates places) ≡ variables r t
-wanted r t from places is uncircled c =
-    fun_ext (λ n. all-given n (all_at r.templates places) ∙ ap (λ b. given n && b) (free-reached r from places n uncircled c ∙ ap (λ ts. list_any (λ u. free_within r (length r.templates) u n) ts) is))
+pub wanted : (r : Registry) (t : Entry) (from positions : List ℕ) → all_at r.templates from ≡ t ∷ ancestors r t → Uncircled r → IsClosure r from positions → in_one_of given_in (all_at r.templates positions) ≡ variables r t
+wanted r t from positions is uncircled c =
+    fun_ext (λ n. all-given n (all_at r.templates positions) ∙ ap (λ b. given n && b) (free-reached r from positions n uncircled c ∙ ap (λ ts. list_any (λ u. free_within r (length r.templates) u n) ts) is))
 
 -- a name that a caller can give
 same-given : (m n : Name) (b : Bool) → bytes_eq m n ≡ b → given m ≡ true → b ≡ (given n && b)
@@ -260,8 +260,8 @@ module _ (r : Registry) (ts lent : List (Rc Stored Global)) (ps lent_ps : List (
   abbrev whole : Registry
   whole = record r { templates = entries_of ts; prefixes = map string_bytes ps }
 
-  pub answers-found : (place : ℕ) (t : Entry) (res : Result (BTreeSet (String Global)) SeenError) → resolve (seen lent lent_ps) name ≡ Some t → IfOk res (λ s. IsOrdered string_cmp s) → IfOk res (λ s. names_in s ≡ variables (seen lent lent_ps) t) → IfErr res Lacks → GivesOneOf (λ s. map string_bytes s.keys) res (AnswersVariables whole (resolve whole name))
-  answers-found place t res found ordered ok lacks =
+  pub answers-found : (position : ℕ) (t : Entry) (res : Result (BTreeSet (String Global)) SeenError) → resolve (seen lent lent_ps) name ≡ Some t → IfOk res (λ s. IsOrdered string_cmp s) → IfOk res (λ s. names_in s ≡ variables (seen lent lent_ps) t) → IfErr res Lacks → GivesOneOf (λ s. map string_bytes s.keys) res (AnswersVariables whole (resolve whole name))
+  answers-found position t res found ordered ok lacks =
       let same : seen lent lent_ps ≡ seen ts ps = ap₂ (λ xs ys. seen xs ys) e f in
       let there : resolve whole name ≡ Some t = sym (ap (λ q. resolve q name) same) ∙ found in
       answers-of whole res (resolve whole name) t there ordered (subst (λ q. IfOk res (λ s. names_in s ≡ variables q t)) same ok) lacks

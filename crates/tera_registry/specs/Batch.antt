@@ -29,7 +29,7 @@ pub data ReadsBatch (d : Delims) : List (Name × Text) → Result (Named Templat
       (onto (name, record { text = text; tree = tree }) reading)
 
 -- what an adding call may answer: the registry that the batch makes of this one, or the fault that
--- refuses it. Only the places of syntax errors are left open
+-- refuses it. Only the positions of syntax errors are left open
 pub record Adds (r : Registry) (batch : List (Name × Text))
     (answer : Result Registry Fault) : Type 0 where
   pub reading : Result (Named Template) Fault

@@ -1,4 +1,4 @@
--- Which definition of each component is taken, by place. No public contract speaks of it.
+-- Which definition of each component is taken, by position. No public contract speaks of it.
 use Rattle.std.specs.Prelude.{◌≡◌, ℕ, suc, Bool, true, false, nat_lt, nat_eq, bytes_eq, List, [], ◌∷◌, take, Option, Some, None, if◌then◌else◌, String}
 use Rattle.std.specs.declared.alloc.Global.{Global}
 use Rattle.std.specs.declared.collections.BTreeMap.{BTreeMap}
@@ -36,26 +36,26 @@ abbrev pub is_tied : Option Choice → ℕ → Bool
 is_tied None p = false
 is_tied (Some old) p = nat_eq old.priority p
 
--- what is taken of a name after these definitions of the template at a place,
--- the first of which has this number
+-- what is taken of a name after these definitions of the template at a position, the first of which
+-- has this number
 abbrev pub chosen_in : Name → ℕ → ℕ → ℕ → List Name → Option Choice → Option Choice
-chosen_in name place p k [] old = old
-chosen_in name place p k (n ∷ ns) old =
-    chosen_in name place p (suc k) ns
+chosen_in name position p k [] old = old
+chosen_in name position p k (n ∷ ns) old =
+    chosen_in name position p (suc k) ns
     (if bytes_eq name n
-    then better_choice old (record { template = place; component = k; priority = p })
+    then better_choice old (record { template = position; component = k; priority = p })
     else old)
 
--- what is taken of a name after all these components of the template at a place
+-- what is taken of a name after all these components of the template at a position
 abbrev pub chosen_among : Name → ℕ → ℕ → List Component → Option Choice → Option Choice
-chosen_among name place p components = chosen_in name place p 0 (kept_names components)
+chosen_among name position p components = chosen_in name position p 0 (kept_names components)
 
--- what is taken of a name after these templates, the first of which stands at this place
+-- what is taken of a name after these templates, the first of which stands at this position
 abbrev pub chosen_from : Registry → Name → ℕ → List Entry → Option Choice → Option Choice
-chosen_from r name place [] old = old
-chosen_from r name place (t ∷ ts) old =
-    chosen_from r name (suc place) ts
-    (chosen_in name place (priority r t.0) 0 (component_names t.1.tree.nodes) old)
+chosen_from r name position [] old = old
+chosen_from r name position (t ∷ ts) old =
+    chosen_from r name (suc position) ts
+    (chosen_in name position (priority r t.0) 0 (component_names t.1.tree.nodes) old)
 
 -- what is taken of a name
 abbrev pub chosen_of : Registry → Name → Option Choice
@@ -65,9 +65,9 @@ chosen_of r name = chosen_from r name 0 r.templates None
 abbrev pub AreChosen : Registry → BTreeMap (String Global) Choice Global → Type 0
 AreChosen r choices = (name : Name) → chosen choices name ≡ chosen_of r name
 
--- whether a template at this place has a component as good as the best of those before it
+-- whether a template at this position has a component as good as the best of those before it
 abbrev pub ties_at : Registry → ℕ → Entry → Bool
-ties_at r place t = has_a_tie r (take place r.templates) t
+ties_at r position t = has_a_tie r (take position r.templates) t
 
 -- there stands the first template that has one, or nowhere where none does
 abbrev pub IsFirstTie : Registry → Option ℕ → Type 0

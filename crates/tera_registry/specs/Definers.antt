@@ -1,4 +1,4 @@
--- Those who define a block, from the place on where one of them stands.
+-- Those who define a block, from the position on where one of them stands.
 use Rattle.std.specs.Prelude.{◌≡◌, ℕ, false, List, [], ◌∷◌, length, slice_get, Option, Some, None, Ok}
 use Rattle.std.specs.Borrow.{Bor}
 use Rattle.std.specs.declared.alloc.Global.{Global}
@@ -31,12 +31,12 @@ from_template r k None = []
 from_template r k (Some t) = from_block r t (slice_get (blocks_of t) k)
 
 -- those who define a block, from the one on that stands there
-abbrev pub from_place : Registry → At → List Definer
-from_place r at = from_template r at.block (slice_get r.templates at.template)
+abbrev pub from_position : Registry → At → List Definer
+from_position r at = from_template r at.block (slice_get r.templates at.template)
 
 abbrev pub from_found : Registry → Option At → List Definer
 from_found r None = []
-from_found r (Some at) = from_place r at
+from_found r (Some at) = from_position r at
 
 abbrev pub above_block : Registry → Entry → Option (Name × Nodes) → List Definer
 above_block r t None = []
@@ -47,10 +47,10 @@ above_template r k None = []
 above_template r k (Some t) = above_block r t (slice_get (blocks_of t) k)
 
 -- those who define a block above the template in which it stands
-abbrev pub above_place : Registry → At → List Definer
-above_place r at = above_template r at.block (slice_get r.templates at.template)
+abbrev pub above_position : Registry → At → List Definer
+above_position r at = above_template r at.block (slice_get r.templates at.template)
 
--- a block as it is kept is the one that stands at a place
+-- a block as it is kept is the one that stands at a position
 pub record IsKeptAt (r : Registry) (at : At) (kept : Block) : Type 0 where
   pub entry : Entry
   pub block : Name × Nodes
@@ -59,15 +59,15 @@ pub record IsKeptAt (r : Registry) (at : At) (kept : Block) : Type 0 where
   pub name : kept.name ≡ block.0
   pub code : kept.code ≡ listing_of entry.0 block.1
 
--- what is found of a place is the block that stands there, if one does
+-- what is found of a position is the block that stands there, if one does
 abbrev pub StandsAt : Registry → At → Option (Bor Block) → Type 0
-StandsAt r at None = (from_place r at ≡ []) × (above_place r at ≡ [])
+StandsAt r at None = (from_position r at ≡ []) × (above_position r at ≡ [])
 StandsAt r at (Some kept) = IsKeptAt r at kept.now
 
 -- the first of those who define a block stands there, or nowhere where there is none
 abbrev pub IsFirst : Registry → Option At → List Definer → Type 0
 IsFirst r None ds = ds ≡ []
-IsFirst r (Some at) ds = (ds ≡ from_place r at) × (is_none_left ds ≡ false)
+IsFirst r (Some at) ds = (ds ≡ from_position r at) × (is_none_left ds ≡ false)
 
 -- each template has all its parents
 pub record Grounded (r : Registry) : Type 0 where

@@ -1,17 +1,17 @@
--- What templates include, by place. No public contract speaks of it.
+-- What templates include, by position. No public contract speaks of it.
 use Rattle.std.specs.Prelude.{◌≡◌, ◌<◌, ℕ, List, length, filter_map, slice_get, slice_index_or, Option, Some}
 use Rattle.tera_meaning.specs.Registry.{Registry, Entry}
 use Rattle.tera_meaning.specs.Accepted.{includes_of, leads_into_a_circle}
 use Rattle.tera_registry.specs.First.{IsFirstOne}
 use Rattle.tera_registry.specs.Walks.{targets, target}
 
--- those that stand at these places
+-- those that stand at these positions
 abbrev pub all_at : {X : Type 0} → List X → List ℕ → List X
 all_at xs = filter_map (slice_get xs)
 
--- there are so many places, and these are among them
+-- there are so many positions, and these are among them
 abbrev pub AreThere : List ℕ → ℕ → Type 0
-AreThere places many = (k : ℕ) → k < length places → slice_index_or places k 0 < many
+AreThere positions many = (k : ℕ) → k < length positions → slice_index_or positions k 0 < many
 
 -- an edge leads from each of the first so many templates to each that it includes
 pub record AreEdges (r : Registry) (edges : List (List ℕ)) (many : ℕ) : Type 0 where
@@ -22,4 +22,4 @@ pub record AreEdges (r : Registry) (edges : List (List ℕ)) (many : ℕ) : Type
 
 -- there stands the first template that leads into a circle, or nowhere where none does
 abbrev pub IsFirstCircle : Registry → Option ℕ → Type 0
-IsFirstCircle r = IsFirstOne r (λ place t. leads_into_a_circle r t)
+IsFirstCircle r = IsFirstOne r (λ position t. leads_into_a_circle r t)

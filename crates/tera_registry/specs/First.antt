@@ -1,11 +1,11 @@
--- The first template that is of a kind, by place. No public contract speaks of it.
+-- The first template that is of a kind, by position. No public contract speaks of it.
 use Rattle.std.specs.Prelude.{◌≡◌, ◌<◌, ℕ, Bool, true, false, slice_get, Option, Some, None}
 use Rattle.tera_meaning.specs.Registry.{Entry, Registry}
 
--- no template before this place is of the kind
+-- no template before this position is of the kind
 abbrev pub NoneBefore : Registry → (ℕ → Entry → Bool) → ℕ → Type 0
-NoneBefore r kind place =
-    (i : ℕ) (t : Entry) → i < place → slice_get r.templates i ≡ Some t → kind i t ≡ false
+NoneBefore r kind position =
+    (i : ℕ) (t : Entry) → i < position → slice_get r.templates i ≡ Some t → kind i t ≡ false
 
 -- there stands the first of the first so many templates that is of the kind,
 -- or nowhere where none is

@@ -1,6 +1,6 @@
 pub mod Order
-pub mod Places
-pub mod Code
+pub mod Positions
+pub mod Coding
 pub mod Kept
 pub mod Components
 pub mod Choices

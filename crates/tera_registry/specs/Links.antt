@@ -1,4 +1,4 @@
--- What templates are linked to, by place. No public contract speaks of it.
+-- What templates are linked to, by position. No public contract speaks of it.
 use Rattle.std.specs.Prelude.{◌≡◌, ◌<◌, ◌≤◌, ◌+◌, ℕ, List, [], ◌∷◌, length, map, slice_get, Option, Some, None, option_map, Result, Ok, Err, String}
 use Rattle.std.specs.declared.alloc.Global.{Global}
 use Rattle.std.specs.declared.rc.Rc.{Rc}
@@ -14,19 +14,19 @@ use Rattle.tera_registry.specs.declared.template.Template.{Template as Stored}
 use Rattle.tera_registry.specs.declared.lineage.Top.{Top}
 use Rattle.tera_registry.specs.declared.lineage.Up.{Up}
 use Rattle.tera_registry.specs.declared.lineage.Up.TheVariants as up
-use Rattle.tera_registry.specs.Places.{IsPlace}
+use Rattle.tera_registry.specs.Positions.{IsPosition}
 use Rattle.tera_registry.specs.Kept.{entries_of, seen}
 
 -- a registry in which each template has all its parents, or the first fault of one
 abbrev pub climbed : Registry → Result Registry Fault
 climbed r = unless_faulty r (first_fault r [] r.templates)
 
--- the place of the template that one extends
+-- the position of the template that one extends
 abbrev pub IsUp : Registry → Up → Option Name → Type 0
 IsUp r up.Nothing parent = parent ≡ None
 IsUp r up.Missing parent = (n : Name) × (parent ≡ Some n) × (resolve r n ≡ None)
 IsUp r (up.At i) parent =
-    (n : Name) × (parent ≡ Some n) × IsPlace r.templates (Some i) (resolve r n)
+    (n : Name) × (parent ≡ Some n) × IsPosition r.templates (Some i) (resolve r n)
 
 -- these are those of the first so many templates
 pub record AreUps (r : Registry) (ups : List Up) (many : ℕ) : Type 0 where
@@ -34,7 +34,7 @@ pub record AreUps (r : Registry) (ups : List Up) (many : ℕ) : Type 0 where
   pub those : (i : ℕ) (u : Up) (t : Entry) → slice_get ups i ≡ Some u
       → slice_get r.templates i ≡ Some t → IsUp r u t.1.tree.parent
 
--- the name of the template at the place of what one extends, where it extends something
+-- the name of the template at the position of what one extends, where it extends something
 abbrev pub name_at : List Entry → Up → Option (Option Name)
 name_at ts up.Nothing = None
 name_at ts up.Missing = Some None
@@ -45,7 +45,7 @@ abbrev pub name_above : Registry → Option Name → Option (Option Name)
 name_above r = option_map (λ n. option_map (λ t. t.0) (resolve r n))
 
 -- These are those of all templates, said by names: where a template extends one, that one stands at
--- the place. Names are enough, since no two templates share one.
+-- the position. Names are enough, since no two templates share one.
 pub record ArePlaced (r : Registry) (ups : List Up) : Type 0 where
   pub as_many : length ups ≡ length r.templates
   pub inside : (i j : ℕ) → slice_get ups i ≡ Some (up.At j) → j < length r.templates
@@ -87,13 +87,13 @@ IsFurther top steps most (Ok far) =
     (far.root ≡ top.root) × (far.parents ≡ steps + top.parents) × (far.parents ≤ most)
 IsFurther top steps most (Err e) = (e ≡ Some circular_extend) × (most < steps + top.parents)
 
--- these are the places of the roots of the first so many templates
+-- these are the positions of the roots of the first so many templates
 pub record AreRoots (r : Registry) (roots : List ℕ) (many : ℕ) : Type 0 where
   pub as_many : length roots ≡ many
   pub those : (i k : ℕ) (t : Entry) → slice_get roots i ≡ Some k → slice_get r.templates i ≡ Some t
       → slice_get r.templates k ≡ Some (root r t)
 
--- the code at the place of each template's root is that of its root
+-- the code at the position of each template's root is that of its root
 pub record IsLinked (ts : List (Rc Stored Global)) (ps : List (String Global))
     (roots : List ℕ) : Type 0 where
   pub as_many : length roots ≡ length ts

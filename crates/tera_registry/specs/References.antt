@@ -14,17 +14,17 @@ use Rattle.tera_registry.specs.declared.links.Destination.TheVariants as destina
 use Rattle.tera_registry.specs.declared.links.Link.{Link}
 use Rattle.tera_registry.specs.Choices.{chosen}
 
--- What a name leads to: the place of the template to which it resolves, said by names,
--- since no two templates share one; or what is taken of the component.
+-- What a name leads to: the position of the template to which it resolves, said by names, since no
+-- two templates share one; or what is taken of the component.
 abbrev pub LeadsTo : Registry → BTreeMap (String Global) Choice Global → Name → Destination → Type 0
-LeadsTo r choices name (destination.Template place) =
-    (slice_get (map (λ t. t.0) r.templates) place ≡ option_map (λ t. t.0) (resolve r name))
-    × (place < length r.templates)
+LeadsTo r choices name (destination.Template position) =
+    (slice_get (map (λ t. t.0) r.templates) position ≡ option_map (λ t. t.0) (resolve r name))
+    × (position < length r.templates)
 LeadsTo r choices name (destination.Component taken) = chosen choices name ≡ Some taken
 
 pub LeadsTo-prop : (r : Registry) (choices : BTreeMap (String Global) Choice Global) (name : Name)
     (to : Destination) → IsProp (LeadsTo r choices name to)
-LeadsTo-prop r choices name (destination.Template place) = Prim.hlevel codes
+LeadsTo-prop r choices name (destination.Template position) = Prim.hlevel codes
 LeadsTo-prop r choices name (destination.Component taken) =
     Prim.hlevel (codes, choice.the_row.coded)
 

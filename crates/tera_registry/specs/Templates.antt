@@ -15,7 +15,7 @@ use Rattle.tera_registry.specs.declared.templates.Definers.{Definers}
 use Rattle.tera_registry.specs.declared.templates.Definer.{Definer as Nearest}
 use Rattle.tera_registry.specs.declared.templates.Defined.{Defined}
 use Rattle.tera_registry.specs.Kept.{entries_of, seen}
-use Rattle.tera_registry.specs.Definers.{from_place, above_place}
+use Rattle.tera_registry.specs.Definers.{from_position, above_position}
 
 abbrev pub templates_of : Templates → Named Template
 templates_of t = entries_of t.all.items
@@ -53,8 +53,8 @@ registry_in t = seen t.all.items t.prefixes.items
 abbrev pub started : Option Start → List Definer
 started None = []
 started (Some s) =
-    cond s.is_above (above_place (registry_in s.templates.now) s.at)
-    (from_place (registry_in s.templates.now) s.at)
+    cond s.is_above (above_position (registry_in s.templates.now) s.at)
+    (from_position (registry_in s.templates.now) s.at)
 
 -- those who define a block, nearest first
 abbrev pub definers_of : Definers → List Definer

@@ -12,7 +12,7 @@ use std::alloc::{AllocError, Global};
 use std::collections::BTreeMap;
 use std::rc::Rc;
 
-/// The definition that is taken of a component: the place of its template, which of that one's components it is, and how
+/// The definition that is taken of a component: the position of its template, which of that one's components it is, and how
 /// good it is.
 #[derive(Clone, Copy)]
 pub struct Choice {
@@ -21,7 +21,7 @@ pub struct Choice {
     pub priority: usize,
 }
 
-/// What is taken of each component, and the place of the first template that ties with one before it.
+/// What is taken of each component, and the position of the first template that ties with one before it.
 #[derive(Drop)]
 pub struct Taken {
     pub choices: BTreeMap<String, Choice>,
@@ -74,20 +74,20 @@ fn ties(taken: &BTreeMap<String, Choice>, of: &Template, priority: usize) -> boo
     of.components.iter().any(|component| is_tied(taken, component.definition.name(), priority))
 }
 
-/// Takes the definitions of the template at a place that are better than those that were taken.
+/// Takes the definitions of the template at a position that are better than those that were taken.
 fn choose_all(
     alloc: Global,
     taken: &mut BTreeMap<String, Choice>,
     of: &Template,
-    place: usize,
+    position: usize,
     priority: usize,
 ) -> Result<(), AllocError>
     ensures { OnOk result ((q : Name) → chosen taken.new q
-        ≡ chosen_among q place priority of.now.components.items (chosen taken.old q)) }
+        ≡ chosen_among q position priority of.now.components.items (chosen taken.old q)) }
 {
     for number in 0..of.components.len() {
         let choice = Choice {
-            template: place,
+            template: position,
             component: number,
             priority,
         };
@@ -101,13 +101,13 @@ fn choose_all(
     Ok(())
 }
 
-/// The first of a place that was found and a further one.
-fn first(found: Option<usize>, is_one: bool, place: usize) -> Option<usize>
-    ensures { result ≡ option_or found (if is_one then Option.Some place else Option.None) }
+/// The first of a position that was found and a further one.
+fn first(found: Option<usize>, is_one: bool, position: usize) -> Option<usize>
+    ensures { result ≡ option_or found (if is_one then Option.Some position else Option.None) }
 {
     match found {
         Some(found) => Some(found),
-        None if is_one => Some(place),
+        None if is_one => Some(position),
         None => None,
     }
 }
@@ -123,11 +123,11 @@ pub fn choices(
 {
     let mut taken = BTreeMap::new(alloc);
     let mut tie = None;
-    for place in 0..templates.len() {
-        let template: &Template = &templates[place];
+    for position in 0..templates.len() {
+        let template: &Template = &templates[position];
         let priority = priority(prefixes, template.name.as_str());
-        tie = first(tie, ties(&taken, template, priority), place);
-        choose_all(alloc, &mut taken, template, place, priority)?;
+        tie = first(tie, ties(&taken, template, priority), position);
+        choose_all(alloc, &mut taken, template, position, priority)?;
     }
     Ok(Taken {
         choices: taken,

@@ -5,7 +5,7 @@ ghost use Rattle.tera_meaning.specs.Prelude.{loses_a_block, lacks_something, is_
 ghost use Rattle.tera_registry.specs.Choices.{AreChosen};
 ghost use Rattle.tera_registry.specs.Definers.{IsFirst, Climbable, blocks_of};
 ghost use Rattle.tera_registry.specs.Edges.{AreEdges};
-ghost use Rattle.tera_registry.specs.Places.{IsPlace};
+ghost use Rattle.tera_registry.specs.Positions.{IsPosition};
 ghost use Rattle.tera_registry.specs.Kept.{entry_of};
 ghost use Rattle.tera_registry.specs.Known.{is_there};
 ghost use Rattle.tera_registry.specs.Needs.{is_unmet};
@@ -21,7 +21,7 @@ use std::rc::Rc;
 use tera_objects::Objects;
 use tera_values::Sought;
 
-/// Where a block stands: the place of its template, and which of its blocks it is.
+/// Where a block stands: the position of its template, and which of its blocks it is.
 #[derive(Clone, Copy)]
 pub struct At {
     pub template: usize,
@@ -30,12 +30,12 @@ pub struct At {
 
 /// Where a block of this name stands among those of a template.
 fn own(template: &Template, block: &Sought<'_>) -> Option<usize>
-    ensures { IsPlace (blocks_of (entry_of template.now)) result
+    ensures { IsPosition (blocks_of (entry_of template.now)) result
         (entry_at block.now (blocks_of (entry_of template.now))) }
 {
-    for place in 0..template.blocks.len() {
-        if block.is(&template.blocks[place].name) {
-            return Some(place);
+    for position in 0..template.blocks.len() {
+        if block.is(&template.blocks[position].name) {
+            return Some(position);
         }
     }
     None
@@ -53,10 +53,10 @@ pub fn first(templates: &[Rc<Template>], ups: &[Up], from: usize, block: &Sought
     let mut last = from;
     'up: loop {
         let template: &Template = &templates[last];
-        if let Some(place) = own(template, block) {
+        if let Some(position) = own(template, block) {
             return Some(At {
                 template: last,
-                block: place,
+                block: position,
             });
         }
         match ups[last] {
@@ -187,8 +187,15 @@ pub fn any_lacks<O: Objects>(
     requires engine { registry.engine ≡ O.engine objects.now }
     ensures { result ≡ list_any (lacks_something registry) registry.templates }
 {
-    for place in 0..templates.len() {
-        if lacks(templates, ups, place, edges[place].len(), choices, objects) {
+    for position in 0..templates.len() {
+        if lacks(
+            templates,
+            ups,
+            position,
+            edges[position].len(),
+            choices,
+            objects,
+        ) {
             return true;
         }
     }

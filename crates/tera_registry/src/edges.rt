@@ -1,4 +1,4 @@
-// What templates include, by place.
+// What templates include, by position.
 ghost use Rattle.std.specs.Prelude.{◌≡◌, length, IfOk};
 ghost use Rattle.tera_meaning.specs.Prelude.{includes_of};
 ghost use Rattle.tera_registry.specs.Edges.{all_at, AreThere, AreEdges};
@@ -22,13 +22,13 @@ fn included(
         ≡ includes_of (seen templates.now prefixes.now) (entry_of of.now)) }
     ensures there { IfOk result (λ v. AreThere v.items (length templates.now)) }
 {
-    let mut places = Vec::new(alloc);
+    let mut positions = Vec::new(alloc);
     for name in &of.includes {
-        if let Some(place) = resolve(templates, prefixes, name.as_str()) {
-            places.push(place)?;
+        if let Some(position) = resolve(templates, prefixes, name.as_str()) {
+            positions.push(position)?;
         }
     }
-    Ok(places)
+    Ok(positions)
 }
 
 /// Where those stand that each template includes. Each name is looked up once.

@@ -44,18 +44,18 @@ pub fn is_known<O: Objects>(
     }
 }
 
-/// Whether the instruction at this place calls what is not there.
+/// Whether the instruction at this position calls what is not there.
 fn is_missing_at<O: Objects>(
     objects: &O,
     choices: &BTreeMap<String, Choice>,
     own: &[Component],
     chunk: &Chunk,
-    place: usize,
+    position: usize,
 ) -> bool
-    ensures { let called = option_and_then called_by (slice_get chunk.now.code place) in
+    ensures { let called = option_and_then called_by (slice_get chunk.now.code position) in
         result ≡ is_missing (O.engine objects.now) (is_there choices.now own.now) called }
 {
-    match chunk.callee_at(place) {
+    match chunk.callee_at(position) {
         Some(callee) => !is_known(objects, choices, own, callee),
         None => false,
     }
@@ -71,8 +71,8 @@ pub fn code_lacks<O: Objects>(
     ensures { result
         ≡ code_lacks (O.engine objects.now) (is_there choices.now own.now) chunk.now.code }
 {
-    for place in 0..chunk.len() {
-        if is_missing_at(objects, choices, own, chunk, place) {
+    for position in 0..chunk.len() {
+        if is_missing_at(objects, choices, own, chunk, position) {
             return true;
         }
     }

@@ -1,4 +1,4 @@
-// Which template stands at the top above each, by place.
+// Which template stands at the top above each, by position.
 ghost use Rattle.std.specs.Prelude.{◌≡◌, ◌≢◌, ◌<◌, ◌≤◌, length, slice_get, IfOk, Some, true, false};
 ghost use Rattle.tera_errors.specs.Prelude.{Gives};
 ghost use Rattle.tera_meaning.specs.Prelude.{Registry, Entry};
@@ -30,7 +30,7 @@ pub fn above(templates: &[Rc<Template>], prefixes: &[String], of: &Template) -> 
         None => Up::Nothing,
         Some(name) => match resolve(templates, prefixes, name.as_str()) {
             None => Up::Missing,
-            Some(place) => Up::At(place),
+            Some(position) => Up::At(position),
         },
     }
 }
@@ -52,14 +52,14 @@ pub fn all_above(
     Ok(all)
 }
 
-/// The place of a template's last parent, or its own where it has none, and how many parents it has.
+/// The position of a template's last parent, or its own where it has none, and how many parents it has.
 #[derive(Clone, Copy)]
 pub struct Top {
     pub root: usize,
     pub parents: usize,
 }
 
-/// Goes up from a place, to a template that extends nothing or whose top is known.
+/// Goes up from a position, to a template that extends nothing or whose top is known.
 fn climb(ups: &[Up], tops: &[Option<Top>], of: usize) -> TeraResult<Top>
     requires there { of < length ups.now }
     requires inside { Inside ups.now }
@@ -107,7 +107,7 @@ fn further(top: Top, steps: usize, most: usize) -> TeraResult<Top>
     })
 }
 
-/// Notes what stands at the top above a place, and above each of those in between of which it is not known yet.
+/// Notes what stands at the top above a position, and above each of those in between of which it is not known yet.
 fn note(ups: &[Up], tops: &mut [Option<Top>], of: usize, top: Top)
     requires there { of < length ups.now }
     requires inside { Inside ups.now }
@@ -138,19 +138,19 @@ fn note(ups: &[Up], tops: &mut [Option<Top>], of: usize, top: Top)
     });
 }
 
-/// Whether what was looked for stands at a place.
-fn is_at(found: Option<usize>, place: usize) -> bool
-    ensures there { result ≡ true → found ≡ Some place }
-    ensures not_there { result ≡ false → found ≢ Some place }
+/// Whether what was looked for stands at a position.
+fn is_at(found: Option<usize>, position: usize) -> bool
+    ensures there { result ≡ true → found ≡ Some position }
+    ensures not_there { result ≡ false → found ≢ Some position }
 {
     match found {
         None => false,
-        Some(other) => other == place,
+        Some(other) => other == position,
     }
 }
 
-/// The place of the last parent of each template, or the first fault by name, where this is what each extends, and it is
-/// known at which place the first template stands that leads into a circle, and at which the first that ties with another.
+/// The position of the last parent of each template, or the first fault by name, where this is what each extends, and it is
+/// known at which position the first template stands that leads into a circle, and at which the first that ties with another.
 pub fn roots(
     alloc: Global,
     ups: &[Up],
@@ -167,19 +167,19 @@ pub fn roots(
     let mut known = vec![in alloc; None; ups.len()]?;
     let tops = known.as_mut_slice();
     let mut roots = Vec::new(alloc);
-    for place in 0..ups.len() {
-        match climb(ups, tops, place) {
+    for position in 0..ups.len() {
+        match climb(ups, tops, position) {
             Ok(top) => {
-                if is_at(circle, place) {
+                if is_at(circle, position) {
                     return Err(Error::circular_include());
                 }
-                if is_at(tie, place) {
+                if is_at(tie, position) {
                     return Err(Error::message(
                         alloc,
                         "two templates define a component, and neither is preferred",
                     ));
                 }
-                note(ups, tops, place, top);
+                note(ups, tops, position, top);
                 roots.push(top.root)?;
             }
             Err(fault) => return Err(fault),

@@ -20,7 +20,7 @@ use std::rc::Rc;
 use tera_errors::{Error, TeraResult};
 use tera_objects::Objects;
 
-/// How templates go together: what each extends, the place of the last parent of each, and which definition of each
+/// How templates go together: what each extends, the position of the last parent of each, and which definition of each
 /// component is taken, and what code names of all that.
 #[derive(Drop)]
 pub struct Links {

@@ -17,7 +17,7 @@ use tera_code::{Chunk, Reference};
 use tera_errors::TeraResult;
 use tera_values::Name;
 
-/// What a reference leads to: the template at a place, or the definition that is taken of a component.
+/// What a reference leads to: the template at a position, or the definition that is taken of a component.
 #[derive(Clone, Copy)]
 pub enum Destination {
     Template(usize),
@@ -102,12 +102,12 @@ impl LinkTable {
         }
     }
 
-    /// The place of the template to which the name of a reference leads, as far as it is linked.
-    pub fn place(&self, name: &Name, home: Home, number: usize) -> Option<usize>
+    /// The position of the template to which the name of a reference leads, as far as it is linked.
+    pub fn position(&self, name: &Name, home: Home, number: usize) -> Option<usize>
         ensures { FoundLeads destination.Template self.now name.now result }
     {
         match self.link(name, home, number) {
-            Some(Destination::Template(place)) => Some(place),
+            Some(Destination::Template(position)) => Some(position),
             _ => None,
         }
     }
@@ -142,8 +142,8 @@ impl<'t> Targets<'t> {
             let choice = self.choices.get(name)?;
             return Some(Destination::Component(*choice));
         }
-        let place = resolve(self.templates, self.prefixes, name)?;
-        Some(Destination::Template(place))
+        let position = resolve(self.templates, self.prefixes, name)?;
+        Some(Destination::Template(position))
     }
 
     // The links of a body, each at the number of its reference: when a batch is linked, all that code names is there.

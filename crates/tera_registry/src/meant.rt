@@ -2,7 +2,7 @@
 ghost use Rattle.std.specs.Prelude.{◌≡◌, List};
 ghost use Rattle.std.specs.Borrow.{ftrue};
 ghost use Rattle.tera_syntax_tree.specs.declared.node.Node.{Node as Read};
-ghost use Rattle.tera_registry.specs.Code.{read_code};
+ghost use Rattle.tera_registry.specs.Coding.{read_coding};
 
 use std::marker::Model;
 use tera_syntax_tree::Node;
@@ -11,7 +11,7 @@ use tera_syntax_tree::Node;
 /// contracts say what it holds.
 #[derive(Drop)]
 pub struct Meant {
-    pub ghost nodes: { List Read } by { read_code },
+    pub ghost nodes: { List Read } by { read_coding },
 }
 
 impl Model for Meant {

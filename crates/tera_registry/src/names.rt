@@ -3,7 +3,7 @@ ghost use Rattle.std.specs.Prelude.{◌≡◌, ◌++◌, IfErr, OnOk, OnErr};
 ghost use Rattle.tera_errors.specs.Prelude.{Lacks};
 ghost use Rattle.tera_values.specs.Prelude.{name_cmp, put};
 ghost use Rattle.tera_meaning.specs.Prelude.{resolve};
-ghost use Rattle.tera_registry.specs.Places.{IsFound, IsPlace};
+ghost use Rattle.tera_registry.specs.Positions.{IsFound, IsPosition};
 ghost use Rattle.tera_registry.specs.Kept.{Rises, entry_of, entries_of, seen};
 
 use crate::template::Template;
@@ -57,12 +57,12 @@ pub fn put(templates: &mut Vec<Rc<Template>>, template: Rc<Template>) -> TeraRes
     ensures lacks { IfErr result Lacks }
 {
     match find(templates, "", template.name.as_str()) {
-        Ok(place) => {
-            templates[place] = template;
+        Ok(position) => {
+            templates[position] = template;
             Ok(())
         }
-        Err(place) => {
-            templates.insert(place, template)?;
+        Err(position) => {
+            templates.insert(position, template)?;
             Ok(())
         }
     }
@@ -72,15 +72,15 @@ pub fn put(templates: &mut Vec<Rc<Template>>, template: Rc<Template>) -> TeraRes
 /// no memory.
 pub fn resolve(templates: &[Rc<Template>], prefixes: &[String], name: &str) -> Option<usize>
     requires { Rises (entries_of templates.now) }
-    ensures { IsPlace (entries_of templates.now) result
+    ensures { IsPosition (entries_of templates.now) result
         (resolve (seen templates.now prefixes.now) name.now) }
 {
-    if let Ok(place) = find(templates, "", name) {
-        return Some(place);
+    if let Ok(position) = find(templates, "", name) {
+        return Some(position);
     }
     for prefix in prefixes {
-        if let Ok(place) = find(templates, prefix.as_str(), name) {
-            return Some(place);
+        if let Ok(position) = find(templates, prefix.as_str(), name) {
+            return Some(position);
         }
     }
     None

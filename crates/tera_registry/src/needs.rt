@@ -65,13 +65,13 @@ fn as_need(alloc: Global, callee: Callee<'_>) -> TeraResult<Need>
     }
 }
 
-/// Puts what the instruction at this place calls behind what was found, unless it is built in.
-fn add_need(alloc: Global, chunk: &Chunk, place: usize, needs: &mut Vec<Need>) -> TeraResult<()>
-    ensures ok { let needed = option_and_then needed_by (slice_get chunk.now.code place) in
+/// Puts what the instruction at this position calls behind what was found, unless it is built in.
+fn add_need(alloc: Global, chunk: &Chunk, position: usize, needs: &mut Vec<Need>) -> TeraResult<()>
+    ensures ok { let needed = option_and_then needed_by (slice_get chunk.now.code position) in
         OnOk result (needs.new.items ≡ needs.old.items ++ cons_option needed []) }
     ensures lacks { IfErr result Lacks }
 {
-    let Some(callee) = chunk.callee_at(place) else {
+    let Some(callee) = chunk.callee_at(position) else {
         return Ok(());
     };
     if is_built_in(callee) {
@@ -86,8 +86,8 @@ fn add_needs(alloc: Global, chunk: &Chunk, needs: &mut Vec<Need>) -> TeraResult<
     ensures ok { OnOk result (needs.new.items ≡ needs.old.items ++ code_needs chunk.now.code) }
     ensures lacks { IfErr result Lacks }
 {
-    for place in 0..chunk.len() {
-        add_need(alloc, chunk, place, needs)?;
+    for position in 0..chunk.len() {
+        add_need(alloc, chunk, position, needs)?;
     }
     Ok(())
 }

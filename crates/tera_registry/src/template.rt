@@ -4,7 +4,7 @@ ghost use Rattle.std.specs.Coded.{Coded-set, codes};
 ghost use Rattle.tera_syntax_tree.specs.Blocks as in_tree;
 ghost use Rattle.tera_syntax_tree.specs.Includes as in_nodes;
 ghost use Rattle.tera_syntax_tree.specs.Prelude.{nodes_of};
-ghost use Rattle.tera_components.specs.Prelude.{definition_code};
+ghost use Rattle.tera_components.specs.Prelude.{definition_coding};
 ghost use Rattle.tera_registry.specs.Components as kept;
 ghost use Rattle.tera_registry.specs.Needs.{needs_of};
 ghost use Rattle.tera_registry.specs.contracts.needs.Need as need;
@@ -49,7 +49,7 @@ pub struct Template {
         (in_tree.blocks (nodes_of meant.nodes)) } by { Prim.hlevel (codes, chunk.the_row.coded) },
     ghost defined: { map kept.kept_of components.items
         ≡ kept.kept_all (string_bytes name) (nodes_of meant.nodes) } by { Prim.hlevel
-            (codes, definition_code, chunk.the_row.coded) },
+            (codes, definition_coding, chunk.the_row.coded) },
     ghost needing: { needs.items
         ≡ needs_of (nodes_of meant.nodes) } by { Prim.hlevel (codes, need.the_row.coded) },
     ghost included: { includes.items

@@ -11,7 +11,7 @@ ghost use Rattle.tera_registry.specs.Choices.{AreChosen, IsTaken, chosen};
 ghost use Rattle.tera_registry.specs.References.{AreAllRight, LeadsTo-prop};
 ghost use Rattle.tera_registry.specs.Order.{Rises, Rises-prop};
 ghost use Rattle.tera_registry.specs.Links.{ArePlaced, IsLinked};
-ghost use Rattle.tera_registry.specs.Places.{IsPlace};
+ghost use Rattle.tera_registry.specs.Positions.{IsPosition};
 ghost use Rattle.tera_registry.specs.Kept.{entries_of, seen};
 ghost use Rattle.tera_registry.specs.Batch.{ConfiguresOneOf, Adds, pairs_of};
 
@@ -91,8 +91,8 @@ pub struct FoundTemplate<'t> {
     pub body: &'t Chunk,
     /// Those among which it was found.
     pub templates: &'t Templates,
-    place: usize,
-    ghost stands: { slice_get (map (λ t. t.0) (entries_of templates.now.all.items)) place
+    position: usize,
+    ghost stands: { slice_get (map (λ t. t.0) (entries_of templates.now.all.items)) position
         ≡ Some name.now } by { Prim.hlevel codes },
 }
 
@@ -111,7 +111,7 @@ impl<'t> FoundTemplate<'t> {
 
     /// Where the links of the code are that a rendering of it begins with.
     pub fn home(&self) -> Home {
-        match self.templates.roots.get(self.place) {
+        match self.templates.roots.get(self.position) {
             Some(root) => self.templates.links.home_of_body(*root),
             None => Home::nowhere(),
         }
@@ -119,7 +119,7 @@ impl<'t> FoundTemplate<'t> {
 
     /// Where the links of its own code are.
     pub fn body_home(&self) -> Home {
-        self.templates.links.home_of_body(self.place)
+        self.templates.links.home_of_body(self.position)
     }
 
     /// Those who define a block for the template, nearest first. Takes no memory.
@@ -130,7 +130,7 @@ impl<'t> FoundTemplate<'t> {
     {
         let sought = Sought::new(block);
         Definers {
-            start: self.templates.first(self.place, &sought),
+            start: self.templates.first(self.position, &sought),
         }
     }
 }
@@ -195,7 +195,7 @@ impl Templates {
     ghost use Rattle.tera_syntax_tree.specs.Prelude.{blocks};
     ghost use Rattle.tera_meaning.specs.Rendering.{is_component_beside};
     ghost use Rattle.tera_registry.specs.Components.{kept_of, kept_all};
-    ghost use Rattle.tera_registry.specs.Definers.{from_place, above_place, from_found, StandsAt};
+    ghost use Rattle.tera_registry.specs.Definers.{from_position, above_position, from_found, StandsAt};
 
     /// None yet. Takes no memory.
     pub fn new(alloc: Global, prefixes: Vec<String>) -> Templates
@@ -256,36 +256,36 @@ impl Templates {
     pub fn find(&self, name: &str) -> Option<FoundTemplate<'_>>
         ensures { (r : Registry) → Finds (with_templates r self.now) name.now result }
     {
-        let place = resolve(self.all.as_slice(), self.prefixes.as_slice(), name)?;
-        Some(self.found_at(place))
+        let position = resolve(self.all.as_slice(), self.prefixes.as_slice(), name)?;
+        Some(self.found_at(position))
     }
 
     /// The same for the name of a reference that has this number in code which is at home there: what is linked is not looked up.
     pub fn find_linked(&self, name: &Name, home: Home, number: usize) -> Option<FoundTemplate<'_>>
         ensures { (r : Registry) → Finds (with_templates r self.now) name.now result }
     {
-        match self.links.place(name, home, number) {
-            Some(place) => Some(self.found_at(place)),
+        match self.links.position(name, home, number) {
+            Some(position) => Some(self.found_at(position)),
             None => self.find(name.as_str()),
         }
     }
 
-    // The template at a place, to which some names resolve.
-    fn found_at(&self, place: usize) -> FoundTemplate<'_>
-        requires { place < length self.now.all.items }
+    // The template at a position, to which some names resolve.
+    fn found_at(&self, position: usize) -> FoundTemplate<'_>
+        requires { position < length self.now.all.items }
         ensures { (r : Registry) (name : Name)
-            → IsPlace (templates_of self.now) (Some place)
+            → IsPosition (templates_of self.now) (Some position)
             (resolve (with_templates r self.now) name)
             → Finds (with_templates r self.now) name (Some result) }
     {
-        let template: &Template = &self.all[place];
-        let root: &Template = &self.all[self.roots[place]];
+        let template: &Template = &self.all[position];
+        let root: &Template = &self.all[self.roots[position]];
         FoundTemplate {
             name: template.name.as_str(),
             chunk: &root.body,
             body: &template.body,
             templates: self,
-            place,
+            position,
         }
     }
 
@@ -325,7 +325,7 @@ impl Templates {
 
     /// The block that stands there, with those who define it above.
     fn definer(&self, at: At) -> Option<Definer<'_>>
-        ensures { AreNext (from_place (registry_in self.now) at) result }
+        ensures { AreNext (from_position (registry_in self.now) at) result }
     {
         let block = self.block_at(at)?;
         Some(Definer {
@@ -345,7 +345,7 @@ impl Templates {
     fn above(&self, at: At) -> Option<At>
         ghost registry: { Registry }
         requires registry { registry ≡ registry_in self.now }
-        ensures { from_found registry result ≡ above_place registry at }
+        ensures { from_found registry result ≡ above_position registry at }
     {
         let block = self.block_at(at)?;
         let name = block.name.sought();
@@ -459,7 +459,7 @@ impl Templates {
         let all = self.all.as_slice();
         let prefixes = self.prefixes.as_slice();
         match resolve(all, prefixes, name) {
-            Some(place) => variables(self.alloc, all, prefixes, place),
+            Some(position) => variables(self.alloc, all, prefixes, position),
             None => Err(Error::template_not_found()),
         }
     }

@@ -34,31 +34,31 @@ fn lineage(
         ≡ t ∷ ancestors (seen templates.now prefixes.now) t) }
     ensures there { IfOk result (λ v. AreThere v.items (length templates.now)) }
 {
-    let mut places = Vec::new(alloc);
+    let mut positions = Vec::new(alloc);
     let mut last = from;
     'up: loop {
-        places.push(last)?;
+        positions.push(last)?;
         let template: &Template = &templates[last];
         match above(templates, prefixes, template) {
             Up::At(next) => last = next,
-            Up::Nothing => return Ok(places),
-            Up::Missing => return Ok(places),
+            Up::Nothing => return Ok(positions),
+            Up::Missing => return Ok(positions),
         }
     }
 }
 
 /// Notes that a template was reached, if it was not before.
-fn reach(reached: &mut Vec<usize>, marks: &mut [bool], place: usize) -> Result<(), AllocError>
-    requires { place < length marks.old }
+fn reach(reached: &mut Vec<usize>, marks: &mut [bool], position: usize) -> Result<(), AllocError>
+    requires { position < length marks.old }
     ensures { OnOk result ((es : _) (t : Entry) → AreReached es reached.old.items marks.old
-        → slice_get es place ≡ Some t
+        → slice_get es position ≡ Some t
         → Reaches es (t ∷ []) reached.old.items reached.new.items marks.new) }
 {
-    if marks[place] {
+    if marks[position] {
         return Ok(());
     }
-    reached.push(place)?;
-    marks[place] = true;
+    reached.push(position)?;
+    marks[position] = true;
     Ok(())
 }
 
@@ -77,30 +77,30 @@ fn reach_included(
         reached.old.items reached.new.items marks.new) }
 {
     for name in &of.includes {
-        if let Some(place) = resolve(templates, prefixes, name.as_str()) {
-            reach(reached, marks, place)?;
+        if let Some(position) = resolve(templates, prefixes, name.as_str()) {
+            reach(reached, marks, position)?;
         }
     }
     Ok(())
 }
 
-/// Reaches those that stand at these places.
+/// Reaches those that stand at these positions.
 fn reach_all(
-    places: &[usize],
+    positions: &[usize],
     reached: &mut Vec<usize>,
     marks: &mut [bool],
 ) -> Result<(), AllocError>
-    requires { AreThere places.now (length marks.old) }
+    requires { AreThere positions.now (length marks.old) }
     ensures { OnOk result ((es : _) → AreReached es reached.old.items marks.old
-        → Reaches es (all_at es places.now) reached.old.items reached.new.items marks.new) }
+        → Reaches es (all_at es positions.now) reached.old.items reached.new.items marks.new) }
 {
-    for &place in places {
-        reach(reached, marks, place)?;
+    for &position in positions {
+        reach(reached, marks, position)?;
     }
     Ok(())
 }
 
-/// Where those stand to which includes lead from these places, and these. Each template is looked at once.
+/// Where those stand to which includes lead from these positions, and these. Each template is looked at once.
 fn closure(
     alloc: Global,
     templates: &[Rc<Template>],
@@ -119,8 +119,8 @@ fn closure(
         if next >= reached.len() {
             return Ok(reached);
         }
-        let place = reached[next];
-        let template: &Template = &templates[place];
+        let position = reached[next];
+        let template: &Template = &templates[position];
         reach_included(templates, prefixes, template, &mut reached, marks)?;
     }
     Ok(reached)
@@ -156,7 +156,7 @@ fn add_all(alloc: Global, of: &Template, found: &mut BTreeSet<String>) -> TeraRe
     Ok(())
 }
 
-/// The names that are free in the template at a place, in its parents, and in all that these include.
+/// The names that are free in the template at a position, in its parents, and in all that these include.
 pub fn variables(
     alloc: Global,
     templates: &[Rc<Template>],
@@ -174,10 +174,10 @@ pub fn variables(
 {
     let lineage = lineage(alloc, templates, prefixes, from)?;
     let reached = closure(alloc, templates, prefixes, lineage.as_slice())?;
-    let places = reached.as_slice();
+    let positions = reached.as_slice();
     let mut found = BTreeSet::new(alloc);
-    for &place in places {
-        let template: &Template = &templates[place];
+    for &position in positions {
+        let template: &Template = &templates[position];
         add_all(alloc, template, &mut found)?;
     }
     // Says that they are in order.

@@ -112,9 +112,9 @@ boundary_passed text after front utf8 h =
           rw zero (IsCharBoundary-start text utf8)
       | behind same ↦
           let size : length text ≡ length (joined front) + suc (length after) = ap length same ∙ length-append (joined front) (10 ∷ after) in
-          let place : length text - length after - 1 ≡ length (joined front) = omega arith in
+          let position : length text - length after - 1 ≡ length (joined front) = omega arith in
           let byte : get_or text (length (joined front)) 0 ≡ 10 = ap (λ bytes. get_or bytes (length (joined front)) 0) same ∙ get_or-append_seam (joined front) 10 after 0 in
-          rw place (IsCharBoundary-before_ascii text (length (joined front)) (omega arith) (omega arith))
+          rw position (IsCharBoundary-before_ascii text (length (joined front)) (omega arith) (omega arith))
     ]
 
 -- what was passed, without the last line feed
@@ -126,8 +126,8 @@ take_passed text after front h =
           rw (zero, none) refl
       | behind same ↦
           let size : length text ≡ length (joined front) + suc (length after) = ap length same ∙ length-append (joined front) (10 ∷ after) in
-          let place : length text - length after - 1 ≡ length (joined front) = omega arith in
-          rw place (ap (take (length (joined front))) same ∙ take-append_seam (joined front) (10 ∷ after))
+          let position : length text - length after - 1 ≡ length (joined front) = omega arith in
+          rw position (ap (take (length (joined front))) same ∙ take-append_seam (joined front) (10 ∷ after))
     ]
 
 last_unended : (after : List ℕ) → ends_body after ≡ false → body_lines (last_line after) ≡ None

@@ -10,7 +10,7 @@ use Rattle.tera_run_script.specs.declared.reply.Reply.TheVariants as reply
 pub data Replied : Type 0 where
   done : Replied
   says : (text : Text) → Replied
-  refuses : (refusal : SeenError) → Replied
+  refuses : (error : SeenError) → Replied
 
 abbrev pub reply_seen : Reply → Replied
 reply_seen reply.Done = done
@@ -20,12 +20,12 @@ reply_seen (reply.Fault error) = refuses error
 -- what is told of a call that has nothing to tell
 abbrev pub done_seen : Result (Unit {0}) SeenError → Replied
 done_seen (Ok u) = done
-done_seen (Err refusal) = refuses refusal
+done_seen (Err error) = refuses error
 
 -- what is told of a call that answers a text
 abbrev pub rendered_seen : Result (String Global) SeenError → Replied
 rendered_seen (Ok text) = says (string_bytes text)
-rendered_seen (Err refusal) = refuses refusal
+rendered_seen (Err error) = refuses error
 
 abbrev pub replies_seen : List Reply → List Replied
 replies_seen replies = map reply_seen replies
@@ -44,7 +44,7 @@ word_of (Some component_not_found) = codes "ComponentNotFound"
 word_of (Some invalid_argument) = codes "InvalidArgument"
 word_of (Some missing_argument) = codes "MissingArgument"
 
--- where it is, for the kinds that have a place
+-- where it is, for the kinds that have a position
 abbrev pub site_of : SeenError → Option Site
 site_of None = None
 site_of (Some (syntax_error site)) = Some site
@@ -59,17 +59,17 @@ site_of (Some invalid_argument) = None
 site_of (Some missing_argument) = None
 
 -- file, start and end
-abbrev pub place : Option Site → Text
-place None = []
-place (Some site) =
+abbrev pub site_text : Option Site → Text
+site_text None = []
+site_text (Some site) =
     codes " " ++ site.file ++ codes " " ++ decimal site.span.start ++ codes " "
     ++ decimal site.span.end
 
 abbrev pub fault_line : SeenError → Text
-fault_line refusal = codes "fault " ++ word_of refusal ++ place (site_of refusal)
+fault_line error = codes "fault " ++ word_of error ++ site_text (site_of error)
 
 -- a reply as it is written
 abbrev pub line_of : Replied → Text
 line_of done = codes "ok\n"
 line_of (says text) = text ++ codes "\n"
-line_of (refuses refusal) = fault_line refusal ++ codes "\n"
+line_of (refuses error) = fault_line error ++ codes "\n"

@@ -34,19 +34,19 @@ fresh registry = session registry [] []
 abbrev pub Keeps : Replied → Session → Session → Session → Type 0
 Keeps done now kept next = next ≡ kept
 Keeps (says text) now kept next = ⊥
-Keeps (refuses refusal) now kept next = (refusal ≡ None) × (next ≡ now)
+Keeps (refuses error) now kept next = (error ≡ None) × (next ≡ now)
 
 -- The registry is one that is meant, or that is refused and the registry is as before.
 abbrev pub Configured : Replied → (Result Registry Fault → Type 0) → Registry → Registry → Type 0
 Configured done Meant old new = Meant (Ok new)
 Configured (says text) Meant old new = ⊥
-Configured (refuses refusal) Meant old new = SaysOneOf refusal Meant × (new ≡ old)
+Configured (refuses error) Meant old new = SaysOneOf error Meant × (new ≡ old)
 
 -- A text that is meant, or its fault.
 abbrev pub Rendered : Replied → (Result Text Fault → Type 0) → Type 0
 Rendered done Meant = ⊥
 Rendered (says text) Meant = Meant (Ok text)
-Rendered (refuses refusal) Meant = SaysOneOf refusal Meant
+Rendered (refuses error) Meant = SaysOneOf error Meant
 
 -- What a command may be answered, and the session that it then leaves. Want of memory may always be
 -- the answer. No template waits after an adding, whether it was accepted or refused.

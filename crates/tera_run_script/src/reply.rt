@@ -2,7 +2,7 @@
 ghost use Rattle.std.specs.Prelude.{◌≡◌, ◌++◌, codes, Some, OnOk, IfErr, string_bytes, is_some, true};
 ghost use Rattle.tera.specs.Prelude.{Lacks, fault_of};
 ghost use Rattle.tera_run_script.specs.Device.{Writes};
-ghost use Rattle.tera_run_script.specs.Reply.{line_of, reply_seen, fault_line, word_of, site_of, place};
+ghost use Rattle.tera_run_script.specs.Reply.{line_of, reply_seen, fault_line, word_of, site_of, site_text};
 ghost use Rattle.tera_run_script.specs.Seen.{site_seen};
 
 use crate::output::write_pieces;
@@ -21,7 +21,7 @@ pub enum Reply {
     Fault(Error),
 }
 
-/// Writes the reply: `ok`, its text, or the kind of its fault with the place where it has one; then a line feed.
+/// Writes the reply: `ok`, its text, or the kind of its fault with the position where it has one; then a line feed.
 pub fn write_reply<W: Output>(writer: &mut W, reply: &Reply) -> Result<(), Failure>
     ensures { Writes W.passed W.contents writer.old writer.new
         (line_of (reply_seen reply.now)) result }
@@ -52,7 +52,7 @@ fn word_of(kind: &ErrorKind) -> &'static str
     }
 }
 
-// The report of a fault that has a place.
+// The report of a fault that has a position.
 fn report_of(kind: &ErrorKind) -> Option<&ReportError>
     ensures { site_seen result ≡ site_of (fault_of kind.now) }
 {
@@ -75,7 +75,7 @@ fn write_fault<W: Output>(writer: &mut W, kind: &ErrorKind) -> Result<(), Failur
 
 fn write_placed<W: Output>(writer: &mut W, word: &str, report: &ReportError) -> Result<(), Failure>
     ensures { Writes W.passed W.contents writer.old writer.new
-        (codes "fault " ++ word.now ++ place (Some report.now.site) ++ codes "\n") result }
+        (codes "fault " ++ word.now ++ site_text (Some report.now.site) ++ codes "\n") result }
 {
     let span = report.span();
     let mut start = Buffer::new();
@@ -97,9 +97,9 @@ fn write_placed<W: Output>(writer: &mut W, word: &str, report: &ReportError) -> 
 }
 
 // Appends where a fault is: its file, start and end.
-fn push_place(text: &mut String, report: &ReportError) -> TeraResult<()>
+fn push_site(text: &mut String, report: &ReportError) -> TeraResult<()>
     ensures ok { OnOk result
-        (string_bytes text.new ≡ string_bytes text.old ++ place (Some report.now.site)) }
+        (string_bytes text.new ≡ string_bytes text.old ++ site_text (Some report.now.site)) }
     ensures lacks { IfErr result Lacks }
 {
     let span = report.span();
@@ -114,7 +114,7 @@ fn push_place(text: &mut String, report: &ReportError) -> TeraResult<()>
     Ok(())
 }
 
-/// Appends the kind of a fault, with its place where it has one. Want of memory is none that can be told of, and is answered.
+/// Appends the kind of a fault, with its position where it has one. Want of memory is none that can be told of, and is answered.
 pub fn push_fault(text: &mut String, error: Error) -> TeraResult<()>
     ensures ok { OnOk result
         (string_bytes text.new ≡ string_bytes text.old ++ fault_line error) }
@@ -128,7 +128,7 @@ pub fn push_fault(text: &mut String, error: Error) -> TeraResult<()>
     text.push_str("fault ")?;
     text.push_str(word_of(kind))?;
     if let Some(report) = report_of(kind) {
-        push_place(text, report)?;
+        push_site(text, report)?;
     }
     Ok(())
 }

@@ -57,19 +57,19 @@ module _ {A : Type 0} (xs : List A) (top : A) (under : List A) (len : ℕ) (e : 
   stands : xs ≡ reverse under ++ top ∷ []
   stands = sym (reverse-reverse xs) ∙ ap reverse view ∙ reverse-append (top ∷ []) under
 
-  place : len - 1 ≡ length (reverse under)
-  place = omega (arith, e, ap length stands, length-append (reverse under) (top ∷ []))
+  position : len - 1 ≡ length (reverse under)
+  position = omega (arith, e, ap length stands, length-append (reverse under) (top ∷ []))
 
   changed : (y : A) → reverse (slice_set xs (len - 1) y) ≡ y ∷ under
   changed y =
-      ap (λ i. reverse (slice_set xs i y)) place
+      ap (λ i. reverse (slice_set xs i y)) position
       ∙ ap (λ zs. reverse (slice_set zs (length (reverse under)) y)) stands
       ∙ ap reverse (last_set (reverse under) top y)
       ∙ reverse-append (reverse under) (y ∷ [])
       ∙ ap (λ zs. y ∷ zs) (reverse-reverse under)
 
   found : (d : A) → slice_index_or xs (len - 1) d ≡ top
-  found d = ap (λ i. slice_index_or xs i d) place ∙ ap (λ zs. slice_index_or zs (length (reverse under)) d) stands ∙ last_is (reverse under) top d
+  found d = ap (λ i. slice_index_or xs i d) position ∙ ap (λ zs. slice_index_or zs (length (reverse under)) d) stands ∙ last_is (reverse under) top d
 
 -- the last value of the list is changed where the topmost one is
 pub top_changed : {A : Type 0} (xs ys : List A) (len : ℕ) → len ≡ length xs → reverse xs ≡ ys → ys ≢ [] → (y : A) → reverse (slice_set xs (len - 1) y) ≡ with_top ys y

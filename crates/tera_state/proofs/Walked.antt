@@ -1,4 +1,4 @@
--- The items of an open loop, at their places.
+-- The items of an open loop, at their positions.
 use Rattle.std.proofs.Common.{◌≡◌, ℕ, zero, suc, ◌<◌, ◌≤◌, List, [], ◌∷◌, Option, Some, None, refl, sym, ap, ap₂, ◌∙◌, arith, map, length, drop, option_map}
 use Rattle.std.specs.Prelude.{slice_get, pos, unwrap_or}
 use Rattle.std.proofs.lemmas.List.{length-map}
@@ -74,15 +74,15 @@ keyed e = (Some (key_as_value e.0), e.1)
 pub map_size : (v : Val) (es : List (KeyVal × Val)) → map_of (entries es) ≡ v → length (walked v) ≡ length es
 map_size v es e = ap (λ w. length (walked w)) (sym e) ∙ ap (λ (l : List (KeyVal × Val)). length (map keyed l)) (pairs_of_entries es) ∙ length-map es keyed
 
--- the turns from a place on
-from_place : (h : Heading) (size k i : ℕ) (is : List Item) → i < length is → turns_from h size k (drop i is) ≡ record { counters = (turn h size k (None, int (pos 0))).counters; sets = []; names = names_of h (slice_get is i) } ∷ turns_from h size (suc k) (drop (suc i) is)
-from_place h size k i [] lt = absurd (omega (arith, lt))
-from_place h size k zero (x ∷ is) lt = refl
-from_place h size k (suc i) (x ∷ is) lt = from_place h size k i is (omega (arith, lt))
+-- the turns from a position on
+from_position : (h : Heading) (size k i : ℕ) (is : List Item) → i < length is → turns_from h size k (drop i is) ≡ record { counters = (turn h size k (None, int (pos 0))).counters; sets = []; names = names_of h (slice_get is i) } ∷ turns_from h size (suc k) (drop (suc i) is)
+from_position h size k i [] lt = absurd (omega (arith, lt))
+from_position h size k zero (x ∷ is) lt = refl
+from_position h size k (suc i) (x ∷ is) lt = from_position h size k i is (omega (arith, lt))
 
 pub goes_on : (l : ForLoop) (k : ℕ) → k ≡ suc l.index → k < length (items_of l) → to_come l ≡ turn_of [] (record l { index = k }) ∷ to_come (record l { index = k })
 goes_on l k e lt =
-    ap (λ (j : ℕ). turns_from (heading_of l) (length (items_of l)) j (drop j (items_of l))) (sym e) ∙ from_place (heading_of l) (length (items_of l)) k k (items_of l) lt
+    ap (λ (j : ℕ). turns_from (heading_of l) (length (items_of l)) j (drop j (items_of l))) (sym e) ∙ from_position (heading_of l) (length (items_of l)) k k (items_of l) lt
 
 nothing_past : (i : ℕ) (is : List Item) → length is ≤ i → drop i is ≡ []
 nothing_past zero [] le = refl
@@ -93,7 +93,7 @@ nothing_past (suc i) (x ∷ is) le = nothing_past i is (omega (arith, le))
 pub ends : (l : ForLoop) → length (items_of l) ≤ suc l.index → to_come l ≡ []
 ends l le = ap (turns_from (heading_of l) (length (items_of l)) (suc l.index)) (nothing_past (suc l.index) (items_of l) le)
 
--- an item that is lent at its place
+-- an item that is lent at its position
 lent_at : (is : List Item) (i : ℕ) (key value : Option Val) → i < length is → key ≡ key_at (slice_get is i) → value ≡ value_at (slice_get is i) → drop i is ≡ (key, unwrap_or value undefined) ∷ drop (suc i) is
 lent_at [] i key value lt ek ev = absurd (omega (arith, lt))
 lent_at (x ∷ is) zero key value lt ek ev = ap₂ (λ (k o : Option Val). (k, unwrap_or o undefined) ∷ is) (sym ek) (sym ev)

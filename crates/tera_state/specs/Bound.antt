@@ -19,10 +19,10 @@ with_binding [] f l n v = record { frame = f; layer = l; name = n; value = v } �
 with_binding (b ∷ bs) f l n v =
     if is_for f l n b then record b { value = v } ∷ bs else b ∷ with_binding bs f l n v
 
--- the place of a binding, where the first stands at k
-abbrev pub place_from : ℕ → List Binding → ℕ → ℕ → Name → Option ℕ
-place_from k [] f l n = None
-place_from k (b ∷ bs) f l n = if is_for f l n b then Some k else place_from (k + 1) bs f l n
+-- the position of a binding, where the first stands at k
+abbrev pub position_from : ℕ → List Binding → ℕ → ℕ → Name → Option ℕ
+position_from k [] f l n = None
+position_from k (b ∷ bs) f l n = if is_for f l n b then Some k else position_from (k + 1) bs f l n
 
 -- what a layer, and what a frame binds is out
 abbrev pub without : List Binding → ℕ → ℕ → List Binding

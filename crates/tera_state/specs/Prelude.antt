@@ -1,4 +1,4 @@
--- The definitions that contracts of other crates name, passed on from one place.
+-- The definitions that contracts of other crates name, passed on from one file.
 pub use Rattle.tera_state.specs.Scope.{Heading, in_component, in_include, look_implicit, loop_turns, nothing_set}
 pub use Rattle.tera_state.specs.Found.{found_value}
 pub use Rattle.tera_state.specs.Opened.{turns_left}

@@ -2,7 +2,7 @@
 ghost use Rattle.std.specs.Prelude.{◌≡◌, ◌↔◌, [], IsTrue, OnOk, OnErr, IfErr, option_copied};
 ghost use Rattle.tera_errors.specs.Prelude.{Lacks};
 ghost use Rattle.tera_values.specs.Prelude.{put_all};
-ghost use Rattle.tera_state.specs.Bound.{value_in, with_binding, without, without_frame, place_from, layer_of, is_beyond, end_with, end_without};
+ghost use Rattle.tera_state.specs.Bound.{value_in, with_binding, without, without_frame, position_from, layer_of, is_beyond, end_with, end_without};
 
 use std::alloc::{AllocError, Global};
 use std::marker::Model;
@@ -35,13 +35,13 @@ pub(crate) struct Layer {
 impl Model for Bindings {
     ghost use Rattle.std.specs.Prelude.{List};
     ghost use Rattle.std.specs.Coded.{codes};
-    ghost use Rattle.tera_values.specs.Code.{val_code};
+    ghost use Rattle.tera_values.specs.Coding.{val_coding};
     ghost use Rattle.tera_state.specs.Bound.{IsOnce, EndsBy};
     ghost use Rattle.tera_state.specs.declared.bindings.Binding.{Binding as Datum};
 
     ghost Value = { List Datum };
 
-    ghost coded = { Prim.hlevel (codes, val_code) };
+    ghost coded = { Prim.hlevel (codes, val_coding) };
 
     ghost view = { λ b. b.items.items };
 
@@ -109,7 +109,7 @@ impl Bindings {
         ensures err { OnErr result (self.new ≡ self.old) }
     {
         self.end = end_with(frame, layer, self.end);
-        match place(self.items.as_slice(), frame, layer, &name.sought()) {
+        match position(self.items.as_slice(), frame, layer, &name.sought()) {
             Some(at) => self.items[at].value = value,
             None => self.items.push(Binding {
                 frame,
@@ -211,8 +211,8 @@ fn find<'a>(
     None
 }
 
-fn place(items: &[Binding], frame: usize, layer: usize, name: &Sought<'_>) -> Option<usize>
-    ensures { result ≡ place_from 0 items.now frame layer name.now }
+fn position(items: &[Binding], frame: usize, layer: usize, name: &Sought<'_>) -> Option<usize>
+    ensures { result ≡ position_from 0 items.now frame layer name.now }
 {
     for (at, b) in items.iter().enumerate() {
         if b.frame == frame && b.layer == layer && name.is(&b.name) {

@@ -30,12 +30,12 @@ impl<'c> Model for Contexts<'c> {
     ghost use Rattle.std.specs.Coded.{coded×};
     ghost use Rattle.tera_values.specs.Named.{Named, named_code};
     ghost use Rattle.tera_values.specs.Val.{Val};
-    ghost use Rattle.tera_values.specs.Code.{val_code};
+    ghost use Rattle.tera_values.specs.Coding.{val_coding};
     ghost use Rattle.tera_state.specs.Contexts.{IsKnown};
 
     ghost Value = { Named Val × Named Val };
 
-    ghost coded = { coded× (named_code val_code) (named_code val_code) };
+    ghost coded = { coded× (named_code val_coding) (named_code val_coding) };
 
     ghost view = { λ c. (c.context, c.global) };
 

@@ -1,4 +1,4 @@
-// What an open loop goes over, by place.
+// What an open loop goes over, by position.
 ghost use Rattle.std.specs.Prelude.{◌≡◌, ◌&&◌, Ok, drop, length, not, slice_get};
 ghost use Rattle.tera_errors.specs.Prelude.{Gives};
 ghost use Rattle.tera_values.specs.Prelude.{plain, array, vals};
@@ -22,7 +22,7 @@ pub struct ForLoopIterator<'a> {
 impl<'a> ForLoopIterator<'a> {
     ghost use Rattle.tera_state.specs.Lending.{items_left};
 
-    /// The items from a place on. A text is gone over as the array of its clusters.
+    /// The items from a position on. A text is gone over as the array of its clusters.
     pub(crate) fn new(items: &'a Value, index: usize) -> ForLoopIterator<'a>
         ensures { items_left result ≡ drop index (walked items.now) }
     {
@@ -64,7 +64,7 @@ pub(crate) fn size_of(items: &Value) -> usize
     }
 }
 
-/// The item at a place.
+/// The item at a position.
 pub(crate) fn value_at(items: &Value, index: usize) -> Found<'_>
     ensures { found_value result ≡ value_at (slice_get (walked items.now) index) }
 {
@@ -85,7 +85,7 @@ pub(crate) fn value_at(items: &Value, index: usize) -> Found<'_>
     }
 }
 
-/// The key of the item at a place.
+/// The key of the item at a position.
 pub(crate) fn key_at(items: &Value, index: usize) -> Found<'_>
     ensures { found_value result ≡ key_at (slice_get (walked items.now) index) }
 {
@@ -100,7 +100,7 @@ pub(crate) fn key_at(items: &Value, index: usize) -> Found<'_>
     }
 }
 
-/// What a loop over the value goes over by place: the value itself, and for a text, whose clusters are made here, their
+/// What a loop over the value goes over by position: the value itself, and for a text, whose clusters are made here, their
 /// array. With a key it must be a map.
 pub(crate) fn gone_over(alloc: Global, is_keyed: bool, target: Value) -> TeraResult<Value>
     ensures { Gives walked result (items_for is_keyed target) }

@@ -23,12 +23,12 @@ pub struct Lent<'c> {
 impl<'c> Model for Lent<'c> {
     ghost use Rattle.tera_values.specs.Named.{Named, named_code};
     ghost use Rattle.tera_values.specs.Val.{Val};
-    ghost use Rattle.tera_values.specs.Code.{val_code};
+    ghost use Rattle.tera_values.specs.Coding.{val_coding};
     ghost use Rattle.tera_state.specs.Lent.{lent_by};
 
     ghost Value = { Named Val };
 
-    ghost coded = { named_code val_code };
+    ghost coded = { named_code val_coding };
 
     ghost view = { λ l. lent_by l.lender };
 }

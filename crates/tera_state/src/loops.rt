@@ -13,7 +13,7 @@ use crate::items::{ForLoopIterator, gone_over, key_at, size_of, value_at};
 use std::alloc::Global;
 use tera_values::{Counter, Name, Sought, TeraResult, Value};
 
-/// An open loop, which stands at one of its items. Nothing of the item is copied: its names are places in the items.
+/// An open loop, which stands at one of its items. Nothing of the item is copied: its names are positions in the items.
 #[derive(Drop)]
 pub struct ForLoop {
     pub name: Name,

@@ -25,13 +25,13 @@ pub struct OpenLoops {
 impl Model for OpenLoops {
     ghost use Rattle.std.specs.Prelude.{List};
     ghost use Rattle.std.specs.Coded.{codes};
-    ghost use Rattle.tera_values.specs.Code.{val_code};
+    ghost use Rattle.tera_values.specs.Coding.{val_coding};
     ghost use Rattle.tera_state.specs.declared.loops.ForLoop.{ForLoop as Datum};
     ghost use Rattle.tera_state.specs.Opened.{opened, IsNested};
 
     ghost Value = { List Datum };
 
-    ghost coded = { Prim.hlevel (codes, val_code) };
+    ghost coded = { Prim.hlevel (codes, val_coding) };
 
     ghost view = { λ l. opened l.innermost l.around };
 

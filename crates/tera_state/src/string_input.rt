@@ -20,12 +20,12 @@ pub struct StringInput {
 impl Model for StringInput {
     ghost use Rattle.std.specs.Prelude.{IsTrue};
     ghost use Rattle.tera_values.specs.Val.{Val};
-    ghost use Rattle.tera_values.specs.Code.{val_code};
+    ghost use Rattle.tera_values.specs.Coding.{val_coding};
     ghost use Rattle.tera_built_ins.specs.Tests.{is_text};
 
     ghost Value = { Val };
 
-    ghost coded = { val_code };
+    ghost coded = { val_coding };
 
     ghost view = { λ s. s.value };
 

@@ -13,14 +13,14 @@ use Rattle.tera_syntax.specs.View.{names_of}
 
 module _ {S : Type 0} where
   -- where a name stands first, of those that were read
-  abbrev pub place : HashMap (Bor Name) Span S → Name → Option Span
-  place names q = get (λ x y. bytes_eq x.now y.now) names (record { ref_ptr = (0, 0); now = q })
+  abbrev pub position : HashMap (Bor Name) Span S → Name → Option Span
+  position names q = get (λ x y. bytes_eq x.now y.now) names (record { ref_ptr = (0, 0); now = q })
 
 -- what is beyond the names
 abbrev pub blank : PlacedName
 blank = record { name = record { ref_ptr = (0, 0); now = [] }; span = record { start = 0; end = 0 } }
 
--- The names from a place on were read: where each stands first is known, and where the first that stands again stands next.
+-- The names from a position on were read: where each stands first is known, and where the first that stands again stands next.
 abbrev pub AreRead : List PlacedName → ℕ → (Name → Option Span) → Option Span → Type 0
 AreRead names at known found = let rest = names_of (drop at names) in
     (at ≤ length names) × ((q : Name) → known q ≡ first_at q rest) × (found ≡ again rest)
@@ -32,7 +32,7 @@ module _ (names : List PlacedName) (at : ℕ) (old new : Name → Option Span) (
   abbrev rest : List NameAt
   rest = names_of (drop at names)
 
-  -- the name before the place, and those from there on
+  -- the name before the position, and those from there on
   with_read : names_of (drop (at - 1) names) ≡ (read.name.now, read.span) ∷ rest
   with_read =
       let fits = before.0 in

@@ -10,7 +10,7 @@ use Rattle.tera_syntax_tree.specs.Depth.{depth, entries_depth, filters_depth, pa
 use Rattle.tera_syntax.specs.declared.heads.Surroundings.{Surroundings}
 use Rattle.tera_syntax.specs.Heads.{Head, IfHead, ForHead, SetHead, SectionHead, BlockHead, CallHead, DefinitionHead, outside, nested, make, head_depth, splits, chains, inside, ends}
 use Rattle.tera_syntax.specs.Grammar.{IsWord, Simple, Opens, GoesOn, DerivesNodes, empty, content, blank, comment, print, single, bodied, DerivesRest, ended, split, chained}
-use Rattle.tera_syntax.specs.Reader.{OpenStatement, Progress, Tag, Single, Opening, GoingOn, Turning, Closing, join, one, printed, put, room, opened, aside, closed, around, tag, taken, statement, run, nodes}
+use Rattle.tera_syntax.specs.Reader.{OpenStatement, Progress, Tag, Single, Opening, GoingOn, Dividing, Closing, join, one, printed, put, room, opened, aside, closed, around, tag, taken, statement, run, nodes}
 use Rattle.tera_syntax.proofs.Rows.{join-none, join-join}
 use Rattle.tera_syntax.proofs.Whole.{whole_complete}
 use Rattle.tera_syntax.proofs.OneTag.{simple_read, opens_read, goes_on_read, else_read, ends_read}
@@ -98,8 +98,8 @@ module _ (limit : ℕ) where
   bodied-read {q = q} {h = h} {tokens = tokens} a fs found lt le =
       statement-by (at q fs found) tokens (Opening h) (opens_read (room limit (at q fs found)) q (around fs) tokens a le) ∙ opened-read q false fs found h lt
 
-  may-turn : (b : Bool) (A : Option Progress) → b ≡ true → (if b then A else None) ≡ A
-  may-turn b A e = ap (λ (b : Bool). if b then A else None) e
+  may-divide : (b : Bool) (A : Option Progress) → b ≡ true → (if b then A else None) ≡ A
+  may-divide b A e = ap (λ (b : Bool). if b then A else None) e
 
   module _ (p q : Surroundings) (c : Bool) (before : Nodes) (h : Head) (fs : List OpenStatement) (body : Nodes) (tokens : List Token) where
     abbrev here : Progress
@@ -108,33 +108,33 @@ module _ (limit : ℕ) where
     ended-read : IsTrue (ends h tokens) → statement limit here tokens ≡ closed (asking before h c q ∷ fs) body
     ended-read e =
         statement-by here tokens Closing (ends_read (room limit here) p q tokens h e)
-        ∙ may-turn (ends h tokens) (closed (asking before h c q ∷ fs) body) e
+        ∙ may-divide (ends h tokens) (closed (asking before h c q ∷ fs) body) e
 
-    else-turns : splits h ≡ true → IsWord k.Else (codes "else") tokens → statement limit here tokens ≡ Some (at (nested q) (halved before h c q body ∷ fs) NoNodes)
-    else-turns s w =
-        statement-by here tokens Turning (else_read (room limit here) p q tokens w)
-        ∙ ap (option_map aside) (may-turn (splits h) (Some (at q (halved before h c q body ∷ fs) NoNodes)) s)
+    else-divides : splits h ≡ true → IsWord k.Else (codes "else") tokens → statement limit here tokens ≡ Some (at (nested q) (halved before h c q body ∷ fs) NoNodes)
+    else-divides s w =
+        statement-by here tokens Dividing (else_read (room limit here) p q tokens w)
+        ∙ ap (option_map aside) (may-divide (splits h) (Some (at q (halved before h c q body ∷ fs) NoNodes)) s)
 
     goes-on : (f : Head) → chains h ≡ true → GoesOn q f tokens → suc (length fs) < limit → head_depth f ≤ limit - suc (suc (length fs))
         → statement limit here tokens ≡ Some (at (inside f q) (asking NoNodes f true q ∷ halved before h c q body ∷ fs) NoNodes)
     goes-on f s g lt le =
         let half = at q (halved before h c q body ∷ fs) NoNodes in
         statement-by here tokens (GoingOn f) (goes_on_read (room limit here) p q tokens g le)
-        ∙ ap (option_and_then (λ (t : Progress). opened limit true t f)) (may-turn (chains h) (Some half) s)
+        ∙ ap (option_and_then (λ (t : Progress). opened limit true t f)) (may-divide (chains h) (Some half) s)
         ∙ opened-read q true (halved before h c q body ∷ fs) NoNodes f lt
 
     half-ended-read : (other : Nodes) → IsTrue (ends h tokens) → statement limit (at p (halved before h c q body ∷ fs) other) tokens ≡ closed (halved before h c q body ∷ fs) other
     half-ended-read other e =
         statement-by (at p (halved before h c q body ∷ fs) other) tokens Closing (ends_read (room limit here) p q tokens h e)
-        ∙ may-turn (ends h tokens) (closed (halved before h c q body ∷ fs) other) e
+        ∙ may-divide (ends h tokens) (closed (halved before h c q body ∷ fs) other) e
 
   mutual
     reads : {q : Surroundings} {x : Nodes} {i j : List Piece} → DerivesNodes q x i j → (fs : List OpenStatement) (found : Nodes) → nodes_depth x ≤ limit - length fs
         → run limit (at q fs found) i ≡ run limit (at q fs (join found x)) j
     reads {q = q} {j = j} empty fs found le = ap (λ n. run limit (at q fs n) j) (sym (join-none found))
     reads (content {words = []} filled d) fs found le = absurd (filled refl)
-    reads {q = q} {j = j} (content {words = b ∷ bs} {place = place} {rest = rest} {i = i} filled d) fs found le =
-        let n = Content (b ∷ bs) place in
+    reads {q = q} {j = j} (content {words = b ∷ bs} {position = position} {rest = rest} {i = i} filled d) fs found le =
+        let n = Content (b ∷ bs) position in
         let s = first-fits 1 (nodes_depth rest) limit (length fs) (omega arith) le in
         ap (option_and_then (λ t. run limit t i)) (put-read q fs found n s.0)
         ∙ reads d fs (join found (one n)) s.2
@@ -167,7 +167,7 @@ module _ (limit : ℕ) where
     rests {q = q} {h = h} (ended {tokens = tokens} {i = i} e) p before c fs body le =
         ap (option_and_then (λ t. run limit t i)) (ended-read p q c before h fs body tokens e)
     rests {q = q} {h = h} (split {tokens = tokens} {last = last} {body = x} {i = i} {j = j} s w d e) p before c fs body le =
-        ap (option_and_then (λ t. run limit t i)) (else-turns p q c before h fs body tokens s w)
+        ap (option_and_then (λ t. run limit t i)) (else-divides p q c before h fs body tokens s w)
         ∙ reads d (halved before h c q body ∷ fs) NoNodes le
         ∙ ap (option_and_then (λ t. run limit t j)) (half-ended-read (nested q) q c before h fs body last x e)
     rests {q = q} {h = h} (chained {further = f} {tokens = tokens} {body = x} {other = y} {i = i} s g b o) p before c fs body le =

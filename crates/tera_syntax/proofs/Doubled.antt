@@ -20,7 +20,7 @@ use Rattle.tera_syntax_tokens.specs.declared.refusal.Refusal.TheVariants.{Syntax
 use Rattle.tera_syntax.specs.declared.blocks.PlacedName.{PlacedName}
 use Rattle.tera_syntax.specs.File.{once}
 use Rattle.tera_syntax.specs.Names.{NameAt, node_blocks_at, blocks_at, end_after, node_components_at, components_at, first_at, again, tree_doubled, RefusesOnly}
-use Rattle.tera_syntax.specs.Places.{NamesWithin}
+use Rattle.tera_syntax.specs.Positions.{NamesWithin}
 use Rattle.tera_syntax.specs.View.{names_of}
 
 -- whether a name is told apart doesn't depend on which comes first
@@ -43,7 +43,7 @@ not-and : (a b : Bool) → (a || not b) ≡ not (not a && b)
 not-and true b = refl
 not-and false b = refl
 
--- without their places
+-- without their positions
 abbrev bare : List NameAt → List Name
 bare names = map (λ n. n.0) names
 

@@ -5,7 +5,7 @@ use Rattle.std.proofs.lemmas.Slice.Eq.{bytes_eq-Decides}
 use Rattle.tera_errors.specs.Site.{Name}
 use Rattle.tera_syntax_tree.specs.Tree.{Content, Nodes, NoNodes, Tree}
 use Rattle.tera_syntax_tree.specs.Depth.{nodes_depth}
-use Rattle.tera_syntax_tree.specs.Places.{in_place}
+use Rattle.tera_syntax_tree.specs.Leaving.{in_place}
 use Rattle.tera_syntax_tree.specs.Blocks.{has_each_block_once}
 use Rattle.tera_syntax_tree.specs.Definitions.{defines_at_top, has_each_component_once}
 use Rattle.tera_syntax_tokens.specs.declared.token.Kind.TheVariants as k
@@ -44,7 +44,7 @@ word-is : (tokens : List Token) → Begins (codes "extends") tokens → is_exten
 word-is tokens b = ap₂ (λ x y. x && y) (alike k.Name (first tokens) b.0) (ap (λ w. bytes_eq w (codes "extends")) b.1)
 
 front-more : {i j : List Piece} (p : Piece) → is_front_piece p ≡ true → Front i j → Front (p ∷ i) j
-front-more (Words words place) f r = space f r
+front-more (Words words position) f r = space f r
 front-more Comment f r = remark r
 front-more (Variable tokens) f r = absurd (cc)
 front-more (Block tokens) f r = absurd (cc)
@@ -106,7 +106,7 @@ module _ (limit : ℕ) where
     block-got again tokens s false e h = kept-got (Block tokens) i tree again false refl s (step limit s (Block tokens)) refl h
 
     piece-got : Again → (p : Piece) (s : Progress) → file_run limit (state None true s) (p ∷ i) ≡ Some tree → Says s (p ∷ i) tree.parent tree.nodes
-    piece-got again (Words words place) s h = kept-got (Words words place) i tree again (is_space words) refl s (step limit s (Words words place)) refl h
+    piece-got again (Words words position) s h = kept-got (Words words position) i tree again (is_space words) refl s (step limit s (Words words position)) refl h
     piece-got again Comment s h = kept-got Comment i tree again true refl s (step limit s Comment) refl h
     piece-got again (Variable tokens) s h = kept-got (Variable tokens) i tree again false refl s (step limit s (Variable tokens)) refl h
     piece-got again (Block tokens) s h = block-got again tokens s (is_extends tokens) refl h
@@ -169,9 +169,9 @@ module _ (limit : ℕ) where
 
   root-read : (i : List Piece) (q : Surroundings) (found x : Nodes) → run limit (at q [] found) i ≡ Some x → file_run limit (state None true (at q [] found)) i ≡ Some (tree_with None x)
   root-read [] q found x h = ap (option_map (tree_with None)) h
-  root-read (Words [] place ∷ i) q found x h = either-way i (is_space []) (at q [] found) x (root-read i q found x h) h
-  root-read (Words (b ∷ bs) place ∷ i) q found x h =
-      let more = join found (one (Content (b ∷ bs) place)) in
+  root-read (Words [] position ∷ i) q found x h = either-way i (is_space []) (at q [] found) x (root-read i q found x h) h
+  root-read (Words (b ∷ bs) position ∷ i) q found x h =
+      let more = join found (one (Content (b ∷ bs) position)) in
       words-read i (is_space (b ∷ bs)) (has_room limit (at q [] found)) (at q [] more) x (root-read i q more x) h
   root-read (Comment ∷ i) q found x h = root-read i q found x h
   root-read (Variable tokens ∷ i) q found x h = node-read i (step limit (at q [] found) (Variable tokens)) x h
@@ -183,8 +183,8 @@ module _ (limit : ℕ) where
   front-read nothing q found tree lt end = end found
   front-read (space {words = []} {i = i} f r) q found tree lt end =
       ap (λ b. file_run limit (state None b (at q [] found)) i) f ∙ front-read r q found tree lt end
-  front-read (space {words = b ∷ bs} {place = place} {i = i} f r) q found tree lt end =
-      let n = Content (b ∷ bs) place in
+  front-read (space {words = b ∷ bs} {position = position} {i = i} f r) q found tree lt end =
+      let n = Content (b ∷ bs) position in
       ap (λ o. option_and_then (λ g. file_run limit g i) (option_map (state None (is_space (b ∷ bs))) o)) (put-read limit q [] found n lt)
       ∙ ap (λ b. file_run limit (state None b (at q [] (join found (one n)))) i) f
       ∙ front-read r q (join found (one n)) tree lt end

@@ -21,7 +21,7 @@ use Rattle.tera_syntax.specs.Heads.{Head, IfHead, ForHead, SetHead, SectionHead,
 use Rattle.tera_syntax.specs.Grammar.{DerivesWhole, whole, DerivesPipe, pipe, Simple, set, includes, Opens, choice, loop, capture, filtered, section, block, call, definition, GoesOn, elif, DerivesNodes, empty, content, blank, comment, print, single, bodied, DerivesRest, ended, split, chained, Front, nothing, space, remark, DerivesFile, root, child}
 use Rattle.tera_syntax.specs.Spells.{Spells}
 
--- nodes that were read between two places lie inside, and so do the pieces that are left
+-- nodes that were read between two positions lie inside, and so do the pieces that are left
 pub record Lie (size : ℕ) (nodes : Nodes) (j : List Piece) : Type 0 where
   pub inside : NodesInside size nodes
   pub rest : PiecesInside size j
@@ -65,8 +65,8 @@ HeadInside size (IfHead c) = ExprInside size c
 HeadInside size (ForHead key n e) = ExprInside size e
 HeadInside size (SetHead n fs is_global) = FiltersInside size fs
 HeadInside size (SectionHead fs) = FiltersInside size fs
-HeadInside size (BlockHead n place) = Within size place
-HeadInside size (CallHead n all place) = EntriesInside size all × Within size place
+HeadInside size (BlockHead n position) = Within size position
+HeadInside size (CallHead n all position) = EntriesInside size all × Within size position
 HeadInside size (DefinitionHead s) = Unit {0}
 
 -- a word is not the end of a tag
@@ -99,8 +99,8 @@ made_inside size (IfHead c) body other h b o = (h, b, o)
 made_inside size (ForHead key n e) body other h b o = (h, b, o)
 made_inside size (SetHead n fs is_global) body other h b o = (h, b)
 made_inside size (SectionHead fs) body other h b o = (h, b)
-made_inside size (BlockHead n place) body other h b o = (b, h)
-made_inside size (CallHead n all place) body other h b o = (h.0, b, h.1)
+made_inside size (BlockHead n position) body other h b o = (b, h)
+made_inside size (CallHead n all position) body other h b o = (h.0, b, h.1)
 made_inside size (DefinitionHead s) body other h b o = b
 
 mutual

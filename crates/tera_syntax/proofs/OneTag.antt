@@ -19,7 +19,7 @@ use Rattle.tera_syntax_expressions.proofs.Steps.{guard, chosen, either, same-is,
 use Rattle.tera_syntax.specs.declared.heads.Surroundings.{Surroundings}
 use Rattle.tera_syntax.specs.Heads.{Head, IfHead, ForHead, SetHead, SectionHead, BlockHead, CallHead, DefinitionHead, head_depth, end_kind, is_end, is_named, is_call_end, first, ends}
 use Rattle.tera_syntax.specs.Grammar.{DerivesWhole, IsWord, Begins, Quotes, set_word, Simple, set, includes, breaks, continues, DerivesPipe, Opens, choice, loop, capture, filtered, section, block, call, definition, GoesOn, elif}
-use Rattle.tera_syntax.specs.Reader.{Tag, Single, Opening, GoingOn, Turning, Closing, looping_by, setting, setting_by, sectioning, block_at, blocking, signed, defining, called, calling, quoted_name, including, alone, leaving, named, tag_by, tag, whole, pipe}
+use Rattle.tera_syntax.specs.Reader.{Tag, Single, Opening, GoingOn, Dividing, Closing, looping_by, setting, setting_by, sectioning, block_at, blocking, signed, defining, called, calling, quoted_name, including, alone, leaving, named, tag_by, tag, whole, pipe}
 use Rattle.tera_syntax.proofs.Whole.{whole_sound, whole_complete, pipe_sound, pipe_complete, signed_sound, signed_complete, called_sound, called_complete}
 
 -- what is said of a tag with expressions no deeper than this, where it was read
@@ -27,7 +27,7 @@ abbrev pub Meant : ℕ → Surroundings → Surroundings → List Token → Tag 
 Meant limit q outer tokens (Single node) = Simple q node tokens × (node_depth node ≤ suc limit)
 Meant limit q outer tokens (Opening head) = Opens q head tokens × (head_depth head ≤ limit)
 Meant limit q outer tokens (GoingOn head) = GoesOn outer head tokens × (head_depth head ≤ limit)
-Meant limit q outer tokens Turning = IsWord k.Else (codes "else") tokens
+Meant limit q outer tokens Dividing = IsWord k.Else (codes "else") tokens
 Meant limit q outer tokens Closing = Unit {0}
 
 mapped : {A B : Type 0} (f : A → B) (o : Option A) (y : B) → option_map f o ≡ Some y → (x : A) × (o ≡ Some x) × (f x ≡ y)
@@ -168,7 +168,7 @@ module _ (limit : ℕ) (q outer : Surroundings) (tokens : List Token) (t : Tag) 
       (λ c. let p = mapped Opening (called limit (start i) (next i)) t c.1 in
       let w = called_sound limit (start i) (next i) p.0 p.1 in
       let f = w.fits in
-      said (Opening (CallHead (text (next i)) w.attributes (span (start i) (next w.place)))) (call e w.word w.derived w.shut w.end, f) (ap Opening w.made ∙ p.2))
+      said (Opening (CallHead (text (next i)) w.attributes (span (start i) (next w.position)))) (call e w.word w.derived w.shut w.end, f) (ap Opening w.made ∙ p.2))
 
   include-got : Begins (codes "include") tokens → including (next (begin false tokens)) ≡ Some t → Says
   include-got b h =
@@ -210,7 +210,7 @@ module _ (limit : ℕ) (q outer : Surroundings) (tokens : List Token) (t : Tag) 
   tag-by-got k.If e h = if-got e h
   tag-by-got k.Elif e h = elif-got e h
   tag-by-got k.For e h = for-got e (calls (next (begin q.in_loop tokens))) refl h
-  tag-by-got k.Else e h = alone-got k.Else (codes "else") Turning e (λ w. w) h
+  tag-by-got k.Else e h = alone-got k.Else (codes "else") Dividing e (λ w. w) h
   tag-by-got k.Less e h = call-got e h
   tag-by-got k.Name e h = named-got e h
   tag-by-got _ e h = absurd (cc)
@@ -332,8 +332,8 @@ module _ (limit : ℕ) (q outer : Surroundings) (tokens : List Token) where
   pub goes_on_read : {head : Head} → GoesOn outer head tokens → head_depth head ≤ limit → tag limit q outer tokens ≡ Some (GoingOn head)
   goes_on_read (elif e w) le = by-kind k.Elif e ∙ ap (option_map (λ c. GoingOn (IfHead c))) (whole_complete w limit le)
 
-  pub else_read : IsWord k.Else (codes "else") tokens → tag limit q outer tokens ≡ Some Turning
-  else_read w = by-kind k.Else w.0 ∙ alone-is (codes "else") Turning w.1
+  pub else_read : IsWord k.Else (codes "else") tokens → tag limit q outer tokens ≡ Some Dividing
+  else_read w = by-kind k.Else w.0 ∙ alone-is (codes "else") Dividing w.1
 
   -- the word of an end is no other statement's
   by-end : first tokens ≡ k.Name → (word : Text) → named limit q tokens word ≡ Some Closing → is_alone word tokens ≡ true → tag limit q outer tokens ≡ Some Closing
@@ -355,8 +355,8 @@ module _ (limit : ℕ) (q outer : Surroundings) (tokens : List Token) where
   end-read (ForHead key n c) e h = by-end e (codes "endfor") refl h
   end-read (SetHead n fs is_global) e h = set-end e is_global (is_alone (codes "endset") tokens) refl h
   end-read (SectionHead fs) e h = by-end e (codes "endfilter") refl h
-  end-read (BlockHead n place) e h = named-end e (codes "endblock") n refl (is_alone (codes "endblock") tokens) refl h
-  end-read (CallHead n all place) e h = by-kind k.Less e ∙ ap (λ (b : Bool). if b then Some Closing else option_map Opening (called limit (start (begin q.in_loop tokens)) (next (begin q.in_loop tokens)))) (slash-text q.in_loop n tokens h)
+  end-read (BlockHead n position) e h = named-end e (codes "endblock") n refl (is_alone (codes "endblock") tokens) refl h
+  end-read (CallHead n all position) e h = by-kind k.Less e ∙ ap (λ (b : Bool). if b then Some Closing else option_map Opening (called limit (start (begin q.in_loop tokens)) (next (begin q.in_loop tokens)))) (slash-text q.in_loop n tokens h)
   end-read (DefinitionHead s) e h = named-end e (codes "endcomponent") s.name refl (is_alone (codes "endcomponent") tokens) refl h
 
   pub extends_read : Begins (codes "extends") tokens → tag limit q outer tokens ≡ Some Closing

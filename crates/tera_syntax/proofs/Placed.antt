@@ -3,7 +3,7 @@ use Rattle.std.proofs.Common.{◌≡◌, Bool, true, false, ◌&&◌, List, IsTr
 use Rattle.tera_syntax_tokens.specs.Token.{Token}
 use Rattle.tera_syntax_tokens.specs.Cut.{Piece}
 use Rattle.tera_syntax_tree.specs.Tree.{Node, Nodes}
-use Rattle.tera_syntax_tree.specs.Places.{node_in_place, in_place}
+use Rattle.tera_syntax_tree.specs.Leaving.{node_in_place, in_place}
 use Rattle.tera_syntax_tree.specs.Definitions.{node_defined_in_place, defined_in_place}
 use Rattle.tera_syntax.specs.declared.heads.Surroundings.{Surroundings}
 use Rattle.tera_syntax.specs.Heads.{Head, IfHead, ForHead, BlockHead, DefinitionHead, nested, make, inside}

@@ -8,7 +8,7 @@ use Rattle.tera_errors.specs.declared.span.Span.{Span}
 use Rattle.tera_syntax_tokens.specs.Answers.{IsSyntax, Refuses}
 use Rattle.tera_syntax_tokens.specs.declared.refusal.Refusal as reader
 use Rattle.tera_syntax_tokens.specs.declared.refusal.Refusal.TheVariants.{Syntax, OutOfMemory}
-use Rattle.tera_syntax_tokens.specs.Bytes.{place}
+use Rattle.tera_syntax_tokens.specs.Bytes.{position}
 use Rattle.tera_syntax_tokens.specs.Cut.{Piece, Words, FoundPiece, words, trims_before, opening_at, opens, piece, cut, pieces}
 use Rattle.tera_syntax_tree.specs.Delimiters.{Delims}
 use Rattle.tera_syntax_tree.specs.Depth.{nodes_depth, max_tree_depth}
@@ -16,7 +16,7 @@ use Rattle.tera_syntax.specs.File.{spelled, file}
 use Rattle.tera_syntax.specs.Reads.{SpellsNone}
 use Rattle.tera_syntax.specs.Spells.{Spells}
 use Rattle.tera_syntax_tree.specs.Tree.{Tree, NoNodes}
-use Rattle.tera_syntax_tokens.proofs.Places.{by_order, place_le, place_here, place_passes}
+use Rattle.tera_syntax_tokens.proofs.Positions.{by_order, position_le, position_here, position_passes}
 use Rattle.tera_syntax_tokens.proofs.Cuts.{cut_step, cut_nothing}
 use Rattle.tera_syntax.proofs.Extending.{spelled_complete, file_complete}
 
@@ -35,8 +35,8 @@ refused_any meant OutOfMemory e = tt
 
 -- what is refused for one reason may be refused for another, and for want of memory at any time
 pub refused_too : {Y : Type 0} (meant : Option Y) (r s : reader.Refusal) → (IsSyntax s → IsSyntax r) → Refuses meant r → Refuses meant s
-refused_too meant (Syntax why at) (Syntax other place) h e = e
-refused_too meant OutOfMemory (Syntax other place) h e = absurd (h tt)
+refused_too meant (Syntax why at) (Syntax other position) h e = e
+refused_too meant OutOfMemory (Syntax other position) h e = absurd (h tt)
 refused_too meant (Syntax why at) OutOfMemory h e = tt
 refused_too meant OutOfMemory OutOfMemory h e = tt
 
@@ -63,7 +63,7 @@ unopened d text h = go (opening_at d text) h
     go (Some x) e = absurd (cc)
 
 abbrev all_words : Delims → Text → FoundPiece
-all_words d text = let n = place (opens d) text in
+all_words d text = let n = position (opens d) text in
     record { piece = words false (trims_before (drop n text) (opening_at d (drop n text))) n 0 text; next = 0 + n; trims = false }
 
 first_words : (d : Delims) (text : Text) → opening_at d text ≡ None → piece d false 0 text ≡ Some (all_words d text)
@@ -71,7 +71,7 @@ unfolding piece
 first_words d text h = rw h refl
 
 -- a text in which no start delimiter begins is read
-one_piece : (d : Delims) (text : Text) → opening_at d text ≡ None → 0 < length text → place (opens d) text ≡ length text
+one_piece : (d : Delims) (text : Text) → opening_at d text ≡ None → 0 < length text → position (opens d) text ≡ length text
     → cut d false 0 0 text ≡ (all_words d text).piece ∷ []
 one_piece d text o l e =
     let n : 0 < (all_words d text).next = omega arith in
@@ -81,22 +81,22 @@ one_piece d text o l e =
     ∙ ap (λ rest. (all_words d text).piece ∷ cut d false 0 (all_words d text).next rest) r
     ∙ ap (λ rest. (all_words d text).piece ∷ rest) (cut_nothing d false (all_words d text).next [] refl)
 
-unread_by : (q : Bool) (d : Delims) (text : Text) → opens d text ≡ q → 0 < length text → place (opens d) text ≡ length text → file max_tree_depth (pieces d text) ≡ None → ⊥
-unread_by true d text o l e h = let z = place_here (opens d) 0 text l o in absurd (omega arith)
+unread_by : (q : Bool) (d : Delims) (text : Text) → opens d text ≡ q → 0 < length text → position (opens d) text ≡ length text → file max_tree_depth (pieces d text) ≡ None → ⊥
+unread_by true d text o l e h = let z = position_here (opens d) 0 text l o in absurd (omega arith)
 unread_by false d text o l e h =
     let p = one_piece d text (unopened d text o) l e in
     let w = piece_read (all_words d text).piece tt in
     let f : file max_tree_depth (pieces d text) ≡ Some w.0 = ap (file max_tree_depth) p ∙ w.1 in cc
 
-unread_opens : (d : Delims) (text : Text) → place (opens d) text ≡ length text → file max_tree_depth (pieces d text) ≡ None → ⊥
+unread_opens : (d : Delims) (text : Text) → position (opens d) text ≡ length text → file max_tree_depth (pieces d text) ≡ None → ⊥
 unread_opens d [] e h = let f : file max_tree_depth (pieces d []) ≡ Some (record { parent = None; nodes = NoNodes }) = ap (file max_tree_depth) (cut_nothing d false 0 [] refl) in cc
 unread_opens d (b ∷ bs) e h = unread_by (opens d (b ∷ bs)) d (b ∷ bs) refl (omega arith) e h
 
 pub plain : (d : Delims) (text : Text) → file max_tree_depth (pieces d text) ≡ None → (at : ℕ) × IsTrue (opens d (drop at text))
 plain d text h =
-    let m = place_le (opens d) text in
-    by_order (place (opens d) text) (length text)
-    (λ l. (place (opens d) text, place_passes (opens d) text l))
+    let m = position_le (opens d) text in
+    by_order (position (opens d) text) (length text)
+    (λ l. (position (opens d) text, position_passes (opens d) text l))
     (λ l. absurd (unread_opens d text (omega arith) h))
 
 -- a text spells one tree at most

@@ -10,7 +10,7 @@ use Rattle.tera_syntax_tree.specs.Depth.{node_depth, nodes_depth}
 use Rattle.tera_syntax_tree.specs.declared.node.Node as declared
 use Rattle.tera_syntax_tree.specs.View.{node_of, nodes_of}
 use Rattle.tera_syntax.specs.Heads.{Head, ends}
-use Rattle.tera_syntax.specs.Reader.{OpenStatement, closed, join, one, shut, turned}
+use Rattle.tera_syntax.specs.Reader.{OpenStatement, closed, join, one, shut, divided}
 use Rattle.tera_syntax.specs.View.{statement_of, statements_of, head_of}
 use Rattle.tera_syntax.specs.declared.progress.OpenStatement as statement
 
@@ -52,14 +52,14 @@ module _ (fs : List statement.OpenStatement) {f : statement.OpenStatement} (last
   at_innermost : {A : Type 0} (one other : List OpenStatement → A) → ((rest : List OpenStatement) → one (statement_of f ∷ rest) ≡ other (statement_of f ∷ rest)) → one (statements_of fs) ≡ other (statements_of fs)
   at_innermost one other same = let t = innermost fs f last in ap one t.1 ∙ same t.0 ∙ sym (ap other t.1)
 
-  pub turned_innermost : (may : Head → Bool) (found : Nodes) → may (head_of f.head) ≡ true → turned (λ head. true) (statements_of fs) found ≡ turned may (statements_of fs) found
-  turned_innermost may found h = at_innermost (λ fs. turned (λ head. true) fs found) (λ fs. turned may fs found) (λ rest. rw h refl)
+  pub divided_innermost : (may : Head → Bool) (found : Nodes) → may (head_of f.head) ≡ true → divided (λ head. true) (statements_of fs) found ≡ divided may (statements_of fs) found
+  divided_innermost may found h = at_innermost (λ fs. divided (λ head. true) fs found) (λ fs. divided may fs found) (λ rest. rw h refl)
 
   pub shut_innermost : (tokens : List Token) (found : Nodes) → ends (head_of f.head) tokens ≡ true → closed (statements_of fs) found ≡ shut tokens (statements_of fs) found
   shut_innermost tokens found h = at_innermost (λ fs. closed fs found) (λ fs. shut tokens fs found) (λ rest. rw h refl)
 
-  pub turned_otherwise : (may : Head → Bool) (found : Nodes) → may (head_of f.head) ≡ false → turned may (statements_of fs) found ≡ None
-  turned_otherwise may found h = at_innermost (λ fs. turned may fs found) (λ fs. None) (λ rest. rw h refl)
+  pub divided_otherwise : (may : Head → Bool) (found : Nodes) → may (head_of f.head) ≡ false → divided may (statements_of fs) found ≡ None
+  divided_otherwise may found h = at_innermost (λ fs. divided may fs found) (λ fs. None) (λ rest. rw h refl)
 
   pub shut_otherwise : (tokens : List Token) (found : Nodes) → ends (head_of f.head) tokens ≡ false → shut tokens (statements_of fs) found ≡ None
   shut_otherwise tokens found h = at_innermost (λ fs. shut tokens fs found) (λ fs. None) (λ rest. rw h refl)

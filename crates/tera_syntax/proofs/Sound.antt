@@ -11,7 +11,7 @@ use Rattle.tera_syntax_tree.specs.Depth.{depth, entries_depth, filters_depth, pa
 use Rattle.tera_syntax.specs.declared.heads.Surroundings.{Surroundings}
 use Rattle.tera_syntax.specs.Heads.{Head, IfHead, ForHead, SetHead, SectionHead, BlockHead, CallHead, DefinitionHead, outside, nested, make, head_depth, splits, chains, inside, ends}
 use Rattle.tera_syntax.specs.Grammar.{IsWord, Opens, GoesOn, DerivesNodes, empty, content, blank, comment, print, single, bodied, DerivesRest, ended, split, chained}
-use Rattle.tera_syntax.specs.Reader.{OpenStatement, Progress, Tag, Single, Opening, GoingOn, Turning, Closing, join, one, printed, put, room, made, row, opened, turned, turned_by, aside, closed, shut, around, tag, taken, statement, run, nodes, whole}
+use Rattle.tera_syntax.specs.Reader.{OpenStatement, Progress, Tag, Single, Opening, GoingOn, Dividing, Closing, join, one, printed, put, room, made, row, opened, divided, divided_by, aside, closed, shut, around, tag, taken, statement, run, nodes, whole}
 use Rattle.tera_syntax.proofs.Rows.{join-none, join-join, deep}
 use Rattle.tera_syntax.proofs.Whole.{whole_sound}
 use Rattle.tera_syntax.proofs.OneTag.{Meant, tag_sound}
@@ -138,31 +138,31 @@ module _ (limit : ℕ) (i : List Piece) (x : Nodes) where
         let g = if_then (nat_lt (length fs) limit) (option_and_then (λ t. run limit t i)) (Some (at (inside h q) (asking found h false q ∷ fs) NoNodes)) x refl e in
         open-got q fs found h a (has-room (length fs) limit g.0) le (again (inside h q) (asking found h false q ∷ fs) NoNodes g.1)
 
-    goes-on-turned : Again → (q : Surroundings) (f : OpenStatement) (fs : List OpenStatement) (found : Nodes) (h : Head) → IsTrue (chains f.head) → GoesOn f.surroundings h tokens → head_depth h ≤ limit - suc (suc (length fs))
-        → (b : Option Nodes) → f.body ≡ b → option_and_then (λ t. run limit t i) (option_and_then (λ t. opened limit true t h) (turned_by f b fs found)) ≡ Some x → Goes limit q (f ∷ fs) found (Block tokens ∷ i) x
-    goes-on-turned again q f fs found h s a le (Some body) n e = absurd (cc)
-    goes-on-turned again q f fs found h s a le None n e =
+    goes-on-divided : Again → (q : Surroundings) (f : OpenStatement) (fs : List OpenStatement) (found : Nodes) (h : Head) → IsTrue (chains f.head) → GoesOn f.surroundings h tokens → head_depth h ≤ limit - suc (suc (length fs))
+        → (b : Option Nodes) → f.body ≡ b → option_and_then (λ t. run limit t i) (option_and_then (λ t. opened limit true t h) (divided_by f b fs found)) ≡ Some x → Goes limit q (f ∷ fs) found (Block tokens ∷ i) x
+    goes-on-divided again q f fs found h s a le (Some body) n e = absurd (cc)
+    goes-on-divided again q f fs found h s a le None n e =
         let to = half f found ∷ fs in
         let g = if_then (nat_lt (length to) limit) (option_and_then (λ t. run limit t i)) (Some (at (inside h f.surroundings) (asking NoNodes h true f.surroundings ∷ to) NoNodes)) x refl e in
         goes-on-got q f fs found h n s a (has-room (suc (length fs)) limit g.0) le (again (inside h f.surroundings) (asking NoNodes h true f.surroundings ∷ to) NoNodes g.1)
 
     goes-on-by : Again → (q : Surroundings) (fs : List OpenStatement) (found : Nodes) (h : Head) → GoesOn (around fs) h tokens → head_depth h ≤ limit - suc (length fs)
-        → option_and_then (λ t. run limit t i) (option_and_then (λ t. opened limit true t h) (turned chains fs found)) ≡ Some x → Goes limit q fs found (Block tokens ∷ i) x
+        → option_and_then (λ t. run limit t i) (option_and_then (λ t. opened limit true t h) (divided chains fs found)) ≡ Some x → Goes limit q fs found (Block tokens ∷ i) x
     goes-on-by again q [] found h a le e = absurd (cc)
     goes-on-by again q (f ∷ fs) found h a le e =
-        let g = if_then (chains f.head) (λ o. option_and_then (λ t. run limit t i) (option_and_then (λ t. opened limit true t h) o)) (turned_by f f.body fs found) x refl e in
-        goes-on-turned again q f fs found h g.0 a le f.body refl g.1
+        let g = if_then (chains f.head) (λ o. option_and_then (λ t. run limit t i) (option_and_then (λ t. opened limit true t h) o)) (divided_by f f.body fs found) x refl e in
+        goes-on-divided again q f fs found h g.0 a le f.body refl g.1
 
-    else-turned : Again → (q : Surroundings) (f : OpenStatement) (fs : List OpenStatement) (found : Nodes) → IsTrue (splits f.head) → IsWord k.Else (codes "else") tokens
-        → (b : Option Nodes) → f.body ≡ b → option_and_then (λ t. run limit t i) (option_map aside (turned_by f b fs found)) ≡ Some x → Goes limit q (f ∷ fs) found (Block tokens ∷ i) x
-    else-turned again q f fs found s a (Some body) n e = absurd (cc)
-    else-turned again q f fs found s a None n e = else-got q f fs found n s a (again (nested f.surroundings) (half f found ∷ fs) NoNodes e)
+    else-divided : Again → (q : Surroundings) (f : OpenStatement) (fs : List OpenStatement) (found : Nodes) → IsTrue (splits f.head) → IsWord k.Else (codes "else") tokens
+        → (b : Option Nodes) → f.body ≡ b → option_and_then (λ t. run limit t i) (option_map aside (divided_by f b fs found)) ≡ Some x → Goes limit q (f ∷ fs) found (Block tokens ∷ i) x
+    else-divided again q f fs found s a (Some body) n e = absurd (cc)
+    else-divided again q f fs found s a None n e = else-got q f fs found n s a (again (nested f.surroundings) (half f found ∷ fs) NoNodes e)
 
-    else-by : Again → (q : Surroundings) (fs : List OpenStatement) (found : Nodes) → IsWord k.Else (codes "else") tokens → option_and_then (λ t. run limit t i) (option_map aside (turned splits fs found)) ≡ Some x → Goes limit q fs found (Block tokens ∷ i) x
+    else-by : Again → (q : Surroundings) (fs : List OpenStatement) (found : Nodes) → IsWord k.Else (codes "else") tokens → option_and_then (λ t. run limit t i) (option_map aside (divided splits fs found)) ≡ Some x → Goes limit q fs found (Block tokens ∷ i) x
     else-by again q [] found a e = absurd (cc)
     else-by again q (f ∷ fs) found a e =
-        let g = if_then (splits f.head) (λ o. option_and_then (λ t. run limit t i) (option_map aside o)) (turned_by f f.body fs found) x refl e in
-        else-turned again q f fs found g.0 a f.body refl g.1
+        let g = if_then (splits f.head) (λ o. option_and_then (λ t. run limit t i) (option_map aside o)) (divided_by f f.body fs found) x refl e in
+        else-divided again q f fs found g.0 a f.body refl g.1
 
     end-by : Again → (q : Surroundings) (fs : List OpenStatement) (found : Nodes) → option_and_then (λ t. run limit t i) (shut tokens fs found) ≡ Some x → Goes limit q fs found (Block tokens ∷ i) x
     end-by again q [] found e = absurd (cc)
@@ -175,7 +175,7 @@ module _ (limit : ℕ) (i : List Piece) (x : Nodes) where
     taken-by again q fs found (Single n) m e = one-got q fs found n (Block tokens) (λ y l d. single m.0 d) m.1 again e
     taken-by again q fs found (Opening h) m e = opened-by again q fs found h m.0 m.1 e
     taken-by again q fs found (GoingOn h) m e = goes-on-by again q fs found h m.0 m.1 e
-    taken-by again q fs found Turning m e = else-by again q fs found m e
+    taken-by again q fs found Dividing m e = else-by again q fs found m e
     taken-by again q fs found Closing m e = end-by again q fs found e
 
     block : Again → (q : Surroundings) (fs : List OpenStatement) (found : Nodes) → option_and_then (λ t. run limit t i) (statement limit (at q fs found) tokens) ≡ Some x → Goes limit q fs found (Block tokens ∷ i) x
@@ -188,10 +188,10 @@ module _ (limit : ℕ) (i : List Piece) (x : Nodes) where
 goes : (limit : ℕ) (i : List Piece) (q : Surroundings) (fs : List OpenStatement) (found x : Nodes) → run limit (at q fs found) i ≡ Some x → Goes limit q fs found i x
 goes limit [] q [] found x h = done empty (omega arith) (join-none found ∙ (let q : found ≡ x = cc in q))
 goes limit [] q (f ∷ fs) found x h = absurd (cc)
-goes limit (Words [] place ∷ i) q fs found x h =
-    in_front limit q fs found NoNodes (Words [] place ∷ i) i x (λ y m d. blank d) (omega arith) (subst (λ n. Goes limit q fs n i x) (sym (join-none found)) (goes limit i q fs found x h))
-goes limit (Words (b ∷ bs) place ∷ i) q fs found x h =
-    one-got limit i x q fs found (Content (b ∷ bs) place) (Words (b ∷ bs) place) (λ y m d. content (λ q. cc) d) (omega arith) (λ q fs found h. goes limit i q fs found x h) h
+goes limit (Words [] position ∷ i) q fs found x h =
+    in_front limit q fs found NoNodes (Words [] position ∷ i) i x (λ y m d. blank d) (omega arith) (subst (λ n. Goes limit q fs n i x) (sym (join-none found)) (goes limit i q fs found x h))
+goes limit (Words (b ∷ bs) position ∷ i) q fs found x h =
+    one-got limit i x q fs found (Content (b ∷ bs) position) (Words (b ∷ bs) position) (λ y m d. content (λ q. cc) d) (omega arith) (λ q fs found h. goes limit i q fs found x h) h
 goes limit (Comment ∷ i) q fs found x h =
     in_front limit q fs found NoNodes (Comment ∷ i) i x (λ y m d. comment d) (omega arith) (subst (λ n. Goes limit q fs n i x) (sym (join-none found)) (goes limit i q fs found x h))
 goes limit (Variable tokens ∷ i) q fs found x h =

@@ -63,15 +63,15 @@ pub signed_complete : {s : Signature} {i j : Input} → DerivesSignature s i j �
 unfolding r.signed
 signed_complete {j = j} d e limit le = rw (signature_is d limit le, alike k.End (kind j) e) refl
 
--- a call's name and attributes, from behind the `<` that stands at a place
+-- a call's name and attributes, from behind the `<` that stands at a position
 pub record Calls (limit from : ℕ) (i : Input) (head : Head) : Type 0 where
   pub attributes : Entries
-  pub place : Input
+  pub position : Input
   pub word : is_word (kind i) ≡ true
-  pub derived : DerivesAttributes attributes (next i) place
-  pub shut : kind place ≡ k.Greater
-  pub end : kind (next place) ≡ k.End
-  pub made : CallHead (text i) attributes (span from (next place)) ≡ head
+  pub derived : DerivesAttributes attributes (next i) position
+  pub shut : kind position ≡ k.Greater
+  pub end : kind (next position) ≡ k.End
+  pub made : CallHead (text i) attributes (span from (next position)) ≡ head
   pub fits : entries_depth attributes ≤ limit
 
 called_from : (limit from : ℕ) (i : Input) (head : Head) (o : Parsed (Entries × ℕ)) → is_word (kind i) ≡ true → attributes limit (next i) ≡ o → r.call_ended (text i) from o ≡ Some head → Calls limit from i head
@@ -83,7 +83,7 @@ called_from limit from i head (Some p) w e h =
     let d = attributes_are_derived limit (next i) p.1 p.0 e in
     record {
       attributes = p.0.0;
-      place = p.1;
+      position = p.1;
       word = w;
       derived = d.0;
       shut = same-is k.Greater (kind p.1) g.0;

@@ -24,7 +24,7 @@ abbrev pub extending : Option Name → Option File
 extending = option_map (λ name. record { parent = Some name; is_front = false; progress = begun })
 
 abbrev pub is_front_piece : Piece → Bool
-is_front_piece (Words words place) = is_space words
+is_front_piece (Words words position) = is_space words
 is_front_piece Comment = true
 is_front_piece (Variable tokens) = false
 is_front_piece (Block tokens) = false
@@ -38,14 +38,14 @@ kept limit f piece =
     (step limit f.progress piece)
 
 abbrev pub is_extends_piece : Piece → Bool
-is_extends_piece (Words words place) = false
+is_extends_piece (Words words position) = false
 is_extends_piece Comment = false
 is_extends_piece (Variable tokens) = false
 is_extends_piece (Block tokens) = is_extends tokens
 is_extends_piece Broken = false
 
 abbrev pub parent_in : Piece → Option Name
-parent_in (Words words place) = None
+parent_in (Words words position) = None
 parent_in Comment = None
 parent_in (Variable tokens) = None
 parent_in (Block tokens) = quoted_name tokens

@@ -108,15 +108,15 @@ pub data GoesOn : Surroundings → Head → List Token → Type 0 where
       → DerivesWhole c (next (begin q.in_loop tokens)) → GoesOn q (IfHead c) tokens
 
 mutual
-  -- The pieces from the first place to the second are nodes in these surroundings.
+  -- The pieces from the first position to the second are nodes in these surroundings.
   pub data DerivesNodes : Surroundings → Nodes → List Piece → List Piece → Type 0 where
     empty : {q : Surroundings} {i : List Piece} → DerivesNodes q NoNodes i i
-    content : {q : Surroundings} {words : site.Text} {place : Span} {rest : Nodes}
+    content : {q : Surroundings} {words : site.Text} {position : Span} {rest : Nodes}
         {i j : List Piece} → words ≢ [] → DerivesNodes q rest i j
-        → DerivesNodes q (MoreNodes (Content words place) rest) (Words words place ∷ i) j
+        → DerivesNodes q (MoreNodes (Content words position) rest) (Words words position ∷ i) j
     -- text of which trimming leaves nothing is no node
-    blank : {q : Surroundings} {place : Span} {nodes : Nodes} {i j : List Piece}
-        → DerivesNodes q nodes i j → DerivesNodes q nodes (Words [] place ∷ i) j
+    blank : {q : Surroundings} {position : Span} {nodes : Nodes} {i j : List Piece}
+        → DerivesNodes q nodes i j → DerivesNodes q nodes (Words [] position ∷ i) j
     comment : {q : Surroundings} {nodes : Nodes} {i j : List Piece} → DerivesNodes q nodes i j
         → DerivesNodes q nodes (Comment ∷ i) j
     print : {q : Surroundings} {value : Expr} {tokens : List Token} {rest : Nodes}
@@ -151,11 +151,11 @@ Extends name tokens = Quotes (codes "extends") name tokens
 abbrev pub is_space : site.Text → Bool
 is_space words = length (trim_start words) == 0
 
--- The pieces from the first place to the second are white space and comments.
+-- The pieces from the first position to the second are white space and comments.
 pub data Front : List Piece → List Piece → Type 0 where
   nothing : {i : List Piece} → Front i i
-  space : {words : site.Text} {place : Span} {i j : List Piece} → IsTrue (is_space words)
-      → Front i j → Front (Words words place ∷ i) j
+  space : {words : site.Text} {position : Span} {i j : List Piece} → IsTrue (is_space words)
+      → Front i j → Front (Words words position ∷ i) j
   remark : {i j : List Piece} → Front i j → Front (Comment ∷ i) j
 
 -- All pieces of a text are nodes. Where it extends a template, the tag stands before them, and what

@@ -6,5 +6,5 @@ pub mod Reader
 pub mod File
 pub mod Names
 pub mod View
-pub mod Places
+pub mod Positions
 pub mod Laws

@@ -31,18 +31,18 @@ abbrev mutual
   blocks_at NoNodes = []
   blocks_at (MoreNodes n rest) = node_blocks_at n ++ blocks_at rest
 
--- where a text ends; behind any other node the place is the one before it
+-- where a text ends; behind any other node the position is the one before it
 abbrev pub end_after : ℕ → Node → ℕ
 end_after at (Content text span) = span.end
 end_after at _ = at
 
--- the components that a node defines; they stand at this place, on no text
+-- the components that a node defines; they stand at this position, on no text
 abbrev pub node_components_at : ℕ → Node → List NameAt
 node_components_at at node =
     map (λ d. (d.0.name, record { start = at; end = at })) (node_definitions node)
 
 -- the components that the nodes define, in the order of the text. Each stands where the last text
--- before it ends, and where there is none, at this place.
+-- before it ends, and where there is none, at this position.
 abbrev pub components_at : ℕ → Nodes → List NameAt
 components_at at NoNodes = []
 components_at at (MoreNodes n rest) =

@@ -105,9 +105,9 @@ opened limit is_chained s head =
       surroundings = inside head s.surroundings;
     }) else None
 
-abbrev pub turned_by : OpenStatement → Option Nodes → List OpenStatement → Nodes → Option Progress
-turned_by f (Some body) fs found = None
-turned_by f None fs found =
+abbrev pub divided_by : OpenStatement → Option Nodes → List OpenStatement → Nodes → Option Progress
+divided_by f (Some body) fs found = None
+divided_by f None fs found =
     Some (record {
       statements = record {
         before = f.before;
@@ -122,9 +122,9 @@ turned_by f None fs found =
 
 -- `else`, or the first half of a tag that goes on, at a head that may have it: what was read is the
 -- body
-abbrev pub turned : (Head → Bool) → List OpenStatement → Nodes → Option Progress
-turned may [] found = None
-turned may (f ∷ fs) found = if may f.head then turned_by f f.body fs found else None
+abbrev pub divided : (Head → Bool) → List OpenStatement → Nodes → Option Progress
+divided may [] found = None
+divided may (f ∷ fs) found = if may f.head then divided_by f f.body fs found else None
 
 -- what follows stands in the statement too
 abbrev pub aside : Progress → Progress
@@ -154,7 +154,7 @@ pub data Tag : Type 0 where
   -- it goes on with a statement
   GoingOn : (head : Head) → Tag
   -- `else`
-  Turning : Tag
+  Dividing : Tag
   -- any other, which may be an end
   Closing : Tag
 
@@ -211,7 +211,7 @@ call_ended name from (Some p) =
     else None) else None
 
 -- the name of a component and its attributes, no deeper than this, up to what closes the tag, which
--- starts at a place
+-- starts at a position
 unfoldable pub called : ℕ → ℕ → Input → Option Head
 called limit from i =
     if is_word (kind i) then call_ended (text i) from (attributes limit (next i)) else None
@@ -279,7 +279,7 @@ tag_by limit q outer tokens k.For =
     option_map Opening (looping limit (next (begin q.in_loop tokens)))
 tag_by limit q outer tokens k.Elif =
     option_map (λ c. GoingOn (IfHead c)) (whole limit (next (begin outer.in_loop tokens)))
-tag_by limit q outer tokens k.Else = alone (codes "else") tokens Turning
+tag_by limit q outer tokens k.Else = alone (codes "else") tokens Dividing
 tag_by limit q outer tokens k.Less = calling limit (begin q.in_loop tokens)
 tag_by limit q outer tokens k.Name = named limit q tokens (text (begin false tokens))
 tag_by limit q outer tokens _ = None
@@ -293,8 +293,8 @@ abbrev pub taken : ℕ → Progress → List Token → Tag → Option Progress
 taken limit s tokens (Single node) = put limit s node
 taken limit s tokens (Opening head) = opened limit false s head
 taken limit s tokens (GoingOn head) =
-    option_and_then (λ t. opened limit true t head) (turned chains s.statements s.found)
-taken limit s tokens Turning = option_map aside (turned splits s.statements s.found)
+    option_and_then (λ t. opened limit true t head) (divided chains s.statements s.found)
+taken limit s tokens Dividing = option_map aside (divided splits s.statements s.found)
 taken limit s tokens Closing = shut tokens s.statements s.found
 
 -- a statement, or a tag that belongs to one
@@ -309,12 +309,12 @@ printed limit s (Some value) = put limit s (Print value)
 
 -- text of which trimming leaves nothing is no node
 abbrev pub put_words : ℕ → Progress → Text → Span → Option Progress
-put_words limit s [] place = Some s
-put_words limit s (b ∷ bs) place = put limit s (Content (b ∷ bs) place)
+put_words limit s [] position = Some s
+put_words limit s (b ∷ bs) position = put limit s (Content (b ∷ bs) position)
 
 -- a piece more, where nodes are no deeper than this
 abbrev pub step : ℕ → Progress → Piece → Option Progress
-step limit s (Words words place) = put_words limit s words place
+step limit s (Words words position) = put_words limit s words position
 step limit s Comment = Some s
 step limit s (Variable tokens) =
     printed limit s (whole (room limit s) (begin s.surroundings.in_loop tokens))

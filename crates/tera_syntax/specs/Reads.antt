@@ -34,4 +34,4 @@ Reads name d text (Err fault) = IsSyntaxError name text fault × SpellsNone name
 -- A text in which no start delimiter begins is read.
 abbrev pub ReadsPlainText : Delims → Text → Result Tree Fault → Type 0
 ReadsPlainText d text (Ok tree) = Unit {0}
-ReadsPlainText d text (Err fault) = (place : ℕ) × IsTrue (opens d (drop place text))
+ReadsPlainText d text (Err fault) = (position : ℕ) × IsTrue (opens d (drop position text))

@@ -2,7 +2,7 @@
 ghost use Rattle.std.specs.Prelude.{ℕ, ◌≡◌, ◌≤◌, IfOk, IfErr};
 ghost use Rattle.tera_syntax.specs.File as spec;
 ghost use Rattle.tera_syntax.specs.Names.{again, blocks_at, components_at, doubled, end_after, node_blocks_at, node_components_at, RefusesOnly, tree_doubled};
-ghost use Rattle.tera_syntax.specs.Places.{NamesWithin, StayWithin};
+ghost use Rattle.tera_syntax.specs.Positions.{NamesWithin, StayWithin};
 ghost use Rattle.tera_syntax.specs.View.{Gathers, names_of};
 ghost use Rattle.tera_syntax_tokens.specs.Prelude.{Answers, PointsWithin};
 ghost use Rattle.tera_syntax_tokens.specs.declared.refusal.Refusal.TheVariants.{OutOfMemory};
@@ -94,7 +94,7 @@ fn gather_component<'s>(
     Ok(())
 }
 
-/// Where a text ends, and before any other node the place that is given.
+/// Where a text ends, and before any other node the position that is given.
 fn end_of(node: &Node<'_>, at: usize) -> usize
     ensures value { result ≡ end_after at (node_of node.now) }
     ensures points { (size : ℕ) → NodeInside size (node_of node.now) → at ≤ size → result ≤ size }

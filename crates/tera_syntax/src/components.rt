@@ -36,7 +36,7 @@ pub(crate) fn call<'s>(
     progress.open(alloc, false, head, tag)
 }
 
-/// The name of a component and its attributes, up to what closes the tag, which starts at a place.
+/// The name of a component and its attributes, up to what closes the tag, which starts at a position.
 #[tactic(auto, unfolding(crate::specs::Reader::called))]
 fn called<'s>(
     alloc: Global,

@@ -2,7 +2,7 @@
 ghost use Rattle.std.specs.Prelude.{ℕ, ◌≡◌, IfErr, List};
 ghost use Rattle.tera_syntax.specs.File as spec;
 ghost use Rattle.tera_syntax.specs.Grammar.{is_space};
-ghost use Rattle.tera_syntax.specs.Places.{StandsWithin};
+ghost use Rattle.tera_syntax.specs.Positions.{StandsWithin};
 ghost use Rattle.tera_syntax.specs.Reader.{quoted_name};
 ghost use Rattle.tera_syntax.specs.View.{FileBecomes, file_of};
 ghost use Rattle.tera_syntax_tokens.specs.Prelude.{Answers, IsSyntax, piece_of, PointsWithin, PieceInside, tokens_of};
@@ -11,7 +11,7 @@ ghost use Rattle.tera_syntax_tree.specs.Depth.{max_tree_depth};
 ghost use Rattle.tera_syntax_tree.specs.Prelude.{tree_of};
 
 use crate::heads::is_extends;
-use crate::places::PieceSpans;
+use crate::positions::PieceSpans;
 use crate::progress::Progress;
 use crate::statements::{behind, step};
 use crate::words::quoted_name;

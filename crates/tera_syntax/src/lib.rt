@@ -6,7 +6,7 @@ mod components;
 mod file;
 mod heads;
 pub mod laws;
-mod places;
+mod positions;
 mod progress;
 pub mod reader;
 mod statements;

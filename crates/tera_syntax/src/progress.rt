@@ -184,22 +184,22 @@ impl<'s> Progress<'s> {
     /// `else`: what was read is the body.
     pub fn split(&mut self, alloc: Global, tag: &[Token<'_>]) -> Result<(), Refusal>
         ensures { let s = progress_of self.old in
-            let meant = option_map spec.aside (spec.turned heads.splits s.statements s.found) in
+            let meant = option_map spec.aside (spec.divided heads.splits s.statements s.found) in
             Becomes meant result self.new }
     {
         match self.statements.last() {
-            Some(statement) if statement.head.splits() => self.turn_aside(alloc, tag),
+            Some(statement) if statement.head.splits() => self.divide_aside(alloc, tag),
             _ => Err(refused(tag, Reason::NotOpen)),
         }
     }
 
     /// The same where it may have an `else`.
-    fn turn_aside(&mut self, alloc: Global, tag: &[Token<'_>]) -> Result<(), Refusal>
+    fn divide_aside(&mut self, alloc: Global, tag: &[Token<'_>]) -> Result<(), Refusal>
         ensures { let s = progress_of self.old in
-            let meant = option_map spec.aside (spec.turned (λ head. true) s.statements s.found) in
+            let meant = option_map spec.aside (spec.divided (λ head. true) s.statements s.found) in
             Becomes meant result self.new }
     {
-        match self.turn(alloc, tag) {
+        match self.divide(alloc, tag) {
             Ok(()) => {
                 self.surroundings = self.surroundings.nested();
                 Ok(())
@@ -211,17 +211,17 @@ impl<'s> Progress<'s> {
     /// The first half of a tag that goes on with a statement: what was read is the body.
     pub fn go_on(&mut self, alloc: Global, tag: &[Token<'_>]) -> Result<(), Refusal>
         ensures { let s = progress_of self.old in
-            Becomes (spec.turned heads.chains s.statements s.found) result self.new }
+            Becomes (spec.divided heads.chains s.statements s.found) result self.new }
     {
         match self.statements.last() {
-            Some(statement) if statement.head.chains() => self.turn(alloc, tag),
+            Some(statement) if statement.head.chains() => self.divide(alloc, tag),
             _ => Err(refused(tag, Reason::NotOpen)),
         }
     }
 
-    fn turn(&mut self, alloc: Global, tag: &[Token<'_>]) -> Result<(), Refusal>
+    fn divide(&mut self, alloc: Global, tag: &[Token<'_>]) -> Result<(), Refusal>
         ensures { let s = progress_of self.old in
-            Becomes (spec.turned (λ head. true) s.statements s.found) result self.new }
+            Becomes (spec.divided (λ head. true) s.statements s.found) result self.new }
     {
         let Some(mut statement) = self.statements.pop() else {
             return Err(refused(tag, Reason::NotOpen));

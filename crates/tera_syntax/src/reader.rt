@@ -10,7 +10,7 @@ ghost use Rattle.tera_syntax_tree.specs.Prelude.{accepted, delimiters_of, Inside
 
 use crate::blocks::once;
 use crate::file::File;
-use crate::places::{PieceSpans, pointed, refused_at};
+use crate::positions::{PieceSpans, pointed, refused_at};
 use std::alloc::Global;
 use tera_errors::{Error, TeraResult};
 use tera_syntax_tokens::cut::next_piece;

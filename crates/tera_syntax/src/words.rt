@@ -119,7 +119,7 @@ pub(crate) fn quoted_name<'s>(
     ahead: &mut Tokens<'_, 's>,
 ) -> Result<Quoted<'s>, Refusal>
     ensures value { Answers quoted_of (spec.quoted_name_at (input ahead.old)) result }
-    ensures place { IfOk result (λ name. input ahead.new ≡ next (input ahead.old)) }
+    ensures position { IfOk result (λ name. input ahead.new ≡ next (input ahead.old)) }
 {
     if ahead.kind() != Kind::Text {
         return Err(ahead.refuse(Reason::Expected(Kind::Text)));

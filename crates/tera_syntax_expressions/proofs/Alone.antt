@@ -12,7 +12,7 @@ use Rattle.tera_syntax_expressions.proofs.Steps as steps
 use Rattle.tera_syntax_expressions.proofs.Extent.{next-left}
 use Rattle.tera_syntax_expressions.proofs.ArgumentRows.{no-call, call-opens}
 use Rattle.tera_syntax_expressions.proofs.GoingOn.{le-true}
-use Rattle.tera_syntax_expressions.proofs.Turning.{stay}
+use Rattle.tera_syntax_expressions.proofs.Climbing.{stay}
 
 -- this operand, at this level, before this token
 abbrev pub alone : ℕ → Kind → Kind → Bool

@@ -9,8 +9,8 @@ use Rattle.tera_syntax_expressions.specs.Arguments.{name_cmp, put_argument, IsBe
 use Rattle.tera_syntax_expressions.specs.Grammar.{argument, DerivesArguments, no_arguments, one_argument, more_arguments}
 use Rattle.tera_syntax_expressions.proofs.ArgumentRows.{put_by}
 
-turned : (n m : Name) → name_cmp n m ≡ Greater → name_cmp m n ≡ Less
-turned n m h = nat_list_cmp_total.antisymm m n ∙ ap ordering_reverse h
+flipped : (n m : Name) → name_cmp n m ≡ Greater → name_cmp m n ≡ Less
+flipped n m h = nat_list_cmp_total.antisymm m n ∙ ap ordering_reverse h
 
 -- what is put behind a name
 put-behind : (k n : Name) (x : Expr) (found all : Arguments) → put_argument n x found ≡ Some all → name_cmp k n ≡ Less → IsBefore k found → IsBefore k all
@@ -34,7 +34,7 @@ put-in-order n x (MoreArguments m y rest) all h p = go (λ more e. put-in-order 
     behind again c None e h = cc
     behind again c (Some more) e h =
         let f : MoreArguments m y more ≡ all = cc in
-        subst AreInOrder f (put-behind m n x rest more e (turned n m c) p.0, again more e)
+        subst AreInOrder f (put-behind m n x rest more e (flipped n m c) p.0, again more e)
 
     go : ((more : Arguments) → put_argument n x rest ≡ Some more → AreInOrder more) → (o : Ordering) → name_cmp n m ≡ o → put_by o n x m y rest ≡ Some all → AreInOrder all
     go again Less c h = let e : MoreArguments n x (MoreArguments m y rest) ≡ all = cc in subst AreInOrder e (c, p)

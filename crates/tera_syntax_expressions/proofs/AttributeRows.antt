@@ -15,7 +15,7 @@ use Rattle.tera_syntax_expressions.proofs.Steps.{and_then-some, guard, chosen, s
 use Rattle.tera_syntax_expressions.proofs.Rows.{join-no-entries, join-entries}
 use Rattle.tera_syntax_expressions.proofs.Forms.{deep-node, expects}
 use Rattle.tera_syntax_expressions.proofs.ArgumentRows.{Reads, named-got}
-use Rattle.tera_syntax_expressions.proofs.Turns.{one_more}
+use Rattle.tera_syntax_expressions.proofs.Rounds.{one_more}
 
 -- no word is a brace
 word-no-brace : (s : Kind) → is_word s ≡ true → same k.LeftBrace s ≡ false
@@ -37,7 +37,7 @@ unfolding begins_attribute is_word
 ends-attributes s (inl h) = ap begins_attribute h ∙ differ k.LeftBrace k.TagEnd k.TagEnd refl (λ e. cc)
 ends-attributes s (inr h) = ap begins_attribute h ∙ differ k.LeftBrace k.Greater k.Greater refl (λ e. cc)
 
--- the turns of the loop that reads them
+-- the rounds of the loop that reads them
 module _ (limit : ℕ) (part : ℕ → Parser Deep) where
   abbrev pub attributes-behind : ℕ → ℕ → Entries × ℕ → Parser (Entries × ℕ)
   attributes-behind n d p = r.attributes_from limit part n p.0 (max d p.1)
@@ -55,11 +55,11 @@ module _ (limit : ℕ) (part : ℕ → Parser Deep) where
       → r.attributes_from limit part n p.0 (max d p.1) a ≡ y → r.attributes_from limit part (suc n) found d i ≡ y
   attributes-more n found d p i a y h e q = attributes-next n found d i h ∙ ap (λ o. and_then o (attributes-behind n d)) e ∙ q
 
-  -- a turn of the loop that finds one
-  pub attributes-turn : {meant : Parsed (Entries × ℕ)} (n at : ℕ) (found : Entries) (d : ℕ) (i : Input) → at < n → meant ≡ r.attributes_from limit part (n - at) found d i → begins_attribute (kind i) ≡ true
+  -- a round of the loop that finds one
+  pub attributes-round : {meant : Parsed (Entries × ℕ)} (n at : ℕ) (found : Entries) (d : ℕ) (i : Input) → at < n → meant ≡ r.attributes_from limit part (n - at) found d i → begins_attribute (kind i) ≡ true
       → {o : Parsed (Entries × ℕ)} → r.any_attribute limit part found i ≡ o → meant ≡ and_then o (attributes-behind (n - (at + 1)) d)
-  attributes-turn n at found d i lt turn h e =
-      one_more (λ n. r.attributes_from limit part n found d i) n at lt turn ∙ attributes-next (n - (at + 1)) found d i h ∙ ap (λ o. and_then o (attributes-behind (n - (at + 1)) d)) e
+  attributes-round n at found d i lt round h e =
+      one_more (λ n. r.attributes_from limit part n found d i) n at lt round ∙ attributes-next (n - (at + 1)) found d i h ∙ ap (λ o. and_then o (attributes-behind (n - (at + 1)) d)) e
 
   -- an attribute that was read, behind those that were found
   pub named_read : (found : Entries) (i m j : Input) (x : Deep) → argument_name i ≡ Some (text i, m) → r.attribute_value limit part m ≡ Some (x, j)

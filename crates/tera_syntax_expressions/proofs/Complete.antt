@@ -19,7 +19,7 @@ use Rattle.tera_syntax_expressions.proofs.Alone.{called_no_loop}
 use Rattle.tera_syntax_expressions.proofs.ArgumentRows.{put-depth, grown, call-depth, argument-is, arguments-none, arguments-one, arguments-more, call-is}
 use Rattle.tera_syntax_expressions.proofs.AttributeRows.{attribute-begins, ends-attributes, attributes-stop, attributes-more, text-is, value-is, named-is, spread-is, component-is}
 use Rattle.tera_syntax_expressions.proofs.Passing.{given-none, given-some, filter-is, test-is, not_test-is}
-use Rattle.tera_syntax_expressions.proofs.Turning.{close, lower, reading-open, Goes, whole, part-read, goes-on, goes-first, head-is, goes-leaf}
+use Rattle.tera_syntax_expressions.proofs.Climbing.{close, lower, reading-open, Goes, whole, part-read, goes-on, goes-first, head-is, goes-leaf}
 
 mutual
   goes : {l : ℕ} {x : Expr} {i j : Input} → Derives l x i j → Goes l x i j

@@ -1,4 +1,4 @@
--- Filters in a row, one behind another, and the turns of the loop that reads them.
+-- Filters in a row, one behind another, and the rounds of the loop that reads them.
 use Rattle.std.proofs.Common.{◌≡◌, ℕ, suc, ◌+◌, ◌-◌, ◌<◌, ◌≤◌, max, List, [], ◌∷◌, ◌++◌, true, false, nat_lt, Option, Some, refl, sym, ◌∙◌, ap, ap₂, arith}
 use Rattle.std.proofs.lemmas.Grind.{common_steps}
 use Rattle.tera_syntax_tree.specs.declared.node.SectionFilter.{SectionFilter}
@@ -12,7 +12,7 @@ use Rattle.tera_syntax_tokens.specs.Input.{Input, Parsed, Parser, and_then, kind
 use Rattle.tera_syntax_expressions.specs.Expressions as r
 use Rattle.tera_syntax_expressions.specs.Expressions.{Deep, join_filters, one_filter}
 use Rattle.tera_syntax_expressions.proofs.Steps.{unlike, alike}
-use Rattle.tera_syntax_expressions.proofs.Turns.{one_more}
+use Rattle.tera_syntax_expressions.proofs.Rounds.{one_more}
 
 pub filters_of-push : (all : List SectionFilter) (f : SectionFilter) → filters_of (all ++ f ∷ []) ≡ join_filters (filters_of all) (one_filter f.name.now (arguments_of f.arguments.items) f.span)
 filters_of-push [] f = refl
@@ -61,17 +61,17 @@ module _ (limit : ℕ) (sub : ℕ → Parser Deep) where
   pub filters_end : (n d : ℕ) (p : Filters × ℕ) (j : Input) → same Bar (kind j) ≡ false → filters_behind n d p j ≡ Some ((p.0, max d p.1), j)
   filters_end n d p j h = rw h refl
 
-  -- a turn of the loop: a filter, the bar behind it, and no bar
-  module _ {meant : Parsed (Filters × ℕ)} (n at : ℕ) (found : Filters) (d : ℕ) (i : Input) (lt : at < n) (turn : meant ≡ r.filters_from limit sub (n - at) found d i) where
-    pub filters_turn : {o : Parsed (Filters × ℕ)} → r.section_filter limit sub found i ≡ o → meant ≡ and_then o (filters_behind (n - (at + 1)) d)
-    filters_turn e = one_more (λ n. r.filters_from limit sub n found d i) n at lt turn ∙ filters_next (n - (at + 1)) found d i ∙ ap (λ o. and_then o (filters_behind (n - (at + 1)) d)) e
+  -- a round of the loop: a filter, the bar behind it, and no bar
+  module _ {meant : Parsed (Filters × ℕ)} (n at : ℕ) (found : Filters) (d : ℕ) (i : Input) (lt : at < n) (round : meant ≡ r.filters_from limit sub (n - at) found d i) where
+    pub filters_round : {o : Parsed (Filters × ℕ)} → r.section_filter limit sub found i ≡ o → meant ≡ and_then o (filters_behind (n - (at + 1)) d)
+    filters_round e = one_more (λ n. r.filters_from limit sub n found d i) n at lt round ∙ filters_next (n - (at + 1)) found d i ∙ ap (λ o. and_then o (filters_behind (n - (at + 1)) d)) e
 
     pub filters_more : {all : Filters} {b : ℕ} {j : Input} → r.section_filter limit sub found i ≡ Some ((all, b), j) → same Bar (kind j) ≡ true → {most : ℕ} → most ≡ max d b → {a : Input} → a ≡ next j
         → meant ≡ r.filters_from limit sub (n - (at + 1)) all most a
-    filters_more {all = all} {b = b} {j = j} e h f g = filters_turn e ∙ filters_bar (n - (at + 1)) d (all, b) j h ∙ ap₂ (r.filters_from limit sub (n - (at + 1)) all) (sym f) (sym g)
+    filters_more {all = all} {b = b} {j = j} e h f g = filters_round e ∙ filters_bar (n - (at + 1)) d (all, b) j h ∙ ap₂ (r.filters_from limit sub (n - (at + 1)) all) (sym f) (sym g)
 
     pub filters_over : {all : Filters} {b : ℕ} {j : Input} → r.section_filter limit sub found i ≡ Some ((all, b), j) → same Bar (kind j) ≡ false → {most : ℕ} → most ≡ max d b → meant ≡ Some ((all, most), j)
-    filters_over {all = all} {b = b} {j = j} e h f = filters_turn e ∙ filters_end (n - (at + 1)) d (all, b) j h ∙ ap (λ m. Some ((all, m), j)) (sym f)
+    filters_over {all = all} {b = b} {j = j} e h f = filters_round e ∙ filters_end (n - (at + 1)) d (all, b) j h ∙ ap (λ m. Some ((all, m), j)) (sym f)
 
   -- what is derived is read: the last filter, and one with more behind it
   pub filter-last : (n : ℕ) (found : Filters) (d : ℕ) (all : Arguments) (i j : Input) → is_word (kind i) ≡ true → r.given limit sub (next i) ≡ Some ((all, arguments_depth all), j) → suc (arguments_depth all) ≤ limit

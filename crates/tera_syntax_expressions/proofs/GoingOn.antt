@@ -10,7 +10,7 @@ use Rattle.tera_syntax_tokens.specs.Input.{Input}
 use Rattle.tera_syntax_expressions.specs.Grammar.{Operator, or, and, equal, not_equal, less, greater, less_or_equal, greater_or_equal, is_in, concat, add, subtract, multiply, divide, floor_divide, remainder, Dot, dot, optional_dot, Bracket, bracket, optional_bracket, Derives, quoted, tighter, choice, operation, not, not_in, minus, power, attribute, index, slice, int, is_true, is_false, nothing, name, of_loop, parentheses, array, map, comprehension, call, component, filter, test, not_test}
 use Rattle.tera_syntax_expressions.specs.Expressions.{needs, gives, begins, goes_on}
 
--- No operator in this place binds more tightly than the level.
+-- No operator in this position binds more tightly than the level.
 abbrev pub Stops : ℕ → Kind → Type 0
 Stops l s = (needs s ≤ l) ⊎ (11 < needs s)
 

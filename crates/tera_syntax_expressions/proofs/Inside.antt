@@ -12,12 +12,12 @@ use Rattle.tera_syntax_expressions.proofs.Calls.{calls_lie}
 use Rattle.tera_syntax_expressions.proofs.ArgumentRows.{put-inside, call-inside}
 use Rattle.tera_syntax_expressions.proofs.Extent.{word-some}
 
--- what was read between two places, in order, lies inside
+-- what was read between two positions, in order, lies inside
 pub record Read (size : ℕ) (P : Type 0) (i j : Input) : Type 0 where
   pub inside : P
   pub onward : Onward size i j
 
--- the same of an expression, which begins where the first place does
+-- the same of an expression, which begins where the first position does
 pub record Lies (size : ℕ) (x : Expr) (i j : Input) : Type 0 where
   pub inside : ExprInside size x
   pub starts : start i ≤ j.last
@@ -44,7 +44,7 @@ module _ (size : ℕ) where
   leaf : {y : Expr} (s : Kind) (i : Input) → kind i ≡ s → (s ≡ k.End → ⊥) → Orderly size i → (Within size (span (start i) (next i)) → ExprInside size y) → Lies size y i (next i)
   leaf s i e n o f = begins s i e n o (onward_none size (next i) (onward_next size i o).orderly) f
 
-  operated : {s : Kind} {form : Expr → Expr → Span → Expr} {l : ℕ} {place : Span} → Operator s form l → (x y : Expr) → ExprInside size x → ExprInside size y → Within size place → ExprInside size (form x y place)
+  operated : {s : Kind} {form : Expr → Expr → Span → Expr} {l : ℕ} {position : Span} → Operator s form l → (x y : Expr) → ExprInside size x → ExprInside size y → Within size position → ExprInside size (form x y position)
   operated or x y a b w = (a, b, w)
   operated and x y a b w = (a, b, w)
   operated equal x y a b w = (a, b, w)

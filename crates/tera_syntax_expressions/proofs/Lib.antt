@@ -1,4 +1,4 @@
-pub mod Turns
+pub mod Rounds
 pub mod Steps
 pub mod GoingOn
 pub mod Rows
@@ -18,7 +18,7 @@ pub mod Fit
 pub mod ParameterRows
 pub mod Written
 pub mod Signatures
-pub mod Turning
+pub mod Climbing
 pub mod Complete
 pub mod Inside
 pub mod Sections

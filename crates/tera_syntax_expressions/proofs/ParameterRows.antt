@@ -1,4 +1,4 @@
--- Parameters with commas between: the turns of the loop that reads them.
+-- Parameters with commas between: the rounds of the loop that reads them.
 use Rattle.std.proofs.Common.{◌≡◌, ℕ, suc, ◌+◌, ◌-◌, ◌<◌, List, [], ◌∷◌, ◌++◌, map, true, false, Option, Some, None, refl, sym, ap, ◌∙◌}
 use Rattle.tera_errors.specs.Site.{Name}
 use Rattle.std.proofs.lemmas.List.{map-append}
@@ -9,7 +9,7 @@ use Rattle.tera_syntax_tokens.specs.declared.token.Kind.TheVariants.{Spread, Com
 use Rattle.tera_syntax_tokens.specs.Input.{Input, Parsed, Parser, and_then, kind, next, same}
 use Rattle.tera_syntax_expressions.specs.Headings.{name}
 use Rattle.tera_syntax_expressions.specs.Parameters.{parameter, with_parameter, rest_name, behind_parameter, parameters_from}
-use Rattle.tera_syntax_expressions.proofs.Turns.{one_more}
+use Rattle.tera_syntax_expressions.proofs.Rounds.{one_more}
 
 pub rest_named : (found : List Parameter) (i j : Input) (n : Name) → name i ≡ Some (n, j) → rest_name found i ≡ Some ((found, Some n), j)
 unfolding rest_name
@@ -43,18 +43,18 @@ module _ (limit : ℕ) where
   pub parameters_end : (n : ℕ) (found : List Parameter) (j : Input) → same Comma (kind j) ≡ false → parameters_behind n found j ≡ Some ((found, None), j)
   parameters_end n found j h = rw h refl
 
-  -- a turn of the loop: what takes all others, a parameter, the comma behind it, and no comma
-  module _ {meant : Parsed (List Parameter × Option Name)} (n at : ℕ) (found : List Parameter) (i : Input) (lt : at < n) (turn : meant ≡ parameters_from limit (n - at) found i) where
+  -- a round of the loop: what takes all others, a parameter, the comma behind it, and no comma
+  module _ {meant : Parsed (List Parameter × Option Name)} (n at : ℕ) (found : List Parameter) (i : Input) (lt : at < n) (round : meant ≡ parameters_from limit (n - at) found i) where
     pub parameters_last : same Spread (kind i) ≡ true → {a : Input} → a ≡ next i → {o : Parsed Name} → name a ≡ o → meant ≡ and_then o (λ rest. λ j. Some ((found, Some rest), j))
     unfolding rest_name
-    parameters_last h {a = a} f e = one_more (λ n. parameters_from limit n found i) n at lt turn ∙ parameters_rest (n - (at + 1)) found i h ∙ ap (rest_name found) (sym f) ∙ ap (λ o. and_then o (λ rest. λ j. Some ((found, Some rest), j))) e
+    parameters_last h {a = a} f e = one_more (λ n. parameters_from limit n found i) n at lt round ∙ parameters_rest (n - (at + 1)) found i h ∙ ap (rest_name found) (sym f) ∙ ap (λ o. and_then o (λ rest. λ j. Some ((found, Some rest), j))) e
 
-    pub parameters_turn : same Spread (kind i) ≡ false → {o : Parsed (List Parameter)} → with_parameter limit found i ≡ o → meant ≡ and_then o (parameters_behind (n - (at + 1)))
-    parameters_turn h e = one_more (λ n. parameters_from limit n found i) n at lt turn ∙ parameters_next (n - (at + 1)) found i h ∙ ap (λ o. and_then o (parameters_behind (n - (at + 1)))) e
+    pub parameters_round : same Spread (kind i) ≡ false → {o : Parsed (List Parameter)} → with_parameter limit found i ≡ o → meant ≡ and_then o (parameters_behind (n - (at + 1)))
+    parameters_round h e = one_more (λ n. parameters_from limit n found i) n at lt round ∙ parameters_next (n - (at + 1)) found i h ∙ ap (λ o. and_then o (parameters_behind (n - (at + 1)))) e
 
     pub parameters_more : same Spread (kind i) ≡ false → {all : List Parameter} {j : Input} → with_parameter limit found i ≡ Some (all, j) → same Comma (kind j) ≡ true → {a : Input} → a ≡ next j
         → meant ≡ parameters_from limit (n - (at + 1)) all a
-    parameters_more h {all = all} {j = j} e c f = parameters_turn h e ∙ parameters_comma (n - (at + 1)) all j c ∙ ap (parameters_from limit (n - (at + 1)) all) (sym f)
+    parameters_more h {all = all} {j = j} e c f = parameters_round h e ∙ parameters_comma (n - (at + 1)) all j c ∙ ap (parameters_from limit (n - (at + 1)) all) (sym f)
 
     pub parameters_over : same Spread (kind i) ≡ false → {all : List Parameter} {j : Input} → with_parameter limit found i ≡ Some (all, j) → same Comma (kind j) ≡ false → meant ≡ Some ((all, None), j)
-    parameters_over h {all = all} {j = j} e c = parameters_turn h e ∙ parameters_end (n - (at + 1)) all j c
+    parameters_over h {all = all} {j = j} e c = parameters_round h e ∙ parameters_end (n - (at + 1)) all j c

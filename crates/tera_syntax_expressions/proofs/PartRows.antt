@@ -1,4 +1,4 @@
--- Parts with commas between, one behind another, and the turns of the loop that reads them.
+-- Parts with commas between, one behind another, and the rounds of the loop that reads them.
 use Rattle.std.proofs.Common.{◌≡◌, ℕ, zero, suc, ◌+◌, ◌-◌, ◌<◌, ◌≤◌, List, [], ◌∷◌, ◌++◌, true, false, Some, None, refl, ap, sym, ◌∙◌, arith}
 use Rattle.tera_syntax_tree.specs.declared.component.Literal as declared
 use Rattle.tera_syntax_tree.specs.declared.component.LiteralEntry as entry
@@ -8,7 +8,7 @@ use Rattle.tera_syntax_tokens.specs.declared.token.Kind.{Kind}
 use Rattle.tera_syntax_tokens.specs.declared.token.Kind.TheVariants.{Comma}
 use Rattle.tera_syntax_tokens.specs.Input.{Input, Parsed, Parser, and_then, kind, next, left, same}
 use Rattle.tera_syntax_expressions.specs.Literals.{closed, behind_part, parts_from, join_literals, one_literal, join_literal_entries, one_literal_entry, written, written_by}
-use Rattle.tera_syntax_expressions.proofs.Turns.{one_more, no_more}
+use Rattle.tera_syntax_expressions.proofs.Rounds.{one_more, no_more}
 
 module _ {A : Type 0} (closing : Kind) (step : A → Parser A) where
   pub parts_end : (n : ℕ) (found : A) (i : Input) → same closing (kind i) ≡ true → parts_from closing step (suc n) found i ≡ Some (found, next i)
@@ -35,21 +35,21 @@ module _ {A : Type 0} (closing : Kind) (step : A → Parser A) where
   unfolding parts_from
   parts_none found i = refl
 
-  pub turn_first : (n : ℕ) (first found : A) (i : Input) → n ≡ left i → found ≡ first → parts_from closing step (left i) first i ≡ parts_from closing step (n - 0) found i
-  turn_first n first found i e f =
+  pub round_first : (n : ℕ) (first found : A) (i : Input) → n ≡ left i → found ≡ first → parts_from closing step (left i) first i ≡ parts_from closing step (n - 0) found i
+  round_first n first found i e f =
       let z : left i ≡ n - 0 = sym e ∙ omega arith in
       ap (λ n. parts_from closing step n first i) z ∙ ap (λ f. parts_from closing step (n - 0) f i) (sym f)
 
-  -- A turn of the loop: what closes, a part and what is behind it, and no part
+  -- A round of the loop: what closes, a part and what is behind it, and no part
   module _ {X : Parsed A} (n at : ℕ) (found : A) (i : Input) where
-    pub turn_end : at < n → X ≡ parts_from closing step (n - at) found i → same closing (kind i) ≡ true → (j : Input) → j ≡ next i → X ≡ Some (found, j)
-    turn_end lt e s j t = one_more (λ n. parts_from closing step n found i) n at lt e ∙ parts_end (n - (at + 1)) found i s ∙ ap (λ j. Some (found, j)) (sym t)
+    pub round_end : at < n → X ≡ parts_from closing step (n - at) found i → same closing (kind i) ≡ true → (j : Input) → j ≡ next i → X ≡ Some (found, j)
+    round_end lt e s j t = one_more (λ n. parts_from closing step n found i) n at lt e ∙ parts_end (n - (at + 1)) found i s ∙ ap (λ j. Some (found, j)) (sym t)
 
-    pub turn_part : {o : Parsed A} → at < n → X ≡ parts_from closing step (n - at) found i → same closing (kind i) ≡ false → step found i ≡ o → X ≡ and_then o (parts_behind (n - (at + 1)))
-    turn_part lt e s p = one_more (λ n. parts_from closing step n found i) n at lt e ∙ parts_next (n - (at + 1)) found i s ∙ ap (λ o. and_then o (parts_behind (n - (at + 1)))) p
+    pub round_part : {o : Parsed A} → at < n → X ≡ parts_from closing step (n - at) found i → same closing (kind i) ≡ false → step found i ≡ o → X ≡ and_then o (parts_behind (n - (at + 1)))
+    round_part lt e s p = one_more (λ n. parts_from closing step n found i) n at lt e ∙ parts_next (n - (at + 1)) found i s ∙ ap (λ o. and_then o (parts_behind (n - (at + 1)))) p
 
-    pub turn_over : n ≤ at → X ≡ parts_from closing step (n - at) found i → X ≡ None
-    turn_over le e = no_more (λ n. parts_from closing step n found i) n at le e ∙ parts_none found i
+    pub round_over : n ≤ at → X ≡ parts_from closing step (n - at) found i → X ≡ None
+    round_over le e = no_more (λ n. parts_from closing step n found i) n at le e ∙ parts_none found i
 
 pub written_none : (limit : ℕ) (i : Input) → limit ≡ 0 → written limit i ≡ None
 unfolding written

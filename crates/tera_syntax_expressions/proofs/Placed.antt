@@ -1,4 +1,4 @@
--- Where an argument is put in a row of them, and the turns of the loop that reads them.
+-- Where an argument is put in a row of them, and the rounds of the loop that reads them.
 use Rattle.std.proofs.Common.{◌≡◌, ℕ, suc, ◌+◌, ◌-◌, ◌<◌, ◌≤◌, max, List, [], ◌∷◌, length, Option, Some, None, option_map, refl, ◌∙◌, ap, arith, if◌then◌else◌, Ordering, Less, Equal, Greater}
 use Rattle.std.specs.List.{insert}
 use Rattle.std.specs.Ordering.{match_ordering}
@@ -10,21 +10,21 @@ use Rattle.tera_syntax_tokens.specs.declared.token.Kind.TheVariants.{RightParent
 use Rattle.tera_syntax_tokens.specs.Input.{Input, Parsed, Parser, and_then, kind, text, next, same}
 use Rattle.tera_syntax_expressions.specs.Arguments.{name_cmp, put_argument, argument_name}
 use Rattle.tera_syntax_expressions.specs.Commas.{comma_or}
-use Rattle.tera_syntax_expressions.specs.Parts.{place_of}
+use Rattle.tera_syntax_expressions.specs.Parts.{position_of}
 use Rattle.tera_syntax_expressions.specs.Expressions as r
 use Rattle.tera_syntax_expressions.specs.Expressions.{Deep}
 use Rattle.tera_syntax_expressions.proofs.ArgumentRows.{named-got}
-use Rattle.tera_syntax_expressions.proofs.Turns.{one_more, behind, Behind, read_behind}
+use Rattle.tera_syntax_expressions.proofs.Rounds.{one_more, behind, Behind, read_behind}
 
--- the place, where this many others were passed
+-- the position, where this many others were passed
 abbrev pub from : ℕ → Option ℕ → Option ℕ
 from at o = option_map (λ k. at + k) o
 
 abbrev by : Ordering → Option ℕ → Option ℕ
 by o p = match_ordering o (Some 0) None (option_map suc p)
 
--- An argument is put where its place is.
-pub placed-at : (all : List argument.Argument) (at : ℕ) (a : argument.Argument) → place_of a.name.now (arguments_of all) ≡ Some at
+-- An argument is put where its position is.
+pub placed-at : (all : List argument.Argument) (at : ℕ) (a : argument.Argument) → position_of a.name.now (arguments_of all) ≡ Some at
     → (at ≤ length all) × (put_argument a.name.now (expr_of a.value) (arguments_of all) ≡ Some (arguments_of (insert all at a)))
 placed-at [] at a h = let e : 0 ≡ at = cc in rw (← e) (omega arith, refl)
 placed-at (b ∷ rest) at a h = go (λ m e. placed-at rest m a e) (name_cmp a.name.now b.name.now) h
@@ -35,44 +35,44 @@ placed-at (b ∷ rest) at a h = go (λ m e. placed-at rest m a e) (name_cmp a.na
     Put : Option Arguments → Type 0
     Put o = (at ≤ suc (length rest)) × (o ≡ Some (arguments_of (insert (b ∷ rest) at a)))
 
-    behind : ((m : ℕ) → place_of a.name.now (arguments_of rest) ≡ Some m → (m ≤ length rest) × (put_argument a.name.now (expr_of a.value) (arguments_of rest) ≡ Some (arguments_of (insert rest m a))))
-        → (o : Option ℕ) → place_of a.name.now (arguments_of rest) ≡ o → option_map suc o ≡ Some at → Put (option_map after (put_argument a.name.now (expr_of a.value) (arguments_of rest)))
+    behind : ((m : ℕ) → position_of a.name.now (arguments_of rest) ≡ Some m → (m ≤ length rest) × (put_argument a.name.now (expr_of a.value) (arguments_of rest) ≡ Some (arguments_of (insert rest m a))))
+        → (o : Option ℕ) → position_of a.name.now (arguments_of rest) ≡ o → option_map suc o ≡ Some at → Put (option_map after (put_argument a.name.now (expr_of a.value) (arguments_of rest)))
     behind again None e h = cc
     behind again (Some m) e h =
         let f : suc m ≡ at = cc in
         let w = again m e in let l = w.0 in
         rw (← f) (omega (arith, l), ap (option_map after) w.1)
 
-    go : ((m : ℕ) → place_of a.name.now (arguments_of rest) ≡ Some m → (m ≤ length rest) × (put_argument a.name.now (expr_of a.value) (arguments_of rest) ≡ Some (arguments_of (insert rest m a))))
-        → (o : Ordering) → by o (place_of a.name.now (arguments_of rest)) ≡ Some at
+    go : ((m : ℕ) → position_of a.name.now (arguments_of rest) ≡ Some m → (m ≤ length rest) × (put_argument a.name.now (expr_of a.value) (arguments_of rest) ≡ Some (arguments_of (insert rest m a))))
+        → (o : Ordering) → by o (position_of a.name.now (arguments_of rest)) ≡ Some at
         → Put (match_ordering o (Some (MoreArguments a.name.now (expr_of a.value) (after (arguments_of rest)))) None (option_map after (put_argument a.name.now (expr_of a.value) (arguments_of rest))))
     go again Less h = let e : 0 ≡ at = cc in rw (← e) (omega arith, refl)
     go again Equal h = cc
-    go again Greater h = behind again (place_of a.name.now (arguments_of rest)) refl h
+    go again Greater h = behind again (position_of a.name.now (arguments_of rest)) refl h
 
--- Without a place it is not put.
-pub not-placed : (n : Name) (x : Expr) (all : Arguments) → place_of n all ≡ None → put_argument n x all ≡ None
+-- Without a position it is not put.
+pub not-placed : (n : Name) (x : Expr) (all : Arguments) → position_of n all ≡ None → put_argument n x all ≡ None
 not-placed n x NoArguments h = cc
 not-placed n x (MoreArguments m y rest) h = go (λ e. not-placed n x rest e) (name_cmp n m) h
   where
-    behind : (place_of n rest ≡ None → put_argument n x rest ≡ None) → (o : Option ℕ) → place_of n rest ≡ o → option_map suc o ≡ None → option_map (MoreArguments m y) (put_argument n x rest) ≡ None
+    behind : (position_of n rest ≡ None → put_argument n x rest ≡ None) → (o : Option ℕ) → position_of n rest ≡ o → option_map suc o ≡ None → option_map (MoreArguments m y) (put_argument n x rest) ≡ None
     behind again None e h = ap (option_map (MoreArguments m y)) (again e)
     behind again (Some k) e h = cc
 
-    go : (place_of n rest ≡ None → put_argument n x rest ≡ None) → (o : Ordering) → by o (place_of n rest) ≡ None
+    go : (position_of n rest ≡ None → put_argument n x rest ≡ None) → (o : Ordering) → by o (position_of n rest) ≡ None
         → match_ordering o (Some (MoreArguments n x (MoreArguments m y rest))) None (option_map (MoreArguments m y) (put_argument n x rest)) ≡ None
     go again Less h = cc
     go again Equal h = refl
-    go again Greater h = behind again (place_of n rest) refl h
+    go again Greater h = behind again (position_of n rest) refl h
 
--- the turns of the loop over arguments
+-- the rounds of the loop over arguments
 module _ (limit : ℕ) (sub : ℕ → Parser Deep) where
   pub argument_placed : (found all : Arguments) (i m j : Input) (x : Deep) → argument_name i ≡ Some (text i, m) → sub 0 m ≡ Some (x, j) → put_argument (text i) x.expr found ≡ Some all
       → r.argument limit sub found i ≡ Some ((all, x.depth), j)
   unfolding r.argument
   argument_placed found all i m j x e f g = rw (e, f, g) refl
 
-  pub argument_unplaced : (found : Arguments) (i : Input) → place_of (text i) found ≡ None → r.argument limit sub found i ≡ None
+  pub argument_unplaced : (found : Arguments) (i : Input) → position_of (text i) found ≡ None → r.argument limit sub found i ≡ None
   unfolding r.argument
   argument_unplaced found i h = go (argument_name i) refl
     where
@@ -99,7 +99,7 @@ alike-behind : {X Y : Type 0} (o : Parsed X) {f g : X → Parser Y} → ((x : X)
 alike-behind None e = refl
 alike-behind (Some p) e = e p.0 p.1
 
--- what is read from a turn of the loop on
+-- what is read from a round of the loop on
 pub arguments_once : (limit : ℕ) (sub : ℕ → Parser Deep) (n at : ℕ) (found : Arguments) (d : ℕ) (i : Input) → at < n → r.arguments_from limit sub (n - at) found d i
     ≡ (if same RightParenthesis (kind i) then Some ((found, d), next i) else and_then (r.argument limit sub found i) (further (r.arguments_from limit sub (n - (at + 1))) d))
 unfolding r.arguments_from

@@ -39,7 +39,7 @@ down (suc m) l {x} {i} {j} h d = go (λ e. down m l e (tighter d)) (nat_le l m) 
     go again true e = again (grind (arith, common_steps, e))
     go again false e = let f : suc m ≡ l = grind (arith, common_steps, e) in subst (λ n. Derives n x i j) f d
 
--- the parentheses that are open, from the last on, between two places
+-- the parentheses that are open, from the last on, between two positions
 data Opened : List ℕ → Input → Input → Type 0 where
   here : {i : Input} → Opened [] i i
   paren : {os : List ℕ} {i p : Input} → Opened os i p → kind p ≡ k.LeftParenthesis → Opened (start p ∷ os) i (next p)
@@ -206,10 +206,10 @@ module _ (limit b : ℕ) (part : ℕ → Parser Deep) (sound : Sound b part) whe
   test-got : (have : ℕ) (p i j : Input) (x y : Deep) → 4 ≤ have → kind i ≡ k.Is → Got limit have x p i → r.tested limit part (start p) x i ≡ Some (y, j) → Got limit 4 y p j
   unfolding r.tested r.test_by_name
   test-got have p i j x y n h (got {x = v} _ d) hh =
-      either (chosen (same k.Not (kind o)) (and_then (r.test_by_name limit part (start p) (deep v) (next o)) turned) (r.test_by_name limit part (start p) (deep v) o) (Some (y, j)) hh)
-      (λ q. let t = and_then-some (r.test_by_name limit part (start p) (deep v) (next o)) turned (y, j) q.1 in
+      either (chosen (same k.Not (kind o)) (and_then (r.test_by_name limit part (start p) (deep v) (next o)) denied) (r.test_by_name limit part (start p) (deep v) o) (Some (y, j)) hh)
+      (λ q. let t = and_then-some (r.test_by_name limit part (start p) (deep v) (next o)) denied (y, j) q.1 in
       let u = guard (is_test_name (kind (next o))) (r.passed limit part Test (start p) (deep v) (next o)) (t.0, t.1) t.2 in
-      let P : Deep → Input → Type 0 = λ z a. turned z a ≡ Some (y, j) → Got limit 4 y p j in
+      let P : Deep → Input → Type 0 = λ z a. denied z a ≡ Some (y, j) → Got limit 4 y p j in
       passed-got limit part reads P Test (λ _ _ _ _. refl) (start p) (next o) t.1 v t.0
       (λ all a w _ m. let z : Expr = Test v (text (next o)) all (span (start p) a) in
       node-got (λ y j. Got limit 4 y p j) limit (depth z) (Not z (span (start p) a)) a j y m refl
@@ -220,8 +220,8 @@ module _ (limit b : ℕ) (part : ℕ → Parser Deep) (sound : Sound b part) whe
       o : Input
       o = next i
 
-      turned : Deep → Parser Deep
-      turned z a = node limit z.depth (Not z.expr (span (start p) a)) a
+      denied : Deep → Parser Deep
+      denied z a = node limit z.depth (Not z.expr (span (start p) a)) a
 
   lowered : (m l : ℕ) (x : Deep) (i j : Input) → l ≤ m → Got limit m x i j → Got limit l x i j
   lowered m l x i j le (got ok d) = got ok (down m l le d)

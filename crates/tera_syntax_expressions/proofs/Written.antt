@@ -80,10 +80,10 @@ shut-got s step found z i j h =
 -- parts behind those that were found, up to what closes
 record GotParts {A : Type 0} (Parts : A → Input → Input → Type 0) (join : A → A → A) (deepest : A → ℕ) (closing : Kind) (b : ℕ) (found : A) (i : Input) (z : A) (j : Input) : Type 0 where
   parts : A
-  place : Input
-  derived : Parts parts i place
-  shut : kind place ≡ closing
-  behind : next place ≡ j
+  position : Input
+  derived : Parts parts i position
+  shut : kind position ≡ closing
+  behind : next position ≡ j
   joined : z ≡ join found parts
   fits : deepest parts ≤ b
 
@@ -106,22 +106,22 @@ module _ {A : Type 0} (closing : Kind) (step : A → Parser A) (Parts : A → In
       let further = parts_from closing step n in
       either (chosen (same closing (kind i)) (Some (found, next i)) (and_then (step found i) (behind_part closing step further)) (Some (z, j)) h)
       (λ q. let s = some-pair (found, next i) (z, j) q.1 in
-      record { parts = no_parts; place = i; derived = none_derived i; shut = same-is closing (kind i) q.0; behind = s.1; joined = sym s.0 ∙ sym (join_none found); fits = fits_none })
+      record { parts = no_parts; position = i; derived = none_derived i; shut = same-is closing (kind i) q.0; behind = s.1; joined = sym s.0 ∙ sym (join_none found); fits = fits_none })
       (λ q. let t = and_then-some (step found i) (behind_part closing step further) (z, j) q.1 in
       let w = part_got found t.0 i t.1 t.2 in
       either (chosen (same k.Comma (kind t.1)) (further t.0 (next t.1)) (closed closing step t.0 t.1) (Some (z, j)) t.3)
       (λ c. let v = parts-got n t.0 z (next t.1) j c.1 in
       record {
         parts = join w.part v.parts;
-        place = v.place;
-        derived = w.before v.parts v.place (same-is k.Comma (kind t.1) c.0) v.derived;
+        position = v.position;
+        derived = w.before v.parts v.position (same-is k.Comma (kind t.1) c.0) v.derived;
         shut = v.shut;
         behind = v.behind;
         joined = v.joined ∙ ap (λ f. join f v.parts) w.joined ∙ join_join found w.part v.parts;
         fits = w.fits_before v.parts v.fits;
       })
       (λ c. let u = shut-got closing step t.0 z t.1 j c.1 in
-      record { parts = w.part; place = t.1; derived = w.alone; shut = u.0; behind = u.2; joined = sym u.1 ∙ w.joined; fits = w.fits }))
+      record { parts = w.part; position = t.1; derived = w.alone; shut = u.0; behind = u.2; joined = sym u.1 ∙ w.joined; fits = w.fits }))
 
 module _ (b : ℕ) (part : Parser Literal) (reads : Reads b part) where
   item-got : (found z : Literals) (i j : Input) → written_item part found i ≡ Some (z, j) → GotPart DerivesLiterals join_literals literals_depth b found i z j

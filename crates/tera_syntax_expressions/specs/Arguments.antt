@@ -27,7 +27,7 @@ is_test_name s = is_word s && not (same k.Not s)
 abbrev pub name_cmp : Name → Name → Ordering
 name_cmp = slice_cmp nat_cmp
 
--- an argument at its place among others; none where one of its name is there
+-- an argument at its position among others; none where one of its name is there
 abbrev pub put_argument : Name → Expr → Arguments → Option Arguments
 put_argument n x NoArguments = Some (MoreArguments n x NoArguments)
 put_argument n x (MoreArguments m y rest) = match_ordering (name_cmp n m)
@@ -43,7 +43,7 @@ abbrev pub AreInOrder : Arguments → Type 0
 AreInOrder NoArguments = Unit {0}
 AreInOrder (MoreArguments n x rest) = IsBefore n rest × AreInOrder rest
 
--- the name of an argument, any word, and the place behind the sign that follows
+-- the name of an argument, any word, and the position behind the sign that follows
 unfoldable pub argument_name : Parser Name
 argument_name =
     λ i. if is_word (kind i) then and_then (expect k.Assign (next i)) (λ _. λ j. Some (text i, j))

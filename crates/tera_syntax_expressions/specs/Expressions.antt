@@ -101,7 +101,8 @@ abbrev pub keyed : Option Key → Parser (Option Key)
 keyed None = refuse
 keyed (Some key) = λ i. and_then (expect k.Colon (next i)) (λ _. λ j. Some (Some key, j))
 
--- the key of an entry, and the place behind the colon; none behind the dots of a map that is spread
+-- the key of an entry, and the position behind the colon; none behind the dots of a map that is
+-- spread
 unfoldable pub entry_key : Parser (Option Key)
 entry_key = λ i. if same k.Spread (kind i) then Some (None, next i) else keyed (key_at i) i
 
@@ -112,7 +113,7 @@ join_filters (MoreFilters n all at rest) more = MoreFilters n all at (join_filte
 abbrev pub one_filter : site.Name → Arguments → Span → Filters
 one_filter n all at = MoreFilters n all at NoFilters
 
--- the place behind the dots of an item that is spread
+-- the position behind the dots of an item that is spread
 abbrev pub behind_dots : Input → Input
 behind_dots i = if same k.Spread (kind i) then next i else i
 

@@ -43,7 +43,7 @@ pub data Bracket : Kind → Bool → Type 0 where
   optional_bracket : Bracket k.OptionalBracket true
 
 mutual
-  -- the tokens from the first place to the second are an expression of a level of precedence
+  -- the tokens from the first position to the second are an expression of a level of precedence
   pub data Derives : ℕ → Expr → Input → Input → Type 0 where
     tighter : {l : ℕ} {x : Expr} {i j : Input} → Derives (suc l) x i j → Derives l x i j
     choice : {x y z : Expr} {i a b j : Input} → Derives precedence.or x i a → kind a ≡ k.If
@@ -202,7 +202,7 @@ mutual
         → DerivesAttribute key x i a → DerivesAttributes xs a j
         → DerivesAttributes (MoreEntries key x xs) i j
 
-  -- An argument, put at its place among those before it. Its name may be a reserved word, and is
+  -- An argument, put at its position among those before it. Its name may be a reserved word, and is
   -- the name of no other.
   pub data DerivesArgument : Arguments → Arguments → Input → Input → Type 0 where
     argument : {found all : Arguments} {x : Expr} {i j : Input} → is_word (kind i) ≡ true

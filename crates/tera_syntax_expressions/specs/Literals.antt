@@ -22,7 +22,7 @@ unfoldable pub plain_at : Input → Option Literal
 plain_at i = plain_by (kind i) (text i)
 
 mutual
-  -- The tokens from the first place to the second are a value that is written out.
+  -- The tokens from the first position to the second are a value that is written out.
   pub data DerivesLiteral : Literal → Input → Input → Type 0 where
     plain : {x : Literal} {i : Input} → plain_at i ≡ Some x → DerivesLiteral x i (next i)
     minus : {z : ℤ} {i : Input} → kind i ≡ k.Minus → kind (next i) ≡ k.Int
@@ -102,7 +102,7 @@ abbrev pub keyed_by : Option Key → Parser Key
 keyed_by None = refuse
 keyed_by (Some key) = λ i. and_then (expect k.Colon (next i)) (λ _. λ j. Some (key, j))
 
--- the key of an entry, and the place behind the colon
+-- the key of an entry, and the position behind the colon
 unfoldable pub written_key : Parser Key
 written_key = λ i. keyed_by (key_at i) i
 

@@ -19,6 +19,6 @@ loop_name i =
     if (i.in_loop && bytes_eq (text i) (codes "loop")) && same k.Dot (kind (next i))
     then loop_word (text (next (next i))) else None
 
--- the place behind these three
+-- the position behind these three
 abbrev pub behind_loop : Input → Input
 behind_loop i = next (next (next i))

@@ -62,14 +62,14 @@ abbrev pub Follows : {X Y F : Type 0} → (X → Y) → (ℕ → (ℕ → Parser
 Follows view rule reader old r new =
     Takes view (rule reader.limit (expr reader.below) (input old)) r new
 
--- the same of a rule that goes on from an operand, which starts at a place
+-- the same of a rule that goes on from an operand, which starts at a position
 abbrev pub GoesOn : {F : Type 0} → (ℕ → (ℕ → Parser Deep) → ℕ → Deep → Parser Deep) → Reader F → ℕ
     → declared.Deep → Tokens → Result declared.Deep Refusal → Tokens → Type 0
 GoesOn rule reader start x old r new =
     Takes deep_of (rule reader.limit (expr reader.below) start (deep_of x) (input old)) r new
 
 -- the same of a rule for a row, seen by view, from its first part on: the rule is given how often
--- it may turn, what was found, and how deep that is
+-- it may go round, what was found, and how deep that is
 abbrev pub FollowsRow : {A S F : Type 0} → (List A → S)
     → (ℕ → (ℕ → Parser Deep) → ℕ → S → ℕ → Parser (S × ℕ)) → S → Reader F → Tokens
     → Result (Vec A Global × ℕ) Refusal → Tokens → Type 0
@@ -100,11 +100,11 @@ TakesEntry meant sub old entries (Ok d) new =
     × (entries_of entries ≡ join_entries (entries_of old) (one_entry key x.expr))
 TakesEntry meant sub old entries (Err refusal) new = Refuses (and_then meant (λ key. sub)) refusal
 
--- how many of the arguments stand before the place of this name; none where one has it
-abbrev pub place_of : Name → Arguments → Option ℕ
-place_of n NoArguments = Some 0
-place_of n (MoreArguments m y rest) =
-    match_ordering (name_cmp n m) (Some 0) None (option_map suc (place_of n rest))
+-- how many of the arguments stand before the position of this name; none where one has it
+abbrev pub position_of : Name → Arguments → Option ℕ
+position_of n NoArguments = Some 0
+position_of n (MoreArguments m y rest) =
+    match_ordering (name_cmp n m) (Some 0) None (option_map suc (position_of n rest))
 
 -- the names of a signature: those of its parameters, and of what takes all other arguments
 abbrev pub signature_names : List parameter.Parameter → Option Name → List Name

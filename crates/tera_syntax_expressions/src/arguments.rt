@@ -4,7 +4,7 @@ ghost use Rattle.tera_syntax_tree.specs.Prelude.{NoArguments, arguments_of, expr
 ghost use Rattle.tera_syntax_tokens.specs.Prelude.{text, Takes, input};
 ghost use Rattle.tera_syntax_expressions.specs.Arguments as call;
 ghost use Rattle.tera_syntax_expressions.specs.Expressions as spec;
-ghost use Rattle.tera_syntax_expressions.specs.Parts.{FollowsRow, Nests, TakesPart, deep_of, place_of};
+ghost use Rattle.tera_syntax_expressions.specs.Parts.{FollowsRow, Nests, TakesPart, deep_of, position_of};
 
 use crate::commas::{between_commas, take_comma};
 use crate::expressions::{Deep, Depth, Read, Row};
@@ -47,7 +47,7 @@ impl<'s, F: Fn(Global, &mut Tokens<'_, 's>, usize, u8) -> Read<'s>> Reader<F> {
             found = Vec::new(self.alloc), depth = 0)
     }
 
-    /// An argument, at its place among those that were read, and its depth.
+    /// An argument, at its position among those that were read, and its depth.
     #[tactic(auto, unfolding(crate::specs::Expressions::argument))]
     fn argument(&self, tokens: &mut Tokens<'_, 's>, found: &mut Vec<Argument<'s>>) -> Depth
         requires { Nests self.now.below (F.pre self.now.expr) (F.post self.now.expr) }
@@ -55,7 +55,7 @@ impl<'s, F: Fn(Global, &mut Tokens<'_, 's>, usize, u8) -> Read<'s>> Reader<F> {
             found.old found.new (input tokens.old) result tokens.new }
     {
         let name = tokens.text();
-        let at = match place(found.as_slice(), name) {
+        let at = match position(found.as_slice(), name) {
             Some(at) => at,
             None => return Err(tokens.refuse(Reason::Expected(Kind::RightParenthesis))),
         };
@@ -92,8 +92,8 @@ pub(crate) fn argument_name(tokens: &mut Tokens<'_, '_>) -> Result<(), Refusal>
 }
 
 /// Where an argument of this name is put among others. None where one of them has it.
-fn place(found: &[Argument<'_>], name: &str) -> Option<usize>
-    ensures { result ≡ place_of name.now (arguments_of found.now) }
+fn position(found: &[Argument<'_>], name: &str) -> Option<usize>
+    ensures { result ≡ position_of name.now (arguments_of found.now) }
 {
     let mut at = 0usize;
     for argument in found {

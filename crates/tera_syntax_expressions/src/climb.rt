@@ -26,7 +26,7 @@ impl<'s, F: Fn(Global, &mut Tokens<'_, 's>, usize, u8) -> Read<'s>> Reader<F> {
             (input tokens.old)) result tokens.new }
     {
         let run = tokens.ahead;
-        let turns = tokens.left();
+        let rounds = tokens.left();
         let opens = opened(tokens);
         let begins = begins(tokens.kind());
         if begins < floor_in(opens, floor) {
@@ -34,7 +34,7 @@ impl<'s, F: Fn(Global, &mut Tokens<'_, 's>, usize, u8) -> Read<'s>> Reader<F> {
         }
         let start = tokens.start();
         let x = self.head(tokens)?;
-        self.climb(tokens, run, opens, turns, floor, begins, start, x)
+        self.climb(tokens, run, opens, rounds, floor, begins, start, x)
     }
 
     /// Goes on with operators, and closes the parentheses that are open. `run` begins with these.
@@ -44,18 +44,18 @@ impl<'s, F: Fn(Global, &mut Tokens<'_, 's>, usize, u8) -> Read<'s>> Reader<F> {
         tokens: &mut Tokens<'_, 's>,
         run: &[Token<'_>],
         mut opens: usize,
-        turns: usize,
+        rounds: usize,
         floor: u8,
         mut have: u8,
         mut start: usize,
         mut x: Deep<'s>,
     ) -> Read<'s>
         requires { Nests self.now.below (F.pre self.now.expr) (F.post self.now.expr) }
-        ensures { Takes deep_of (spec.climb self.now.limit (spec.expr self.now.below) turns
+        ensures { Takes deep_of (spec.climb self.now.limit (spec.expr self.now.below) rounds
             (starts (tokens_of run.now) opens) floor have start (deep_of x.entry)
             (input tokens.old)) result tokens.new }
     {
-        for _turn in 0..turns {
+        for _round in 0..rounds {
             let kind = tokens.kind();
             if goes_on(floor_in(opens, floor), have, kind) {
                 x = self.operation(tokens, start, x)?;
@@ -146,7 +146,7 @@ pub(crate) fn opened(tokens: &mut Tokens<'_, '_>) -> usize
         ≡ Some (starts (tokens_of tokens.old.ahead.now) result, input tokens.new) }
 {
     let mut count = 0usize;
-    for _turn in 0..tokens.left() {
+    for _round in 0..tokens.left() {
         if tokens.kind() != Kind::LeftParenthesis {
             break;
         }

@@ -7,12 +7,12 @@ use tera_syntax_tokens::token::Kind;
 use tera_syntax_tokens::tokens::Tokens;
 
 /// Parts with commas between, and one behind the last at will, up to the token that closes: all that were found, and how deep
-/// the deepest is. Each turn reads a part, puts it among the others and tells how deep it is.
+/// the deepest is. Each round reads a part, puts it among the others and tells how deep it is.
 macro_rules! between_commas {
     ($tokens:ident, $closing:expr, $read:expr; $found:ident = $none:expr, $depth:ident = $least:expr) => {{
         let mut $found = $none;
         let mut $depth = $least;
-        for _turn in 0..$tokens.left() {
+        for _round in 0..$tokens.left() {
             if $tokens.kind() == $closing {
                 $tokens.take();
                 return Ok(($found, $depth));

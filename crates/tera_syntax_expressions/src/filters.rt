@@ -35,7 +35,7 @@ impl<'s, F: Fn(Global, &mut Tokens<'_, 's>, usize, u8) -> Read<'s>> Reader<F> {
             tokens.old result tokens.new }
     {
         let (mut found, mut depth) = (Vec::new(self.alloc), 0usize);
-        for _turn in 0..tokens.left() {
+        for _round in 0..tokens.left() {
             let x = match self.section_filter(tokens, &mut found) {
                 Ok(x) => x,
                 Err(refusal) => return Err(refusal),

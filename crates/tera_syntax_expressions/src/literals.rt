@@ -68,7 +68,7 @@ fn items<'s>(
         Takes (λ all. literals_of all.items) meant result tokens.new }
 {
     let mut found = Vec::new(alloc);
-    for _turn in 0..tokens.left() {
+    for _round in 0..tokens.left() {
         if tokens.kind() == Kind::RightBracket {
             tokens.take();
             return Ok(found);
@@ -116,7 +116,7 @@ fn entries<'s>(
         Takes (λ all. literal_entries_of all.items) meant result tokens.new }
 {
     let mut found = Vec::new(alloc);
-    for _turn in 0..tokens.left() {
+    for _round in 0..tokens.left() {
         if tokens.kind() == Kind::RightBrace {
             tokens.take();
             return Ok(found);

@@ -68,7 +68,7 @@ fn parameters<'s>(alloc: Global, tokens: &mut Tokens<'_, 's>, limit: usize) -> P
         Takes parameters_of (spec.parameters_from limit (left i) [] i) result tokens.new }
 {
     let mut found = Vec::new(alloc);
-    for _turn in 0..tokens.left() {
+    for _round in 0..tokens.left() {
         if tokens.kind() == Kind::Spread {
             tokens.take();
             match name(tokens) {

@@ -4,7 +4,7 @@ mod applications;
 mod components;
 mod includes;
 mod nests;
-mod places;
+mod positions;
 mod readings;
 mod rows;
 mod sections;

@@ -3,7 +3,7 @@ use Rattle.std.proofs.Common.{◌≡◌, ℕ, zero, suc, ◌+◌, ◌-◌, ◌<�
 use Rattle.std.proofs.lemmas.Bool.Decides.{nat_tests}
 use Rattle.std.specs.List.{ends_with}
 use Rattle.tera_errors.specs.Site.{Text}
-use Rattle.tera_syntax_tokens.specs.Bytes.{begins, place}
+use Rattle.tera_syntax_tokens.specs.Bytes.{begins, position}
 use Rattle.tera_syntax_tokens.specs.Inside.{hyphen}
 use Rattle.tera_syntax_tokens.specs.Cut.{Comment, Broken, FoundPiece, comment, piece, cut}
 use Rattle.tera_syntax_tree.specs.Delimiters.{Delims}
@@ -17,11 +17,11 @@ lt_no a b h = grind (arith, nat_tests)
 lt_yes : (a b : ℕ) → a < b → nat_lt a b ≡ true
 lt_yes a b h = grind (arith, nat_tests)
 
-pub no_comment : (end : Text) (at : ℕ) (text : Text) → length text ≤ place (begins end) text → comment end at text ≡ None
+pub no_comment : (end : Text) (at : ℕ) (text : Text) → length text ≤ position (begins end) text → comment end at text ≡ None
 unfolding comment
 no_comment end at text h = rw (lt_no _ _ h)
 
-pub a_comment : (end : Text) (at n : ℕ) (text : Text) (q : Bool) → n ≡ place (begins end) text → n < length text → q ≡ ends_with (λ a b. a == b) (take n text) hyphen
+pub a_comment : (end : Text) (at n : ℕ) (text : Text) (q : Bool) → n ≡ position (begins end) text → n < length text → q ≡ ends_with (λ a b. a == b) (take n text) hyphen
     → comment end at text ≡ Some (record { piece = Comment; next = at + (n + length end); trims = q })
 unfolding comment
 a_comment end at n text q e l p = rw (sym e, lt_yes _ _ l, p)
@@ -30,13 +30,13 @@ abbrev pub next_of : Option FoundPiece → ℕ
 next_of None = 0
 next_of (Some x) = x.next
 
-head_positive : (test : Text → Bool) (b : ℕ) (bs : Text) → test (b ∷ bs) ≡ false → 0 < place test (b ∷ bs)
-unfolding place
+head_positive : (test : Text → Bool) (b : ℕ) (bs : Text) → test (b ∷ bs) ≡ false → 0 < position test (b ∷ bs)
+unfolding position
 head_positive test b bs e = rw e (omega arith)
 
-pub place_positive : (test : Text → Bool) (text : Text) → 0 < length text → test text ≡ false → 0 < place test text
-place_positive test [] l e = absurd (omega arith)
-place_positive test (b ∷ bs) l e = head_positive test b bs e
+pub position_positive : (test : Text → Bool) (text : Text) → 0 < length text → test text ≡ false → 0 < position test text
+position_positive test [] l e = absurd (omega arith)
+position_positive test (b ∷ bs) l e = head_positive test b bs e
 
 -- what points into the rest of a text points into the text
 pub points_from : {X : Type 0} (r : Result X Refusal) (at next : ℕ) (text rest : Text) → at ≤ next → next + length rest ≤ at + length text → IfErr r (PointsInto next rest) → IfErr r (PointsInto at text)

@@ -8,7 +8,7 @@ use Rattle.tera_syntax_tokens.specs.Token.{Token, token_of, tokens_of, next_toke
 use Rattle.tera_syntax_tokens.specs.Inside.{Inside, inside, closing, closing_in, open_after, hyphen, prefixed, token_then}
 use Rattle.tera_syntax_tokens.specs.Bytes.{begins}
 use Rattle.tera_syntax_tokens.proofs.Sizes.{token_size}
-use Rattle.tera_syntax_tokens.proofs.Places.{boundary_after, word_fits}
+use Rattle.tera_syntax_tokens.proofs.Positions.{boundary_after, word_fits}
 use Rattle.std.specs.Str.{IsUtf8, IsCharBoundary}
 use Rattle.tera_syntax_tokens.specs.declared.token.Token as declared
 

@@ -1,4 +1,4 @@
-pub mod Places
+pub mod Positions
 pub mod Sizes
 pub mod Literals
 pub mod Insides

@@ -4,7 +4,7 @@ use Rattle.std.proofs.lemmas.Bool.Decides.{nat_tests, Decides-eqb}
 use Rattle.std.proofs.lemmas.List.{drop_more, drop_all, drop-map, drop-drop, get_or-drop, length-drop, take_all}
 use Rattle.std.proofs.lemmas.Str.{IsCharBoundary-before_ascii, IsCharBoundary-end}
 use Rattle.std.specs.Str.{IsCharBoundary}
-use Rattle.tera_syntax_tokens.proofs.Places.{by_order}
+use Rattle.tera_syntax_tokens.proofs.Positions.{by_order}
 use Rattle.tera_errors.specs.Site.{Text}
 use Rattle.tera_syntax_tokens.specs.Bytes.{run}
 use Rattle.tera_syntax_tokens.specs.Token.{is_quote}
@@ -91,7 +91,7 @@ unfolding unescaped
 escape_none [] h = refl
 escape_none (b ∷ bs) h = rw (h, no_backslash b h) refl
 
--- a run of plain bytes from a place on
+-- a run of plain bytes from a position on
 pub record Plain (f n : ℕ) (text : Text) : Type 0 where
   pub fits : f + n ≤ length text
   pub all : n ≡ run is_plain (drop f text)
@@ -113,7 +113,7 @@ end_boundary {f} {n} {text} p =
     (λ l. IsCharBoundary-before_ascii text (f + n) l (rw (slash_at p l) (lit< tt)))
     (λ l. let z : f + n ≡ length text = omega (arith, p.fits) in rw z (IsCharBoundary-end text))
 
--- what was written up to a place, and what is left to write, are the whole
+-- what was written up to a position, and what is left to write, are the whole
 abbrev pub Wrote : Text → ℕ → Text → Type 0
 Wrote W e text = W ++ unescaped false (drop e text) ≡ unescaped false text
 

@@ -8,7 +8,7 @@ use lib.Utf8.{encode}
 use Rattle.std.proofs.lemmas.Grind.{common_steps}
 use Rattle.memchr.specs.Find.{is_byte3}
 use Rattle.tera_errors.specs.Site.{Text}
-use Rattle.tera_syntax_tokens.specs.Bytes.{begins, place, heads}
+use Rattle.tera_syntax_tokens.specs.Bytes.{begins, position, heads}
 use Rattle.tera_syntax_tokens.specs.Inside.{hyphen}
 use Rattle.tera_syntax_tree.specs.Delimiters.{Delims, delimiters_of, accepted, is_filled}
 use Rattle.tera_syntax_tree.specs.declared.delimiters.Delimiters.{Delimiters}
@@ -16,7 +16,7 @@ use Rattle.tera_syntax_tokens.specs.declared.cut.Tag.{Tag}
 use Rattle.tera_syntax_tokens.specs.declared.cut.Tag.TheVariants as tag
 use Rattle.tera_syntax_tokens.specs.declared.cut.Opening.{Opening}
 use Rattle.tera_syntax_tokens.specs.Cut.{longer, opening_at, opens, start_size}
-use Rattle.tera_syntax_tokens.proofs.Places.{by_order, word_fits, boundary_before, boundary_after, place_le, place_passes, heads_word}
+use Rattle.tera_syntax_tokens.proofs.Positions.{by_order, word_fits, boundary_before, boundary_after, position_le, position_passes, heads_word}
 
 -- a word that may be a start delimiter, and begins the text
 pub record Start (text : Text) (o : Opening) : Type 0 where
@@ -104,12 +104,12 @@ opening_boundary d text i h e =
     let s = start_of d (drop i text) p.0 h p.1 in
     boundary_before s.word text i s.utf8 s.begun s.filled
 
-pub words_boundary : (d : Delimiters) (text : Text) → IsTrue (accepted (delimiters_of d)) → IsUtf8 text → IsCharBoundary text (place (opens (delimiters_of d)) text)
+pub words_boundary : (d : Delimiters) (text : Text) → IsTrue (accepted (delimiters_of d)) → IsUtf8 text → IsCharBoundary text (position (opens (delimiters_of d)) text)
 words_boundary d text h u =
-    let n = place (opens (delimiters_of d)) text in
-    let m = place_le (opens (delimiters_of d)) text in
+    let n = position (opens (delimiters_of d)) text in
+    let m = position_le (opens (delimiters_of d)) text in
     by_order n (length text)
-    (λ l. opening_boundary d text n h (place_passes (opens (delimiters_of d)) text l))
+    (λ l. opening_boundary d text n h (position_passes (opens (delimiters_of d)) text l))
     (λ l. let e : n ≡ length text = omega arith in rw e (IsCharBoundary-end text))
 
 fits_of : (text : Text) (o : Option Opening) → Starts text o → IfSome o (λ x. x.size ≤ length text)

@@ -25,7 +25,7 @@ token_within size from [] i blank l h = absurd (omega arith)
 token_within size from (t ∷ ts) zero blank l h = (h.1, in_order-le size t.span.end (tokens_of ts) h.2)
 token_within size from (t ∷ ts) (suc i) blank l h = token_within size t.span.end ts i blank (omega arith) h.2
 
--- from an earlier place on, and in a longer text
+-- from an earlier position on, and in a longer text
 pub in_order-wider : (size more from before : ℕ) (ts : List Token) → size ≤ more → before ≤ from → InOrder size from ts → InOrder more before ts
 in_order-wider size more from before [] m b h = omega arith
 in_order-wider size more from before (t ∷ ts) m b h = (omega (arith, h.0), h.1, in_order-wider size more t.span.end t.span.end ts m (omega arith) h.2)
@@ -34,7 +34,7 @@ in_order-wider size more from before (t ∷ ts) m b h = (omega (arith, h.0), h.1
 abbrev pub Orderly : ℕ → Input → Type 0
 Orderly size i = InOrder size i.last i.ahead
 
--- from one place to another in order
+-- from one position to another in order
 pub record Onward (size : ℕ) (i j : Input) : Type 0 where
   pub later : i.last ≤ j.last
   pub orderly : Orderly size j
@@ -77,10 +77,10 @@ token_span at text t h = span_by (measured text) at text t refl h
 
 -- How a tag ends: what its end delimiter is, and where.
 pub record Ends (end : Text) (at : ℕ) (text : Text) (x : Inside) : Type 0 where
-  pub place : ℕ
+  pub position : ℕ
   pub ending : Ending
-  pub found : closing end (drop place text) ≡ Some ending
-  pub next : x.next ≡ (at + place) + ending.size
+  pub found : closing end (drop position text) ≡ Some ending
+  pub next : x.next ≡ (at + position) + ending.size
 
 -- a tag that was cut: its tokens stand in order before its end
 pub record Cut (end : Text) (at skip : ℕ) (text : Text) (x : Inside) : Type 0 where
@@ -88,7 +88,7 @@ pub record Cut (end : Text) (at skip : ℕ) (text : Text) (x : Inside) : Type 0 
   pub in_order : InOrder x.next (at + skip) x.tokens
 
 ends_more : (end : Text) (at b : ℕ) (bs : Text) (x : Inside) → Ends end (suc at) bs x → Ends end at (b ∷ bs) x
-ends_more end at b bs x e = let n = e.next in record { place = suc e.place; ending = e.ending; found = e.found; next = omega arith }
+ends_more end at b bs x e = let n = e.next in record { position = suc e.position; ending = e.ending; found = e.found; next = omega arith }
 
 later : (end : Text) (at skip n b : ℕ) (bs : Text) (x : Inside) → at + n ≤ suc at + skip → Cut end (suc at) skip bs x → Cut end at n (b ∷ bs) x
 later end at skip n b bs x l c =
@@ -109,7 +109,7 @@ with_token end at b bs t (Some y) x e more h =
     let n = m.next in
     let all : InOrder y.next (at + 0) (t ∷ y.tokens) =
     (omega (arith, s.0), omega (arith, s.0, s.1), in_order-wider y.next y.next (suc at + (length t.text - 1)) t.span.end y.tokens (omega arith) (omega (arith, s.1, z)) c.in_order) in
-    subst (λ x. Cut end at 0 (b ∷ bs) x) q (record { ends = record { place = m.place; ending = m.ending; found = m.found; next = n }; in_order = all })
+    subst (λ x. Cut end at 0 (b ∷ bs) x) q (record { ends = record { position = m.position; ending = m.ending; found = m.found; next = n }; in_order = all })
 
 token_or_none : (end : Text) (opened at b : ℕ) (bs : Text) (o : Option Token) (x : Inside) → Rest end bs → next_token at (b ∷ bs) ≡ o
     → token_then o (λ t. inside end (open_after opened t.kind) (length t.text - 1) (suc at) bs) ≡ Some x → Cut end at 0 (b ∷ bs) x
@@ -128,7 +128,7 @@ ended_or_more end opened at b bs None x more e h = blank_or_token end opened at 
 ended_or_more end opened at b bs (Some c) x more e h =
     let q : record { tokens = []; next = at + c.size; trims = c.trims } ≡ x = cc in
     let f = closing_found opened end (b ∷ bs) c e in
-    subst (λ x. Cut end at 0 (b ∷ bs) x) q (record { ends = record { place = 0; ending = c; found = f; next = omega arith }; in_order = omega arith })
+    subst (λ x. Cut end at 0 (b ∷ bs) x) q (record { ends = record { position = 0; ending = c; found = f; next = omega arith }; in_order = omega arith })
 
 -- what stands in a tag
 pub inside_cut : (end : Text) (opened skip at : ℕ) (text : Text) (x : Inside) → inside end opened skip at text ≡ Some x → Cut end at skip text x

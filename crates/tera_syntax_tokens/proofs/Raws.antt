@@ -11,7 +11,7 @@ use Rattle.tera_syntax_tokens.specs.contracts.cut.Tag.{the_type}
 use Rattle.tera_syntax_tokens.specs.declared.inside.Ending.{Ending}
 use Rattle.tera_syntax_tokens.specs.declared.token.Kind.TheVariants as k
 use Rattle.tera_syntax_tokens.specs.declared.token.Measure.{Measure}
-use Rattle.tera_syntax_tokens.specs.Bytes.{begins, place, run}
+use Rattle.tera_syntax_tokens.specs.Bytes.{begins, position, run}
 use Rattle.tera_syntax_tokens.specs.Token.{Token, token, measured, next_token, word_kind, is_blank, is_name_byte}
 use Rattle.tera_syntax_tokens.specs.Inside.{Inside, inside, closing, prefixed}
 use Rattle.tera_syntax_tokens.specs.Cut.{Piece, of_word, is_alone, opening_at, opens, start_size, trims_before, words, tag_of, endraw, endraw_of, endraw_by, ends_raw, raw}
@@ -22,7 +22,7 @@ use Rattle.tera_syntax_tokens.specs.declared.cut.Opening.{Opening}
 use Rattle.tera_syntax_tree.specs.Delimiters.{Delims, delimiters_of, accepted}
 use Rattle.tera_syntax_tree.specs.declared.delimiters.Delimiters.{Delimiters}
 use Rattle.tera_syntax_tokens.proofs.Sizes.{measured_sized}
-use Rattle.tera_syntax_tokens.proofs.Places.{by_order, begins_is, word_fits, place_le, place_passes}
+use Rattle.tera_syntax_tokens.proofs.Positions.{by_order, begins_is, word_fits, position_le, position_passes}
 use Rattle.tera_syntax_tokens.proofs.Openings.{opening_boundary}
 use Rattle.tera_syntax_tokens.proofs.Insides.{ends_here, no_token, takes_token, nothing, ending_fits}
 
@@ -253,19 +253,19 @@ unfolding endraw
 ends_opened d text h = opened_by d text (opening_at d text) h
 
 -- a text may be cut there
-pub raw_boundary : (d : Delimiters) (text : Text) → IsTrue (accepted (delimiters_of d)) → IsUtf8 text → IsCharBoundary text (place (ends_raw (delimiters_of d)) text)
+pub raw_boundary : (d : Delimiters) (text : Text) → IsTrue (accepted (delimiters_of d)) → IsUtf8 text → IsCharBoundary text (position (ends_raw (delimiters_of d)) text)
 raw_boundary d text h u =
-    let n = place (ends_raw (delimiters_of d)) text in
-    let m = place_le (ends_raw (delimiters_of d)) text in
+    let n = position (ends_raw (delimiters_of d)) text in
+    let m = position_le (ends_raw (delimiters_of d)) text in
     by_order n (length text)
-    (λ l. opening_boundary d text n h (ends_opened (delimiters_of d) (drop n text) (place_passes (ends_raw (delimiters_of d)) text l)))
+    (λ l. opening_boundary d text n h (ends_opened (delimiters_of d) (drop n text) (position_passes (ends_raw (delimiters_of d)) text l)))
     (λ l. let e : n ≡ length text = omega arith in rw e (IsCharBoundary-end text))
 
 ended_by : (make : List Token → Piece) (o : Option Inside) → option_map end_of o ≡ None → tag_of make o ≡ None
 ended_by make None h = refl
 ended_by make (Some x) h = absurd (cc)
 
-pub no_raw : (d : Delims) (trims : Bool) (at : ℕ) (text : Text) (n : ℕ) → n ≡ place (ends_raw d) text
+pub no_raw : (d : Delims) (trims : Bool) (at : ℕ) (text : Text) (n : ℕ) → n ≡ position (ends_raw d) text
     → option_map end_of (endraw d (at + n) (drop n text)) ≡ None → raw d trims at text ≡ None
 unfolding raw
 no_raw d trims at text n e h = rw e at (ended_by (λ ts. words trims (trims_before (drop n text) (opening_at d (drop n text))) n at text) (endraw d (at + n) (drop n text)) h)
@@ -285,7 +285,7 @@ found_by p (Some x) next trims h =
     let t : x.trims ≡ trims = ap trims_from h in
     rw (n, t) refl
 
-pub a_raw : (d : Delims) (trims : Bool) (at : ℕ) (text : Text) (n : ℕ) (p : Piece) (e : Ending) → n ≡ place (ends_raw d) text
+pub a_raw : (d : Delims) (trims : Bool) (at : ℕ) (text : Text) (n : ℕ) (p : Piece) (e : Ending) → n ≡ position (ends_raw d) text
     → p ≡ words trims (trims_before (drop n text) (opening_at d (drop n text))) n at text
     → option_map end_of (endraw d (at + n) (drop n text)) ≡ Some (end_from (at + n) e)
     → raw d trims at text ≡ Some (record { piece = p; next = (at + n) + e.size; trims = e.trims })

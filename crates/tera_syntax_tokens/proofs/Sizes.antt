@@ -12,7 +12,7 @@ use Rattle.tera_syntax_tokens.specs.declared.token.Kind.{Kind}
 use Rattle.tera_syntax_tokens.specs.declared.token.Kind.TheVariants as k
 use Rattle.tera_syntax_tokens.specs.declared.token.Measure.{Measure}
 use Rattle.tera_syntax_tokens.specs.Token.{Token, token, named, next_token, is_letter, is_digit, is_name_byte, is_quote, quoted, pair, single, of_size, or_else, sign, text_of_size, measured}
-use Rattle.tera_syntax_tokens.proofs.Places.{by_order}
+use Rattle.tera_syntax_tokens.proofs.Positions.{by_order}
 
 pub run_le : (test : ℕ → Bool) (bs : Text) → run test bs ≤ length bs
 unfolding run
@@ -207,7 +207,7 @@ pub quote_ends : (q : ℕ) (escaped : Bool) (i : ℕ) (text : Text) (o : Option 
 unfolding quoted
 quote_ends q escaped i text o l e = let d = drop_all i text l in sym (e ∙ rw d refl)
 
--- the first token of the text from a place on
+-- the first token of the text from a position on
 pub no_token : (at i : ℕ) (text : Text) → measured (drop i text) ≡ None → None ≡ next_token (at + i) (drop i text)
 unfolding next_token
 no_token at i text h = rw h refl

@@ -11,17 +11,17 @@ use lib.Utf8.{scalar, scalars, encodes, encode}
 use Rattle.tera_errors.specs.Site.{Text}
 use Rattle.tera_syntax_tree.specs.Delimiters.{delimiters_of, accepted}
 use Rattle.tera_syntax_tree.specs.declared.delimiters.Delimiters.{Delimiters}
-use Rattle.tera_syntax_tokens.specs.Bytes.{begins, place}
+use Rattle.tera_syntax_tokens.specs.Bytes.{begins, position}
 use Rattle.tera_syntax_tokens.specs.Token.{Token}
 use Rattle.tera_syntax_tokens.specs.Inside.{Inside, inside, hyphen}
 use Rattle.tera_syntax_tokens.specs.declared.cut.Tag.{Tag}
 use Rattle.tera_syntax_tokens.specs.declared.cut.Tag.TheVariants as tag
 use Rattle.tera_syntax_tokens.specs.declared.cut.Opening.{Opening}
 use Rattle.tera_syntax_tokens.specs.Cut.{Piece, Comment, Variable, Block, FoundPiece, opening_at, opens, trims_before, start_trimmed, end_trimmed, words, comment, tag_of, start_size, is_alone, of_word, endraw, endraw_of, endraw_by, ends_raw, raw, block, behind, piece_by, piece, piece_then, cut, pieces}
-use Rattle.tera_syntax_tokens.proofs.Places.{place_le, place_passes, boundary_after, word_fits}
+use Rattle.tera_syntax_tokens.proofs.Positions.{position_le, position_passes, boundary_after, word_fits}
 use Rattle.tera_syntax_tokens.proofs.Insides.{ending_fits, ending_boundary}
 use Rattle.tera_syntax_tokens.proofs.Openings.{start_of, start_fits, start_boundary, start_size_le, start_size_fits, words_boundary, filled}
-use Rattle.tera_syntax_tokens.proofs.Cuts.{place_positive}
+use Rattle.tera_syntax_tokens.proofs.Cuts.{position_positive}
 use Rattle.tera_syntax_tokens.proofs.Raws.{raw_boundary}
 use Rattle.tera_syntax_tokens.specs.Stretches.{InOrder, PieceInside}
 use Rattle.tera_syntax_tokens.proofs.Order.{in_order-wider, inside_cut}
@@ -90,7 +90,7 @@ words_within before behind n at text l u =
     let c = length-take-le n text l in
     (omega arith, omega arith)
 
--- a place in a text, or behind it, from which on it is a text too
+-- a position in a text, or behind it, from which on it is a text too
 pub record Reaches (at : ℕ) (text : Text) (next : ℕ) : Type 0 where
   pub forward : at ≤ next
   pub fits : next ≤ at + length text
@@ -101,7 +101,7 @@ reaches at n text l u b =
     let e : n ≡ (at + n) - at = omega arith in
     record { forward = omega arith; fits = omega arith; utf8 = subst (λ k. IsUtf8 (drop k text)) e (IsUtf8-drop text n u b) }
 
--- the same from an earlier place
+-- the same from an earlier position
 reaches_from : (at s next : ℕ) (text : Text) → s ≤ length text → Reaches (at + s) (drop s text) next → Reaches at text next
 reaches_from at s next text l r =
     let f = r.forward in let g = r.fits in
@@ -121,10 +121,10 @@ record TagIn (at : ℕ) (text : Text) (x : Inside) : Type 0 where
 tag_in : (end : Text) (at : ℕ) (text : Text) (x : Inside) → 0 < length end → IsUtf8 end → IsUtf8 text → inside end 0 0 at text ≡ Some x → TagIn at text x
 tag_in end at text x l v u h =
     let c = inside_cut end 0 0 at text x h in
-    let f = ending_fits end text c.ends.place c.ends.ending l c.ends.found in
-    let b = ending_boundary end text c.ends.place c.ends.ending u v l c.ends.found in
-    let e : at + (c.ends.place + c.ends.ending.size) ≡ x.next = let n = c.ends.next in omega arith in
-    let r = subst (Reaches at text) e (reaches at (c.ends.place + c.ends.ending.size) text f.1 u b) in
+    let f = ending_fits end text c.ends.position c.ends.ending l c.ends.found in
+    let b = ending_boundary end text c.ends.position c.ends.ending u v l c.ends.found in
+    let e : at + (c.ends.position + c.ends.ending.size) ≡ x.next = let n = c.ends.next in omega arith in
+    let r = subst (Reaches at text) e (reaches at (c.ends.position + c.ends.ending.size) text f.1 u b) in
     record { in_order = in_order-wider x.next (at + length text) (at + 0) 0 x.tokens r.fits (omega arith) c.in_order; reach = r }
 
 -- a piece lies in its text
@@ -145,20 +145,20 @@ tag_found make at text o f lies p h =
     let l = lies t.0 t.1 in
     record { inside = subst (PieceInside (at + length text)) t.2 (p t.0.tokens l.in_order); reach = subst (Reaches at text) t.3 l.reach }
 
-comment_by : (end : Text) (at : ℕ) (text : Text) (q : Bool) (f : FoundPiece) → 0 < length end → IsUtf8 end → IsUtf8 text → nat_lt (place (begins end) text) (length text) ≡ q
-    → (if q then Some (record { piece = Comment; next = at + (place (begins end) text + length end); trims = ends_with (λ a b. a == b) (take (place (begins end) text) text) hyphen }) else None) ≡ Some f → FoundIn at text f
+comment_by : (end : Text) (at : ℕ) (text : Text) (q : Bool) (f : FoundPiece) → 0 < length end → IsUtf8 end → IsUtf8 text → nat_lt (position (begins end) text) (length text) ≡ q
+    → (if q then Some (record { piece = Comment; next = at + (position (begins end) text + length end); trims = ends_with (λ a b. a == b) (take (position (begins end) text) text) hyphen }) else None) ≡ Some f → FoundIn at text f
 comment_by end at text false f l v u e h = absurd (cc)
 comment_by end at text true f l v u e h =
-    let n = place (begins end) text in
+    let n = position (begins end) text in
     let m : n < length text = grind (arith, nat_tests) in
-    let p = place_passes (begins end) text m in
+    let p = position_passes (begins end) text m in
     let r = reaches at (n + length end) text (word_fits end text n p l) u (boundary_after end text n u v p l) in
     let q : record { piece = Comment; next = at + (n + length end); trims = ends_with (λ a b. a == b) (take n text) hyphen } ≡ f = cc in
     subst (FoundIn at text) q (record { inside = tt; reach = r })
 
 comment_found : (end : Text) (at : ℕ) (text : Text) (f : FoundPiece) → 0 < length end → IsUtf8 end → IsUtf8 text → comment end at text ≡ Some f → FoundIn at text f
 unfolding comment
-comment_found end at text f l v u h = comment_by end at text (nat_lt (place (begins end) text) (length text)) f l v u refl h
+comment_found end at text f l v u h = comment_by end at text (nat_lt (position (begins end) text) (length text)) f l v u refl h
 
 found_from : (at s : ℕ) (text : Text) (f : FoundPiece) → s ≤ length text → FoundIn (at + s) (drop s text) f → FoundIn at text f
 found_from at s text f l p =
@@ -198,8 +198,8 @@ module _ (d : Delimiters) (usable : IsTrue (accepted (delimiters_of d))) where
   raw_found : (trims : Bool) (at : ℕ) (text : Text) (f : FoundPiece) → IsUtf8 text → raw (delimiters_of d) trims at text ≡ Some f → FoundIn at text f
   unfolding raw endraw
   raw_found trims at text f u h =
-      let n = place (ends_raw (delimiters_of d)) text in
-      let l = place_le (ends_raw (delimiters_of d)) text in
+      let n = position (ends_raw (delimiters_of d)) text in
+      let l = position_le (ends_raw (delimiters_of d)) text in
       let b = raw_boundary d text usable u in
       let t = tag_of_some _ (endraw (delimiters_of d) (at + n) (drop n text)) f h in
       let r = endraw_reaches (at + n) (drop n text) t.0 (opening_at (delimiters_of d) (drop n text)) (IsUtf8-drop text n u b) refl t.1 in
@@ -229,10 +229,10 @@ module _ (d : Delimiters) (usable : IsTrue (accepted (delimiters_of d))) where
   piece_found : (trims : Bool) (at : ℕ) (text : Text) (o : Option Opening) (f : FoundPiece) → 0 < length text → IsUtf8 text → opening_at (delimiters_of d) text ≡ o
       → piece_by (delimiters_of d) trims at text o ≡ Some f → FoundIn at text f × (at < f.next)
   piece_found trims at text None f some u e h =
-      let n = place (opens (delimiters_of d)) text in
-      let l = place_le (opens (delimiters_of d)) text in
+      let n = position (opens (delimiters_of d)) text in
+      let l = position_le (opens (delimiters_of d)) text in
       let b = words_boundary d text usable u in
-      let p = place_positive (opens (delimiters_of d)) text some (ap is_some e) in
+      let p = position_positive (opens (delimiters_of d)) text some (ap is_some e) in
       let behind = trims_before (drop n text) (opening_at (delimiters_of d) (drop n text)) in
       let q : record { piece = words trims behind n at text; next = at + n; trims = false } ≡ f = cc in
       let m : at + n ≡ f.next = ap (λ f. f.next) q in

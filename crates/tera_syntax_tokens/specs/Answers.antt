@@ -14,7 +14,7 @@ abbrev pub Answers : {X Y : Type 0} → (X → Y) → Option Y → Result X Refu
 Answers view meant (Ok x) = meant ≡ Some (view x)
 Answers view meant (Err refusal) = Refuses meant refusal
 
--- the rest is what follows the place `next` in a text that stands at a place
+-- the rest is what follows the position `next` in a text that stands at a position
 abbrev pub Follows : ℕ → Text → ℕ → Text → Type 0
 Follows at text next rest =
     (at ≤ next) × (next ≤ at + length text) × (rest ≡ drop (next - at) text) × IsUtf8 rest

@@ -7,10 +7,10 @@ use Rattle.tera_errors.specs.Site.{Text}
 abbrev pub begins : Text → Text → Bool
 begins word text = starts_with (λ a b. a == b) text word
 
--- the first place from which on the text passes the test, or its end
-unfoldable pub place : (Text → Bool) → Text → ℕ
-place test [] = 0
-place test (b ∷ bs) = if test (b ∷ bs) then 0 else suc (place test bs)
+-- the first position from which on the text passes the test, or its end
+unfoldable pub position : (Text → Bool) → Text → ℕ
+position test [] = 0
+position test (b ∷ bs) = if test (b ∷ bs) then 0 else suc (position test bs)
 
 -- how many bytes at the front of the text pass the test
 unfoldable pub run : (ℕ → Bool) → Text → ℕ

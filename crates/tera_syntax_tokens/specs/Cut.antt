@@ -4,7 +4,7 @@ use Rattle.std.specs.Str.{trim_start, trim_end}
 use Rattle.std.specs.List.{ends_with}
 use Rattle.tera_errors.specs.Site.{Text}
 use Rattle.tera_errors.specs.declared.span.Span.{Span}
-use Rattle.tera_syntax_tokens.specs.Bytes.{begins, place}
+use Rattle.tera_syntax_tokens.specs.Bytes.{begins, position}
 use Rattle.tera_syntax_tree.specs.Delimiters.{Delims}
 use Rattle.tera_syntax_tokens.specs.Token.{Token}
 use Rattle.tera_syntax_tokens.specs.Inside.{Inside, inside, hyphen}
@@ -21,7 +21,7 @@ pub data Piece : Type 0 where
   -- no piece begins here
   Broken : Piece
 
--- a piece, the place behind it, and whether a `-` at its end trims the text that follows
+-- a piece, the position behind it, and whether a `-` at its end trims the text that follows
 pub record FoundPiece : Type 0 where
   pub piece : Piece
   pub next : ℕ
@@ -60,8 +60,8 @@ start_trimmed trims text = if trims then trim_start text else text
 abbrev pub end_trimmed : Bool → Text → Text
 end_trimmed trims text = if trims then trim_end text else text
 
--- the first n bytes of a text that stands at a place, without the white space that a `-` on either
--- side removes
+-- the first n bytes of a text that stands at a position, without the white space that a `-` on
+-- either side removes
 abbrev pub words : Bool → Bool → ℕ → ℕ → Text → Piece
 words before behind n at text =
     let front = start_trimmed before (take n text) in
@@ -72,7 +72,7 @@ words before behind n at text =
 -- A comment ends at the first comment end.
 unfoldable pub comment : Text → ℕ → Text → Option FoundPiece
 comment end at text =
-    let n = place (begins end) text in
+    let n = position (begins end) text in
     if nat_lt n (length text)
     then Some
     (record {
@@ -109,7 +109,7 @@ endraw_by d at text None = None
 endraw_by d at text (Some o) =
     endraw_of d o.tag (at + start_size o text) (drop (start_size o text) text)
 
--- the tag `endraw` at the front of a text that stands at a place
+-- the tag `endraw` at the front of a text that stands at a position
 unfoldable pub endraw : Delims → ℕ → Text → Option Inside
 endraw d at text = endraw_by d at text (opening_at d text)
 
@@ -120,12 +120,12 @@ ends_raw d text = is_some (endraw d 0 text)
 -- where there is no such tag.
 unfoldable pub raw : Delims → Bool → ℕ → Text → Option FoundPiece
 raw d trims at text =
-    let n = place (ends_raw d) text in
+    let n = position (ends_raw d) text in
     tag_of (λ tokens.
     words trims (trims_before (drop n text) (opening_at d (drop n text))) n at text)
     (endraw d (at + n) (drop n text))
 
--- What a block gives by its inside, where the text behind its start delimiter stands at a place.
+-- What a block gives by its inside, where the text behind its start delimiter stands at a position.
 abbrev pub block : Delims → ℕ → Text → Option Inside → Option FoundPiece
 block d at text None = None
 block d at text (Some x) =
@@ -139,7 +139,7 @@ behind d tag.Comment at text = comment d.comment_end at text
 
 abbrev pub piece_by : Delims → Bool → ℕ → Text → Option Opening → Option FoundPiece
 piece_by d trims at text None =
-    let n = place (opens d) text in
+    let n = position (opens d) text in
     Some (record {
       piece = words trims (trims_before (drop n text) (opening_at d (drop n text))) n at text;
       next = at + n;
@@ -148,7 +148,7 @@ piece_by d trims at text None =
 piece_by d trims at text (Some o) =
     behind d o.tag (at + start_size o text) (drop (start_size o text) text)
 
--- The first piece of a text that stands at a place; a `-` before it may trim it.
+-- The first piece of a text that stands at a position; a `-` before it may trim it.
 unfoldable pub piece : Delims → Bool → ℕ → Text → Option FoundPiece
 piece d trims at text = piece_by d trims at text (opening_at d text)
 
@@ -156,7 +156,7 @@ abbrev pub piece_then : Option FoundPiece → (FoundPiece → List Piece) → Li
 piece_then None more = Broken ∷ []
 piece_then (Some f) more = f.piece ∷ more f
 
--- The pieces of a text that stands at a place, after bytes that are passed over.
+-- The pieces of a text that stands at a position, after bytes that are passed over.
 unfoldable pub cut : Delims → Bool → ℕ → ℕ → Text → List Piece
 cut d trims skip at [] = []
 cut d trims (suc n) at (b ∷ bs) = cut d trims n (suc at) bs

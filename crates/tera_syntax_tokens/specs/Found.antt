@@ -14,11 +14,11 @@ use Rattle.tera_syntax_tokens.specs.declared.cut.FoundPiece as found
 abbrev pub inside_of : List token.Token → inside.Inside → Inside
 inside_of tokens x = record { tokens = tokens_of tokens; next = x.next; trims = x.trims }
 
--- the place behind a tag, and whether a `-` stands at its end
+-- the position behind a tag, and whether a `-` stands at its end
 abbrev pub end_of : Inside → ℕ × Bool
 end_of x = (x.next, x.trims)
 
--- the same by the ending of a text that stands at a place
+-- the same by the ending of a text that stands at a position
 abbrev pub end_from : ℕ → Ending → ℕ × Bool
 end_from at e = (at + e.size, e.trims)
 

@@ -1,4 +1,4 @@
--- A place among the tokens of a tag, and the steps of a reader.
+-- A position among the tokens of a tag, and the steps of a reader.
 use Rattle.std.specs.Prelude.{ℕ, zero, suc, List, [], ◌∷◌, length, drop, Bool, true, false, Option, Some, None, if◌then◌else◌}
 use denote.Enum.Bare.{sameb}
 use Rattle.tera_errors.specs.Site.{Text}
@@ -54,7 +54,7 @@ next i = after i.ahead i.last i.in_loop
 unfoldable pub left : Input → ℕ
 left i = length i.ahead
 
--- from a place to the end of the token that was taken last
+-- from a position to the end of the token that was taken last
 abbrev pub span : ℕ → Input → Span
 span from j = record { start = from; end = j.last }
 
@@ -84,7 +84,7 @@ is_word k.Else = true
 is_word k.For = true
 is_word kind = false
 
--- what was read, and the place behind it
+-- what was read, and the position behind it
 abbrev pub Parsed : Type 0 → Type 0
 Parsed A = Option (A × Input)
 

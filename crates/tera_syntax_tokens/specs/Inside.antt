@@ -17,7 +17,7 @@ closing end text =
     then Some (record { size = length end + 1; trims = true })
     else (if begins end text then Some (record { size = length end; trims = false }) else None)
 
--- the tokens of a tag, the place behind its end delimiter, and whether a `-` stands there
+-- the tokens of a tag, the position behind its end delimiter, and whether a `-` stands there
 pub record Inside : Type 0 where
   pub tokens : List Token
   pub next : ℕ
@@ -50,9 +50,9 @@ open_after opened kind = opened
 abbrev pub closing_in : ℕ → Text → Text → Option Ending
 closing_in opened end text = if opened == 0 then closing end text else None
 
--- What stands behind a start delimiter, by the place where the text stands, with brackets open, and
--- after bytes that are passed over: before each blank and each token the end of the tag is tried.
--- None where the tag has no end, or something that is no token.
+-- What stands behind a start delimiter, by the position where the text stands, with brackets open,
+-- and after bytes that are passed over: before each blank and each token the end of the tag is
+-- tried. None where the tag has no end, or something that is no token.
 unfoldable pub inside : Text → ℕ → ℕ → ℕ → Text → Option Inside
 inside end opened skip at [] = None
 inside end opened (suc n) at (b ∷ bs) = inside end opened n (suc at) bs

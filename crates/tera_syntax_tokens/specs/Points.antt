@@ -5,7 +5,7 @@ use Rattle.tera_syntax_tokens.specs.declared.refusal.Refusal.{Refusal}
 use Rattle.tera_syntax_tokens.specs.declared.refusal.Refusal.TheVariants.{Syntax, OutOfMemory}
 use Rattle.tera_syntax_tree.specs.Inside.{Within}
 
--- into the text, which stands at a place
+-- into the text, which stands at a position
 abbrev pub PointsInto : ℕ → Text → Refusal → Type 0
 PointsInto at text (Syntax why span) =
     (at ≤ span.start) × (span.start ≤ span.end) × (span.end ≤ at + length text)

@@ -1,4 +1,4 @@
--- The definitions that contracts of other crates name, passed on from one place.
+-- The definitions that contracts of other crates name, passed on from one file.
 pub use Rattle.tera_syntax_tokens.specs.Answers.{Answers, IsSyntax}
 pub use Rattle.tera_syntax_tokens.specs.Token.{Token, token_of, tokens_of}
 pub use Rattle.tera_syntax_tokens.specs.Cut.{pieces}

@@ -4,7 +4,7 @@ use Rattle.tera_syntax_tree.specs.Inside.{Within}
 use Rattle.tera_syntax_tokens.specs.Token.{Token}
 use Rattle.tera_syntax_tokens.specs.Cut.{Piece, Words, Comment, Variable, Block, Broken}
 
--- the tokens stand one behind another from a place on, in a text of this size
+-- the tokens stand one behind another from a position on, in a text of this size
 abbrev pub InOrder : ℕ → ℕ → List Token → Type 0
 InOrder size from [] = from ≤ size
 InOrder size from (t ∷ ts) =

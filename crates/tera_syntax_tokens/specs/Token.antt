@@ -131,7 +131,7 @@ abbrev pub named : Kind → Text → Kind
 named k.Name word = word_kind word
 named kind word = kind
 
--- the first token of a text that stands at a place, of this measure
+-- the first token of a text that stands at a position, of this measure
 abbrev pub token : ℕ → Text → Measure → Token
 token at text m =
     record {
@@ -140,6 +140,6 @@ token at text m =
       span = record { start = at; end = at + m.size };
     }
 
--- the longest token at the front of a text that stands at a place
+-- the longest token at the front of a text that stands at a position
 unfoldable pub next_token : ℕ → Text → Option Token
 next_token at text = option_map (token at text) (measured text)

@@ -5,7 +5,7 @@ ghost use Rattle.tera_syntax_tokens.specs.Bytes as spec;
 
 use memchr::{memchr, memchr3};
 
-/// The bytes from a place on.
+/// The bytes from a position on.
 pub(crate) fn after(bytes: &[u8], i: usize) -> &[u8]
     requires { i ≤ length bytes.now }
     ensures { result.now ≡ drop i bytes.now }
@@ -13,7 +13,7 @@ pub(crate) fn after(bytes: &[u8], i: usize) -> &[u8]
     bytes.split_at(i).1
 }
 
-/// The bytes up to a place.
+/// The bytes up to a position.
 pub(crate) fn before(bytes: &[u8], i: usize) -> &[u8]
     requires { i ≤ length bytes.now }
     ensures { result.now ≡ take i bytes.now }
@@ -65,10 +65,10 @@ pub(crate) fn run_len<F: Fn(u8) -> bool>(text: &[u8], passes: F) -> usize
     text.len()
 }
 
-/// The first place where a word begins, or the end.
-#[tactic(auto, unfolding(crate::specs::Bytes::place))]
-pub(crate) fn place(word: &[u8], bytes: &[u8]) -> usize
-    ensures { result ≡ spec.place (spec.begins word.now) bytes.now }
+/// The first position where a word begins, or the end.
+#[tactic(auto, unfolding(crate::specs::Bytes::position))]
+pub(crate) fn position(word: &[u8], bytes: &[u8]) -> usize
+    ensures { result ≡ spec.position (spec.begins word.now) bytes.now }
 {
     for i in 0..bytes.len() {
         if begins(word, after(bytes, i)) {
@@ -78,13 +78,13 @@ pub(crate) fn place(word: &[u8], bytes: &[u8]) -> usize
     bytes.len()
 }
 
-/// The first place where one of three bytes stands, or the end. Mostly they are one byte, which is looked for faster.
-pub(crate) fn place_of_byte(a: u8, b: u8, c: u8, bytes: &[u8]) -> usize
-    ensures value { result ≡ spec.place (spec.heads (is_byte3 a b c)) bytes.now }
+/// The first position where one of three bytes stands, or the end. Mostly they are one byte, which is looked for faster.
+pub(crate) fn position_of_byte(a: u8, b: u8, c: u8, bytes: &[u8]) -> usize
+    ensures value { result ≡ spec.position (spec.heads (is_byte3 a b c)) bytes.now }
     ensures within { result ≤ length bytes.now }
 {
     if are_one(a, b, c) {
-        return place_of_one(a, bytes);
+        return position_of_one(a, bytes);
     }
     match memchr3(a, b, c, bytes) {
         Some(i) => i,
@@ -99,9 +99,9 @@ fn are_one(a: u8, b: u8, c: u8) -> bool
     a == b && a == c
 }
 
-/// The first place where this byte stands, or the end.
-fn place_of_one(a: u8, bytes: &[u8]) -> usize
-    ensures value { result ≡ spec.place (spec.heads (is_byte a)) bytes.now }
+/// The first position where this byte stands, or the end.
+fn position_of_one(a: u8, bytes: &[u8]) -> usize
+    ensures value { result ≡ spec.position (spec.heads (is_byte a)) bytes.now }
     ensures within { result ≤ length bytes.now }
 {
     match memchr(a, bytes) {

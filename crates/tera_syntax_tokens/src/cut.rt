@@ -2,7 +2,7 @@
 ghost use Rattle.std.specs.Prelude.{List, ◌≡◌, ◌<◌, ◌≤◌, ◌+◌, ◌-◌, ◌^◌, [], length, drop, IfOk, IfErr, IfSome, IsTrue, Some, None, get_or};
 ghost use Rattle.memchr.specs.Find.{is_byte3};
 ghost use Rattle.tera_syntax_tokens.specs.Answers.{Answers, Follows};
-ghost use Rattle.tera_syntax_tokens.specs.Bytes.{place};
+ghost use Rattle.tera_syntax_tokens.specs.Bytes.{position};
 ghost use Rattle.tera_syntax_tokens.specs.Cut as spec;
 ghost use Rattle.tera_syntax_tokens.specs.Cut.{Knows};
 ghost use Rattle.tera_syntax_tree.specs.Prelude.{accepted, delimiters_of};
@@ -14,7 +14,7 @@ ghost use Rattle.tera_syntax_tokens.specs.Token.{tokens_of};
 ghost use Rattle.tera_syntax_tokens.specs.declared.refusal.Refusal.TheVariants.{OutOfMemory};
 ghost use Rattle.tera_syntax_tokens.specs.declared.token.Token.{Token};
 
-use crate::bytes::{after, before, begins, place as place_of, place_of_byte};
+use crate::bytes::{after, before, begins, position as position_of, position_of_byte};
 use crate::inside::{cut_inside, is_hyphen};
 use crate::raw::raw;
 use crate::refusal::{Reason, Refusal};
@@ -62,11 +62,11 @@ pub enum Piece<'a> {
 #[derive(Drop)]
 pub struct FoundPiece<'a> {
     pub piece: Piece<'a>,
-    /// The place behind it in the source.
+    /// The position behind it in the source.
     pub next: usize,
     /// Whether a `-` at its end trims the text that follows.
     pub trims: bool,
-    /// The text from that place on.
+    /// The text from that position on.
     pub rest: &'a str,
     /// The start delimiter that begins it, where that is known by now.
     pub opening: Option<Opening>,
@@ -141,7 +141,7 @@ fn opening_of(delimiters: &Delimiters, text: &[u8], known: Option<Opening>) -> O
 #[inline(always)]
 fn opening_ahead(delimiters: &Delimiters, text: &[u8]) -> Ahead
     requires usable { IsTrue (accepted (delimiters_of delimiters.now)) }
-    ensures value { result.at ≡ place (spec.opens (delimiters_of delimiters.now)) text.now }
+    ensures value { result.at ≡ position (spec.opens (delimiters_of delimiters.now)) text.now }
     ensures within { result.at ≤ length text.now }
     ensures known { let rest = drop result.at text.now in
         result.opening ≡ spec.opening_at (delimiters_of delimiters.now) rest }
@@ -149,13 +149,13 @@ fn opening_ahead(delimiters: &Delimiters, text: &[u8]) -> Ahead
     let variable = delimiters.variable_start.as_bytes()[0];
     let block = delimiters.block_start.as_bytes()[0];
     let comment = delimiters.comment_start.as_bytes()[0];
-    let mut i = place_of_byte(variable, block, comment, text);
+    let mut i = position_of_byte(variable, block, comment, text);
     while i < text.len() {
         let opening = opening_at(delimiters, after(text, i));
         if opening.is_some() {
             return Ahead { at: i, opening };
         }
-        i = i + 1 + place_of_byte(variable, block, comment, after(text, i + 1));
+        i = i + 1 + position_of_byte(variable, block, comment, after(text, i + 1));
     }
     Ahead {
         at: i,
@@ -163,10 +163,10 @@ fn opening_ahead(delimiters: &Delimiters, text: &[u8]) -> Ahead
     }
 }
 
-/// The first place where a start delimiter begins, or the end.
+/// The first position where a start delimiter begins, or the end.
 pub(crate) fn next_opening(delimiters: &Delimiters, text: &[u8]) -> usize
     requires usable { IsTrue (accepted (delimiters_of delimiters.now)) }
-    ensures value { result ≡ place (spec.opens (delimiters_of delimiters.now)) text.now }
+    ensures value { result ≡ position (spec.opens (delimiters_of delimiters.now)) text.now }
     ensures within { result ≤ length text.now }
 {
     opening_ahead(delimiters, text).at
@@ -276,7 +276,7 @@ fn comment<'a>(end: &str, text: &'a str, at: usize) -> Result<FoundPiece<'a>, Re
     ensures unknown { IfOk result (λ x. x.opening ≡ None) }
 {
     let bytes = text.as_bytes();
-    let n = place_of(end.as_bytes(), bytes);
+    let n = position_of(end.as_bytes(), bytes);
     if n >= bytes.len() {
         return Err(Refusal::Syntax(
             Reason::OpenComment,
@@ -368,7 +368,7 @@ fn behind<'a>(
     }
 }
 
-/// The first piece of a text that stands at the place `at` of the source. A `-` before it trims it where `trims` says so:
+/// The first piece of a text that stands at the position `at` of the source. A `-` before it trims it where `trims` says so:
 /// that is what the piece before it found, and `false` at the start. The tokens of a tag take the place of those that were
 /// there, so that one list serves all tags of a text; beside any other piece it holds what it may. The start delimiter that
 /// begins the text may be known: the piece before it tells.
@@ -403,7 +403,7 @@ pub fn next_piece<'a>(
     }
 }
 
-/// The place behind the block tag that begins a text, which stands at the place `at` of the source; none where no such tag does.
+/// The position behind the block tag that begins a text, which stands at the position `at` of the source; none where no such tag does.
 pub fn block_end<'a>(
     tokens: &mut Vec<Token<'a>>,
     delimiters: &Delimiters,

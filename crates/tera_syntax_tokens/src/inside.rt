@@ -54,7 +54,7 @@ pub(crate) fn closing(end: &[u8], text: &[u8]) -> Option<Ending>
     None
 }
 
-/// The end of a tag, where no bracket is open. Most places are told by their first byte.
+/// The end of a tag, where no bracket is open. Most positions are told by their first byte.
 fn closing_in(opened: usize, first: u8, end: &[u8], text: &[u8]) -> Option<Ending>
     requires first { first ≡ get_or end.now 0 0 }
     requires some { 0 < length end.now }
@@ -83,7 +83,7 @@ fn open_after(opened: usize, kind: Kind) -> usize
     }
 }
 
-/// Cuts what stands behind a start delimiter, at a place of the source. Its tokens take the place of those that were there.
+/// Cuts what stands behind a start delimiter, at a position of the source. Its tokens take the place of those that were there.
 pub(crate) fn cut_inside<'a>(
     tokens: &mut Vec<Token<'a>>,
     text: &'a str,

@@ -68,7 +68,7 @@ fn plain_len(text: &[u8]) -> usize
     run_len(text, |b| b != b'\\')
 }
 
-/// What a backslash before this place stands for, with the byte there.
+/// What a backslash before this position stands for, with the byte there.
 fn escape_at(text: &[u8], i: usize) -> Option<u8>
     ensures value { result ≡ spec.escape_of (drop i text.now) }
     ensures low { IfSome result (λ c. (c < 128) × (i < length text.now)

@@ -3,7 +3,7 @@ ghost use Rattle.std.specs.Prelude.{ℕ, List, None, ◌≡◌, ◌<◌, ◌≤�
 ghost use Rattle.std.specs.Str.{IsCharBoundary, IsUtf8};
 ghost use Rattle.tera_syntax_tokens.specs.Answers.{Answers, Follows};
 ghost use Rattle.tera_syntax_tokens.specs.Bytes as bytes;
-ghost use Rattle.tera_syntax_tokens.specs.Bytes.{place};
+ghost use Rattle.tera_syntax_tokens.specs.Bytes.{position};
 ghost use Rattle.tera_syntax_tokens.specs.Cut as spec;
 ghost use Rattle.tera_syntax_tokens.specs.Found.{end_of, end_from, found_of};
 ghost use Rattle.tera_syntax_tokens.specs.Inside as tag;
@@ -99,10 +99,10 @@ fn endraw(delimiters: &Delimiters, text: &[u8]) -> Option<Ending>
     }
 }
 
-/// The first place where the tag `endraw` begins, or the end.
+/// The first position where the tag `endraw` begins, or the end.
 fn next_endraw(delimiters: &Delimiters, text: &[u8]) -> usize
     requires usable { IsTrue (accepted (delimiters_of delimiters.now)) }
-    ensures { result ≡ place (spec.ends_raw (delimiters_of delimiters.now)) text.now }
+    ensures { result ≡ position (spec.ends_raw (delimiters_of delimiters.now)) text.now }
 {
     let mut i = next_opening(delimiters, text);
     while i < text.len() {

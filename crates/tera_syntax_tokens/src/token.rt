@@ -297,7 +297,7 @@ fn named(kind: Kind, word: &str) -> Kind
     }
 }
 
-/// The longest token at a byte of the text, which stands at a place of the source.
+/// The longest token at a byte of the text, which stands at a position of the source.
 pub(crate) fn next_token<'a>(text: &'a str, i: usize, at: usize) -> Option<Token<'a>>
     requires inside { i < length text.now }
     requires room { at + length text.now < 2 ^ 64 }

@@ -1,4 +1,4 @@
-// A place among the tokens of a tag.
+// A position among the tokens of a tag.
 ghost use Rattle.std.specs.Prelude.{◌≡◌, drop};
 ghost use Rattle.tera_syntax_tokens.specs.Answers.{IsSyntax};
 ghost use Rattle.tera_syntax_tokens.specs.Input as spec;
@@ -9,7 +9,7 @@ use crate::refusal::{Reason, Refusal};
 use crate::token::{Kind, Token};
 use tera_errors::Span;
 
-/// A place among the tokens of a tag. Past the last token stands one of the kind `End`, with no text, at the place 0.
+/// A position among the tokens of a tag. Past the last token stands one of the kind `End`, with no text, at the position 0.
 #[derive(Drop)]
 pub struct Tokens<'t, 's> {
     pub ahead: &'t [Token<'s>],
@@ -20,7 +20,7 @@ pub struct Tokens<'t, 's> {
 }
 
 impl<'t, 's> Tokens<'t, 's> {
-    /// The place before all of them.
+    /// The position before all of them.
     pub fn begin(tokens: &'t [Token<'s>], in_loop: bool) -> Tokens<'t, 's>
         ensures { input result ≡ spec.begin in_loop (tokens_of tokens.now) }
     {
@@ -75,7 +75,7 @@ impl<'t, 's> Tokens<'t, 's> {
         self.ahead = behind_first(self.ahead);
     }
 
-    /// From a place to the end of what was taken.
+    /// From a position to the end of what was taken.
     pub fn span(&self, start: usize) -> Span
         ensures { result ≡ spec.span start (input self.now) }
     {

@@ -1,7 +1,7 @@
 -- How deep trees are.
 use Rattle.std.specs.Prelude.{ℕ, suc, max, ◌≤◌, false, IsTrue, List, [], ◌∷◌, Option, Some, None}
 use Rattle.tera_syntax_tree.specs.Tree.{Expr, Nothing, Boolean, Integer, Text, Name, Attribute, Index, Slice, Not, Negate, Binary, And, Or, Ternary, Array, Map, Comprehension, Super, Filter, Test, Call, Component, Optional, Absent, Present, Items, NoItems, MoreItems, Entries, NoEntries, MoreEntries, Arguments, NoArguments, MoreArguments, Literal, NothingLiteral, BooleanLiteral, IntegerLiteral, TextLiteral, ArrayLiteral, MapLiteral, Literals, NoLiterals, MoreLiterals, LiteralEntries, NoLiteralEntries, MoreLiteralEntries, Parameter, Filters, NoFilters, MoreFilters, Node, Content, Print, If, Set, Capture, FilterSection, For, Block, Include, ComponentCall, Definition, Break, Continue, Nodes, NoNodes, MoreNodes, Tree}
-use Rattle.tera_syntax_tree.specs.Places.{in_place}
+use Rattle.tera_syntax_tree.specs.Leaving.{in_place}
 use Rattle.tera_syntax_tree.specs.Blocks.{has_each_block_once}
 use Rattle.tera_syntax_tree.specs.Definitions.{defines_at_top, has_each_component_once}
 

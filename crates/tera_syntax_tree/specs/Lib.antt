@@ -1,7 +1,7 @@
 pub mod Delimiters
 pub mod Tree
 pub mod View
-pub mod Places
+pub mod Leaving
 pub mod Gathered
 pub mod Blocks
 pub mod Definitions

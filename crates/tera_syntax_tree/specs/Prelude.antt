@@ -1,4 +1,4 @@
--- The definitions that contracts of other crates name, passed on from one place.
+-- The definitions that contracts of other crates name, passed on from one file.
 pub use Rattle.tera_syntax_tree.specs.Delimiters.{accepted, delimiters_of}
 pub use Rattle.tera_syntax_tree.specs.Tree.{Absent, And, Array, Binary, Boolean, FilterSection, first_span, Index, Map}
 pub use Rattle.tera_syntax_tree.specs.Tree.{MoreFilters, Negate, NoArguments, NoEntries, NoFilters, Not, Or, Present}

@@ -306,7 +306,7 @@ impl EscapeFn for Asks {
     }
 }
 
-/// The text with another one at all places of a pattern.
+/// The text with another one at all positions of a pattern.
 fn replaced(alloc: Global, text: &str, from: &str, to: &str) -> TeraResult<String>
     ensures { Gives string_bytes result (Ok (replaced plain.code from.now to.now text.now)) }
 {

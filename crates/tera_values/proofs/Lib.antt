@@ -1,5 +1,5 @@
 pub mod Named
-pub mod Places
+pub mod Positions
 pub mod Contexts
 pub mod Contents
 pub mod Powers

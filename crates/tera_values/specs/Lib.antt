@@ -3,7 +3,7 @@ pub use Rattle.tera_errors.specs.Fault
 pub use Rattle.tera_errors.specs.Answer
 pub use Rattle.tera_values_data.specs.Alphabet
 pub use Rattle.tera_values_data.specs.Val
-pub use Rattle.tera_values_data.specs.Code
+pub use Rattle.tera_values_data.specs.Coding
 pub use Rattle.tera_values_data.specs.View
 pub use Rattle.tera_values_data.specs.Shape
 pub use Rattle.tera_values_data.specs.Keys

@@ -30,9 +30,9 @@ further (Ok at) = Ok (suc at)
 further (Err at) = Err (suc at)
 
 -- where a name stands, or where it goes
-abbrev pub place : {A : Type 0} → Name → Named A → Result ℕ ℕ
-place n [] = Err 0
-place n (e ∷ es) = match_ordering (name_cmp n e.0) (Err 0) (Ok 0) (further (place n es))
+abbrev pub position : {A : Type 0} → Name → Named A → Result ℕ ℕ
+position n [] = Err 0
+position n (e ∷ es) = match_ordering (name_cmp n e.0) (Err 0) (Ok 0) (further (position n es))
 
 -- all of the first, put into the second one by one
 abbrev pub put_all : {A : Type 0} → Named A → Named A → Named A

@@ -15,8 +15,8 @@ use Rattle.tera_values.specs.declared.counter.Counter.TheVariants as counter
 abbrev pub packed : Name → ℕ
 packed n = number_from_digits_after 256 1 n
 
--- a short text's hash: the number, and for maps of few places a remainder in the low bits, to which
--- each byte adds
+-- a short text's hash: the number, and for maps of few positions a remainder in the low bits, to
+-- which each byte adds
 abbrev pub short_hash : Name → ℕ
 short_hash n = packed n * 64 + packed n % 63
 

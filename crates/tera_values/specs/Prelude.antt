@@ -1,4 +1,4 @@
--- The definitions that contracts of other crates name, passed on from one place.
+-- The definitions that contracts of other crates name, passed on from one file.
 pub use Rattle.tera_values_data.specs.Alphabet.{plain}
 pub use Rattle.tera_values_data.specs.Val.{array, bool, entries, int, KeyVal, ktext, map, text, undefined, Val, vals}
 pub use Rattle.tera_values_data.specs.View.{key_view}

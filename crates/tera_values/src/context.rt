@@ -28,13 +28,13 @@ impl Drop for Context {
 
 impl Model for Context {
     ghost use Rattle.tera_values_data.specs.Val.{Val};
-    ghost use Rattle.tera_values_data.specs.Code.{val_code};
+    ghost use Rattle.tera_values_data.specs.Coding.{val_coding};
     ghost use Rattle.tera_values.specs.Named.{Named, named_code};
     ghost use Rattle.tera_values.specs.Names.{by_name};
 
     ghost Value = { Named Val };
 
-    ghost coded = { named_code val_code };
+    ghost coded = { named_code val_coding };
 
     ghost view = { λ c. by_name c.names.entries };
 }

@@ -1,7 +1,7 @@
 // Arguments by name.
 ghost use Rattle.std.specs.Prelude.{◌≡◌, [], Ok, IfErr, IfSome, IsErr, OnOk, OnErr, option_copied, option_map};
 ghost use Rattle.tera_errors.specs.Prelude.{Gives, Lacks, MemorySuffices};
-ghost use Rattle.tera_values.specs.Named.{at_name, name_cmp, place, put, put_all, IsAscending};
+ghost use Rattle.tera_values.specs.Named.{at_name, name_cmp, position, put, put_all, IsAscending};
 ghost use Rattle.tera_values.specs.Arguments.{read, read_needed};
 
 use crate::argument::ArgFromValue;
@@ -25,12 +25,12 @@ pub struct Kwargs {
 
 impl Model for Kwargs {
     ghost use Rattle.tera_values_data.specs.Val.{Val};
-    ghost use Rattle.tera_values_data.specs.Code.{val_code};
+    ghost use Rattle.tera_values_data.specs.Coding.{val_coding};
     ghost use Rattle.tera_values.specs.Named.{Named, named_code, IsAscending};
 
     ghost Value = { Named Val };
 
-    ghost coded = { named_code val_code };
+    ghost coded = { named_code val_coding };
 
     ghost view = { λ k. k.entries.items };
 
@@ -76,7 +76,7 @@ impl Kwargs {
         ensures err { OnErr result (self.new ≡ self.old) }
         ensures lacks { IfErr result Lacks }
     {
-        match place(self.entries.as_slice(), name.as_str()) {
+        match position(self.entries.as_slice(), name.as_str()) {
             Ok(at) => self.entries[at] = (name, value),
             Err(at) => self.entries.insert(at, (name, value))?,
         }
@@ -87,7 +87,7 @@ impl Kwargs {
     pub fn value(&self, name: &str) -> Option<&Value>
         ensures { option_copied result ≡ at_name name.now self.now }
     {
-        match place(self.entries.as_slice(), name) {
+        match position(self.entries.as_slice(), name) {
             Ok(at) => Some(&self.entries[at].1),
             Err(_) => None,
         }
@@ -154,9 +154,9 @@ impl Kwargs {
 }
 
 // Where the name stands, or where it goes.
-fn place(entries: &[(Name, Value)], name: &str) -> Result<usize, usize>
+fn position(entries: &[(Name, Value)], name: &str) -> Result<usize, usize>
     requires { IsAscending entries.now }
-    ensures { result ≡ place name.now entries.now }
+    ensures { result ≡ position name.now entries.now }
 {
     entries.binary_search_by(|entry| compared(entry, name))
 }

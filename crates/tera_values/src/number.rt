@@ -22,7 +22,7 @@ fn integers(left: &Value, right: &Value) -> Option<(i128, i128)>
     }
 }
 
-/// The number as a value, or a refusal.
+/// The number as a value, or an error.
 #[inline(always)]
 fn answer(alloc: Global, number: Option<i128>) -> TeraResult<Value>
     ensures value { Gives (λ v. v) result (told number) }
@@ -34,13 +34,13 @@ fn answer(alloc: Global, number: Option<i128>) -> TeraResult<Value>
     }
 }
 
-/// What is calculated from the two integers, or a refusal in these words where there are not two.
+/// What is calculated from the two integers, or an error with this message where there are not two.
 #[inline(always)]
 fn calculated<F: FnOnce(i128, i128) -> Option<i128>>(
     alloc: Global,
     left: &Value,
     right: &Value,
-    refusal: &str,
+    message: &str,
     calculate: F,
 ) -> TeraResult<Value>
     requires { F.IsAlwaysCallable calculate }
@@ -53,7 +53,7 @@ fn calculated<F: FnOnce(i128, i128) -> Option<i128>>(
 {
     match integers(left, right) {
         Some((a, b)) => answer(alloc, calculate(a, b)),
-        None => Err(Error::message(alloc, refusal)),
+        None => Err(Error::message(alloc, message)),
     }
 }
 
@@ -167,7 +167,7 @@ pub fn mul(alloc: Global, left: &Value, right: &Value) -> TeraResult<Value>
     )
 }
 
-/// The exact quotient; a refusal where it is not whole, as at a zero divisor.
+/// The exact quotient; an error where it is not whole, as at a zero divisor.
 pub fn div(alloc: Global, left: &Value, right: &Value) -> TeraResult<Value>
     ensures value { Gives (λ v. v) result (div left.now right.now) }
     ensures ready { IsOk (div left.now right.now) → IsOk result }
@@ -181,7 +181,7 @@ pub fn div(alloc: Global, left: &Value, right: &Value) -> TeraResult<Value>
     )
 }
 
-/// Euclid's quotient; a refusal at a zero divisor.
+/// Euclid's quotient; an error at a zero divisor.
 pub fn floor_div(alloc: Global, left: &Value, right: &Value) -> TeraResult<Value>
     ensures value { Gives (λ v. v) result (floor_div left.now right.now) }
     ensures ready { IsOk (floor_div left.now right.now) → IsOk result }
@@ -189,7 +189,7 @@ pub fn floor_div(alloc: Global, left: &Value, right: &Value) -> TeraResult<Value
     calculated(alloc, left, right, "only integers are divided", quotient)
 }
 
-/// Euclid's remainder, which is never negative; a refusal at a zero divisor.
+/// Euclid's remainder, which is never negative; an error at a zero divisor.
 pub fn rem(alloc: Global, left: &Value, right: &Value) -> TeraResult<Value>
     ensures value { Gives (λ v. v) result (rem left.now right.now) }
     ensures ready { IsOk (rem left.now right.now) → IsOk result }
@@ -197,7 +197,7 @@ pub fn rem(alloc: Global, left: &Value, right: &Value) -> TeraResult<Value>
     calculated(alloc, left, right, "only integers are divided", remainder)
 }
 
-/// The power; a refusal at a negative exponent. `0 ** 0` is 1.
+/// The power; an error at a negative exponent. `0 ** 0` is 1.
 pub fn pow(alloc: Global, left: &Value, right: &Value) -> TeraResult<Value>
     ensures value { Gives (λ v. v) result (pow left.now right.now) }
     ensures ready { IsOk (pow left.now right.now) → IsOk result }

@@ -7,11 +7,11 @@ use Rattle.tera_values_data.specs.Val.{Val, kbool, undefined, vals, entries, val
 use Rattle.tera_values_data.specs.View.{key_view, entry_view, entry_views}
 use Rattle.tera_values_data.specs.declared.value.Entry.{Entry}
 use Rattle.tera_values_data.proofs.Steps.{step, ends}
-use Rattle.tera_values_data.proofs.Entries.{place_below}
+use Rattle.tera_values_data.proofs.Entries.{position_below}
 use Rattle.tera_values_data.specs.Keys.{key_cmp}
 use Rattle.tera_values_data.specs.Index.{picked, IsIndex}
 use Rattle.tera_values_data.specs.Order.{order, pair_order, plain_items, plain_entries, items_cmp, entries_cmp}
-use Rattle.tera_values_data.proofs.Places.{Pairs}
+use Rattle.tera_values_data.proofs.Positions.{Pairs}
 use Rattle.tera_values_data.proofs.Sorted.{plain_pair, in_order, picked_length}
 
 then_assoc : (a b c : Ordering) → ordering_then a (ordering_then b c) ≡ ordering_then (ordering_then a b) c
@@ -48,10 +48,10 @@ eq_then Greater p h = cc
 picked_entry : (keys : List ℕ) (a : List Entry) → IsIndex keys (entry_views a) → (p : ℕ) (x : Entry) → p < length keys → x ≡ get_or a (get_or keys p 0) x → entry_view x ≡ get_or (picked keys (entry_views a)) p (entry_view x)
 picked_entry keys a ix p x h is =
     sym (get_or-map (λ (i : ℕ). get_or (entry_views a) i (kbool false, undefined)) keys p 0 (entry_view x) h
-    ∙ get_or-map entry_view a (get_or keys p 0) x (kbool false, undefined) (place_below keys a ix p h)
+    ∙ get_or-map entry_view a (get_or keys p 0) x (kbool false, undefined) (position_below keys a ix p h)
     ∙ ap entry_view (sym is))
 
--- two walks at one place: there the keys tell, or else the values, or else the rest
+-- two walks at one position: there the keys tell, or else the values, or else the rest
 module _ (ka kb : List ℕ) (a b : List Entry) (ia : IsIndex ka (entry_views a)) (ib : IsIndex kb (entry_views b)) (p : ℕ) (x y : Entry) (h : p < length ka) (g : p < length kb) (is_x : x ≡ get_or a (get_or ka p 0) x) (is_y : y ≡ get_or b (get_or kb p 0) y) where
   abbrev from : ℕ → Ordering
   from i = slice_cmp pair_order (drop i (picked ka (entry_views a))) (drop i (picked kb (entry_views b)))
@@ -65,17 +65,17 @@ module _ (ka kb : List ℕ) (a b : List Entry) (ia : IsIndex ka (entry_views a))
   pairs_step : from p ≡ ordering_then (ordering_then keys values) (from (suc p))
   pairs_step = step pair_order (picked ka (entry_views a)) (picked kb (entry_views b)) p (entry_view x) (entry_view y) (omega (arith, h, picked_length ka (entry_views a))) (omega (arith, g, picked_length kb (entry_views b))) (picked_entry ka a ia p x h is_x) (picked_entry kb b ib p y g is_y)
 
-  at_place : (o : Ordering) → o ≡ ordering_then keys values → ordering_then o (from (suc p)) ≡ from p
-  at_place o is = ap (λ q. ordering_then q (from (suc p))) is ∙ sym pairs_step
+  at_position : (o : Ordering) → o ≡ ordering_then keys values → ordering_then o (from (suc p)) ≡ from p
+  at_position o is = ap (λ q. ordering_then q (from (suc p))) is ∙ sym pairs_step
 
   by_values : (k : Ordering) → k ≡ keys → ordering_then k values ≡ ordering_then keys values
   by_values k is = ap (λ o. ordering_then o values) is
 
   pub keys_tell : (k : Ordering) → k ≡ keys → is_ne k ≡ true → k ≡ from p
-  keys_tell k is ne = ne_then k (from (suc p)) ne ∙ at_place k (ne_then k values ne ∙ by_values k is)
+  keys_tell k is ne = ne_then k (from (suc p)) ne ∙ at_position k (ne_then k values ne ∙ by_values k is)
 
   same_keys : (k v : Ordering) → k ≡ keys → is_ne k ≡ false → v ≡ values → ordering_then v (from (suc p)) ≡ from p
-  same_keys k v is tie gives = at_place v (gives ∙ sym (eq_then k values tie) ∙ by_values k is)
+  same_keys k v is tie gives = at_position v (gives ∙ sym (eq_then k values tie) ∙ by_values k is)
 
   pub values_tell : (k v : Ordering) → k ≡ keys → is_ne k ≡ false → v ≡ values → is_ne v ≡ true → v ≡ from p
   values_tell k v is tie gives ne = ne_then v (from (suc p)) ne ∙ same_keys k v is tie gives

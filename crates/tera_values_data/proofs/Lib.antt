@@ -1,7 +1,7 @@
 pub mod Runs
 pub mod Lanes
 pub mod Keys
-pub mod Places
+pub mod Positions
 pub mod Entries
 pub mod Pairs
 pub mod Sorted

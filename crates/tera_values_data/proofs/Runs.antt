@@ -9,12 +9,12 @@ use Rattle.std.proofs.lemmas.Bool.{eqb-true}
 use Rattle.tera_values_data.specs.Growth.{Keeps, IsPlain, by_byte}
 use Rattle.tera_values_data.specs.Escape.{escape_byte, escape_xml_byte}
 
--- a walk from one place on is past bytes that stand for themselves alone
+-- a walk from one position on is past bytes that stand for themselves alone
 abbrev pub IsPast : (ℕ → List ℕ) → List ℕ → ℕ → ℕ → Type 0
-IsPast form bytes from place = record {
-  low : from ≤ place;
-  high : place ≤ length bytes;
-  plain : IsPlain form bytes from place;
+IsPast form bytes from position = record {
+  low : from ≤ position;
+  high : position ≤ length bytes;
+  plain : IsPlain form bytes from position;
 }
 
 pub keeps_all : (t : List ℕ) → Keeps t t
@@ -23,7 +23,7 @@ keeps_all t = record { more = []; is = sym (append-nil t) }
 pub keeps_on : (a b c : List ℕ) → Keeps a b → Keeps b c → Keeps a c
 keeps_on a b c h g = record { more = h.more ++ g.more; is = g.is ∙ ap (λ (t : List ℕ). t ++ g.more) h.is ∙ append_assoc a h.more g.more }
 
--- the byte at place p
+-- the byte at position p
 pub by_byte_more : (f : ℕ → List ℕ) (t : List ℕ) (p : ℕ) → p < length t → by_byte f (drop p t) ≡ f (get_or t p 0) ++ by_byte f (drop (p + 1) t)
 by_byte_more f t p h = ap (by_byte f) (drop_more t p 0 h)
 

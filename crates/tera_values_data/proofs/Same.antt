@@ -10,7 +10,7 @@ use Rattle.tera_values_data.specs.Order.{content_cmp, items_cmp, entries_cmp, pl
 use Rattle.tera_values_data.specs.Laws.{content_total}
 use Rattle.tera_values_data.proofs.Keys.{key_exact, then_left, is_eq_true}
 use Rattle.tera_values_data.proofs.Pairs.{pairs_entries}
-use Rattle.tera_values_data.proofs.Places.{Pairs}
+use Rattle.tera_values_data.proofs.Positions.{Pairs}
 use Rattle.tera_values_data.proofs.Sorted.{sort_pairs, sort_entries, rising_sort, find_sort, unique}
 
 then_right : (o p : Ordering) → ordering_then o p ≡ Equal → p ≡ Equal

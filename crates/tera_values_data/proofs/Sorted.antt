@@ -7,7 +7,7 @@ use Rattle.tera_values_data.specs.Index.{key_at, nth_key, picked, IsIndex, IsAt}
 use Rattle.tera_values_data.specs.Access.{key_eq, find}
 use Rattle.tera_values_data.specs.Order.{plain, plain_entries, put, by_answer}
 use Rattle.tera_values_data.proofs.Keys.{keys_total, key_exact, key_tied, flip_Greater, is_eq_true}
-use Rattle.tera_values_data.proofs.Places.{Pairs, value_at, NoKeyBefore, find_absent, find_present, found}
+use Rattle.tera_values_data.proofs.Positions.{Pairs, value_at, NoKeyBefore, find_absent, find_present, found}
 
 abbrev pub plain_pair : KeyVal × Val → KeyVal × Val
 plain_pair e = (e.0, plain e.1)
@@ -159,13 +159,13 @@ unique [] (y ∷ m) r s h = absurd (some_none y.1 (sym (find_first y m) ∙ sym 
 unique (x ∷ l) [] r s h = absurd (some_none x.1 (sym (find_first x l) ∙ h x.0))
 unique (x ∷ l) (y ∷ m) r s h = unique_by x y l m r s h (unique l m r.1 s.1) (key_cmp x.0 y.0) refl
 
-above_picked : (k : KeyVal) (places : List ℕ) (es : Pairs) → ((p : ℕ) → p < length places → key_cmp k (nth_key places es p) ≡ Less) → AllAbove k (map plain_pair (picked places es))
+above_picked : (k : KeyVal) (positions : List ℕ) (es : Pairs) → ((p : ℕ) → p < length positions → key_cmp k (nth_key positions es p) ≡ Less) → AllAbove k (map plain_pair (picked positions es))
 above_picked k [] es h = tt
-above_picked k (i ∷ places) es h = (h 0 (omega arith), above_picked k places es (λ p lt. h (suc p) (omega arith)))
+above_picked k (i ∷ positions) es h = (h 0 (omega arith), above_picked k positions es (λ p lt. h (suc p) (omega arith)))
 
-rising_picked : (places : List ℕ) (es : Pairs) → ((p q : ℕ) → p < q → q < length places → key_cmp (nth_key places es p) (nth_key places es q) ≡ Less) → Rising (map plain_pair (picked places es))
+rising_picked : (positions : List ℕ) (es : Pairs) → ((p q : ℕ) → p < q → q < length positions → key_cmp (nth_key positions es p) (nth_key positions es q) ≡ Less) → Rising (map plain_pair (picked positions es))
 rising_picked [] es h = tt
-rising_picked (i ∷ places) es h = (above_picked (key_at es i) places es (λ p lt. h 0 (suc p) (omega arith) (omega arith)), rising_picked places es (λ p q lt g. h (suc p) (suc q) (omega arith) (omega arith)))
+rising_picked (i ∷ positions) es h = (above_picked (key_at es i) positions es (λ p lt. h 0 (suc p) (omega arith) (omega arith)), rising_picked positions es (λ p q lt g. h (suc p) (suc q) (omega arith) (omega arith)))
 
 one_more : (e : KeyVal × Val) (es : Pairs) (k : KeyVal) (i : ℕ) → key_eq k e.0 ≡ false → NoKeyBefore es k i → NoKeyBefore (e ∷ es) k (suc i)
 one_more e es k i h free zero lt = h
@@ -182,11 +182,11 @@ either (e ∷ es) k = elim (by_cases (key_eq k e.0)) [
   ]
 ]
 
-picked_at : (places : List ℕ) (es : Pairs) (p : ℕ) → p < length places → get_or (picked places es) p (kbool false, undefined) ≡ get_or es (get_or places p 0) (kbool false, undefined)
-picked_at places es p h = get_or-map (λ (i : ℕ). get_or es i (kbool false, undefined)) places p 0 (kbool false, undefined) h
+picked_at : (positions : List ℕ) (es : Pairs) (p : ℕ) → p < length positions → get_or (picked positions es) p (kbool false, undefined) ≡ get_or es (get_or positions p 0) (kbool false, undefined)
+picked_at positions es p h = get_or-map (λ (i : ℕ). get_or es i (kbool false, undefined)) positions p 0 (kbool false, undefined) h
 
-pub picked_length : (places : List ℕ) (es : Pairs) → length (picked places es) ≡ length places
-picked_length places es = length-map places (λ (i : ℕ). get_or es i (kbool false, undefined))
+pub picked_length : (positions : List ℕ) (es : Pairs) → length (picked positions es) ≡ length positions
+picked_length positions es = length-map positions (λ (i : ℕ). get_or es i (kbool false, undefined))
 
 pub find_picked : (by_key : List ℕ) (es : Pairs) → IsIndex by_key es → (k : KeyVal) → find k (picked by_key es) ≡ find k es
 find_picked by_key es ix k = elim (either (picked by_key es) k) [

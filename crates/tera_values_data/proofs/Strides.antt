@@ -1,4 +1,4 @@
--- Places by strides.
+-- Positions by strides.
 use Rattle.std.proofs.Common.{◌≡◌, ◌⊎◌, inl, inr, ℕ, zero, suc, ◌+◌, ◌-◌, ◌<◌, ◌≤◌, Bool, true, false, List, [], ◌∷◌, ◌++◌, length, get_or, cond, nat_lt, refl, sym, ap, subst, ◌∙◌, arith, append_assoc}
 use Rattle.std.proofs.Common.{Option, Some, None, ℤ, pos, negsuc, take, map}
 use Rattle.std.proofs.lemmas.Bool.Decides.{nat_tests}
@@ -7,7 +7,7 @@ use Rattle.std.proofs.lemmas.Str.{encodes-append}
 use Rattle.std.specs.Char.{encode_utf8}
 use Rattle.std.specs.Prelude.{unsigned_abs, int_lt}
 use Rattle.std.specs.Str.{encode_utf8_all}
-use Rattle.tera_values_data.specs.Slices.{before, through, bound, upward, downward, places, picked_chars}
+use Rattle.tera_values_data.specs.Slices.{before, through, bound, upward, downward, positions, picked_chars}
 
 is_below : (a b : ℕ) → a < b → nat_lt a b ≡ true
 is_below a b h = grind (arith, nat_tests)
@@ -39,11 +39,11 @@ up_one (suc n) a end step s h = elim (below_or_not a end) [
   | inr o ↦ up_end (suc n) a end step o ∙ sym (up_end (suc (suc n)) a end step o)
 ]
 
--- the place where it stands, and the rest
+-- the position where it stands, and the rest
 pub up_step : (n a end step : ℕ) → 0 < step → end - a ≤ n → a < end → upward n a end step ≡ a ∷ upward n (a + step) end step
 up_step n a end step s h b = up_one n a end step s h ∙ up_first n a end step b
 
--- where all places have room, they are the same
+-- where all positions have room, they are the same
 pub up_same : (m n a end step : ℕ) → 0 < step → end - a ≤ m → end - a ≤ n → upward m a end step ≡ upward n a end step
 up_same zero n a end step s h g = sym (up_end n a end step (omega arith))
 up_same (suc m) zero a end step s h g = up_end (suc m) a end step (omega arith)
@@ -56,7 +56,7 @@ up_below_first : (n a end step : ℕ) → a < end → ((i : ℕ) → i < length 
 up_below_first n a end step b rest zero h = b
 up_below_first n a end step b rest (suc i) h = rest i (omega (arith, h))
 
--- every place is below the end
+-- every position is below the end
 pub up_below : (n a end step : ℕ) (i : ℕ) → i < length (upward n a end step) → get_or (upward n a end step) i 0 < end
 up_below zero a end step i h = absurd (omega (arith, h))
 up_below (suc n) a end step i h = elim (below_or_not a end) [
@@ -93,7 +93,7 @@ down_below_first : (n a end step most : ℕ) → end < a → a ≤ most → ((i 
 down_below_first n a end step most b w rest zero h = omega arith
 down_below_first n a end step most b w rest (suc i) h = rest i (omega (arith, h))
 
--- every place is below the start
+-- every position is below the start
 pub down_below : (n a end step most : ℕ) (i : ℕ) → a ≤ most → i < length (downward n a end step) → get_or (downward n a end step) i 0 < most
 down_below zero a end step most i w h = absurd (omega (arith, h))
 down_below (suc n) a end step most i w h = elim (below_or_not end a) [
@@ -101,9 +101,9 @@ down_below (suc n) a end step most i w h = elim (below_or_not end a) [
   | inr o ↦ absurd (let e : length (downward (suc n) a end step) ≡ 0 = ap length (down_end (suc n) a end step o) in omega (arith, h, e))
 ]
 
--- one more place at the end of those so far
-pub place_more : (so_far now : List ℕ) (p : ℕ) (rest all whole : List ℕ) → now ≡ so_far ++ p ∷ [] → all ≡ p ∷ rest → so_far ++ all ≡ whole → now ++ rest ≡ whole
-place_more so_far now p rest all whole n a w = ap (λ (l : List ℕ). l ++ rest) n ∙ append_assoc so_far (p ∷ []) rest ∙ ap (λ (l : List ℕ). so_far ++ l) (sym a) ∙ w
+-- one more position at the end of those so far
+pub position_more : (so_far now : List ℕ) (p : ℕ) (rest all whole : List ℕ) → now ≡ so_far ++ p ∷ [] → all ≡ p ∷ rest → so_far ++ all ≡ whole → now ++ rest ≡ whole
+position_more so_far now p rest all whole n a w = ap (λ (l : List ℕ). l ++ rest) n ∙ append_assoc so_far (p ∷ []) rest ∙ ap (λ (l : List ℕ). so_far ++ l) (sym a) ∙ w
 
 -- one more picked character
 pub spelled_more : (ps cs : List ℕ) (i : ℕ) → i < length ps → encode_utf8_all (picked_chars (take (i + 1) ps) cs) ≡ encode_utf8_all (picked_chars (take i ps) cs) ++ encode_utf8 (get_or cs (get_or ps i 0) 0)
@@ -120,33 +120,33 @@ moves (pos zero) apart = absurd (apart refl)
 moves (pos (suc m)) apart = omega arith
 moves (negsuc m) apart = omega arith
 
-places_up : (s e : Option ℤ) (z : ℤ) (n k : ℕ) → int_lt (pos 0) z ≡ true → k ≡ unsigned_abs z → upward n (bound (before n) 0 s) (bound (before n) n e) k ≡ places s e z n
-places_up s e (pos m) n k h is = ap (λ (i : ℕ). upward n (bound (before n) 0 s) (bound (before n) n e) i) is
-places_up s e (negsuc m) n k h is = cc
+positions_up : (s e : Option ℤ) (z : ℤ) (n k : ℕ) → int_lt (pos 0) z ≡ true → k ≡ unsigned_abs z → upward n (bound (before n) 0 s) (bound (before n) n e) k ≡ positions s e z n
+positions_up s e (pos m) n k h is = ap (λ (i : ℕ). upward n (bound (before n) 0 s) (bound (before n) n e) i) is
+positions_up s e (negsuc m) n k h is = cc
 
-places_down : (s e : Option ℤ) (z : ℤ) (n k : ℕ) → (z ≡ pos 0 → ⊥) → int_lt (pos 0) z ≡ false → k ≡ unsigned_abs z → downward n (bound (through n) n s) (bound (through n) 0 e) k ≡ places s e z n
-places_down s e (pos zero) n k apart h is = absurd (apart refl)
-places_down s e (pos (suc m)) n k apart h is = let t : int_lt (pos 0) (pos (suc m)) ≡ true = is_below 0 (suc m) (omega arith) in cc
-places_down s e (negsuc m) n k apart h is = ap (λ (i : ℕ). downward n (bound (through n) n s) (bound (through n) 0 e) i) is
+positions_down : (s e : Option ℤ) (z : ℤ) (n k : ℕ) → (z ≡ pos 0 → ⊥) → int_lt (pos 0) z ≡ false → k ≡ unsigned_abs z → downward n (bound (through n) n s) (bound (through n) 0 e) k ≡ positions s e z n
+positions_down s e (pos zero) n k apart h is = absurd (apart refl)
+positions_down s e (pos (suc m)) n k apart h is = let t : int_lt (pos 0) (pos (suc m)) ≡ true = is_below 0 (suc m) (omega arith) in cc
+positions_down s e (negsuc m) n k apart h is = ap (λ (i : ℕ). downward n (bound (through n) n s) (bound (through n) 0 e) i) is
 
--- the places of a slice, by the bounds that were reckoned
+-- the positions of a slice, by the bounds that were reckoned
 module _ (s e : Option ℤ) (z : ℤ) (n first last k : ℕ) (apart : z ≡ pos 0 → ⊥) (is : k ≡ unsigned_abs z) where
   far : 0 < k
   far = rw is (moves z apart)
 
-  pub up_places : int_lt (pos 0) z ≡ true → first ≡ bound (before n) 0 s → last ≡ bound (before n) n e → last ≤ n → upward last first last k ≡ places s e z n
-  up_places sign from to room =
+  pub up_positions : int_lt (pos 0) z ≡ true → first ≡ bound (before n) 0 s → last ≡ bound (before n) n e → last ≤ n → upward last first last k ≡ positions s e z n
+  up_positions sign from to room =
       up_same last n first last k far (omega arith) (omega arith)
       ∙ ap (λ (i : ℕ). upward n i last k) from
       ∙ ap (λ (i : ℕ). upward n (bound (before n) 0 s) i k) to
-      ∙ places_up s e z n k sign is
+      ∙ positions_up s e z n k sign is
 
-  pub down_places : int_lt (pos 0) z ≡ false → first ≡ bound (through n) n s → last ≡ bound (through n) 0 e → first ≤ n → downward first first last k ≡ places s e z n
-  down_places sign from to room =
+  pub down_positions : int_lt (pos 0) z ≡ false → first ≡ bound (through n) n s → last ≡ bound (through n) 0 e → first ≤ n → downward first first last k ≡ positions s e z n
+  down_positions sign from to room =
       down_same first n first last k far (omega arith) (omega arith)
       ∙ ap (λ (i : ℕ). downward n i last k) from
       ∙ ap (λ (i : ℕ). downward n (bound (through n) n s) i k) to
-      ∙ places_down s e z n k apart sign is
+      ∙ positions_down s e z n k apart sign is
 
 before_le : (n d : ℕ) (z : Option ℤ) → d ≤ n → bound (before n) d z ≤ n
 before_le n d None h = h
@@ -158,7 +158,7 @@ through_le n d None h = h
 through_le n d (Some (pos k)) h = omega arith
 through_le n d (Some (negsuc k)) h = omega arith
 
--- a place of a slice is one of the places
-pub places_below : (s e : Option ℤ) (z : ℤ) (n i : ℕ) → i < length (places s e z n) → get_or (places s e z n) i 0 < n
-places_below s e (pos k) n i h = omega (arith, up_below n (bound (before n) 0 s) (bound (before n) n e) k i h, before_le n n e (omega arith))
-places_below s e (negsuc k) n i h = down_below n (bound (through n) n s) (bound (through n) 0 e) (suc k) n i (through_le n n s (omega arith)) h
+-- a position of a slice is one of the positions
+pub positions_below : (s e : Option ℤ) (z : ℤ) (n i : ℕ) → i < length (positions s e z n) → get_or (positions s e z n) i 0 < n
+positions_below s e (pos k) n i h = omega (arith, up_below n (bound (before n) 0 s) (bound (before n) n e) k i h, before_le n n e (omega arith))
+positions_below s e (negsuc k) n i h = down_below n (bound (through n) n s) (bound (through n) 0 e) (suc k) n i (through_le n n s (omega arith)) h

@@ -8,7 +8,7 @@ use Rattle.tera_values_data.specs.Keys.{key_cmp}
 use Rattle.tera_values_data.specs.Order.{order, same, comparable, comparable_items}
 use Rattle.tera_values_data.specs.Laws.{order_total}
 use Rattle.tera_values_data.proofs.Keys.{key_exact, key_tied, is_eq_true}
-use Rattle.tera_values_data.proofs.Places.{Pairs}
+use Rattle.tera_values_data.proofs.Positions.{Pairs}
 
 tied_back : (o : Ordering) → is_eq (ordering_reverse o) ≡ is_eq o
 tied_back Less = refl

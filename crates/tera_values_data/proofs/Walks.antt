@@ -5,7 +5,7 @@ use Rattle.std.proofs.Common.{inl, inr}
 use Rattle.std.specs.List.{slice_split, position_or_len, onto_first}
 use Rattle.tera_values_data.proofs.Sorted.{by_cases}
 use Rattle.tera_values_data.specs.Val.{Val, vals, array}
-use Rattle.tera_values_data.specs.Paths.{is_digit, all_digits, number, place_named, item_named, step_to, walk}
+use Rattle.tera_values_data.specs.Paths.{is_digit, all_digits, number, position_named, item_named, step_to, walk}
 use Rattle.tera_values_data.proofs.Counts.{list_vals}
 
 digit_true : (b : ℕ) → 48 ≤ b → b ≤ 57 → is_digit b ≡ true
@@ -24,8 +24,8 @@ pub number_grows : (n : ℕ) (bs : List ℕ) → n ≤ number n bs
 number_grows n [] = omega arith
 number_grows n (b ∷ bs) = omega (arith, number_grows (n * 10 + (b - 48)) bs)
 
-pub step_array : (p : List ℕ) (xs : List Val) → item_named (place_named p (length xs)) xs ≡ step_to p (array (vals xs))
-step_array p xs = ap (λ (l : List Val). item_named (place_named p (length l)) l) (sym (list_vals xs))
+pub step_array : (p : List ℕ) (xs : List Val) → item_named (position_named p (length xs)) xs ≡ step_to p (array (vals xs))
+step_array p xs = ap (λ (l : List Val). item_named (position_named p (length l)) l) (sym (list_vals xs))
 
 pub walk_none : (ps : List (List ℕ)) → walk ps None ≡ None
 walk_none [] = refl

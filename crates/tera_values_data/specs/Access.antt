@@ -19,7 +19,7 @@ abbrev pub find : {A : Type 0} → KeyVal → List (KeyVal × A) → Option A
 find k [] = None
 find k (e ∷ es) = if key_eq k e.0 then Some e.1 else find k es
 
--- a key that is there keeps its place and takes the value, and a new key goes last
+-- a key that is there keeps its position and takes the value, and a new key goes last
 abbrev pub insert_pair : {A : Type 0} → List (KeyVal × A) → KeyVal → A → List (KeyVal × A)
 insert_pair [] k v = (k, v) ∷ []
 insert_pair (e ∷ es) k v = if key_eq k e.0 then (e.0, v) ∷ es else e ∷ insert_pair es k v

@@ -21,12 +21,12 @@ abbrev pub form_or_byte : ℕ → Option (List ℕ) → List ℕ
 form_or_byte b None = b ∷ []
 form_or_byte b (Some form) = form
 
--- the bytes from place i up to place j stand for themselves
+-- the bytes from position i up to position j stand for themselves
 abbrev pub IsPlain : (ℕ → List ℕ) → List ℕ → ℕ → ℕ → Type 0
 IsPlain form bs i j =
     (k : ℕ) → i ≤ k → k < j → form (slice_index_or bs k 0) ≡ slice_index_or bs k 0 ∷ []
 
--- the test fails at every byte from place i up to place j
+-- the test fails at every byte from position i up to position j
 abbrev pub IsNever : (ℕ → Bool) → List ℕ → ℕ → ℕ → Type 0
 IsNever test bs i j = (k : ℕ) → i ≤ k → k < j → test (slice_index_or bs k 0) ≡ false
 

@@ -1,11 +1,11 @@
--- The places of a map's entries in the order of their keys.
+-- The positions of a map's entries in the order of their keys.
 use Rattle.std.specs.Prelude.{◌≡◌, ℕ, ◌<◌, ◌≤◌, List, length, slice_index_or, false}
 use Rattle.std.specs.declared.cmp.Ordering.TheVariants.{Less, Greater}
 use Rattle.std.specs.Prelude.{map}
 use Rattle.tera_values_data.specs.Val.{Val, KeyVal, kbool, undefined}
 use Rattle.tera_values_data.specs.Keys.{key_cmp}
 
--- the key of the entry at place i
+-- the key of the entry at position i
 abbrev pub key_at : List (KeyVal × Val) → ℕ → KeyVal
 key_at es i = let e = slice_index_or es i (kbool false, undefined) in e.0
 
@@ -13,7 +13,7 @@ key_at es i = let e = slice_index_or es i (kbool false, undefined) in e.0
 abbrev pub nth_key : List ℕ → List (KeyVal × Val) → ℕ → KeyVal
 nth_key by_key es p = key_at es (slice_index_or by_key p 0)
 
--- Every place of an entry stands in by_key, nothing else does, and the keys rise along it.
+-- Every position of an entry stands in by_key, nothing else does, and the keys rise along it.
 pub record IsIndex (by_key : List ℕ) (es : List (KeyVal × Val)) : Type 0 where
   pub below : (p : ℕ) → p < length by_key → slice_index_or by_key p 0 < length es
   pub rising : (p q : ℕ) → p < q → q < length by_key
@@ -37,6 +37,6 @@ pub record IsGapFor (by_key : List ℕ) (es : List (KeyVal × Val)) (k : KeyVal)
 abbrev pub IsDistinct : List (KeyVal × Val) → Type 0
 IsDistinct es = (i j : ℕ) → i < length es → j < length es → key_at es i ≡ key_at es j → i ≡ j
 
--- the pairs at the places of a list, in its order
+-- the pairs at the positions of a list, in its order
 abbrev pub picked : List ℕ → List (KeyVal × Val) → List (KeyVal × Val)
-picked places es = map (λ i. slice_index_or es i (kbool false, undefined)) places
+picked positions es = map (λ i. slice_index_or es i (kbool false, undefined)) positions

@@ -8,9 +8,9 @@ use Rattle.tera_values_data.specs.Val.{Val, ValOf, KeyVal, undefined, int, text,
 use Rattle.tera_values_data.specs.Access.{find, pairs, key_in}
 
 -- where the integer points among n items, if anywhere; a negative one counts from the end
-abbrev pub place_of : ℤ → ℕ → Option ℕ
-place_of (pos k) n = cond (nat_lt k n) (Some k) None
-place_of (negsuc k) n = cond (nat_lt k n) (Some (n - (k + 1))) None
+abbrev pub position_of : ℤ → ℕ → Option ℕ
+position_of (pos k) n = cond (nat_lt k n) (Some k) None
+position_of (negsuc k) n = cond (nat_lt k n) (Some (n - (k + 1))) None
 
 abbrev pub or_undefined : {C : Type 0} → Option (ValOf C) → ValOf C
 or_undefined None = undefined
@@ -56,10 +56,10 @@ found_at (Err f) es = Err f
 
 abbrev pub get_item_in : {C : Type 0} → Alphabet C → ValOf C → ValOf C → Result (ValOf C) Fault
 get_item_in a (map es) i = found_at (key_in a i) (pairs es)
-get_item_in a (array vs) (int z) = Ok (item_at (place_of z (length (list_of vs))) (list_of vs))
+get_item_in a (array vs) (int z) = Ok (item_at (position_of z (length (list_of vs))) (list_of vs))
 get_item_in a (text t s) (int z) =
-    Ok (char_from_in a (place_of z (length (chars (a.seen t)))) (chars (a.seen t)))
-get_item_in a (bytes t) (int z) = Ok (byte_at (place_of z (length t)) t)
+    Ok (char_from_in a (position_of z (length (chars (a.seen t)))) (chars (a.seen t)))
+get_item_in a (bytes t) (int z) = Ok (byte_at (position_of z (length t)) t)
 get_item_in a v i = Err message
 
 abbrev pub get_item : Val → Val → Result Val Fault

@@ -1,6 +1,6 @@
 pub mod Val
 pub mod Alphabet
-pub mod Code
+pub mod Coding
 pub mod View
 pub mod Falls
 pub mod Keys

@@ -1,4 +1,5 @@
--- Paths: pieces between full stops, each a text key of a map or the digits of a place in an array.
+-- Paths: pieces between full stops, each a text key of a map or the digits of a position in an
+-- array.
 use Rattle.std.specs.Prelude.{ℕ, ◌+◌, ◌-◌, ◌*◌, ◌&&◌, Bool, true, cond, nat_lt, nat_le, eqb, List, [], ◌∷◌, length, slice_get, Option, Some, None}
 use Rattle.std.specs.List.{slice_split}
 use Rattle.std.specs.Str.{byte}
@@ -17,10 +18,10 @@ abbrev pub number : ℕ → List ℕ → ℕ
 number n [] = n
 number n (b ∷ bs) = number (n * 10 + (b - byte "0")) bs
 
--- the place that one digit or more name among n items
-abbrev pub place_named : List ℕ → ℕ → Option ℕ
-place_named [] n = None
-place_named (b ∷ bs) n =
+-- the position that one digit or more name among n items
+abbrev pub position_named : List ℕ → ℕ → Option ℕ
+position_named [] n = None
+position_named (b ∷ bs) n =
     cond (all_digits (b ∷ bs))
     (cond (nat_lt (number 0 (b ∷ bs)) n) (Some (number 0 (b ∷ bs))) None) None
 
@@ -30,7 +31,7 @@ item_named (Some i) vs = slice_get vs i
 
 abbrev pub step_to : List ℕ → Val → Option Val
 step_to p (map es) = find (ktext p) (pairs es)
-step_to p (array vs) = item_named (place_named p (length (list_of vs))) (list_of vs)
+step_to p (array vs) = item_named (position_named p (length (list_of vs))) (list_of vs)
 step_to p v = None
 
 abbrev pub then_step : List ℕ → Option Val → Option Val

@@ -1,4 +1,4 @@
--- Parts of arrays and texts: slices, turned round, and whether a part is there.
+-- Parts of arrays and texts: slices, what is reversed, and whether a part is there.
 use Rattle.std.specs.Prelude.{ℕ, zero, suc, ◌+◌, ◌-◌, ℤ, pos, negsuc, Bool, true, false, cond, ◌&&◌, ◌||◌, eqb, nat_lt, min, List, [], ◌∷◌, length, map as map_list, reverse as reverse_list, slice_index_or, Option, Some, None, Result, Ok, Err, is_some, unwrap_or}
 use Rattle.std.specs.Ordering.{int_eq}
 use Rattle.std.specs.Str.{chars, encode_utf8_all}
@@ -8,7 +8,7 @@ use Rattle.tera_values_data.specs.Val.{Val, ValOf, Vals, KeyVal, undefined, text
 use Rattle.tera_values_data.specs.Access.{find, pairs, key_of}
 use Rattle.tera_values_data.specs.Order.{same}
 
--- how many of n items stand before the place that a number names; a negative one counts from the
+-- how many of n items stand before the position that a number names; a negative one counts from the
 -- end
 abbrev pub before : ℕ → ℤ → ℕ
 before n (pos k) = min k n
@@ -20,25 +20,25 @@ through n (pos k) = min (suc k) n
 through n (negsuc k) = n - k
 
 abbrev pub bound : (ℤ → ℕ) → ℕ → Option ℤ → ℕ
-bound place default None = default
-bound place default (Some z) = place z
+bound position default None = default
+bound position default (Some z) = position z
 
--- a, a + step, .. below the end, and n places at most
+-- a, a + step, .. below the end, and n positions at most
 abbrev pub upward : ℕ → ℕ → ℕ → ℕ → List ℕ
 upward zero a end step = []
 upward (suc n) a end step = cond (nat_lt a end) (a ∷ upward n (a + step) end step) []
 
--- the place after which a stand, that after which a - step stand, .. while more than the end stand
--- there, and n places at most
+-- the position after which a stand, that after which a - step stand, .. while more than the end
+-- stand there, and n positions at most
 abbrev pub downward : ℕ → ℕ → ℕ → ℕ → List ℕ
 downward zero a end step = []
 downward (suc n) a end step = cond (nat_lt end a) ((a - 1) ∷ downward n (a - step) end step) []
 
--- the places of a slice of n items, by a step that is not 0: from the start on, and the end is not
--- among them
-abbrev pub places : Option ℤ → Option ℤ → ℤ → ℕ → List ℕ
-places start end (pos step) n = upward n (bound (before n) 0 start) (bound (before n) n end) step
-places start end (negsuc k) n =
+-- the positions of a slice of n items, by a step that is not 0: from the start on, and the end is
+-- not among them
+abbrev pub positions : Option ℤ → Option ℤ → ℤ → ℕ → List ℕ
+positions start end (pos step) n = upward n (bound (before n) 0 start) (bound (before n) n end) step
+positions start end (negsuc k) n =
     downward n (bound (through n) n start) (bound (through n) 0 end) (suc k)
 
 abbrev pub picked_items : {C : Type 0} → List ℕ → List (ValOf C) → List (ValOf C)
@@ -56,12 +56,12 @@ abbrev pub slice_in : {C : Type 0} → Alphabet C → Option ℤ → Option ℤ 
     → Result (ValOf C) Fault
 slice_in a start end step (array vs) = let by = unwrap_or step (pos 1) in
     unless_still by
-    (array (vals (picked_items (places start end by (length (list_of vs))) (list_of vs))))
+    (array (vals (picked_items (positions start end by (length (list_of vs))) (list_of vs))))
 slice_in a start end step (text t s) = let by = unwrap_or step (pos 1) in
     unless_still by
     (text (a.spelled made
     (encode_utf8_all
-    (picked_chars (places start end by (length (chars (a.seen t)))) (chars (a.seen t))))) false)
+    (picked_chars (positions start end by (length (chars (a.seen t)))) (chars (a.seen t))))) false)
 slice_in a start end step v = Err message
 
 abbrev pub slice : Option ℤ → Option ℤ → Option ℤ → Val → Result Val Fault

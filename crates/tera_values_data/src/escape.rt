@@ -41,14 +41,14 @@ trait Forms {
         ensures form { form_or_byte byte (option_map (λ form. form.now) result) ≡ spelled byte }
         ensures ascii { IsSome result → byte < 128 };
 
-    /// How many of the sixteen bytes from a place on stand for themselves, before one that may not.
+    /// How many of the sixteen bytes from a position on stand for themselves, before one that may not.
     fn plain_lanes(bytes: &[u8], from: usize) -> usize
         requires { from + 16 ≤ length bytes.now }
         ensures room { result ≤ 16 }
         ensures plain { IsPlain spelled bytes.now from (from + result) };
 }
 
-/// How many of the sixteen bytes from a place on stand before the first that is one of five.
+/// How many of the sixteen bytes from a position on stand before the first that is one of five.
 #[inline(always)]
 fn lanes_before(bytes: &[u8], from: usize, a: u8, b: u8, c: u8, d: u8, e: u8) -> usize
     requires { from + 16 ≤ length bytes.now }
@@ -137,7 +137,7 @@ impl Forms for Quotes {
     }
 }
 
-/// Past the bytes that stand for themselves, sixteen at a time: a place of one that may not, or of the last few.
+/// Past the bytes that stand for themselves, sixteen at a time: a position of one that may not, or of the last few.
 #[inline]
 fn plain_run<F: Forms>(bytes: &[u8], from: usize) -> usize
     requires { from ≤ length bytes.now }
@@ -145,15 +145,15 @@ fn plain_run<F: Forms>(bytes: &[u8], from: usize) -> usize
     ensures high { result ≤ length bytes.now }
     ensures plain { IsPlain F.spelled bytes.now from result }
 {
-    let mut place = from;
-    while bytes.len() - place >= 16 {
-        let count = F::plain_lanes(bytes, place);
-        place += count;
+    let mut position = from;
+    while bytes.len() - position >= 16 {
+        let count = F::plain_lanes(bytes, position);
+        position += count;
         if count < 16 {
-            return place;
+            return position;
         }
     }
-    place
+    position
 }
 
 /// Past the bytes that stand for themselves, to the next that has a form of its own, or to the end. It is not inlined, so that
@@ -165,14 +165,14 @@ fn next_form<F: Forms>(bytes: &[u8], from: usize) -> usize
     ensures high { result ≤ length bytes.now }
     ensures plain { IsPlain F.spelled bytes.now from result }
 {
-    let mut place = plain_run::<F>(bytes, from);
-    while place < bytes.len() && F::form(bytes[place]).is_none() {
-        place += 1;
+    let mut position = plain_run::<F>(bytes, from);
+    while position < bytes.len() && F::form(bytes[position]).is_none() {
+        position += 1;
     }
-    place
+    position
 }
 
-/// The same from the fifth byte of a run on, since the next form is often near; up to there the place itself.
+/// The same from the fifth byte of a run on, since the next form is often near; up to there the position itself.
 #[inline]
 fn next_of_run<F: Forms>(bytes: &[u8], run: usize, from: usize) -> usize
     requires { from ≤ length bytes.now }
@@ -195,14 +195,14 @@ fn append_forms<F: Forms>(text: &str, out: &mut String) -> Result<(), AllocError
 {
     let bytes = text.as_bytes();
     let mut start = 0;
-    let mut place = next_form::<F>(bytes, 0);
-    while place < bytes.len() {
-        if let Some(form) = F::form(bytes[place]) {
-            append_run(&text[start..place], out)?;
+    let mut position = next_form::<F>(bytes, 0);
+    while position < bytes.len() {
+        if let Some(form) = F::form(bytes[position]) {
+            append_run(&text[start..position], out)?;
             append(form, out)?;
-            start = place + 1;
+            start = position + 1;
         }
-        place = next_of_run::<F>(bytes, place + 1 - start, place + 1);
+        position = next_of_run::<F>(bytes, position + 1 - start, position + 1);
     }
     append(&text[start..], out)
 }
@@ -241,8 +241,8 @@ fn append_escaped<F: Forms>(text: &str, out: &mut String) -> Result<(), AllocErr
         ++ by_byte F.spelled text.now) }
     ensures err { OnErr result (string_bytes out.new ≡ string_bytes out.old) }
 {
-    let place = next_form::<F>(text.as_bytes(), 0);
-    if place == text.len() {
+    let position = next_form::<F>(text.as_bytes(), 0);
+    if position == text.len() {
         append(text, out)
     } else {
         append_marked::<F>(text, out)

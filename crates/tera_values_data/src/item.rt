@@ -4,7 +4,7 @@ ghost use Rattle.std.specs.Str.{chars};
 ghost use Rattle.tera_errors.specs.Prelude.{Gives};
 ghost use Rattle.tera_values_data.specs.View.{wanted_view};
 ghost use Rattle.tera_values_data.specs.Access.{IsScalar, find, key_of};
-ghost use Rattle.tera_values_data.specs.Items.{place_of, char_text, item_at, byte_at, char_from, found_at, or_undefined, get_item};
+ghost use Rattle.tera_values_data.specs.Items.{position_of, char_text, item_at, byte_at, char_from, found_at, or_undefined, get_item};
 
 use crate::access::char_count;
 use crate::key::Wanted;
@@ -14,8 +14,8 @@ use std::alloc::Global;
 use tera_errors::{Error, TeraResult};
 
 /// Where the integer points in a list of so many items; a negative one counts from the end.
-fn place(index: i128, length: usize) -> Option<usize>
-    ensures { result ≡ place_of index length }
+fn position(index: i128, length: usize) -> Option<usize>
+    ensures { result ≡ position_of index length }
 {
     let distance = index.unsigned_abs();
     let length = length as u128;
@@ -32,10 +32,10 @@ fn place(index: i128, length: usize) -> Option<usize>
     }
 }
 
-fn char_at(text: &str, place: usize) -> Option<char>
-    ensures { result ≡ slice_get (chars text.now) place }
+fn char_at(text: &str, position: usize) -> Option<char>
+    ensures { result ≡ slice_get (chars text.now) position }
 {
-    text.chars().nth(place)
+    text.chars().nth(position)
 }
 
 fn char_value(alloc: Global, character: char) -> TeraResult<Value>
@@ -48,11 +48,11 @@ fn char_value(alloc: Global, character: char) -> TeraResult<Value>
 
 fn item_in(items: &[Value], index: i128) -> TeraResult<Value>
     ensures value { Gives (λ v. v) result
-        (Ok (item_at (place_of index (length items.now)) items.now)) }
-    ensures ready { IsScalar (item_at (place_of index (length items.now)) items.now) →
+        (Ok (item_at (position_of index (length items.now)) items.now)) }
+    ensures ready { IsScalar (item_at (position_of index (length items.now)) items.now) →
         IsOk result }
 {
-    match place(index, items.len()) {
+    match position(index, items.len()) {
         Some(at) => match items.get(at) {
             Some(item) => item.try_clone(),
             None => Ok(Value::undefined()),
@@ -62,9 +62,9 @@ fn item_in(items: &[Value], index: i128) -> TeraResult<Value>
 }
 
 fn byte_in(bytes: &[u8], index: i128) -> Value
-    ensures { result ≡ byte_at (place_of index (length bytes.now)) bytes.now }
+    ensures { result ≡ byte_at (position_of index (length bytes.now)) bytes.now }
 {
-    match place(index, bytes.len()) {
+    match position(index, bytes.len()) {
         Some(at) => match bytes.get(at) {
             Some(byte) => Value::from_int(*byte as i128),
             None => Value::undefined(),
@@ -75,12 +75,11 @@ fn byte_in(bytes: &[u8], index: i128) -> Value
 
 fn char_in(alloc: Global, text: &str, index: i128) -> TeraResult<Value>
     ensures value { Gives (λ v. v) result
-        (Ok (char_from (place_of index (length (chars text.now))) (chars text.now))) }
-    ensures ready { IsScalar (char_from (place_of index (length (chars text.now))) (chars text.now))
-        →
-        IsOk result }
+        (Ok (char_from (position_of index (length (chars text.now))) (chars text.now))) }
+    ensures ready { let at = position_of index (length (chars text.now)) in
+        IsScalar (char_from at (chars text.now)) → IsOk result }
 {
-    match place(index, char_count(text)) {
+    match position(index, char_count(text)) {
         Some(at) => match char_at(text, at) {
             Some(character) => char_value(alloc, character),
             None => Ok(Value::undefined()),

@@ -29,7 +29,7 @@ impl Map {
         }
     }
 
-    /// The places of the entries, sorted by key.
+    /// The positions of the entries, sorted by key.
     pub(crate) fn by_key(&self) -> &[usize]
         ensures { IsIndex result.now self.now }
     {
@@ -50,12 +50,13 @@ impl Map {
         }
     }
 
-    /// The entry at a place, in the order of insertion.
-    pub fn entry_at(&self, place: usize) -> Option<(&Key, &Value)>
-        ensures { option_map (λ e. (key_view e.0.now, e.1.now)) result ≡ slice_get self.now place }
+    /// The entry at a position, in the order of insertion.
+    pub fn entry_at(&self, position: usize) -> Option<(&Key, &Value)>
+        ensures { option_map (λ e. (key_view e.0.now, e.1.now)) result
+            ≡ slice_get self.now position }
     {
         match &self.table {
-            Some(table) => table.entry_at(place),
+            Some(table) => table.entry_at(position),
             None => None,
         }
     }
@@ -86,7 +87,7 @@ impl Map {
         }
     }
 
-    /// Puts the value at the key: a key that is there keeps its place, and a new one goes last.
+    /// Puts the value at the key: a key that is there keeps its position, and a new one goes last.
     /// A key that is there takes no memory.
     pub fn insert(&mut self, key: Key, value: Value) -> TeraResult<()>
         ensures ok { OnOk result (self.new ≡ insert_pair self.old (key_view key) value) }

@@ -68,13 +68,13 @@ impl Value {
 fn compare_items(a: &[Value], b: &[Value]) -> Ordering
     ensures { result ≡ slice_cmp order a.now b.now }
 {
-    let mut place = 0;
-    while place < a.len() && place < b.len() {
-        let answer = a[place].compare(&b[place]);
+    let mut position = 0;
+    while position < a.len() && position < b.len() {
+        let answer = a[position].compare(&b[position]);
         if answer.is_ne() {
             return answer;
         }
-        place += 1;
+        position += 1;
     }
     a.len().cmp(&b.len())
 }
@@ -87,10 +87,10 @@ fn compare_entries(a: &[Entry], a_keys: &[usize], b: &[Entry], b_keys: &[usize])
     ensures { result ≡ slice_cmp pair_order (picked a_keys.now (entry_views a.now))
         (picked b_keys.now (entry_views b.now)) }
 {
-    let mut place = 0;
-    while place < a_keys.len() && place < b_keys.len() {
-        let x = &a[a_keys[place]];
-        let y = &b[b_keys[place]];
+    let mut position = 0;
+    while position < a_keys.len() && position < b_keys.len() {
+        let x = &a[a_keys[position]];
+        let y = &b[b_keys[position]];
         let keys = compare_key(&x.key, &y.key.wanted());
         if keys.is_ne() {
             return keys;
@@ -99,7 +99,7 @@ fn compare_entries(a: &[Entry], a_keys: &[usize], b: &[Entry], b_keys: &[usize])
         if values.is_ne() {
             return values;
         }
-        place += 1;
+        position += 1;
     }
     a_keys.len().cmp(&b_keys.len())
 }
@@ -148,13 +148,13 @@ impl Value {
 fn checked_cmp_items(a: &[Value], b: &[Value]) -> Option<Ordering>
     ensures { result ≡ checked_items a.now b.now }
 {
-    let mut place = 0;
-    while place < a.len() && place < b.len() {
-        let standing = a[place].checked_cmp(&b[place])?;
+    let mut position = 0;
+    while position < a.len() && position < b.len() {
+        let standing = a[position].checked_cmp(&b[position])?;
         if standing.is_ne() {
             return Some(standing);
         }
-        place += 1;
+        position += 1;
     }
     Some(a.len().cmp(&b.len()))
 }

@@ -1,13 +1,13 @@
-// Paths: names and places between full stops.
+// Paths: names and positions between full stops.
 ghost use Rattle.std.specs.Prelude.{◌≡◌, option_copied};
-ghost use Rattle.tera_values_data.specs.Paths.{place_named, step_to, from_path};
+ghost use Rattle.tera_values_data.specs.Paths.{position_named, step_to, from_path};
 
 use crate::shape::Shape;
 use crate::value::Value;
 
-/// The place that the digits name among so many items.
-fn place_named(digits: &[u8], length: usize) -> Option<usize>
-    ensures { result ≡ place_named digits.now length }
+/// The position that the digits name among so many items.
+fn position_named(digits: &[u8], length: usize) -> Option<usize>
+    ensures { result ≡ position_named digits.now length }
 {
     if digits.is_empty() {
         return None;
@@ -35,8 +35,8 @@ impl Value {
     {
         match self.shape() {
             Shape::Map(all) => all.get_text(piece),
-            Shape::Array(items) => match place_named(piece.as_bytes(), items.len()) {
-                Some(place) => items.get(place),
+            Shape::Array(items) => match position_named(piece.as_bytes(), items.len()) {
+                Some(position) => items.get(position),
                 None => None,
             },
             _ => None,

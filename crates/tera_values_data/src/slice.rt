@@ -2,14 +2,14 @@
 ghost use Rattle.std.specs.Prelude.{◌≡◌, IsTrue, IsFalse, ◌≢◌, pos, string_bytes, ◌<◌, ◌≤◌, ◌^◌, Ok, length, reverse, EachIndex, slice_index};
 ghost use Rattle.std.specs.Str.{chars, encode_utf8_all};
 ghost use Rattle.tera_errors.specs.Prelude.{Gives};
-ghost use Rattle.tera_values_data.specs.Slices.{before, through, bound, upward, downward, places, picked_items, picked_chars, slice, reversed};
+ghost use Rattle.tera_values_data.specs.Slices.{before, through, bound, upward, downward, positions, picked_items, picked_chars, slice, reversed};
 
 use crate::shape::Shape;
 use crate::value::Value;
 use std::alloc::Global;
 use tera_errors::{Error, TeraResult};
 
-/// How many of so many items stand before the place that the number names, or before it and at it; the default where no
+/// How many of so many items stand before the position that the number names, or before it and at it; the default where no
 /// number is given.
 fn bound(number: Option<i128>, default: usize, length: usize, at_it: bool) -> usize
     requires { default ≤ length }
@@ -35,30 +35,30 @@ fn upward(alloc: Global, start: usize, end: usize, step: u128) -> TeraResult<Vec
     requires fits { step ≤ 2 ^ 127 }
     ensures { Gives (λ v. v.items) result (Ok (upward end start end step)) }
 {
-    let mut places = Vec::new(alloc);
+    let mut positions = Vec::new(alloc);
     let mut at = start as u128;
     while at < end as u128 {
-        places.push(at as usize)?;
+        positions.push(at as usize)?;
         at += step;
     }
-    Ok(places)
+    Ok(positions)
 }
 
 fn downward(alloc: Global, start: usize, end: usize, step: u128) -> TeraResult<Vec<usize>>
     requires { 0 < step }
     ensures { Gives (λ v. v.items) result (Ok (downward start start end step)) }
 {
-    let mut places = Vec::new(alloc);
+    let mut positions = Vec::new(alloc);
     let mut at = start as u128;
     while at > end as u128 {
-        places.push((at - 1) as usize)?;
+        positions.push((at - 1) as usize)?;
         at = at.saturating_sub(step);
     }
-    Ok(places)
+    Ok(positions)
 }
 
-/// The places of a slice of so many items, by a step that is not 0.
-fn places(
+/// The positions of a slice of so many items, by a step that is not 0.
+fn positions(
     alloc: Global,
     start: Option<i128>,
     end: Option<i128>,
@@ -66,7 +66,7 @@ fn places(
     length: usize,
 ) -> TeraResult<Vec<usize>>
     requires { step ≢ pos 0 }
-    ensures { Gives (λ v. v.items) result (Ok (places start end step length)) }
+    ensures { Gives (λ v. v.items) result (Ok (positions start end step length)) }
 {
     let stride = step.unsigned_abs();
     if step > 0 {
@@ -80,26 +80,26 @@ fn places(
     }
 }
 
-fn pick_items(alloc: Global, items: &[Value], places: &[usize]) -> TeraResult<Vec<Value>>
-    requires { EachIndex places.now (λ k. slice_index places.now k < length items.now) }
-    ensures { Gives (λ v. v.items) result (Ok (picked_items places.now items.now)) }
+fn pick_items(alloc: Global, items: &[Value], positions: &[usize]) -> TeraResult<Vec<Value>>
+    requires { EachIndex positions.now (λ k. slice_index positions.now k < length items.now) }
+    ensures { Gives (λ v. v.items) result (Ok (picked_items positions.now items.now)) }
 {
     let mut picked = Vec::new(alloc);
-    for place in places {
-        let item = items[*place].try_clone()?;
+    for position in positions {
+        let item = items[*position].try_clone()?;
         picked.push(item)?;
     }
     Ok(picked)
 }
 
-fn pick_chars(alloc: Global, letters: &[char], places: &[usize]) -> TeraResult<String>
-    requires { EachIndex places.now (λ k. slice_index places.now k < length letters.now) }
+fn pick_chars(alloc: Global, letters: &[char], positions: &[usize]) -> TeraResult<String>
+    requires { EachIndex positions.now (λ k. slice_index positions.now k < length letters.now) }
     ensures { Gives string_bytes result (Ok (encode_utf8_all
-        (picked_chars places.now letters.now))) }
+        (picked_chars positions.now letters.now))) }
 {
     let mut picked = String::new(alloc);
-    for place in places {
-        picked.push(letters[*place])?;
+    for position in positions {
+        picked.push(letters[*position])?;
     }
     Ok(picked)
 }
@@ -111,30 +111,30 @@ fn letters(alloc: Global, content: &str) -> TeraResult<Vec<char>>
     Ok(letters)
 }
 
-fn turned_items(alloc: Global, items: &[Value]) -> TeraResult<Vec<Value>>
+fn reversed_items(alloc: Global, items: &[Value]) -> TeraResult<Vec<Value>>
     ensures { Gives (λ v. v.items) result (Ok (reverse items.now)) }
 {
-    let mut turned = Vec::new(alloc);
+    let mut backward = Vec::new(alloc);
     let mut left = items.len();
     while left > 0 {
         left -= 1;
         let item = items[left].try_clone()?;
-        turned.push(item)?;
+        backward.push(item)?;
     }
-    Ok(turned)
+    Ok(backward)
 }
 
-fn turned_text(alloc: Global, content: &str) -> TeraResult<String>
+fn reversed_text(alloc: Global, content: &str) -> TeraResult<String>
     ensures { Gives string_bytes result (Ok (encode_utf8_all (reverse (chars content.now)))) }
 {
     let letters = letters(alloc, content)?;
-    let mut turned = String::new(alloc);
+    let mut backward = String::new(alloc);
     let mut left = letters.len();
     while left > 0 {
         left -= 1;
-        turned.push(letters[left])?;
+        backward.push(letters[left])?;
     }
-    Ok(turned)
+    Ok(backward)
 }
 
 fn slice_items(
@@ -146,10 +146,10 @@ fn slice_items(
 ) -> TeraResult<Vec<Value>>
     requires { step ≢ pos 0 }
     ensures { Gives (λ v. v.items) result (Ok
-        (picked_items (places start end step (length items.now)) items.now)) }
+        (picked_items (positions start end step (length items.now)) items.now)) }
 {
-    let places = places(alloc, start, end, step, items.len())?;
-    pick_items(alloc, items, places.as_slice())
+    let positions = positions(alloc, start, end, step, items.len())?;
+    pick_items(alloc, items, positions.as_slice())
 }
 
 fn slice_text(
@@ -160,12 +160,13 @@ fn slice_text(
     step: i128,
 ) -> TeraResult<String>
     requires { step ≢ pos 0 }
-    ensures { Gives string_bytes result (Ok (encode_utf8_all
-        (picked_chars (places start end step (length (chars content.now))) (chars content.now)))) }
+    ensures { let picked = positions start end step (length (chars content.now)) in
+        Gives string_bytes result
+        (Ok (encode_utf8_all (picked_chars picked (chars content.now)))) }
 {
     let letters = letters(alloc, content)?;
-    let places = places(alloc, start, end, step, letters.len())?;
-    pick_chars(alloc, letters.as_slice(), places.as_slice())
+    let positions = positions(alloc, start, end, step, letters.len())?;
+    pick_chars(alloc, letters.as_slice(), positions.as_slice())
 }
 
 impl Value {
@@ -200,12 +201,12 @@ impl Value {
         ensures { Gives (λ v. v) result (reversed self.now) }
     {
         match self.shape() {
-            Shape::Array(items) => Ok(Value::array(turned_items(alloc, items)?)),
+            Shape::Array(items) => Ok(Value::array(reversed_items(alloc, items)?)),
             Shape::Text(content, _) => {
-                let turned = turned_text(alloc, content)?;
-                Value::string(alloc, turned.as_str())
+                let backward = reversed_text(alloc, content)?;
+                Value::string(alloc, backward.as_str())
             }
-            _ => Err(Error::message(alloc, "only arrays and texts are turned round")),
+            _ => Err(Error::message(alloc, "only arrays and texts are reversed")),
         }
     }
 }

@@ -73,10 +73,11 @@ impl Table {
         self.all.len()
     }
 
-    pub(crate) fn entry_at(&self, place: usize) -> Option<(&Key, &Value)>
-        ensures { option_map (λ e. (key_view e.0.now, e.1.now)) result ≡ slice_get self.now place }
+    pub(crate) fn entry_at(&self, position: usize) -> Option<(&Key, &Value)>
+        ensures { option_map (λ e. (key_view e.0.now, e.1.now)) result
+            ≡ slice_get self.now position }
     {
-        match self.all.get(place) {
+        match self.all.get(position) {
             Some(entry) => Some((&entry.key, &entry.value)),
             None => None,
         }
@@ -109,16 +110,16 @@ impl Table {
     {
         match search(self.all.as_slice(), self.by_key.as_slice(), &key.wanted()) {
             Ok(at) => {
-                let place = self.by_key[at];
-                let old = replace(&mut self.all[place].value, value);
+                let position = self.by_key[at];
+                let old = replace(&mut self.all[position].value, value);
                 drop(old);
                 drop(key);
                 Ok(())
             }
             Err(at) => {
-                let place = self.all.len();
+                let position = self.all.len();
                 self.all.push(Entry { key, value })?;
-                match self.by_key.insert(at, place) {
+                match self.by_key.insert(at, position) {
                     Ok(()) => Ok(()),
                     Err(error) => {
                         self.all.pop();

@@ -67,7 +67,7 @@ pub(crate) struct Entry {
     pub(crate) value: Value,
 }
 
-/// Entries in order of insertion, and beside them their places, sorted by key.
+/// Entries in order of insertion, and beside them their positions, sorted by key.
 #[cycle(value)]
 #[derive(Drop)]
 pub(crate) struct Table {
@@ -86,11 +86,11 @@ pub struct Map {
 
 impl Model for Value {
     ghost use Rattle.tera_values_data.specs.Val.{Val, val_size};
-    ghost use Rattle.tera_values_data.specs.Code.{val_code};
+    ghost use Rattle.tera_values_data.specs.Coding.{val_coding};
 
     ghost Value = { Val };
 
-    ghost coded = { val_code };
+    ghost coded = { val_coding };
 
     ghost use Rattle.tera_values_data.specs.View.{node_view};
 
@@ -106,11 +106,11 @@ impl Model for Value {
 impl Model for Table {
     ghost use Rattle.std.specs.Prelude.{List};
     ghost use Rattle.tera_values_data.specs.Val.{Val, KeyVal, entries, entries_size};
-    ghost use Rattle.tera_values_data.specs.Code.{entries_code};
+    ghost use Rattle.tera_values_data.specs.Coding.{entries_coding};
 
     ghost Value = { List (KeyVal × Val) };
 
-    ghost coded = { entries_code };
+    ghost coded = { entries_coding };
 
     ghost use Rattle.tera_values_data.specs.View.{entry_views};
 
@@ -130,11 +130,11 @@ impl Model for Table {
 impl Model for Map {
     ghost use Rattle.std.specs.Prelude.{List, ◌+◌};
     ghost use Rattle.tera_values_data.specs.Val.{Val, KeyVal, entries, entries_size};
-    ghost use Rattle.tera_values_data.specs.Code.{entries_code};
+    ghost use Rattle.tera_values_data.specs.Coding.{entries_coding};
 
     ghost Value = { List (KeyVal × Val) };
 
-    ghost coded = { entries_code };
+    ghost coded = { entries_coding };
 
     ghost use Rattle.tera_values_data.specs.View.{boxed_entries};
 

@@ -20,7 +20,7 @@ fn takes(all: &mut Map, key: Option<Key>) -> bool {
     }
 }
 
-fn keeps_places(alloc: Global) -> bool {
+fn keeps_positions(alloc: Global) -> bool {
     match map(alloc, &[("b", 0), ("a", 1)]) {
         Some(mut all) => takes(&mut all, key(alloc, "b")) && first_is(&all, "b", 9),
         None => false,
@@ -128,7 +128,7 @@ fn is_shared(alloc: Global) -> bool {
 fn names_are_kept(rt: HostRuntime) {
     let alloc = rt.alloc();
     let mut out = String::new(alloc);
-    let right = keeps_places(alloc)
+    let right = keeps_positions(alloc)
         && finds_many(alloc)
         && context_keeps(alloc, &mut out)
         && is_shared(alloc);

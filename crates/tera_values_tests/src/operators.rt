@@ -1,4 +1,4 @@
-// Answers of operators, accesses and literals, and the places of their faults.
+// Answers of operators, accesses and literals, and the positions of their faults.
 ghost use Rattle.std.specs.Prelude.{◌<◌};
 
 use crate::sample::Sample::{Int, Ints, Nothing, Pairs, Safe, Text, Truth, Undefined};
@@ -61,7 +61,7 @@ fn operand_in_words(alloc: Global, operand: &Operand) -> Option<String> {
     }
 }
 
-/// The place of a fault.
+/// The position of a fault.
 fn fault_in_words(alloc: Global, error: &Error) -> Option<String> {
     match error.kind() {
         ErrorKind::RenderingError(report) => {

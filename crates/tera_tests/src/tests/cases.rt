@@ -31,16 +31,16 @@ pub fn variables(alloc: Global) -> Option<Context> {
     None
 }
 
-fn is_place(number: &str, place: usize) -> bool {
-    number.parse::<usize>() == Ok(place)
+fn is_position(number: &str, position: usize) -> bool {
+    number.parse::<usize>() == Ok(position)
 }
 
 fn reports_fault(report: &ReportError, want: &str) -> bool {
     match want.split_once(' ') {
         Some((start, end)) => {
             report.file() == "__tera_one_off"
-                && is_place(start, report.span().start)
-                && is_place(end, report.span().end)
+                && is_position(start, report.span().start)
+                && is_position(end, report.span().end)
         }
         None => false,
     }

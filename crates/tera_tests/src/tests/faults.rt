@@ -1,4 +1,4 @@
-//! Faults of expressions, and their places.
+//! Faults of expressions, and their positions.
 use super::cases::wrong;
 
 const CASES: &str = r#"

@@ -1,4 +1,4 @@
-//! What an object sees where it is called: the scope of that place.
+//! What an object sees where it is called: the scope of that position.
 use super::cases::wrong_by;
 use super::templates::shows;
 use crate::own::Shows;

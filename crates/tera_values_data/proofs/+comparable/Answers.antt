@@ -4,20 +4,20 @@ use Rattle.tera_values_data.specs.Order.{comparable_items, checked_order}
 use Rattle.tera_values_data.proofs.Sizes.{item_below}
 use Rattle.tera_values_data.proofs.Compared.{as_items}
 use Rattle.tera_values_data.proofs.Checked.{checked_ends}
-use Rattle.tera_values_data.proofs.+comparable.Goals.{order::checked_cmp_items-then-loop-place-test+else-place-b, order::checked_cmp_items-else-loop-place-test}
+use Rattle.tera_values_data.proofs.+comparable.Goals.{order::checked_cmp_items-then-loop-position-test+else-position-b, order::checked_cmp_items-else-loop-position-test}
 use Rattle.tera_values_data.proofs.+comparable.Goals as goal
 
 pub order::checked_cmp_items-checked_cmp-requires : goal.order::checked_cmp_items-checked_cmp-requires
-order::checked_cmp_items-checked_cmp-requires t c = (let below = item_below c.args.a.now c.loop-place.place c.index-a-place.result c.loop-place-test.true c.index-a-place.is in omega (arith, below, c.decreases), tt)
+order::checked_cmp_items-checked_cmp-requires t c = (let below = item_below c.args.a.now c.loop-position.position c.index-a-position.result c.loop-position-test.true c.index-a-position.is in omega (arith, below, c.decreases), tt)
 
 pub order::checked_cmp_items-returns : goal.order::checked_cmp_items-returns
 order::checked_cmp_items-returns t c =
     ap Some c.cmp.ensures
-    ∙ sym (checked_ends c.args.a.now c.args.b.now c.loop-place.place c.loop-place.invariant.in_a c.loop-place.invariant.in_b (elim c.loop-place-test.branch [
-      | order::checked_cmp_items-then-loop-place-test+else-place-b w ↦ inr w.if-place-b.false
-      | order::checked_cmp_items-else-loop-place-test w ↦ inl w.loop-place-test.false
+    ∙ sym (checked_ends c.args.a.now c.args.b.now c.loop-position.position c.loop-position.invariant.in_a c.loop-position.invariant.in_b (elim c.loop-position-test.branch [
+      | order::checked_cmp_items-then-loop-position-test+else-position-b w ↦ inr w.if-position-b.false
+      | order::checked_cmp_items-else-loop-position-test w ↦ inl w.loop-position-test.false
     ]))
-    ∙ sym c.loop-place.invariant.rest
+    ∙ sym c.loop-position.invariant.rest
 
 pub value::Value::checked_cmp-returns-in-Array-shape : goal.value::Value::checked_cmp-returns-in-Array-shape
 value::Value::checked_cmp-returns-in-Array-shape t c =

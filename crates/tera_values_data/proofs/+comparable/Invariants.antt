@@ -9,12 +9,12 @@ decreases-value::Value::checked_cmp a = val_size a.self.now
 abbrev pub decreases-order::checked_cmp_items : goal.decreases-order::checked_cmp_items
 decreases-order::checked_cmp_items a = vals_size (vals a.a.now)
 
-abbrev pub invariant-order::checked_cmp_items-loop-place : goal.invariant-order::checked_cmp_items-loop-place
-invariant-order::checked_cmp_items-loop-place l = record {
-  in_a : l.place ≤ length l.a;
-  in_b : l.place ≤ length l.b;
-  rest : checked_items l.a l.b ≡ checked_items (drop l.place l.a) (drop l.place l.b);
+abbrev pub invariant-order::checked_cmp_items-loop-position : goal.invariant-order::checked_cmp_items-loop-position
+invariant-order::checked_cmp_items-loop-position l = record {
+  in_a : l.position ≤ length l.a;
+  in_b : l.position ≤ length l.b;
+  rest : checked_items l.a l.b ≡ checked_items (drop l.position l.a) (drop l.position l.b);
 }
 
-abbrev pub decreases-order::checked_cmp_items-loop-place : goal.decreases-order::checked_cmp_items-loop-place
-decreases-order::checked_cmp_items-loop-place l = length l.a - l.place
+abbrev pub decreases-order::checked_cmp_items-loop-position : goal.decreases-order::checked_cmp_items-loop-position
+decreases-order::checked_cmp_items-loop-position l = length l.a - l.position

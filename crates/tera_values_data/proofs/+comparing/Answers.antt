@@ -5,11 +5,11 @@ use Rattle.tera_values_data.specs.View.{key_view, entry_views}
 use Rattle.tera_values_data.specs.Index.{IsIndex}
 use Rattle.tera_values_data.specs.Order.{order}
 use Rattle.tera_values_data.proofs.Compared.{as_items, as_entries, keys_tell, values_tell, rest_tells, pairs_end, entry_below}
-use Rattle.tera_values_data.proofs.Entries.{place_below}
+use Rattle.tera_values_data.proofs.Entries.{position_below}
 use Rattle.tera_values_data.proofs.Steps.{ends}
 use Rattle.tera_values_data.proofs.Sizes.{item_below}
 use Rattle.tera_values_data.proofs.+comparing.Goals as goal
-use Rattle.tera_values_data.proofs.+comparing.Goals.{order::compare_entries-then-loop-place-test+else-place-b_keys, order::compare_entries-else-loop-place-test, order::compare_items-then-loop-place-test+else-place-b, order::compare_items-else-loop-place-test}
+use Rattle.tera_values_data.proofs.+comparing.Goals.{order::compare_entries-then-loop-position-test+else-position-b_keys, order::compare_entries-else-loop-position-test, order::compare_items-then-loop-position-test+else-position-b, order::compare_items-else-loop-position-test}
 
 pub value::Value::compare-returns-in-Array-shape : goal.value::Value::compare-returns-in-Array-shape
 value::Value::compare-returns-in-Array-shape t c =
@@ -32,43 +32,43 @@ value::Value::compare-returns-in-Map-shape t c =
 pub order::compare_entries-returns-then-is_ne : goal.order::compare_entries-returns-then-is_ne
 order::compare_entries-returns-then-is_ne t c =
     let keys = c.compare_key-keys.ensures ∙ ap (key_cmp (key_view c.index-a-a_keys.result.key)) c.wanted.ensures in
-    keys_tell c.args.a_keys.now c.args.b_keys.now c.args.a.now c.args.b.now c.requires.first c.requires.second c.loop-place.place c.index-a-a_keys.result c.index-b-b_keys.result c.loop-place-test.true c.if-place-b_keys.true c.index-a-a_keys.is c.index-b-b_keys.is c.compare_key-keys.result keys (sym c.is_ne.ensures ∙ c.if-is_ne.true) ∙ sym c.loop-place.invariant.rest
+    keys_tell c.args.a_keys.now c.args.b_keys.now c.args.a.now c.args.b.now c.requires.first c.requires.second c.loop-position.position c.index-a-a_keys.result c.index-b-b_keys.result c.loop-position-test.true c.if-position-b_keys.true c.index-a-a_keys.is c.index-b-b_keys.is c.compare_key-keys.result keys (sym c.is_ne.ensures ∙ c.if-is_ne.true) ∙ sym c.loop-position.invariant.rest
 
 pub order::compare_entries-compare-values-requires : goal.order::compare_entries-compare-values-requires
 order::compare_entries-compare-values-requires t c =
-    (let below = entry_below c.args.a.now _ c.index-a-a_keys.result (place_below c.args.a_keys.now c.args.a.now c.requires.first c.loop-place.place c.loop-place-test.true) c.index-a-a_keys.is in omega (arith, below, c.decreases), tt)
+    (let below = entry_below c.args.a.now _ c.index-a-a_keys.result (position_below c.args.a_keys.now c.args.a.now c.requires.first c.loop-position.position c.loop-position-test.true) c.index-a-a_keys.is in omega (arith, below, c.decreases), tt)
 
 pub order::compare_entries-returns-then-is_ne-2 : goal.order::compare_entries-returns-then-is_ne-2
 order::compare_entries-returns-then-is_ne-2 t c =
     let keys = c.compare_key-keys.ensures ∙ ap (key_cmp (key_view c.index-a-a_keys.result.key)) c.wanted.ensures in
-    values_tell c.args.a_keys.now c.args.b_keys.now c.args.a.now c.args.b.now c.requires.first c.requires.second c.loop-place.place c.index-a-a_keys.result c.index-b-b_keys.result c.loop-place-test.true c.if-place-b_keys.true c.index-a-a_keys.is c.index-b-b_keys.is c.compare_key-keys.result c.compare-values.result keys (sym c.is_ne.ensures ∙ c.if-is_ne.false) c.compare-values.ensures (sym c.is_ne-in-loop-place.ensures ∙ c.if-is_ne-2.true) ∙ sym c.loop-place.invariant.rest
+    values_tell c.args.a_keys.now c.args.b_keys.now c.args.a.now c.args.b.now c.requires.first c.requires.second c.loop-position.position c.index-a-a_keys.result c.index-b-b_keys.result c.loop-position-test.true c.if-position-b_keys.true c.index-a-a_keys.is c.index-b-b_keys.is c.compare_key-keys.result c.compare-values.result keys (sym c.is_ne.ensures ∙ c.if-is_ne.false) c.compare-values.ensures (sym c.is_ne-in-loop-position.ensures ∙ c.if-is_ne-2.true) ∙ sym c.loop-position.invariant.rest
 
-pub order::compare_entries-loop-place-preserved : goal.order::compare_entries-loop-place-preserved
-order::compare_entries-loop-place-preserved t c =
+pub order::compare_entries-loop-position-preserved : goal.order::compare_entries-loop-position-preserved
+order::compare_entries-loop-position-preserved t c =
     let keys = c.compare_key-keys.ensures ∙ ap (key_cmp (key_view c.index-a-a_keys.result.key)) c.wanted.ensures in
     record {
       in_a = omega arith;
       in_b = omega arith;
-      rest = rw add-one (c.loop-place.invariant.rest ∙ rest_tells c.args.a_keys.now c.args.b_keys.now c.args.a.now c.args.b.now c.requires.first c.requires.second c.loop-place.place c.index-a-a_keys.result c.index-b-b_keys.result c.loop-place-test.true c.if-place-b_keys.true c.index-a-a_keys.is c.index-b-b_keys.is c.compare_key-keys.result c.compare-values.result keys (sym c.is_ne.ensures ∙ c.if-is_ne.false) c.compare-values.ensures (sym c.is_ne-in-loop-place.ensures ∙ c.if-is_ne-2.false));
+      rest = rw add-one (c.loop-position.invariant.rest ∙ rest_tells c.args.a_keys.now c.args.b_keys.now c.args.a.now c.args.b.now c.requires.first c.requires.second c.loop-position.position c.index-a-a_keys.result c.index-b-b_keys.result c.loop-position-test.true c.if-position-b_keys.true c.index-a-a_keys.is c.index-b-b_keys.is c.compare_key-keys.result c.compare-values.result keys (sym c.is_ne.ensures ∙ c.if-is_ne.false) c.compare-values.ensures (sym c.is_ne-in-loop-position.ensures ∙ c.if-is_ne-2.false));
     }
 
 pub order::compare_entries-returns : goal.order::compare_entries-returns
 order::compare_entries-returns t c =
     c.cmp.ensures
-    ∙ pairs_end c.args.a_keys.now c.args.b_keys.now (entry_views c.args.a.now) (entry_views c.args.b.now) c.loop-place.place c.loop-place.invariant.in_a c.loop-place.invariant.in_b (elim c.loop-place-test.branch [
-      | order::compare_entries-then-loop-place-test+else-place-b_keys w ↦ inr w.if-place-b_keys.false
-      | order::compare_entries-else-loop-place-test w ↦ inl w.loop-place-test.false
+    ∙ pairs_end c.args.a_keys.now c.args.b_keys.now (entry_views c.args.a.now) (entry_views c.args.b.now) c.loop-position.position c.loop-position.invariant.in_a c.loop-position.invariant.in_b (elim c.loop-position-test.branch [
+      | order::compare_entries-then-loop-position-test+else-position-b_keys w ↦ inr w.if-position-b_keys.false
+      | order::compare_entries-else-loop-position-test w ↦ inl w.loop-position-test.false
     ])
-    ∙ sym c.loop-place.invariant.rest
+    ∙ sym c.loop-position.invariant.rest
 
 pub order::compare_items-compare-answer-requires : goal.order::compare_items-compare-answer-requires
-order::compare_items-compare-answer-requires t c = (let below = item_below c.args.a.now c.loop-place.place c.index-a-place.result c.loop-place-test.true c.index-a-place.is in omega (arith, below, c.decreases), tt)
+order::compare_items-compare-answer-requires t c = (let below = item_below c.args.a.now c.loop-position.position c.index-a-position.result c.loop-position-test.true c.index-a-position.is in omega (arith, below, c.decreases), tt)
 
 pub order::compare_items-returns : goal.order::compare_items-returns
 order::compare_items-returns t c =
     c.cmp.ensures
-    ∙ sym (ends order c.args.a.now c.args.b.now c.loop-place.place c.loop-place.invariant.in_a c.loop-place.invariant.in_b (elim c.loop-place-test.branch [
-      | order::compare_items-then-loop-place-test+else-place-b w ↦ inr w.if-place-b.false
-      | order::compare_items-else-loop-place-test w ↦ inl w.loop-place-test.false
+    ∙ sym (ends order c.args.a.now c.args.b.now c.loop-position.position c.loop-position.invariant.in_a c.loop-position.invariant.in_b (elim c.loop-position-test.branch [
+      | order::compare_items-then-loop-position-test+else-position-b w ↦ inr w.if-position-b.false
+      | order::compare_items-else-loop-position-test w ↦ inl w.loop-position-test.false
     ]))
-    ∙ sym c.loop-place.invariant.rest
+    ∙ sym c.loop-position.invariant.rest

@@ -15,22 +15,22 @@ decreases-order::compare_items a = vals_size (vals a.a.now)
 abbrev pub decreases-order::compare_entries : goal.decreases-order::compare_entries
 decreases-order::compare_entries a = entries_size (entries (entry_views a.a.now))
 
-abbrev pub invariant-order::compare_entries-loop-place : goal.invariant-order::compare_entries-loop-place
-invariant-order::compare_entries-loop-place l = record {
-  in_a : l.place ≤ length l.a_keys;
-  in_b : l.place ≤ length l.b_keys;
-  rest : slice_cmp pair_order (picked l.a_keys (entry_views l.a)) (picked l.b_keys (entry_views l.b)) ≡ slice_cmp pair_order (drop l.place (picked l.a_keys (entry_views l.a))) (drop l.place (picked l.b_keys (entry_views l.b)));
+abbrev pub invariant-order::compare_entries-loop-position : goal.invariant-order::compare_entries-loop-position
+invariant-order::compare_entries-loop-position l = record {
+  in_a : l.position ≤ length l.a_keys;
+  in_b : l.position ≤ length l.b_keys;
+  rest : slice_cmp pair_order (picked l.a_keys (entry_views l.a)) (picked l.b_keys (entry_views l.b)) ≡ slice_cmp pair_order (drop l.position (picked l.a_keys (entry_views l.a))) (drop l.position (picked l.b_keys (entry_views l.b)));
 }
 
-abbrev pub decreases-order::compare_entries-loop-place : goal.decreases-order::compare_entries-loop-place
-decreases-order::compare_entries-loop-place l = length l.a_keys - l.place
+abbrev pub decreases-order::compare_entries-loop-position : goal.decreases-order::compare_entries-loop-position
+decreases-order::compare_entries-loop-position l = length l.a_keys - l.position
 
-abbrev pub invariant-order::compare_items-loop-place : goal.invariant-order::compare_items-loop-place
-invariant-order::compare_items-loop-place l = record {
-  in_a : l.place ≤ length l.a;
-  in_b : l.place ≤ length l.b;
-  rest : slice_cmp order l.a l.b ≡ slice_cmp order (drop l.place l.a) (drop l.place l.b);
+abbrev pub invariant-order::compare_items-loop-position : goal.invariant-order::compare_items-loop-position
+invariant-order::compare_items-loop-position l = record {
+  in_a : l.position ≤ length l.a;
+  in_b : l.position ≤ length l.b;
+  rest : slice_cmp order l.a l.b ≡ slice_cmp order (drop l.position l.a) (drop l.position l.b);
 }
 
-abbrev pub decreases-order::compare_items-loop-place : goal.decreases-order::compare_items-loop-place
-decreases-order::compare_items-loop-place l = length l.a - l.place
+abbrev pub decreases-order::compare_items-loop-position : goal.decreases-order::compare_items-loop-position
+decreases-order::compare_items-loop-position l = length l.a - l.position

@@ -5,9 +5,9 @@ use Rattle.tera_built_ins.proofs.Ranges.{stepping-more, number-further}
 use Rattle.tera_built_ins.proofs.functions.stepping.Goals as goal
 
 -- src/functions.rt
-pub loop-place-preserved : goal.loop-place-preserved
-loop-place-preserved c = record {
-  items = stepping-more _ _ _ _ _ _ c.loop-place.invariant.items (c.loop-place.invariant.number (omega arith)) (search rules);
+pub loop-position-preserved : goal.loop-position-preserved
+loop-position-preserved c = record {
+  items = stepping-more _ _ _ _ _ _ c.loop-position.invariant.items (c.loop-position.invariant.number (omega arith)) (search rules);
   number = λ more. to_z-of_z w128 c.saturating_add-number.result (search rules)
-      ∙ number-further _ _ _ _ c.loop-place._place (rw (to_z-of_z w128 c.args.start c.ranges.start, to_z-of_z w128 c.args.step c.ranges.step) (c.requires (c.loop-place._place + 1) more)) (c.loop-place.invariant.number (omega arith)) c.saturating_add-number.ensures;
+      ∙ number-further _ _ _ _ c.loop-position._position (rw (to_z-of_z w128 c.args.start c.ranges.start, to_z-of_z w128 c.args.step c.ranges.step) (c.requires (c.loop-position._position + 1) more)) (c.loop-position.invariant.number (omega arith)) c.saturating_add-number.ensures;
 }

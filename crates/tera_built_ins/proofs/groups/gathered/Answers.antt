@@ -17,7 +17,7 @@ loop-one-preserved c =
     record {
       whole = append_assoc done (one ∷ []) _ ∙ ap (λ (l : List declared.Keyed). done ++ l) (sym c.in-Some.ensures.steps.0) ∙ c.loop-one.invariant.whole;
       size = omega (arith, c.in-Some.ensures.steps.1, ap length c.in-Some.ensures.steps.0, c.loop-one.invariant.size);
-      placed = c.in_ok-put_in.ensures.places;
+      placed = c.in_ok-put_in.ensures.positions;
       grouped =
           c.in_ok-put_in.ensures.groups ∙ ap (put_in (key_view one.key) c.in_ok-try_clone.field-0) c.loop-one.invariant.grouped ∙ ap (λ v. put_in (key_view one.key) v (groups es)) copy
           ∙ put_in-groups es (key_view one.key) one.item.now ∙ ap groups (sym (map-append keyed_view done (one ∷ [])));

@@ -1,5 +1,5 @@
 use Rattle.std.proofs.Common.{◌++◌, ◌∷◌, [], length, sym, ap, ◌∙◌, append_assoc, arith}
-use Rattle.tera_calls.proofs.Turns.{Made-more}
+use Rattle.tera_calls.proofs.InARow.{Made-more}
 use Rattle.tera_calls.proofs.call.make_calls.Goals as goal
 
 pub loop-call-preserved : goal.loop-call-preserved

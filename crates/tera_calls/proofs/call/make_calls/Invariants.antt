@@ -1,6 +1,6 @@
 use Rattle.std.proofs.Common.{◌≡◌, ◌++◌, ◌+◌, ◌≤◌, length, vec_len, vec_capacity}
 use Rattle.std.specs.Vec.Iter.{into_iter_items, into_iter_len}
-use Rattle.tera_calls.proofs.Turns.{Made}
+use Rattle.tera_calls.proofs.InARow.{Made}
 use Rattle.tera_calls.proofs.call.make_calls.Given as goal
 
 -- The calls that were made led from the registry of before to the one that is there.

@@ -22,8 +22,8 @@ loop-operand-preserved c =
     let popped : old ≡ new ++ c.in-Some.operand ∷ [] = c.in-Some.ensures.items in
     let fits : length old ≤ length c.args.keys.now = c.loop-operand.invariant.0 in
     let fewer : length old ≡ length new + 1 = ap length popped ∙ simp length-append in
-    let place : c.len.result ≡ length new = search rules in
-    let key : c.index-keys-len.result ≡ get_or c.args.keys.now (length new) c.index-keys-len.result = c.index-keys-len.is ∙ ap (λ (n : ℕ). get_or c.args.keys.now n c.index-keys-len.result) place in (
+    let position : c.len.result ≡ length new = search rules in
+    let key : c.index-keys-len.result ≡ get_or c.args.keys.now (length new) c.index-keys-len.result = c.index-keys-len.is ∙ ap (λ (n : ℕ). get_or c.args.keys.now n c.index-keys-len.result) position in (
       omega (arith, fits, fewer),
       c.loop-operand.invariant.1
           ∙ onto_popped c.args.file.now c.args.keys.now old new c.in-Some.operand c.index-keys-len.result c.loop-operand.all popped fits key
@@ -36,8 +36,8 @@ returns-in_err-put_after c =
     let new = c.pop.new.self.items in
     let ks = map_list key_option c.args.keys.now in
     let popped : old ≡ new ++ c.in-Some.operand ∷ [] = c.in-Some.ensures.items in
-    let place : c.len.result ≡ length new = search rules in
-    let key : c.index-keys-len.result ≡ get_or c.args.keys.now (length new) c.index-keys-len.result = c.index-keys-len.is ∙ ap (λ (n : ℕ). get_or c.args.keys.now n c.index-keys-len.result) place in
+    let position : c.len.result ≡ length new = search rules in
+    let key : c.index-keys-len.result ≡ get_or c.args.keys.now (length new) c.index-keys-len.result = c.index-keys-len.is ∙ ap (λ (n : ℕ). get_or c.args.keys.now n c.index-keys-len.result) position in
     let e : map_entries c.args.file.now (zip ks c.args.operands.items) ≡ onto c.args.file.now (zip ks new) (entry_after c.args.file.now (key_option c.index-keys-len.result) c.in-Some.operand c.loop-operand.all) =
     c.loop-operand.invariant.1 ∙ onto_popped c.args.file.now c.args.keys.now old new c.in-Some.operand c.index-keys-len.result c.loop-operand.all popped c.loop-operand.invariant.0 key in
     let says : Says c.in_err-put_after.field-0.0 (map_entries c.args.file.now (zip ks c.args.operands.items)) = says_onto c.in_err-put_after.field-0.0 c.args.file.now (zip ks new) _ _ e c.in_err-put_after.ensures in

@@ -11,30 +11,30 @@ use Rattle.tera_registry.proofs.First.{first-more, first-of-all}
 use Rattle.tera_registry.proofs.Choosing.{chosen-next, kept-names-are, ties-is}
 use Rattle.tera_registry.proofs.choices.choices.Goals as goal
 
-pub loop-place-preserved : goal.loop-place-preserved
-loop-place-preserved c =
+pub loop-position-preserved : goal.loop-position-preserved
+loop-position-preserved c =
     let ts = c.args.templates.now in
     let r = seen ts c.args.prefixes.now in
-    let i = c.loop-place.place in
+    let i = c.loop-position.position in
     let u = c.deref-template.result.now in
     let t = entry_of u in
-    let at = entry-among r ts i _ _ refl c.loop-place-test.true c.index-templates-place.is c.deref-template.ensures in
+    let at = entry-among r ts i _ _ refl c.loop-position-test.true c.index-templates-position.is c.deref-template.ensures in
     let good : c.priority-priority.result ≡ priority r t.0 = c.priority-priority.ensures ∙ ap (priority r) c.as_str.ensures.value in
     let names : kept_names u.components.items ≡ component_names t.1.tree.nodes = kept-names-are (string_bytes u.name) (nodes_of u.meant.nodes) u.components.items u.defined in
     record {
       taken = λ q.
-          c.in_ok-choose_all.ensures q ∙ ap (λ p. chosen_in q i p 0 (kept_names u.components.items) (chosen c.loop-place.taken q)) good ∙ ap (λ ns. chosen_in q i (priority r t.0) 0 ns (chosen c.loop-place.taken q)) names ∙ ap (chosen_in q i (priority r t.0) 0 (component_names t.1.tree.nodes)) (c.loop-place.invariant.taken q) ∙ chosen-next r q i t at;
-      tie = rw c.first-tie.ensures (first-more r (ties_at r) i t c.loop-place.tie c.ties.result c.loop-place.invariant.tie at (c.ties.ensures ∙ ties-is r i t u.components.items c.loop-place.taken c.priority-priority.result names good c.loop-place.invariant.taken));
+          c.in_ok-choose_all.ensures q ∙ ap (λ p. chosen_in q i p 0 (kept_names u.components.items) (chosen c.loop-position.taken q)) good ∙ ap (λ ns. chosen_in q i (priority r t.0) 0 ns (chosen c.loop-position.taken q)) names ∙ ap (chosen_in q i (priority r t.0) 0 (component_names t.1.tree.nodes)) (c.loop-position.invariant.taken q) ∙ chosen-next r q i t at;
+      tie = rw c.first-tie.ensures (first-more r (ties_at r) i t c.loop-position.tie c.ties.result c.loop-position.invariant.tie at (c.ties.ensures ∙ ties-is r i t u.components.items c.loop-position.taken c.priority-priority.result names good c.loop-position.invariant.taken));
     }
 
 pub returns-clause-taken : goal.returns-clause-taken
 returns-clause-taken c = λ q.
     let ts = c.args.templates.now in
     let r = seen ts c.args.prefixes.now in
-    c.loop-place.invariant.taken q ∙ ap (λ l. chosen_from r q 0 l None) (take_all c.loop-place.place (entries_of ts) (omega (arith, length-entries ts, c.loop-place-test.false)))
+    c.loop-position.invariant.taken q ∙ ap (λ l. chosen_from r q 0 l None) (take_all c.loop-position.position (entries_of ts) (omega (arith, length-entries ts, c.loop-position-test.false)))
 
 pub returns-clause-tie : goal.returns-clause-tie
 returns-clause-tie c =
     let ts = c.args.templates.now in
     let r = seen ts c.args.prefixes.now in
-    first-of-all r (ties_at r) c.loop-place.place c.loop-place.tie c.loop-place.invariant.tie (omega (arith, length-entries ts, c.loop-place-test.false))
+    first-of-all r (ties_at r) c.loop-position.position c.loop-position.tie c.loop-position.invariant.tie (omega (arith, length-entries ts, c.loop-position-test.false))

@@ -5,8 +5,8 @@ use Rattle.tera_registry.specs.First.{IsFirstAmong}
 use Rattle.tera_registry.specs.Choices.{chosen, chosen_from, ties_at}
 use Rattle.tera_registry.proofs.choices.choices.Given as goal
 
-abbrev pub invariant-loop-place : goal.invariant-loop-place
-invariant-loop-place l = record {
-  taken : (q : Name) → chosen l.taken q ≡ chosen_from (seen l.templates l.prefixes) q 0 (take l.place (entries_of l.templates)) None;
-  tie : IsFirstAmong (seen l.templates l.prefixes) (ties_at (seen l.templates l.prefixes)) l.place l.tie;
+abbrev pub invariant-loop-position : goal.invariant-loop-position
+invariant-loop-position l = record {
+  taken : (q : Name) → chosen l.taken q ≡ chosen_from (seen l.templates l.prefixes) q 0 (take l.position (entries_of l.templates)) None;
+  tie : IsFirstAmong (seen l.templates l.prefixes) (ties_at (seen l.templates l.prefixes)) l.position l.tie;
 }

@@ -6,10 +6,10 @@ use Rattle.tera_registry.proofs.choices.choose_all.Goals as goal
 
 pub loop-number-preserved : goal.loop-number-preserved
 loop-number-preserved c = λ q.
-    let place = c.args.place in
+    let position = c.args.position in
     let p = c.args.priority in
     let k = c.loop-number.number in
     let names = kept_names c.args.of.now.components.items in
     let at : slice_get names k ≡ Some c.name.result.now =
     name-at c.args.of.now.components.items k c.index.result.now (omega (arith, c.len-number-end.ensures, c.loop-number-test.true)) c.index.ensures ∙ ap Some (sym c.name.ensures) in
-    ap (chosen_in q place p (k + 1) (drop (k + 1) names)) (c.in_ok-choose.ensures q) ∙ sym (chosen-more q c.name.result.now place p k names (chosen c.loop-number.taken q) at) ∙ c.loop-number.invariant q
+    ap (chosen_in q position p (k + 1) (drop (k + 1) names)) (c.in_ok-choose.ensures q) ∙ sym (chosen-more q c.name.result.now position p k names (chosen c.loop-number.taken q) at) ∙ c.loop-number.invariant q

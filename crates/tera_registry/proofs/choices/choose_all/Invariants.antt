@@ -6,4 +6,4 @@ use Rattle.tera_registry.proofs.choices.choose_all.Given as goal
 
 abbrev pub invariant-loop-number : goal.invariant-loop-number
 invariant-loop-number l = (q : Name)
-    → chosen_in q l.place l.priority l.number (drop l.number (kept_names l.of.components.items)) (chosen l.taken q) ≡ chosen_in q l.place l.priority 0 (kept_names l.of.components.items) (chosen l.fn.taken q)
+    → chosen_in q l.position l.priority l.number (drop l.number (kept_names l.of.components.items)) (chosen l.taken q) ≡ chosen_in q l.position l.priority 0 (kept_names l.of.components.items) (chosen l.fn.taken q)

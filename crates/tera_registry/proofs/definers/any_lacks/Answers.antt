@@ -1,28 +1,28 @@
 use Rattle.std.proofs.Common.{sym, ap, arith, length}
-use Rattle.std.proofs.lemmas.Map.Keys.{any_passes_from_place}
+use Rattle.std.proofs.lemmas.Map.Keys.{any_passes_from_position}
 use Rattle.tera_meaning.specs.Accepted.{lacks_something}
 use Rattle.tera_registry.specs.Walks.{rows, targets}
 use Rattle.tera_registry.proofs.Kept.{length-entries}
 use Rattle.tera_registry.proofs.Ancestors.{entry-there}
 use Rattle.tera_registry.proofs.Absent.{none-yet-more, none-yet-all}
-use Rattle.tera_registry.proofs.Turn.{targets-rows}
+use Rattle.tera_registry.proofs.Walking.{targets-rows}
 use Rattle.tera_registry.proofs.Filled.{length-all_at}
 use Rattle.tera_registry.proofs.definers.any_lacks.Goals as goal
 
 pub lacks-requires : goal.lacks-requires
 lacks-requires g c = λ κs within.
     let r = g.registry in
-    let place = c.loop-place.place in
-    let there = c.loop-place-test.true in
-    let row = targets-rows c.args.edges.now place c.index-edges-place.result (omega (arith, c.requires.1.1.1.0, there)) c.index-edges-place.is in
-    let long = length-all_at r.templates (targets (rows c.args.edges.now) place) (c.requires.1.1.0.inside place) in (
+    let position = c.loop-position.position in
+    let there = c.loop-position-test.true in
+    let row = targets-rows c.args.edges.now position c.index-edges-position.result (omega (arith, c.requires.1.1.1.0, there)) c.index-edges-position.is in
+    let long = length-all_at r.templates (targets (rows c.args.edges.now) position) (c.requires.1.1.0.inside position) in (
       within,
       (
         c.requires.1.0,
         (
           there,
           (
-            λ t at. (let those = c.requires.1.1.0.those place t there at in omega (arith, c.len.ensures, ap length row, long, ap length those)),
+            λ t at. (let those = c.requires.1.1.0.those position t there at in omega (arith, c.len.ensures, ap length row, long, ap length those)),
             (c.requires.1.1.1.1.0, c.requires.1.1.1.1.1),
           ),
         ),
@@ -32,15 +32,15 @@ lacks-requires g c = λ κs within.
 pub returns-then-lacks : goal.returns-then-lacks
 returns-then-lacks g c =
     let r = g.registry in
-    let t = entry-there r c.args.templates.now c.args.ups.now c.loop-place.place c.requires.1.0 c.loop-place-test.true in
-    sym (any_passes_from_place (lacks_something r) _ c.loop-place.place t.0 t.1 (sym (c.if-lacks.ensures t.0 t.1)))
+    let t = entry-there r c.args.templates.now c.args.ups.now c.loop-position.position c.requires.1.0 c.loop-position-test.true in
+    sym (any_passes_from_position (lacks_something r) _ c.loop-position.position t.0 t.1 (sym (c.if-lacks.ensures t.0 t.1)))
 
-pub loop-place-preserved : goal.loop-place-preserved
-loop-place-preserved g c =
+pub loop-position-preserved : goal.loop-position-preserved
+loop-position-preserved g c =
     let r = g.registry in
-    let t = entry-there r c.args.templates.now c.args.ups.now c.loop-place.place c.requires.1.0 c.loop-place-test.true in
-    none-yet-more (lacks_something r) _ c.loop-place.place t.0 c.loop-place.invariant t.1 (sym (c.if-lacks.ensures t.0 t.1))
+    let t = entry-there r c.args.templates.now c.args.ups.now c.loop-position.position c.requires.1.0 c.loop-position-test.true in
+    none-yet-more (lacks_something r) _ c.loop-position.position t.0 c.loop-position.invariant t.1 (sym (c.if-lacks.ensures t.0 t.1))
 
 pub returns : goal.returns
 returns g c =
-    sym (none-yet-all (lacks_something g.registry) _ c.loop-place.place c.loop-place.invariant (omega (arith, ap length c.requires.1.0.same, length-entries c.args.templates.now, c.loop-place-test.false)))
+    sym (none-yet-all (lacks_something g.registry) _ c.loop-position.position c.loop-position.invariant (omega (arith, ap length c.requires.1.0.same, length-entries c.args.templates.now, c.loop-position-test.false)))

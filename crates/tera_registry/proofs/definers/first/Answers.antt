@@ -20,7 +20,7 @@ returns-in-Some g c =
     let r = g.registry in
     let u = entry_of c.deref-template.result.now in
     let here = entry-among r c.args.templates.now c.up.last _ _ c.requires.0.same c.up.invariant.there c.index-templates-last.is c.deref-template.ensures in
-    λ t at. first-moved r (Some (record { template = c.up.last; block = c.in-Some.place })) _ _ (c.up.invariant.same t u at here) (first-own r c.args.block.now u (record { template = c.up.last; block = c.in-Some.place }) here c.in-Some.ensures)
+    λ t at. first-moved r (Some (record { template = c.up.last; block = c.in-Some.position })) _ _ (c.up.invariant.same t u at here) (first-own r c.args.block.now u (record { template = c.up.last; block = c.in-Some.position }) here c.in-Some.ensures)
 
 pub up-smaller : goal.up-smaller
 up-smaller g c =

@@ -10,18 +10,18 @@ use Rattle.tera_registry.proofs.definers.own.Goals as goal
 pub returns-then-is : goal.returns-then-is
 returns-then-is c =
     let t = c.args.template.now in
-    let n = kept-block t.blocks.items (string_bytes t.name) (blocks_of (entry_of t)) c.loop-place.place c.index.result.now t.divided (omega (arith, c.len-place-end.ensures, c.loop-place-test.true)) c.index.ensures in
+    let n = kept-block t.blocks.items (string_bytes t.name) (blocks_of (entry_of t)) c.loop-position.position c.index.result.now t.divided (omega (arith, c.len-position-end.ensures, c.loop-position-test.true)) c.index.ensures in
     let eq : bytes_eq c.args.block.now (n.0).0 ≡ true = ap (bytes_eq c.args.block.now) (sym n.2) ∙ sym c.if-is.ensures in
-    (entry-first _ _ c.loop-place.place n.0 c.loop-place.invariant n.1 eq ∙ sym n.1, slice_get_within _ _ _ n.1)
+    (entry-first _ _ c.loop-position.position n.0 c.loop-position.invariant n.1 eq ∙ sym n.1, slice_get_within _ _ _ n.1)
 
-pub loop-place-preserved : goal.loop-place-preserved
-loop-place-preserved c =
+pub loop-position-preserved : goal.loop-position-preserved
+loop-position-preserved c =
     let t = c.args.template.now in
-    let n = kept-block t.blocks.items (string_bytes t.name) (blocks_of (entry_of t)) c.loop-place.place c.index.result.now t.divided (omega (arith, c.len-place-end.ensures, c.loop-place-test.true)) c.index.ensures in
+    let n = kept-block t.blocks.items (string_bytes t.name) (blocks_of (entry_of t)) c.loop-position.position c.index.result.now t.divided (omega (arith, c.len-position-end.ensures, c.loop-position-test.true)) c.index.ensures in
     let eq : bytes_eq c.args.block.now (n.0).0 ≡ false = ap (bytes_eq c.args.block.now) (sym n.2) ∙ sym c.if-is.ensures in
-    none-yet-more _ _ c.loop-place.place n.0 c.loop-place.invariant n.1 eq
+    none-yet-more _ _ c.loop-position.position n.0 c.loop-position.invariant n.1 eq
 
 pub returns : goal.returns
 returns c =
     let t = c.args.template.now in
-    entry-nowhere _ _ c.loop-place.place c.loop-place.invariant (omega (arith, c.len-place-end.ensures, c.loop-place-test.false, length-kept t.blocks.items (string_bytes t.name) (blocks_of (entry_of t)) t.divided))
+    entry-nowhere _ _ c.loop-position.position c.loop-position.invariant (omega (arith, c.len-position-end.ensures, c.loop-position-test.false, length-kept t.blocks.items (string_bytes t.name) (blocks_of (entry_of t)) t.divided))

@@ -19,14 +19,14 @@ loop-name-preserved c =
     let named = ap h (sym c.as_str.ensures) in
     elim c.match-resolve.branch [
       | in-Some+in_ok-push w ↦
-          (let e = element es w.in-Some.place w.in-Some.ensures.1 in
+          (let e = element es w.in-Some.position w.in-Some.ensures.1 in
           record {
-            there = rw (w.places-is, w.in_ok-push.ensures.items) (AreThere-push _ _ _ i.there (omega (arith, length-entries ts, w.in-Some.ensures.1)));
-            filled = rw (w.places-is, w.in_ok-push.ensures.items, all_at-push es c.loop-name.places.items w.in-Some.place e.0 e.1) (fill-some h _ _ _ _ e.0 i.filled at (named ∙ w.in-Some.ensures.0 ∙ e.1));
+            there = rw (w.positions-is, w.in_ok-push.ensures.items) (AreThere-push _ _ _ i.there (omega (arith, length-entries ts, w.in-Some.ensures.1)));
+            filled = rw (w.positions-is, w.in_ok-push.ensures.items, all_at-push es c.loop-name.positions.items w.in-Some.position e.0 e.1) (fill-some h _ _ _ _ e.0 i.filled at (named ∙ w.in-Some.ensures.0 ∙ e.1));
           })
       | in_default w ↦ record {
-        there = rw w.places-is i.there;
-        filled = rw w.places-is (fill-none h _ _ _ _ i.filled at (named ∙ w.in_default.ensures));
+        there = rw w.positions-is i.there;
+        filled = rw w.positions-is (fill-none h _ _ _ _ i.filled at (named ∙ w.in_default.ensures));
       }
     ]
 

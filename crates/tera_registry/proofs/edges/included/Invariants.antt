@@ -7,6 +7,6 @@ use Rattle.tera_registry.proofs.edges.included.Given as goal
 
 abbrev pub invariant-loop-name : goal.invariant-loop-name
 invariant-loop-name l = record {
-  there : AreThere l.places.items (length l.templates);
-  filled : Filled (resolve (seen l.templates l.prefixes)) l.of.includes.items (all_at (entries_of l.templates) l.places.items) l.name-index;
+  there : AreThere l.positions.items (length l.templates);
+  filled : Filled (resolve (seen l.templates l.prefixes)) l.of.includes.items (all_at (entries_of l.templates) l.positions.items) l.name-index;
 }

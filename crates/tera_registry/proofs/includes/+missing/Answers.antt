@@ -7,7 +7,7 @@ use Rattle.tera_meaning.specs.Registry.{Registry}
 use Rattle.tera_meaning.specs.Resolve.{resolve}
 use Rattle.tera_registry.specs.Kept.{entries_of, seen}
 use Rattle.tera_registry.proofs.Bodies.{includes_in_body, in_both, any_of_both}
-use Rattle.tera_registry.proofs.Filled.{is_none-place}
+use Rattle.tera_registry.proofs.Filled.{is_none-position}
 use Rattle.tera_registry.proofs.includes.+missing.Goals as goal
 
 abbrev is_missing : Registry → Name → Bool
@@ -43,4 +43,4 @@ node_misses-returns-in-Block t c =
 pub node_misses-returns-in-Include : goal.node_misses-returns-in-Include
 node_misses-returns-in-Include t c =
     let p = is_missing (seen c.args.templates.now c.args.prefixes.now) in
-    none_if_not_some _ _ c.is_none.ensures ∙ is_none-place (entries_of c.args.templates.now) _ _ c.resolve.ensures ∙ ap p c.as_str.ensures ∙ sym (or_false (p _)) ∙ sym (ap (λ n. list_any p (node_includes (node_of n))) c.in-Include.is)
+    none_if_not_some _ _ c.is_none.ensures ∙ is_none-position (entries_of c.args.templates.now) _ _ c.resolve.ensures ∙ ap p c.as_str.ensures ∙ sym (or_false (p _)) ∙ sym (ap (λ n. list_any p (node_includes (node_of n))) c.in-Include.is)

@@ -5,13 +5,13 @@ use Rattle.tera_registry.proofs.known.code_lacks.Goals as goal
 
 pub returns-then-is_missing_at : goal.returns-then-is_missing_at
 returns-then-is_missing_at g c =
-    sym (code_lacks-at (g.O.Objects.engine c.args.objects.now) (is_there c.args.choices.now c.args.own.now) c.args.chunk.now.code c.loop-place.place (sym c.if-is_missing_at.ensures))
+    sym (code_lacks-at (g.O.Objects.engine c.args.objects.now) (is_there c.args.choices.now c.args.own.now) c.args.chunk.now.code c.loop-position.position (sym c.if-is_missing_at.ensures))
 
-pub loop-place-preserved : goal.loop-place-preserved
-loop-place-preserved g c =
-    lacks-nothing-more (g.O.Objects.engine c.args.objects.now) (is_there c.args.choices.now c.args.own.now) c.args.chunk.now.code c.loop-place.place c.loop-place.invariant (sym c.if-is_missing_at.ensures)
+pub loop-position-preserved : goal.loop-position-preserved
+loop-position-preserved g c =
+    lacks-nothing-more (g.O.Objects.engine c.args.objects.now) (is_there c.args.choices.now c.args.own.now) c.args.chunk.now.code c.loop-position.position c.loop-position.invariant (sym c.if-is_missing_at.ensures)
 
 pub returns : goal.returns
 returns g c =
-    let over : length c.args.chunk.now.code ≤ c.loop-place.place = omega (arith, c.loop-place-test.false, c.len-place-end.ensures) in
-    sym (code_lacks-none (g.O.Objects.engine c.args.objects.now) (is_there c.args.choices.now c.args.own.now) c.args.chunk.now.code c.loop-place.place over c.loop-place.invariant)
+    let over : length c.args.chunk.now.code ≤ c.loop-position.position = omega (arith, c.loop-position-test.false, c.len-position-end.ensures) in
+    sym (code_lacks-none (g.O.Objects.engine c.args.objects.now) (is_there c.args.choices.now c.args.own.now) c.args.chunk.now.code c.loop-position.position over c.loop-position.invariant)

@@ -2,6 +2,6 @@ use Rattle.tera_registry.specs.Known.{is_there}
 use Rattle.tera_registry.proofs.Lacking.{LacksNothing}
 use Rattle.tera_registry.proofs.known.code_lacks.Given as goal
 
-abbrev pub invariant-loop-place : goal.invariant-loop-place
-invariant-loop-place g l =
-    LacksNothing (g.O.Objects.engine l.objects) (is_there l.choices l.own) l.chunk.code l.place
+abbrev pub invariant-loop-position : goal.invariant-loop-position
+invariant-loop-position g l =
+    LacksNothing (g.O.Objects.engine l.objects) (is_there l.choices l.own) l.chunk.code l.position

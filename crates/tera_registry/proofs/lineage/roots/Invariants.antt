@@ -4,12 +4,12 @@ use Rattle.tera_registry.proofs.Checked.{Checked}
 use Rattle.tera_registry.proofs.First.{NotPast}
 use Rattle.tera_registry.proofs.lineage.roots.Given as goal
 
-abbrev pub invariant-loop-place : goal.invariant-loop-place
-invariant-loop-place g l = record {
-  checked : Checked g.registry l.place;
-  not_past : NotPast l.circle l.place;
-  no_tie : NotPast l.tie l.place;
+abbrev pub invariant-loop-position : goal.invariant-loop-position
+invariant-loop-position g l = record {
+  checked : Checked g.registry l.position;
+  not_past : NotPast l.circle l.position;
+  no_tie : NotPast l.tie l.position;
   all_tops : length l.tops ≡ length l.ups;
   tops : AreTops g.registry l.tops;
-  roots : AreRoots g.registry l.roots.items l.place;
+  roots : AreRoots g.registry l.roots.items l.position;
 }

@@ -7,7 +7,7 @@ use Rattle.tera_registry.specs.Walks.{rows}
 use Rattle.tera_registry.specs.Links.{AreUps}
 use Rattle.tera_registry.specs.Kept.{seen, seen_by}
 use Rattle.tera_registry.proofs.Ancestors.{grounded}
-use Rattle.tera_registry.proofs.Turn.{length-rows}
+use Rattle.tera_registry.proofs.Walking.{length-rows}
 use Rattle.tera_registry.proofs.Linked.{all-ups}
 use Rattle.tera_registry.proofs.Served.{ups-served, edges-served, circle-served, tie-served, chosen-served}
 use Rattle.tera_registry.proofs.Circles.{all-edges, closed, first_circle}

@@ -4,14 +4,14 @@ use Rattle.tera_errors.specs.Site.{Name}
 use Rattle.tera_values.specs.Named.{name_cmp}
 use Rattle.tera_registry.specs.declared.template.Template.{Template as Stored}
 use Rattle.tera_registry.specs.Kept.{entry_of, entries_of}
-use Rattle.tera_registry.proofs.Kept.{entry-at-place, length-entries}
+use Rattle.tera_registry.proofs.Kept.{entry-at-position, length-entries}
 use Rattle.tera_registry.proofs.Placed.{go-right, go-left, entry-found, entry-none}
 use Rattle.tera_registry.proofs.names.find.Goals as goal
 
 -- the template in the middle, and how its name stands to one in two pieces, which is asked of their bytes
 middle : (ts : List (Rc Stored Global)) (m : ℕ) (t : Rc Stored Global) (u : Stored) (front back n f b : Name) (o : Ordering) → m < length ts → t ≡ get_or ts m t → u ≡ t.value → n ≡ string_bytes u.name → f ≡ front → b ≡ back → o ≡ name_cmp n (f ++ b) → (slice_get (entries_of ts) m ≡ Some (entry_of t.value)) × (name_cmp (string_bytes t.value.name) (front ++ back) ≡ o)
 middle ts m t u front back n f b o lt is value n_is f_is b_is e = (
-  entry-at-place ts m t lt is,
+  entry-at-position ts m t lt is,
   rw (← value, ← n_is, ← f_is, ← b_is) (sym e),
 )
 

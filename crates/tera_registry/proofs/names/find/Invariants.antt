@@ -1,5 +1,5 @@
 use Rattle.std.proofs.Common.{◌-◌, ◌++◌, length, ◌≤◌}
-use Rattle.tera_registry.specs.Places.{After, Before}
+use Rattle.tera_registry.specs.Positions.{After, Before}
 use Rattle.tera_registry.specs.Kept.{entries_of}
 use Rattle.tera_registry.proofs.names.find.Given as goal
 

@@ -11,10 +11,10 @@ pub returns-in-Ok-find : goal.returns-in-Ok-find
 returns-in-Ok-find c =
     let i = c.loop-prefix.invariant in
     let es = entries_of c.args.templates.now in
-    let e = element es c.in-Ok-find.place c.in-Ok-find.ensures.1 in
-    let place = prefix-at c.args.prefixes.now c.loop-prefix.prefix-index c.prefix-item.result c.loop-prefix-test.true c.prefix-item.is in
+    let e = element es c.in-Ok-find.position c.in-Ok-find.ensures.1 in
+    let position = prefix-at c.args.prefixes.now c.loop-prefix.prefix-index c.prefix-item.result c.loop-prefix-test.true c.prefix-item.is in
     let at : entry_at (string_bytes c.prefix-item.result ++ c.args.name.now) es ≡ Some e.0 = rw (← c.as_str.ensures.value) (c.in-Ok-find.ensures.0 ∙ e.1) in (
-      ap (λ o. option_or o (first_there es (map (λ p. p ++ c.args.name.now) (map string_bytes c.args.prefixes.now)))) i.exact_none ∙ first-there-at es c.args.name.now _ c.loop-prefix.prefix-index _ e.0 i.none place at ∙ sym e.1,
+      ap (λ o. option_or o (first_there es (map (λ p. p ++ c.args.name.now) (map string_bytes c.args.prefixes.now)))) i.exact_none ∙ first-there-at es c.args.name.now _ c.loop-prefix.prefix-index _ e.0 i.none position at ∙ sym e.1,
       c.in-Ok-find.ensures.1,
     )
 
@@ -22,10 +22,10 @@ pub loop-prefix-preserved : goal.loop-prefix-preserved
 loop-prefix-preserved c =
     let i = c.loop-prefix.invariant in
     let es = entries_of c.args.templates.now in
-    let place = prefix-at c.args.prefixes.now c.loop-prefix.prefix-index c.prefix-item.result c.loop-prefix-test.true c.prefix-item.is in
+    let position = prefix-at c.args.prefixes.now c.loop-prefix.prefix-index c.prefix-item.result c.loop-prefix-test.true c.prefix-item.is in
     record {
       exact_none = i.exact_none;
-      none = none-more es c.args.name.now _ c.loop-prefix.prefix-index _ i.none place (rw (← c.as_str.ensures.value) c.in_default-find.ensures.0);
+      none = none-more es c.args.name.now _ c.loop-prefix.prefix-index _ i.none position (rw (← c.as_str.ensures.value) c.in_default-find.ensures.0);
     }
 
 pub returns : goal.returns

@@ -2,11 +2,11 @@ use Rattle.std.proofs.Common.{◌≤◌, length, arith}
 use Rattle.tera_registry.proofs.Needing.{needs-on, needs-end}
 use Rattle.tera_registry.proofs.needs.add_needs.Goals as goal
 
-pub loop-place-preserved : goal.loop-place-preserved
-loop-place-preserved c =
-    needs-on c.args.chunk.now.code c.loop-place.place _ c.loop-place.needs.items _ (omega (arith, c.len-place-end.ensures, c.loop-place-test.true)) c.in_ok-add_need.ensures.ok c.loop-place.invariant
+pub loop-position-preserved : goal.loop-position-preserved
+loop-position-preserved c =
+    needs-on c.args.chunk.now.code c.loop-position.position _ c.loop-position.needs.items _ (omega (arith, c.len-position-end.ensures, c.loop-position-test.true)) c.in_ok-add_need.ensures.ok c.loop-position.invariant
 
 pub returns-clause-ok : goal.returns-clause-ok
 returns-clause-ok c =
-    let over : length c.args.chunk.now.code ≤ c.loop-place.place = omega (arith, c.len-place-end.ensures, c.loop-place-test.false) in
-    needs-end c.args.chunk.now.code c.loop-place.place c.loop-place.needs.items _ over c.loop-place.invariant
+    let over : length c.args.chunk.now.code ≤ c.loop-position.position = omega (arith, c.len-position-end.ensures, c.loop-position-test.false) in
+    needs-end c.args.chunk.now.code c.loop-position.position c.loop-position.needs.items _ over c.loop-position.invariant

@@ -2,6 +2,6 @@ use Rattle.std.proofs.Common.{◌≡◌, ◌++◌, drop}
 use Rattle.tera_registry.specs.Needs.{code_needs}
 use Rattle.tera_registry.proofs.needs.add_needs.Given as goal
 
-abbrev pub invariant-loop-place : goal.invariant-loop-place
-invariant-loop-place l =
-    l.needs.items ++ code_needs (drop l.place l.chunk.code) ≡ l.initial.needs.items ++ code_needs l.chunk.code
+abbrev pub invariant-loop-position : goal.invariant-loop-position
+invariant-loop-position l =
+    l.needs.items ++ code_needs (drop l.position l.chunk.code) ≡ l.initial.needs.items ++ code_needs l.chunk.code

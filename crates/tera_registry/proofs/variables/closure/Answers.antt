@@ -16,12 +16,12 @@ loop-next-preserved c =
     let ts = c.args.templates.now in
     let r = seen ts c.args.prefixes.now in
     let ps = c.loop-next.reached.items in
-    let place = c.index-place.result.now in
+    let position = c.index-position.result.now in
     let left : c.loop-next.next < length ps = omega (arith, c.if-next-len.false) in
-    let p_at : slice_get ps c.loop-next.next ≡ Some place = slice_get_read ps (length ps) c.loop-next.next place refl left c.index-place.ensures in
-    let lt = there-at ps (length (entries_of ts)) c.loop-next.next place c.loop-next.invariant.reached.there p_at in
-    let at = entry-among r ts place _ _ refl (omega (arith, lt, length-entries ts)) c.index-templates-place.is c.deref-template.ensures in
-    closing-on r c.args.from.now c.loop-next.next place (entry_of c.deref-template.result.now) ps _ _ _ p_at at c.in_ok-reach_included.ensures c.loop-next.invariant
+    let p_at : slice_get ps c.loop-next.next ≡ Some position = slice_get_read ps (length ps) c.loop-next.next position refl left c.index-position.ensures in
+    let lt = there-at ps (length (entries_of ts)) c.loop-next.next position c.loop-next.invariant.reached.there p_at in
+    let at = entry-among r ts position _ _ refl (omega (arith, lt, length-entries ts)) c.index-templates-position.is c.deref-template.ensures in
+    closing-on r c.args.from.now c.loop-next.next position (entry_of c.deref-template.result.now) ps _ _ _ p_at at c.in_ok-reach_included.ensures c.loop-next.invariant
 
 pub returns-then-next-len : goal.returns-then-next-len
 returns-then-next-len c =

@@ -22,7 +22,7 @@ up-preserved c =
       there = omega (arith, c.in-At.ensures.2.1, length-entries c.args.templates.now);
       inside = rw c.in_ok-push.ensures.items (AreThere-push _ _ _ c.up.invariant.inside c.up.invariant.there);
       so_far = λ t v t_at v_at.
-          rw c.in_ok-push.ensures.items (passed r c.up.places.items c.up.last t u v here (next-ancestors r u v c.in-At.next (c.requires.grounded.each c.up.last u here) c.in-At.ensures v_at) (c.up.invariant.so_far t u t_at here));
+          rw c.in_ok-push.ensures.items (passed r c.up.positions.items c.up.last t u v here (next-ancestors r u v c.in-At.next (c.requires.grounded.each c.up.last u here) c.in-At.ensures v_at) (c.up.invariant.so_far t u t_at here));
     }
 
 pub returns-in-Nothing-clause-those : goal.returns-in-Nothing-clause-those
@@ -30,7 +30,7 @@ returns-in-Nothing-clause-those c =
     let r = seen c.args.templates.now c.args.prefixes.now in
     let u = entry_of c.deref-template.result.now in
     let here = entry-among r c.args.templates.now c.up.last _ _ refl c.up.invariant.there c.index-templates-last.is c.deref-template.ensures in
-    λ t at. rw c.in_ok-push.ensures.items (passed-last r c.up.places.items c.up.last t u here c.in-Nothing.ensures (c.up.invariant.so_far t u at here))
+    λ t at. rw c.in_ok-push.ensures.items (passed-last r c.up.positions.items c.up.last t u here c.in-Nothing.ensures (c.up.invariant.so_far t u at here))
 
 pub returns-in-Nothing-clause-there : goal.returns-in-Nothing-clause-there
 returns-in-Nothing-clause-there c =

@@ -9,8 +9,8 @@ use Rattle.tera_registry.proofs.variables.lineage.Given as goal
 abbrev pub invariant-up : goal.invariant-up
 invariant-up l = record {
   there : l.last < length l.templates;
-  inside : AreThere l.places.items (length l.templates);
-  so_far : (t u : Entry) → slice_get (entries_of l.templates) l.from ≡ Some t → slice_get (entries_of l.templates) l.last ≡ Some u → all_at (entries_of l.templates) l.places.items ++ u ∷ ancestors (seen l.templates l.prefixes) u ≡ t ∷ ancestors (seen l.templates l.prefixes) t;
+  inside : AreThere l.positions.items (length l.templates);
+  so_far : (t u : Entry) → slice_get (entries_of l.templates) l.from ≡ Some t → slice_get (entries_of l.templates) l.last ≡ Some u → all_at (entries_of l.templates) l.positions.items ++ u ∷ ancestors (seen l.templates l.prefixes) u ≡ t ∷ ancestors (seen l.templates l.prefixes) t;
 }
 
 abbrev pub decreases-up : goal.decreases-up

@@ -3,8 +3,8 @@ use Rattle.tera_registry.specs.Reached.{AreReached}
 use Rattle.tera_registry.proofs.Reaching.{Reaching}
 use Rattle.tera_registry.proofs.variables.reach_all.Given as goal
 
-abbrev pub invariant-loop-place : goal.invariant-loop-place
-invariant-loop-place l = record {
+abbrev pub invariant-loop-position : goal.invariant-loop-position
+invariant-loop-position l = record {
   as_many : length l.marks ≡ length l.initial.marks;
-  reaching : (es : _) → AreReached es l.initial.reached.items l.initial.marks → Reaching es (slice_get es) l.places (drop l.place-index l.places) l.initial.reached.items l.reached.items l.marks;
+  reaching : (es : _) → AreReached es l.initial.reached.items l.initial.marks → Reaching es (slice_get es) l.positions (drop l.position-index l.positions) l.initial.reached.items l.reached.items l.marks;
 }

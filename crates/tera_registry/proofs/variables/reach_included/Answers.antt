@@ -26,7 +26,7 @@ loop-name-preserved c =
     let named = ap h (sym c.as_str.ensures) in
     elim c.match-resolve.branch [
       | in-Some+in_ok-reach w ↦
-          (let e = element es w.in-Some.place w.in-Some.ensures.1 in
+          (let e = element es w.in-Some.position w.in-Some.ensures.1 in
           rw (w.reached-is, w.marks-is) (reaching-some es h _ _ _ _ e.0 _ _ _ _ _ left (named ∙ w.in-Some.ensures.0 ∙ e.1) (w.in_ok-reach.ensures es e.0 i.reached e.1) i))
       | in_default w ↦
           rw (w.reached-is, w.marks-is) (reaching-none es h _ _ _ _ _ _ _ left (named ∙ w.in_default.ensures) i)

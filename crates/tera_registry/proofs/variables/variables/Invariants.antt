@@ -6,6 +6,6 @@ use Rattle.tera_registry.specs.Edges.{all_at}
 use Rattle.tera_registry.specs.Kept.{entries_of}
 use Rattle.tera_registry.proofs.variables.variables.Given as goal
 
-abbrev pub invariant-loop-place : goal.invariant-loop-place
-invariant-loop-place l =
-    in_one_of given_in (all_at (entries_of l.templates) (drop l.place-index l.places)) ∪ names_in l.found ≡ in_one_of given_in (all_at (entries_of l.templates) l.places)
+abbrev pub invariant-loop-position : goal.invariant-loop-position
+invariant-loop-position l =
+    in_one_of given_in (all_at (entries_of l.templates) (drop l.position-index l.positions)) ∪ names_in l.found ≡ in_one_of given_in (all_at (entries_of l.templates) l.positions)

@@ -4,7 +4,7 @@ use Rattle.std.proofs.lemmas.List.Sums.{count_by-le-length}
 use Rattle.tera_registry.specs.Walks.{rows}
 use Rattle.tera_registry.proofs.Rows.{length-push}
 use Rattle.tera_registry.proofs.Ways.{mark_ended, pass_edge, back, found, none}
-use Rattle.tera_registry.proofs.Turn.{length-rows, here-unknown, all-passed, next-edge, mark-smaller, pass-smaller, begins, goes-on, marked-start, here-there}
+use Rattle.tera_registry.proofs.Walking.{length-rows, here-unknown, all-passed, next-edge, mark-smaller, pass-smaller, begins, goes-on, marked-start, here-there}
 use Rattle.tera_registry.proofs.walks.leads_into_a_circle.Goals as goal
 
 pub returns-then-ends-from-clause-circles : goal.returns-then-ends-from-clause-circles

@@ -2,7 +2,7 @@ use Rattle.std.proofs.Common.{◌≡◌, ℕ, ◌++◌, drop}
 use Rattle.tera_syntax_tree.specs.Inside.{NodesInside}
 use Rattle.tera_syntax_tree.specs.View.{nodes_of}
 use Rattle.tera_syntax.specs.Names.{blocks_at}
-use Rattle.tera_syntax.specs.Places.{NamesWithin}
+use Rattle.tera_syntax.specs.Positions.{NamesWithin}
 use Rattle.tera_syntax.specs.View.{names_of}
 use Rattle.tera_syntax.proofs.blocks.+names.Given as goal
 

@@ -16,7 +16,7 @@ use Rattle.tera_syntax_tokens.specs.Points.{PointsWithin}
 use Rattle.tera_syntax_tokens.specs.Stretches.{PieceInside}
 use Rattle.tera_syntax_tokens.proofs.Cuts.{cut_step, cut_broken, cut_nothing}
 use Rattle.tera_syntax_tokens.proofs.Stretches.{piece_inside}
-use Rattle.tera_syntax_expressions.proofs.Turns.{refused}
+use Rattle.tera_syntax_expressions.proofs.Rounds.{refused}
 use Rattle.tera_syntax.proofs.Extending.{file_broken, spelled_sound}
 use Rattle.tera_syntax.proofs.Inside.{tree_inside}
 use Rattle.tera_syntax.proofs.Plain.{refused_too}
@@ -52,7 +52,7 @@ returns-in-Err-step-clause-value c =
     c.in-Err-step.ensures.value
 
 pub returns-in-Err-clause-points : goal.returns-in-Err-clause-points
-returns-in-Err-clause-points c = subst (λ size. PointsWithin size c.pointed.result) c.loop-rest.invariant.place c.pointed.ensures.points
+returns-in-Err-clause-points c = subst (λ size. PointsWithin size c.pointed.result) c.loop-rest.invariant.position c.pointed.ensures.points
 
 pub returns-in-Err-step-clause-points : goal.returns-in-Err-step-clause-points
 returns-in-Err-step-clause-points c =
@@ -61,8 +61,8 @@ returns-in-Err-step-clause-points c =
     let found = found_of c.as_slice.result.now c.in-Ok.piece in
     let inside = piece_inside c.args.delimiters.now c.requires c.loop-rest.trims c.loop-rest.at c.loop-rest.rest.now found l c.loop-rest.invariant.utf8 (found_in _ _ _ c.in-Ok.piece (sym c.as_slice.ensures.value) c.in-Ok.ensures.value) in
     c.in-Err-step.ensures.points (length c.args.source.now)
-    (c.new-spans.ensures (length c.args.source.now) f.0 (omega (arith, f.1, c.loop-rest.invariant.place)))
-    (subst (λ size. PieceInside size found.piece) c.loop-rest.invariant.place inside)
+    (c.new-spans.ensures (length c.args.source.now) f.0 (omega (arith, f.1, c.loop-rest.invariant.position)))
+    (subst (λ size. PieceInside size found.piece) c.loop-rest.invariant.position inside)
 
 pub loop-rest-preserved : goal.loop-rest-preserved
 loop-rest-preserved c =
@@ -73,7 +73,7 @@ loop-rest-preserved c =
     let k = ap length f.2 ∙ length-drop (c.in-Ok.piece.next - c.loop-rest.at) c.loop-rest.rest.now in
     record {
       utf8 = f.3;
-      place = omega (arith, f.0, f.1, k, c.loop-rest.invariant.place);
+      position = omega (arith, f.0, f.1, k, c.loop-rest.invariant.position);
       known = c.in-Ok.ensures.known;
       so_far = c.loop-rest.invariant.so_far
           ∙ ap (spec.file_run max_tree_depth (file_of c.loop-rest.file)) s

@@ -11,7 +11,7 @@ use Rattle.tera_syntax_tree.specs.Depth.{max_tree_depth}
 abbrev pub invariant-loop-rest : goal.invariant-loop-rest
 invariant-loop-rest l = record {
   utf8 : shadow (Utf8 l.rest);
-  place : l.at + length l.rest ≡ length l.source;
+  position : l.at + length l.rest ≡ length l.source;
   known : Knows (delimiters_of l.delimiters) l.rest l.opening;
   so_far : spec.spelled max_tree_depth (pieces (delimiters_of l.delimiters) l.source) ≡ spec.file_run max_tree_depth (file_of l.file) (cut (delimiters_of l.delimiters) l.trims 0 l.at l.rest);
 }

@@ -5,6 +5,6 @@ use Rattle.tera_syntax_tokens.specs.Token.{tokens_of}
 use Rattle.tera_syntax_expressions.specs.Expressions.{opened}
 use Rattle.tera_syntax_expressions.proofs.climb.opened.Given as goal
 
-abbrev pub invariant-loop-turn : goal.invariant-loop-turn
-invariant-loop-turn l = (l.count ≡ l._turn) × (tokens_of l.tokens.ahead.now ≡ drop l.count (tokens_of l.fn.tokens.ahead.now)) × (opened (left (input l.fn.tokens)) [] (input l.fn.tokens)
-    ≡ opened (l._turn-end - l._turn) (starts (tokens_of l.fn.tokens.ahead.now) l.count) (input l.tokens))
+abbrev pub invariant-loop-round : goal.invariant-loop-round
+invariant-loop-round l = (l.count ≡ l._round) × (tokens_of l.tokens.ahead.now ≡ drop l.count (tokens_of l.fn.tokens.ahead.now)) × (opened (left (input l.fn.tokens)) [] (input l.fn.tokens)
+    ≡ opened (l._round-end - l._round) (starts (tokens_of l.fn.tokens.ahead.now) l.count) (input l.tokens))

@@ -1,7 +1,7 @@
 use Rattle.tera_syntax_tokens.specs.Takes.{input}
 use Rattle.std.proofs.Common.{◌-◌, arith}
 use Rattle.tera_syntax_expressions.specs.Expressions.{expr}
-use Rattle.tera_syntax_expressions.proofs.Turns.{expr_more, expr_none, refuses}
+use Rattle.tera_syntax_expressions.proofs.Rounds.{expr_more, expr_none, refuses}
 use Rattle.tera_syntax_expressions.proofs.expressions.+expr.Goals as goal
 
 pub returns-then-limit-eq0 : goal.returns-then-limit-eq0

@@ -23,10 +23,10 @@ decreases-entries l = 4 * l.limit + 2
 abbrev pub decreases-with_parts : goal.decreases-with_parts
 decreases-with_parts l = 4 * l.limit + 3
 
-abbrev pub invariant-items-loop-turn : goal.invariant-items-loop-turn
-invariant-items-loop-turn l =
-    written_items (written l.limit) (input l.fn.tokens) ≡ parts_from RightBracket (written_item (written l.limit)) (l._turn-end - l._turn) (literals_of l.found.items) (input l.tokens)
+abbrev pub invariant-items-loop-round : goal.invariant-items-loop-round
+invariant-items-loop-round l =
+    written_items (written l.limit) (input l.fn.tokens) ≡ parts_from RightBracket (written_item (written l.limit)) (l._round-end - l._round) (literals_of l.found.items) (input l.tokens)
 
-abbrev pub invariant-entries-loop-turn : goal.invariant-entries-loop-turn
-invariant-entries-loop-turn l =
-    written_entries (written l.limit) (input l.fn.tokens) ≡ parts_from RightBrace (written_entry (written l.limit)) (l._turn-end - l._turn) (literal_entries_of l.found.items) (input l.tokens)
+abbrev pub invariant-entries-loop-round : goal.invariant-entries-loop-round
+invariant-entries-loop-round l =
+    written_entries (written l.limit) (input l.fn.tokens) ≡ parts_from RightBrace (written_entry (written l.limit)) (l._round-end - l._round) (literal_entries_of l.found.items) (input l.tokens)

@@ -2,7 +2,7 @@ use Rattle.std.proofs.Common.{◌≡◌, ◌<◌, ◌+◌, [], ap, Some, None, f
 use Rattle.tera_syntax_tokens.specs.Cut.{opening_at, opens}
 use Rattle.tera_syntax_tree.specs.Delimiters.{delimiters_of}
 use Rattle.tera_syntax_tokens.proofs.Openings.{start_of, start_fits, start_boundary, start_size_le}
-use Rattle.tera_syntax_tokens.proofs.Cuts.{next_of, place_positive, points_from, if_ok}
+use Rattle.tera_syntax_tokens.proofs.Cuts.{next_of, position_positive, points_from, if_ok}
 use Rattle.tera_syntax_tokens.proofs.cut.next_piece.Goals as goal
 
 pub start_size-size-requires : goal.start_size-size-requires
@@ -21,7 +21,7 @@ pub returns-in-None-clause-moves : goal.returns-in-None-clause-moves
 returns-in-None-clause-moves c =
     let n0 : opening_at (delimiters_of c.args.delimiters.now) c.args.text.now ≡ None = cc in
     let e : opens (delimiters_of c.args.delimiters.now) c.args.text.now ≡ false = ap is_some n0 in
-    let p = place_positive (opens (delimiters_of c.args.delimiters.now)) c.args.text.now c.requires.some e in
+    let p = position_positive (opens (delimiters_of c.args.delimiters.now)) c.args.text.now c.requires.some e in
     let n = ap next_of (c.words.ensures.value []) in
     omega (arith, n, p)
 

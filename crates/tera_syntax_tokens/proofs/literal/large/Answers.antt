@@ -1,5 +1,5 @@
 use Rattle.std.proofs.Common.{◌≡◌, ◌≤◌, ◌<◌, ◌+◌, ◌-◌, ◌*◌, None, get_or, length, ap, ◌∙◌, arith}
-use Rattle.tera_syntax_tokens.proofs.Places.{by_order}
+use Rattle.tera_syntax_tokens.proofs.Positions.{by_order}
 use Rattle.tera_syntax_tokens.proofs.Literals.{too_large}
 use Rattle.tera_syntax_tokens.proofs.literal.large.Goals as goal
 

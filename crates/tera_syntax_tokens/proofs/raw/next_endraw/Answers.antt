@@ -1,9 +1,9 @@
 use Rattle.std.proofs.Common.{◌≡◌, ap, ◌∙◌, is_some}
-use Rattle.tera_syntax_tokens.specs.Bytes.{place}
+use Rattle.tera_syntax_tokens.specs.Bytes.{position}
 use Rattle.tera_syntax_tokens.specs.Cut.{opens, ends_raw}
 use Rattle.tera_syntax_tokens.specs.Found.{end_of, end_from}
 use Rattle.tera_syntax_tree.specs.Delimiters.{delimiters_of}
-use Rattle.tera_syntax_tokens.proofs.Places.{none_before-start, none_before-step, none_before-here, none_before-end}
+use Rattle.tera_syntax_tokens.proofs.Positions.{none_before-start, none_before-step, none_before-here, none_before-end}
 use Rattle.tera_syntax_tokens.proofs.Raws.{some_alike, ends_opened}
 use Rattle.tera_syntax_tokens.proofs.raw.next_endraw.Goals as goal
 
@@ -22,7 +22,7 @@ pub loop-i-preserved : goal.loop-i-preserved
 loop-i-preserved c =
     let d = delimiters_of c.args.delimiters.now in
     let s : is_some c.endraw.result ≡ ends_raw d c.after.result.now = some_alike (end_from 0) end_of _ _ (c.endraw.ensures.value 0) in
-    let e = c.next_opening.ensures.value ∙ ap (place (opens d)) c.after-in-loop-i.ensures in
+    let e = c.next_opening.ensures.value ∙ ap (position (opens d)) c.after-in-loop-i.ensures in
     none_before-step (opens d) (ends_raw d) (ends_opened d) c.loop-i.i c.next_opening.result c.args.text.now c.loop-i.invariant c.loop-i-test.true (cc) e
 
 pub returns : goal.returns

@@ -1,6 +1,6 @@
 use Rattle.std.proofs.Common.{◌≡◌, ◌+◌, drop, ap, sym, ◌∙◌, Some, None, option_map}
 use Rattle.tera_syntax_tree.specs.Delimiters.{delimiters_of}
-use Rattle.tera_syntax_tokens.specs.Bytes.{place}
+use Rattle.tera_syntax_tokens.specs.Bytes.{position}
 use Rattle.tera_syntax_tokens.specs.Cut.{endraw, ends_raw, trims_before, opening_at, words}
 use Rattle.tera_syntax_tokens.specs.Found.{end_of, end_from, piece_of}
 use Rattle.tera_syntax_tokens.proofs.Openings.{opening_fits}
@@ -23,7 +23,7 @@ pub returns-in_default-clause-value : goal.returns-in_default-clause-value
 returns-in_default-clause-value c tokens =
     let d = delimiters_of c.args.delimiters.now in
     let n = c.next_endraw-n.result in
-    let p : n ≡ place (ends_raw d) c.args.text.now = c.next_endraw-n.ensures ∙ ap (place (ends_raw d)) c.as_bytes.ensures.value in
+    let p : n ≡ position (ends_raw d) c.args.text.now = c.next_endraw-n.ensures ∙ ap (position (ends_raw d)) c.as_bytes.ensures.value in
     let r : c.as_bytes-2.result.now ≡ drop n c.args.text.now = c.as_bytes-2.ensures.value ∙ c.split_at.ensures.back in
     let e : None ≡ option_map end_of (endraw d (c.args.at + n) (drop n c.args.text.now)) = rw r at c.in_default.ensures.value (c.args.at + n) in
     no_raw d c.args.trims c.args.at c.args.text.now n p (sym e)
@@ -32,7 +32,7 @@ pub returns-clause-value : goal.returns-clause-value
 returns-clause-value c tokens =
     let d = delimiters_of c.args.delimiters.now in
     let n = c.next_endraw-n.result in
-    let p : n ≡ place (ends_raw d) c.args.text.now = c.next_endraw-n.ensures ∙ ap (place (ends_raw d)) c.as_bytes.ensures.value in
+    let p : n ≡ position (ends_raw d) c.args.text.now = c.next_endraw-n.ensures ∙ ap (position (ends_raw d)) c.as_bytes.ensures.value in
     let r : c.as_bytes-2.result.now ≡ drop n c.args.text.now = c.as_bytes-2.ensures.value ∙ c.split_at.ensures.back in
     let e : Some (end_from (c.args.at + n) c.in-Some.ending) ≡ option_map end_of (endraw d (c.args.at + n) (drop n c.args.text.now)) = rw r at c.in-Some.ensures.value (c.args.at + n) in
     let b : c.trims_before-behind.result ≡ trims_before (drop n c.args.text.now) (opening_at d (drop n c.args.text.now)) =

@@ -5,14 +5,14 @@ use Rattle.tera_values_data.proofs.Runs.{keeps_all, keeps_on, run_more, run_to, 
 use Rattle.tera_values_data.proofs.escape.append_forms.Goals as goal
 use Rattle.tera_values_data.proofs.escape.append_forms.Goals.{in-Some+in_ok-append_run+in_ok-append, in_default}
 
-pub loop-place-init : goal.loop-place-init
-loop-place-init g c =
+pub loop-position-init : goal.loop-position-init
+loop-position-init g c =
     let f : ℕ → List ℕ = g.F.Forms.spelled in
     let t : List ℕ = c.args.text.now in
-    let q : ℕ = c.next_form-place.result in
+    let q : ℕ = c.next_form-position.result in
     let same = c.as_bytes-bytes.ensures.value in
-    let high : q ≤ length t = subst (λ (x : List ℕ). q ≤ length x) same c.next_form-place.ensures.high in
-    let plain : IsPlain f t 0 q = subst (λ (x : List ℕ). IsPlain f x 0 q) same c.next_form-place.ensures.plain in
+    let high : q ≤ length t = subst (λ (x : List ℕ). q ≤ length x) same c.next_form-position.ensures.high in
+    let plain : IsPlain f t 0 q = subst (λ (x : List ℕ). IsPlain f x 0 q) same c.next_form-position.ensures.plain in
     record {
       ordered = omega arith;
       in_range = high;
@@ -21,39 +21,39 @@ loop-place-init g c =
       keeps = keeps_all (string_bytes c.args.out.now);
     }
 
-pub loop-place-preserved : goal.loop-place-preserved
-loop-place-preserved g c =
+pub loop-position-preserved : goal.loop-position-preserved
+loop-position-preserved g c =
     let f : ℕ → List ℕ = g.F.Forms.spelled in
     let t : List ℕ = c.args.text.now in
-    let p : ℕ = c.loop-place.place in
+    let p : ℕ = c.loop-position.position in
     let h : p < length t = omega arith in
-    let q : ℕ = c.next_of_run-place.result in
+    let q : ℕ = c.next_of_run-position.result in
     let same : get_or c.as_bytes-bytes.result.now p 0 ≡ get_or t p 0 = ap (λ (x : List ℕ). get_or x p 0) c.as_bytes-bytes.ensures.value in
-    let onward : p + 1 ≤ q = c.next_of_run-place.ensures.low in
-    let high : q ≤ length t = subst (λ (x : List ℕ). q ≤ length x) c.as_bytes-bytes.ensures.value c.next_of_run-place.ensures.high in
-    let plain : IsPlain f t (p + 1) q = subst (λ (x : List ℕ). IsPlain f x (p + 1) q) c.as_bytes-bytes.ensures.value c.next_of_run-place.ensures.plain in
+    let onward : p + 1 ≤ q = c.next_of_run-position.ensures.low in
+    let high : q ≤ length t = subst (λ (x : List ℕ). q ≤ length x) c.as_bytes-bytes.ensures.value c.next_of_run-position.ensures.high in
+    let plain : IsPlain f t (p + 1) q = subst (λ (x : List ℕ). IsPlain f x (p + 1) q) c.as_bytes-bytes.ensures.value c.next_of_run-position.ensures.plain in
     elim c.match-form.branch [
       | in-Some+in_ok-append_run+in_ok-append w ↦
           let form : f (get_or t p 0) ≡ w.in-Some.form.now = ap f (sym same) ∙ sym w.in-Some.ensures.form in
           let low : get_or t p 0 < 128 = omega (arith, same, w.in-Some.ensures.ascii refl) in
-          let run : string_bytes w.append_run.new.out ≡ string_bytes c.loop-place.out ++ take (p - c.loop-place.start) (drop c.loop-place.start t) = w.in_ok-append_run.ensures.ok ∙ ap (λ (x : List ℕ). string_bytes c.loop-place.out ++ x) w.range.ensures.value in
-          let wrote = run_done f t c.loop-place.start p (string_bytes c.loop-place.out) (string_bytes w.append_run.new.out) (string_bytes w.append.new.out) w.in-Some.form.now h form run w.in_ok-append.ensures.ok in
+          let run : string_bytes w.append_run.new.out ≡ string_bytes c.loop-position.out ++ take (p - c.loop-position.start) (drop c.loop-position.start t) = w.in_ok-append_run.ensures.ok ∙ ap (λ (x : List ℕ). string_bytes c.loop-position.out ++ x) w.range.ensures.value in
+          let wrote = run_done f t c.loop-position.start p (string_bytes c.loop-position.out) (string_bytes w.append_run.new.out) (string_bytes w.append.new.out) w.in-Some.form.now h form run w.in_ok-append.ensures.ok in
           let done = wrote ∙ ap (λ (x : List ℕ). string_bytes w.append.new.out ++ x) (run_to f t (p + 1) (p + 1) q (omega arith) onward high plain) in
           record {
             ordered = omega (arith, w.start-is, onward);
             in_range = high;
             cut = rw w.start-is (IsCharBoundary-after_ascii t p c.utf8.text h low);
-            written = rw (w.start-is, w.out-is) (sym done ∙ c.loop-place.invariant.written);
-            keeps = rw w.out-is (keeps_on (string_bytes c.args.out.now) (string_bytes w.append_run.new.out) (string_bytes w.append.new.out) (keeps_on (string_bytes c.args.out.now) (string_bytes c.loop-place.out) (string_bytes w.append_run.new.out) c.loop-place.invariant.keeps w.append_run.ensures.keeps) w.append.ensures.keeps);
+            written = rw (w.start-is, w.out-is) (sym done ∙ c.loop-position.invariant.written);
+            keeps = rw w.out-is (keeps_on (string_bytes c.args.out.now) (string_bytes w.append_run.new.out) (string_bytes w.append.new.out) (keeps_on (string_bytes c.args.out.now) (string_bytes c.loop-position.out) (string_bytes w.append_run.new.out) c.loop-position.invariant.keeps w.append_run.ensures.keeps) w.append.ensures.keeps);
           }
       | in_default w ↦
           let form : f (get_or t p 0) ≡ get_or t p 0 ∷ [] = ap f (sym same) ∙ sym w.in_default.ensures.form ∙ ap (λ (b : ℕ). b ∷ []) same in
-          let longer = run_more f t c.loop-place.start p c.loop-place.invariant.ordered h form ∙ run_to f t c.loop-place.start (p + 1) q (omega (arith, c.loop-place.invariant.ordered)) onward high plain in
+          let longer = run_more f t c.loop-position.start p c.loop-position.invariant.ordered h form ∙ run_to f t c.loop-position.start (p + 1) q (omega (arith, c.loop-position.invariant.ordered)) onward high plain in
           record {
-            ordered = omega (arith, w.start-is, c.loop-place.invariant.ordered, onward);
+            ordered = omega (arith, w.start-is, c.loop-position.invariant.ordered, onward);
             in_range = high;
-            cut = rw w.start-is c.loop-place.invariant.cut;
-            written = rw (w.start-is, w.out-is) (ap (λ (x : List ℕ). string_bytes c.loop-place.out ++ x) (sym longer) ∙ c.loop-place.invariant.written);
-            keeps = rw w.out-is c.loop-place.invariant.keeps;
+            cut = rw w.start-is c.loop-position.invariant.cut;
+            written = rw (w.start-is, w.out-is) (ap (λ (x : List ℕ). string_bytes c.loop-position.out ++ x) (sym longer) ∙ c.loop-position.invariant.written);
+            keeps = rw w.out-is c.loop-position.invariant.keeps;
           }
     ]

@@ -2,8 +2,8 @@ use Rattle.std.proofs.Common.{◌-◌, length}
 use Rattle.tera_values_data.proofs.Runs.{IsPast}
 use Rattle.tera_values_data.proofs.escape.plain_run.Given as goal
 
-abbrev pub invariant-loop-place : goal.invariant-loop-place
-invariant-loop-place g l = IsPast g.F.Forms.spelled l.bytes l.initial.place l.place
+abbrev pub invariant-loop-position : goal.invariant-loop-position
+invariant-loop-position g l = IsPast g.F.Forms.spelled l.bytes l.initial.position l.position
 
-abbrev pub decreases-loop-place : goal.decreases-loop-place
-decreases-loop-place g l = length l.bytes - l.place
+abbrev pub decreases-loop-position : goal.decreases-loop-position
+decreases-loop-position g l = length l.bytes - l.position

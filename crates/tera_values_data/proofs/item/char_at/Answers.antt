@@ -8,4 +8,4 @@ itself None = refl
 itself (Some c) = refl
 
 pub returns : goal.returns
-returns c = itself c.nth.result ∙ nth_from_yields_List c.nth.result c.nth.new.self c.args.place c.nth.ensures.ran (YieldsList-from_chars c.args.text.now c.utf8.text c.chars.ensures.rest)
+returns c = itself c.nth.result ∙ nth_from_yields_List c.nth.result c.nth.new.self c.args.position c.nth.ensures.ran (YieldsList-from_chars c.args.text.now c.utf8.text c.chars.ensures.rest)

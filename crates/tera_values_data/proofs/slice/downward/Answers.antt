@@ -1,6 +1,6 @@
 use Rattle.std.proofs.Common.{◌-◌, arith}
 use Rattle.tera_values_data.specs.Slices.{downward}
-use Rattle.tera_values_data.proofs.Strides.{down_step, place_more}
+use Rattle.tera_values_data.proofs.Strides.{down_step, position_more}
 use Rattle.tera_values_data.proofs.slice.downward.Goals as goal
 
 pub loop-at-preserved : goal.loop-at-preserved
@@ -11,5 +11,5 @@ loop-at-preserved c =
     let at = c.loop-at.at in
     record {
       within = omega arith;
-      found = rw c.saturating_sub-at.ensures (place_more c.loop-at.places.items c.push.new.self.items (at - 1) (downward start (at - step) end step) (downward start at end step) (downward start start end step) c.in_ok-push.ensures.items (down_step start at end step c.requires (omega arith) c.loop-at-test.true) c.loop-at.invariant.found);
+      found = rw c.saturating_sub-at.ensures (position_more c.loop-at.positions.items c.push.new.self.items (at - 1) (downward start (at - step) end step) (downward start at end step) (downward start start end step) c.in_ok-push.ensures.items (down_step start at end step c.requires (omega arith) c.loop-at-test.true) c.loop-at.invariant.found);
     }

@@ -5,7 +5,7 @@ use Rattle.tera_values_data.proofs.slice.downward.Given as goal
 abbrev pub invariant-loop-at : goal.invariant-loop-at
 invariant-loop-at l = record {
   within : l.at ≤ l.start;
-  found : l.places.items ++ downward l.start l.at l.end l.step ≡ downward l.start l.start l.end l.step;
+  found : l.positions.items ++ downward l.start l.at l.end l.step ≡ downward l.start l.start l.end l.step;
 }
 
 abbrev pub decreases-loop-at : goal.decreases-loop-at

@@ -3,5 +3,5 @@ use Rattle.std.specs.Str.{encode_utf8_all}
 use Rattle.tera_values_data.specs.Slices.{picked_chars}
 use Rattle.tera_values_data.proofs.slice.pick_chars.Given as goal
 
-abbrev pub invariant-loop-place : goal.invariant-loop-place
-invariant-loop-place l = string_bytes l.picked ≡ encode_utf8_all (picked_chars (take l.place-index l.places) l.letters)
+abbrev pub invariant-loop-position : goal.invariant-loop-position
+invariant-loop-position l = string_bytes l.picked ≡ encode_utf8_all (picked_chars (take l.position-index l.positions) l.letters)

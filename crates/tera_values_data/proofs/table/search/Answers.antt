@@ -3,7 +3,7 @@ use Rattle.tera_values_data.specs.View.{wanted_view, entry_views}
 use Rattle.tera_values_data.specs.Keys.{key_cmp}
 use Rattle.tera_values_data.specs.Index.{nth_key}
 use Rattle.tera_values_data.proofs.Keys.{key_exact}
-use Rattle.tera_values_data.proofs.Places.{less_before, greater_from}
+use Rattle.tera_values_data.proofs.Positions.{less_before, greater_from}
 use Rattle.tera_values_data.proofs.Entries.{nth_key_of}
 use Rattle.tera_values_data.proofs.table.search.Goals as goal
 

@@ -7,8 +7,8 @@ invariant_of-self c = all_stay c.self.inside.tables c.pack.new.self c.in_err-pac
 
 pub invariant_of-self-2 : goal.invariant_of-self-2
 invariant_of-self-2 c =
-    all_filled c.self.inside.tables c.pack.new.self c.in_ok-packed.ensures.grows c.self.inside.code.items c.self.invariant c.args.place _ c.args.instruction c.in_ok-packed.ensures.ok
+    all_filled c.self.inside.tables c.pack.new.self c.in_ok-packed.ensures.grows c.self.inside.code.items c.self.invariant c.args.position _ c.args.instruction c.in_ok-packed.ensures.ok
 
 pub returns : goal.returns
 returns c =
-    chunk_filled c.self.inside.tables c.pack.new.self c.in_ok-packed.ensures.grows c.self.inside.code.items c.self.invariant c.args.place _ c.args.instruction c.in_ok-packed.ensures.ok c.self.inside.file _ c.self.view_is
+    chunk_filled c.self.inside.tables c.pack.new.self c.in_ok-packed.ensures.grows c.self.inside.code.items c.self.invariant c.args.position _ c.args.instruction c.in_ok-packed.ensures.ok c.self.inside.file _ c.self.view_is

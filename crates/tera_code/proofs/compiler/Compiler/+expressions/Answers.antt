@@ -72,20 +72,20 @@ expression-returns-in-Component t c =
 
 pub logical-returns-then-is_or : goal.logical-returns-then-is_or
 logical-returns-then-is_or t c =
-    record { ok = λ span. on_ok_by _ _ _ _ (jump_written _ _ _ _ _ _ _ _ (λ count. instruction.JumpIfTrueOrPop count) c.in_ok-expression.ensures.ok c.in_ok-place.ensures.place c.in_ok-place.ensures.ok c.in_ok-expression-2.ensures.ok c.behind-count.ensures ∙ decided c.args.self.now _ _ (expr_of c.args.operands.now.left) (expr_of c.args.operands.now.right) span c.if-is_or.true) c.fill.ensures.ok }
+    record { ok = λ span. on_ok_by _ _ _ _ (jump_written _ _ _ _ _ _ _ _ (λ count. instruction.JumpIfTrueOrPop count) c.in_ok-expression.ensures.ok c.in_ok-position.ensures.position c.in_ok-position.ensures.ok c.in_ok-expression-2.ensures.ok c.behind-count.ensures ∙ decided c.args.self.now _ _ (expr_of c.args.operands.now.left) (expr_of c.args.operands.now.right) span c.if-is_or.true) c.fill.ensures.ok }
 
 pub logical-returns-else-is_or : goal.logical-returns-else-is_or
 logical-returns-else-is_or t c =
-    record { ok = λ span. on_ok_by _ _ _ _ (jump_written _ _ _ _ _ _ _ _ (λ count. instruction.JumpIfFalseOrPop count) c.in_ok-expression.ensures.ok c.in_ok-place.ensures.place c.in_ok-place.ensures.ok c.in_ok-expression-2.ensures.ok c.behind-count.ensures ∙ decided c.args.self.now _ _ (expr_of c.args.operands.now.left) (expr_of c.args.operands.now.right) span c.if-is_or.false) c.fill-else-is_or.ensures.ok }
+    record { ok = λ span. on_ok_by _ _ _ _ (jump_written _ _ _ _ _ _ _ _ (λ count. instruction.JumpIfFalseOrPop count) c.in_ok-expression.ensures.ok c.in_ok-position.ensures.position c.in_ok-position.ensures.ok c.in_ok-expression-2.ensures.ok c.behind-count.ensures ∙ decided c.args.self.now _ _ (expr_of c.args.operands.now.left) (expr_of c.args.operands.now.right) span c.if-is_or.false) c.fill-else-is_or.ensures.ok }
 
 pub ternary-returns : goal.ternary-returns
 ternary-returns t c =
-    record { ok = λ span. on_ok_by _ _ _ _ (choice_written _ _ _ _ _ _ _ _ _ _ _ _ c.in_ok-expression.ensures.ok c.in_ok-place.ensures.place c.in_ok-place.ensures.ok c.in_ok-expression-2.ensures.ok c.in_ok-place-2.ensures.place c.in_ok-place-2.ensures.ok c.in_ok-expression-3.ensures.ok c.behind.ensures) c.fill.ensures.ok }
+    record { ok = λ span. on_ok_by _ _ _ _ (choice_written _ _ _ _ _ _ _ _ _ _ _ _ c.in_ok-expression.ensures.ok c.in_ok-position.ensures.position c.in_ok-position.ensures.ok c.in_ok-expression-2.ensures.ok c.in_ok-position-2.ensures.position c.in_ok-position-2.ensures.ok c.in_ok-expression-3.ensures.ok c.behind.ensures) c.fill.ensures.ok }
 
 pub comprehension-returns : goal.comprehension-returns
 comprehension-returns t c =
     let none : c.new.result ≡ [] = search (rules, c.new.ensures) in
-    record { ok = on_ok_by _ _ _ _ (ap (λ xs. lengthened c.emit.new.self (instruction.MakeArray xs c.args.span ∷ [])) none ∙ comprehension_written _ _ _ _ _ _ _ _ _ c.args.collected.now.heading c.args.span c.in_ok-expression.ensures.ok c.in_ok-start.ensures.place c.in_ok-start.ensures.ok c.in_ok-turn.ensures.ok c.in_ok-end_turns.ensures.ok c.in_ok-emit.ensures.ok) c.emit-2.ensures.ok }
+    record { ok = on_ok_by _ _ _ _ (ap (λ xs. lengthened c.emit.new.self (instruction.MakeArray xs c.args.span ∷ [])) none ∙ comprehension_written _ _ _ _ _ _ _ _ _ c.args.collected.now.heading c.args.span c.in_ok-expression.ensures.ok c.in_ok-start.ensures.position c.in_ok-start.ensures.ok c.in_ok-turn.ensures.ok c.in_ok-end_turns.ensures.ok c.in_ok-emit.ensures.ok) c.emit-2.ensures.ok }
 
 pub turn-returns-in_ok-expression-in-None : goal.turn-returns-in_ok-expression-in-None
 turn-returns-in_ok-expression-in-None t c =
@@ -93,7 +93,7 @@ turn-returns-in_ok-expression-in-None t c =
 
 pub turn-returns-in_ok-emit-in-Some : goal.turn-returns-in_ok-emit-in-Some
 turn-returns-in_ok-emit-in-Some t c =
-    record { ok = on_ok_by _ _ _ _ (kept_if _ _ _ _ _ _ _ c.in-Some.condition _ c.args.collected.now.value c.args.collected.now.value _ _ c.in-Some.is c.in_ok-expression-in-Some.ensures.ok c.deref.ensures c.in_ok-place-in-Some.ensures.place c.in_ok-place-in-Some.ensures.ok c.in_ok-expression-in-Some-2.ensures.ok refl c.in_ok-emit-in-Some.ensures.ok c.behind.ensures refl) c.fill.ensures.ok }
+    record { ok = on_ok_by _ _ _ _ (kept_if _ _ _ _ _ _ _ c.in-Some.condition _ c.args.collected.now.value c.args.collected.now.value _ _ c.in-Some.is c.in_ok-expression-in-Some.ensures.ok c.deref.ensures c.in_ok-position-in-Some.ensures.position c.in_ok-position-in-Some.ensures.ok c.in_ok-expression-in-Some-2.ensures.ok refl c.in_ok-emit-in-Some.ensures.ok c.behind.ensures refl) c.fill.ensures.ok }
 
 pub above-returns : goal.above-returns
 above-returns t c =

@@ -34,8 +34,8 @@ node-returns-in_ok-captured-in-ComponentCall t c =
 
 pub fork-returns : goal.fork-returns
 fork-returns t c =
-    record { ok = on_ok_by _ _ _ _ (choice_written _ _ _ _ _ _ [] _ _ _ _ _ (lengthened-nothing _) c.in_ok-place.ensures.place c.in_ok-place.ensures.ok c.in_ok-body.ensures.ok c.in_ok-place-2.ensures.place c.in_ok-place-2.ensures.ok c.in_ok-body-2.ensures.ok c.behind.ensures) c.fill.ensures.ok }
+    record { ok = on_ok_by _ _ _ _ (choice_written _ _ _ _ _ _ [] _ _ _ _ _ (lengthened-nothing _) c.in_ok-position.ensures.position c.in_ok-position.ensures.ok c.in_ok-body.ensures.ok c.in_ok-position-2.ensures.position c.in_ok-position-2.ensures.ok c.in_ok-body-2.ensures.ok c.behind.ensures) c.fill.ensures.ok }
 
 pub turns-returns : goal.turns-returns
 turns-returns t c =
-    record { ok = on_ok_by _ _ _ _ (loop_written _ _ _ _ _ _ _ _ _ _ _ _ _ c.args.heading.now c.in_ok-expression.ensures.ok c.in_ok-place.ensures.place c.in_ok-place.ensures.ok c.in_ok-body.ensures.ok c.in_ok-end_turns.ensures.ok c.in_ok-place-2.ensures.place c.in_ok-place-2.ensures.ok c.in_ok-body-2.ensures.ok c.behind.ensures) c.fill.ensures.ok }
+    record { ok = on_ok_by _ _ _ _ (loop_written _ _ _ _ _ _ _ _ _ _ _ _ _ c.args.heading.now c.in_ok-expression.ensures.ok c.in_ok-position.ensures.position c.in_ok-position.ensures.ok c.in_ok-body.ensures.ok c.in_ok-end_turns.ensures.ok c.in_ok-position-2.ensures.position c.in_ok-position-2.ensures.ok c.in_ok-body-2.ensures.ok c.behind.ensures) c.fill.ensures.ok }

@@ -9,25 +9,25 @@ use Rattle.tera_components.proofs.LeftOver.{only_left, only_left-is, only_left-n
 use Rattle.tera_components.proofs.definition.ComponentDefinition.others_of.Goals.{in-Some+in_ok-keep, in_default}
 use Rattle.tera_components.proofs.definition.ComponentDefinition.others_of.Goals as goal
 
-pub loop-place-preserved : goal.loop-place-preserved
-loop-place-preserved c =
+pub loop-position-preserved : goal.loop-position-preserved
+loop-position-preserved c =
     elim c.match-entry_at.branch [
       | in-Some+in_ok-keep w ↦
           let e : KeyVal × Val = (key_view w.in-Some.key.now, w.in-Some.value.now) in
           w.all-is
           ∙ w.in_ok-keep.ensures.ok
-          ∙ ap (λ (all : List (KeyVal × Val)). kept_over c.args.self.now all e) c.loop-place.invariant
-          ∙ sym (only_left-next c.args.self.now c.args.given.now c.loop-place.place e c.len-place-end.ensures.distinct w.in-Some.ensures)
+          ∙ ap (λ (all : List (KeyVal × Val)). kept_over c.args.self.now all e) c.loop-position.invariant
+          ∙ sym (only_left-next c.args.self.now c.args.given.now c.loop-position.position e c.len-position-end.ensures.distinct w.in-Some.ensures)
       | in_default w ↦
-          let none : slice_get c.args.given.now c.loop-place.place ≡ None = sym w.in_default.ensures in
-          let here : c.loop-place.place < length c.args.given.now = omega (arith, c.loop-place-test.true, c.len-place-end.ensures.count) in
-          let some : slice_get c.args.given.now c.loop-place.place ≡ Some (get_or c.args.given.now c.loop-place.place (kbool false, undefined)) = slice_get-get_or c.args.given.now c.loop-place.place (kbool false, undefined) here in
+          let none : slice_get c.args.given.now c.loop-position.position ≡ None = sym w.in_default.ensures in
+          let here : c.loop-position.position < length c.args.given.now = omega (arith, c.loop-position-test.true, c.len-position-end.ensures.count) in
+          let some : slice_get c.args.given.now c.loop-position.position ≡ Some (get_or c.args.given.now c.loop-position.position (kbool false, undefined)) = slice_get-get_or c.args.given.now c.loop-position.position (kbool false, undefined) here in
           absurd (cc)
     ]
 
 pub returns : goal.returns
 returns c =
     ap Ok (sym (
-    c.loop-place.invariant
-    ∙ ap (only_left c.args.self.now) (take_all c.loop-place.place c.args.given.now (omega (arith, c.loop-place-test.false, c.len-place-end.ensures.count)))
+    c.loop-position.invariant
+    ∙ ap (only_left c.args.self.now) (take_all c.loop-position.position c.args.given.now (omega (arith, c.loop-position-test.false, c.len-position-end.ensures.count)))
     ∙ only_left-is c.args.self.now c.args.given.now))

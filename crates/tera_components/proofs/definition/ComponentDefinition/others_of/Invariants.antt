@@ -2,5 +2,5 @@ use Rattle.std.proofs.Common.{◌≡◌, take}
 use Rattle.tera_components.proofs.LeftOver.{only_left}
 use Rattle.tera_components.proofs.definition.ComponentDefinition.others_of.Given as goal
 
-abbrev pub invariant-loop-place : goal.invariant-loop-place
-invariant-loop-place l = l.all ≡ only_left l.self (take l.place l.given)
+abbrev pub invariant-loop-position : goal.invariant-loop-position
+invariant-loop-position l = l.all ≡ only_left l.self (take l.position l.given)

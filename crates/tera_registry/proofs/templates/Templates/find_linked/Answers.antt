@@ -13,7 +13,7 @@ pub returns-in-Some : goal.returns-in-Some
 returns-in-Some c = λ r.
     let self = c.args.self.now in
     let name = c.args.name.now in
-    c.found_at.ensures r name (is-there (registry_in self) self.choices name c.in-Some.place self.rises (c.in-Some.ensures (registry_in self) self.choices self.right))
+    c.found_at.ensures r name (is-there (registry_in self) self.choices name c.in-Some.position self.rises (c.in-Some.ensures (registry_in self) self.choices self.right))
 
 pub returns-in-None : goal.returns-in-None
 returns-in-None c = λ r.

@@ -1,5 +1,5 @@
 use Rattle.std.proofs.Common.{length, sym, ap, ◌∙◌, subst, ◌<◌}
-use Rattle.tera_registry.specs.Definers.{from_place}
+use Rattle.tera_registry.specs.Definers.{from_position}
 use Rattle.tera_registry.proofs.Ancestors.{kept-climbable}
 use Rattle.tera_registry.proofs.templates.Templates.first.Goals as goal
 
@@ -15,4 +15,4 @@ returns-in-None g c = λ t at. sym (c.in-None.ensures t at)
 
 pub returns-in-Some : goal.returns-in-Some
 returns-in-Some g c = λ t at.
-    ap (λ r. from_place r c.in-Some.at) (sym c.requires.0) ∙ sym (c.in-Some.ensures t at).0
+    ap (λ r. from_position r c.in-Some.at) (sym c.requires.0) ∙ sym (c.in-Some.ensures t at).0

@@ -14,8 +14,8 @@ variables-requires-clause-uncircled c =
 
 pub returns-in-Some : goal.returns-in-Some
 returns-in-Some c = λ r.
-    let t = element (entries_of c.as_slice-all.result.now) c.in-Some.place c.in-Some.ensures.1 in
-    answers-found r c.args.self.now.all.items c.as_slice-all.result.now c.args.self.now.prefixes.items c.as_slice-prefixes.result.now c.args.name.now c.as_slice-all.ensures.value c.as_slice-prefixes.ensures.value c.in-Some.place t.0 c.variables.result (c.in-Some.ensures.0 ∙ t.1) c.variables.ensures.ordered (c.variables.ensures.ok t.0 t.1) c.variables.ensures.lacks
+    let t = element (entries_of c.as_slice-all.result.now) c.in-Some.position c.in-Some.ensures.1 in
+    answers-found r c.args.self.now.all.items c.as_slice-all.result.now c.args.self.now.prefixes.items c.as_slice-prefixes.result.now c.args.name.now c.as_slice-all.ensures.value c.as_slice-prefixes.ensures.value c.in-Some.position t.0 c.variables.result (c.in-Some.ensures.0 ∙ t.1) c.variables.ensures.ordered (c.variables.ensures.ok t.0 t.1) c.variables.ensures.lacks
 
 pub returns-in-None : goal.returns-in-None
 returns-in-None c = λ r.

@@ -1,21 +1,21 @@
 use Rattle.std.proofs.Common.{rules, ◌≡◌, ◌∙◌, ap, Some, None, arith, ◌+◌}
-use Rattle.tera_state.specs.Bound.{with_binding, place_from, end_with}
-use Rattle.tera_state.proofs.Puts.{bind-new, at_place, bind-at}
+use Rattle.tera_state.specs.Bound.{with_binding, position_from, end_with}
+use Rattle.tera_state.proofs.Puts.{bind-new, at_position, bind-at}
 use Rattle.tera_state.proofs.Once.{once-with}
 use Rattle.tera_state.proofs.Ends.{ends-end_with, ends_put, holds_of}
 use Rattle.tera_state.proofs.bindings.Bindings.put.Goals as goal
 
 pub index_mut-requires : goal.index_mut-requires
 index_mut-requires c =
-    let h : place_from 0 c.self.inside.items.items c.args.frame c.args.layer c.args.name ≡ Some c.in-Some.at = search rules in
-    let x = at_place 0 c.self.inside.items.items c.args.frame c.args.layer c.args.name c.in-Some.at h in
+    let h : position_from 0 c.self.inside.items.items c.args.frame c.args.layer c.args.name ≡ Some c.in-Some.at = search rules in
+    let x = at_position 0 c.self.inside.items.items c.args.frame c.args.layer c.args.name c.in-Some.at h in
     search (rules, x.1)
 
 pub invariant_of-self : goal.invariant_of-self
 invariant_of-self c =
     let items = c.self.inside.items.items in
     let end = c.self.inside.end in
-    let h : place_from 0 items c.args.frame c.args.layer c.args.name ≡ Some c.in-Some.at = search rules in
+    let h : position_from 0 items c.args.frame c.args.layer c.args.name ≡ Some c.in-Some.at = search rules in
     let m : c.in-Some.at ≡ 0 + c.in-Some.at = omega arith in
     holds_of _ (with_binding items c.args.frame c.args.layer c.args.name c.args.value) c.end_with-self-inside.result (end_with c.args.frame c.args.layer end)
     (bind-at 0 c.in-Some.at items c.args.frame c.args.layer c.args.name c.args.value c.index_mut.result.now (h ∙ ap Some m) c.index_mut.ensures.value)
@@ -27,7 +27,7 @@ pub invariant_of-self-in-Continue-1 : goal.invariant_of-self-in-Continue-1
 invariant_of-self-in-Continue-1 c =
     let items = c.self.inside.items.items in
     let end = c.self.inside.end in
-    let h : place_from 0 items c.args.frame c.args.layer c.args.name ≡ None = search rules in
+    let h : position_from 0 items c.args.frame c.args.layer c.args.name ≡ None = search rules in
     holds_of _ (with_binding items c.args.frame c.args.layer c.args.name c.args.value) c.end_with-self-inside.result (end_with c.args.frame c.args.layer end)
     (c.in_ok-push-in-None.ensures.items ∙ bind-new 0 items c.args.frame c.args.layer c.args.name c.args.value h)
     c.end_with-self-inside.ensures
@@ -43,11 +43,11 @@ invariant_of-self-in_err-push-in-None c =
 
 pub returns-in-Some-clause-ok : goal.returns-in-Some-clause-ok
 returns-in-Some-clause-ok c =
-    let h : place_from 0 c.self.inside.items.items c.args.frame c.args.layer c.args.name ≡ Some c.in-Some.at = search rules in
+    let h : position_from 0 c.self.inside.items.items c.args.frame c.args.layer c.args.name ≡ Some c.in-Some.at = search rules in
     let m : c.in-Some.at ≡ 0 + c.in-Some.at = omega arith in
     bind-at 0 c.in-Some.at c.self.inside.items.items c.args.frame c.args.layer c.args.name c.args.value c.index_mut.result.now (h ∙ ap Some m) c.index_mut.ensures.value ∙ ap (λ bs. with_binding bs c.args.frame c.args.layer c.args.name c.args.value) c.self.view_is
 
 pub returns-in_ok-push-in-None-clause-ok : goal.returns-in_ok-push-in-None-clause-ok
 returns-in_ok-push-in-None-clause-ok c =
-    let h : place_from 0 c.self.inside.items.items c.args.frame c.args.layer c.args.name ≡ None = search rules in
+    let h : position_from 0 c.self.inside.items.items c.args.frame c.args.layer c.args.name ≡ None = search rules in
     c.in_ok-push-in-None.ensures.items ∙ bind-new 0 c.self.inside.items.items c.args.frame c.args.layer c.args.name c.args.value h ∙ ap (λ bs. with_binding bs c.args.frame c.args.layer c.args.name c.args.value) c.self.view_is

@@ -1,10 +1,10 @@
 use Rattle.std.proofs.Common.{sym, ap, ◌∙◌, subst}
 use Rattle.tera_syntax_tree.specs.View.{nodes_of}
-use Rattle.tera_syntax_expressions.proofs.Turns.{refuses}
+use Rattle.tera_syntax_expressions.proofs.Rounds.{refuses}
 use Rattle.tera_syntax.specs.Heads.{chains}
-use Rattle.tera_syntax.specs.Reader.{turned}
+use Rattle.tera_syntax.specs.Reader.{divided}
 use Rattle.tera_syntax.specs.View.{Becomes}
-use Rattle.tera_syntax.proofs.Rows.{last_of, nothing_open, turned_innermost, turned_otherwise}
+use Rattle.tera_syntax.proofs.Rows.{last_of, nothing_open, divided_innermost, divided_otherwise}
 use Rattle.tera_syntax.proofs.progress.Progress.go_on.Goals as goal
 use Rattle.tera_syntax.proofs.progress.Progress.go_on.Goals.{in_default-via-in-Some+else-chains, in_default-via-in_default}
 
@@ -12,13 +12,13 @@ pub returns-in-Some : goal.returns-in-Some
 returns-in-Some c =
     let statements = c.args.self.now.statements.items in
     let found = nodes_of c.args.self.now.found.items in
-    subst (λ o. Becomes o c.turn.result c.turn.new.self) (turned_innermost statements (last_of statements c.deref.ensures.value c.in-Some.ensures.value) chains found (sym c.chains.ensures ∙ c.if-chains.true)) c.turn.ensures
+    subst (λ o. Becomes o c.divide.result c.divide.new.self) (divided_innermost statements (last_of statements c.deref.ensures.value c.in-Some.ensures.value) chains found (sym c.chains.ensures ∙ c.if-chains.true)) c.divide.ensures
 
 pub returns-in_default : goal.returns-in_default
 returns-in_default c =
     let statements = c.args.self.now.statements.items in
     let found = nodes_of c.args.self.now.found.items in
     elim c.in_default.branch [
-      | in_default-via-in-Some+else-chains w ↦ refuses c.refused.result c.refused.ensures (turned_otherwise statements (last_of statements c.deref.ensures.value w.in-Some.ensures.value) chains found (sym w.chains.ensures ∙ w.if-chains.false))
-      | in_default-via-in_default w ↦ refuses c.refused.result c.refused.ensures (ap (λ fs. turned chains fs found) (nothing_open statements (last_of statements c.deref.ensures.value w.in_default.ensures.value)))
+      | in_default-via-in-Some+else-chains w ↦ refuses c.refused.result c.refused.ensures (divided_otherwise statements (last_of statements c.deref.ensures.value w.in-Some.ensures.value) chains found (sym w.chains.ensures ∙ w.if-chains.false))
+      | in_default-via-in_default w ↦ refuses c.refused.result c.refused.ensures (ap (λ fs. divided chains fs found) (nothing_open statements (last_of statements c.deref.ensures.value w.in_default.ensures.value)))
     ]

@@ -1,7 +1,7 @@
 use Rattle.std.proofs.Common.{sym, ap, ◌∙◌, subst}
 use Rattle.tera_syntax_tokens.specs.Token.{tokens_of}
 use Rattle.tera_syntax_tree.specs.View.{nodes_of}
-use Rattle.tera_syntax_expressions.proofs.Turns.{refuses}
+use Rattle.tera_syntax_expressions.proofs.Rounds.{refuses}
 use Rattle.tera_syntax.specs.Reader.{shut}
 use Rattle.tera_syntax.specs.View.{Becomes}
 use Rattle.tera_syntax.proofs.Rows.{last_of, nothing_open, shut_innermost, shut_otherwise}

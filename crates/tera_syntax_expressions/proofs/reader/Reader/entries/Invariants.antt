@@ -6,6 +6,6 @@ use Rattle.tera_syntax_tokens.specs.Takes.{input}
 use Rattle.tera_syntax_expressions.specs.Expressions.{entries_from, expr}
 use Rattle.tera_syntax_expressions.proofs.reader.Reader.entries.Given as goal
 
-abbrev pub invariant-loop-turn : goal.invariant-loop-turn
-invariant-loop-turn g l = entries_from l.self.limit (expr l.self.below) (left (input l.fn.tokens)) NoEntries 0 (input l.fn.tokens)
-    ≡ entries_from l.self.limit (expr l.self.below) (l._turn-end - l._turn) (entries_of l.found.items) l.depth (input l.tokens)
+abbrev pub invariant-loop-round : goal.invariant-loop-round
+invariant-loop-round g l = entries_from l.self.limit (expr l.self.below) (left (input l.fn.tokens)) NoEntries 0 (input l.fn.tokens)
+    ≡ entries_from l.self.limit (expr l.self.below) (l._round-end - l._round) (entries_of l.found.items) l.depth (input l.tokens)

@@ -2,7 +2,7 @@ use Rattle.std.proofs.Common.{ap, ◌∙◌, refl}
 use Rattle.tera_syntax_tree.specs.View.{entries_of, literal_option}
 use Rattle.tera_syntax_tokens.specs.Takes.{input}
 use Rattle.tera_syntax_expressions.specs.Parts.{deep_of}
-use Rattle.tera_syntax_expressions.proofs.Turns.{entries_of-push}
+use Rattle.tera_syntax_expressions.proofs.Rounds.{entries_of-push}
 use Rattle.tera_syntax_expressions.proofs.reader.Reader.entry.Goals as goal
 
 pub returns : goal.returns

@@ -2,7 +2,7 @@ use Rattle.std.proofs.Common.{ap, sym, ◌∙◌, refl}
 use Rattle.tera_syntax_tree.specs.View.{items_of, expr_of}
 use Rattle.tera_syntax_expressions.specs.Expressions.{expr, join_items, one_item}
 use Rattle.tera_syntax_expressions.specs.Parts.{deep_of}
-use Rattle.tera_syntax_expressions.proofs.Turns.{items_of-push}
+use Rattle.tera_syntax_expressions.proofs.Rounds.{items_of-push}
 use Rattle.tera_syntax_expressions.proofs.reader.Reader.item.Goals as goal
 
 pub returns : goal.returns

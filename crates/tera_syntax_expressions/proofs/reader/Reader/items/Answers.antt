@@ -5,29 +5,29 @@ use Rattle.tera_syntax_tokens.specs.declared.token.Kind.TheVariants.{RightBracke
 use Rattle.tera_syntax_tokens.specs.Input.{same, left}
 use Rattle.tera_syntax_tokens.specs.Takes.{input}
 use Rattle.tera_syntax_expressions.specs.Expressions.{items_from, expr}
-use Rattle.tera_syntax_expressions.proofs.Turns.{tested, Behind, read_behind, items_end, items_next, items_read, refused}
+use Rattle.tera_syntax_expressions.proofs.Rounds.{tested, Behind, read_behind, items_end, items_next, items_read, refused}
 use Rattle.tera_syntax_expressions.proofs.reader.Reader.items.Given.{Over}
 use Rattle.tera_syntax_expressions.proofs.reader.Reader.items.Goals.{After-max-depth}
 use Rattle.tera_syntax_expressions.proofs.reader.Reader.items.Goals as goal
 
 -- an item was read behind those that were found: what the loop stands for is what is behind it
 behind-item : (g : Over) (c : After-max-depth g) → Behind (items_from c.args.self.now.limit (expr c.args.self.now.below) (left (input c.args.tokens.now)) (items_of c.args.all.items) c.args.depth (input c.args.tokens.now)) RightBracket
-    (λ (p : Items × ℕ). items_from c.args.self.now.limit (expr c.args.self.now.below) (c.left-turn-end.result - (c.loop-turn._turn + 1)) p.0 p.1) (items_of c.item.new.found.items, c.max-depth.result) (input c.item.new.tokens)
+    (λ (p : Items × ℕ). items_from c.args.self.now.limit (expr c.args.self.now.below) (c.left-round-end.result - (c.loop-round._round + 1)) p.0 p.1) (items_of c.item.new.found.items, c.max-depth.result) (input c.item.new.tokens)
 behind-item g c =
     let x = c.in-Ok.ensures in
-    items_read c.args.self.now.limit (expr c.args.self.now.below) _ _ (items_of c.loop-turn.found.items) c.loop-turn.depth (input c.loop-turn.tokens) c.loop-turn-test.true c.loop-turn.invariant
-    (tested (same RightBracket) c.kind.ensures c.eq.ensures c.if-eq.false) x.1 x.3 (c.max-depth.ensures ∙ ap (max c.loop-turn.depth) (sym x.2))
+    items_read c.args.self.now.limit (expr c.args.self.now.below) _ _ (items_of c.loop-round.found.items) c.loop-round.depth (input c.loop-round.tokens) c.loop-round-test.true c.loop-round.invariant
+    (tested (same RightBracket) c.kind.ensures c.eq.ensures c.if-eq.false) x.1 x.3 (c.max-depth.ensures ∙ ap (max c.loop-round.depth) (sym x.2))
 
 pub returns-then-eq : goal.returns-then-eq
-returns-then-eq g c = items_end c.args.self.now.limit (expr c.args.self.now.below) _ _ (items_of c.loop-turn.found.items) c.loop-turn.depth (input c.loop-turn.tokens) c.loop-turn-test.true c.loop-turn.invariant
+returns-then-eq g c = items_end c.args.self.now.limit (expr c.args.self.now.below) _ _ (items_of c.loop-round.found.items) c.loop-round.depth (input c.loop-round.tokens) c.loop-round-test.true c.loop-round.invariant
     (tested (same RightBracket) c.kind.ensures c.eq.ensures c.if-eq.true) c.take.ensures
 
 pub returns-in-Err : goal.returns-in-Err
-returns-in-Err g c = refused c.in-Err.refusal (items_next c.args.self.now.limit (expr c.args.self.now.below) _ _ (items_of c.loop-turn.found.items) c.loop-turn.depth (input c.loop-turn.tokens) c.loop-turn-test.true c.loop-turn.invariant
+returns-in-Err g c = refused c.in-Err.refusal (items_next c.args.self.now.limit (expr c.args.self.now.below) _ _ (items_of c.loop-round.found.items) c.loop-round.depth (input c.loop-round.tokens) c.loop-round-test.true c.loop-round.invariant
     (tested (same RightBracket) c.kind.ensures c.eq.ensures c.if-eq.false)) c.in-Err.ensures
 
-pub loop-turn-preserved : goal.loop-turn-preserved
-loop-turn-preserved g c = read_behind (behind-item g (goal.at.loop-turn-preserved g c).After-max-depth) (rw c.in-Ok-true.field-0-test at c.in-Ok-true.ensures)
+pub loop-round-preserved : goal.loop-round-preserved
+loop-round-preserved g c = read_behind (behind-item g (goal.at.loop-round-preserved g c).After-max-depth) (rw c.in-Ok-true.field-0-test at c.in-Ok-true.ensures)
 
 pub returns-in-Ok-false : goal.returns-in-Ok-false
 returns-in-Ok-false g c = read_behind (behind-item g (goal.at.returns-in-Ok-false g c).After-max-depth) (rw c.in-Ok-false.field-0-test at c.in-Ok-false.ensures)

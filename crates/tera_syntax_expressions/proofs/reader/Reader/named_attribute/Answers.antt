@@ -5,7 +5,7 @@ use Rattle.tera_syntax_tokens.specs.Takes.{input}
 use Rattle.tera_syntax_expressions.specs.Expressions.{expr, join_entries, one_entry}
 use Rattle.tera_syntax_expressions.specs.Parts.{deep_of}
 use Rattle.tera_syntax_expressions.proofs.AttributeRows.{named_read}
-use Rattle.tera_syntax_expressions.proofs.Turns.{entries_of-push}
+use Rattle.tera_syntax_expressions.proofs.Rounds.{entries_of-push}
 use Rattle.tera_syntax_expressions.proofs.reader.Reader.named_attribute.Goals as goal
 
 pub returns : goal.returns

@@ -4,7 +4,7 @@ use Rattle.tera_syntax_tokens.specs.Takes.{input}
 use Rattle.tera_syntax_expressions.specs.Expressions.{expr}
 use Rattle.tera_syntax_expressions.specs.Parts.{deep_of}
 use Rattle.tera_syntax_expressions.proofs.AttributeRows.{spread_read}
-use Rattle.tera_syntax_expressions.proofs.Turns.{entries_of-push}
+use Rattle.tera_syntax_expressions.proofs.Rounds.{entries_of-push}
 use Rattle.tera_syntax_expressions.proofs.reader.Reader.spread_attribute.Goals as goal
 
 pub returns : goal.returns

@@ -8,12 +8,12 @@ use Rattle.tera_syntax_tokens.specs.declared.token.Kind.TheVariants.{RightBracke
 use Rattle.tera_syntax_expressions.specs.Expressions.{expr}
 use Rattle.tera_syntax_expressions.specs.Parts.{deep_of}
 use Rattle.tera_syntax_expressions.proofs.Forms.{subscript-none}
-use Rattle.tera_syntax_expressions.proofs.Turns.{tested}
+use Rattle.tera_syntax_expressions.proofs.Rounds.{tested}
 use Rattle.tera_syntax_expressions.proofs.reader.Reader.subscript.Goals as goal
 
 -- where nothing is meant, each refusal is right
 any-refusal : {Y : Type 0} {meant : Option Y} (r : Refusal) → meant ≡ None → Refuses meant r
-any-refusal (Syntax why place) e = e
+any-refusal (Syntax why position) e = e
 any-refusal OutOfMemory e = tt
 
 pub returns-then-eq : goal.returns-then-eq

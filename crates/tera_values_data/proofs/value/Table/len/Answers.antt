@@ -3,7 +3,7 @@ use Rattle.std.proofs.lemmas.Grind.{common_steps}
 use Rattle.tera_values_data.specs.View.{entry_views}
 use Rattle.tera_values_data.specs.Index.{IsDistinct, key_at}
 use Rattle.tera_values_data.proofs.Keys.{key_tied}
-use Rattle.tera_values_data.proofs.Places.{distinct}
+use Rattle.tera_values_data.proofs.Positions.{distinct}
 use Rattle.tera_values_data.proofs.Entries.{views_length}
 use Rattle.tera_values_data.proofs.value.Table.len.Goals as goal
 

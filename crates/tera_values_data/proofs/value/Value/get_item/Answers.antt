@@ -3,7 +3,7 @@ use Rattle.tera_errors.specs.Fault.{Fault}
 use Rattle.tera_errors.specs.Answer.{Gives}
 use Rattle.tera_values_data.specs.Val.{Val, array, vals}
 use Rattle.tera_values_data.specs.Access.{IsScalar, key_of}
-use Rattle.tera_values_data.specs.Items.{get_item, found_at, item_at, place_of}
+use Rattle.tera_values_data.specs.Items.{get_item, found_at, item_at, position_of}
 use Rattle.tera_values_data.proofs.Pairs.{pairs_entries}
 use Rattle.tera_values_data.proofs.Counts.{list_vals}
 use Rattle.tera_values_data.proofs.value.Value.get_item.Goals as goal
@@ -21,7 +21,7 @@ returns-in-Map c =
 pub returns-in-Int : goal.returns-in-Int
 returns-in-Int c =
     let xs = c.in-Array.items.now in
-    let at : List Val → Result Val Fault = λ (l : List Val). Ok (item_at (place_of c.in-Int.n (length l)) l) in
+    let at : List Val → Result Val Fault = λ (l : List Val). Ok (item_at (position_of c.in-Int.n (length l)) l) in
     let meant : at xs ≡ get_item c.args.self.now c.args.index.now =
     ap at (sym (list_vals xs)) ∙ ap (get_item (array (vals xs))) c.in-Int.ensures ∙ ap (λ (v : Val). get_item v c.args.index.now) c.in-Array.ensures in
     let value : Gives {X = Val} {Y = Val} (λ (x : Val). x) c.item_in.result (at xs) = search rules in

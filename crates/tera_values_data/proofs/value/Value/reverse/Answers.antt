@@ -5,8 +5,8 @@ use Rattle.tera_values_data.proofs.Counts.{list_vals}
 use Rattle.tera_values_data.proofs.Told.{ok_same}
 use Rattle.tera_values_data.proofs.value.Value.reverse.Goals as goal
 
-pub returns-in_ok-turned_items-in-Array : goal.returns-in_ok-turned_items-in-Array
-returns-in_ok-turned_items-in-Array c =
+pub returns-in_ok-reversed_items-in-Array : goal.returns-in_ok-reversed_items-in-Array
+returns-in_ok-reversed_items-in-Array c =
     let xs : List Val = c.in-Array.items.now in
-    let turned : reverse xs ≡ c.in_ok-turned_items-in-Array.field-0.items = ok_same (reverse xs) c.in_ok-turned_items-in-Array.field-0.items c.in_ok-turned_items-in-Array.ensures in
-    ap reversed (sym c.in-Array.ensures) ∙ ap (λ (l : List Val). Ok (array (vals (reverse l)))) (list_vals xs) ∙ ap (λ (l : List Val). Ok (array (vals l))) turned ∙ ap Ok (sym c.array.ensures)
+    let same-items : reverse xs ≡ c.in_ok-reversed_items-in-Array.field-0.items = ok_same (reverse xs) c.in_ok-reversed_items-in-Array.field-0.items c.in_ok-reversed_items-in-Array.ensures in
+    ap reversed (sym c.in-Array.ensures) ∙ ap (λ (l : List Val). Ok (array (vals (reverse l)))) (list_vals xs) ∙ ap (λ (l : List Val). Ok (array (vals l))) same-items ∙ ap Ok (sym c.array.ensures)

@@ -4,7 +4,7 @@ use Rattle.std.specs.List.{slice_get}
 use Rattle.std.specs.Slice.{IsItemAt}
 use Rattle.tera_values_data.specs.Val.{Val, ktext}
 use Rattle.tera_values_data.specs.Access.{find}
-use Rattle.tera_values_data.specs.Paths.{step_to, item_named, place_named}
+use Rattle.tera_values_data.specs.Paths.{step_to, item_named, position_named}
 use Rattle.tera_values_data.proofs.Pairs.{pairs_entries}
 use Rattle.tera_values_data.proofs.Walks.{step_array}
 use Rattle.tera_values_data.proofs.value.Value.step.Goals as goal
@@ -20,11 +20,11 @@ lent xs i (Some x) h = sym (slice_get_read xs _ i x.now refl h.3.0 h.1)
 pub returns-in-Some : goal.returns-in-Some
 returns-in-Some c =
     let xs = c.in-Array.items.now in
-    let named : Some c.in-Some.place ≡ place_named c.args.piece.now (length xs) = rw c.as_bytes.ensures.value at c.in-Some.ensures in
-    lent xs c.in-Some.place c.get.result c.get.ensures.lookup ∙ ap (λ o. item_named o xs) named ∙ step_array c.args.piece.now xs ∙ ap (step_to c.args.piece.now) c.in-Array.ensures
+    let named : Some c.in-Some.position ≡ position_named c.args.piece.now (length xs) = rw c.as_bytes.ensures.value at c.in-Some.ensures in
+    lent xs c.in-Some.position c.get.result c.get.ensures.lookup ∙ ap (λ o. item_named o xs) named ∙ step_array c.args.piece.now xs ∙ ap (step_to c.args.piece.now) c.in-Array.ensures
 
 pub returns-in-None : goal.returns-in-None
 returns-in-None c =
     let xs = c.in-Array.items.now in
-    let named : None ≡ place_named c.args.piece.now (length xs) = rw c.as_bytes.ensures.value at c.in-None.ensures in
+    let named : None ≡ position_named c.args.piece.now (length xs) = rw c.as_bytes.ensures.value at c.in-None.ensures in
     ap (λ o. item_named o xs) named ∙ step_array c.args.piece.now xs ∙ ap (step_to c.args.piece.now) c.in-Array.ensures

@@ -43,8 +43,10 @@ impl<'s, F: Fn(Global, &mut Tokens<'_, 's>, usize, u8) -> Read<'s>> Reader<F> {
         ensures { FollowsRow arguments_of spec.arguments_from NoArguments self.now
             tokens.old result tokens.new }
     {
+        let mut found = Vec::new(self.alloc);
+        let mut depth = 0;
         between_commas!(tokens, Kind::RightParenthesis, self.argument(tokens, &mut found);
-            found = Vec::new(self.alloc), depth = 0)
+            x => depth = depth.max(x); (found, depth))
     }
 
     /// An argument, at its position among those that were read, and its depth.

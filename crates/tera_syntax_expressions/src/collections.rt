@@ -76,8 +76,10 @@ impl<'s, F: Fn(Global, &mut Tokens<'_, 's>, usize, u8) -> Read<'s>> Reader<F> {
             (left (input tokens.old)) (items_of all.entry.items) depth in
             Takes (λ p. (items_of p.0.items, p.1)) (meant (input tokens.old)) result tokens.new }
     {
+        let mut found = all;
+        let mut depth = depth;
         between_commas!(tokens, Kind::RightBracket, self.item(tokens, &mut found);
-            found = all, depth = depth)
+            x => depth = depth.max(x); (found, depth))
     }
 
     /// An item, behind those that were read, and its depth.
@@ -118,8 +120,10 @@ impl<'s, F: Fn(Global, &mut Tokens<'_, 's>, usize, u8) -> Read<'s>> Reader<F> {
         ensures { FollowsRow entries_of spec.entries_from NoEntries self.now
             tokens.old result tokens.new }
     {
+        let mut found = Vec::new(self.alloc);
+        let mut depth = 0;
         between_commas!(tokens, Kind::RightBrace, self.entry(tokens, &mut found);
-            found = Vec::new(self.alloc), depth = 0)
+            x => depth = depth.max(x); (found, depth))
     }
 
     /// An entry, behind those that were read, and its depth.

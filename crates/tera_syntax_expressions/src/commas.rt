@@ -6,25 +6,23 @@ use tera_syntax_tokens::refusal::Refusal;
 use tera_syntax_tokens::token::Kind;
 use tera_syntax_tokens::tokens::Tokens;
 
-/// Parts with commas between, and one behind the last at will, up to the token that closes: all that were found, and how deep
-/// the deepest is. Each round reads a part, puts it among the others and tells how deep it is.
+/// Parts with commas between, and one behind the last at will, up to the token that closes: what is made of all that were found.
+/// Each round reads a part, puts it among the others and keeps what else it told.
 macro_rules! between_commas {
-    ($tokens:ident, $closing:expr, $read:expr; $found:ident = $none:expr, $depth:ident = $least:expr) => {{
-        let mut $found = $none;
-        let mut $depth = $least;
+    ($tokens:ident, $closing:expr, $read:expr; $told:ident => $keep:expr; $made:expr) => {{
         for _round in 0..$tokens.left() {
             if $tokens.kind() == $closing {
                 $tokens.take();
-                return Ok(($found, $depth));
+                return Ok($made);
             }
-            let x = match $read {
-                Ok(x) => x,
+            let $told = match $read {
+                Ok($told) => $told,
                 Err(refusal) => return Err(refusal),
             };
-            $depth = $depth.max(x);
+            $keep;
             match take_comma($tokens, $closing) {
                 Ok(true) => {}
-                Ok(false) => return Ok(($found, $depth)),
+                Ok(false) => return Ok($made),
                 Err(refusal) => return Err(refusal),
             }
         }

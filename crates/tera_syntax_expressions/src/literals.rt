@@ -5,7 +5,7 @@ ghost use Rattle.tera_syntax_tokens.specs.Prelude.{kind, Takes, input};
 ghost use Rattle.tera_syntax_expressions.specs.Literals as spec;
 
 use crate::collections::key_at;
-use crate::commas::take_comma;
+use crate::commas::{between_commas, take_comma};
 use std::alloc::{AllocError, Global};
 use tera_syntax_tokens::literal::{integer, literal};
 use tera_syntax_tokens::refusal::{Reason, Refusal};
@@ -68,22 +68,8 @@ fn items<'s>(
         Takes (λ all. literals_of all.items) meant result tokens.new }
 {
     let mut found = Vec::new(alloc);
-    for _round in 0..tokens.left() {
-        if tokens.kind() == Kind::RightBracket {
-            tokens.take();
-            return Ok(found);
-        }
-        match item(alloc, tokens, limit, &mut found) {
-            Ok(()) => {}
-            Err(refusal) => return Err(refusal),
-        }
-        match take_comma(tokens, Kind::RightBracket) {
-            Ok(true) => {}
-            Ok(false) => return Ok(found),
-            Err(refusal) => return Err(refusal),
-        }
-    }
-    Err(tokens.refuse(Reason::Expected(Kind::RightBracket)))
+    between_commas!(tokens, Kind::RightBracket, item(alloc, tokens, limit, &mut found);
+        _done => (); found)
 }
 
 /// A value, behind those that were read.
@@ -116,22 +102,8 @@ fn entries<'s>(
         Takes (λ all. literal_entries_of all.items) meant result tokens.new }
 {
     let mut found = Vec::new(alloc);
-    for _round in 0..tokens.left() {
-        if tokens.kind() == Kind::RightBrace {
-            tokens.take();
-            return Ok(found);
-        }
-        match entry(alloc, tokens, limit, &mut found) {
-            Ok(()) => {}
-            Err(refusal) => return Err(refusal),
-        }
-        match take_comma(tokens, Kind::RightBrace) {
-            Ok(true) => {}
-            Ok(false) => return Ok(found),
-            Err(refusal) => return Err(refusal),
-        }
-    }
-    Err(tokens.refuse(Reason::Expected(Kind::RightBrace)))
+    between_commas!(tokens, Kind::RightBrace, entry(alloc, tokens, limit, &mut found);
+        _done => (); found)
 }
 
 /// An entry, behind those that were read.

@@ -124,11 +124,21 @@ fn share_items(alloc: Global, items: &mut [Value]) -> TeraResult<()>
     ensures lacks { IfErr result Lacks }
 {
     for item in items.iter_mut() {
-        let whole = replace(item, Value::undefined());
-        let kept = whole.shared(alloc)?;
-        let hole = replace(item, kept);
-        drop(hole);
+        share(alloc, item)?;
     }
+    Ok(())
+}
+
+// The value in shared form, where it lies.
+#[cycle(sharing)]
+fn share(alloc: Global, value: &mut Value) -> TeraResult<()>
+    ensures ok { OnOk result (value.new ≡ value.old) }
+    ensures lacks { IfErr result Lacks }
+{
+    let whole = replace(value, Value::undefined());
+    let kept = whole.shared(alloc)?;
+    let hole = replace(value, kept);
+    drop(hole);
     Ok(())
 }
 
@@ -163,10 +173,7 @@ fn share_entries(alloc: Global, all: &mut [Entry]) -> TeraResult<()>
     ensures lacks { IfErr result Lacks }
 {
     for entry in all.iter_mut() {
-        let whole = replace(&mut entry.value, Value::undefined());
-        let kept = whole.shared(alloc)?;
-        let hole = replace(&mut entry.value, kept);
-        drop(hole);
+        share(alloc, &mut entry.value)?;
     }
     Ok(())
 }

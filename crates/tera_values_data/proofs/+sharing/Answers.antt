@@ -1,4 +1,4 @@
-use Rattle.std.proofs.Common.{◌≡◌, ◌<◌, List, length, ap, sym, ◌∙◌, rules, arith}
+use Rattle.std.proofs.Common.{◌≡◌, ◌<◌, List, length, ap, rules, arith}
 use Rattle.tera_values_data.specs.Val.{Val, vals, entries, val_size, vals_size, entries_size}
 use Rattle.tera_values_data.specs.View.{entry_views}
 use Rattle.tera_values_data.specs.declared.value.Entry.{Entry}
@@ -6,18 +6,23 @@ use Rattle.tera_values_data.proofs.Sizes.{item_below}
 use Rattle.tera_values_data.proofs.Compared.{entry_below}
 use Rattle.tera_values_data.proofs.+sharing.Goals as goal
 
-pub copy::share_items-shared-requires : goal.copy::share_items-shared-requires
-copy::share_items-shared-requires t c =
+pub copy::share-shared-requires : goal.copy::share-shared-requires
+copy::share-shared-requires t c =
+    let whole : val_size c.replace-whole.result ≡ val_size c.args.value.now = ap val_size c.replace-whole.ensures.value in
+    (omega (arith, whole, c.decreases), tt)
+
+pub copy::share_items-share-requires : goal.copy::share_items-share-requires
+copy::share_items-share-requires t c =
     let h : c.loop-item.item-index < length c.loop-item.items = search rules in
     let below = item_below c.loop-item.items c.loop-item.item-index c.item-item.result h c.item-item.is in
     let same : vals_size (vals c.loop-item.items) ≡ vals_size (vals c.args.items.now) = ap (λ (l : List Val). vals_size (vals l)) c.loop-item.invariant in
-    let whole : val_size c.replace-whole.result ≡ val_size c.item-item.result = ap val_size (c.replace-whole.ensures.value ∙ sym c.item-item.is) in
-    (omega (arith, below, same, whole, c.decreases), tt)
+    let lent = ap val_size c.item-item.is in
+    (omega (arith, below, same, lent, c.decreases), tt)
 
-pub copy::share_entries-shared-requires : goal.copy::share_entries-shared-requires
-copy::share_entries-shared-requires t c =
+pub copy::share_entries-share-requires : goal.copy::share_entries-share-requires
+copy::share_entries-share-requires t c =
     let h : c.loop-entry.entry-index < length c.loop-entry.all = search rules in
     let below = entry_below c.loop-entry.all c.loop-entry.entry-index c.entry-item.result h c.entry-item.is in
     let same : entries_size (entries (entry_views c.loop-entry.all)) ≡ entries_size (entries (entry_views c.args.all.now)) = ap (λ l. entries_size (entries l)) c.loop-entry.invariant in
-    let whole : val_size c.replace-whole.result ≡ val_size c.entry-item.result.value = ap val_size c.replace-whole.ensures.value ∙ ap (λ (e : Entry). val_size e.value) (sym c.entry-item.is) in
-    (omega (arith, below, same, whole, c.decreases), tt)
+    let lent = ap (λ (e : Entry). val_size e.value) c.entry-item.is in
+    (omega (arith, below, same, lent, c.decreases), tt)

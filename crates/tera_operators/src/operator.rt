@@ -12,8 +12,9 @@ use tera_syntax_tree::BinaryOperator;
 use tera_values::number::{add, div, floor_div, mul, pow, rem, sub};
 use tera_values::{Span, TeraResult};
 
-/// What the operator makes of the two operands. The span is that of the expression, which only `in` takes on: others run
-/// from the left operand's start to the right one's end. Of the answers that are no fault only a joined text takes memory.
+/// What the operator makes of the two operands. The span is that of the expression, and only what `in` answers has it: all other
+/// answers have the span from the left operand's start to the right one's end. Of the answers that are no fault only a joined
+/// text takes memory.
 #[inline(always)]
 pub fn binary(
     alloc: Global,

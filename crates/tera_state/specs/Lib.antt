@@ -11,5 +11,5 @@ pub mod Lending
 pub mod Scopes
 pub mod Rendered
 pub mod View
-pub mod Inputs
+pub mod MarkedTexts
 pub mod Prelude

@@ -12,7 +12,7 @@ use std::alloc::Global;
 use tera_values::{Error, Shape, TeraResult, Value};
 use unicode_segmentation::UnicodeSegmentation;
 
-/// The items of a loop that are still to be handed out, each with its key, which is nothing but in a map. They are lent.
+/// The items of a loop that are still to be handed out, each with its key where they are those of a map. They are lent.
 #[derive(Drop)]
 pub struct ForLoopIterator<'a> {
     items: &'a Value,

@@ -3,7 +3,7 @@ ghost use Rattle.std.specs.Prelude.{◌≡◌, Ok, Some, IsTrue, string_bytes};
 ghost use Rattle.tera_errors.specs.Prelude.{Gives};
 ghost use Rattle.tera_values.specs.Prelude.{text, is_safe, text_of};
 ghost use Rattle.tera_built_ins.specs.Prelude.{is_text};
-ghost use Rattle.tera_state.specs.Inputs.{as_marked_text};
+ghost use Rattle.tera_state.specs.MarkedTexts.{as_marked_text};
 
 use crate::state::StateOver;
 use std::alloc::Global;

@@ -1,5 +1,6 @@
-// The names that nodes look up and do not bind. They are found from the end of the text to its start: what is bound behind a node is taken
-// away before what the node itself looks up is added. So there is one set, from which each name goes in and out at little cost.
+// The names that nodes look up and do not bind. They are found from the end of the text to its start: what is bound behind a
+// node is taken away before what the node itself looks up is added. So there is one set, in which a name is put and from which
+// it is taken at little cost.
 ghost use Rattle.std.specs.Prelude.{◌≡◌, OnOk, IfOk, IfErr, true};
 ghost use Rattle.tera_errors.specs.Prelude.{Lacks};
 ghost use Rattle.tera_syntax_tree.specs.Prelude.{FilterSection, filters_of, node_of, nodes_of};

@@ -10,7 +10,7 @@ use Rattle.tera_syntax_tree.specs.Depth.{depth, entries_depth, filters_depth, pa
 use Rattle.tera_syntax.specs.declared.heads.Surroundings.{Surroundings}
 use Rattle.tera_syntax.specs.Heads.{Head, IfHead, ForHead, SetHead, SectionHead, BlockHead, CallHead, DefinitionHead, outside, nested, make, head_depth, splits, chains, inside, ends}
 use Rattle.tera_syntax.specs.Grammar.{IsWord, Simple, Opens, GoesOn, DerivesNodes, empty, content, blank, comment, print, single, bodied, DerivesRest, ended, split, chained}
-use Rattle.tera_syntax.specs.Reader.{OpenStatement, Progress, Tag, Single, Opening, GoingOn, Dividing, Closing, join, one, printed, put, room, opened, aside, closed, around, tag, taken, statement, run, nodes}
+use Rattle.tera_syntax.specs.Reader.{OpenStatement, Progress, Tag, Single, Opening, GoingOn, Dividing, Closing, join, one, printed, put, room, opened, aside, closed, around, tag, taken, statement, read_on, nodes}
 use Rattle.tera_syntax.proofs.Rows.{join-none, join-join}
 use Rattle.tera_syntax.proofs.Whole.{whole_complete}
 use Rattle.tera_syntax.proofs.OneTag.{simple_read, opens_read, goes_on_read, else_read, ends_read}
@@ -130,52 +130,52 @@ module _ (limit : ℕ) where
 
   mutual
     reads : {q : Surroundings} {x : Nodes} {i j : List Piece} → DerivesNodes q x i j → (fs : List OpenStatement) (found : Nodes) → nodes_depth x ≤ limit - length fs
-        → run limit (at q fs found) i ≡ run limit (at q fs (join found x)) j
-    reads {q = q} {j = j} empty fs found le = ap (λ n. run limit (at q fs n) j) (sym (join-none found))
+        → read_on limit (at q fs found) i ≡ read_on limit (at q fs (join found x)) j
+    reads {q = q} {j = j} empty fs found le = ap (λ n. read_on limit (at q fs n) j) (sym (join-none found))
     reads (content {words = []} filled d) fs found le = absurd (filled refl)
     reads {q = q} {j = j} (content {words = b ∷ bs} {position = position} {rest = rest} {i = i} filled d) fs found le =
         let n = Content (b ∷ bs) position in
         let s = first-fits 1 (nodes_depth rest) limit (length fs) (omega arith) le in
-        ap (option_and_then (λ t. run limit t i)) (put-read q fs found n s.0)
+        ap (option_and_then (λ t. read_on limit t i)) (put-read q fs found n s.0)
         ∙ reads d fs (join found (one n)) s.2
-        ∙ ap (λ n. run limit (at q fs n) j) (join-join found (one n) rest)
+        ∙ ap (λ n. read_on limit (at q fs n) j) (join-join found (one n) rest)
     reads (blank d) fs found le = reads d fs found le
     reads (comment d) fs found le = reads d fs found le
     reads {q = q} {j = j} (print {value = value} {tokens = tokens} {rest = rest} {i = i} v d) fs found le =
         let s = first-fits (suc (depth value)) (nodes_depth rest) limit (length fs) (omega arith) le in
-        ap (λ o. option_and_then (λ t. run limit t i) (printed limit (at q fs found) o)) (whole_complete v (room limit (at q fs found)) (print-fits (depth value) limit (length fs) s.0 s.1))
-        ∙ ap (option_and_then (λ t. run limit t i)) (put-read q fs found (Print value) s.0)
+        ap (λ o. option_and_then (λ t. read_on limit t i) (printed limit (at q fs found) o)) (whole_complete v (room limit (at q fs found)) (print-fits (depth value) limit (length fs) s.0 s.1))
+        ∙ ap (option_and_then (λ t. read_on limit t i)) (put-read q fs found (Print value) s.0)
         ∙ reads d fs (join found (one (Print value))) s.2
-        ∙ ap (λ n. run limit (at q fs n) j) (join-join found (one (Print value)) rest)
+        ∙ ap (λ n. read_on limit (at q fs n) j) (join-join found (one (Print value)) rest)
     reads {q = q} {j = j} (single {node = n} {rest = rest} {i = i} a d) fs found le =
         let s = first-fits (node_depth n) (nodes_depth rest) limit (length fs) (node-some n) le in
-        ap (option_and_then (λ t. run limit t i)) (single-read a fs found s.0 s.1)
+        ap (option_and_then (λ t. read_on limit t i)) (single-read a fs found s.0 s.1)
         ∙ reads d fs (join found (one n)) s.2
-        ∙ ap (λ n. run limit (at q fs n) j) (join-join found (one n) rest)
+        ∙ ap (λ n. read_on limit (at q fs n) j) (join-join found (one n) rest)
     reads {q = q} {j = j} (bodied {head = h} {body = body} {other = other} {rest = rest} {i = i} a b o d) fs found le =
         let n = make h body other in
         let s = first-fits (node_depth n) (nodes_depth rest) limit (length fs) (node-some n) le in
         let f = head-fits h body other (limit - suc (length fs)) s.1 in
-        ap (option_and_then (λ t. run limit t i)) (bodied-read a fs found s.0 f.0)
+        ap (option_and_then (λ t. read_on limit t i)) (bodied-read a fs found s.0 f.0)
         ∙ reads b (asking found h false q ∷ fs) NoNodes f.1
         ∙ rests o (inside h q) found false fs body (rest-fits o body (limit - suc (length fs)) s.1)
         ∙ reads d fs (join found (one n)) s.2
-        ∙ ap (λ n. run limit (at q fs n) j) (join-join found (one n) rest)
+        ∙ ap (λ n. read_on limit (at q fs n) j) (join-join found (one n) rest)
 
     rests : {q : Surroundings} {h : Head} {x : Nodes} {i j : List Piece} → DerivesRest q h x i j → (p : Surroundings) (before : Nodes) (c : Bool) (fs : List OpenStatement) (body : Nodes) → nodes_depth x ≤ limit - suc (length fs)
-        → run limit (at p (asking before h c q ∷ fs) body) i ≡ option_and_then (λ t. run limit t j) (closed (halved before h c q body ∷ fs) x)
+        → read_on limit (at p (asking before h c q ∷ fs) body) i ≡ option_and_then (λ t. read_on limit t j) (closed (halved before h c q body ∷ fs) x)
     rests {q = q} {h = h} (ended {tokens = tokens} {i = i} e) p before c fs body le =
-        ap (option_and_then (λ t. run limit t i)) (ended-read p q c before h fs body tokens e)
+        ap (option_and_then (λ t. read_on limit t i)) (ended-read p q c before h fs body tokens e)
     rests {q = q} {h = h} (split {tokens = tokens} {last = last} {body = x} {i = i} {j = j} s w d e) p before c fs body le =
-        ap (option_and_then (λ t. run limit t i)) (else-divides p q c before h fs body tokens s w)
+        ap (option_and_then (λ t. read_on limit t i)) (else-divides p q c before h fs body tokens s w)
         ∙ reads d (halved before h c q body ∷ fs) NoNodes le
-        ∙ ap (option_and_then (λ t. run limit t j)) (half-ended-read (nested q) q c before h fs body last x e)
+        ∙ ap (option_and_then (λ t. read_on limit t j)) (half-ended-read (nested q) q c before h fs body last x e)
     rests {q = q} {h = h} (chained {further = f} {tokens = tokens} {body = x} {other = y} {i = i} s g b o) p before c fs body le =
         let n = make f x y in
         let z = first-fits (node_depth n) 0 limit (suc (length fs)) (node-some n) le in
         let v = head-fits f x y (limit - suc (suc (length fs))) z.1 in
         let half = halved before h c q body ∷ fs in
-        ap (option_and_then (λ t. run limit t i)) (goes-on p q c before h fs body tokens f s g z.0 v.0)
+        ap (option_and_then (λ t. read_on limit t i)) (goes-on p q c before h fs body tokens f s g z.0 v.0)
         ∙ reads b (asking NoNodes f true q ∷ half) NoNodes v.1
         ∙ rests o (inside f q) NoNodes true half x (rest-fits o x (limit - suc (suc (length fs))) z.1)
 

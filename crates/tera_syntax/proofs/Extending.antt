@@ -16,8 +16,8 @@ use Rattle.tera_syntax_expressions.proofs.Steps.{guard, same-is, alike}
 use Rattle.tera_syntax.specs.declared.heads.Surroundings.{Surroundings}
 use Rattle.tera_syntax.specs.Heads.{outside, first, is_extends}
 use Rattle.tera_syntax.specs.Grammar.{Begins, Extends, is_space, Front, nothing, space, remark, DerivesFile, root, child}
-use Rattle.tera_syntax.specs.Reader.{Progress, begun, quoted_name, join, one, has_room, step, taken, room, statement, finished, run, nodes}
-use Rattle.tera_syntax.specs.File.{File, extending, is_front_piece, kept, file_run, spelled, once, file}
+use Rattle.tera_syntax.specs.Reader.{Progress, begun, quoted_name, join, one, has_room, step, taken, room, statement, finished, read_on, nodes}
+use Rattle.tera_syntax.specs.File.{File, extending, is_front_piece, kept, file_read_on, spelled, once, file}
 use Rattle.tera_syntax.proofs.OneTag.{both, quotes-got, quotes-is, extends_read}
 use Rattle.tera_syntax.proofs.Complete.{at, put-read, complete_nodes}
 use Rattle.tera_syntax.proofs.Sound.{sound}
@@ -53,12 +53,12 @@ front-more Broken f r = absurd (cc)
 module _ (limit : ℕ) where
   -- Behind the front the nodes are read as ever
 
-  behind-step : (parent : Option Name) (i : List Piece) (o : Option Progress) → ((s : Progress) → file_run limit (state parent false s) i ≡ option_map (tree_with parent) (run limit s i))
-      → option_and_then (λ g. file_run limit g i) (option_map (state parent false) o) ≡ option_map (tree_with parent) (option_and_then (λ t. run limit t i) o)
+  behind-step : (parent : Option Name) (i : List Piece) (o : Option Progress) → ((s : Progress) → file_read_on limit (state parent false s) i ≡ option_map (tree_with parent) (read_on limit s i))
+      → option_and_then (λ g. file_read_on limit g i) (option_map (state parent false) o) ≡ option_map (tree_with parent) (option_and_then (λ t. read_on limit t i) o)
   behind-step parent i None again = refl
   behind-step parent i (Some t) again = again t
 
-  behind : (parent : Option Name) (i : List Piece) (s : Progress) → file_run limit (state parent false s) i ≡ option_map (tree_with parent) (run limit s i)
+  behind : (parent : Option Name) (i : List Piece) (s : Progress) → file_read_on limit (state parent false s) i ≡ option_map (tree_with parent) (read_on limit s i)
   behind parent [] s = refl
   behind parent (p ∷ i) s = behind-step parent i (step limit s p) (λ t. behind parent i t)
 
@@ -66,30 +66,30 @@ module _ (limit : ℕ) where
   mapped parent None tree h = absurd (cc)
   mapped parent (Some x) tree h = let e : tree_with parent x ≡ tree = cc in (ap (λ t. Some t.nodes) e, ap (λ t. t.parent) e)
 
-  behind-got : (parent : Option Name) (i : List Piece) (s : Progress) (tree : Tree) → file_run limit (state parent false s) i ≡ Some tree → (run limit s i ≡ Some tree.nodes) × (parent ≡ tree.parent)
-  behind-got parent i s tree h = mapped parent (run limit s i) tree (sym (behind parent i s) ∙ h)
+  behind-got : (parent : Option Name) (i : List Piece) (s : Progress) (tree : Tree) → file_read_on limit (state parent false s) i ≡ Some tree → (read_on limit s i ≡ Some tree.nodes) × (parent ≡ tree.parent)
+  behind-got parent i s tree h = mapped parent (read_on limit s i) tree (sym (behind parent i s) ∙ h)
 
   -- What is read is spelled
 
   -- what is said of the pieces, where white space and comments alone were read
   data Says : Progress → List Piece → Option Name → Nodes → Type 0 where
-    alone : {s : Progress} {i : List Piece} {x : Nodes} → run limit s i ≡ Some x → Says s i None x
+    alone : {s : Progress} {i : List Piece} {x : Nodes} → read_on limit s i ≡ Some x → Says s i None x
     below : {s : Progress} {i j : List Piece} {tokens : List Token} {name : Name} {x : Nodes} → Front i (Block tokens ∷ j) → Extends name tokens → nodes limit j ≡ Some x → Says s i (Some name) x
 
   passed : {parent : Option Name} {x : Nodes} (p : Piece) (i : List Piece) (s t : Progress) → is_front_piece p ≡ true → step limit s p ≡ Some t → Says t i parent x → Says s (p ∷ i) parent x
-  passed p i s t f e (alone h) = alone (ap (option_and_then (λ t. run limit t i)) e ∙ h)
+  passed p i s t f e (alone h) = alone (ap (option_and_then (λ t. read_on limit t i)) e ∙ h)
   passed p i s t f e (below r x h) = below (front-more p f r) x h
 
-  kept-got : (p : Piece) (i : List Piece) (tree : Tree) → ((s : Progress) → file_run limit (state None true s) i ≡ Some tree → Says s i tree.parent tree.nodes) → (b : Bool) → is_front_piece p ≡ b
-      → (s : Progress) (o : Option Progress) → step limit s p ≡ o → option_and_then (λ g. file_run limit g i) (option_map (state None b) o) ≡ Some tree → Says s (p ∷ i) tree.parent tree.nodes
+  kept-got : (p : Piece) (i : List Piece) (tree : Tree) → ((s : Progress) → file_read_on limit (state None true s) i ≡ Some tree → Says s i tree.parent tree.nodes) → (b : Bool) → is_front_piece p ≡ b
+      → (s : Progress) (o : Option Progress) → step limit s p ≡ o → option_and_then (λ g. file_read_on limit g i) (option_map (state None b) o) ≡ Some tree → Says s (p ∷ i) tree.parent tree.nodes
   kept-got p i tree again b f s None e h = absurd (cc)
   kept-got p i tree again true f s (Some t) e h = passed p i s t f e (again t h)
   kept-got p i tree again false f s (Some t) e h =
       let g = behind-got None i t tree h in
-      subst (λ parent. Says s (p ∷ i) parent tree.nodes) g.1 (alone (ap (option_and_then (λ t. run limit t i)) e ∙ g.0))
+      subst (λ parent. Says s (p ∷ i) parent tree.nodes) g.1 (alone (ap (option_and_then (λ t. read_on limit t i)) e ∙ g.0))
 
   child-got : (tokens : List Token) (i : List Piece) (s : Progress) (tree : Tree) → is_extends tokens ≡ true → (o : Option Name) → quoted_name tokens ≡ o
-      → option_and_then (λ g. file_run limit g i) (extending o) ≡ Some tree → Says s (Block tokens ∷ i) tree.parent tree.nodes
+      → option_and_then (λ g. file_read_on limit g i) (extending o) ≡ Some tree → Says s (Block tokens ∷ i) tree.parent tree.nodes
   child-got tokens i s tree e None f h = absurd (cc)
   child-got tokens i s tree e (Some name) f h =
       let g = behind-got (Some name) i begun tree h in
@@ -98,21 +98,21 @@ module _ (limit : ℕ) where
   module _ (i : List Piece) (tree : Tree) where
     -- what holds of the pieces behind the first
     abbrev Again : Type 0
-    Again = (s : Progress) → file_run limit (state None true s) i ≡ Some tree → Says s i tree.parent tree.nodes
+    Again = (s : Progress) → file_read_on limit (state None true s) i ≡ Some tree → Says s i tree.parent tree.nodes
 
     block-got : Again → (tokens : List Token) (s : Progress) (b : Bool) → is_extends tokens ≡ b
-        → option_and_then (λ g. file_run limit g i) (if b then extending (quoted_name tokens) else kept limit (state None true s) (Block tokens)) ≡ Some tree → Says s (Block tokens ∷ i) tree.parent tree.nodes
+        → option_and_then (λ g. file_read_on limit g i) (if b then extending (quoted_name tokens) else kept limit (state None true s) (Block tokens)) ≡ Some tree → Says s (Block tokens ∷ i) tree.parent tree.nodes
     block-got again tokens s true e h = child-got tokens i s tree e (quoted_name tokens) refl h
     block-got again tokens s false e h = kept-got (Block tokens) i tree again false refl s (step limit s (Block tokens)) refl h
 
-    piece-got : Again → (p : Piece) (s : Progress) → file_run limit (state None true s) (p ∷ i) ≡ Some tree → Says s (p ∷ i) tree.parent tree.nodes
+    piece-got : Again → (p : Piece) (s : Progress) → file_read_on limit (state None true s) (p ∷ i) ≡ Some tree → Says s (p ∷ i) tree.parent tree.nodes
     piece-got again (Words words position) s h = kept-got (Words words position) i tree again (is_space words) refl s (step limit s (Words words position)) refl h
     piece-got again Comment s h = kept-got Comment i tree again true refl s (step limit s Comment) refl h
     piece-got again (Variable tokens) s h = kept-got (Variable tokens) i tree again false refl s (step limit s (Variable tokens)) refl h
     piece-got again (Block tokens) s h = block-got again tokens s (is_extends tokens) refl h
     piece-got again Broken s h = absurd (cc)
 
-  says : (i : List Piece) (s : Progress) (tree : Tree) → file_run limit (state None true s) i ≡ Some tree → Says s i tree.parent tree.nodes
+  says : (i : List Piece) (s : Progress) (tree : Tree) → file_read_on limit (state None true s) i ≡ Some tree → Says s i tree.parent tree.nodes
   says [] s tree h = let g = mapped None (finished s.statements s.found) tree h in subst (λ parent. Says s [] parent tree.nodes) g.1 (alone g.0)
   says (p ∷ i) s tree h = piece-got i tree (λ s h. says i s tree h) p s h
 
@@ -144,30 +144,30 @@ module _ (limit : ℕ) where
       let s = at q [] found in
       ap (option_and_then (taken limit s tokens)) (extends_read (room limit s) q outside tokens (begins tokens e))
 
-  either-way : (i : List Piece) (b : Bool) (s : Progress) (x : Nodes) → file_run limit (state None true s) i ≡ Some (tree_with None x) → run limit s i ≡ Some x
-      → file_run limit (state None b s) i ≡ Some (tree_with None x)
+  either-way : (i : List Piece) (b : Bool) (s : Progress) (x : Nodes) → file_read_on limit (state None true s) i ≡ Some (tree_with None x) → read_on limit s i ≡ Some x
+      → file_read_on limit (state None b s) i ≡ Some (tree_with None x)
   either-way i true s x h r = h
   either-way i false s x h r = behind None i s ∙ ap (option_map (tree_with None)) r
 
-  node-read : (i : List Piece) (o : Option Progress) (x : Nodes) → option_and_then (λ t. run limit t i) o ≡ Some x
-      → option_and_then (λ g. file_run limit g i) (option_map (state None false) o) ≡ Some (tree_with None x)
+  node-read : (i : List Piece) (o : Option Progress) (x : Nodes) → option_and_then (λ t. read_on limit t i) o ≡ Some x
+      → option_and_then (λ g. file_read_on limit g i) (option_map (state None false) o) ≡ Some (tree_with None x)
   node-read i o x h = behind-step None i o (λ s. behind None i s) ∙ ap (option_map (tree_with None)) h
 
-  words-read : (i : List Piece) (b c : Bool) (t : Progress) (x : Nodes) → (run limit t i ≡ Some x → file_run limit (state None true t) i ≡ Some (tree_with None x))
-      → option_and_then (λ t. run limit t i) (if c then Some t else None) ≡ Some x
-      → option_and_then (λ g. file_run limit g i) (option_map (state None b) (if c then Some t else None)) ≡ Some (tree_with None x)
+  words-read : (i : List Piece) (b c : Bool) (t : Progress) (x : Nodes) → (read_on limit t i ≡ Some x → file_read_on limit (state None true t) i ≡ Some (tree_with None x))
+      → option_and_then (λ t. read_on limit t i) (if c then Some t else None) ≡ Some x
+      → option_and_then (λ g. file_read_on limit g i) (option_map (state None b) (if c then Some t else None)) ≡ Some (tree_with None x)
   words-read i b true t x again h = either-way i b t x (again h) h
   words-read i b false t x again h = absurd (cc)
 
   block-read : (i : List Piece) (q : Surroundings) (found : Nodes) (tokens : List Token) (x : Nodes) (b : Bool) → is_extends tokens ≡ b
-      → option_and_then (λ t. run limit t i) (statement limit (at q [] found) tokens) ≡ Some x
-      → option_and_then (λ g. file_run limit g i) (if b then extending (quoted_name tokens) else kept limit (state None true (at q [] found)) (Block tokens)) ≡ Some (tree_with None x)
+      → option_and_then (λ t. read_on limit t i) (statement limit (at q [] found) tokens) ≡ Some x
+      → option_and_then (λ g. file_read_on limit g i) (if b then extending (quoted_name tokens) else kept limit (state None true (at q [] found)) (Block tokens)) ≡ Some (tree_with None x)
   block-read i q found tokens x true e h =
-      let n = ap (option_and_then (λ t. run limit t i)) (extends-unread q found tokens e) in
+      let n = ap (option_and_then (λ t. read_on limit t i)) (extends-unread q found tokens e) in
       let m : None ≡ Some x = sym n ∙ h in absurd (cc)
   block-read i q found tokens x false e h = node-read i (statement limit (at q [] found) tokens) x h
 
-  root-read : (i : List Piece) (q : Surroundings) (found x : Nodes) → run limit (at q [] found) i ≡ Some x → file_run limit (state None true (at q [] found)) i ≡ Some (tree_with None x)
+  root-read : (i : List Piece) (q : Surroundings) (found x : Nodes) → read_on limit (at q [] found) i ≡ Some x → file_read_on limit (state None true (at q [] found)) i ≡ Some (tree_with None x)
   root-read [] q found x h = ap (option_map (tree_with None)) h
   root-read (Words [] position ∷ i) q found x h = either-way i (is_space []) (at q [] found) x (root-read i q found x h) h
   root-read (Words (b ∷ bs) position ∷ i) q found x h =
@@ -178,23 +178,23 @@ module _ (limit : ℕ) where
   root-read (Block tokens ∷ i) q found x h = block-read i q found tokens x (is_extends tokens) refl h
   root-read (Broken ∷ i) q found x h = absurd (cc)
 
-  front-read : {i j : List Piece} → Front i j → (q : Surroundings) (found : Nodes) (tree : Tree) → 0 < limit → ((found : Nodes) → file_run limit (state None true (at q [] found)) j ≡ Some tree)
-      → file_run limit (state None true (at q [] found)) i ≡ Some tree
+  front-read : {i j : List Piece} → Front i j → (q : Surroundings) (found : Nodes) (tree : Tree) → 0 < limit → ((found : Nodes) → file_read_on limit (state None true (at q [] found)) j ≡ Some tree)
+      → file_read_on limit (state None true (at q [] found)) i ≡ Some tree
   front-read nothing q found tree lt end = end found
   front-read (space {words = []} {i = i} f r) q found tree lt end =
-      ap (λ b. file_run limit (state None b (at q [] found)) i) f ∙ front-read r q found tree lt end
+      ap (λ b. file_read_on limit (state None b (at q [] found)) i) f ∙ front-read r q found tree lt end
   front-read (space {words = b ∷ bs} {position = position} {i = i} f r) q found tree lt end =
       let n = Content (b ∷ bs) position in
-      ap (λ o. option_and_then (λ g. file_run limit g i) (option_map (state None (is_space (b ∷ bs))) o)) (put-read limit q [] found n lt)
-      ∙ ap (λ b. file_run limit (state None b (at q [] (join found (one n)))) i) f
+      ap (λ o. option_and_then (λ g. file_read_on limit g i) (option_map (state None (is_space (b ∷ bs))) o)) (put-read limit q [] found n lt)
+      ∙ ap (λ b. file_read_on limit (state None b (at q [] (join found (one n)))) i) f
       ∙ front-read r q (join found (one n)) tree lt end
   front-read (remark r) q found tree lt end = front-read r q found tree lt end
 
   tag-read : (j : List Piece) (tokens : List Token) (name : Name) (x : Nodes) → Extends name tokens → nodes limit j ≡ Some x → (s : Progress)
-      → file_run limit (state None true s) (Block tokens ∷ j) ≡ Some (tree_with (Some name) x)
+      → file_read_on limit (state None true s) (Block tokens ∷ j) ≡ Some (tree_with (Some name) x)
   tag-read j tokens name x e h s =
-      ap (λ (b : Bool). option_and_then (λ g. file_run limit g j) (if b then extending (quoted_name tokens) else kept limit (state None true s) (Block tokens))) (word-is tokens e.0)
-      ∙ ap (λ o. option_and_then (λ g. file_run limit g j) (extending o)) (quotes-is (codes "extends") tokens name e)
+      ap (λ (b : Bool). option_and_then (λ g. file_read_on limit g j) (if b then extending (quoted_name tokens) else kept limit (state None true s) (Block tokens))) (word-is tokens e.0)
+      ∙ ap (λ o. option_and_then (λ g. file_read_on limit g j) (extending o)) (quotes-is (codes "extends") tokens name e)
       ∙ behind (Some name) j begun
       ∙ ap (option_map (tree_with (Some name))) h
 
@@ -207,10 +207,10 @@ module _ (limit : ℕ) where
   file_complete tree d lt le o = ap (option_and_then once) (spelled_complete d lt le) ∙ ap₂ (λ (a b : Bool). if a && b then Some tree else None) o.0 o.1
 
 -- where no piece begins, nothing is read
-pub file_broken : (limit : ℕ) (f : File) → file_run limit f (Broken ∷ []) ≡ None
+pub file_broken : (limit : ℕ) (f : File) → file_read_on limit f (Broken ∷ []) ≡ None
 file_broken limit f = by f.is_front
   where
-    by : (b : Bool) → option_and_then (λ g. file_run limit g []) (if b && false then extending None else kept limit f Broken) ≡ None
+    by : (b : Bool) → option_and_then (λ g. file_read_on limit g []) (if b && false then extending None else kept limit f Broken) ≡ None
     by true = refl
     by false = refl
 

@@ -11,7 +11,7 @@ use Rattle.tera_syntax_tree.specs.Depth.{depth, entries_depth, filters_depth, pa
 use Rattle.tera_syntax.specs.declared.heads.Surroundings.{Surroundings}
 use Rattle.tera_syntax.specs.Heads.{Head, IfHead, ForHead, SetHead, SectionHead, BlockHead, CallHead, DefinitionHead, outside, nested, make, head_depth, splits, chains, inside, ends}
 use Rattle.tera_syntax.specs.Grammar.{IsWord, Opens, GoesOn, DerivesNodes, empty, content, blank, comment, print, single, bodied, DerivesRest, ended, split, chained}
-use Rattle.tera_syntax.specs.Reader.{OpenStatement, Progress, Tag, Single, Opening, GoingOn, Dividing, Closing, join, one, printed, put, room, made, row, opened, divided, divided_by, aside, closed, shut, around, tag, taken, statement, run, nodes, whole}
+use Rattle.tera_syntax.specs.Reader.{OpenStatement, Progress, Tag, Single, Opening, GoingOn, Dividing, Closing, join, one, printed, put, room, made, row, opened, divided, divided_by, aside, closed, shut, around, tag, taken, statement, read_on, nodes, whole}
 use Rattle.tera_syntax.proofs.Rows.{join-none, join-join, deep}
 use Rattle.tera_syntax.proofs.Whole.{whole_sound}
 use Rattle.tera_syntax.proofs.OneTag.{Meant, tag_sound}
@@ -88,13 +88,13 @@ half f body = halved f.before f.head f.is_chained f.surroundings body
 module _ (limit : ℕ) (i : List Piece) (x : Nodes) where
   -- what holds of the pieces behind the tag
   abbrev Again : Type 0
-  Again = (q : Surroundings) (fs : List OpenStatement) (found : Nodes) → run limit (at q fs found) i ≡ Some x → Goes limit q fs found i x
+  Again = (q : Surroundings) (fs : List OpenStatement) (found : Nodes) → read_on limit (at q fs found) i ≡ Some x → Goes limit q fs found i x
 
   -- one node more
   one-got : (q : Surroundings) (fs : List OpenStatement) (found : Nodes) (n : Node) (p : Piece) → ((y : Nodes) (m : List Piece) → DerivesNodes q y i m → DerivesNodes q (join (one n) y) (p ∷ i) m)
-      → node_depth n ≤ suc (limit - suc (length fs)) → Again → option_and_then (λ t. run limit t i) (put limit (at q fs found) n) ≡ Some x → Goes limit q fs found (p ∷ i) x
+      → node_depth n ≤ suc (limit - suc (length fs)) → Again → option_and_then (λ t. read_on limit t i) (put limit (at q fs found) n) ≡ Some x → Goes limit q fs found (p ∷ i) x
   one-got q fs found n p build le again h =
-      let g = if_then (nat_lt (length fs) limit) (option_and_then (λ t. run limit t i)) (Some (at q fs (join found (one n)))) x refl h in
+      let g = if_then (nat_lt (length fs) limit) (option_and_then (λ t. read_on limit t i)) (Some (at q fs (join found (one n)))) x refl h in
       in_front limit q fs found (one n) (p ∷ i) i x build (one-small (node_depth n) limit (length fs) (has-room (length fs) limit g.0) le) (again q fs (join found (one n)) g.1)
 
   module _ (tokens : List Token) where
@@ -126,66 +126,66 @@ module _ (limit : ℕ) (i : List Piece) (x : Nodes) where
     end-got q f fs found (Some body) e w g =
         in_other e empty (omega arith) w (subst (λ r. Closes limit f.is_chained f.surroundings fs (join f.before (one (make f.head body r))) i x) (sym (join-none found)) g)
 
-    closes : Again → (fs : List OpenStatement) (c : Bool) (q : Surroundings) (found : Nodes) → option_and_then (λ t. run limit t i) (if c then closed fs found else Some (at q fs found)) ≡ Some x
+    closes : Again → (fs : List OpenStatement) (c : Bool) (q : Surroundings) (found : Nodes) → option_and_then (λ t. read_on limit t i) (if c then closed fs found else Some (at q fs found)) ≡ Some x
         → Closes limit c q fs found i x
     closes again fs false q found h = here (again q fs found h)
     closes again [] true q found h = absurd (cc)
     closes again (f ∷ fs) true q found h = around_it (closes again fs f.is_chained f.surroundings (row f found) h)
 
     opened-by : Again → (q : Surroundings) (fs : List OpenStatement) (found : Nodes) (h : Head) → Opens q h tokens → head_depth h ≤ limit - suc (length fs)
-        → option_and_then (λ t. run limit t i) (opened limit false (at q fs found) h) ≡ Some x → Goes limit q fs found (Block tokens ∷ i) x
+        → option_and_then (λ t. read_on limit t i) (opened limit false (at q fs found) h) ≡ Some x → Goes limit q fs found (Block tokens ∷ i) x
     opened-by again q fs found h a le e =
-        let g = if_then (nat_lt (length fs) limit) (option_and_then (λ t. run limit t i)) (Some (at (inside h q) (asking found h false q ∷ fs) NoNodes)) x refl e in
+        let g = if_then (nat_lt (length fs) limit) (option_and_then (λ t. read_on limit t i)) (Some (at (inside h q) (asking found h false q ∷ fs) NoNodes)) x refl e in
         open-got q fs found h a (has-room (length fs) limit g.0) le (again (inside h q) (asking found h false q ∷ fs) NoNodes g.1)
 
     goes-on-divided : Again → (q : Surroundings) (f : OpenStatement) (fs : List OpenStatement) (found : Nodes) (h : Head) → IsTrue (chains f.head) → GoesOn f.surroundings h tokens → head_depth h ≤ limit - suc (suc (length fs))
-        → (b : Option Nodes) → f.body ≡ b → option_and_then (λ t. run limit t i) (option_and_then (λ t. opened limit true t h) (divided_by f b fs found)) ≡ Some x → Goes limit q (f ∷ fs) found (Block tokens ∷ i) x
+        → (b : Option Nodes) → f.body ≡ b → option_and_then (λ t. read_on limit t i) (option_and_then (λ t. opened limit true t h) (divided_by f b fs found)) ≡ Some x → Goes limit q (f ∷ fs) found (Block tokens ∷ i) x
     goes-on-divided again q f fs found h s a le (Some body) n e = absurd (cc)
     goes-on-divided again q f fs found h s a le None n e =
         let to = half f found ∷ fs in
-        let g = if_then (nat_lt (length to) limit) (option_and_then (λ t. run limit t i)) (Some (at (inside h f.surroundings) (asking NoNodes h true f.surroundings ∷ to) NoNodes)) x refl e in
+        let g = if_then (nat_lt (length to) limit) (option_and_then (λ t. read_on limit t i)) (Some (at (inside h f.surroundings) (asking NoNodes h true f.surroundings ∷ to) NoNodes)) x refl e in
         goes-on-got q f fs found h n s a (has-room (suc (length fs)) limit g.0) le (again (inside h f.surroundings) (asking NoNodes h true f.surroundings ∷ to) NoNodes g.1)
 
     goes-on-by : Again → (q : Surroundings) (fs : List OpenStatement) (found : Nodes) (h : Head) → GoesOn (around fs) h tokens → head_depth h ≤ limit - suc (length fs)
-        → option_and_then (λ t. run limit t i) (option_and_then (λ t. opened limit true t h) (divided chains fs found)) ≡ Some x → Goes limit q fs found (Block tokens ∷ i) x
+        → option_and_then (λ t. read_on limit t i) (option_and_then (λ t. opened limit true t h) (divided chains fs found)) ≡ Some x → Goes limit q fs found (Block tokens ∷ i) x
     goes-on-by again q [] found h a le e = absurd (cc)
     goes-on-by again q (f ∷ fs) found h a le e =
-        let g = if_then (chains f.head) (λ o. option_and_then (λ t. run limit t i) (option_and_then (λ t. opened limit true t h) o)) (divided_by f f.body fs found) x refl e in
+        let g = if_then (chains f.head) (λ o. option_and_then (λ t. read_on limit t i) (option_and_then (λ t. opened limit true t h) o)) (divided_by f f.body fs found) x refl e in
         goes-on-divided again q f fs found h g.0 a le f.body refl g.1
 
     else-divided : Again → (q : Surroundings) (f : OpenStatement) (fs : List OpenStatement) (found : Nodes) → IsTrue (splits f.head) → IsWord k.Else (codes "else") tokens
-        → (b : Option Nodes) → f.body ≡ b → option_and_then (λ t. run limit t i) (option_map aside (divided_by f b fs found)) ≡ Some x → Goes limit q (f ∷ fs) found (Block tokens ∷ i) x
+        → (b : Option Nodes) → f.body ≡ b → option_and_then (λ t. read_on limit t i) (option_map aside (divided_by f b fs found)) ≡ Some x → Goes limit q (f ∷ fs) found (Block tokens ∷ i) x
     else-divided again q f fs found s a (Some body) n e = absurd (cc)
     else-divided again q f fs found s a None n e = else-got q f fs found n s a (again (nested f.surroundings) (half f found ∷ fs) NoNodes e)
 
-    else-by : Again → (q : Surroundings) (fs : List OpenStatement) (found : Nodes) → IsWord k.Else (codes "else") tokens → option_and_then (λ t. run limit t i) (option_map aside (divided splits fs found)) ≡ Some x → Goes limit q fs found (Block tokens ∷ i) x
+    else-by : Again → (q : Surroundings) (fs : List OpenStatement) (found : Nodes) → IsWord k.Else (codes "else") tokens → option_and_then (λ t. read_on limit t i) (option_map aside (divided splits fs found)) ≡ Some x → Goes limit q fs found (Block tokens ∷ i) x
     else-by again q [] found a e = absurd (cc)
     else-by again q (f ∷ fs) found a e =
-        let g = if_then (splits f.head) (λ o. option_and_then (λ t. run limit t i) (option_map aside o)) (divided_by f f.body fs found) x refl e in
+        let g = if_then (splits f.head) (λ o. option_and_then (λ t. read_on limit t i) (option_map aside o)) (divided_by f f.body fs found) x refl e in
         else-divided again q f fs found g.0 a f.body refl g.1
 
-    end-by : Again → (q : Surroundings) (fs : List OpenStatement) (found : Nodes) → option_and_then (λ t. run limit t i) (shut tokens fs found) ≡ Some x → Goes limit q fs found (Block tokens ∷ i) x
+    end-by : Again → (q : Surroundings) (fs : List OpenStatement) (found : Nodes) → option_and_then (λ t. read_on limit t i) (shut tokens fs found) ≡ Some x → Goes limit q fs found (Block tokens ∷ i) x
     end-by again q [] found e = absurd (cc)
     end-by again q (f ∷ fs) found e =
-        let g = if_then (ends f.head tokens) (option_and_then (λ t. run limit t i)) (closed (f ∷ fs) found) x refl e in
+        let g = if_then (ends f.head tokens) (option_and_then (λ t. read_on limit t i)) (closed (f ∷ fs) found) x refl e in
         end-got q f fs found f.body refl g.0 (closes again fs f.is_chained f.surroundings (row f found) g.1)
 
     taken-by : Again → (q : Surroundings) (fs : List OpenStatement) (found : Nodes) (t : Tag) → Meant (limit - suc (length fs)) q (around fs) tokens t
-        → option_and_then (λ t. run limit t i) (taken limit (at q fs found) tokens t) ≡ Some x → Goes limit q fs found (Block tokens ∷ i) x
+        → option_and_then (λ t. read_on limit t i) (taken limit (at q fs found) tokens t) ≡ Some x → Goes limit q fs found (Block tokens ∷ i) x
     taken-by again q fs found (Single n) m e = one-got q fs found n (Block tokens) (λ y l d. single m.0 d) m.1 again e
     taken-by again q fs found (Opening h) m e = opened-by again q fs found h m.0 m.1 e
     taken-by again q fs found (GoingOn h) m e = goes-on-by again q fs found h m.0 m.1 e
     taken-by again q fs found Dividing m e = else-by again q fs found m e
     taken-by again q fs found Closing m e = end-by again q fs found e
 
-    block : Again → (q : Surroundings) (fs : List OpenStatement) (found : Nodes) → option_and_then (λ t. run limit t i) (statement limit (at q fs found) tokens) ≡ Some x → Goes limit q fs found (Block tokens ∷ i) x
+    block : Again → (q : Surroundings) (fs : List OpenStatement) (found : Nodes) → option_and_then (λ t. read_on limit t i) (statement limit (at q fs found) tokens) ≡ Some x → Goes limit q fs found (Block tokens ∷ i) x
     unfolding statement
     block again q fs found e =
         let s = at q fs found in
-        let p = and_then-both (λ t. run limit t i) (taken limit s tokens) (tag (room limit s) q (around fs) tokens) x e in
+        let p = and_then-both (λ t. read_on limit t i) (taken limit s tokens) (tag (room limit s) q (around fs) tokens) x e in
         taken-by again q fs found p.0 (tag_sound (room limit s) q (around fs) tokens p.0 p.1) p.2
 
-goes : (limit : ℕ) (i : List Piece) (q : Surroundings) (fs : List OpenStatement) (found x : Nodes) → run limit (at q fs found) i ≡ Some x → Goes limit q fs found i x
+goes : (limit : ℕ) (i : List Piece) (q : Surroundings) (fs : List OpenStatement) (found x : Nodes) → read_on limit (at q fs found) i ≡ Some x → Goes limit q fs found i x
 goes limit [] q [] found x h = done empty (omega arith) (join-none found ∙ (let q : found ≡ x = cc in q))
 goes limit [] q (f ∷ fs) found x h = absurd (cc)
 goes limit (Words [] position ∷ i) q fs found x h =
@@ -196,7 +196,7 @@ goes limit (Comment ∷ i) q fs found x h =
     in_front limit q fs found NoNodes (Comment ∷ i) i x (λ y m d. comment d) (omega arith) (subst (λ n. Goes limit q fs n i x) (sym (join-none found)) (goes limit i q fs found x h))
 goes limit (Variable tokens ∷ i) q fs found x h =
     let s = at q fs found in
-    let p = printed-then limit s (λ t. run limit t i) (whole (room limit s) (begin q.in_loop tokens)) x h in
+    let p = printed-then limit s (λ t. read_on limit t i) (whole (room limit s) (begin q.in_loop tokens)) x h in
     let w = whole_sound (room limit s) (begin q.in_loop tokens) p.0 p.1 in
     one-got limit i x q fs found (Print p.0) (Variable tokens) (λ y m d. print w.0 d) (omega (arith, w.1)) (λ q fs found h. goes limit i q fs found x h) p.2
 goes limit (Block tokens ∷ i) q fs found x h = block limit i x tokens (λ q fs found h. goes limit i q fs found x h) q fs found h

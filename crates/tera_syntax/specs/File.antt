@@ -63,14 +63,14 @@ file_finished f =
     (finished f.progress.statements f.progress.found)
 
 -- the tree of all pieces behind what was read
-abbrev pub file_run : ℕ → File → List Piece → Option Tree
-file_run limit f [] = file_finished f
-file_run limit f (piece ∷ rest) =
-    option_and_then (λ g. file_run limit g rest) (file_step limit f piece)
+abbrev pub file_read_on : ℕ → File → List Piece → Option Tree
+file_read_on limit f [] = file_finished f
+file_read_on limit f (piece ∷ rest) =
+    option_and_then (λ g. file_read_on limit g rest) (file_step limit f piece)
 
 -- the tree of all pieces, no deeper than this
 abbrev pub spelled : ℕ → List Piece → Option Tree
-spelled limit pieces = file_run limit file_begun pieces
+spelled limit pieces = file_read_on limit file_begun pieces
 
 -- a tree, if no two of its blocks have one name, and no two of its components
 abbrev pub once : Tree → Option Tree

@@ -327,10 +327,10 @@ finished [] found = Some found
 finished (f ∷ fs) found = None
 
 -- the nodes of all pieces behind what was read
-abbrev pub run : ℕ → Progress → List Piece → Option Nodes
-run limit s [] = finished s.statements s.found
-run limit s (piece ∷ rest) = option_and_then (λ t. run limit t rest) (step limit s piece)
+abbrev pub read_on : ℕ → Progress → List Piece → Option Nodes
+read_on limit s [] = finished s.statements s.found
+read_on limit s (piece ∷ rest) = option_and_then (λ t. read_on limit t rest) (step limit s piece)
 
 -- the nodes of all pieces, no deeper than this
 abbrev pub nodes : ℕ → List Piece → Option Nodes
-nodes limit pieces = run limit begun pieces
+nodes limit pieces = read_on limit begun pieces

@@ -38,44 +38,44 @@ expr_none (suc n) floor i h = absurd (omega arith)
 
 -- a round of `climb`, by the count of open parentheses
 abbrev pub climb_round : ℕ → (ℕ → Parser Deep) → ℕ → ℕ → ℕ → ℕ → ℕ → List Token → Deep → Input → Parsed Deep
-climb_round limit sub n opens floor have from run x i =
-    if goes_on (if nat_eq opens 0 then floor else precedence.choice) have (kind i) then and_then (operation limit sub from x i) (climb limit sub n (starts run opens) floor (gives (kind i)) from)
-    else (if nat_eq opens 0 then Some (x, i) else (if same RightParenthesis (kind i) then climb limit sub n (starts run (opens - 1)) floor precedence.operand (start_of (drop (opens - 1) run)) x (next i) else None))
+climb_round limit sub n opens floor have from ahead x i =
+    if goes_on (if nat_eq opens 0 then floor else precedence.choice) have (kind i) then and_then (operation limit sub from x i) (climb limit sub n (starts ahead opens) floor (gives (kind i)) from)
+    else (if nat_eq opens 0 then Some (x, i) else (if same RightParenthesis (kind i) then climb limit sub n (starts ahead (opens - 1)) floor precedence.operand (start_of (drop (opens - 1) ahead)) x (next i) else None))
 
-climb_here : (limit : ℕ) (sub : ℕ → Parser Deep) (n opens floor have from : ℕ) (run : List Token) (x : Deep) (i : Input)
-    → climb limit sub (suc n) (starts run opens) floor have from x i ≡ climb_round limit sub n opens floor have from run x i
+climb_here : (limit : ℕ) (sub : ℕ → Parser Deep) (n opens floor have from : ℕ) (ahead : List Token) (x : Deep) (i : Input)
+    → climb limit sub (suc n) (starts ahead opens) floor have from x i ≡ climb_round limit sub n opens floor have from ahead x i
 unfolding climb
-climb_here limit sub n zero floor have from run x i = refl
-climb_here limit sub n (suc p) floor have from run x i = let e : suc p - 1 ≡ p = omega arith in let f : nat_eq (suc p) 0 ≡ false = grind (arith, common_steps) in rw (e, f) refl
+climb_here limit sub n zero floor have from ahead x i = refl
+climb_here limit sub n (suc p) floor have from ahead x i = let e : suc p - 1 ≡ p = omega arith in let f : nat_eq (suc p) 0 ≡ false = grind (arith, common_steps) in rw (e, f) refl
 
-pub climb_once : {meant : Parsed Deep} (limit : ℕ) (sub : ℕ → Parser Deep) (n at opens floor have from : ℕ) (run : List Token) (x : Deep) (i : Input) → at < n
-    → meant ≡ climb limit sub (n - at) (starts run opens) floor have from x i → meant ≡ climb_round limit sub (n - (at + 1)) opens floor have from run x i
-climb_once limit sub n at opens floor have from run x i lt round =
-    one_more (λ n. climb limit sub n (starts run opens) floor have from x i) n at lt round ∙ climb_here limit sub (n - (at + 1)) opens floor have from run x i
+pub climb_once : {meant : Parsed Deep} (limit : ℕ) (sub : ℕ → Parser Deep) (n at opens floor have from : ℕ) (ahead : List Token) (x : Deep) (i : Input) → at < n
+    → meant ≡ climb limit sub (n - at) (starts ahead opens) floor have from x i → meant ≡ climb_round limit sub (n - (at + 1)) opens floor have from ahead x i
+climb_once limit sub n at opens floor have from ahead x i lt round =
+    one_more (λ n. climb limit sub n (starts ahead opens) floor have from x i) n at lt round ∙ climb_here limit sub (n - (at + 1)) opens floor have from ahead x i
 
-pub floor_is : (run : List Token) (opens floor : ℕ) → floor_in (starts run opens) floor ≡ (if nat_eq opens 0 then floor else precedence.choice)
-floor_is run zero floor = refl
-floor_is run (suc p) floor = let f : nat_eq (suc p) 0 ≡ false = grind (arith, common_steps) in rw f refl
+pub floor_is : (ahead : List Token) (opens floor : ℕ) → floor_in (starts ahead opens) floor ≡ (if nat_eq opens 0 then floor else precedence.choice)
+floor_is ahead zero floor = refl
+floor_is ahead (suc p) floor = let f : nat_eq (suc p) 0 ≡ false = grind (arith, common_steps) in rw f refl
 
-pub ahead_next : (i : Input) (n : ℕ) (run : List Token) → i.ahead ≡ drop n run → (next i).ahead ≡ drop (n + 1) run
+pub ahead_next : (i : Input) (n : ℕ) (ahead : List Token) → i.ahead ≡ drop n ahead → (next i).ahead ≡ drop (n + 1) ahead
 unfolding next
-ahead_next i n run h = go i.ahead i.last i.in_loop ∙ ap (drop 1) h ∙ drop-drop 1 n run
+ahead_next i n ahead h = go i.ahead i.last i.in_loop ∙ ap (drop 1) h ∙ drop-drop 1 n ahead
   where
     go : (ts : List Token) (last : ℕ) (q : Bool) → (after ts last q).ahead ≡ drop 1 ts
     go [] last q = refl
     go (t ∷ ts) last q = refl
 
-pub opened_more : (n count : ℕ) (run : List Token) (i : Input) → i.ahead ≡ drop count run → same LeftParenthesis (kind i) ≡ true
-    → opened (suc n) (starts run count) i ≡ opened n (starts run (count + 1)) (next i)
+pub opened_more : (n count : ℕ) (ahead : List Token) (i : Input) → i.ahead ≡ drop count ahead → same LeftParenthesis (kind i) ≡ true
+    → opened (suc n) (starts ahead count) i ≡ opened n (starts ahead (count + 1)) (next i)
 unfolding opened start
-opened_more n count run i h e =
+opened_more n count ahead i h e =
     let f : count + 1 ≡ suc count = omega arith in
     rw (e, f, h) refl
 
-pub opened_round : {X : Option (List ℕ × Input)} (n count : ℕ) (run : List Token) (i j : Input) → X ≡ opened (suc n) (starts run count) i → i.ahead ≡ drop count run
-    → same LeftParenthesis (kind i) ≡ true → j ≡ next i → (j.ahead ≡ drop (count + 1) run) × (X ≡ opened n (starts run (count + 1)) j)
-opened_round n count run i j e h s t =
-    (ap (λ i. i.ahead) t ∙ ahead_next i count run h, e ∙ opened_more n count run i h s ∙ ap (opened n (starts run (count + 1))) (let z : next i ≡ j = sym t in z))
+pub opened_round : {X : Option (List ℕ × Input)} (n count : ℕ) (ahead : List Token) (i j : Input) → X ≡ opened (suc n) (starts ahead count) i → i.ahead ≡ drop count ahead
+    → same LeftParenthesis (kind i) ≡ true → j ≡ next i → (j.ahead ≡ drop (count + 1) ahead) × (X ≡ opened n (starts ahead (count + 1)) j)
+opened_round n count ahead i j e h s t =
+    (ap (λ i. i.ahead) t ∙ ahead_next i count ahead h, e ∙ opened_more n count ahead i h s ∙ ap (opened n (starts ahead (count + 1))) (let z : next i ≡ j = sym t in z))
 
 pub refuses : {Y : Type 0} {meant : Option Y} (r : Refusal) → IsSyntax r → meant ≡ None → Refuses meant r
 refuses (Syntax why position) h e = e

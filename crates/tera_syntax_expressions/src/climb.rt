@@ -25,7 +25,7 @@ impl<'s, F: Fn(Global, &mut Tokens<'_, 's>, usize, u8) -> Read<'s>> Reader<F> {
         ensures { Takes deep_of (spec.level self.now.limit (spec.expr self.now.below) floor
             (input tokens.old)) result tokens.new }
     {
-        let run = tokens.ahead;
+        let ahead = tokens.ahead;
         let rounds = tokens.left();
         let opens = opened(tokens);
         let begins = begins(tokens.kind());
@@ -34,15 +34,15 @@ impl<'s, F: Fn(Global, &mut Tokens<'_, 's>, usize, u8) -> Read<'s>> Reader<F> {
         }
         let start = tokens.start();
         let x = self.head(tokens)?;
-        self.climb(tokens, run, opens, rounds, floor, begins, start, x)
+        self.climb(tokens, ahead, opens, rounds, floor, begins, start, x)
     }
 
-    /// Goes on with operators, and closes the parentheses that are open. `run` begins with these.
+    /// Goes on with operators, and closes the parentheses that are open. `ahead` begins with these.
     #[tactic(auto, unfolding(crate::specs::Expressions::climb))]
     pub(crate) fn climb(
         &self,
         tokens: &mut Tokens<'_, 's>,
-        run: &[Token<'_>],
+        ahead: &[Token<'_>],
         mut opens: usize,
         rounds: usize,
         floor: u8,
@@ -52,7 +52,7 @@ impl<'s, F: Fn(Global, &mut Tokens<'_, 's>, usize, u8) -> Read<'s>> Reader<F> {
     ) -> Read<'s>
         requires { Nests self.now.below (F.pre self.now.expr) (F.post self.now.expr) }
         ensures { Takes deep_of (spec.climb self.now.limit (spec.expr self.now.below) rounds
-            (starts (tokens_of run.now) opens) floor have start (deep_of x.entry)
+            (starts (tokens_of ahead.now) opens) floor have start (deep_of x.entry)
             (input tokens.old)) result tokens.new }
     {
         for _round in 0..rounds {
@@ -66,7 +66,7 @@ impl<'s, F: Fn(Global, &mut Tokens<'_, 's>, usize, u8) -> Read<'s>> Reader<F> {
                 match tokens.expect(Kind::RightParenthesis) {
                     Ok(()) => {
                         opens -= 1;
-                        start = start_at(run, opens);
+                        start = start_at(ahead, opens);
                         have = precedence::OPERAND;
                     }
                     Err(refusal) => return Err(refusal),

@@ -6,7 +6,7 @@ use Rattle.std.proofs.lemmas.Str.{IsCharBoundary-before_ascii, IsCharBoundary-en
 use Rattle.std.specs.Str.{IsCharBoundary}
 use Rattle.tera_syntax_tokens.proofs.Positions.{by_order}
 use Rattle.tera_errors.specs.Site.{Text}
-use Rattle.tera_syntax_tokens.specs.Bytes.{run}
+use Rattle.tera_syntax_tokens.specs.Bytes.{leading}
 use Rattle.tera_syntax_tokens.specs.Token.{is_quote}
 use Rattle.tera_syntax_tokens.specs.Literal.{number_from, integer, escaped, escape_of, is_plain, unescaped}
 use Rattle.tera_syntax_tokens.specs.declared.token.Token as declared
@@ -36,34 +36,34 @@ start_is ts at t l e =
 
 -- ---- texts between quotes
 
-free_by : (q : Bool) (b : ℕ) (bs : Text) → (b == 92) ≡ q → unescaped false bs ≡ take (run is_plain bs) bs ++ unescaped false (drop (run is_plain bs) bs)
-    → unescaped false (b ∷ bs) ≡ take (run is_plain (b ∷ bs)) (b ∷ bs) ++ unescaped false (drop (run is_plain (b ∷ bs)) (b ∷ bs))
-unfolding unescaped run
-free_by true b bs e h = let z : run is_plain (b ∷ bs) ≡ 0 = rw e refl in rw z refl
+free_by : (q : Bool) (b : ℕ) (bs : Text) → (b == 92) ≡ q → unescaped false bs ≡ take (leading is_plain bs) bs ++ unescaped false (drop (leading is_plain bs) bs)
+    → unescaped false (b ∷ bs) ≡ take (leading is_plain (b ∷ bs)) (b ∷ bs) ++ unescaped false (drop (leading is_plain (b ∷ bs)) (b ∷ bs))
+unfolding unescaped leading
+free_by true b bs e h = let z : leading is_plain (b ∷ bs) ≡ 0 = rw e refl in rw z refl
 free_by false b bs e h =
-    let z : run is_plain (b ∷ bs) ≡ suc (run is_plain bs) = rw e refl in
+    let z : leading is_plain (b ∷ bs) ≡ suc (leading is_plain bs) = rw e refl in
     let g : unescaped false (b ∷ bs) ≡ b ∷ unescaped false bs = rw e refl in
     g ∙ ap (λ t. b ∷ t) h ∙ rw z refl
 
-free : (text : Text) → unescaped false text ≡ take (run is_plain text) text ++ unescaped false (drop (run is_plain text) text)
-unfolding unescaped run
+free : (text : Text) → unescaped false text ≡ take (leading is_plain text) text ++ unescaped false (drop (leading is_plain text) text)
+unfolding unescaped leading
 free [] = refl
 free (b ∷ bs) = free_by (b == 92) b bs refl (free bs)
 
-pub all_plain : (text : Text) → run is_plain text ≡ length text → text ≡ unescaped false text
+pub all_plain : (text : Text) → leading is_plain text ≡ length text → text ≡ unescaped false text
 unfolding unescaped
 all_plain text e =
-    let d : unescaped false (drop (run is_plain text) text) ≡ [] = rw (e, drop_all (length text) text (omega arith)) refl in
-    let t : take (run is_plain text) text ≡ text = rw e (take_all (length text) text (omega arith)) in
+    let d : unescaped false (drop (leading is_plain text) text) ≡ [] = rw (e, drop_all (length text) text (omega arith)) refl in
+    let t : take (leading is_plain text) text ≡ text = rw e (take_all (length text) text (omega arith)) in
     sym (free text ∙ ap₂ (λ a b. a ++ b) t d ∙ append-nil text)
 
-stops_by : (q : Bool) (b : ℕ) (bs : Text) → (b == 92) ≡ q → (run is_plain bs < length bs → get_or bs (run is_plain bs) 0 ≡ 92)
-    → (if not q then suc (run is_plain bs) else 0) < length (b ∷ bs) → get_or (b ∷ bs) (if not q then suc (run is_plain bs) else 0) 0 ≡ 92
+stops_by : (q : Bool) (b : ℕ) (bs : Text) → (b == 92) ≡ q → (leading is_plain bs < length bs → get_or bs (leading is_plain bs) 0 ≡ 92)
+    → (if not q then suc (leading is_plain bs) else 0) < length (b ∷ bs) → get_or (b ∷ bs) (if not q then suc (leading is_plain bs) else 0) 0 ≡ 92
 stops_by true b bs e f h = (Decides-eqb b 92).0 e
 stops_by false b bs e f h = f (omega arith)
 
-stops : (text : Text) → run is_plain text < length text → get_or text (run is_plain text) 0 ≡ 92
-unfolding run
+stops : (text : Text) → leading is_plain text < length text → get_or text (leading is_plain text) 0 ≡ 92
+unfolding leading
 stops [] h = absurd (omega arith)
 stops (b ∷ bs) h = stops_by (b == 92) b bs refl (stops bs) h
 
@@ -91,20 +91,20 @@ unfolding unescaped
 escape_none [] h = refl
 escape_none (b ∷ bs) h = rw (h, no_backslash b h) refl
 
--- a run of plain bytes from a position on
+-- the plain bytes from a position on
 pub record Plain (f n : ℕ) (text : Text) : Type 0 where
   pub fits : f + n ≤ length text
-  pub all : n ≡ run is_plain (drop f text)
+  pub all : n ≡ leading is_plain (drop f text)
 
-pub plain_from : {f n : ℕ} {text bytes rest : Text} → bytes ≡ text → f < length bytes → rest ≡ drop f bytes → n ≡ run is_plain rest → n ≤ length rest → Plain f n text
+pub plain_from : {f n : ℕ} {text bytes rest : Text} → bytes ≡ text → f < length bytes → rest ≡ drop f bytes → n ≡ leading is_plain rest → n ≤ length rest → Plain f n text
 plain_from {f} e l r p w =
     let d = r ∙ ap (drop f) e in
-    record { fits = omega (arith, ap length e, l, w, ap length d ∙ length-drop f _); all = p ∙ ap (run is_plain) d }
+    record { fits = omega (arith, ap length e, l, w, ap length d ∙ length-drop f _); all = p ∙ ap (leading is_plain) d }
 
 pub slash_at : {f n : ℕ} {text : Text} → Plain f n text → f + n < length text → get_or text (f + n) 0 ≡ 92
 slash_at {f} {n} {text} p l =
     let e = p.all in
-    let k : run is_plain (drop f text) < length (drop f text) = omega (arith, e, length-drop f text) in
+    let k : leading is_plain (drop f text) < length (drop f text) = omega (arith, e, length-drop f text) in
     sym (get_or-drop f text n 0) ∙ ap (λ i. get_or (drop f text) i 0) e ∙ stops (drop f text) k
 
 pub end_boundary : {f n : ℕ} {text : Text} → Plain f n text → IsCharBoundary text (f + n)
@@ -117,11 +117,11 @@ end_boundary {f} {n} {text} p =
 abbrev pub Wrote : Text → ℕ → Text → Type 0
 Wrote W e text = W ++ unescaped false (drop e text) ≡ unescaped false text
 
-pub wrote_run : (A : Text) {W word text : Text} {f n : ℕ} → Wrote A f text → Plain f n text → word ≡ take ((f + n) - f) (drop f text) → W ≡ A ++ word → Wrote W (f + n) text
-wrote_run A {W} {word} {text} {f} {n} so p t w =
+pub wrote_leading : (A : Text) {W word text : Text} {f n : ℕ} → Wrote A f text → Plain f n text → word ≡ take ((f + n) - f) (drop f text) → W ≡ A ++ word → Wrote W (f + n) text
+wrote_leading A {W} {word} {text} {f} {n} so p t w =
     let k : (f + n) - f ≡ n = omega arith in
     let g : unescaped false (drop f text) ≡ take n (drop f text) ++ unescaped false (drop (f + n) text) =
-    rw p.all (free (drop f text) ∙ ap (λ t. take (run is_plain (drop f text)) (drop f text) ++ unescaped false t) (drop-drop (run is_plain (drop f text)) f text)) in
+    rw p.all (free (drop f text) ∙ ap (λ t. take (leading is_plain (drop f text)) (drop f text) ++ unescaped false t) (drop-drop (leading is_plain (drop f text)) f text)) in
     ap (λ t. t ++ unescaped false (drop (f + n) text)) (w ∙ ap (λ t. A ++ t) (t ∙ ap (λ i. take i (drop f text)) k))
     ∙ append_assoc A (take n (drop f text)) (unescaped false (drop (f + n) text)) ∙ ap (λ t. A ++ t) (sym g) ∙ so
 

@@ -11,7 +11,7 @@ use Rattle.tera_syntax_tokens.specs.contracts.cut.Tag.{the_type}
 use Rattle.tera_syntax_tokens.specs.declared.inside.Ending.{Ending}
 use Rattle.tera_syntax_tokens.specs.declared.token.Kind.TheVariants as k
 use Rattle.tera_syntax_tokens.specs.declared.token.Measure.{Measure}
-use Rattle.tera_syntax_tokens.specs.Bytes.{begins, position, run}
+use Rattle.tera_syntax_tokens.specs.Bytes.{begins, position, leading}
 use Rattle.tera_syntax_tokens.specs.Token.{Token, token, measured, next_token, word_kind, is_blank, is_name_byte}
 use Rattle.tera_syntax_tokens.specs.Inside.{Inside, inside, closing, prefixed}
 use Rattle.tera_syntax_tokens.specs.Cut.{Piece, of_word, is_alone, opening_at, opens, start_size, trims_before, words, tag_of, endraw, endraw_of, endraw_by, ends_raw, raw}
@@ -36,24 +36,24 @@ abbrev pub names : Text → Bool
 names text = begins word text && not (is_name_byte (get_or text 6 0))
 
 -- the name `endraw` is the first token just where it stands, with no byte of a name behind it
-no_more : (rest : Text) → is_name_byte (get_or rest 0 0) ≡ false → run is_name_byte rest ≡ 0
-unfolding run
+no_more : (rest : Text) → is_name_byte (get_or rest 0 0) ≡ false → leading is_name_byte rest ≡ 0
+unfolding leading
 no_more [] h = refl
 no_more (b ∷ bs) h = rw h refl
 
-ends_name : (rest : Text) → run is_name_byte rest ≡ 0 → not (is_name_byte (get_or rest 0 0)) ≡ true
-unfolding run
+ends_name : (rest : Text) → leading is_name_byte rest ≡ 0 → not (is_name_byte (get_or rest 0 0)) ≡ true
+unfolding leading
 ends_name [] h = refl
 ends_name (b ∷ bs) h = go (is_name_byte b) h
   where
-    go : (q : Bool) → (if q then suc (run is_name_byte bs) else 0) ≡ 0 → not q ≡ true
+    go : (q : Bool) → (if q then suc (leading is_name_byte bs) else 0) ≡ 0 → not q ≡ true
     go true e = absurd (cc)
     go false e = refl
 
-measured_word : (rest : Text) → measured (word ++ rest) ≡ Some (record { kind = k.Name; size = 6 + run is_name_byte rest })
-unfolding measured run
+measured_word : (rest : Text) → measured (word ++ rest) ≡ Some (record { kind = k.Name; size = 6 + leading is_name_byte rest })
+unfolding measured leading
 measured_word rest =
-    let n = run is_name_byte rest in
+    let n = leading is_name_byte rest in
     let e : 1 + suc (suc (suc (suc (suc n)))) ≡ 6 + n = omega arith in
     ap (λ size. Some (record { kind = k.Name; size = size })) e
 
@@ -66,7 +66,7 @@ first_token at text h =
     let e : text ≡ word ++ drop 6 text = begins_is word text (and_parts _ _ h).0 in
     let s : is_name_byte (get_or text 6 0) ≡ false = not-true _ (and_parts _ _ h).1 in
     let g : is_name_byte (get_or (drop 6 text) 0 0) ≡ false = ap (λ bs. is_name_byte (get_or bs 6 0)) (sym e) ∙ s in
-    let r : run is_name_byte (drop 6 text) ≡ 0 = no_more (drop 6 text) g in
+    let r : leading is_name_byte (drop 6 text) ≡ 0 = no_more (drop 6 text) g in
     let m : measured (word ++ drop 6 text) ≡ Some (record { kind = k.Name; size = 6 }) = measured_word (drop 6 text) ∙ ap (λ n. Some (record { kind = k.Name; size = 6 + n })) r in
     ap (next_token at) e ∙ ap (option_map (token at (word ++ drop 6 text))) m
 
@@ -84,8 +84,8 @@ word_measure text m h e =
     let n : m.size ≡ 6 = sym (length-take-le m.size text s) ∙ ap length e in
     let f : take 6 text ≡ word = rw (← n) e in
     let t : text ≡ word ++ drop 6 text = sym (take-append-drop 6 text) ∙ ap (λ bs. bs ++ drop 6 text) f in
-    let z : 6 + run is_name_byte (drop 6 text) ≡ 6 = ap size_of (sym (measured_word (drop 6 text)) ∙ ap measured (sym t) ∙ h) ∙ n in
-    let r : run is_name_byte (drop 6 text) ≡ 0 = omega (arith, z) in
+    let z : 6 + leading is_name_byte (drop 6 text) ≡ 6 = ap size_of (sym (measured_word (drop 6 text)) ∙ ap measured (sym t) ∙ h) ∙ n in
+    let r : leading is_name_byte (drop 6 text) ≡ 0 = omega (arith, z) in
     ap names t ∙ ends_name (drop 6 text) r
 
 word_by : (o : Option Measure) (at : ℕ) (text : Text) (t : Token) → measured text ≡ o → option_map (token at text) o ≡ Some t → t.text ≡ word → names text ≡ true

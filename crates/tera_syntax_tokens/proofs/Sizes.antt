@@ -7,17 +7,17 @@ use Rattle.std.proofs.lemmas.List.{drop_more, drop_all, get_or-drop, get_or_past
 use Rattle.std.proofs.lemmas.Str.{IsCharBoundary-before_ascii, IsCharBoundary-after_ascii}
 use Rattle.std.specs.Str.{IsUtf8, IsCharBoundary}
 use Rattle.tera_errors.specs.Site.{Text}
-use Rattle.tera_syntax_tokens.specs.Bytes.{run}
+use Rattle.tera_syntax_tokens.specs.Bytes.{leading}
 use Rattle.tera_syntax_tokens.specs.declared.token.Kind.{Kind}
 use Rattle.tera_syntax_tokens.specs.declared.token.Kind.TheVariants as k
 use Rattle.tera_syntax_tokens.specs.declared.token.Measure.{Measure}
 use Rattle.tera_syntax_tokens.specs.Token.{Token, token, named, next_token, is_letter, is_digit, is_name_byte, is_quote, quoted, pair, single, of_size, or_else, sign, text_of_size, measured}
 use Rattle.tera_syntax_tokens.proofs.Positions.{by_order}
 
-pub run_le : (test : ℕ → Bool) (bs : Text) → run test bs ≤ length bs
-unfolding run
-run_le test [] = omega arith
-run_le test (b ∷ bs) = let h = run_le test bs in grind (arith, common_steps, h)
+pub leading_le : (test : ℕ → Bool) (bs : Text) → leading test bs ≤ length bs
+unfolding leading
+leading_le test [] = omega arith
+leading_le test (b ∷ bs) = let h = leading_le test bs in grind (arith, common_steps, h)
 
 -- a test that only ASCII passes
 abbrev IsLow : (ℕ → Bool) → Type 0
@@ -43,11 +43,11 @@ later : (t : Bool) (n k : ℕ) → suc k < (if t then suc n else 0) → k < n
 later true n k h = omega arith
 later false n k h = absurd (omega arith)
 
-run_low : (test : ℕ → Bool) → IsLow test → (bs : Text) (k : ℕ) → k < run test bs → get_or bs k 0 < 128
-unfolding run
-run_low test low [] k h = absurd (omega arith)
-run_low test low (b ∷ bs) zero h = first test low (test b) b (run test bs) refl h
-run_low test low (b ∷ bs) (suc k) h = run_low test low bs k (later (test b) (run test bs) k h)
+leading_low : (test : ℕ → Bool) → IsLow test → (bs : Text) (k : ℕ) → k < leading test bs → get_or bs k 0 < 128
+unfolding leading
+leading_low test low [] k h = absurd (omega arith)
+leading_low test low (b ∷ bs) zero h = first test low (test b) b (leading test bs) refl h
+leading_low test low (b ∷ bs) (suc k) h = leading_low test low bs k (later (test b) (leading test bs) k h)
 
 -- a measure of what the text begins with, between ASCII bytes
 pub record Sized (text : Text) (m : Measure) : Type 0 where
@@ -64,8 +64,8 @@ sized_by b bs m (suc k) e l f last =
     let p : m.size - 1 ≡ suc k = omega arith in
     record { some = omega arith; fits = omega arith; first = f; last = rw p (last k refl) }
 
-run_sized : (test : ℕ → Bool) → IsLow test → (kind : Kind) (b : ℕ) (bs : Text) → b < 128 → Sized (b ∷ bs) (record { kind = kind; size = 1 + run test bs })
-run_sized test low kind b bs f = sized_by b bs _ (run test bs) refl (run_le test bs) f (λ k e. run_low test low bs k (omega arith))
+leading_sized : (test : ℕ → Bool) → IsLow test → (kind : Kind) (b : ℕ) (bs : Text) → b < 128 → Sized (b ∷ bs) (record { kind = kind; size = 1 + leading test bs })
+leading_sized test low kind b bs f = sized_by b bs _ (leading test bs) refl (leading_le test bs) f (λ k e. leading_low test low bs k (omega arith))
 
 -- a quoted text ends with its quote
 abbrev Closed : Text → ℕ → ℕ → Type 0
@@ -163,12 +163,12 @@ measure_at : {text : Text} {m n : Measure} → m ≡ n → Sized text m → Size
 measure_at {text} e s = subst (Sized text) e s
 
 sized_one : (t u v : Bool) (b : ℕ) (bs : Text) (m : Measure) → is_letter b ≡ t → is_digit b ≡ u → is_quote b ≡ v
-    → (if t then Some (record { kind = k.Name; size = 1 + run is_name_byte bs }) else (
-    if u then Some (record { kind = k.Int; size = 1 + run is_digit bs }) else (
+    → (if t then Some (record { kind = k.Name; size = 1 + leading is_name_byte bs }) else (
+    if u then Some (record { kind = k.Int; size = 1 + leading is_digit bs }) else (
     if v then text_of_size (quoted b false bs) else sign b (get_or bs 0 0) (get_or bs 1 0)))) ≡ Some m → Sized (b ∷ bs) m
 unfolding sign
-sized_one true u v b bs m e f g h = measure_at (let s : record { kind = k.Name; size = 1 + run is_name_byte bs } ≡ m = cc in s) (run_sized is_name_byte name_low k.Name b bs (letter_low b e))
-sized_one false true v b bs m e f g h = measure_at (let s : record { kind = k.Int; size = 1 + run is_digit bs } ≡ m = cc in s) (run_sized is_digit digit_low k.Int b bs (digit_low b f))
+sized_one true u v b bs m e f g h = measure_at (let s : record { kind = k.Name; size = 1 + leading is_name_byte bs } ≡ m = cc in s) (leading_sized is_name_byte name_low k.Name b bs (letter_low b e))
+sized_one false true v b bs m e f g h = measure_at (let s : record { kind = k.Int; size = 1 + leading is_digit bs } ≡ m = cc in s) (leading_sized is_digit digit_low k.Int b bs (digit_low b f))
 sized_one false false true b bs m e f g h = text_sized b bs (quoted b false bs) m (quote_low b g) (λ n p. quoted_closed b false bs n p) h
 sized_one false false false b bs m e f g h = sign_by ((b == 46 && get_or bs 0 0 == 46) && get_or bs 1 0 == 46) b bs m refl h
 

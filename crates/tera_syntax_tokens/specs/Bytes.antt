@@ -13,9 +13,9 @@ position test [] = 0
 position test (b ∷ bs) = if test (b ∷ bs) then 0 else suc (position test bs)
 
 -- how many bytes at the front of the text pass the test
-unfoldable pub run : (ℕ → Bool) → Text → ℕ
-run test [] = 0
-run test (b ∷ bs) = if test b then suc (run test bs) else 0
+unfoldable pub leading : (ℕ → Bool) → Text → ℕ
+leading test [] = 0
+leading test (b ∷ bs) = if test b then suc (leading test bs) else 0
 
 -- the first byte of the text passes the test
 abbrev pub heads : (ℕ → Bool) → Text → Bool

@@ -60,8 +60,8 @@ span from j = record { start = from; end = j.last }
 
 -- the starts of the first n tokens, from the last on
 abbrev pub starts : List Token → ℕ → List ℕ
-starts run zero = []
-starts run (suc n) = start_of (drop n run) ∷ starts run n
+starts ahead zero = []
+starts ahead (suc n) = start_of (drop n ahead) ∷ starts ahead n
 
 -- the kind that is there is the one that is wanted
 abbrev pub same : Kind → Kind → Bool

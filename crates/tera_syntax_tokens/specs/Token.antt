@@ -3,7 +3,7 @@ use Rattle.std.specs.Prelude.{ℕ, suc, ◌+◌, List, [], ◌∷◌, map, take,
 use Rattle.std.specs.Str.{byte}
 use Rattle.tera_errors.specs.Site.{Text}
 use Rattle.tera_errors.specs.declared.span.Span.{Span}
-use Rattle.tera_syntax_tokens.specs.Bytes.{run}
+use Rattle.tera_syntax_tokens.specs.Bytes.{leading}
 use Rattle.tera_syntax_tokens.specs.declared.token.Kind.{Kind}
 use Rattle.tera_syntax_tokens.specs.declared.token.Kind.TheVariants as k
 use Rattle.tera_syntax_tokens.specs.declared.token.Measure.{Measure}
@@ -104,8 +104,8 @@ text_of_size (Some n) = Some (record { kind = k.Text; size = 1 + n })
 unfoldable pub measured : Text → Option Measure
 measured [] = None
 measured (b ∷ bs) =
-    if is_letter b then Some (record { kind = k.Name; size = 1 + run is_name_byte bs }) else (
-    if is_digit b then Some (record { kind = k.Int; size = 1 + run is_digit bs }) else (
+    if is_letter b then Some (record { kind = k.Name; size = 1 + leading is_name_byte bs }) else (
+    if is_digit b then Some (record { kind = k.Int; size = 1 + leading is_digit bs }) else (
     if is_quote b then text_of_size (quoted b false bs)
     else sign b (get_or bs 0 0) (get_or bs 1 0)))
 

@@ -49,12 +49,12 @@ fn begins_any(word: &[u8], bytes: &[u8]) -> bool
 
 /// How many bytes at the front of the text pass the test.
 #[inline(always)]
-#[tactic(auto, unfolding(crate::specs::Bytes::run))]
-pub(crate) fn run_len<F: Fn(u8) -> bool>(text: &[u8], passes: F) -> usize
+#[tactic(auto, unfolding(crate::specs::Bytes::leading))]
+pub(crate) fn leading_len<F: Fn(u8) -> bool>(text: &[u8], passes: F) -> usize
     requires { F.IsAlwaysCallable passes }
     ensures value { (test : ℕ → Bool) →
         ((b : _) (answer : Bool) → F.post passes b answer → answer ≡ test b) →
-        result ≡ spec.run test text.now }
+        result ≡ spec.leading test text.now }
     ensures within { result ≤ length text.now }
 {
     for (i, b) in text.iter().enumerate() {

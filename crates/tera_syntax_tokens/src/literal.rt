@@ -1,10 +1,10 @@
 // What literals stand for.
 ghost use Rattle.std.specs.Prelude.{◌≡◌, ◌<◌, ◌≤◌, ◌+◌, ◌-◌, drop, length, false, Some, IfOk, IfSome, string_bytes, get_or, option_map, IsTrue};
 ghost use Rattle.tera_syntax_tree.specs.Prelude.{quoted_of};
-ghost use Rattle.tera_syntax_tokens.specs.Bytes.{run};
+ghost use Rattle.tera_syntax_tokens.specs.Bytes.{leading};
 ghost use Rattle.tera_syntax_tokens.specs.Literal as spec;
 
-use crate::bytes::{after, run_len};
+use crate::bytes::{after, leading_len};
 use crate::token::is_quote;
 use std::alloc::{AllocError, Global};
 use tera_syntax_tree::Quoted;
@@ -62,10 +62,10 @@ fn escaped(b: u8) -> Option<u8>
 
 /// How many bytes there are before the first backslash.
 fn plain_len(text: &[u8]) -> usize
-    ensures value { result ≡ run spec.is_plain text.now }
+    ensures value { result ≡ leading spec.is_plain text.now }
     ensures within { result ≤ length text.now }
 {
-    run_len(text, |b| b != b'\\')
+    leading_len(text, |b| b != b'\\')
 }
 
 /// What a backslash before this position stands for, with the byte there.

@@ -1,10 +1,10 @@
 // Tokens of a tag.
 ghost use Rattle.std.specs.Prelude.{◌≡◌, ◌<◌, ◌≤◌, ◌+◌, ◌-◌, ◌^◌, length, drop, option_map, get_or, false, not, ◌&&◌, ◌==◌, IfSome};
-ghost use Rattle.tera_syntax_tokens.specs.Bytes.{run};
+ghost use Rattle.tera_syntax_tokens.specs.Bytes.{leading};
 ghost use Rattle.tera_syntax_tokens.specs.Token as spec;
 ghost use Rattle.tera_syntax_tokens.specs.Token.{token_of};
 
-use crate::bytes::{after, run_len};
+use crate::bytes::{after, leading_len};
 use tera_errors::Span;
 
 /// What a token is: a word, a number, a text or a sign. A reserved word has a kind of its own.
@@ -121,18 +121,18 @@ pub(crate) fn is_quote(b: u8) -> bool
 
 /// How many bytes of a name the text begins with.
 fn name_len(text: &[u8]) -> usize
-    ensures value { result ≡ run spec.is_name_byte text.now }
+    ensures value { result ≡ leading spec.is_name_byte text.now }
     ensures within { result ≤ length text.now }
 {
-    run_len(text, is_name_byte)
+    leading_len(text, is_name_byte)
 }
 
 /// How many digits the text begins with.
 fn digits_len(text: &[u8]) -> usize
-    ensures value { result ≡ run spec.is_digit text.now }
+    ensures value { result ≡ leading spec.is_digit text.now }
     ensures within { result ≤ length text.now }
 {
-    run_len(text, is_digit)
+    leading_len(text, is_digit)
 }
 
 /// The byte is this one, and no backslash takes it along.

@@ -1,4 +1,4 @@
-pub mod Runs
+pub mod Stretches
 pub mod Lanes
 pub mod Keys
 pub mod Positions

@@ -53,9 +53,9 @@ step t_ktrue z bs s = onto (kbool true) s
 step t_kint z bs s = onto (kint z) s
 step t_ktext z bs s = onto (ktext bs) s
 
-abbrev pub run : List Step → List Val → List Val
-run [] s = s
-run (p ∷ ps) s = run ps (step (tag p.0) p.1.0 p.1.1 s)
+abbrev pub decoded : List Step → List Val → List Val
+decoded [] s = s
+decoded (p ∷ ps) s = decoded ps (step (tag p.0) p.1.0 p.1.1 s)
 
 abbrev pub bare : ℕ → Step
 bare n = (n, (pos 0, []))
@@ -91,49 +91,50 @@ abbrev pub top : List Val → Val
 top [] = undefined
 top (v ∷ s) = v
 
-pub run-append : (ps qs : List Step) (s : List Val) → run (ps ++ qs) s ≡ run qs (run ps s)
-run-append [] qs s = refl
-run-append (p ∷ ps) qs s = run-append ps qs (step (tag p.0) p.1.0 p.1.1 s)
+pub decoded-append : (ps qs : List Step) (s : List Val)
+    → decoded (ps ++ qs) s ≡ decoded qs (decoded ps s)
+decoded-append [] qs s = refl
+decoded-append (p ∷ ps) qs s = decoded-append ps qs (step (tag p.0) p.1.0 p.1.1 s)
 
-pub run-key : (k : KeyVal) (v : Val) (es : Entries) (s : List Val)
-    → run (key_step k ∷ []) (v ∷ map es ∷ s) ≡ map (entry k v es) ∷ s
-run-key (kbool false) v es s = refl
-run-key (kbool true) v es s = refl
-run-key (kint z) v es s = refl
-run-key (ktext t) v es s = refl
+pub decoded-key : (k : KeyVal) (v : Val) (es : Entries) (s : List Val)
+    → decoded (key_step k ∷ []) (v ∷ map es ∷ s) ≡ map (entry k v es) ∷ s
+decoded-key (kbool false) v es s = refl
+decoded-key (kbool true) v es s = refl
+decoded-key (kint z) v es s = refl
+decoded-key (ktext t) v es s = refl
 
 mutual
-  pub run-steps : (v : Val) (s : List Val) → run (steps v) s ≡ v ∷ s
-  run-steps undefined s = refl
-  run-steps none s = refl
-  run-steps (bool false) s = refl
-  run-steps (bool true) s = refl
-  run-steps (int z) s = refl
-  run-steps (text t false) s = refl
-  run-steps (text t true) s = refl
-  run-steps (bytes t) s = refl
-  run-steps (array vs) s = run-items vs s
-  run-steps (map es) s = run-entries es s
+  pub decoded-steps : (v : Val) (s : List Val) → decoded (steps v) s ≡ v ∷ s
+  decoded-steps undefined s = refl
+  decoded-steps none s = refl
+  decoded-steps (bool false) s = refl
+  decoded-steps (bool true) s = refl
+  decoded-steps (int z) s = refl
+  decoded-steps (text t false) s = refl
+  decoded-steps (text t true) s = refl
+  decoded-steps (bytes t) s = refl
+  decoded-steps (array vs) s = decoded-items vs s
+  decoded-steps (map es) s = decoded-entries es s
 
-  pub run-items : (vs : Vals) (s : List Val) → run (item_steps vs) s ≡ array vs ∷ s
-  run-items no_items s = refl
-  run-items (item v vs) s =
-      run-append (item_steps vs ++ steps v) (bare 9 ∷ []) s
-      ∙ ap (run (bare 9 ∷ []))
-      (run-append (item_steps vs) (steps v) s ∙ ap (run (steps v)) (run-items vs s)
-      ∙ run-steps v (array vs ∷ s))
+  pub decoded-items : (vs : Vals) (s : List Val) → decoded (item_steps vs) s ≡ array vs ∷ s
+  decoded-items no_items s = refl
+  decoded-items (item v vs) s =
+      decoded-append (item_steps vs ++ steps v) (bare 9 ∷ []) s
+      ∙ ap (decoded (bare 9 ∷ []))
+      (decoded-append (item_steps vs) (steps v) s ∙ ap (decoded (steps v)) (decoded-items vs s)
+      ∙ decoded-steps v (array vs ∷ s))
 
-  pub run-entries : (es : Entries) (s : List Val) → run (entry_steps es) s ≡ map es ∷ s
-  run-entries no_entries s = refl
-  run-entries (entry k v es) s =
-      run-append (entry_steps es ++ steps v) (key_step k ∷ []) s
-      ∙ ap (run (key_step k ∷ []))
-      (run-append (entry_steps es) (steps v) s ∙ ap (run (steps v)) (run-entries es s)
-      ∙ run-steps v (map es ∷ s))
-      ∙ run-key k v es s
+  pub decoded-entries : (es : Entries) (s : List Val) → decoded (entry_steps es) s ≡ map es ∷ s
+  decoded-entries no_entries s = refl
+  decoded-entries (entry k v es) s =
+      decoded-append (entry_steps es ++ steps v) (key_step k ∷ []) s
+      ∙ ap (decoded (key_step k ∷ []))
+      (decoded-append (entry_steps es) (steps v) s ∙ ap (decoded (steps v)) (decoded-entries es s)
+      ∙ decoded-steps v (map es ∷ s))
+      ∙ decoded-key k v es s
 
-pub top-steps : (v : Val) → top (run (steps v) []) ≡ v
-top-steps v = ap top (run-steps v [])
+pub top-steps : (v : Val) → top (decoded (steps v) []) ≡ v
+top-steps v = ap top (decoded-steps v [])
 
 abbrev pub key_at : Tag → ℤ → List ℕ → KeyVal
 key_at t_ktrue z bs = kbool true
@@ -147,7 +148,7 @@ key_of p = key_at (tag p.0) p.1.0 p.1.1
 abbrev pub val_coding : Coded Val
 val_coding =
     code_by (List Step) (coded_list (coded× coded_ℕ (coded× coded_ℤ (coded_list coded_ℕ)))) steps
-    (λ ps. top (run ps [])) top-steps
+    (λ ps. top (decoded ps [])) top-steps
 
 pub key_of-step : (k : KeyVal) → key_of (key_step k) ≡ k
 key_of-step (kbool false) = refl

@@ -21,14 +21,14 @@ pub(crate) fn append(text: &str, out: &mut String) -> Result<(), AllocError>
 
 /// The same of a text that is often empty.
 #[inline]
-fn append_run(run: &str, out: &mut String) -> Result<(), AllocError>
-    ensures ok { OnOk result (string_bytes out.new ≡ string_bytes out.old ++ run.now) }
+fn append_stretch(stretch: &str, out: &mut String) -> Result<(), AllocError>
+    ensures ok { OnOk result (string_bytes out.new ≡ string_bytes out.old ++ stretch.now) }
     ensures keeps { Keeps (string_bytes out.old) (string_bytes out.new) }
 {
-    if run.is_empty() {
+    if stretch.is_empty() {
         Ok(())
     } else {
-        append(run, out)
+        append(stretch, out)
     }
 }
 
@@ -139,7 +139,7 @@ impl Forms for Quotes {
 
 /// Past the bytes that stand for themselves, sixteen at a time: a position of one that may not, or of the last few.
 #[inline]
-fn plain_run<F: Forms>(bytes: &[u8], from: usize) -> usize
+fn plain_stretch<F: Forms>(bytes: &[u8], from: usize) -> usize
     requires { from ≤ length bytes.now }
     ensures low { from ≤ result }
     ensures high { result ≤ length bytes.now }
@@ -165,29 +165,29 @@ fn next_form<F: Forms>(bytes: &[u8], from: usize) -> usize
     ensures high { result ≤ length bytes.now }
     ensures plain { IsPlain F.spelled bytes.now from result }
 {
-    let mut position = plain_run::<F>(bytes, from);
+    let mut position = plain_stretch::<F>(bytes, from);
     while position < bytes.len() && F::form(bytes[position]).is_none() {
         position += 1;
     }
     position
 }
 
-/// The same from the fifth byte of a run on, since the next form is often near; up to there the position itself.
+/// The same from the fifth byte of a stretch on, since the next form is often near; up to there the position itself.
 #[inline]
-fn next_of_run<F: Forms>(bytes: &[u8], run: usize, from: usize) -> usize
+fn next_of_stretch<F: Forms>(bytes: &[u8], stretch: usize, from: usize) -> usize
     requires { from ≤ length bytes.now }
     ensures low { from ≤ result }
     ensures high { result ≤ length bytes.now }
     ensures plain { IsPlain F.spelled bytes.now from result }
 {
-    if run < 4 {
+    if stretch < 4 {
         from
     } else {
         next_form::<F>(bytes, from)
     }
 }
 
-/// Appends the text, run by run between the bytes that have a form of their own.
+/// Appends the text, stretch by stretch between the bytes that have a form of their own.
 fn append_forms<F: Forms>(text: &str, out: &mut String) -> Result<(), AllocError>
     ensures ok { OnOk result (string_bytes out.new ≡ string_bytes out.old
         ++ by_byte F.spelled text.now) }
@@ -198,11 +198,11 @@ fn append_forms<F: Forms>(text: &str, out: &mut String) -> Result<(), AllocError
     let mut position = next_form::<F>(bytes, 0);
     while position < bytes.len() {
         if let Some(form) = F::form(bytes[position]) {
-            append_run(&text[start..position], out)?;
+            append_stretch(&text[start..position], out)?;
             append(form, out)?;
             start = position + 1;
         }
-        position = next_of_run::<F>(bytes, position + 1 - start, position + 1);
+        position = next_of_stretch::<F>(bytes, position + 1 - start, position + 1);
     }
     append(&text[start..], out)
 }

@@ -3,7 +3,7 @@ use Rattle.tera_values_data.specs.Val.{map, entries}
 use Rattle.tera_values_data.specs.View.{key_view, entry_views}
 use Rattle.tera_values_data.specs.Printed.{inside, key_text}
 use Rattle.tera_values_data.proofs.Sizes.{array_deeper, map_deeper}
-use Rattle.tera_values_data.proofs.Runs.{keeps_on}
+use Rattle.tera_values_data.proofs.Stretches.{keeps_on}
 use Rattle.tera_values_data.specs.declared.value.Entry.{Entry}
 use Rattle.tera_values_data.proofs.Listed.{listed, listed_more, listed_end, first_and_rest, four_more, closed, on_ok}
 use Rattle.tera_values_data.proofs.+printing.Goals as goal

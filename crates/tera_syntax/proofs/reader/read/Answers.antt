@@ -28,16 +28,16 @@ found_in : (meant : Option FoundPiece) (ts us : List Token) (x : found.FoundPiec
 found_in meant ts us x e h = h ∙ ap (λ ts. Some (found_of ts x)) e
 
 -- where nothing is left, all was read
-all_read : (d : Delims) (text rest : Text) (f : spec.File) (trims : Bool) (at : ℕ) → spec.spelled max_tree_depth (pieces d text) ≡ spec.file_run max_tree_depth f (cut d trims 0 at rest) → (length rest == 0) ≡ true → spec.spelled max_tree_depth (pieces d text) ≡ spec.file_finished f
+all_read : (d : Delims) (text rest : Text) (f : spec.File) (trims : Bool) (at : ℕ) → spec.spelled max_tree_depth (pieces d text) ≡ spec.file_read_on max_tree_depth f (cut d trims 0 at rest) → (length rest == 0) ≡ true → spec.spelled max_tree_depth (pieces d text) ≡ spec.file_finished f
 all_read d text rest f trims at so_far empty =
     let z : length rest ≡ 0 = (Decides-eqb (length rest) 0).0 empty in
-    so_far ∙ ap (spec.file_run max_tree_depth f) (cut_nothing d trims at rest z)
+    so_far ∙ ap (spec.file_read_on max_tree_depth f) (cut_nothing d trims at rest z)
 
 pub returns-in-Err-clause-value : goal.returns-in-Err-clause-value
 returns-in-Err-clause-value c =
     let l = some_bytes c.loop-rest.rest.now (sym c.is_empty.ensures ∙ c.loop-rest-test.true) in
     refused_too _ c.in-Err.refusal c.pointed.result c.pointed.ensures.same (refused c.in-Err.refusal (λ n. ap (option_and_then spec.once) (c.loop-rest.invariant.so_far
-    ∙ ap (spec.file_run max_tree_depth (file_of c.loop-rest.file)) (cut_broken (delimiters_of c.args.delimiters.now) c.loop-rest.trims c.loop-rest.at c.loop-rest.rest.now l n)
+    ∙ ap (spec.file_read_on max_tree_depth (file_of c.loop-rest.file)) (cut_broken (delimiters_of c.args.delimiters.now) c.loop-rest.trims c.loop-rest.at c.loop-rest.rest.now l n)
     ∙ file_broken max_tree_depth (file_of c.loop-rest.file)))
     c.in-Err.ensures.value)
 
@@ -47,8 +47,8 @@ returns-in-Err-step-clause-value c =
     let l = some_bytes c.loop-rest.rest.now (sym c.is_empty.ensures ∙ c.loop-rest-test.true) in
     let s = cut_step d c.loop-rest.trims c.loop-rest.at c.loop-rest.rest.now (found_of c.as_slice.result.now c.in-Ok.piece) l (found_in _ _ _ c.in-Ok.piece (sym c.as_slice.ensures.value) c.in-Ok.ensures.value) c.in-Ok.ensures.moves in
     refused c.in-Err-step.refusal (λ n. ap (option_and_then spec.once) (c.loop-rest.invariant.so_far
-    ∙ ap (spec.file_run max_tree_depth (file_of c.loop-rest.file)) s
-    ∙ ap (option_and_then (λ t. spec.file_run max_tree_depth t (cut d c.in-Ok.piece.trims 0 c.in-Ok.piece.next _))) n))
+    ∙ ap (spec.file_read_on max_tree_depth (file_of c.loop-rest.file)) s
+    ∙ ap (option_and_then (λ t. spec.file_read_on max_tree_depth t (cut d c.in-Ok.piece.trims 0 c.in-Ok.piece.next _))) n))
     c.in-Err-step.ensures.value
 
 pub returns-in-Err-clause-points : goal.returns-in-Err-clause-points
@@ -76,9 +76,9 @@ loop-rest-preserved c =
       position = omega (arith, f.0, f.1, k, c.loop-rest.invariant.position);
       known = c.in-Ok.ensures.known;
       so_far = c.loop-rest.invariant.so_far
-          ∙ ap (spec.file_run max_tree_depth (file_of c.loop-rest.file)) s
-          ∙ ap (option_and_then (λ t. spec.file_run max_tree_depth t (cut d c.in-Ok.piece.trims 0 c.in-Ok.piece.next _))) c.in-Ok-step.ensures.value
-          ∙ ap (λ text. spec.file_run max_tree_depth (file_of c.step.new.self) (cut d c.in-Ok.piece.trims 0 c.in-Ok.piece.next text)) (sym f.2);
+          ∙ ap (spec.file_read_on max_tree_depth (file_of c.loop-rest.file)) s
+          ∙ ap (option_and_then (λ t. spec.file_read_on max_tree_depth t (cut d c.in-Ok.piece.trims 0 c.in-Ok.piece.next _))) c.in-Ok-step.ensures.value
+          ∙ ap (λ text. spec.file_read_on max_tree_depth (file_of c.step.new.self) (cut d c.in-Ok.piece.trims 0 c.in-Ok.piece.next text)) (sym f.2);
     }
 
 pub returns-in_err-output-clause-value : goal.returns-in_err-output-clause-value

@@ -13,7 +13,7 @@ invariant-loop-rest l = record {
   utf8 : shadow (Utf8 l.rest);
   position : l.at + length l.rest ≡ length l.source;
   known : Knows (delimiters_of l.delimiters) l.rest l.opening;
-  so_far : spec.spelled max_tree_depth (pieces (delimiters_of l.delimiters) l.source) ≡ spec.file_run max_tree_depth (file_of l.file) (cut (delimiters_of l.delimiters) l.trims 0 l.at l.rest);
+  so_far : spec.spelled max_tree_depth (pieces (delimiters_of l.delimiters) l.source) ≡ spec.file_read_on max_tree_depth (file_of l.file) (cut (delimiters_of l.delimiters) l.trims 0 l.at l.rest);
 }
 
 abbrev pub decreases-loop-rest : goal.decreases-loop-rest

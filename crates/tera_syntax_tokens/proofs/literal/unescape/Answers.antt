@@ -1,7 +1,7 @@
 use Rattle.std.proofs.Common.{◌≡◌, ◌<◌, ◌+◌, ◌++◌, ◌∷◌, [], lit<, drop, get_or, length, ap, ◌∙◌, arith, false, string_bytes}
 use Rattle.std.proofs.lemmas.Str.{IsCharBoundary-start, IsCharBoundary-after_ascii}
 use Rattle.tera_syntax_tokens.specs.Literal.{unescaped, escape_of}
-use Rattle.tera_syntax_tokens.proofs.Literals.{plain_from, slash_at, end_boundary, wrote_run, wrote_escape, wrote_slash, wrote_all}
+use Rattle.tera_syntax_tokens.proofs.Literals.{plain_from, slash_at, end_boundary, wrote_leading, wrote_escape, wrote_slash, wrote_all}
 use Rattle.tera_syntax_tokens.proofs.literal.unescape.Goals as goal
 
 pub loop-from-init : goal.loop-from-init
@@ -17,7 +17,7 @@ range-requires-clause-end_boundary c =
 pub returns-then-end-bytes : goal.returns-then-end-bytes
 returns-then-end-bytes c =
     let p = plain_from c.as_bytes-bytes.ensures.value c.loop-from-test.true c.after.ensures c.plain_len.ensures.value c.plain_len.ensures.within in
-    wrote_all c.args.text.now (wrote_run _ c.loop-from.invariant.so_far p c.range.ensures.value c.in_ok-push_str.ensures.bytes) (omega (arith, ap length c.as_bytes-bytes.ensures.value, c.if-end-bytes.true))
+    wrote_all c.args.text.now (wrote_leading _ c.loop-from.invariant.so_far p c.range.ensures.value c.in_ok-push_str.ensures.bytes) (omega (arith, ap length c.as_bytes-bytes.ensures.value, c.if-end-bytes.true))
 
 pub loop-from-preserved-in-Some : goal.loop-from-preserved-in-Some
 loop-from-preserved-in-Some c =
@@ -31,7 +31,7 @@ loop-from-preserved-in-Some c =
     let two : e + 2 ≡ (e + 1) + 1 = omega arith in
     record {
       boundary = rw two (IsCharBoundary-after_ascii text (e + 1) c.utf8.text (omega (arith, s, d.1)) (omega (arith, g, d.2)));
-      so_far = wrote_escape _ text (wrote_run _ c.loop-from.invariant.so_far p c.range.ensures.value c.in_ok-push_str.ensures.bytes) l (slash_at p l)
+      so_far = wrote_escape _ text (wrote_leading _ c.loop-from.invariant.so_far p c.range.ensures.value c.in_ok-push_str.ensures.bytes) l (slash_at p l)
           (c.in-Some.ensures.value ∙ ap (λ t. escape_of (drop (e + 1) t)) c.as_bytes-bytes.ensures.value)
           (c.in_ok-push-in-Some.ensures.bytes ∙ ap (λ t. string_bytes c.push_str.new.self ++ t) (c.in_ok-push-in-Some.ensures.ascii (omega (arith, d.0)) ∙ ap (λ x. x ∷ []) c.from.ensures));
     }
@@ -44,7 +44,7 @@ loop-from-preserved c =
     let b = slash_at p l in
     record {
       boundary = IsCharBoundary-after_ascii c.args.text.now e c.utf8.text l (rw b (lit< tt));
-      so_far = wrote_slash _ c.args.text.now (wrote_run _ c.loop-from.invariant.so_far p c.range.ensures.value c.in_ok-push_str.ensures.bytes) l b
+      so_far = wrote_slash _ c.args.text.now (wrote_leading _ c.loop-from.invariant.so_far p c.range.ensures.value c.in_ok-push_str.ensures.bytes) l b
           (c.in-None.ensures.value ∙ ap (λ t. escape_of (drop (e + 1) t)) c.as_bytes-bytes.ensures.value)
           (c.in_ok-push-in-None.ensures.bytes ∙ ap (λ t. string_bytes c.push_str.new.self ++ t) (c.in_ok-push-in-None.ensures.ascii (lit< tt)));
     }

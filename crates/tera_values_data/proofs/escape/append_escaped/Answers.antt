@@ -1,7 +1,7 @@
 use Rattle.std.proofs.Common.{◌≡◌, ℕ, List, ◌++◌, string_bytes, length, subst, sym}
 use Rattle.std.specs.Prelude.{OnOk}
 use Rattle.tera_values_data.specs.Growth.{IsPlain}
-use Rattle.tera_values_data.proofs.Runs.{plain_text}
+use Rattle.tera_values_data.proofs.Stretches.{plain_text}
 use Rattle.tera_values_data.proofs.escape.append_escaped.Goals as goal
 
 pub returns-then-position-text-clause-ok : goal.returns-then-position-text-clause-ok

@@ -1,7 +1,7 @@
 use Rattle.std.proofs.Common.{◌≡◌, string_bytes, length, subst, sym, rules}
 use Rattle.std.proofs.lemmas.Str.{IsUtf8-string_bytes}
 use Rattle.std.specs.String.Boundary.{IsSplitPoint}
-use Rattle.tera_values_data.proofs.Runs.{split_point}
+use Rattle.tera_values_data.proofs.Stretches.{split_point}
 use Rattle.tera_values_data.proofs.escape.append_marked.Goals as goal
 
 pub truncate-requires : goal.truncate-requires

@@ -1,5 +1,5 @@
 use Rattle.std.proofs.Common.{◌-◌, length}
-use Rattle.tera_values_data.proofs.Runs.{IsPast}
+use Rattle.tera_values_data.proofs.Stretches.{IsPast}
 use Rattle.tera_values_data.proofs.escape.next_form.Given as goal
 
 abbrev pub invariant-loop-position : goal.invariant-loop-position

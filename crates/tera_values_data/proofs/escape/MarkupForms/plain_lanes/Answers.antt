@@ -1,5 +1,5 @@
 use Rattle.std.proofs.Common.{slice_index_or, nat_eq}
-use Rattle.tera_values_data.proofs.Runs.{last_form}
+use Rattle.tera_values_data.proofs.Stretches.{last_form}
 use Rattle.tera_values_data.proofs.escape.MarkupForms.plain_lanes.Goals as goal
 
 pub returns-clause-plain : goal.returns-clause-plain

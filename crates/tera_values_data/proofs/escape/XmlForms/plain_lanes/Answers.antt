@@ -1,5 +1,5 @@
 use Rattle.std.proofs.Common.{slice_index_or}
-use Rattle.tera_values_data.proofs.Runs.{plain_in_xml}
+use Rattle.tera_values_data.proofs.Stretches.{plain_in_xml}
 use Rattle.tera_values_data.proofs.escape.XmlForms.plain_lanes.Goals as goal
 
 pub returns-clause-plain : goal.returns-clause-plain

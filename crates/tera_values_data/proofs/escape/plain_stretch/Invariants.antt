@@ -1,6 +1,6 @@
 use Rattle.std.proofs.Common.{◌-◌, length}
-use Rattle.tera_values_data.proofs.Runs.{IsPast}
-use Rattle.tera_values_data.proofs.escape.plain_run.Given as goal
+use Rattle.tera_values_data.proofs.Stretches.{IsPast}
+use Rattle.tera_values_data.proofs.escape.plain_stretch.Given as goal
 
 abbrev pub invariant-loop-position : goal.invariant-loop-position
 invariant-loop-position g l = IsPast g.F.Forms.spelled l.bytes l.initial.position l.position

@@ -1,4 +1,4 @@
--- Runs of bytes that stand for themselves, and the bytes between them.
+-- Stretches of bytes that stand for themselves, and the bytes between them.
 use Rattle.std.proofs.Common.{◌≡◌, ℕ, zero, suc, ◌+◌, ◌-◌, ◌<◌, ◌≤◌, Bool, true, false, ◌||◌, cond, refl, List, [], ◌∷◌, ◌++◌, length, take, drop, get_or, sym, ap, ◌∙◌, arith, append_assoc, IsUtf8, length-append, nat_eq, subst, codes}
 use Rattle.std.proofs.lemmas.Str.{IsCharBoundary-from_take}
 use Rattle.std.proofs.Math.Seq.{take-append_seam}
@@ -27,9 +27,9 @@ keeps_on a b c h g = record { more = h.more ++ g.more; is = g.is ∙ ap (λ (t :
 pub by_byte_more : (f : ℕ → List ℕ) (t : List ℕ) (p : ℕ) → p < length t → by_byte f (drop p t) ≡ f (get_or t p 0) ++ by_byte f (drop (p + 1) t)
 by_byte_more f t p h = ap (by_byte f) (drop_more t p 0 h)
 
--- a byte that stands for itself lengthens the run from s to p
-pub run_more : (f : ℕ → List ℕ) (t : List ℕ) (s p : ℕ) → s ≤ p → p < length t → f (get_or t p 0) ≡ get_or t p 0 ∷ [] → take (p - s) (drop s t) ++ by_byte f (drop p t) ≡ take (p + 1 - s) (drop s t) ++ by_byte f (drop (p + 1) t)
-run_more f t s p o h e =
+-- a byte that stands for itself lengthens the stretch from s to p
+pub stretch_more : (f : ℕ → List ℕ) (t : List ℕ) (s p : ℕ) → s ≤ p → p < length t → f (get_or t p 0) ≡ get_or t p 0 ∷ [] → take (p - s) (drop s t) ++ by_byte f (drop p t) ≡ take (p + 1 - s) (drop s t) ++ by_byte f (drop (p + 1) t)
+stretch_more f t s p o h e =
     let b : ℕ = get_or t p 0 in
     let n : p + 1 - s ≡ (p - s) + 1 = omega arith in
     let m : s + (p - s) ≡ p = omega arith in
@@ -39,15 +39,15 @@ run_more f t s p o h e =
     let rest : by_byte f (drop p t) ≡ b ∷ by_byte f (drop (p + 1) t) = by_byte_more f t p h ∙ ap (λ (l : List ℕ). l ++ by_byte f (drop (p + 1) t)) e in
     ap (λ (l : List ℕ). take (p - s) (drop s t) ++ l) rest ∙ sym (ap (λ (l : List ℕ). l ++ by_byte f (drop (p + 1) t)) longer ∙ append_assoc (take (p - s) (drop s t)) (b ∷ []) (by_byte f (drop (p + 1) t)))
 
--- a run and the form after it are written, and the next run is empty
-pub run_done : (f : ℕ → List ℕ) (t : List ℕ) (s p : ℕ) (out later end form : List ℕ) → p < length t → f (get_or t p 0) ≡ form → later ≡ out ++ take (p - s) (drop s t) → end ≡ later ++ form → out ++ (take (p - s) (drop s t) ++ by_byte f (drop p t)) ≡ end ++ (take (p + 1 - (p + 1)) (drop (p + 1) t) ++ by_byte f (drop (p + 1) t))
-run_done f t s p out later end form h e l g =
+-- a stretch and the form after it are written, and the next stretch is empty
+pub stretch_done : (f : ℕ → List ℕ) (t : List ℕ) (s p : ℕ) (out later end form : List ℕ) → p < length t → f (get_or t p 0) ≡ form → later ≡ out ++ take (p - s) (drop s t) → end ≡ later ++ form → out ++ (take (p - s) (drop s t) ++ by_byte f (drop p t)) ≡ end ++ (take (p + 1 - (p + 1)) (drop (p + 1) t) ++ by_byte f (drop (p + 1) t))
+stretch_done f t s p out later end form h e l g =
     let n : p + 1 - (p + 1) ≡ 0 = omega arith in
     let rest : by_byte f (drop p t) ≡ form ++ by_byte f (drop (p + 1) t) = by_byte_more f t p h ∙ ap (λ (x : List ℕ). x ++ by_byte f (drop (p + 1) t)) e in
-    let run : List ℕ = take (p - s) (drop s t) in
+    let stretch : List ℕ = take (p - s) (drop s t) in
     let after : List ℕ = by_byte f (drop (p + 1) t) in
-    ap (λ (x : List ℕ). out ++ (run ++ x)) rest
-    ∙ sym (append_assoc out run (form ++ after))
+    ap (λ (x : List ℕ). out ++ (stretch ++ x)) rest
+    ∙ sym (append_assoc out stretch (form ++ after))
     ∙ ap (λ (x : List ℕ). x ++ (form ++ after)) (sym l)
     ∙ sym (append_assoc later form after)
     ∙ ap (λ (x : List ℕ). x ++ after) (sym g)
@@ -61,24 +61,24 @@ split_point old new u v h =
     let at = IsCharBoundary-from_take new (length old) v within (rw same u) in
     (within, λ _ more. at.1 more)
 
--- bytes that stand for themselves lengthen the run from s to p up to q
-pub run_on : (f : ℕ → List ℕ) (t : List ℕ) (s p n : ℕ) → s ≤ p → p + n ≤ length t → IsPlain f t p (p + n) → take (p - s) (drop s t) ++ by_byte f (drop p t) ≡ take (p + n - s) (drop s t) ++ by_byte f (drop (p + n) t)
-run_on f t s p zero o h plain = let same : p ≡ p + zero = omega arith in ap (λ (q : ℕ). take (q - s) (drop s t) ++ by_byte f (drop q t)) same
-run_on f t s p (suc n) o h plain =
-    let one = run_more f t s p o (omega arith) (plain p (omega arith) (omega arith)) in
-    let rest = run_on f t s (p + 1) n (omega arith) (omega arith) (λ k low high. plain k (omega arith) (omega arith)) in
+-- bytes that stand for themselves lengthen the stretch from s to p up to q
+pub stretch_on : (f : ℕ → List ℕ) (t : List ℕ) (s p n : ℕ) → s ≤ p → p + n ≤ length t → IsPlain f t p (p + n) → take (p - s) (drop s t) ++ by_byte f (drop p t) ≡ take (p + n - s) (drop s t) ++ by_byte f (drop (p + n) t)
+stretch_on f t s p zero o h plain = let same : p ≡ p + zero = omega arith in ap (λ (q : ℕ). take (q - s) (drop s t) ++ by_byte f (drop q t)) same
+stretch_on f t s p (suc n) o h plain =
+    let one = stretch_more f t s p o (omega arith) (plain p (omega arith) (omega arith)) in
+    let rest = stretch_on f t s (p + 1) n (omega arith) (omega arith) (λ k low high. plain k (omega arith) (omega arith)) in
     let same : p + 1 + n ≡ p + suc n = omega arith in
     one ∙ rest ∙ ap (λ (q : ℕ). take (q - s) (drop s t) ++ by_byte f (drop q t)) same
 
-pub run_to : (f : ℕ → List ℕ) (t : List ℕ) (s p q : ℕ) → s ≤ p → p ≤ q → q ≤ length t → IsPlain f t p q → take (p - s) (drop s t) ++ by_byte f (drop p t) ≡ take (q - s) (drop s t) ++ by_byte f (drop q t)
-run_to f t s p q o le h plain =
+pub stretch_to : (f : ℕ → List ℕ) (t : List ℕ) (s p q : ℕ) → s ≤ p → p ≤ q → q ≤ length t → IsPlain f t p q → take (p - s) (drop s t) ++ by_byte f (drop p t) ≡ take (q - s) (drop s t) ++ by_byte f (drop q t)
+stretch_to f t s p q o le h plain =
     let same : p + (q - p) ≡ q = omega arith in
-    run_on f t s p (q - p) o (omega arith) (λ k low high. plain k low (omega arith)) ∙ ap (λ (r : ℕ). take (r - s) (drop s t) ++ by_byte f (drop r t)) same
+    stretch_on f t s p (q - p) o (omega arith) (λ k low high. plain k low (omega arith)) ∙ ap (λ (r : ℕ). take (r - s) (drop s t) ++ by_byte f (drop r t)) same
 
 -- where all bytes stand for themselves, so does the text
 pub plain_text : (f : ℕ → List ℕ) (t : List ℕ) → IsPlain f t 0 (length t) → by_byte f t ≡ t
 plain_text f t plain =
-    run_to f t 0 0 (length t) (omega arith) (omega arith) (omega arith) plain
+    stretch_to f t 0 0 (length t) (omega arith) (omega arith) (omega arith) plain
     ∙ ap (λ (n : ℕ). take n t ++ by_byte f (drop (length t) t)) (omega arith)
     ∙ ap (λ (x : List ℕ). x ++ by_byte f (drop (length t) t)) (take_all (length t) t (omega arith))
     ∙ ap (λ (x : List ℕ). t ++ by_byte f x) (drop_all (length t) t (omega arith))

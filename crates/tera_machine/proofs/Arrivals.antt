@@ -14,7 +14,7 @@ use Rattle.tera_machine.specs.Config.{Config, Loop}
 use Rattle.tera_machine.specs.Did.{Goes}
 use Rattle.tera_machine.specs.Layers.{around_layers}
 use Rattle.tera_machine.specs.Captures.{dropped, past_body}
-use Rattle.tera_machine.specs.Act.{act}
+use Rattle.tera_machine.specs.Effect.{effect}
 use Rattle.tera_machine.proofs.Ends.{skip_leads, to_leads, out_leads}
 use Rattle.tera_machine.proofs.Literals.{push_all, seconds}
 use Rattle.tera_machine.proofs.Counted.{Spot, Reaches, Follows, Runs, done, reaches_none}
@@ -112,12 +112,12 @@ module _ (w : World) (place : Place) (code : Code) where
   arrive_passes p q n base drops i l e Broke r = (0, omega arith, reaches_none w place code (left code 1 drops base r))
   arrive_passes p q n base drops i l e Continued r = (0, omega arith, reaches_none w place code (left code 0 drops base r))
 
-  leaves : (ip n drops : ℕ) (operands : List Evaluated) (captures : List Text) (loops : List Loop) (r : Run) (i : Instruction) → n ≤ 1 → Fits code loops → slice_get code ip ≡ Some i → act (here_at w place) (ip + 1) i (config_at (record { operands = operands; captures = captures; loops = loops }) r) ≡ Goes (dropped drops (config_at (record { operands = operands; captures = captures; loops = loops }) r)) (past_body n loops) → Reaches w place code (spot ip (record { operands = operands; captures = captures; loops = loops }) r) 1 (left code n drops (record { operands = operands; captures = captures; loops = loops }) r)
+  leaves : (ip n drops : ℕ) (operands : List Evaluated) (captures : List Text) (loops : List Loop) (r : Run) (i : Instruction) → n ≤ 1 → Fits code loops → slice_get code ip ≡ Some i → effect (here_at w place) (ip + 1) i (config_at (record { operands = operands; captures = captures; loops = loops }) r) ≡ Goes (dropped drops (config_at (record { operands = operands; captures = captures; loops = loops }) r)) (past_body n loops) → Reaches w place code (spot ip (record { operands = operands; captures = captures; loops = loops }) r) 1 (left code n drops (record { operands = operands; captures = captures; loops = loops }) r)
   leaves ip n drops operands captures [] r i l fits e a = out_leads w place code ip _ _ i e a
   leaves ip n drops operands captures (o ∷ ls) r i l fits e a =
       to_leads w place code ip o.start (o.size + n) _ _ i e a (omega (arith, fits, l))
 
   -- a way out of the innermost loop's body
-  pub leave_leads : (ip n drops : ℕ) (base : Base) (r : Run) (i : Instruction) → n ≤ 1 → Fits code base.loops → slice_get code ip ≡ Some i → act (here_at w place) (ip + 1) i (config_at base r) ≡ Goes (dropped drops (config_at base r)) (past_body n base.loops) → Reaches w place code (spot ip base r) 1 (left code n drops base r)
+  pub leave_leads : (ip n drops : ℕ) (base : Base) (r : Run) (i : Instruction) → n ≤ 1 → Fits code base.loops → slice_get code ip ≡ Some i → effect (here_at w place) (ip + 1) i (config_at base r) ≡ Goes (dropped drops (config_at base r)) (past_body n base.loops) → Reaches w place code (spot ip base r) 1 (left code n drops base r)
   leave_leads ip n drops base r i l fits e a =
       leaves ip n drops base.operands base.captures base.loops r i l fits e a

@@ -17,7 +17,7 @@ use Rattle.tera_code.specs.declared.instruction.Instruction.TheVariants as instr
 use Rattle.tera_code.specs.Code.{Code, expr_code, node_code, nodes_code, choice_tail, loop_tail, print_code, is_context}
 use Rattle.tera_machine.specs.Flow.{Written}
 use Rattle.tera_machine.specs.Loops.{begun_with}
-use Rattle.tera_machine.specs.Act.{act, put_out}
+use Rattle.tera_machine.specs.Effect.{effect, put_out}
 use Rattle.tera_machine.proofs.Places.{StandsAt, stands_front, stands_back, parts, round}
 use Rattle.tera_machine.proofs.Counted.{Runs, Below, done, spend, step, first, fail, adjust, onward_runs, answered_runs, choice_runs, jump_after, asked_runs}
 use Rattle.tera_machine.proofs.Arrivals.{Base, over, in_loop, captured_over, config_at, spot, writing, Fits, Arrive, arrive_at, go_on_runs, arrive_passes, leave_leads}
@@ -33,7 +33,7 @@ module _ (w : World) (place : Place) (code : Code) (below : Below w place) where
   call = whole w place
 
   -- one instruction, which puts a text out
-  put_out_runs : (ip : ℕ) (stack : List Evaluated) (rest : Base) (r : Run) (drops s : ℕ) (o : Result site.Text Fault) (i : Instruction) → slice_get code ip ≡ Some i → act here (ip + 1) i (config_at (record rest { operands = stack }) r) ≡ put_out o (config_at rest r) → Runs w place code (spot ip (record rest { operands = stack }) r) (s + 1) 0 (Arrive code (ip + 1) rest drops) (onward (answered o r) writes)
+  put_out_runs : (ip : ℕ) (stack : List Evaluated) (rest : Base) (r : Run) (drops s : ℕ) (o : Result site.Text Fault) (i : Instruction) → slice_get code ip ≡ Some i → effect here (ip + 1) i (config_at (record rest { operands = stack }) r) ≡ put_out o (config_at rest r) → Runs w place code (spot ip (record rest { operands = stack }) r) (s + 1) 0 (Arrive code (ip + 1) rest drops) (onward (answered o r) writes)
   put_out_runs ip stack rest r drops s (Ok text) i at e = first w place code _ s i at e (done w place code (omega arith))
   put_out_runs ip stack rest r drops s (Err f) i at e = fail w place code {s = s} f i (omega arith) at e
 

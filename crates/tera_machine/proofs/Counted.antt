@@ -10,7 +10,7 @@ use Rattle.tera_code.specs.Code.{Code}
 use Rattle.tera_machine.specs.Config.{Config}
 use Rattle.tera_machine.specs.Flow.{Use, On, Skip, Ask}
 use Rattle.tera_machine.specs.Did.{Goes, Faults}
-use Rattle.tera_machine.specs.Act.{act, branched}
+use Rattle.tera_machine.specs.Effect.{effect, branched}
 use Rattle.tera_machine.specs.Exec.{Finished, Broken, used, Ends, BodyEnds}
 use Rattle.tera_machine.specs.Advance.{Leads}
 use Rattle.tera_machine.proofs.Ends.{after-none, step_ends, further, on_leads, skip_leads, ask_leads, ask_breaks}
@@ -92,12 +92,12 @@ module _ (w : World) (place : Place) (code : Code) where
   step {a = a} b s {t = t} {goal = goal} {x = x} g h = record { by = step_comes a b s t goal x g h.by }
 
   -- one instruction, and the rest
-  pub first : {A : Type 0} {ip : ℕ} {c : Config} (c2 : Config) (s : ℕ) {t : ℕ} {goal : A → Run → Spot} {x : Answer A} (i : Instruction) → slice_get code ip ≡ Some i → act (here_at w place) (ip + 1) i c ≡ Goes c2 On → Runs (record { ip = ip + 1; config = c2 }) s t goal x → Runs (record { ip = ip; config = c }) (s + 1) t goal x
+  pub first : {A : Type 0} {ip : ℕ} {c : Config} (c2 : Config) (s : ℕ) {t : ℕ} {goal : A → Run → Spot} {x : Answer A} (i : Instruction) → slice_get code ip ≡ Some i → effect (here_at w place) (ip + 1) i c ≡ Goes c2 On → Runs (record { ip = ip + 1; config = c2 }) s t goal x → Runs (record { ip = ip; config = c }) (s + 1) t goal x
   first {ip = ip} {c = c} c2 s i e a h =
       step (record { ip = ip + 1; config = c2 }) s (on_leads w place code ip c c2 i e a) h
 
   -- one instruction, which jumps
-  pub jump : {A : Type 0} {ip : ℕ} {c : Config} (c2 : Config) (s n : ℕ) {t : ℕ} {goal : A → Run → Spot} {x : Answer A} (i : Instruction) → slice_get code ip ≡ Some i → act (here_at w place) (ip + 1) i c ≡ Goes c2 (Skip n) → ip + 1 + n ≤ length code → Runs (record { ip = ip + 1 + n; config = c2 }) s t goal x → Runs (record { ip = ip; config = c }) (s + 1) t goal x
+  pub jump : {A : Type 0} {ip : ℕ} {c : Config} (c2 : Config) (s n : ℕ) {t : ℕ} {goal : A → Run → Spot} {x : Answer A} (i : Instruction) → slice_get code ip ≡ Some i → effect (here_at w place) (ip + 1) i c ≡ Goes c2 (Skip n) → ip + 1 + n ≤ length code → Runs (record { ip = ip + 1 + n; config = c2 }) s t goal x → Runs (record { ip = ip; config = c }) (s + 1) t goal x
   jump {ip = ip} {c = c} c2 s n i e a l h =
       step (record { ip = ip + 1 + n; config = c2 }) s (skip_leads w place code ip n c c2 i e a l) h
 
@@ -111,7 +111,7 @@ module _ (w : World) (place : Place) (code : Code) where
       record { by = adjust_comes from s t s' t' goal x l h.by }
 
   -- one instruction, which faults
-  pub fail : {A : Type 0} {ip : ℕ} {c : Config} {s t : ℕ} {goal : A → Run → Spot} (f : Fault) (i : Instruction) → t ≤ s → slice_get code ip ≡ Some i → act (here_at w place) (ip + 1) i c ≡ Faults f → Runs (record { ip = ip; config = c }) (s + 1) t goal (Failed f 0)
+  pub fail : {A : Type 0} {ip : ℕ} {c : Config} {s t : ℕ} {goal : A → Run → Spot} (f : Fault) (i : Instruction) → t ≤ s → slice_get code ip ≡ Some i → effect (here_at w place) (ip + 1) i c ≡ Faults f → Runs (record { ip = ip; config = c }) (s + 1) t goal (Failed f 0)
   fail {ip = ip} {c = c} f i l e a =
       record { by = (1, omega (arith, l), step_ends w place code ip c i (Faults f) 0 (Broken f 0) e a refl) }
 
@@ -157,12 +157,12 @@ module _ (w : World) (place : Place) (code : Code) where
       record { by = where_comes P from s t u goal goal' x go l p h.by k }
 
   -- one instruction, which chooses what comes next
-  pub choice_runs : {B : Type 0} {ip : ℕ} {c : Config} (go stay : Config) (s skip : ℕ) {t : ℕ} {goal : B → Run → Spot} (b : Bool) (m n : Meaning B) (r : Run) (i : Instruction) → slice_get code ip ≡ Some i → act (here_at w place) (ip + 1) i c ≡ branched b go skip stay → ip + 1 + skip ≤ length code → Runs (record { ip = ip + 1; config = go }) s t goal (m r) → Runs (record { ip = ip + 1 + skip; config = stay }) s t goal (n r) → Runs (record { ip = ip; config = c }) (s + 1) t goal (if_else b m n r)
+  pub choice_runs : {B : Type 0} {ip : ℕ} {c : Config} (go stay : Config) (s skip : ℕ) {t : ℕ} {goal : B → Run → Spot} (b : Bool) (m n : Meaning B) (r : Run) (i : Instruction) → slice_get code ip ≡ Some i → effect (here_at w place) (ip + 1) i c ≡ branched b go skip stay → ip + 1 + skip ≤ length code → Runs (record { ip = ip + 1; config = go }) s t goal (m r) → Runs (record { ip = ip + 1 + skip; config = stay }) s t goal (n r) → Runs (record { ip = ip; config = c }) (s + 1) t goal (if_else b m n r)
   choice_runs go stay s skip true m n r i e a l f g = first go s i e a f
   choice_runs go stay s skip false m n r i e a l f g = jump stay s skip i e a l g
 
   -- the same, where it chooses by the opposite
-  pub choice_not_runs : {B : Type 0} {ip : ℕ} {c : Config} (go stay : Config) (s skip : ℕ) {t : ℕ} {goal : B → Run → Spot} (b : Bool) (m n : Meaning B) (r : Run) (i : Instruction) → slice_get code ip ≡ Some i → act (here_at w place) (ip + 1) i c ≡ branched (not b) go skip stay → ip + 1 + skip ≤ length code → Runs (record { ip = ip + 1; config = go }) s t goal (n r) → Runs (record { ip = ip + 1 + skip; config = stay }) s t goal (m r) → Runs (record { ip = ip; config = c }) (s + 1) t goal (if_else b m n r)
+  pub choice_not_runs : {B : Type 0} {ip : ℕ} {c : Config} (go stay : Config) (s skip : ℕ) {t : ℕ} {goal : B → Run → Spot} (b : Bool) (m n : Meaning B) (r : Run) (i : Instruction) → slice_get code ip ≡ Some i → effect (here_at w place) (ip + 1) i c ≡ branched (not b) go skip stay → ip + 1 + skip ≤ length code → Runs (record { ip = ip + 1; config = go }) s t goal (n r) → Runs (record { ip = ip + 1 + skip; config = stay }) s t goal (m r) → Runs (record { ip = ip; config = c }) (s + 1) t goal (if_else b m n r)
   choice_not_runs go stay s skip true m n r i e a l f g = jump stay s skip i e a l g
   choice_not_runs go stay s skip false m n r i e a l f g = first go s i e a f
 
@@ -191,7 +191,7 @@ module _ (w : World) (place : Place) (code : Code) where
       record { by = none_comes from s t goal x h.by }
 
   -- what is answered, by one instruction that faults where that is a fault
-  pub answered_runs : {A B : Type 0} {ip : ℕ} {c : Config} (s : ℕ) {t : ℕ} {goal : B → Run → Spot} (o : Result A Fault) (r : Run) (go : A → Meaning B) (i : Instruction) → t ≤ s → slice_get code ip ≡ Some i → ((f : Fault) → o ≡ Err f → act (here_at w place) (ip + 1) i c ≡ Faults f) → ((a : A) → o ≡ Ok a → Runs (record { ip = ip; config = c }) (s + 1) t goal (go a r)) → Runs (record { ip = ip; config = c }) (s + 1) t goal (onward (answered o r) go)
+  pub answered_runs : {A B : Type 0} {ip : ℕ} {c : Config} (s : ℕ) {t : ℕ} {goal : B → Run → Spot} (o : Result A Fault) (r : Run) (go : A → Meaning B) (i : Instruction) → t ≤ s → slice_get code ip ≡ Some i → ((f : Fault) → o ≡ Err f → effect (here_at w place) (ip + 1) i c ≡ Faults f) → ((a : A) → o ≡ Ok a → Runs (record { ip = ip; config = c }) (s + 1) t goal (go a r)) → Runs (record { ip = ip; config = c }) (s + 1) t goal (onward (answered o r) go)
   answered_runs s (Ok a) r go i l e f k = none (k a refl)
   answered_runs s (Err fault) r go i l e f k = fail {s = s} fault i l e (f fault refl)
 
@@ -209,7 +209,7 @@ module _ (w : World) (place : Place) (code : Code) where
   rest_asked a b k s t n goal (Failed f w) l g h = (1 + k + h.0, omega (arith, h.1, l), breaks_then a b (1 + k) h.0 f g h.2)
   rest_asked a b k s t n goal (Gave x r w) l g h = (1 + k + h.0, omega (arith, h.1, l), reaches_then a b (goal x r) (1 + k) h.0 g h.2)
 
-  asked_comes : {B : Type 0} (ip s t : ℕ) (c c2 : Config) (goal : B → Run → Spot) (q : Request) (u : Use) (r : Run) (go : Text → Meaning B) (i : Instruction) (x : Answer Signal) → t ≤ s → slice_get code ip ≡ Some i → act (here_at w place) (ip + 1) i c ≡ Goes c2 (Ask q u) → Asked w place q u c2 x → ((after : Run) → Runs (record { ip = ip + 1; config = used u after c2 }) s t goal (go after.text (joined r after))) → Comes (record { ip = ip; config = c }) (s + 1) t goal (onward (joined_answer r x) go)
+  asked_comes : {B : Type 0} (ip s t : ℕ) (c c2 : Config) (goal : B → Run → Spot) (q : Request) (u : Use) (r : Run) (go : Text → Meaning B) (i : Instruction) (x : Answer Signal) → t ≤ s → slice_get code ip ≡ Some i → effect (here_at w place) (ip + 1) i c ≡ Goes c2 (Ask q u) → Asked w place q u c2 x → ((after : Run) → Runs (record { ip = ip + 1; config = used u after c2 }) s t goal (go after.text (joined r after))) → Comes (record { ip = ip; config = c }) (s + 1) t goal (onward (joined_answer r x) go)
   asked_comes ip s t c c2 goal q u r go i (Failed f n) l e a h k =
       (1 + h.0, omega (arith, l, h.1), ask_breaks w place code ip c c2 i q u h.0 f e a h.2)
   asked_comes ip s t c c2 goal q u r go i (Gave signal after n) l e a h k =
@@ -219,7 +219,7 @@ module _ (w : World) (place : Place) (code : Code) where
       rest_asked from to h.0 s t n goal (go after.text (joined r after)) h.1 at (k after).by
 
   -- one instruction, which takes another body
-  pub asked_runs : {B : Type 0} {ip : ℕ} {c : Config} (c2 : Config) (s : ℕ) {t : ℕ} {goal : B → Run → Spot} (q : Request) (u : Use) (r : Run) (go : Text → Meaning B) (i : Instruction) (x : Answer Signal) → t ≤ s → slice_get code ip ≡ Some i → act (here_at w place) (ip + 1) i c ≡ Goes c2 (Ask q u) → Asked w place q u c2 x → ((after : Run) → Runs (record { ip = ip + 1; config = used u after c2 }) s t goal (go after.text (joined r after))) → Runs (record { ip = ip; config = c }) (s + 1) t goal (onward (joined_answer r x) go)
+  pub asked_runs : {B : Type 0} {ip : ℕ} {c : Config} (c2 : Config) (s : ℕ) {t : ℕ} {goal : B → Run → Spot} (q : Request) (u : Use) (r : Run) (go : Text → Meaning B) (i : Instruction) (x : Answer Signal) → t ≤ s → slice_get code ip ≡ Some i → effect (here_at w place) (ip + 1) i c ≡ Goes c2 (Ask q u) → Asked w place q u c2 x → ((after : Run) → Runs (record { ip = ip + 1; config = used u after c2 }) s t goal (go after.text (joined r after))) → Runs (record { ip = ip; config = c }) (s + 1) t goal (onward (joined_answer r x) go)
   asked_runs {ip = ip} {c = c} c2 s {t = t} {goal = goal} q u r go i x l e a h k =
       record { by = asked_comes ip s t c c2 goal q u r go i x l e a h k }
 

@@ -10,7 +10,7 @@ use Rattle.tera_code.specs.Code.{Code, nodes_code}
 use Rattle.tera_machine.specs.Config.{Config}
 use Rattle.tera_machine.specs.Flow.{Use, On, Skip, To, Out, Ask}
 use Rattle.tera_machine.specs.Did.{Did, Goes, Faults, Sticks}
-use Rattle.tera_machine.specs.Act.{act}
+use Rattle.tera_machine.specs.Effect.{effect}
 use Rattle.tera_machine.specs.Exec.{End, Finished, Broken, Unfinished, Stuck, after, then_on, Runner, entered, leaving, taken, within_code, follow, body_by, fetched, exec, Within, IsOver, Ends, EndsWithin, BodyEnds}
 use Rattle.tera_machine.specs.Advance.{Leads}
 
@@ -92,7 +92,7 @@ module _ (w : World) where
   fetched_extends : (f g : Runner) → AllExtend f g → (p : Place) (code : Code) (o : Option Instruction) (ip : ℕ) (c : Config) → Extends (fetched w f p code o ip c) (fetched w g p code o ip c)
   fetched_extends f g e p code None ip c = λ over. refl
   fetched_extends f g e p code (Some i) ip c =
-      after_extends 1 _ _ (follow_extends f g e p code ip (act (here_at w p) (ip + 1) i c))
+      after_extends 1 _ _ (follow_extends f g e p code ip (effect (here_at w p) (ip + 1) i c))
 
   deeper : (m n : ℕ) → m ≤ n → AllExtend (exec w m) (exec w n)
   unfolding exec
@@ -125,16 +125,16 @@ module _ (w : World) where
     pub ends_here : (ip : ℕ) (c : Config) → slice_get code ip ≡ None → Ends w p code ip c (Finished c 0)
     ends_here ip c e = record { depth = 1; is = at_end 0 ip c e }
 
-    one_step : (n ip : ℕ) (c : Config) (i : Instruction) (d : Did) → slice_get code ip ≡ Some i → act (here_at w p) (ip + 1) i c ≡ d → exec w (suc n) p code ip c ≡ after 1 (follow (length code) (body_by w (exec w n) p) (exec w n p code) ip d)
+    one_step : (n ip : ℕ) (c : Config) (i : Instruction) (d : Did) → slice_get code ip ≡ Some i → effect (here_at w p) (ip + 1) i c ≡ d → exec w (suc n) p code ip c ≡ after 1 (follow (length code) (body_by w (exec w n) p) (exec w n p code) ip d)
     unfolding exec
     one_step n ip c i d e a =
         ap (λ o. fetched w (exec w n) p code o ip c) e ∙ ap (λ x. after 1 (follow (length code) (body_by w (exec w n) p) (exec w n p code) ip x)) a
 
     -- an instruction, and how the run goes on from it
-    pub step_ends : (ip : ℕ) (c : Config) (i : Instruction) (d : Did) (n : ℕ) (o : End) → slice_get code ip ≡ Some i → act (here_at w p) (ip + 1) i c ≡ d → follow (length code) (body_by w (exec w n) p) (exec w n p code) ip d ≡ o → Ends w p code ip c (after 1 o)
+    pub step_ends : (ip : ℕ) (c : Config) (i : Instruction) (d : Did) (n : ℕ) (o : End) → slice_get code ip ≡ Some i → effect (here_at w p) (ip + 1) i c ≡ d → follow (length code) (body_by w (exec w n) p) (exec w n p code) ip d ≡ o → Ends w p code ip c (after 1 o)
     step_ends ip c i d n o e a x = record { depth = suc n; is = one_step n ip c i d e a ∙ ap (after 1) x }
 
-    within_step_at : (n ip : ℕ) (c : Config) (i : Instruction) (d : Did) (m : ℕ) → Within m (exec w n p code ip c) → slice_get code ip ≡ Some i → act (here_at w p) (ip + 1) i c ≡ d → (k : ℕ) × (1 ≤ m) × Within (m - 1) (follow (length code) (body_by w (exec w k) p) (exec w k p code) ip d)
+    within_step_at : (n ip : ℕ) (c : Config) (i : Instruction) (d : Did) (m : ℕ) → Within m (exec w n p code ip c) → slice_get code ip ≡ Some i → effect (here_at w p) (ip + 1) i c ≡ d → (k : ℕ) × (1 ≤ m) × Within (m - 1) (follow (length code) (body_by w (exec w k) p) (exec w k p code) ip d)
     unfolding exec
     within_step_at zero ip c i d m x e a = absurd x
     within_step_at (suc n) ip c i d m x e a =
@@ -143,7 +143,7 @@ module _ (w : World) where
         (n, q.0, q.1)
 
     -- a run that ends within a bound goes on by its instruction
-    pub within_step : (ip : ℕ) (c : Config) (i : Instruction) (d : Did) (m : ℕ) → EndsWithin w p code ip c m → slice_get code ip ≡ Some i → act (here_at w p) (ip + 1) i c ≡ d → (k : ℕ) × (1 ≤ m) × Within (m - 1) (follow (length code) (body_by w (exec w k) p) (exec w k p code) ip d)
+    pub within_step : (ip : ℕ) (c : Config) (i : Instruction) (d : Did) (m : ℕ) → EndsWithin w p code ip c m → slice_get code ip ≡ Some i → effect (here_at w p) (ip + 1) i c ≡ d → (k : ℕ) × (1 ≤ m) × Within (m - 1) (follow (length code) (body_by w (exec w k) p) (exec w k p code) ip d)
     within_step ip c i d m x e a = within_step_at x.depth ip c i d m x.within e a
 
     -- one stretch more
@@ -153,23 +153,23 @@ module _ (w : World) where
     }
 
     -- an instruction that goes on at the next one
-    pub on_leads : (ip : ℕ) (c c2 : Config) (i : Instruction) → slice_get code ip ≡ Some i → act (here_at w p) (ip + 1) i c ≡ Goes c2 On → Leads w p code ip c 1 (ip + 1) c2
+    pub on_leads : (ip : ℕ) (c c2 : Config) (i : Instruction) → slice_get code ip ≡ Some i → effect (here_at w p) (ip + 1) i c ≡ Goes c2 On → Leads w p code ip c 1 (ip + 1) c2
     on_leads ip c c2 i e a = record { by = λ o over x. step_ends ip c i (Goes c2 On) x.depth o e a x.is }
 
     within : (n to : ℕ) (c : Config) (o : End) → to ≤ length code → exec w n p code to c ≡ o → within_code (length code) (exec w n p code) to c ≡ o
     within n to c o l x = ap (λ b. cond b (exec w n p code to c) Stuck) (le-leb to (length code) l) ∙ x
 
     -- a jump that ends within the code
-    pub skip_leads : (ip n : ℕ) (c c2 : Config) (i : Instruction) → slice_get code ip ≡ Some i → act (here_at w p) (ip + 1) i c ≡ Goes c2 (Skip n) → ip + 1 + n ≤ length code → Leads w p code ip c 1 (ip + 1 + n) c2
+    pub skip_leads : (ip n : ℕ) (c c2 : Config) (i : Instruction) → slice_get code ip ≡ Some i → effect (here_at w p) (ip + 1) i c ≡ Goes c2 (Skip n) → ip + 1 + n ≤ length code → Leads w p code ip c 1 (ip + 1 + n) c2
     skip_leads ip n c c2 i e a l =
         record { by = λ o over x. step_ends ip c i (Goes c2 (Skip n)) x.depth o e a (within x.depth (ip + 1 + n) c2 o l x.is) }
 
-    pub to_leads : (ip q n : ℕ) (c c2 : Config) (i : Instruction) → slice_get code ip ≡ Some i → act (here_at w p) (ip + 1) i c ≡ Goes c2 (To q n) → q + n ≤ length code → Leads w p code ip c 1 (q + n) c2
+    pub to_leads : (ip q n : ℕ) (c c2 : Config) (i : Instruction) → slice_get code ip ≡ Some i → effect (here_at w p) (ip + 1) i c ≡ Goes c2 (To q n) → q + n ≤ length code → Leads w p code ip c 1 (q + n) c2
     to_leads ip q n c c2 i e a l =
         record { by = λ o over x. step_ends ip c i (Goes c2 (To q n)) x.depth o e a (within x.depth (q + n) c2 o l x.is) }
 
     -- an instruction that goes to the end
-    pub out_leads : (ip : ℕ) (c c2 : Config) (i : Instruction) → slice_get code ip ≡ Some i → act (here_at w p) (ip + 1) i c ≡ Goes c2 Out → Leads w p code ip c 1 (length code) c2
+    pub out_leads : (ip : ℕ) (c c2 : Config) (i : Instruction) → slice_get code ip ≡ Some i → effect (here_at w p) (ip + 1) i c ≡ Goes c2 Out → Leads w p code ip c 1 (length code) c2
     out_leads ip c c2 i e a = record { by = λ o over x. step_ends ip c i (Goes c2 Out) x.depth o e a x.is }
 
     -- a body that ends, and how the run goes on
@@ -179,11 +179,11 @@ module _ (w : World) where
         let rest = deeper n (b + n) (omega arith) p code (ip + 1) c3 (subst IsOver (sym x) over) ∙ x in
         ap (λ z. then_on z (exec w (b + n) p code (ip + 1))) deep ∙ ap (after j) rest
 
-    pub ask_leads : (ip : ℕ) (c c2 c3 : Config) (i : Instruction) (q : Request) (u : Use) (j : ℕ) → slice_get code ip ≡ Some i → act (here_at w p) (ip + 1) i c ≡ Goes c2 (Ask q u) → BodyEnds w p q u c2 (Finished c3 j) → Leads w p code ip c (1 + j) (ip + 1) c3
+    pub ask_leads : (ip : ℕ) (c c2 c3 : Config) (i : Instruction) (q : Request) (u : Use) (j : ℕ) → slice_get code ip ≡ Some i → effect (here_at w p) (ip + 1) i c ≡ Goes c2 (Ask q u) → BodyEnds w p q u c2 (Finished c3 j) → Leads w p code ip c (1 + j) (ip + 1) c3
     ask_leads ip c c2 c3 i q u j e a y = record {
       by = λ o over x. subst (Ends w p code ip c) (after-after 1 j o) (step_ends ip c i (Goes c2 (Ask q u)) (y.depth + x.depth) (after j o) e a (asked_at y.depth x.depth ip c2 c3 q u j o over y.is x.is));
     }
 
-    pub ask_breaks : (ip : ℕ) (c c2 : Config) (i : Instruction) (q : Request) (u : Use) (j : ℕ) (f : Fault) → slice_get code ip ≡ Some i → act (here_at w p) (ip + 1) i c ≡ Goes c2 (Ask q u) → BodyEnds w p q u c2 (Broken f j) → Ends w p code ip c (Broken f (1 + j))
+    pub ask_breaks : (ip : ℕ) (c c2 : Config) (i : Instruction) (q : Request) (u : Use) (j : ℕ) (f : Fault) → slice_get code ip ≡ Some i → effect (here_at w p) (ip + 1) i c ≡ Goes c2 (Ask q u) → BodyEnds w p q u c2 (Broken f j) → Ends w p code ip c (Broken f (1 + j))
     ask_breaks ip c c2 i q u j f e a y =
         step_ends ip c i (Goes c2 (Ask q u)) y.depth (Broken f j) e a (ap (λ z. then_on z (exec w y.depth p code (ip + 1))) y.is)

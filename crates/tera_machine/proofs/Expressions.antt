@@ -27,7 +27,7 @@ use Rattle.tera_machine.specs.Config.{Config}
 use Rattle.tera_machine.specs.Flow.{Use, Pushed, Ask}
 use Rattle.tera_machine.specs.Did.{Goes, outcome}
 use Rattle.tera_machine.specs.Loops.{begun_with}
-use Rattle.tera_machine.specs.Act.{act, topmost, made_of, called_on, branched, above_in, handed, component_asked, component_given}
+use Rattle.tera_machine.specs.Effect.{effect, topmost, made_of, called_on, branched, above_in, handed, component_asked, component_given}
 use Rattle.tera_machine.proofs.Literals.{push_all, firsts, seconds, zip-firsts, length-seconds, topmost-push_all}
 use Rattle.tera_machine.proofs.Places.{StandsAt, stands_front, stands_back, stands_within, parts, round}
 use Rattle.tera_machine.proofs.Counted.{Spot, Runs, Below, Holds, holds_onward, holds_any, done, spend, none, first, jump, fail, adjust, onward_runs, onward_lent, onward_where, onward-onward, answered_runs, mapped_runs, choice_runs, choice_not_runs, jump_after, asked_runs}
@@ -42,7 +42,7 @@ module _ (w : World) (place : Place) (code : Code) (below : Below w place) where
   call = whole w place
 
   -- one instruction, whose outcome comes on top of what is left
-  pub outcome_runs : (ip : ℕ) (stack : List Evaluated) (rest : Base) (r : Run) (s : ℕ) {t : ℕ} (o : Outcome) (i : Instruction) → t ≤ s → slice_get code ip ≡ Some i → act here (ip + 1) i (config_at (record rest { operands = stack }) r) ≡ outcome o rest.operands (config_at (record rest { operands = stack }) r) → Runs w place code (spot ip (record rest { operands = stack }) r) (s + 1) t (Top (ip + 1) rest) (answered o r)
+  pub outcome_runs : (ip : ℕ) (stack : List Evaluated) (rest : Base) (r : Run) (s : ℕ) {t : ℕ} (o : Outcome) (i : Instruction) → t ≤ s → slice_get code ip ≡ Some i → effect here (ip + 1) i (config_at (record rest { operands = stack }) r) ≡ outcome o rest.operands (config_at (record rest { operands = stack }) r) → Runs w place code (spot ip (record rest { operands = stack }) r) (s + 1) t (Top (ip + 1) rest) (answered o r)
   outcome_runs ip stack rest r s (Ok a) i l e h = first w place code _ s i e h (done w place code l)
   outcome_runs ip stack rest r s (Err f) i l e h = fail w place code {s = s} f i l e h
 
@@ -79,7 +79,7 @@ module _ (w : World) (place : Place) (code : Code) (below : Below w place) where
   length-argument_names (MoreArguments name value rest) = ap (λ n. suc n) (length-argument_names rest)
 
   -- they are dropped, and the body above is asked for
-  asks_above : (next : ℕ) (arguments : Arguments) (all : List (site.Name × Evaluated)) (base : Base) (r : Run) (span : Span) → firsts all ≡ argument_names arguments → act here next (instruction.TakeAbove (arguments_length arguments) span) (config_at (all_over (seconds all) base) r) ≡ Goes (config_at base r) (Ask (Above span) (Pushed true span))
+  asks_above : (next : ℕ) (arguments : Arguments) (all : List (site.Name × Evaluated)) (base : Base) (r : Run) (span : Span) → firsts all ≡ argument_names arguments → effect here next (instruction.TakeAbove (arguments_length arguments) span) (config_at (all_over (seconds all) base) r) ≡ Goes (config_at base r) (Ask (Above span) (Pushed true span))
   asks_above next arguments all base r span e =
       let c : Config = config_at (all_over (seconds all) base) r in
       ap (λ o. above_in span o c) (topmost-push_all (arguments_length arguments) (seconds all) base.operands (sym (length-argument_names arguments) ∙ length-seconds (argument_names arguments) all e))
@@ -92,7 +92,7 @@ module _ (w : World) (place : Place) (code : Code) (below : Below w place) where
       ∙ ap (λ ps. outcome (f a ps) base.operands c) (zip-firsts names all e)
 
   -- the attributes are there, above the body that the component is handed
-  takes_component : (next : ℕ) (name : site.Name) (keys : List (Option Key)) (has_body : Bool) (all : List (Option Key × Evaluated)) (below0 base : Base) (body : Option val.Val) (r : Run) (span : Span) → firsts all ≡ keys → handed has_body below0.operands ≡ Some (body, base.operands) → act here next (instruction.TakeComponent name keys has_body span) (config_at (all_over (seconds all) below0) r) ≡ component_asked place.autoescape name span (map_entries place.file all) (Some (body, base.operands)) (config_at (all_over (seconds all) below0) r)
+  takes_component : (next : ℕ) (name : site.Name) (keys : List (Option Key)) (has_body : Bool) (all : List (Option Key × Evaluated)) (below0 base : Base) (body : Option val.Val) (r : Run) (span : Span) → firsts all ≡ keys → handed has_body below0.operands ≡ Some (body, base.operands) → effect here next (instruction.TakeComponent name keys has_body span) (config_at (all_over (seconds all) below0) r) ≡ component_asked place.autoescape name span (map_entries place.file all) (Some (body, base.operands)) (config_at (all_over (seconds all) below0) r)
   takes_component next name keys has_body all below0 base body r span e h =
       let c : Config = config_at (all_over (seconds all) below0) r in
       ap (λ o. component_given here name keys has_body span o c) (topmost-push_all (length keys) (seconds all) below0.operands (length-seconds keys all e))
@@ -112,38 +112,38 @@ module _ (w : World) (place : Place) (code : Code) (below : Below w place) where
 
   -- a part of which this holds, and one instruction behind it
   one_behind : {A : Type 0} (P : A → Type 0) (cs : Code) (i : Instruction) (ip t : ℕ) (base : Base) (r : Run) {goal : A → Run → Spot} {x : Answer A} {go : A → Meaning Evaluated} → StandsAt code ip (cs ++ i ∷ []) → Holds P x → Runs w place code (spot ip base r) 0 t goal x → (slice_get code (ip + length cs) ≡ Some i → (a : A) (r1 : Run) → P a → Runs w place code (goal a r1) (8 + t) 1 (Top (ip + length cs + 1) base) (go a r1)) → Runs w place code (spot ip base r) 0 1 (Top (ip + length (cs ++ i ∷ [])) base) (more 1 (onward x go))
-  one_behind P cs i ip t base r has holds part acts =
+  one_behind P cs i ip t base r has holds part effects =
       let len : ip + length cs + 1 ≡ ip + length (cs ++ i ∷ []) = omega (arith, length-append cs (i ∷ [])) in
-      top_at w place code _ len (spend w place code (onward_where w place code P (omega arith) holds part (acts (stands_back code ip cs (i ∷ []) has).0)))
+      top_at w place code _ len (spend w place code (onward_where w place code P (omega arith) holds part (effects (stands_back code ip cs (i ∷ []) has).0)))
 
   -- an operand, and what is made of it
-  of_one : (cs : Code) (i : Instruction) (f : Evaluated → Outcome) (ip : ℕ) (base : Base) (r : Run) {x : Answer Evaluated} → StandsAt code ip (cs ++ i ∷ []) → Runs w place code (spot ip base r) 0 1 (Top (ip + length cs) base) x → ((a : Evaluated) (r1 : Run) → act here (ip + length cs + 1) i (config_at (over a base) r1) ≡ outcome (f a) base.operands (config_at (over a base) r1)) → Runs w place code (spot ip base r) 0 1 (Top (ip + length (cs ++ i ∷ [])) base) (more 1 (onward x (λ a. answered (f a))))
-  of_one cs i f ip base r {x} has part acts =
-      one_behind (λ _. Unit {0}) cs i ip 1 base r has (holds_any x) part (λ at a r1 _. outcome_runs (ip + length cs) (a ∷ base.operands) base r1 8 (f a) i (omega arith) at (acts a r1))
+  of_one : (cs : Code) (i : Instruction) (f : Evaluated → Outcome) (ip : ℕ) (base : Base) (r : Run) {x : Answer Evaluated} → StandsAt code ip (cs ++ i ∷ []) → Runs w place code (spot ip base r) 0 1 (Top (ip + length cs) base) x → ((a : Evaluated) (r1 : Run) → effect here (ip + length cs + 1) i (config_at (over a base) r1) ≡ outcome (f a) base.operands (config_at (over a base) r1)) → Runs w place code (spot ip base r) 0 1 (Top (ip + length (cs ++ i ∷ [])) base) (more 1 (onward x (λ a. answered (f a))))
+  of_one cs i f ip base r {x} has part effects =
+      one_behind (λ _. Unit {0}) cs i ip 1 base r has (holds_any x) part (λ at a r1 _. outcome_runs (ip + length cs) (a ∷ base.operands) base r1 8 (f a) i (omega arith) at (effects a r1))
 
   -- parts, and what is made of all their operands
-  of_all : {X : Type 0} (cs : Code) (i : Instruction) (xs : List X) (f : Variables → List (X × Evaluated) → Outcome) (ip : ℕ) (base : Base) (r : Run) {x : Answer (List (X × Evaluated))} → StandsAt code ip (cs ++ i ∷ []) → Holds (λ all. firsts all ≡ xs) x → Runs w place code (spot ip base r) 0 0 (Tops (ip + length cs) base) x → ((all : List (X × Evaluated)) (r1 : Run) → act here (ip + length cs + 1) i (config_at (all_over (seconds all) base) r1) ≡ made_of (λ vs. f r1.vars (zip xs vs)) (topmost (length xs) (push_all (seconds all) base.operands)) (config_at (all_over (seconds all) base) r1)) → Runs w place code (spot ip base r) 0 1 (Top (ip + length (cs ++ i ∷ [])) base) (more 1 (onward x (λ all. answered_at (λ v. f v all))))
-  of_all cs i xs f ip base r has holds part acts =
-      one_behind (λ all. firsts all ≡ xs) cs i ip 0 base r has holds part (λ at all r1 e. outcome_runs (ip + length cs) (push_all (seconds all) base.operands) base r1 7 (f r1.vars all) i (omega arith) at (acts all r1 ∙ makes (f r1.vars) xs all base r1 e))
+  of_all : {X : Type 0} (cs : Code) (i : Instruction) (xs : List X) (f : Variables → List (X × Evaluated) → Outcome) (ip : ℕ) (base : Base) (r : Run) {x : Answer (List (X × Evaluated))} → StandsAt code ip (cs ++ i ∷ []) → Holds (λ all. firsts all ≡ xs) x → Runs w place code (spot ip base r) 0 0 (Tops (ip + length cs) base) x → ((all : List (X × Evaluated)) (r1 : Run) → effect here (ip + length cs + 1) i (config_at (all_over (seconds all) base) r1) ≡ made_of (λ vs. f r1.vars (zip xs vs)) (topmost (length xs) (push_all (seconds all) base.operands)) (config_at (all_over (seconds all) base) r1)) → Runs w place code (spot ip base r) 0 1 (Top (ip + length (cs ++ i ∷ [])) base) (more 1 (onward x (λ all. answered_at (λ v. f v all))))
+  of_all cs i xs f ip base r has holds part effects =
+      one_behind (λ all. firsts all ≡ xs) cs i ip 0 base r has holds part (λ at all r1 e. outcome_runs (ip + length cs) (push_all (seconds all) base.operands) base r1 7 (f r1.vars all) i (omega arith) at (effects all r1 ∙ makes (f r1.vars) xs all base r1 e))
 
   -- an operand, a part above it of which this holds, and one instruction behind both
   two_behind : {A : Type 0} (P : A → Type 0) (cv cp : Code) (i : Instruction) (ip t : ℕ) (base : Base) (r : Run) {goal : Evaluated → A → Run → Spot} {x : Answer Evaluated} {next : Evaluated → Meaning A} {go : Evaluated → A → Meaning Evaluated} → StandsAt code ip (cv ++ (cp ++ i ∷ [])) → Runs w place code (spot ip base r) 0 1 (Top (ip + length cv) base) x → ((a : Evaluated) (r1 : Run) → Holds P (next a r1)) → (StandsAt code (ip + length cv) cp → (a : Evaluated) (r1 : Run) → Runs w place code (spot (ip + length cv) (over a base) r1) 0 t (goal a) (next a r1)) → (slice_get code (ip + length cv + length cp) ≡ Some i → (a : Evaluated) (b : A) (r2 : Run) → P b → Runs w place code (goal a b r2) (9 + t) 1 (Top (ip + length cv + length cp + 1) base) (go a b r2)) → Runs w place code (spot ip base r) 0 1 (Top (ip + length (cv ++ (cp ++ i ∷ []))) base) (more 1 (onward x (λ a r1. onward (next a r1) (go a))))
-  two_behind P cv cp i ip t base r has operand holds part acts =
+  two_behind P cv cp i ip t base r has operand holds part effects =
       let p = ip + length cv in
       let len : p + length cp + 1 ≡ ip + length (cv ++ (cp ++ i ∷ [])) = omega (arith, length-append cv (cp ++ i ∷ []), length-append cp (i ∷ [])) in
       let h = stands_back code ip cv (cp ++ i ∷ []) has in
       let at = (stands_back code p cp (i ∷ []) h).0 in
-      top_at w place code _ len (spend w place code (onward_runs w place code (omega arith) operand (λ a r1. onward_where w place code P (omega arith) (holds a r1) (part (stands_front code p cp _ h) a r1) (λ b r2 e. acts at a b r2 e))))
+      top_at w place code _ len (spend w place code (onward_runs w place code (omega arith) operand (λ a r1. onward_where w place code P (omega arith) (holds a r1) (part (stands_front code p cp _ h) a r1) (λ b r2 e. effects at a b r2 e))))
 
   -- two operands, and what is made of both
-  of_two : (cl cr : Code) (i : Instruction) (f : Evaluated → Evaluated → Outcome) (ip : ℕ) (base : Base) (r : Run) {x : Answer Evaluated} (next : Meaning Evaluated) → StandsAt code ip (cl ++ (cr ++ i ∷ [])) → Runs w place code (spot ip base r) 0 1 (Top (ip + length cl) base) x → (StandsAt code (ip + length cl) cr → (a : Evaluated) (r1 : Run) → Runs w place code (spot (ip + length cl) (over a base) r1) 0 1 (Top (ip + length cl + length cr) (over a base)) (next r1)) → ((a b : Evaluated) (r2 : Run) → act here (ip + length cl + length cr + 1) i (config_at (over b (over a base)) r2) ≡ outcome (f a b) base.operands (config_at (over b (over a base)) r2)) → Runs w place code (spot ip base r) 0 1 (Top (ip + length (cl ++ (cr ++ i ∷ []))) base) (more 1 (onward x (λ a. next ▹ λ b. answered (f a b))))
-  of_two cl cr i f ip base r next has left right acts =
-      two_behind (λ _. Unit {0}) cl cr i ip 1 base r {next = λ a. next} has left (λ a r1. holds_any (next r1)) right (λ at a b r2 _. outcome_runs (ip + length cl + length cr) (b ∷ a ∷ base.operands) base r2 9 (f a b) i (omega arith) at (acts a b r2))
+  of_two : (cl cr : Code) (i : Instruction) (f : Evaluated → Evaluated → Outcome) (ip : ℕ) (base : Base) (r : Run) {x : Answer Evaluated} (next : Meaning Evaluated) → StandsAt code ip (cl ++ (cr ++ i ∷ [])) → Runs w place code (spot ip base r) 0 1 (Top (ip + length cl) base) x → (StandsAt code (ip + length cl) cr → (a : Evaluated) (r1 : Run) → Runs w place code (spot (ip + length cl) (over a base) r1) 0 1 (Top (ip + length cl + length cr) (over a base)) (next r1)) → ((a b : Evaluated) (r2 : Run) → effect here (ip + length cl + length cr + 1) i (config_at (over b (over a base)) r2) ≡ outcome (f a b) base.operands (config_at (over b (over a base)) r2)) → Runs w place code (spot ip base r) 0 1 (Top (ip + length (cl ++ (cr ++ i ∷ []))) base) (more 1 (onward x (λ a. next ▹ λ b. answered (f a b))))
+  of_two cl cr i f ip base r next has left right effects =
+      two_behind (λ _. Unit {0}) cl cr i ip 1 base r {next = λ a. next} has left (λ a r1. holds_any (next r1)) right (λ at a b r2 _. outcome_runs (ip + length cl + length cr) (b ∷ a ∷ base.operands) base r2 9 (f a b) i (omega arith) at (effects a b r2))
 
   -- an operand, arguments above it, and what is called with both
-  of_call : (cv ca : Code) (i : Instruction) (names : List site.Name) (f : Variables → Evaluated → List (site.Name × Evaluated) → Outcome) (ip : ℕ) (base : Base) (r : Run) {x : Answer Evaluated} (next : Meaning (List (site.Name × Evaluated))) → StandsAt code ip (cv ++ (ca ++ i ∷ [])) → Runs w place code (spot ip base r) 0 1 (Top (ip + length cv) base) x → ((r1 : Run) → Holds (λ all. firsts all ≡ names) (next r1)) → (StandsAt code (ip + length cv) ca → (a : Evaluated) (r1 : Run) → Runs w place code (spot (ip + length cv) (over a base) r1) 0 0 (Tops (ip + length cv + length ca) (over a base)) (next r1)) → ((a : Evaluated) (all : List (site.Name × Evaluated)) (r2 : Run) → act here (ip + length cv + length ca + 1) i (config_at (all_over (seconds all) (over a base)) r2) ≡ called_on (f r2.vars) names (topmost (length names) (push_all (seconds all) (a ∷ base.operands))) (config_at (all_over (seconds all) (over a base)) r2)) → Runs w place code (spot ip base r) 0 1 (Top (ip + length (cv ++ (ca ++ i ∷ []))) base) (more 1 (onward x (λ a. next ▹ λ given. answered_at (λ v. f v a given))))
-  of_call cv ca i names f ip base r next has operand holds arguments acts =
-      two_behind (λ all. firsts all ≡ names) cv ca i ip 0 base r {next = λ a. next} has operand (λ a r1. holds r1) arguments (λ at a all r2 e. outcome_runs (ip + length cv + length ca) (push_all (seconds all) (a ∷ base.operands)) base r2 8 (f r2.vars a all) i (omega arith) at (acts a all r2 ∙ calls_on (f r2.vars) names all a base r2 e))
+  of_call : (cv ca : Code) (i : Instruction) (names : List site.Name) (f : Variables → Evaluated → List (site.Name × Evaluated) → Outcome) (ip : ℕ) (base : Base) (r : Run) {x : Answer Evaluated} (next : Meaning (List (site.Name × Evaluated))) → StandsAt code ip (cv ++ (ca ++ i ∷ [])) → Runs w place code (spot ip base r) 0 1 (Top (ip + length cv) base) x → ((r1 : Run) → Holds (λ all. firsts all ≡ names) (next r1)) → (StandsAt code (ip + length cv) ca → (a : Evaluated) (r1 : Run) → Runs w place code (spot (ip + length cv) (over a base) r1) 0 0 (Tops (ip + length cv + length ca) (over a base)) (next r1)) → ((a : Evaluated) (all : List (site.Name × Evaluated)) (r2 : Run) → effect here (ip + length cv + length ca + 1) i (config_at (all_over (seconds all) (over a base)) r2) ≡ called_on (f r2.vars) names (topmost (length names) (push_all (seconds all) (a ∷ base.operands))) (config_at (all_over (seconds all) (over a base)) r2)) → Runs w place code (spot ip base r) 0 1 (Top (ip + length (cv ++ (ca ++ i ∷ []))) base) (more 1 (onward x (λ a. next ▹ λ given. answered_at (λ v. f v a given))))
+  of_call cv ca i names f ip base r next has operand holds arguments effects =
+      two_behind (λ all. firsts all ≡ names) cv ca i ip 0 base r {next = λ a. next} has operand (λ a r1. holds r1) arguments (λ at a all r2 e. outcome_runs (ip + length cv + length ca) (push_all (seconds all) (a ∷ base.operands)) base r2 8 (f r2.vars a all) i (omega arith) at (effects a all r2 ∙ calls_on (f r2.vars) names all a base r2 e))
 
   -- an operand, a jump behind it, and code that the jump may pass
   jumps_behind : (cl cr : Code) (i : Instruction) (ip : ℕ) (base : Base) (r : Run) {x : Answer Evaluated} {go : Evaluated → Meaning Evaluated} → StandsAt code ip (cl ++ (i ∷ cr)) → Runs w place code (spot ip base r) 0 1 (Top (ip + length cl) base) x → (StandsAt code (ip + length cl) (i ∷ cr) → ip + length cl + 1 + length cr ≤ length code → (a : Evaluated) (r1 : Run) → Runs w place code (Top (ip + length cl) base a r1) 9 1 (Top (ip + length cl + 1 + length cr) base) (go a r1)) → Runs w place code (spot ip base r) 0 1 (Top (ip + length (cl ++ (i ∷ cr))) base) (more 1 (onward x go))
@@ -192,7 +192,7 @@ module _ (w : World) (place : Place) (code : Code) (below : Below w place) where
         subst (λ all. Runs w place code (spot p (in_loop start size ts all base) r) 1 0 (Kept p start size ts kept base) (Gave [] r 0)) (append-nil kept) (done w place code (omega arith))
 
   -- a value is kept where the condition, which is on top, holds
-  pick_runs : (value : Meaning Evaluated) (cv : Code) → ((ip : ℕ) (base : Base) (r : Run) → StandsAt code ip cv → Runs w place code (spot ip base r) 0 1 (Top (ip + length cv) base) (value r)) → (start size p : ℕ) (ts : List Turn) (kept : List val.Val) (base : Base) (r : Run) (a : Evaluated) (b : Bool) → slice_get code p ≡ Some (instruction.PopJumpIfFalse (length cv + 1)) → act here (p + 1) (instruction.PopJumpIfFalse (length cv + 1)) (config_at (over a (in_loop start size ts kept base)) r) ≡ branched b (config_at (in_loop start size ts kept base) r) (length cv + 1) (config_at (in_loop start size ts kept base) r) → p + 1 + (length cv + 1) ≤ length code → p + 1 + (length cv + 1) ≡ p + 1 + length (keep_code cv) → StandsAt code (p + 1) (keep_code cv) → Runs w place code (spot p (over a (in_loop start size ts kept base)) r) 2 0 (Kept (p + 1 + length (keep_code cv)) start size ts kept base) (if_kept b value r)
+  pick_runs : (value : Meaning Evaluated) (cv : Code) → ((ip : ℕ) (base : Base) (r : Run) → StandsAt code ip cv → Runs w place code (spot ip base r) 0 1 (Top (ip + length cv) base) (value r)) → (start size p : ℕ) (ts : List Turn) (kept : List val.Val) (base : Base) (r : Run) (a : Evaluated) (b : Bool) → slice_get code p ≡ Some (instruction.PopJumpIfFalse (length cv + 1)) → effect here (p + 1) (instruction.PopJumpIfFalse (length cv + 1)) (config_at (over a (in_loop start size ts kept base)) r) ≡ branched b (config_at (in_loop start size ts kept base) r) (length cv + 1) (config_at (in_loop start size ts kept base) r) → p + 1 + (length cv + 1) ≤ length code → p + 1 + (length cv + 1) ≡ p + 1 + length (keep_code cv) → StandsAt code (p + 1) (keep_code cv) → Runs w place code (spot p (over a (in_loop start size ts kept base)) r) 2 0 (Kept (p + 1 + length (keep_code cv)) start size ts kept base) (if_kept b value r)
   pick_runs value cv value_runs start size p ts kept base r a true i e l passed has =
       first w place code _ 1 (instruction.PopJumpIfFalse (length cv + 1)) i e (kept_runs value cv value_runs start size (p + 1) ts kept base r has)
   pick_runs value cv value_runs start size p ts kept base r a false i e l passed has =

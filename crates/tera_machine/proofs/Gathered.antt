@@ -15,7 +15,7 @@ use Rattle.tera_code.specs.declared.instruction.Instruction.TheVariants.{NextTur
 use Rattle.tera_code.specs.Code.{Code}
 use Rattle.tera_machine.specs.Config.{Config}
 use Rattle.tera_machine.specs.Loops.{begun_over}
-use Rattle.tera_machine.specs.Act.{act, made_of}
+use Rattle.tera_machine.specs.Effect.{effect, made_of}
 use Rattle.tera_machine.proofs.Ends.{skip_leads}
 use Rattle.tera_machine.proofs.Literals.{topmost-push_all}
 use Rattle.tera_machine.proofs.Counted.{Spot, Runs, done, spend, step, first, none, adjust, onward_lent, mapped_runs, same_goal, onward-onward}
@@ -65,7 +65,7 @@ module _ (w : World) (place : Place) (code : Code) where
         spend w place code (step w place code (spot at (in_loop at size ts kept base) r1) 9 (next_leads w place code at size kept base next (omega (arith, fits)) t ts r) (none w place code (turn_runs ts kept 7 (omega arith) (rest_runs ts) r1)))
 
     -- the loop is begun, where its turns are known; over nothing it gives the empty array
-    pub gather_runs : (ip : ℕ) (c : Config) (i : Instruction) (ts : List Turn) (r : Run) → at ≡ ip + 1 → slice_get code ip ≡ Some i → act (here_at w place) (ip + 1) i c ≡ begun_over at size ts (config_at base r) → Runs w place code (record { ip = ip; config = c }) 8 0 (Collected []) (comprehension test value ts r)
+    pub gather_runs : (ip : ℕ) (c : Config) (i : Instruction) (ts : List Turn) (r : Run) → at ≡ ip + 1 → slice_get code ip ≡ Some i → effect (here_at w place) (ip + 1) i c ≡ begun_over at size ts (config_at base r) → Runs w place code (record { ip = ip; config = c }) 8 0 (Collected []) (comprehension test value ts r)
     gather_runs ip c i [] r e g a =
         let c1 : Config = config_at base r in
         let made = ap (λ o. made_of (λ all. array_of place.file (zip [] all) span) o c1) (topmost-push_all 0 [] base.operands refl) in

@@ -5,7 +5,7 @@ use Rattle.std.proofs.lemmas.List.{reverse-append, reverse-reverse, length-rever
 use Rattle.std.proofs.lemmas.Bool.{le-leb}
 use Rattle.std.proofs.Math.Seq.{take-append_seam, drop-append_seam}
 use Rattle.tera_operators.specs.Operand.{Evaluated}
-use Rattle.tera_machine.specs.Act.{topmost}
+use Rattle.tera_machine.specs.Effect.{topmost}
 
 -- operands put on top, the first one first
 abbrev pub push_all : List Evaluated → List Evaluated → List Evaluated

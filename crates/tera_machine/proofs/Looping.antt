@@ -8,7 +8,7 @@ use Rattle.tera_machine.specs.Config.{Config, loops_at}
 use Rattle.tera_machine.specs.Flow.{On, To}
 use Rattle.tera_machine.specs.Did.{Goes, Sticks}
 use Rattle.tera_machine.specs.Loops.{turned, innermost}
-use Rattle.tera_machine.specs.Act.{beneath_in}
+use Rattle.tera_machine.specs.Effect.{beneath_in}
 
 -- with these loops and variables
 abbrev looping : Config → List LoopPlace → List (List Turn) → Variables → Config

@@ -29,25 +29,25 @@ use Rattle.tera_machine.specs.Subject.{here_of}
 use Rattle.tera_machine.specs.Config.{Config, config_of}
 use Rattle.tera_machine.specs.Flow.{On}
 use Rattle.tera_machine.specs.Did.{Goes, Faults, holding, pushed, outcome, with_text}
-use Rattle.tera_machine.specs.Act.{act, Acted, Does, put_out}
+use Rattle.tera_machine.specs.Effect.{effect, Effected, Does, put_out}
 use Rattle.tera_machine.specs.Together.{done, WentOn}
 use Rattle.tera_machine.specs.Paths.{Start, Stands, Comes, Reaches, Breaks, start_at, topped, constant_of, truth_of}
 use Rattle.tera_machine.proofs.Together.{done_next}
 
 -- an instruction alone
-pub alone_did : (here : Here) (code : Code) (c : Config) (at n : ℕ) (i : Instruction) → slice_get code at ≡ Some i → done here code (suc (n - n)) at c ≡ act here (at + 1) i c
+pub alone_did : (here : Here) (code : Code) (c : Config) (at n : ℕ) (i : Instruction) → slice_get code at ≡ Some i → done here code (suc (n - n)) at c ≡ effect here (at + 1) i c
 alone_did here code c at n i e =
     let none : 0 ≡ n - n = omega arith in
     let same : at ≡ at + 0 = omega arith in
     let z : at + 0 + 1 ≡ at + 1 = omega arith in
-    subst (λ k. done here code (suc k) at c ≡ act here (at + 1) i c) none
-    (done_next here code 0 at c c i refl (subst (λ p. slice_get code p ≡ Some i) same e) ∙ ap (λ p. act here p i c) z)
+    subst (λ k. done here code (suc k) at c ≡ effect here (at + 1) i c) none
+    (done_next here code 0 at c c i refl (subst (λ p. slice_get code p ≡ Some i) same e) ∙ ap (λ p. effect here p i c) z)
 
 -- and what it does is what all do that are done
-pub alone_does : {O : Type 0} (engine : O → Engine) (m : VirtualMachine O) (file file2 : Name) (c c2 : Configuration) (code : Code) (at n : ℕ) (i : Instruction) (r : Result declared.Flow SeenError) → slice_get code at ≡ Some i → file2 ≡ file → Does (act (here_of engine m file2 c) (at + 1) i) c r c2 → Does (done (here_of engine m file c) code (suc (n - n)) at) c r c2
+pub alone_does : {O : Type 0} (engine : O → Engine) (m : VirtualMachine O) (file file2 : Name) (c c2 : Configuration) (code : Code) (at n : ℕ) (i : Instruction) (r : Result declared.Flow SeenError) → slice_get code at ≡ Some i → file2 ≡ file → Does (effect (here_of engine m file2 c) (at + 1) i) c r c2 → Does (done (here_of engine m file c) code (suc (n - n)) at) c r c2
 alone_does engine m file file2 c c2 code at n i r e f d = (
-  subst (λ x. Acted x r (config_of c2)) (sym (alone_did (here_of engine m file c) code (config_of c) at n i e))
-      (subst (λ name. Acted (act (here_of engine m name c) (at + 1) i (config_of c)) r (config_of c2)) f d.0),
+  subst (λ x. Effected x r (config_of c2)) (sym (alone_did (here_of engine m file c) code (config_of c) at n i e))
+      (subst (λ name. Effected (effect (here_of engine m name c) (at + 1) i (config_of c)) r (config_of c2)) f d.0),
   d.1,
 )
 
@@ -79,14 +79,14 @@ module _ {s : Start} {code : Code} {at n : ℕ} {c : Config} (r : Comes s code a
       }
 
   -- what it does
-  pub more_did : done s.here code (suc (n2 - s.count)) s.at s.config ≡ act s.here (at2 + 1) i c
+  pub more_did : done s.here code (suc (n2 - s.count)) s.at s.config ≡ effect s.here (at2 + 1) i c
   more_did =
       let k : suc (n - s.count) ≡ n2 - s.count = omega (arith, r.stands.counted, m) in
       let q : at + 1 ≡ s.at + suc (n - s.count) = omega (arith, r.stands.place) in
       let z : s.at + suc (n - s.count) + 1 ≡ at2 + 1 = omega (arith, r.stands.place, p) in
-      subst (λ j. done s.here code (suc j) s.at s.config ≡ act s.here (at2 + 1) i c) k
+      subst (λ j. done s.here code (suc j) s.at s.config ≡ effect s.here (at2 + 1) i c) k
       (done_next s.here code (suc (n - s.count)) s.at s.config c i r.did (subst (λ x. slice_get code x ≡ Some i) q e)
-      ∙ ap (λ x. act s.here x i c) z)
+      ∙ ap (λ x. effect s.here x i c) z)
 
 module _ {s : Start} {code : Code} {at n : ℕ} {a : Evaluated} (r : Reaches s code at n a) {name : site.Name} {optional : Bool} {span : Span} {at2 n2 : ℕ} (e : slice_get code (at + 1) ≡ Some (instruction.LoadAttribute name optional span)) (p : at2 ≡ at + 1) (m : n2 ≡ n + 1) {file file2 name2 : site.Name} (f : s.here.file ≡ file) (f2 : file2 ≡ file) (g2 : name2 ≡ name) where
   same : attribute_of s.here.file optional a name span ≡ attribute_of file2 optional a name2 span
@@ -117,7 +117,7 @@ module _ {s : Start} {code : Code} {at n : ℕ} {c : Config} (r : Comes s code a
       more on_top e.applies q k
 
   -- what it does
-  pub two_more_did : done s.here code (suc (n2 - s.count)) s.at s.config ≡ act s.here (at2 + 1) (instruction.Binary comparison.operator comparison.span) (topped (constant_of comparison) c)
+  pub two_more_did : done s.here code (suc (n2 - s.count)) s.at s.config ≡ effect s.here (at2 + 1) (instruction.Binary comparison.operator comparison.span) (topped (constant_of comparison) c)
   two_more_did =
       let q : at2 ≡ at + 1 + 1 = omega (arith, p) in
       let k : n2 ≡ n + 1 + 1 = omega (arith, m) in

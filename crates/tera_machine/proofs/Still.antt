@@ -19,7 +19,7 @@ use Rattle.tera_code.specs.declared.instruction.Instruction.TheVariants.{WriteTe
 use Rattle.tera_machine.specs.Config.{Config, Loop}
 use Rattle.tera_machine.specs.Flow.{Flow}
 use Rattle.tera_machine.specs.Did.{Did, Goes, Faults, Sticks, holding, outcome}
-use Rattle.tera_machine.specs.Act.{act, put_out, stored_in, top_written_in, on_one, on_two, on_four, topmost, made_of, called_on, branched, popped_branch_in, kept_if_in, above_in, handed, component_asked, component_given}
+use Rattle.tera_machine.specs.Effect.{effect, put_out, stored_in, top_written_in, on_one, on_two, on_four, topmost, made_of, called_on, branched, popped_branch_in, kept_if_in, above_in, handed, component_asked, component_given}
 use Rattle.tera_machine.specs.Loops.{begun_over, begun_with, started_on, went_round, round_in, ended_in, kept_in, collected_in}
 use Rattle.tera_machine.specs.Captures.{captured_in}
 
@@ -134,48 +134,48 @@ module _ (here : Here) (next : ℕ) where
   stored_still is_global name [] c = tt
   stored_still is_global name (a ∷ rest) c = refl
 
-  act_still : (i : Instruction) (c : Config) → IsStill c (act here next i c)
-  act_still (WriteText text) c = refl
-  act_still WriteTop c = top_still here c.operands c
-  act_still (WriteName name span) c = put_still _ c.operands c
-  act_still (LoadConst v span) c = refl
-  act_still (LoadName name span) c = refl
-  act_still (LoadContext span) c = refl
-  act_still (LoadAttribute name optional span) c = one_still _ c.operands c
-  act_still (LoadItem optional span) c = two_still _ c.operands c
-  act_still (Slice optional span) c = four_still _ c.operands c
-  act_still Not c = one_still (λ a. Ok (not_of a)) c.operands c
-  act_still Negate c = one_still _ c.operands c
-  act_still (Binary operator span) c = two_still _ c.operands c
-  act_still (MakeArray spreads span) c =
+  effect_still : (i : Instruction) (c : Config) → IsStill c (effect here next i c)
+  effect_still (WriteText text) c = refl
+  effect_still WriteTop c = top_still here c.operands c
+  effect_still (WriteName name span) c = put_still _ c.operands c
+  effect_still (LoadConst v span) c = refl
+  effect_still (LoadName name span) c = refl
+  effect_still (LoadContext span) c = refl
+  effect_still (LoadAttribute name optional span) c = one_still _ c.operands c
+  effect_still (LoadItem optional span) c = two_still _ c.operands c
+  effect_still (Slice optional span) c = four_still _ c.operands c
+  effect_still Not c = one_still (λ a. Ok (not_of a)) c.operands c
+  effect_still Negate c = one_still _ c.operands c
+  effect_still (Binary operator span) c = two_still _ c.operands c
+  effect_still (MakeArray spreads span) c =
       made_still (λ all. array_of here.file (zip spreads all) span) (topmost (length spreads) c.operands) c
-  act_still (MakeMap keys span) c =
+  effect_still (MakeMap keys span) c =
       made_still (λ all. map_of here.file (zip keys all) span) (topmost (length keys) c.operands) c
-  act_still (Jump skip) c = refl
-  act_still (PopJumpIfFalse skip) c = popped_still skip c.operands c
-  act_still (JumpIfFalseOrPop skip) c = kept_if_still false skip c.operands c
-  act_still (JumpIfTrueOrPop skip) c = kept_if_still true skip c.operands c
-  act_still (Store name is_global) c = stored_still is_global name c.operands c
-  act_still (StartLoop key name counts size) c = started_still c.operands _ size c
-  act_still NextTurn c = turned_still c.loops c
-  act_still (EndLoop skip) c = ended_still skip c.loops c
-  act_still Keep c = kept_still c.operands c.loops c
-  act_still (EndComprehension span) c = collected_still span c.loops c
-  act_still StartCapture c = refl
-  act_still (EndCapture span) c = captured_still here.autoescape span c.captures c
-  act_still (LeaveLoop drops) c = refl
-  act_still (LeaveTurn drops) c = refl
-  act_still (TakeBlock name span) c = refl
-  act_still (TakeAbove arguments span) c = above_still span _ c
-  act_still (TakeInclude name span) c = refl
-  act_still (TakeComponent name keys has_body span) c =
+  effect_still (Jump skip) c = refl
+  effect_still (PopJumpIfFalse skip) c = popped_still skip c.operands c
+  effect_still (JumpIfFalseOrPop skip) c = kept_if_still false skip c.operands c
+  effect_still (JumpIfTrueOrPop skip) c = kept_if_still true skip c.operands c
+  effect_still (Store name is_global) c = stored_still is_global name c.operands c
+  effect_still (StartLoop key name counts size) c = started_still c.operands _ size c
+  effect_still NextTurn c = turned_still c.loops c
+  effect_still (EndLoop skip) c = ended_still skip c.loops c
+  effect_still Keep c = kept_still c.operands c.loops c
+  effect_still (EndComprehension span) c = collected_still span c.loops c
+  effect_still StartCapture c = refl
+  effect_still (EndCapture span) c = captured_still here.autoescape span c.captures c
+  effect_still (LeaveLoop drops) c = refl
+  effect_still (LeaveTurn drops) c = refl
+  effect_still (TakeBlock name span) c = refl
+  effect_still (TakeAbove arguments span) c = above_still span _ c
+  effect_still (TakeInclude name span) c = refl
+  effect_still (TakeComponent name keys has_body span) c =
       given_still here name keys has_body span (topmost (length keys) c.operands) c
-  act_still (ApplyFilter name names span) c =
+  effect_still (ApplyFilter name names span) c =
       called_still (λ a given. filter_applied_by here.file (filtered_at plain here c.run.vars name) a given span) names (topmost (length names) c.operands) c
-  act_still (ApplyTest name names span) c =
+  effect_still (ApplyTest name names span) c =
       called_still (λ a given. test_applied_by here.file (tested_at plain here c.run.vars name) a given span) names (topmost (length names) c.operands) c
-  act_still (CallFunction name names span) c =
+  effect_still (CallFunction name names span) c =
       made_still (λ all. function_called_by here.file (called_at plain here c.run.vars name) (zip names all) span) (topmost (length names) c.operands) c
 
-  pub still : (i : Instruction) (c c2 : Config) (flow : Flow) → act here next i c ≡ Goes c2 flow → c2.run.blocks ≡ c.run.blocks
-  still i c c2 flow e = subst (IsStill c) e (act_still i c)
+  pub still : (i : Instruction) (c c2 : Config) (flow : Flow) → effect here next i c ≡ Goes c2 flow → c2.run.blocks ≡ c.run.blocks
+  still i c c2 flow e = subst (IsStill c) e (effect_still i c)

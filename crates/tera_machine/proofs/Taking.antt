@@ -10,7 +10,7 @@ use Rattle.tera_code.specs.Code.{Code}
 use Rattle.tera_machine.specs.Config.{Config}
 use Rattle.tera_machine.specs.Flow.{Use, Ask}
 use Rattle.tera_machine.specs.Did.{Goes}
-use Rattle.tera_machine.specs.Act.{act}
+use Rattle.tera_machine.specs.Effect.{effect}
 use Rattle.tera_machine.specs.Exec.{End, Finished, Broken, Unfinished, Stuck, then_on, entered, left, back, leaving, taken, body_by, exec, Within, IsOver, Ends, EndsWithin, BodyEnds}
 use Rattle.tera_machine.specs.Advance.{Advance, BodyWithin}
 use Rattle.tera_machine.specs.Bodies.{Entered}
@@ -43,7 +43,7 @@ pub record AtAsk (most : ℕ) (w : World) (p : Place) (code : Code) (c0 : Config
   pub progress : Advance most w p code c0 n0 ip c n
   pub is : slice_get code ip ≡ Some i
   pub count : n2 ≡ n + 1
-  pub did : act (here_at w p) (ip + 1) i c ≡ Goes c2 (Ask q u)
+  pub did : effect (here_at w p) (ip + 1) i c ≡ Goes c2 (Ask q u)
 
 module _ {most : ℕ} {w : World} {p : Place} {code : Code} {c0 : Config} {n0 ip : ℕ} {c : Config} {n : ℕ} {i : Instruction} {c2 : Config} {n2 : ℕ} {q : Request} {u : Use} (at : AtAsk most w p code c0 n0 ip c n i c2 n2 q u) where
   ask_step : (k : ℕ) × (1 ≤ most - n) × Within (most - n - 1) (then_on (body_by w (exec w k) p q u c2) (exec w k p code (ip + 1)))

@@ -9,7 +9,7 @@ use Rattle.tera_code.specs.Code.{Code}
 use Rattle.tera_machine.specs.Config.{Config}
 use Rattle.tera_machine.specs.Flow.{Flow, On, Skip, To, Out, Ask}
 use Rattle.tera_machine.specs.Did.{Did, Goes, Faults, Sticks}
-use Rattle.tera_machine.specs.Act.{act}
+use Rattle.tera_machine.specs.Effect.{effect}
 use Rattle.tera_machine.specs.Advance.{Advance}
 use Rattle.tera_machine.specs.Together.{done, done_at, onto, WentOn}
 use Rattle.tera_machine.proofs.Runs.{goes_on}
@@ -51,7 +51,7 @@ instruction_at here ip (Some i) c s = (i, refl)
 
 module _ (here : Here) (code : Code) where
   -- the last of those that went on, and what it found
-  pub last_went : (k ip : ℕ) (c c2 : Config) → done here code (suc k) ip c ≡ Goes c2 On → (c1 : Config) × (i : Instruction) × (done here code k ip c ≡ Goes c1 On) × (slice_get code (ip + k) ≡ Some i) × (act here (ip + k + 1) i c1 ≡ Goes c2 On)
+  pub last_went : (k ip : ℕ) (c c2 : Config) → done here code (suc k) ip c ≡ Goes c2 On → (c1 : Config) × (i : Instruction) × (done here code k ip c ≡ Goes c1 On) × (slice_get code (ip + k) ≡ Some i) × (effect here (ip + k + 1) i c1 ≡ Goes c2 On)
   last_went k ip c c2 e =
       let before = went_to (done here code k ip c) (onto_went _ (done here code k ip c) (goes_unstuck e)) in
       let at_last : done_at here (ip + k) (slice_get code (ip + k)) before.0 ≡ Goes c2 On = ap (onto (done_at here (ip + k) (slice_get code (ip + k)))) (sym before.1) ∙ e in
@@ -59,7 +59,7 @@ module _ (here : Here) (code : Code) where
       (before.0, found.0, before.1, found.1, ap (λ o. done_at here (ip + k) o before.0) (sym found.1) ∙ at_last)
 
   -- one more
-  pub done_next : (k ip : ℕ) (c c1 : Config) (i : Instruction) → done here code k ip c ≡ Goes c1 On → slice_get code (ip + k) ≡ Some i → done here code (suc k) ip c ≡ act here (ip + k + 1) i c1
+  pub done_next : (k ip : ℕ) (c c1 : Config) (i : Instruction) → done here code k ip c ≡ Goes c1 On → slice_get code (ip + k) ≡ Some i → done here code (suc k) ip c ≡ effect here (ip + k + 1) i c1
   done_next k ip c c1 i e s =
       ap (onto (done_at here (ip + k) (slice_get code (ip + k)))) e ∙ ap (λ o. done_at here (ip + k) o c1) s
 
@@ -106,7 +106,7 @@ pub record Last (most : ℕ) (w : World) (place : Place) (code : Code) (c0 : Con
   pub progress : Advance most w place code c0 n0 at config before
   pub found : slice_get code at ≡ Some instruction
   pub count : n2 ≡ before + 1
-  pub did : act (here_at w place) (at + 1) instruction config ≡ d
+  pub did : effect (here_at w place) (at + 1) instruction config ≡ d
   pub blocks : config.run.blocks ≡ c.run.blocks
 
 there : (code : Code) (at : ℕ) → at < length code → (i : Instruction) × (slice_get code at ≡ Some i)

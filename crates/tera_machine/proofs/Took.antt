@@ -22,7 +22,7 @@ use Rattle.tera_machine.specs.declared.place.LoopPlace.{LoopPlace}
 use Rattle.tera_machine.specs.Config.{Config, Loop, config_of, loops_at}
 use Rattle.tera_machine.specs.Flow.{Flow, Use, Written, Pushed, request_of, use_of}
 use Rattle.tera_machine.specs.Did.{Did, Goes}
-use Rattle.tera_machine.specs.Act.{beneath, beneath_in}
+use Rattle.tera_machine.specs.Effect.{beneath, beneath_in}
 use Rattle.tera_machine.specs.Exec.{End, Finished, entered, used, left, left_in, Ends, EndsWithin, BodyEnds, Ran}
 use Rattle.tera_machine.specs.Advance.{BodyWithin}
 use Rattle.tera_machine.specs.Included.{names_in}

@@ -11,7 +11,7 @@ use Rattle.tera_code.specs.declared.instruction.Instruction.TheVariants.{NextTur
 use Rattle.tera_code.specs.Code.{Code}
 use Rattle.tera_machine.specs.Config.{Config}
 use Rattle.tera_machine.specs.Loops.{begun_over}
-use Rattle.tera_machine.specs.Act.{act}
+use Rattle.tera_machine.specs.Effect.{effect}
 use Rattle.tera_machine.proofs.Ends.{on_leads, skip_leads, to_leads}
 use Rattle.tera_machine.proofs.Counted.{Spot, Reaches, Runs, done, spend, step, none, adjust, onward_runs}
 use Rattle.tera_machine.proofs.Arrivals.{Base, in_loop, config_at, spot, changed, Arrive}
@@ -34,12 +34,12 @@ module _ (w : World) (place : Place) (code : Code) where
         subst (λ n. Reaches w place code (spot (at + size) (in_loop at size (t ∷ ts) kept base) r) 1 (spot n (in_loop at size ts kept base) r1)) e (to_leads w place code (at + size) at 0 _ _ NextTurn next refl l)
 
   -- a loop begins
-  pub begin_leads : (ip at size : ℕ) (c : Config) (base : Base) (r : Run) (i : Instruction) (t : Turn) (ts : List Turn) → at ≡ ip + 1 → slice_get code ip ≡ Some i → act (here_at w place) (ip + 1) i c ≡ begun_over at size (t ∷ ts) (config_at base r) → Reaches w place code (record { ip = ip; config = c }) 1 (spot at (in_loop at size ts [] base) (changed (open_turn t) r))
+  pub begin_leads : (ip at size : ℕ) (c : Config) (base : Base) (r : Run) (i : Instruction) (t : Turn) (ts : List Turn) → at ≡ ip + 1 → slice_get code ip ≡ Some i → effect (here_at w place) (ip + 1) i c ≡ begun_over at size (t ∷ ts) (config_at base r) → Reaches w place code (record { ip = ip; config = c }) 1 (spot at (in_loop at size ts [] base) (changed (open_turn t) r))
   begin_leads ip at size c base r i t ts e g a =
       subst (λ n. Reaches w place code (record { ip = ip; config = c }) 1 (spot n (in_loop at size ts [] base) (changed (open_turn t) r))) (sym e) (on_leads w place code ip _ _ i g a)
 
   -- a loop over nothing is passed
-  pub pass_leads : (ip at size : ℕ) (c : Config) (base : Base) (r : Run) (i : Instruction) → at ≡ ip + 1 → at + (size + 1) + 1 ≤ length code → slice_get code ip ≡ Some i → act (here_at w place) (ip + 1) i c ≡ begun_over at size [] (config_at base r) → Reaches w place code (record { ip = ip; config = c }) 1 (spot (at + (size + 1) + 1) base r)
+  pub pass_leads : (ip at size : ℕ) (c : Config) (base : Base) (r : Run) (i : Instruction) → at ≡ ip + 1 → at + (size + 1) + 1 ≤ length code → slice_get code ip ≡ Some i → effect (here_at w place) (ip + 1) i c ≡ begun_over at size [] (config_at base r) → Reaches w place code (record { ip = ip; config = c }) 1 (spot (at + (size + 1) + 1) base r)
   pass_leads ip at size c base r i e fits g a =
       let to : ip + 1 + (size + 2) ≡ at + (size + 1) + 1 = omega (arith, e) in
       let l : ip + 1 + (size + 2) ≤ length code = omega (arith, e, fits) in
@@ -78,7 +78,7 @@ module _ (w : World) (place : Place) (code : Code) where
         spend w place code (step w place code (spot at (in_loop at size ts [] base) r1) 9 (next_leads at size [] base next (omega (arith, fits)) t ts r) (none w place code (turn_runs ts 9 (omega arith) (loop_runs ts) r1)))
 
     -- the loop is begun, where its turns are known, or the other body is taken
-    pub begin_runs : (ip : ℕ) (c : Config) (i : Instruction) (ts : List Turn) (other : Meaning Signal) (r : Run) → at ≡ ip + 1 → slice_get code ip ≡ Some i → act (here_at w place) (ip + 1) i c ≡ begun_over at size ts (config_at base r) → Runs w place code (spot (at + (size + 1) + 1) base r) 0 0 Over (other r) → Runs w place code (record { ip = ip; config = c }) 9 0 Over (loop_or_else body other ts r)
+    pub begin_runs : (ip : ℕ) (c : Config) (i : Instruction) (ts : List Turn) (other : Meaning Signal) (r : Run) → at ≡ ip + 1 → slice_get code ip ≡ Some i → effect (here_at w place) (ip + 1) i c ≡ begun_over at size ts (config_at base r) → Runs w place code (spot (at + (size + 1) + 1) base r) 0 0 Over (other r) → Runs w place code (record { ip = ip; config = c }) 9 0 Over (loop_or_else body other ts r)
     begin_runs ip c i [] other r e g a h =
         step w place code (spot (at + (size + 1) + 1) base r) 8 (pass_leads ip at size c base r i e (omega (arith, fits)) g a) (adjust w place code 8 0 (omega arith) h)
     begin_runs ip c i (t ∷ ts) other r e g a h =

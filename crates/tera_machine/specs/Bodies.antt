@@ -19,7 +19,7 @@ use Rattle.tera_machine.specs.declared.machine.VirtualMachine.{VirtualMachine}
 use Rattle.tera_machine.specs.declared.blocks.OpenBlocks.{OpenBlocks}
 use Rattle.tera_machine.specs.Config.{Config, Loop, config_of, loops_at}
 use Rattle.tera_machine.specs.Flow.{Use, request_of, use_of}
-use Rattle.tera_machine.specs.Act.{beneath}
+use Rattle.tera_machine.specs.Effect.{beneath}
 use Rattle.tera_machine.specs.Exec.{Finished, Broken, entered, used, BodyEnds}
 use Rattle.tera_machine.specs.Subject.{place_at}
 use Rattle.tera_machine.specs.Wanted.{ended_by, Noted}

@@ -12,7 +12,7 @@ use Rattle.tera_code.specs.Code.{Code, nodes_code}
 use Rattle.tera_machine.specs.Config.{Config, Loop}
 use Rattle.tera_machine.specs.Flow.{Use, Written, Pushed, On, Skip, To, Out, Ask}
 use Rattle.tera_machine.specs.Did.{Did, Goes, Faults, Sticks}
-use Rattle.tera_machine.specs.Act.{act}
+use Rattle.tera_machine.specs.Effect.{effect}
 
 -- how a run ends, and after how many instructions
 pub data End : Type 0 where
@@ -111,7 +111,8 @@ module _ (w : World) where
   abbrev pub fetched : Runner → Place → Code → Option Instruction → ℕ → Config → End
   fetched go p code None ip c = Finished c 0
   fetched go p code (Some i) ip c =
-      after 1 (follow (length code) (body_by go p) (go p code) ip (act (here_at w p) (ip + 1) i c))
+      after 1 (follow (length code) (body_by go p) (go p code) ip
+      (effect (here_at w p) (ip + 1) i c))
 
   -- from this instruction on, with fewer than so many on the way
   unfoldable pub exec : ℕ → Runner

@@ -4,7 +4,7 @@ pub mod Flow
 pub mod Did
 pub mod Loops
 pub mod Captures
-pub mod Act
+pub mod Effect
 pub mod Exec
 pub mod Together
 pub mod Paths

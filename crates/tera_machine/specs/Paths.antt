@@ -10,7 +10,7 @@ use Rattle.tera_meaning.specs.Here.{Here}
 use Rattle.tera_machine.specs.Config.{Config}
 use Rattle.tera_machine.specs.Flow.{On}
 use Rattle.tera_machine.specs.Did.{Goes, holding}
-use Rattle.tera_machine.specs.Act.{Acted}
+use Rattle.tera_machine.specs.Effect.{Effected}
 use Rattle.tera_machine.specs.Together.{done, WentOn}
 
 -- where a reading begins: its place, the count behind the instruction there, and the configuration
@@ -46,7 +46,7 @@ Reaches s code at n a = Comes s code at n (topped a s.config)
 -- and the last one did not go on, for this reason
 abbrev pub Breaks : Start → Code → ℕ → SeenError → Type 0
 Breaks s code n e =
-    (c : Config) → Acted (done s.here code (suc (n - s.count)) s.at s.config) (Err e) c
+    (c : Config) → Effected (done s.here code (suc (n - s.count)) s.at s.config) (Err e) c
 
 -- the constant with which an operand is compared
 abbrev pub constant_of : Comparison → Evaluated

@@ -6,12 +6,12 @@ use Rattle.tera_code.specs.Code.{Code}
 use Rattle.tera_machine.specs.Config.{Config}
 use Rattle.tera_machine.specs.Flow.{On, Skip, To, Out, Ask}
 use Rattle.tera_machine.specs.Did.{Did, Goes, Faults, Sticks}
-use Rattle.tera_machine.specs.Act.{act}
+use Rattle.tera_machine.specs.Effect.{effect}
 
 -- what the instruction at a place does, where there is one
 abbrev pub done_at : Here → ℕ → Option Instruction → Config → Did
 done_at here ip None c = Sticks
-done_at here ip (Some i) c = act here (ip + 1) i c
+done_at here ip (Some i) c = effect here (ip + 1) i c
 
 -- what comes next does, where the instruction before it goes on at the next one
 abbrev pub onto : (Config → Did) → Did → Did

@@ -8,7 +8,7 @@ ghost use Rattle.tera_operators.specs.Operand.{Evaluated};
 ghost use Rattle.tera_operators.specs.Calls.{by_name};
 ghost use Rattle.tera_objects.specs.Calling.{filtered_by, tested_by};
 ghost use Rattle.tera_objects.specs.Called.{seen};
-ghost use Rattle.tera_machine.specs.Act.{IsReady, Does, called};
+ghost use Rattle.tera_machine.specs.Effect.{IsReady, Does, called};
 ghost use Rattle.tera_machine.specs.Subject.{here_of};
 
 use crate::configuration::Configuration;

@@ -1,6 +1,6 @@
 // Instructions of captures, and the ways out of them.
 ghost use Rattle.tera_machine.specs.Config.{config_of};
-ghost use Rattle.tera_machine.specs.Act.{IsReady, IsSmall, Does, beneath};
+ghost use Rattle.tera_machine.specs.Effect.{IsReady, IsSmall, Does, beneath};
 ghost use Rattle.std.specs.Prelude.{◌≡◌};
 ghost use Rattle.tera_state.specs.Prelude.{around_of};
 ghost use Rattle.tera_machine.specs.Loops.{innermost};

@@ -1,7 +1,6 @@
 //! The stack machine that runs a compiled body.
 #![tactic(auto)]
 
-pub mod act;
 pub mod asked;
 pub mod blocks;
 pub mod bodies;
@@ -11,6 +10,7 @@ pub mod components;
 pub mod configuration;
 pub mod ended;
 pub mod includes;
+pub mod instructions;
 mod loops;
 pub mod machine;
 mod paths;

@@ -10,13 +10,13 @@ ghost use Rattle.tera_machine.specs.declared.configuration.Configuration.{Config
 ghost use Rattle.tera_machine.specs.Config.{Config, config_of};
 ghost use Rattle.tera_machine.specs.Flow.{flow_of};
 ghost use Rattle.tera_machine.specs.Did.{Goes};
-ghost use Rattle.tera_machine.specs.Act.{Acted, Does, put_out};
+ghost use Rattle.tera_machine.specs.Effect.{Effected, Does, put_out};
 ghost use Rattle.tera_machine.specs.Subject.{here_of};
 ghost use Rattle.tera_machine.specs.Together.{done};
 ghost use Rattle.tera_machine.specs.Paths.{Start, Stands, Comes, Reaches, Breaks, start_at, topped, truth_of};
 
-use crate::act::undefined_written;
 use crate::configuration::Configuration;
+use crate::instructions::undefined_written;
 use crate::machine::{Flow, Going, VirtualMachine};
 use crate::texts::Texts;
 use std::alloc::Global;
@@ -112,7 +112,7 @@ fn put_out<'f, O: Objects>(
     file: &str,
     operand: &LentOperand<'_>,
 ) -> Going<'f>
-    ensures { (c : Whole) → c.texts ≡ texts.old → Acted
+    ensures { (c : Whole) → c.texts ≡ texts.old → Effected
         (put_out (output (here_of O.engine machine.now file.now c) operand.now) (config_of c))
         result (config_of (record c { texts = texts.new })) }
 {

@@ -4,14 +4,14 @@ ghost use Rattle.tera_errors.specs.Prelude.{Site};
 ghost use Rattle.tera_values.specs.Prelude.{int};
 ghost use Rattle.tera_machine.specs.Config.{config_of};
 ghost use Rattle.tera_machine.specs.Did.{pushed};
-ghost use Rattle.tera_machine.specs.Act.{act, IsReady, IsSmall, Does, going_on, going_on_if, name_written, name_loaded};
+ghost use Rattle.tera_machine.specs.Effect.{effect, IsReady, IsSmall, Does, going_on, going_on_if, name_written, name_loaded};
 ghost use Rattle.tera_machine.specs.Together.{done};
 ghost use Rattle.tera_machine.specs.Paths.{Stands, start_at};
 ghost use Rattle.tera_machine.specs.Subject.{here_of};
 ghost use Rattle.tera_state.specs.Prelude.{around_of};
 
-use crate::act::{Put, going_on, going_on_if};
 use crate::configuration::Configuration;
+use crate::instructions::{Put, going_on, going_on_if};
 use crate::machine::{Flow, Going, VirtualMachine};
 use std::alloc::{AllocError, Global};
 use std::sync::ledger::Ledger;
@@ -36,9 +36,9 @@ impl<'c> Configuration<'c> {
     ) -> Going<'f>
         requires there { slice_get chunk.now.code at.old ≡ Some instruction.now }
         requires few { length chunk.now.code < 2 ^ 64 }
-        requires ready { IsReady (act (here_of O.engine machine.now chunk.now.file self.old)
+        requires ready { IsReady (effect (here_of O.engine machine.now chunk.now.file self.old)
             (at.old + 1) instruction.now) self.old }
-        requires small { IsSmall (act (here_of O.engine machine.now chunk.now.file self.old)
+        requires small { IsSmall (effect (here_of O.engine machine.now chunk.now.file self.old)
             (at.old + 1) instruction.now (config_of self.old)) }
         ensures stands { Stands (start_at (here_of O.engine machine.now chunk.now.file self.old)
             at.old steps.old (config_of self.old)) chunk.now.code at.new steps.new }
@@ -79,9 +79,9 @@ impl<'c> Configuration<'c> {
     ) -> Going<'f>
         requires there { slice_get chunk.now.code at.old ≡ Some instruction.now }
         requires few { length chunk.now.code < 2 ^ 64 }
-        requires ready { IsReady (act (here_of O.engine machine.now chunk.now.file self.old)
+        requires ready { IsReady (effect (here_of O.engine machine.now chunk.now.file self.old)
             (at.old + 1) instruction.now) self.old }
-        requires small { IsSmall (act (here_of O.engine machine.now chunk.now.file self.old)
+        requires small { IsSmall (effect (here_of O.engine machine.now chunk.now.file self.old)
             (at.old + 1) instruction.now (config_of self.old)) }
         ensures stands { Stands (start_at (here_of O.engine machine.now chunk.now.file self.old)
             at.old steps.old (config_of self.old)) chunk.now.code at.new steps.new }
@@ -97,7 +97,7 @@ impl<'c> Configuration<'c> {
         }
     }
 
-    /// The same as `act`, for an instruction that is no such one.
+    /// The same as `execute`, for an instruction that is no such one.
     #[inline(always)]
     fn step<'f, O: Objects>(
         &mut self,
@@ -106,11 +106,11 @@ impl<'c> Configuration<'c> {
         next: usize,
         instruction: &LentInstruction<'f>,
     ) -> Going<'f>
-        requires ready { IsReady (act (here_of O.engine machine.now file.now self.old)
+        requires ready { IsReady (effect (here_of O.engine machine.now file.now self.old)
             next instruction.now) self.old }
-        requires small { IsSmall (act (here_of O.engine machine.now file.now self.old)
+        requires small { IsSmall (effect (here_of O.engine machine.now file.now self.old)
             next instruction.now (config_of self.old)) }
-        ensures { Does (act (here_of O.engine machine.now file.now self.old) next instruction.now)
+        ensures { Does (effect (here_of O.engine machine.now file.now self.old) next instruction.now)
             self.old result self.new }
     {
         if let Some((operator, span)) = instruction.as_binary() {
@@ -125,23 +125,23 @@ impl<'c> Configuration<'c> {
         if let Some((name, is_global)) = instruction.as_store() {
             return going_on(self.store(machine.alloc, name, is_global));
         }
-        self.act_unpacked(machine, file, next, instruction)
+        self.execute_unpacked(machine, file, next, instruction)
     }
 
     // What is left: the two ends of a loop, of which a table has one in each row, and then what is unpacked whole.
     #[inline(never)]
-    fn act_unpacked<'f, O: Objects>(
+    fn execute_unpacked<'f, O: Objects>(
         &mut self,
         machine: &VirtualMachine<'_, O>,
         file: &str,
         next: usize,
         instruction: &LentInstruction<'f>,
     ) -> Going<'f>
-        requires ready { IsReady (act (here_of O.engine machine.now file.now self.old)
+        requires ready { IsReady (effect (here_of O.engine machine.now file.now self.old)
             next instruction.now) self.old }
-        requires small { IsSmall (act (here_of O.engine machine.now file.now self.old)
+        requires small { IsSmall (effect (here_of O.engine machine.now file.now self.old)
             next instruction.now (config_of self.old)) }
-        ensures { Does (act (here_of O.engine machine.now file.now self.old) next instruction.now)
+        ensures { Does (effect (here_of O.engine machine.now file.now self.old) next instruction.now)
             self.old result self.new }
     {
         if let Some((key, name, counts, size)) = instruction.as_start_loop() {
@@ -150,7 +150,7 @@ impl<'c> Configuration<'c> {
         if let Some(skip) = instruction.as_end_loop() {
             return self.end_loop(skip);
         }
-        self.act(machine, file, next, &instruction.unpack())
+        self.execute(machine, file, next, &instruction.unpack())
     }
 
     #[inline(never)]

@@ -1,5 +1,5 @@
 use Rattle.std.proofs.Common.{ap, refl, sym, ◌∙◌}
-use Rattle.tera_machine.specs.Act.{branched}
+use Rattle.tera_machine.specs.Effect.{branched}
 use Rattle.tera_machine.proofs.Reaching.{more_did}
 use Rattle.tera_machine.proofs.paths.tested.Goals as goal
 

@@ -4,7 +4,7 @@ use Rattle.tera_meaning.specs.Meaning.{output}
 use Rattle.tera_machine.specs.Config.{config_of}
 use Rattle.tera_machine.specs.Flow.{On}
 use Rattle.tera_machine.specs.Did.{Goes}
-use Rattle.tera_machine.specs.Act.{Acted, put_out}
+use Rattle.tera_machine.specs.Effect.{Effected, put_out}
 use Rattle.tera_machine.specs.Subject.{here_of}
 use Rattle.tera_machine.specs.Together.{done}
 use Rattle.tera_machine.specs.Paths.{Stands, Reaches, start_at, topped}
@@ -78,8 +78,8 @@ returns-then-writes_top_at-clause-stands g c =
 pub returns-then-writes_top_at-clause-does : goal.returns-then-writes_top_at-clause-does
 returns-then-writes_top_at-clause-does g c =
     let did = more_did (untested g (goal.at.returns-then-writes_top_at-clause-does g c).In_default-tested) (c.if-writes_top_at.ensures.means refl) refl c.if-writes_top_at.ensures.count in
-    let put = subst (λ f. Acted (put_out (output (here_of g.O.Objects.engine c.args.machine.now f c.args.self.now) c.in-Ok.reached) (config_of c.args.self.now)) c.put_out.result (config_of (record c.args.self.now { texts = c.put_out.new.texts }))) c.file.ensures (c.put_out.ensures c.args.self.now refl) in
-    (subst (λ d. Acted d c.put_out.result (config_of (record c.args.self.now { texts = c.put_out.new.texts }))) (sym did) put, (refl, on_ok c.put_out.result refl))
+    let put = subst (λ f. Effected (put_out (output (here_of g.O.Objects.engine c.args.machine.now f c.args.self.now) c.in-Ok.reached) (config_of c.args.self.now)) c.put_out.result (config_of (record c.args.self.now { texts = c.put_out.new.texts }))) c.file.ensures (c.put_out.ensures c.args.self.now refl) in
+    (subst (λ d. Effected d c.put_out.result (config_of (record c.args.self.now { texts = c.put_out.new.texts }))) (sym did) put, (refl, on_ok c.put_out.result refl))
 
 pub overflow_add-at-2 : goal.overflow_add-at-2
 overflow_add-at-2 g c = omega (arith, (untested g (goal.at.overflow_add-at-2 g c).In_default-tested).stands.there, c.requires.few)
@@ -95,7 +95,7 @@ returns-in_default-comparison_at-clause-stands g c =
 pub returns-in_default-comparison_at-clause-does : goal.returns-in_default-comparison_at-clause-does
 returns-in_default-comparison_at-clause-does g c =
     let did = subst (λ n. done (here_of g.O.Objects.engine c.args.machine.now c.args.chunk.now.file c.args.self.now) c.args.chunk.now.code (suc (n - c.args.steps.now)) c.args.at.now (config_of c.args.self.now) ≡ Goes (topped c.in_ok-operand.operand (config_of c.args.self.now)) On) (sym (c.in_default-comparison_at.ensures.count ∙ c.if-writes_top_at.ensures.count)) ((untested g (goal.at.returns-in_default-comparison_at-clause-does g c).In_default-tested).did ∙ ap (λ a. Goes (topped a (config_of c.args.self.now)) On) (ap (ok_or c.in-Ok.reached) c.in_ok-operand.ensures.operand)) in
-    (subst (λ d. Acted d c.put.result (config_of c.put.new.self)) (sym did) c.put.ensures.0, c.put.ensures.1)
+    (subst (λ d. Effected d c.put.result (config_of c.put.new.self)) (sym did) c.put.ensures.0, c.put.ensures.1)
 
 pub overflow_add-at-3 : goal.overflow_add-at-3
 overflow_add-at-3 g c = omega (arith, (two_more (untested g (goal.at.overflow_add-at-3 g c).In_default-tested) c.in-Some-comparison_at.ensures.means refl (c.in-Some-comparison_at.ensures.count ∙ ap (λ n. n + 2) c.if-writes_top_at.ensures.count)).there, c.requires.few)

@@ -6,12 +6,12 @@ use Rattle.tera_machine.specs.declared.blocks.OpenBlocks.{OpenBlocks}
 use Rattle.tera_machine.specs.declared.configuration.Configuration.{Configuration}
 use Rattle.tera_machine.specs.Flow.{Flow, Use, Written, Ask, component_request, component_use}
 use Rattle.tera_machine.specs.Did.{Did, Goes}
-use Rattle.tera_machine.specs.Act.{act, Acted, beneath}
+use Rattle.tera_machine.specs.Effect.{effect, Effected, beneath}
 use Rattle.tera_machine.specs.Exec.{Finished, BodyEnds}
 use Rattle.tera_machine.specs.Advance.{Advance}
 use Rattle.tera_machine.specs.Bodies.{Stays}
 use Rattle.tera_machine.specs.Config.{config_of}
-use Rattle.tera_machine.proofs.Runs.{here_is, not_stuck, small, one_left, went_on, skipped, skip_within, went_to, place_within, went_out, finished, act_failed, at_ask, at_request}
+use Rattle.tera_machine.proofs.Runs.{here_is, not_stuck, small, one_left, went_on, skipped, skip_within, went_to, place_within, went_out, finished, effect_failed, at_ask, at_request}
 use Rattle.tera_machine.specs.Subject.{here_of, place_at}
 use Rattle.tera_machine.specs.Together.{done}
 use Rattle.tera_machine.proofs.Together.{Last, last_of}
@@ -68,13 +68,13 @@ Holds g t c at b k n = record {
 }
 
 -- it holds where the last of them went
-went : (g : Over) (t : _) (c : run_counted-After-perform g t) {f : Flow} {at : ℕ} → (all_did g t c ≡ Goes (config_of c.perform.new.self) f) × ((around_of c.perform.new.self.scopes ≡ around_of c.loop-instruction.configuration.scopes) × (beneath c.perform.new.self ≡ beneath c.loop-instruction.configuration)) → ((l : LastDone g t c) → act (here_at g.M.Limit.world (place g t c)) (c.perform.new.at + 1) l.instruction l.config ≡ Goes (config_of c.perform.new.self) f → Advance g.M.Limit.most g.M.Limit.world (place g t c) c.args.chunk.now.code (config_of c.args.configuration.now) c.args.steps.now at (config_of c.perform.new.self) c.perform.new.steps) → Holds g t c at c.loop-instruction.blocks c.perform.new.self c.perform.new.steps
+went : (g : Over) (t : _) (c : run_counted-After-perform g t) {f : Flow} {at : ℕ} → (all_did g t c ≡ Goes (config_of c.perform.new.self) f) × ((around_of c.perform.new.self.scopes ≡ around_of c.loop-instruction.configuration.scopes) × (beneath c.perform.new.self ≡ beneath c.loop-instruction.configuration)) → ((l : LastDone g t c) → effect (here_at g.M.Limit.world (place g t c)) (c.perform.new.at + 1) l.instruction l.config ≡ Goes (config_of c.perform.new.self) f → Advance g.M.Limit.most g.M.Limit.world (place g t c) c.args.chunk.now.code (config_of c.args.configuration.now) c.args.steps.now at (config_of c.perform.new.self) c.perform.new.steps) → Holds g t c at c.loop-instruction.blocks c.perform.new.self c.perform.new.steps
 went g t c e to =
     let l = last g t c in
     record { progress = to l (l.did ∙ e.0); stays = still g t c e }
 
 -- and behind the last of them, where the body was taken that it asked for
-came : (g : Over) (t : _) (c : run_counted-After-perform g t) {f : Flow} {q : Request} {u : Use} {b : OpenBlocks} {k : Configuration} (n : ℕ) → (all_did g t c ≡ Goes (config_of c.perform.new.self) f) × ((around_of c.perform.new.self.scopes ≡ around_of c.loop-instruction.configuration.scopes) × (beneath c.perform.new.self ≡ beneath c.loop-instruction.configuration)) → ((l : LastDone g t c) → act (here_at g.M.Limit.world (place g t c)) (c.perform.new.at + 1) l.instruction l.config ≡ Goes (config_of c.perform.new.self) f → AtAsk g.M.Limit.most g.M.Limit.world (place g t c) c.args.chunk.now.code (config_of c.args.configuration.now) c.args.steps.now c.perform.new.at l.config l.before l.instruction (config_of c.perform.new.self) c.perform.new.steps q u) → c.perform.new.steps ≤ n → (c.perform.new.steps ≤ g.M.Limit.most → n ≤ g.M.Limit.most) → BodyEnds g.M.Limit.world (place_at c.args.self.now c.args.chunk.now.file c.loop-instruction.blocks c.perform.new.self) q u (config_of c.perform.new.self) (Finished (config_of k) (n - c.perform.new.steps)) → Stays c.loop-instruction.blocks c.perform.new.self b k → Holds g t c (c.perform.new.at + 1) b k n
+came : (g : Over) (t : _) (c : run_counted-After-perform g t) {f : Flow} {q : Request} {u : Use} {b : OpenBlocks} {k : Configuration} (n : ℕ) → (all_did g t c ≡ Goes (config_of c.perform.new.self) f) × ((around_of c.perform.new.self.scopes ≡ around_of c.loop-instruction.configuration.scopes) × (beneath c.perform.new.self ≡ beneath c.loop-instruction.configuration)) → ((l : LastDone g t c) → effect (here_at g.M.Limit.world (place g t c)) (c.perform.new.at + 1) l.instruction l.config ≡ Goes (config_of c.perform.new.self) f → AtAsk g.M.Limit.most g.M.Limit.world (place g t c) c.args.chunk.now.code (config_of c.args.configuration.now) c.args.steps.now c.perform.new.at l.config l.before l.instruction (config_of c.perform.new.self) c.perform.new.steps q u) → c.perform.new.steps ≤ n → (c.perform.new.steps ≤ g.M.Limit.most → n ≤ g.M.Limit.most) → BodyEnds g.M.Limit.world (place_at c.args.self.now c.args.chunk.now.file c.loop-instruction.blocks c.perform.new.self) q u (config_of c.perform.new.self) (Finished (config_of k) (n - c.perform.new.steps)) → Stays c.loop-instruction.blocks c.perform.new.self b k → Holds g t c (c.perform.new.at + 1) b k n
 came g t c {k = k} n e asks more bounded ends stays =
     let l = last g t c in
     record {
@@ -106,7 +106,7 @@ run_counted-returns-in-Err-clause-bounded g t c = λ h. (counted g t (goal.at.ru
 pub run_counted-returns-in-Err-clause-ends : goal.run_counted-returns-in-Err-clause-ends
 run_counted-returns-in-Err-clause-ends g t c =
     let l = last g t (goal.at.run_counted-returns-in-Err-clause-ends g t c).After-perform in
-    act_failed l.progress refl l.found l.count _ _ (subst (λ d. Acted d (Err c.in-Err.error) (config_of c.perform.new.self)) (sym l.did) c.in-Err.ensures.does.0)
+    effect_failed l.progress refl l.found l.count _ _ (subst (λ d. Effected d (Err c.in-Err.error) (config_of c.perform.new.self)) (sym l.did) c.in-Err.ensures.does.0)
 
 pub run_counted-returns-in-Out-clause-bounded : goal.run_counted-returns-in-Out-clause-bounded
 run_counted-returns-in-Out-clause-bounded g t c = λ h. (counted g t (goal.at.run_counted-returns-in-Out-clause-bounded g t c).After-perform).1

@@ -232,48 +232,49 @@ component_taken here name keys has_body span c =
     component_given here name keys has_body span (topmost (length keys) c.operands) c
 
 -- next is the place behind the instruction
-abbrev pub act : Here → ℕ → Instruction → Config → Did
-act here next (WriteText text) = text_written text
-act here next WriteTop = top_written here
-act here next (WriteName name span) = name_written here name span
-act here next (LoadConst v span) = pushed v span
-act here next (LoadName name span) = name_loaded here.around name span
-act here next (LoadContext span) = context_loaded here.around span
-act here next (LoadAttribute name optional span) = attribute_loaded here.file name optional span
-act here next (LoadItem optional span) = item_loaded here.file optional span
-act here next (Slice optional span) = sliced here.file optional span
-act here next Not = denied
-act here next Negate = negated here.file
-act here next (Binary operator span) = operated here.file operator span
-act here next (MakeArray spreads span) = array_made here.file spreads span
-act here next (MakeMap keys span) = map_made here.file keys span
-act here next (Jump skip) = λ c. Goes c (Skip skip)
-act here next (PopJumpIfFalse skip) = popped_branch skip
-act here next (JumpIfFalseOrPop skip) = kept_if false skip
-act here next (JumpIfTrueOrPop skip) = kept_if true skip
-act here next (Store name is_global) = stored is_global name
-act here next (StartLoop key name counts size) = loop_started here next key name counts size
-act here next NextTurn = turned
-act here next (EndLoop skip) = loop_ended skip
-act here next Keep = kept
-act here next (EndComprehension span) = comprehension_ended span
-act here next StartCapture = capture_started
-act here next (EndCapture span) = capture_ended here.autoescape span
-act here next (LeaveLoop drops) = loop_left drops
-act here next (LeaveTurn drops) = turn_left drops
-act here next (TakeBlock name span) = block_taken name span
-act here next (TakeAbove arguments span) = above_taken arguments span
-act here next (TakeInclude name span) = include_taken name span
-act here next (TakeComponent name keys has_body span) = component_taken here name keys has_body span
-act here next (ApplyFilter name names span) = filter_called here name names span
-act here next (ApplyTest name names span) = test_called here name names span
-act here next (CallFunction name names span) = function_answered here name names span
+abbrev pub effect : Here → ℕ → Instruction → Config → Did
+effect here next (WriteText text) = text_written text
+effect here next WriteTop = top_written here
+effect here next (WriteName name span) = name_written here name span
+effect here next (LoadConst v span) = pushed v span
+effect here next (LoadName name span) = name_loaded here.around name span
+effect here next (LoadContext span) = context_loaded here.around span
+effect here next (LoadAttribute name optional span) = attribute_loaded here.file name optional span
+effect here next (LoadItem optional span) = item_loaded here.file optional span
+effect here next (Slice optional span) = sliced here.file optional span
+effect here next Not = denied
+effect here next Negate = negated here.file
+effect here next (Binary operator span) = operated here.file operator span
+effect here next (MakeArray spreads span) = array_made here.file spreads span
+effect here next (MakeMap keys span) = map_made here.file keys span
+effect here next (Jump skip) = λ c. Goes c (Skip skip)
+effect here next (PopJumpIfFalse skip) = popped_branch skip
+effect here next (JumpIfFalseOrPop skip) = kept_if false skip
+effect here next (JumpIfTrueOrPop skip) = kept_if true skip
+effect here next (Store name is_global) = stored is_global name
+effect here next (StartLoop key name counts size) = loop_started here next key name counts size
+effect here next NextTurn = turned
+effect here next (EndLoop skip) = loop_ended skip
+effect here next Keep = kept
+effect here next (EndComprehension span) = comprehension_ended span
+effect here next StartCapture = capture_started
+effect here next (EndCapture span) = capture_ended here.autoescape span
+effect here next (LeaveLoop drops) = loop_left drops
+effect here next (LeaveTurn drops) = turn_left drops
+effect here next (TakeBlock name span) = block_taken name span
+effect here next (TakeAbove arguments span) = above_taken arguments span
+effect here next (TakeInclude name span) = include_taken name span
+effect here next (TakeComponent name keys has_body span) =
+    component_taken here name keys has_body span
+effect here next (ApplyFilter name names span) = filter_called here name names span
+effect here next (ApplyTest name names span) = test_called here name names span
+effect here next (CallFunction name names span) = function_answered here name names span
 
 -- the code did so, unless memory was refused
-abbrev pub Acted : Did → Result declared.Flow SeenError → Config → Type 0
-Acted d (Ok flow) c = d ≡ Goes c (flow_of flow)
-Acted d (Err None) c = Unit {0}
-Acted d (Err (Some fault)) c = d ≡ Faults fault
+abbrev pub Effected : Did → Result declared.Flow SeenError → Config → Type 0
+Effected d (Ok flow) c = d ≡ Goes c (flow_of flow)
+Effected d (Err None) c = Unit {0}
+Effected d (Err (Some fault)) c = d ≡ Faults fault
 
 -- the operands that are needed are there
 abbrev pub IsReady : (Config → Did) → Configuration → Type 0
@@ -302,7 +303,7 @@ beneath c = beneath_in c.places (coming_of c.scopes) ∷ coming_around c.scopes
 abbrev pub Does : (Config → Did) → Configuration → Result declared.Flow SeenError → Configuration
     → Type 0
 Does does before result after =
-    Acted (does (config_of before)) result (config_of after)
+    Effected (does (config_of before)) result (config_of after)
     × ((around_of after.scopes ≡ around_of before.scopes)
     × OnOk result (beneath after ≡ beneath before))
 

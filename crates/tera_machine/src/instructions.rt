@@ -3,7 +3,7 @@ ghost use Rattle.std.specs.Prelude.{◌≡◌, ◌≢◌, Ok, Some, None, true, 
 ghost use Rattle.tera_errors.specs.Prelude.{Tells, Lacks, Site, rendering_error};
 ghost use Rattle.tera_machine.specs.Config.{config_of};
 ghost use Rattle.tera_machine.specs.Did.{pushed, holding};
-ghost use Rattle.tera_machine.specs.Act.{act, IsReady, IsSmall, Does, going_on, going_on_if, text_written, outcome_put, top_written, name_written, name_loaded, context_loaded, stored, attribute_loaded, item_loaded, sliced, denied, negated, operated, handed, component_taken, popped_branch, kept_if, above_taken, topmost};
+ghost use Rattle.tera_machine.specs.Effect.{effect, IsReady, IsSmall, Does, going_on, going_on_if, text_written, outcome_put, top_written, name_written, name_loaded, context_loaded, stored, attribute_loaded, item_loaded, sliced, denied, negated, operated, handed, component_taken, popped_branch, kept_if, above_taken, topmost};
 ghost use Rattle.tera_machine.specs.Subject.{here_of};
 ghost use Rattle.tera_machine.specs.declared.machine.Flow.TheVariants as flow;
 ghost use Rattle.tera_state.specs.Prelude.{around_of};
@@ -25,18 +25,18 @@ pub(crate) type Put = Result<bool, AllocError>;
 
 impl<'c> Configuration<'c> {
     /// Does what the instruction says, which stands in this file's text in front of the next place, and tells where to go on.
-    pub(crate) fn act<'f, O: Objects>(
+    pub(crate) fn execute<'f, O: Objects>(
         &mut self,
         machine: &VirtualMachine<'_, O>,
         file: &str,
         next: usize,
         instruction: &Instruction<'f>,
     ) -> Going<'f>
-        requires ready { IsReady (act (here_of O.engine machine.now file.now self.old)
+        requires ready { IsReady (effect (here_of O.engine machine.now file.now self.old)
             next instruction.now) self.old }
-        requires small { IsSmall (act (here_of O.engine machine.now file.now self.old)
+        requires small { IsSmall (effect (here_of O.engine machine.now file.now self.old)
             next instruction.now (config_of self.old)) }
-        ensures { Does (act (here_of O.engine machine.now file.now self.old) next instruction.now)
+        ensures { Does (effect (here_of O.engine machine.now file.now self.old) next instruction.now)
             self.old result self.new }
     {
         let alloc = machine.alloc;

@@ -2,7 +2,7 @@
 
 /// A text that spells no tree, where its error starts and ends, and the error's words.
 #[derive(Clone, Copy)]
-pub struct Place(pub &'static str, pub usize, pub usize, pub &'static str);
+pub struct Position(pub &'static str, pub usize, pub usize, pub &'static str);
 
 const NO_EXPRESSION: &str = "no expression begins here";
 
@@ -37,54 +37,54 @@ const LATE_EXTENDS: &str = "only white space and comments may stand before `exte
 const TOO_LARGE: &str = "the integer is too large";
 
 /// Between the standard delimiters.
-pub static POSITIONS: [Place; 37] = [
-    Place("{{ }}", 0, 5, NO_EXPRESSION),
-    Place("ab{{}}", 2, 6, NO_EXPRESSION),
-    Place("{%  %}", 0, 6, NO_STATEMENT),
-    Place("{{ a $ b }}", 5, 6, NO_TOKEN),
-    Place("{{ a \u{e9} }}", 5, 7, NO_TOKEN),
-    Place("{{ \"abc }}", 3, 4, NO_TOKEN),
-    Place("ab{% if x %}c", 2, 12, NO_END),
-    Place("{% if x %}a{% else %}b", 0, 10, NO_END),
-    Place("{% if x %}a{% elif y %}b", 0, 10, NO_END),
-    Place("a{% for x in y %}{% if x %}b{% endif %}", 1, 17, NO_END),
-    Place("{% block a %}b", 0, 13, NO_END),
-    Place("ab{{ x", 2, 4, NO_TAG_END),
-    Place("ab{%- x", 2, 5, NO_TAG_END),
-    Place("{{ (1 + 2 }}", 0, 2, NO_TAG_END),
-    Place("ab{# x", 2, 4, NO_COMMENT_END),
-    Place("ab{% raw %}x", 2, 11, NO_RAW_END),
-    Place("{{ 1 + }}", 7, 9, NO_EXPRESSION),
-    Place("{{ 1 + * 2 }}", 7, 8, NO_EXPRESSION),
-    Place("{{ [x for x in y if ] }}", 20, 21, NO_EXPRESSION),
-    Place("{% if %}x{% endif %}", 6, 8, NO_EXPRESSION),
-    Place("{{ x | }}", 7, 9, NO_NAME),
-    Place("{{ x is -}}", 9, 11, NO_NAME),
-    Place("{{ a.1 }}", 5, 6, NO_NAME),
-    Place("{% set = 3 %}", 7, 8, NO_NAME),
-    Place("{{ a b }}", 5, 6, TAG_GOES_ON),
-    Place("{% for x of y %}{% endfor %}", 9, 11, NO_IN),
-    Place("{% include x %}", 11, 12, NO_TEXT),
-    Place("{% frob %}", 3, 7, NO_STATEMENT),
-    Place("{% endif %}", 3, 8, NOT_OPEN),
-    Place("{% if x %}{% endfor %}", 13, 19, NOT_OPEN),
-    Place("{% block a %}{% endblock b %}", 16, 24, NOT_OPEN),
-    Place("{% else %}", 3, 7, NOT_OPEN),
-    Place("{% break %}", 3, 8, NOT_OPEN),
-    Place(
+pub static POSITIONS: [Position; 37] = [
+    Position("{{ }}", 0, 5, NO_EXPRESSION),
+    Position("ab{{}}", 2, 6, NO_EXPRESSION),
+    Position("{%  %}", 0, 6, NO_STATEMENT),
+    Position("{{ a $ b }}", 5, 6, NO_TOKEN),
+    Position("{{ a \u{e9} }}", 5, 7, NO_TOKEN),
+    Position("{{ \"abc }}", 3, 4, NO_TOKEN),
+    Position("ab{% if x %}c", 2, 12, NO_END),
+    Position("{% if x %}a{% else %}b", 0, 10, NO_END),
+    Position("{% if x %}a{% elif y %}b", 0, 10, NO_END),
+    Position("a{% for x in y %}{% if x %}b{% endif %}", 1, 17, NO_END),
+    Position("{% block a %}b", 0, 13, NO_END),
+    Position("ab{{ x", 2, 4, NO_TAG_END),
+    Position("ab{%- x", 2, 5, NO_TAG_END),
+    Position("{{ (1 + 2 }}", 0, 2, NO_TAG_END),
+    Position("ab{# x", 2, 4, NO_COMMENT_END),
+    Position("ab{% raw %}x", 2, 11, NO_RAW_END),
+    Position("{{ 1 + }}", 7, 9, NO_EXPRESSION),
+    Position("{{ 1 + * 2 }}", 7, 8, NO_EXPRESSION),
+    Position("{{ [x for x in y if ] }}", 20, 21, NO_EXPRESSION),
+    Position("{% if %}x{% endif %}", 6, 8, NO_EXPRESSION),
+    Position("{{ x | }}", 7, 9, NO_NAME),
+    Position("{{ x is -}}", 9, 11, NO_NAME),
+    Position("{{ a.1 }}", 5, 6, NO_NAME),
+    Position("{% set = 3 %}", 7, 8, NO_NAME),
+    Position("{{ a b }}", 5, 6, TAG_GOES_ON),
+    Position("{% for x of y %}{% endfor %}", 9, 11, NO_IN),
+    Position("{% include x %}", 11, 12, NO_TEXT),
+    Position("{% frob %}", 3, 7, NO_STATEMENT),
+    Position("{% endif %}", 3, 8, NOT_OPEN),
+    Position("{% if x %}{% endfor %}", 13, 19, NOT_OPEN),
+    Position("{% block a %}{% endblock b %}", 16, 24, NOT_OPEN),
+    Position("{% else %}", 3, 7, NOT_OPEN),
+    Position("{% break %}", 3, 8, NOT_OPEN),
+    Position(
         "{% block a %}{% endblock %}{% block a %}{% endblock %}",
         36,
         37,
         BLOCK_TWICE,
     ),
-    Place(
+    Position(
         "{% component A() %}{% endcomponent %}x{% component A() %}{% endcomponent %}",
         38,
         38,
         COMPONENT_TWICE,
     ),
-    Place("a{% extends \"b\" %}", 4, 11, LATE_EXTENDS),
-    Place(
+    Position("a{% extends \"b\" %}", 4, 11, LATE_EXTENDS),
+    Position(
         "{{ 170141183460469231731687303715884105728 }}",
         3,
         42,

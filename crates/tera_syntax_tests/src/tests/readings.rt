@@ -6,7 +6,7 @@ use super::applications::{APPLICATIONS, UNREAD_APPLICATIONS};
 use super::components::{CALLS, DEFINITIONS, UNREAD_CALLS, UNREAD_DEFINITIONS};
 use super::includes::{INCLUDES, UNREAD_INCLUDES};
 use super::nests::{Depth, NESTS, Nest};
-use super::positions::{POSITIONS, Place};
+use super::positions::{POSITIONS, Position};
 use super::rows::{OTHERS, Other, REFUSED, Row, TREES, Text, UNUSABLE, Unusable};
 use super::sections::{SECTIONS, UNREAD_SECTIONS};
 use super::trees_in_words::Shown;
@@ -48,8 +48,8 @@ fn is_refused(alloc: Global, text: &str) -> bool {
 }
 
 /// Whether the text is a syntax error that points there and says so.
-fn is_placed(alloc: Global, position: Place) -> bool {
-    let Place(text, start, end, words) = position;
+fn is_placed(alloc: Global, position: Position) -> bool {
+    let Position(text, start, end, words) = position;
     match parsed(alloc, text) {
         Ok(_) => false,
         Err(error) => match error.kind() {

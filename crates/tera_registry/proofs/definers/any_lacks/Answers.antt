@@ -1,5 +1,5 @@
 use Rattle.std.proofs.Common.{sym, ap, arith, length}
-use Rattle.std.proofs.lemmas.Map.Keys.{any_passes_from_position}
+use Rattle.std.proofs.lemmas.Map.Keys.{any_passes_from_place}
 use Rattle.tera_meaning.specs.Accepted.{lacks_something}
 use Rattle.tera_registry.specs.Walks.{rows, targets}
 use Rattle.tera_registry.proofs.Kept.{length-entries}
@@ -33,7 +33,7 @@ pub returns-then-lacks : goal.returns-then-lacks
 returns-then-lacks g c =
     let r = g.registry in
     let t = entry-there r c.args.templates.now c.args.ups.now c.loop-position.position c.requires.1.0 c.loop-position-test.true in
-    sym (any_passes_from_position (lacks_something r) _ c.loop-position.position t.0 t.1 (sym (c.if-lacks.ensures t.0 t.1)))
+    sym (any_passes_from_place (lacks_something r) _ c.loop-position.position t.0 t.1 (sym (c.if-lacks.ensures t.0 t.1)))
 
 pub loop-position-preserved : goal.loop-position-preserved
 loop-position-preserved g c =

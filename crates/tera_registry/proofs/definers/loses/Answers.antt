@@ -1,5 +1,5 @@
 use Rattle.std.proofs.Common.{true, false, sym, ap, ◌∙◌, arith, length}
-use Rattle.std.proofs.lemmas.Map.Keys.{any_passes_from_position}
+use Rattle.std.proofs.lemmas.Map.Keys.{any_passes_from_place}
 use Rattle.tera_meaning.specs.Accepted.{is_lost}
 use Rattle.tera_registry.proofs.Kept.{entry-is}
 use Rattle.tera_registry.proofs.Absent.{none-yet-more, none-yet-all, tops-of, top-at, child-of, lost-none, lost-some, loses-of, loses-nothing}
@@ -21,7 +21,7 @@ returns-in-None g c = λ t t_at.
     let same = entry-is g.registry c.args.templates.now c.args.of _ _ t c.requires.0.same c.requires.1 c.index-templates-of.is c.deref-template.ensures t_at in
     let at = top-at c.deref-template.result.now t _ c.loop-name.name-index c.name-item.result same c.deref-name-items.ensures.value c.loop-name-test.true c.name-item.is in
     let none = lost-none g.registry t c.name-item.result (rw c.sought-sought.ensures at (c.in-None.ensures t t_at)) in
-    sym (loses-of g.registry t true (child-of c.deref-template.result.now t true same c.if-is_none.ensures) (any_passes_from_position (is_lost g.registry t) _ _ _ at none))
+    sym (loses-of g.registry t true (child-of c.deref-template.result.now t true same c.if-is_none.ensures) (any_passes_from_place (is_lost g.registry t) _ _ _ at none))
 
 pub returns : goal.returns
 returns g c = λ t t_at.

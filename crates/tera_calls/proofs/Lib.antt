@@ -1,3 +1,3 @@
 mod Answered
 mod Ended
-mod Turns
+mod InARow

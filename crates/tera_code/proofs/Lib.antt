@@ -3,4 +3,5 @@ pub mod Filled
 pub mod Found
 pub mod Growth
 pub mod Lengthened
+pub mod Parts
 pub mod Written

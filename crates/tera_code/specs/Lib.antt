@@ -5,6 +5,7 @@ pub mod Code
 pub mod Filling
 pub mod Blocks
 pub mod Asked
+pub mod Printing
 pub mod Called
 pub mod Calls
 pub mod Prelude

@@ -216,7 +216,7 @@ impl Chunk {
 
     // The instruction at this position, which is not counted.
     #[inline(always)]
-    fn lent(&self, at: usize) -> Option<LentInstruction<'_>>
+    pub(crate) fn lent(&self, at: usize) -> Option<LentInstruction<'_>>
         ensures found { MatchOption result (slice_get self.now.code at ≡ None)
             (λ i. slice_get self.now.code at ≡ Some i) }
         ensures small { IfSome result (λ _. length self.now.code < 2 ^ 64) }

@@ -7,6 +7,7 @@ ghost use Rattle.tera_code.specs.Asked.{loaded_constant, loaded_attribute, appli
 ghost use Rattle.tera_code.specs.Asked.{started_loop, ended_loop, jump_length, jump_length_if_false};
 ghost use Rattle.tera_code.specs.Asked.{is_write_top, is_next_turn, uses_top};
 ghost use Rattle.tera_code.specs.Called.{callee_of, called_by};
+ghost use Rattle.tera_code.specs.Printing.{puts};
 
 use crate::callee::Callee;
 use crate::constant::Constant;
@@ -256,6 +257,19 @@ impl<'a> LentInstruction<'a> {
         ensures exact { result ≡ is_next_turn self.now }
     {
         matches!(self.packed, Packed::NextTurn)
+    }
+
+    /// Whether it puts out a text, or what this name stands for.
+    pub(crate) fn puts(&self, name: &Name) -> bool
+        ensures { result ≡ puts name.now self.now }
+    {
+        if self.as_text().is_some() {
+            return true;
+        }
+        match self.as_written_name() {
+            Some((written, _)) => written == name,
+            None => false,
+        }
     }
 
     // What it calls.

@@ -18,6 +18,7 @@ pub mod lent_parts;
 mod loops;
 mod nodes;
 mod packed;
+mod printing;
 pub mod reference;
 mod room;
 mod seen;

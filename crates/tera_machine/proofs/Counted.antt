@@ -15,7 +15,7 @@ use Rattle.tera_machine.specs.Exec.{Finished, Broken, used, Ends, BodyEnds}
 use Rattle.tera_machine.specs.Advance.{Leads}
 use Rattle.tera_machine.proofs.Ends.{after-none, step_ends, further, on_leads, skip_leads, ask_leads, ask_breaks}
 
--- a place in the code, and what the machine works on there
+-- a position in the code, and what the machine works on there
 pub record Spot : Type 0 where
   pub ip : ℕ
   pub config : Config
@@ -87,7 +87,7 @@ module _ (w : World) (place : Place) (code : Code) where
   step_comes a b s t goal (Failed f v) g h = (1 + h.0, omega (arith, h.1), breaks_then a b 1 h.0 f g h.2)
   step_comes a b s t goal (Gave x r v) g h = (1 + h.0, omega (arith, h.1), reaches_then a b (goal x r) 1 h.0 g h.2)
 
-  -- one instruction that leads to a place, and the rest
+  -- one instruction that leads to a position, and the rest
   pub step : {A : Type 0} {a : Spot} (b : Spot) (s : ℕ) {t : ℕ} {goal : A → Run → Spot} {x : Answer A} → Reaches a 1 b → Runs b s t goal x → Runs a (s + 1) t goal x
   step {a = a} b s {t = t} {goal = goal} {x = x} g h = record { by = step_comes a b s t goal x g h.by }
 
@@ -166,7 +166,7 @@ module _ (w : World) (place : Place) (code : Code) where
   choice_not_runs go stay s skip true m n r i e a l f g = jump stay s skip i e a l g
   choice_not_runs go stay s skip false m n r i e a l f g = first go s i e a f
 
-  -- the one place is the other, or an instruction leads there
+  -- the one position is the other, or an instruction leads there
   abbrev pub Follows : Spot → Spot → Type 0
   Follows a b = (k : ℕ) × (k ≤ 1) × Reaches a k b
 
@@ -232,7 +232,7 @@ module _ (w : World) (place : Place) (code : Code) where
   same_comes from s t goal goal' (Failed f v) e h = h
   same_comes from s t goal goal' (Gave a r v) e h = (h.0, h.1, subst (Reaches from h.0) (e a r) h.2)
 
-  -- to the same places, told otherwise
+  -- to the same positions, told otherwise
   pub same_goal : {A : Type 0} {from : Spot} {s t : ℕ} {goal goal' : A → Run → Spot} {x : Answer A} → ((a : A) (r : Run) → goal a r ≡ goal' a r) → Runs from s t goal x → Runs from s t goal' x
   same_goal {from = from} {s = s} {t = t} {goal = goal} {goal' = goal'} {x = x} e h =
       record { by = same_comes from s t goal goal' x e h.by }

@@ -6,6 +6,7 @@ pub mod Noting
 pub mod Runs
 pub mod Together
 pub mod Reaching
+pub mod Parts
 pub mod Took
 pub mod Rejoining
 pub mod Including

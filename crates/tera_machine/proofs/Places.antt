@@ -7,7 +7,7 @@ use Rattle.tera_code.specs.declared.instruction.Instruction.{Instruction}
 use Rattle.tera_code.specs.declared.instruction.Instruction.TheVariants.{PopJumpIfFalse, Jump, NextTurn}
 use Rattle.tera_code.specs.Code.{Code, choice_tail}
 
--- the instructions stand in the code from this place on
+-- the instructions stand in the code from this position on
 abbrev pub StandsAt : Code → ℕ → Code → Type 0
 StandsAt code ip [] = Unit {0}
 StandsAt code ip (i ∷ is) = (slice_get code ip ≡ Some i) × StandsAt code (ip + 1) is

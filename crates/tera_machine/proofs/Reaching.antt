@@ -30,18 +30,25 @@ use Rattle.tera_machine.specs.Config.{Config, config_of}
 use Rattle.tera_machine.specs.Flow.{On}
 use Rattle.tera_machine.specs.Did.{Goes, Faults, holding, pushed, outcome, with_text}
 use Rattle.tera_machine.specs.Effect.{effect, Effected, Does, put_out}
-use Rattle.tera_machine.specs.Together.{done, WentOn}
+use Rattle.tera_machine.specs.Together.{done, done_at, after_steps}
 use Rattle.tera_machine.specs.Paths.{Start, Stands, Comes, Reaches, Breaks, start_at, topped, constant_of, truth_of}
-use Rattle.tera_machine.proofs.Together.{done_next}
+use Rattle.tera_machine.proofs.Together.{done_behind, led_behind}
 
 -- an instruction alone
 pub alone_did : (here : Here) (code : Code) (c : Config) (at n : ℕ) (i : Instruction) → slice_get code at ≡ Some i → done here code (suc (n - n)) at c ≡ effect here (at + 1) i c
 alone_did here code c at n i e =
     let none : 0 ≡ n - n = omega arith in
-    let same : at ≡ at + 0 = omega arith in
-    let z : at + 0 + 1 ≡ at + 1 = omega arith in
-    subst (λ k. done here code (suc k) at c ≡ effect here (at + 1) i c) none
-    (done_next here code 0 at c c i refl (subst (λ p. slice_get code p ≡ Some i) same e) ∙ ap (λ p. effect here p i c) z)
+    subst (λ k. done here code (suc k) at c ≡ effect here (at + 1) i c) none (ap (λ o. done_at here at o c) e)
+
+pub alone_stands : {here : Here} {code : Code} {c : Config} {at n : ℕ} (i : Instruction) → slice_get code at ≡ Some i → Stands (start_at here at n c) code at n
+alone_stands {here} {code} {c} {at} {n} i e =
+    let none : 0 ≡ n - n = omega arith in
+    record {
+      counted = omega arith;
+      there = slice_get_within code at i e;
+      config = c;
+      led = subst (λ k. after_steps here code k at c ≡ Some (at, c)) none refl;
+    }
 
 -- and what it does is what all do that are done
 pub alone_does : {O : Type 0} (engine : O → Engine) (m : VirtualMachine O) (file file2 : Name) (c c2 : Configuration) (code : Code) (at n : ℕ) (i : Instruction) (r : Result declared.Flow SeenError) → slice_get code at ≡ Some i → file2 ≡ file → Does (effect (here_of engine m file2 c) (at + 1) i) c r c2 → Does (done (here_of engine m file c) code (suc (n - n)) at) c r c2
@@ -54,15 +61,9 @@ alone_does engine m file file2 c c2 code at n i r e f d = (
 -- a name alone: what it stands for lies on top
 pub begins : {here : Here} {code : Code} {c : Config} {at n : ℕ} {name sought : site.Name} {span : Span} {found : Val} {a : Evaluated} → slice_get code at ≡ Some (instruction.LoadName name span) → sought ≡ name → found ≡ look sought here.around c.run.vars → a ≡ record { value = found; span = span } → Reaches (start_at here at n c) code at n a
 begins {here} {code} {c} {at} {n} {name} {sought} {span} {found} e is l same =
-    let none : 0 ≡ n - n = omega arith in
     let stands_for : look name here.around c.run.vars ≡ found = ap (λ x. look x here.around c.run.vars) (sym is) ∙ sym l in
     record {
-      stands = record {
-        counted = omega arith;
-        place = omega arith;
-        there = slice_get_within code at _ e;
-        before = subst (λ k. WentOn (done here code k at c)) none tt;
-      };
+      stands = alone_stands _ e;
       did = alone_did here code c at n _ e ∙ ap (λ v. pushed v span c) stands_for ∙ ap (λ b. Goes (holding (b ∷ c.operands) c) On) (sym same);
     }
 
@@ -73,20 +74,15 @@ module _ {s : Start} {code : Code} {at n : ℕ} {c : Config} (r : Comes s code a
       let k : suc (n - s.count) ≡ n2 - s.count = omega (arith, r.stands.counted, m) in
       record {
         counted = omega (arith, r.stands.counted, m);
-        place = omega (arith, r.stands.counted, r.stands.place, m, p);
         there = omega (arith, slice_get_within code (at + 1) i e, p);
-        before = subst (λ j. WentOn (done s.here code j s.at s.config)) k (subst WentOn (sym r.did) tt);
+        config = c;
+        led = subst (λ j. after_steps s.here code j s.at s.config ≡ Some (at2, c)) k (led_behind s.here code (n - s.count) s.at s.config r.stands.led (Goes c On) r.did ∙ ap (λ q. Some (q, c)) (sym p));
       }
 
   -- what it does
   pub more_did : done s.here code (suc (n2 - s.count)) s.at s.config ≡ effect s.here (at2 + 1) i c
-  more_did =
-      let k : suc (n - s.count) ≡ n2 - s.count = omega (arith, r.stands.counted, m) in
-      let q : at + 1 ≡ s.at + suc (n - s.count) = omega (arith, r.stands.place) in
-      let z : s.at + suc (n - s.count) + 1 ≡ at2 + 1 = omega (arith, r.stands.place, p) in
-      subst (λ j. done s.here code (suc j) s.at s.config ≡ effect s.here (at2 + 1) i c) k
-      (done_next s.here code (suc (n - s.count)) s.at s.config c i r.did (subst (λ x. slice_get code x ≡ Some i) q e)
-      ∙ ap (λ x. effect s.here x i c) z)
+  unfolding more
+  more_did = done_behind s.here code (n2 - s.count) s.at s.config more.led i (subst (λ q. slice_get code q ≡ Some i) (sym p) e)
 
 module _ {s : Start} {code : Code} {at n : ℕ} {a : Evaluated} (r : Reaches s code at n a) {name : site.Name} {optional : Bool} {span : Span} {at2 n2 : ℕ} (e : slice_get code (at + 1) ≡ Some (instruction.LoadAttribute name optional span)) (p : at2 ≡ at + 1) (m : n2 ≡ n + 1) {file file2 name2 : site.Name} (f : s.here.file ≡ file) (f2 : file2 ≡ file) (g2 : name2 ≡ name) where
   same : attribute_of s.here.file optional a name span ≡ attribute_of file2 optional a name2 span

@@ -7,12 +7,12 @@ use Rattle.tera_meaning.specs.Run.{Request}
 use Rattle.tera_machine.specs.Flow.{Use}
 use Rattle.tera_machine.specs.Exec.{End, IsOver, Within, after, exec, body_by, Ends, EndsWithin}
 
--- what the machine does from the later place, it does from the earlier one, by k more instructions
+-- what the machine does from the later position, it does from the earlier one, by k more instructions
 pub record Leads (w : World) (p : Place) (code : Code) (ip : ℕ) (c : Config) (k : ℕ) (ip' : ℕ)
     (c' : Config) : Type 0 where
   pub by : (o : End) → IsOver o → Ends w p code ip' c' o → Ends w p code ip c (after k o)
 
--- from the start at the count n0 to this place at the count n, where the count may rise to most
+-- from the start at the count n0 to this position at the count n, where the count may rise to most
 pub record Advance (most : ℕ) (w : World) (p : Place) (code : Code) (c0 : Config) (n0 : ℕ) (ip : ℕ)
     (c : Config) (n : ℕ) : Type 0 where
   pub counted : n0 ≤ n

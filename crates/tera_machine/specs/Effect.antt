@@ -231,7 +231,7 @@ abbrev pub component_taken : Here → site.Name → List (Option Key) → Bool �
 component_taken here name keys has_body span c =
     component_given here name keys has_body span (topmost (length keys) c.operands) c
 
--- next is the place behind the instruction
+-- next is the position behind the instruction
 abbrev pub effect : Here → ℕ → Instruction → Config → Did
 effect here next (WriteText text) = text_written text
 effect here next WriteTop = top_written here

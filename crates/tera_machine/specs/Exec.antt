@@ -91,7 +91,7 @@ taken go q u c (Refuses f) = Broken f 0
 taken go q u c (Takes place vars body) =
     leaving q u c (go place (nodes_code body 0) 0 (entered vars c))
 
--- a place past the end of the code sticks
+-- a position past the end of the code sticks
 abbrev pub within_code : ℕ → (ℕ → Config → End) → ℕ → Config → End
 within_code len go ip c = cond (nat_le ip len) (go ip c) Stuck
 

@@ -16,7 +16,7 @@ pub data Use : Type 0 where
   Written : Use
   Pushed : (safe : Bool) (span : Span) → Use
 
--- at the next instruction; so many behind that; so many behind a place; at the end; or at the next
+-- at the next instruction; so many behind that; so many behind a position; at the end; or at the next
 -- one, when another body was taken
 pub data Flow : Type 0 where
   On : Flow

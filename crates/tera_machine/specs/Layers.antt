@@ -22,7 +22,7 @@ behind t (u ∷ us) = record { now = u ++ t; below = us }
 abbrev pub joined : Layers → Layers
 joined l = behind l.now l.below
 
--- the texts that begin at these places of all that is written, the innermost first
+-- the texts that begin at these positions of all that is written, the innermost first
 abbrev pub below_at : ℕ → List ℕ → Text → List Text
 below_at start [] all = []
 below_at start (o ∷ os) all = drop o (take start all) ∷ below_at o os (take start all)
@@ -30,7 +30,7 @@ below_at start (o ∷ os) all = drop o (take start all) ∷ below_at o os (take 
 abbrev pub layers_at : ℕ → List ℕ → Text → Layers
 layers_at start outer all = record { now = drop start all; below = below_at start outer all }
 
--- each of these places is between two characters, none is before those further out, and the
+-- each of these positions is between two characters, none is before those further out, and the
 -- outermost text begins in front
 abbrev pub AreStarts : ℕ → List ℕ → Text → Type 0
 AreStarts start [] all = start ≡ 0

@@ -11,6 +11,7 @@ pub mod Paths
 pub mod Advance
 pub mod Included
 pub mod Subject
+pub mod Printing
 pub mod Wanted
 pub mod Bodies
 pub mod Includes

@@ -13,7 +13,7 @@ use Rattle.tera_machine.specs.Flow.{On, Skip, To}
 use Rattle.tera_machine.specs.Did.{Did, Goes, Faults, Sticks, holding, with_vars}
 
 -- the first turn is opened, or the body and the end of the loop are passed; the body starts at the
--- next place
+-- next position
 abbrev pub begun_over : ℕ → ℕ → List Turn → Config → Did
 begun_over next size [] c = Goes c (Skip (size + 2))
 begun_over next size (t ∷ ts) c =

@@ -1,5 +1,5 @@
 -- How far the reading of a path has come.
-use Rattle.std.specs.Prelude.{◌≡◌, ℕ, suc, ◌+◌, ◌-◌, ◌<◌, ◌≤◌, ◌∷◌, length, Err}
+use Rattle.std.specs.Prelude.{◌≡◌, ℕ, suc, ◌-◌, ◌<◌, ◌≤◌, ◌∷◌, length, Some, Err}
 use Rattle.tera_errors.specs.Site.{Name}
 use Rattle.tera_errors.specs.Answer.{SeenError}
 use Rattle.tera_operators.specs.Operand.{Evaluated, Outcome}
@@ -11,9 +11,9 @@ use Rattle.tera_machine.specs.Config.{Config}
 use Rattle.tera_machine.specs.Flow.{On}
 use Rattle.tera_machine.specs.Did.{Goes, holding}
 use Rattle.tera_machine.specs.Effect.{Effected}
-use Rattle.tera_machine.specs.Together.{done, WentOn}
+use Rattle.tera_machine.specs.Together.{done, after_steps}
 
--- where a reading begins: its place, the count behind the instruction there, and the configuration
+-- where a reading begins: its position, the count behind the instruction there, and the configuration
 pub record Start : Type 0 where
   pub here : Here
   pub at : ℕ
@@ -23,12 +23,12 @@ pub record Start : Type 0 where
 abbrev pub start_at : Here → ℕ → ℕ → Config → Start
 start_at here at n c = record { here = here; at = at; count = n; config = c }
 
--- at the last instruction that was handed out, all before which went on
+-- at the last instruction that was handed out, to which all before it led
 pub record Stands (s : Start) (code : Code) (at n : ℕ) : Type 0 where
   pub counted : s.count ≤ n
-  pub place : at ≡ s.at + (n - s.count)
   pub there : at < length code
-  pub before : WentOn (done s.here code (n - s.count) s.at s.config)
+  pub config : Config
+  pub led : after_steps s.here code (n - s.count) s.at s.config ≡ Some (at, config)
 
 -- and that one went on too, with this configuration
 pub record Comes (s : Start) (code : Code) (at n : ℕ) (c : Config) : Type 0 where

@@ -24,7 +24,7 @@ use tera_values::{Error, Name, Sought, Span, TeraResult, Value};
 pub(crate) type Put = Result<bool, AllocError>;
 
 impl<'c> Configuration<'c> {
-    /// Does what the instruction says, which stands in this file's text in front of the next place, and tells where to go on.
+    /// Does what the instruction says, which stands in this file's text in front of the next position, and tells where to go on.
     pub(crate) fn execute<'f, O: Objects>(
         &mut self,
         machine: &VirtualMachine<'_, O>,

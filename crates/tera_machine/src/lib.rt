@@ -15,6 +15,7 @@ mod loops;
 pub mod machine;
 mod paths;
 pub mod place;
+mod printing;
 mod step;
 pub mod texts;
 pub mod wanted;

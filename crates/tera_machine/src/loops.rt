@@ -47,7 +47,7 @@ fn opened(
 }
 
 impl<'c> Configuration<'c> {
-    // The body starts at the next place.
+    // The body starts at the next position.
     pub(crate) fn start_loop<'f, O: Objects>(
         &mut self,
         machine: &VirtualMachine<'_, O>,

@@ -32,7 +32,7 @@ pub enum Flow<'f> {
     On,
     /// So many instructions behind the next one.
     Skip(usize),
-    /// So many instructions behind a place.
+    /// So many instructions behind a position.
     To(usize, usize),
     /// At the end of the body.
     Out,

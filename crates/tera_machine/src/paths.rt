@@ -42,7 +42,7 @@ fn lent<'a>(found: &Found<'a>, span: Span) -> Option<LentOperand<'a>>
     }
 }
 
-/// Takes the attributes of an operand that the instructions behind a place take, each of what the one before gave. The place
+/// Takes the attributes of an operand that the instructions behind a position take, each of what the one before gave. The position
 /// becomes that of the last of these instructions. That holds wherever the reading of the path began.
 fn attributes<'v, L: Ledger>(
     alloc: Global,
@@ -75,7 +75,7 @@ fn attributes<'v, L: Ledger>(
     }
 }
 
-/// Where it goes on if the instruction behind a place tests the topmost operand, which is this one. The place becomes that of this
+/// Where it goes on if the instruction behind a position tests the topmost operand, which is this one. The position becomes that of this
 /// instruction.
 #[inline(always)]
 fn tested<'f, L: Ledger>(
@@ -225,7 +225,7 @@ impl<'c> Configuration<'c> {
         }
     }
 
-    /// Tests an operand where the instruction behind a place does so, and else puts it on top of the others. The place becomes that
+    /// Tests an operand where the instruction behind a position does so, and else puts it on top of the others. The position becomes that
     /// of the last instruction that is done.
     #[inline(always)]
     fn test_or_put<'f, L: Ledger>(

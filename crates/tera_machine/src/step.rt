@@ -22,7 +22,7 @@ use tera_state::Found;
 use tera_values::{Name, Span, Value};
 
 impl<'c> Configuration<'c> {
-    /// Does the instruction that stands at this place, and what is read together with it. The place becomes that of the last of
+    /// Does the instruction that stands at this position, and what is done together with it. The position becomes that of the last of
     /// them. What is run most is told apart first, and needs no more of the instruction than its parts: all else stays out of the
     /// loop, whose frame is small.
     #[inline(always)]
@@ -93,44 +93,49 @@ impl<'c> Configuration<'c> {
                 self.read(machine, chunk, at, name, span, steps)
             }
             Some((name, span)) => going_on(self.load_named(machine.alloc, name, span)),
-            None => self.step(machine, chunk.file(), *at + 1, instruction),
+            None => self.step(machine, chunk, at, instruction, steps),
         }
     }
 
-    /// The same as `execute`, for an instruction that is no such one.
+    /// The same for an instruction that loads no name.
     #[inline(always)]
-    fn step<'f, O: Objects>(
+    fn step<'f, O: Objects, L: Ledger>(
         &mut self,
         machine: &VirtualMachine<'_, O>,
-        file: &str,
-        next: usize,
+        chunk: &Chunk,
+        at: &mut usize,
         instruction: &LentInstruction<'f>,
+        steps: &mut Steps<L>,
     ) -> Going<'f>
-        requires ready { IsReady (effect (here_of O.engine machine.now file.now self.old)
-            next instruction.now) self.old }
-        requires small { IsSmall (effect (here_of O.engine machine.now file.now self.old)
-            next instruction.now (config_of self.old)) }
-        ensures { Does (effect (here_of O.engine machine.now file.now self.old) next instruction.now)
-            self.old result self.new }
+        requires there { slice_get chunk.now.code at.old ≡ Some instruction.now }
+        requires few { length chunk.now.code < 2 ^ 64 }
+        requires ready { IsReady (effect (here_of O.engine machine.now chunk.now.file self.old)
+            (at.old + 1) instruction.now) self.old }
+        requires small { IsSmall (effect (here_of O.engine machine.now chunk.now.file self.old)
+            (at.old + 1) instruction.now (config_of self.old)) }
+        ensures stands { Stands (start_at (here_of O.engine machine.now chunk.now.file self.old)
+            at.old steps.old (config_of self.old)) chunk.now.code at.new steps.new }
+        ensures does { Does (done (here_of O.engine machine.now chunk.now.file self.old)
+            chunk.now.code (suc (steps.new - steps.old)) at.old) self.old result self.new }
     {
         if let Some((operator, span)) = instruction.as_binary() {
-            return self.operate(machine.alloc, file, operator, span);
+            return self.operate(machine.alloc, chunk.file(), operator, span);
         }
         if instruction.is_write_top() {
-            return self.write_top(machine, file);
+            return self.write_top(machine, chunk.file());
         }
         if let Some((name, optional, span)) = instruction.as_attribute() {
-            return self.load_attribute(machine.alloc, file, name.as_str(), optional, span);
+            return self.load_attribute(machine.alloc, chunk.file(), name.as_str(), optional, span);
         }
         if let Some((name, is_global)) = instruction.as_store() {
             return going_on(self.store(machine.alloc, name, is_global));
         }
-        self.execute_unpacked(machine, file, next, instruction)
+        self.start_or_execute(machine, chunk, at, instruction, steps)
     }
 
     // What is left: the two ends of a loop, of which a table has one in each row, and then what is unpacked whole.
     #[inline(never)]
-    fn execute_unpacked<'f, O: Objects>(
+    pub(crate) fn execute_unpacked<'f, O: Objects>(
         &mut self,
         machine: &VirtualMachine<'_, O>,
         file: &str,

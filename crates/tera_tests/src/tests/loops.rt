@@ -41,6 +41,16 @@ const CASES: &str = r#"
 {% for x in [1, 2, 3] %}{% for y in [] %}{% else %}{% break %}{% endfor %}a{% endfor %}b => b
 {% for x in [1, 2] %}{% for y in [1, 2] %}{% if y == 2 %}{% break %}{% endif %}{{ y }}{% endfor %}{{ x }}{% endfor %} => 1112
 {% for x in [1, 2] %}{% for y in [1, 2] %}{% continue %}{% endfor %}{{ x }}{% endfor %} => 12
+{% for x in [1, 2] %}{{ x }}{{ x }}{% endfor %} => 1122
+{% for x in [1, 2] %}ab{% endfor %} => abab
+{% for x in ["<", safe, [1, "<"]] %}-{{ x }}{% endfor %} => -&lt;-<b>-[1, &quot;&lt;&quot;]
+{% for x in [1, nope] %}-{{ x }}{% endfor %} !! 28 29
+{% for x in [1, 2] %}{{ x }}{% else %}no{% endfor %}b => 12b
+{% for x in [2, 1] | sort %}{{ x }}{% endfor %} => 12
+{% set x = 7 %}{% for x in [1, 2] %}{{ x }}{% endfor %}{{ x }} => 127
+{% set y %}a{% for x in ["<"] %}{{ x }}{% endfor %}{% endset %}{{ y }} => a&lt;
+{% for x in [[1], [2]] %}({% for x in x %}{{ x }}{% endfor %}){% endfor %} => (1)(2)
+{% for __tera_loop_index in [5, 6] %}{{ __tera_loop_index }}{% endfor %} => 12
 {% for x in [1] %}{% endfor %}{{ x }} !! 33 34
 {% for x in [1] %}{{ loop.other or 1 }}{% endfor %} !! 21 25
 {{ loop.index or 1 }} !! 3 7

@@ -1,4 +1,5 @@
 use Rattle.std.proofs.Common.{arith, refl, sym, ap, subst, ◌∙◌, ◌+◌, ◌-◌, ◌≡◌, suc, Ok, Err, Result, OnOk}
+use Rattle.std.proofs.lemmas.Option.{slice_get_within}
 use Rattle.tera_values.specs.Val.{undefined}
 use Rattle.tera_meaning.specs.Meaning.{output}
 use Rattle.tera_machine.specs.Config.{config_of}
@@ -8,7 +9,7 @@ use Rattle.tera_machine.specs.Effect.{Effected, put_out}
 use Rattle.tera_machine.specs.Subject.{here_of}
 use Rattle.tera_machine.specs.Together.{done}
 use Rattle.tera_machine.specs.Paths.{Stands, Reaches, start_at, topped}
-use Rattle.tera_machine.proofs.Reaching.{begins, more, more_did, two_more, compared_comes, compared_breaks}
+use Rattle.tera_machine.proofs.Reaching.{alone_stands, begins, more, more_did, two_more, compared_comes, compared_breaks}
 use Rattle.tera_machine.proofs.configuration.Configuration.read.Given.{Over}
 use Rattle.tera_machine.proofs.configuration.Configuration.read.Goals as goal
 use Rattle.tera_machine.proofs.configuration.Configuration.read.Goals.{In-Some, In-Ok, In_default-tested}
@@ -117,3 +118,9 @@ returns-in-Err-compared-clause-stands g c = two_more (untested g (goal.at.return
 pub returns-in-Err-compared-clause-does : goal.returns-in-Err-compared-clause-does
 returns-in-Err-compared-clause-does g c =
     (compared_breaks (config_of c.args.self.now) (untested g (goal.at.returns-in-Err-compared-clause-does g c).In_default-tested) c.in-Some-comparison_at.ensures.means refl (c.in-Some-comparison_at.ensures.count ∙ ap (λ n. n + 2) c.if-writes_top_at.ensures.count) c.file-2.ensures c.in-Err-compared.error c.in-Err-compared.ensures _, (refl, tt))
+
+pub returns-in_err-to_value-clause-stands : goal.returns-in_err-to_value-clause-stands
+returns-in_err-to_value-clause-stands g c = alone_stands _ c.requires.there
+
+pub use_up-requires-clause-there : goal.use_up-requires-clause-there
+use_up-requires-clause-there g c = slice_get_within c.args.chunk.now.code c.args.at.now _ c.requires.there

@@ -40,7 +40,7 @@ LastDone g t c =
     Last g.M.Limit.most g.M.Limit.world (place g t c) c.args.chunk.now.code (config_of c.args.configuration.now) c.args.steps.now c.perform.new.at c.perform.new.steps (config_of c.loop-instruction.configuration) (all_did g t c)
 
 last : (g : Over) (t : _) (c : run_counted-After-perform g t) → LastDone g t c
-last g t c = last_of c.loop-instruction.invariant.progress (here_is g.O.Objects.engine g.M.Limit.world c.args.self.now _ _ c.args.blocks.now c.loop-instruction.configuration c.args.configuration.now c.requires.engine refl c.loop-instruction.invariant.stays.around) c.in-Some.ensures.count c.perform.ensures.stands.counted c.perform.ensures.stands.place c.perform.ensures.stands.there c.perform.ensures.stands.before
+last g t c = last_of c.loop-instruction.invariant.progress (here_is g.O.Objects.engine g.M.Limit.world c.args.self.now _ _ c.args.blocks.now c.loop-instruction.configuration c.args.configuration.now c.requires.engine refl c.loop-instruction.invariant.stays.around) c.in-Some.ensures.count c.perform.ensures.stands.counted c.perform.ensures.stands.there c.perform.ensures.stands.led
 
 -- they are counted, and there was room for them
 counted : (g : Over) (t : _) (c : run_counted-After-perform g t) → (c.loop-instruction.steps < c.perform.new.steps) × (c.perform.new.steps ≤ g.M.Limit.most)

@@ -1,0 +1,52 @@
+use Rattle.std.proofs.Common.{arith, refl, sym, ◌≡◌, ◌-◌, ◌∙◌, suc, ap, subst}
+use Rattle.std.proofs.lemmas.Option.{slice_get_within}
+use Rattle.tera_values.specs.Val.{array, vals}
+use Rattle.tera_machine.specs.Config.{config_of}
+use Rattle.tera_machine.specs.Did.{holding}
+use Rattle.tera_machine.specs.Effect.{Effected}
+use Rattle.tera_machine.specs.Subject.{here_of}
+use Rattle.tera_machine.specs.Together.{done}
+use Rattle.tera_machine.specs.Paths.{Stands, start_at}
+use Rattle.tera_machine.specs.Printing.{saying}
+use Rattle.tera_machine.proofs.Reaching.{alone_stands, alone_does}
+use Rattle.tera_machine.proofs.Parts.{as_topped, effected_same, on_ok, on_ok_by, topmost_is}
+use Rattle.tera_machine.proofs.configuration.Configuration.start_or_execute.Given.{Over}
+use Rattle.tera_machine.proofs.configuration.Configuration.start_or_execute.Goals as goal
+use Rattle.tera_machine.proofs.configuration.Configuration.start_or_execute.Goals.{After-take}
+
+-- the operand that is taken is the target
+target : (g : Over) (c : After-take g) → c.take.result.value ≡ array (vals c.in-Some-items_of.items.now)
+target g c =
+    ap (λ a. a.value) (topmost_is c.args.self.now.operands c.top.result.now c.take.result c.take.new.self c.top.ensures c.take.ensures) ∙ sym c.value.ensures ∙ c.in-Some-items_of.ensures.1
+
+pub returns-in_default-clause-stands : goal.returns-in_default-clause-stands
+returns-in_default-clause-stands g c = alone_stands _ c.requires.there
+
+pub returns-in_default-clause-does : goal.returns-in_default-clause-does
+returns-in_default-clause-does g c =
+    alone_does g.O.Objects.engine c.args.machine.now c.args.chunk.now.file c.file.result.now c.args.self.now c.execute_unpacked.new.self c.args.chunk.now.code c.args.at.now c.args.steps.now c.args.opening.now c.execute_unpacked.result c.requires.there c.file.ensures c.execute_unpacked.ensures
+
+pub overflow_add-at-in_default-items_of : goal.overflow_add-at-in_default-items_of
+overflow_add-at-in_default-items_of g c = omega (arith, slice_get_within c.args.chunk.now.code _ _ c.requires.there, c.requires.few)
+
+pub returns-in_default-items_of-clause-stands : goal.returns-in_default-items_of-clause-stands
+returns-in_default-items_of-clause-stands g c = alone_stands _ c.requires.there
+
+pub returns-in_default-items_of-clause-does : goal.returns-in_default-items_of-clause-does
+returns-in_default-items_of-clause-does g c =
+    alone_does g.O.Objects.engine c.args.machine.now c.args.chunk.now.file c.file-in_default-items_of.result.now c.args.self.now c.execute_unpacked-in_default-items_of.new.self c.args.chunk.now.code c.args.at.now c.args.steps.now c.args.opening.now c.execute_unpacked-in_default-items_of.result c.requires.there c.file-in_default-items_of.ensures c.execute_unpacked-in_default-items_of.ensures
+
+pub returns-clause-stands : goal.returns-clause-stands
+returns-clause-stands g c =
+    let old = config_of c.args.self.now in
+    let here = here_of g.O.Objects.engine c.args.machine.now c.args.chunk.now.file c.args.self.now in
+    subst (λ x. Stands (start_at here c.args.at.now c.args.steps.now x) c.args.chunk.now.code c.put_loop-printed.new.at c.put_loop-printed.new.steps) (as_topped old c.take.result c.take.new.self c.take.ensures)
+    (c.put_loop-printed.ensures.stands here c.take.result (holding c.take.new.self old) (refl, refl, refl) (target g (goal.at.returns-clause-stands g c).After-take))
+
+pub returns-clause-does : goal.returns-clause-does
+returns-clause-does g c =
+    let old = config_of c.args.self.now in
+    let here = here_of g.O.Objects.engine c.args.machine.now c.args.chunk.now.file c.args.self.now in
+    let new = saying c.put_loop-printed.new.texts.now (holding c.take.new.self old) in
+    let did = subst (λ x. Effected (done here c.args.chunk.now.code (suc (c.put_loop-printed.new.steps - c.args.steps.now)) c.args.at.now x) c.put_loop-printed.result new) (as_topped old c.take.result c.take.new.self c.take.ensures) (c.put_loop-printed.ensures.does here c.take.result (holding c.take.new.self old) (refl, refl, refl) (target g (goal.at.returns-clause-does g c).After-take)) in
+    (effected_same (done here c.args.chunk.now.code (suc (c.put_loop-printed.new.steps - c.args.steps.now)) c.args.at.now old) c.put_loop-printed.result new (record new { captures = c.put_loop-printed.new.texts.below }) did (on_ok_by c.put_loop-printed.result (λ e. ap (λ captures. record new { captures = captures }) (sym e)) c.put_loop-printed.ensures.below), (refl, on_ok c.put_loop-printed.result refl))

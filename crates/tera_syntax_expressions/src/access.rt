@@ -36,6 +36,7 @@ impl Access {
 
 impl<'s, F: Fn(Global, &mut Tokens<'_, 's>, usize, u8) -> Read<'s>> Reader<F> {
     /// `x.name`, from the dot on.
+    #[inline(never)]
     #[tactic(auto, unfolding(crate::specs::Expressions::attribute))]
     pub(crate) fn attribute(&self, tokens: &mut Tokens<'_, 's>, at: Access, x: Deep<'s>) -> Read<'s>
         ensures { let meant = spec.attribute self.now.limit (spec.expr self.now.below)
@@ -56,6 +57,7 @@ impl<'s, F: Fn(Global, &mut Tokens<'_, 's>, usize, u8) -> Read<'s>> Reader<F> {
     }
 
     /// `x[y]` or a slice, from the bracket on.
+    #[inline(never)]
     #[tactic(auto, unfolding(crate::specs::Expressions::subscript, crate::specs::Expressions::part))]
     pub(crate) fn subscript(&self, tokens: &mut Tokens<'_, 's>, at: Access, x: Deep<'s>) -> Read<'s>
         requires { Nests self.now.below (F.pre self.now.expr) (F.post self.now.expr) }
@@ -79,6 +81,7 @@ impl<'s, F: Fn(Global, &mut Tokens<'_, 's>, usize, u8) -> Read<'s>> Reader<F> {
     }
 
     /// A bound of a slice, if it is written, and how deep it is.
+    #[inline(always)]
     #[tactic(auto, unfolding(crate::specs::Expressions::part))]
     pub(crate) fn part(&self, tokens: &mut Tokens<'_, 's>) -> Result<Part<'s>, Refusal>
         requires { Nests self.now.below (F.pre self.now.expr) (F.post self.now.expr) }
@@ -95,6 +98,7 @@ impl<'s, F: Fn(Global, &mut Tokens<'_, 's>, usize, u8) -> Read<'s>> Reader<F> {
     }
 
     /// The step of a slice, if it is written, and how deep it is.
+    #[inline(always)]
     #[tactic(auto, unfolding(crate::specs::Expressions::step))]
     pub(crate) fn step(&self, tokens: &mut Tokens<'_, 's>) -> Result<Part<'s>, Refusal>
         requires { Nests self.now.below (F.pre self.now.expr) (F.post self.now.expr) }
@@ -108,6 +112,7 @@ impl<'s, F: Fn(Global, &mut Tokens<'_, 's>, usize, u8) -> Read<'s>> Reader<F> {
     }
 
     /// `x[y]`, where the index was read, from its bracket on.
+    #[inline(never)]
     #[tactic(auto, unfolding(crate::specs::Expressions::index_at))]
     fn index(&self, tokens: &mut Tokens<'_, 's>, at: Access, x: Deep<'s>, y: Deep<'s>) -> Read<'s>
         ensures { let y = deep_of y.entry in
@@ -124,6 +129,7 @@ impl<'s, F: Fn(Global, &mut Tokens<'_, 's>, usize, u8) -> Read<'s>> Reader<F> {
     }
 
     /// A slice, from the first colon on.
+    #[inline(never)]
     #[tactic(auto, unfolding(crate::specs::Expressions::slice, crate::specs::Expressions::slice_made))]
     fn slice(&self, tokens: &mut Tokens<'_, 's>, at: Access, x: Deep<'s>, p: Part<'s>) -> Read<'s>
         requires { Nests self.now.below (F.pre self.now.expr) (F.post self.now.expr) }

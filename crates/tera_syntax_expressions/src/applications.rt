@@ -16,6 +16,7 @@ use tera_syntax_tree::Argument;
 
 impl<'s, F: Fn(Global, &mut Tokens<'_, 's>, usize, u8) -> Read<'s>> Reader<F> {
     /// `x | name`, from the bar on.
+    #[inline(never)]
     #[tactic(auto, unfolding(crate::specs::Expressions::filter))]
     pub(crate) fn filter(&self, tokens: &mut Tokens<'_, 's>, start: usize, x: Deep<'s>) -> Read<'s>
         requires { Nests self.now.below (F.pre self.now.expr) (F.post self.now.expr) }
@@ -29,6 +30,7 @@ impl<'s, F: Fn(Global, &mut Tokens<'_, 's>, usize, u8) -> Read<'s>> Reader<F> {
     }
 
     /// `x is name`, or `x is not name`, from `is` on.
+    #[inline(never)]
     #[tactic(auto, unfolding(crate::specs::Expressions::tested))]
     pub(crate) fn test(&self, tokens: &mut Tokens<'_, 's>, start: usize, x: Deep<'s>) -> Read<'s>
         requires { Nests self.now.below (F.pre self.now.expr) (F.post self.now.expr) }
@@ -44,6 +46,7 @@ impl<'s, F: Fn(Global, &mut Tokens<'_, 's>, usize, u8) -> Read<'s>> Reader<F> {
     }
 
     /// A test, from its name on.
+    #[inline(always)]
     #[tactic(auto, unfolding(crate::specs::Expressions::test_by_name))]
     fn test_by_name(&self, tokens: &mut Tokens<'_, 's>, start: usize, x: Deep<'s>) -> Read<'s>
         requires { Nests self.now.below (F.pre self.now.expr) (F.post self.now.expr) }
@@ -56,6 +59,7 @@ impl<'s, F: Fn(Global, &mut Tokens<'_, 's>, usize, u8) -> Read<'s>> Reader<F> {
     }
 
     /// The arguments behind a name, if they are written, and the greatest depth.
+    #[inline(always)]
     #[tactic(auto, unfolding(crate::specs::Expressions::given))]
     pub(crate) fn given(&self, tokens: &mut Tokens<'_, 's>) -> Row<Argument<'s>>
         requires { Nests self.now.below (F.pre self.now.expr) (F.post self.now.expr) }

@@ -20,6 +20,7 @@ use tera_syntax_tree::{Entry, Expression, Item, LiteralKey};
 
 impl<'s, F: Fn(Global, &mut Tokens<'_, 's>, usize, u8) -> Read<'s>> Reader<F> {
     /// What stands behind a bracket: an array, or a comprehension where `for` follows the first expression.
+    #[inline(never)]
     #[tactic(auto, unfolding(crate::specs::Expressions::bracketed, crate::specs::Expressions::array))]
     pub(crate) fn bracketed(&self, tokens: &mut Tokens<'_, 's>, start: usize) -> Read<'s>
         requires { Nests self.now.below (F.pre self.now.expr) (F.post self.now.expr) }
@@ -48,6 +49,7 @@ impl<'s, F: Fn(Global, &mut Tokens<'_, 's>, usize, u8) -> Read<'s>> Reader<F> {
     }
 
     /// All items, from behind the first, and the greatest depth.
+    #[inline(always)]
     #[tactic(auto, unfolding(crate::specs::Expressions::items_behind))]
     pub(crate) fn items_behind(
         &self,
@@ -69,6 +71,7 @@ impl<'s, F: Fn(Global, &mut Tokens<'_, 's>, usize, u8) -> Read<'s>> Reader<F> {
     }
 
     /// Items with commas between, up to a bracket, behind those that were read.
+    #[inline(never)]
     #[tactic(auto, unfolding(crate::specs::Expressions::items_from))]
     fn items(&self, tokens: &mut Tokens<'_, 's>, all: Vec<Item<'s>>, depth: usize) -> Row<Item<'s>>
         requires { Nests self.now.below (F.pre self.now.expr) (F.post self.now.expr) }
@@ -83,6 +86,7 @@ impl<'s, F: Fn(Global, &mut Tokens<'_, 's>, usize, u8) -> Read<'s>> Reader<F> {
     }
 
     /// An item, behind those that were read, and its depth.
+    #[inline(always)]
     fn item(&self, tokens: &mut Tokens<'_, 's>, found: &mut Vec<Item<'s>>) -> Depth
         requires { Nests self.now.below (F.pre self.now.expr) (F.post self.now.expr) }
         ensures { let here = input tokens.old in
@@ -100,6 +104,7 @@ impl<'s, F: Fn(Global, &mut Tokens<'_, 's>, usize, u8) -> Read<'s>> Reader<F> {
     }
 
     /// `{"key": x, ..}`
+    #[inline(never)]
     #[tactic(auto, unfolding(crate::specs::Expressions::map))]
     pub(crate) fn map(&self, tokens: &mut Tokens<'_, 's>) -> Read<'s>
         requires { Nests self.now.below (F.pre self.now.expr) (F.post self.now.expr) }
@@ -114,6 +119,7 @@ impl<'s, F: Fn(Global, &mut Tokens<'_, 's>, usize, u8) -> Read<'s>> Reader<F> {
     }
 
     /// Entries with commas between, up to a brace, and the greatest depth.
+    #[inline(always)]
     #[tactic(auto, unfolding(crate::specs::Expressions::entries_from))]
     fn entries(&self, tokens: &mut Tokens<'_, 's>) -> Row<Entry<'s>>
         requires { Nests self.now.below (F.pre self.now.expr) (F.post self.now.expr) }
@@ -127,6 +133,7 @@ impl<'s, F: Fn(Global, &mut Tokens<'_, 's>, usize, u8) -> Read<'s>> Reader<F> {
     }
 
     /// An entry, behind those that were read, and its depth.
+    #[inline(always)]
     fn entry(&self, tokens: &mut Tokens<'_, 's>, found: &mut Vec<Entry<'s>>) -> Depth
         requires { Nests self.now.below (F.pre self.now.expr) (F.post self.now.expr) }
         ensures { let expr = spec.expr self.now.below precedence.choice in

@@ -17,6 +17,7 @@ use tera_syntax_tree::{Collected, Expression, Heading};
 
 impl<'s, F: Fn(Global, &mut Tokens<'_, 's>, usize, u8) -> Read<'s>> Reader<F> {
     /// `[x for name in y]`, from `for` on.
+    #[inline(never)]
     #[tactic(auto, unfolding(crate::specs::Expressions::comprehension, crate::specs::Expressions::comprehension_made))]
     pub(crate) fn comprehension(
         &self,
@@ -48,6 +49,7 @@ impl<'s, F: Fn(Global, &mut Tokens<'_, 's>, usize, u8) -> Read<'s>> Reader<F> {
     }
 
     /// The condition of a comprehension, if it is written, and how deep it is.
+    #[inline(always)]
     #[tactic(auto, unfolding(crate::specs::Expressions::condition))]
     pub(crate) fn condition(&self, tokens: &mut Tokens<'_, 's>) -> Result<Part<'s>, Refusal>
         requires { Nests self.now.below (F.pre self.now.expr) (F.post self.now.expr) }

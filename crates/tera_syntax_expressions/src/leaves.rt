@@ -20,6 +20,7 @@ use tera_syntax_tree::Expression;
 
 impl<'s, F: Fn(Global, &mut Tokens<'_, 's>, usize, u8) -> Read<'s>> Reader<F> {
     /// What stands before the first operator.
+    #[inline(always)]
     #[tactic(auto, unfolding(crate::specs::Expressions::head))]
     pub(crate) fn head(&self, tokens: &mut Tokens<'_, 's>) -> Read<'s>
         requires { Nests self.now.below (F.pre self.now.expr) (F.post self.now.expr) }
@@ -51,6 +52,7 @@ impl<'s, F: Fn(Global, &mut Tokens<'_, 's>, usize, u8) -> Read<'s>> Reader<F> {
     }
 
     /// A name, an integer or a text, and what else may begin an expression.
+    #[inline(never)]
     #[tactic(auto, unfolding(crate::specs::Expressions::head))]
     pub(crate) fn leaf(&self, tokens: &mut Tokens<'_, 's>) -> Read<'s>
         requires { Nests self.now.below (F.pre self.now.expr) (F.post self.now.expr) }

@@ -15,6 +15,7 @@ use tera_syntax_tree::{BinaryOperator, Choice, Expression, Operands};
 
 impl<'s, F: Fn(Global, &mut Tokens<'_, 's>, usize, u8) -> Read<'s>> Reader<F> {
     /// `-x` or `not x`, where the operand is of this level or above.
+    #[inline(never)]
     #[tactic(auto, unfolding(crate::specs::Expressions::prefixed))]
     pub(crate) fn prefixed(&self, tokens: &mut Tokens<'_, 's>, level: u8, op: Prefix) -> Read<'s>
         requires { Nests self.now.below (F.pre self.now.expr) (F.post self.now.expr) }
@@ -30,6 +31,7 @@ impl<'s, F: Fn(Global, &mut Tokens<'_, 's>, usize, u8) -> Read<'s>> Reader<F> {
     }
 
     /// An operator and what stands behind it, of this level or above.
+    #[inline(never)]
     #[tactic(auto, unfolding(crate::specs::Expressions::infixed))]
     pub(crate) fn infixed(
         &self,
@@ -52,6 +54,7 @@ impl<'s, F: Fn(Global, &mut Tokens<'_, 's>, usize, u8) -> Read<'s>> Reader<F> {
     }
 
     /// `x not in y`
+    #[inline(never)]
     #[tactic(auto, unfolding(crate::specs::Expressions::not_in, crate::specs::Expressions::applied))]
     pub(crate) fn not_in(&self, tokens: &mut Tokens<'_, 's>, start: usize, x: Deep<'s>) -> Read<'s>
         requires { Nests self.now.below (F.pre self.now.expr) (F.post self.now.expr) }
@@ -67,6 +70,7 @@ impl<'s, F: Fn(Global, &mut Tokens<'_, 's>, usize, u8) -> Read<'s>> Reader<F> {
     }
 
     /// `x if y else z`, from `if` on.
+    #[inline(never)]
     #[tactic(auto, unfolding(crate::specs::Expressions::choice, crate::specs::Expressions::other))]
     pub(crate) fn choice(&self, tokens: &mut Tokens<'_, 's>, start: usize, x: Deep<'s>) -> Read<'s>
         requires { Nests self.now.below (F.pre self.now.expr) (F.post self.now.expr) }

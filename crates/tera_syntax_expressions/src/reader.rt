@@ -48,6 +48,7 @@ pub(crate) use reader_within;
 
 impl<'s, F: Fn(Global, &mut Tokens<'_, 's>, usize, u8) -> Read<'s>> Reader<F> {
     /// A part, of this level or above.
+    #[inline(always)]
     pub(crate) fn sub(&self, tokens: &mut Tokens<'_, 's>, floor: u8) -> Read<'s>
         requires { Nests self.now.below (F.pre self.now.expr) (F.post self.now.expr) }
         ensures { Takes deep_of (spec.expr self.now.below floor (input tokens.old))

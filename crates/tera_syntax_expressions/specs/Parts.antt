@@ -62,11 +62,13 @@ abbrev pub Follows : {X Y F : Type 0} → (X → Y) → (ℕ → (ℕ → Parser
 Follows view rule reader old r new =
     Takes view (rule reader.limit (expr reader.below) (input old)) r new
 
--- the same of a rule that goes on from an operand, which starts at a position
-abbrev pub GoesOn : {F : Type 0} → (ℕ → (ℕ → Parser Deep) → ℕ → Deep → Parser Deep) → Reader F → ℕ
-    → declared.Deep → Tokens → Result declared.Deep Refusal → Tokens → Type 0
-GoesOn rule reader start x old r new =
-    Takes deep_of (rule reader.limit (expr reader.below) start (deep_of x) (input old)) r new
+-- the same of a rule that goes on from an operand, which starts at a position: the form that is made
+-- of it stands in its place
+abbrev pub GoesOn : {D F : Type 0} → (ℕ → (ℕ → Parser Deep) → ℕ → Deep → Parser Deep) → Reader F
+    → ℕ → declared.Deep → declared.Deep → Tokens → Result D Refusal → Tokens → Type 0
+GoesOn rule reader start before x old r new =
+    Takes (λ done. deep_of x)
+    (rule reader.limit (expr reader.below) start (deep_of before) (input old)) r new
 
 -- the same of a rule for a row, seen by view, from its first part on: the rule is given how often
 -- it may go round, what was found, and how deep that is

@@ -5,10 +5,10 @@ ghost use Rattle.tera_syntax_tokens.specs.Prelude.{Takes, input};
 ghost use Rattle.tera_syntax_expressions.specs.Expressions as spec;
 ghost use Rattle.tera_syntax_expressions.specs.Parts.{Follows, Nests, deep_of, part_of};
 
-use crate::expressions::{Deep, Read};
+use crate::expressions::{Deep, Read, Replaced};
 use crate::making::{absent, present};
 use crate::precedence;
-use crate::reader::{Part, Reader};
+use crate::reader::{Part, Reader, taken};
 use std::alloc::Global;
 use tera_syntax_tokens::refusal::{Reason, Refusal};
 use tera_syntax_tokens::token::Kind;
@@ -38,10 +38,10 @@ impl<'s, F: Fn(Global, &mut Tokens<'_, 's>, usize, u8) -> Read<'s>> Reader<F> {
     /// `x.name`, from the dot on.
     #[inline(never)]
     #[tactic(auto, unfolding(crate::specs::Expressions::attribute))]
-    pub(crate) fn attribute(&self, tokens: &mut Tokens<'_, 's>, at: Access, x: Deep<'s>) -> Read<'s>
+    pub(crate) fn attribute(&self, tokens: &mut Tokens<'_, 's>, at: Access, x: &mut Deep<'s>) -> Replaced
         ensures { let meant = spec.attribute self.now.limit (spec.expr self.now.below)
-            at.optional at.start (deep_of x.entry) in
-            Takes deep_of (meant (input tokens.old)) result tokens.new }
+            at.optional at.start (deep_of x.old) in
+            Takes (λ done. deep_of x.new) (meant (input tokens.old)) result tokens.new }
     {
         tokens.take();
         if !is_word(tokens.kind()) {
@@ -51,19 +51,19 @@ impl<'s, F: Fn(Global, &mut Tokens<'_, 's>, usize, u8) -> Read<'s>> Reader<F> {
         tokens.take();
         let span = tokens.span(at.start);
         let depth = x.depth;
-        let target = Box::new(self.alloc, x.expression)?;
+        let target = Box::new(self.alloc, taken(x))?;
         let expression = Expression::attribute(target, name, at.optional, span);
-        self.node(tokens, depth, expression)
+        self.put(tokens, depth, expression, x)
     }
 
     /// `x[y]` or a slice, from the bracket on.
     #[inline(never)]
     #[tactic(auto, unfolding(crate::specs::Expressions::subscript, crate::specs::Expressions::part))]
-    pub(crate) fn subscript(&self, tokens: &mut Tokens<'_, 's>, at: Access, x: Deep<'s>) -> Read<'s>
+    pub(crate) fn subscript(&self, tokens: &mut Tokens<'_, 's>, at: Access, x: &mut Deep<'s>) -> Replaced
         requires { Nests self.now.below (F.pre self.now.expr) (F.post self.now.expr) }
         ensures { let meant = spec.subscript self.now.limit (spec.expr self.now.below)
-            at.optional at.start (deep_of x.entry) in
-            Takes deep_of (meant (input tokens.old)) result tokens.new }
+            at.optional at.start (deep_of x.old) in
+            Takes (λ done. deep_of x.new) (meant (input tokens.old)) result tokens.new }
     {
         tokens.take();
         if tokens.kind() == Kind::RightBracket {
@@ -114,28 +114,28 @@ impl<'s, F: Fn(Global, &mut Tokens<'_, 's>, usize, u8) -> Read<'s>> Reader<F> {
     /// `x[y]`, where the index was read, from its bracket on.
     #[inline(never)]
     #[tactic(auto, unfolding(crate::specs::Expressions::index_at))]
-    fn index(&self, tokens: &mut Tokens<'_, 's>, at: Access, x: Deep<'s>, y: Deep<'s>) -> Read<'s>
+    fn index(&self, tokens: &mut Tokens<'_, 's>, at: Access, x: &mut Deep<'s>, y: Deep<'s>) -> Replaced
         ensures { let y = deep_of y.entry in
             let meant = spec.index_at self.now.limit (spec.expr self.now.below)
-            at.optional at.start (deep_of x.entry) (Present y.expr) y.depth in
-            Takes deep_of (meant (input tokens.old)) result tokens.new }
+            at.optional at.start (deep_of x.old) (Present y.expr) y.depth in
+            Takes (λ done. deep_of x.new) (meant (input tokens.old)) result tokens.new }
     {
         tokens.take();
         let depth = x.depth.max(y.depth);
-        let (target, index) = (x.expression, y.expression);
+        let (target, index) = (taken(x), y.expression);
         let parts = Box::new(self.alloc, Indexed { target, index })?;
         let span = tokens.span(at.start);
-        self.node(tokens, depth, Expression::index(parts, at.optional, span))
+        self.put(tokens, depth, Expression::index(parts, at.optional, span), x)
     }
 
     /// A slice, from the first colon on.
     #[inline(never)]
     #[tactic(auto, unfolding(crate::specs::Expressions::slice, crate::specs::Expressions::slice_made))]
-    fn slice(&self, tokens: &mut Tokens<'_, 's>, at: Access, x: Deep<'s>, p: Part<'s>) -> Read<'s>
+    fn slice(&self, tokens: &mut Tokens<'_, 's>, at: Access, x: &mut Deep<'s>, p: Part<'s>) -> Replaced
         requires { Nests self.now.below (F.pre self.now.expr) (F.post self.now.expr) }
         ensures { let meant = spec.slice self.now.limit (spec.expr self.now.below)
-            at.optional at.start (deep_of x.entry) (part_of p.entry) in
-            Takes deep_of (meant (input tokens.old)) result tokens.new }
+            at.optional at.start (deep_of x.old) (part_of p.entry) in
+            Takes (λ done. deep_of x.new) (meant (input tokens.old)) result tokens.new }
     {
         tokens.expect(Kind::Colon)?;
         let q = self.part(tokens)?;
@@ -148,9 +148,9 @@ impl<'s, F: Fn(Global, &mut Tokens<'_, 's>, usize, u8) -> Read<'s>> Reader<F> {
             end: q.expression,
             step: r.expression,
         };
-        let target = x.expression;
+        let target = taken(x);
         let sliced = Box::new(self.alloc, Sliced { target, bounds })?;
         let span = tokens.span(at.start);
-        self.node(tokens, depth, Expression::slice(sliced, at.optional, span))
+        self.put(tokens, depth, Expression::slice(sliced, at.optional, span), x)
     }
 }

@@ -33,9 +33,10 @@ impl<'s, F: Fn(Global, &mut Tokens<'_, 's>, usize, u8) -> Read<'s>> Reader<F> {
             return self.node(tokens, 0, expression);
         }
         let is_spread = take_dots(tokens);
-        let x = self.sub(tokens, precedence::CHOICE)?;
+        let mut x = self.sub(tokens, precedence::CHOICE)?;
         if !is_spread && tokens.kind() == Kind::For {
-            return self.comprehension(tokens, start, x);
+            self.comprehension(tokens, start, &mut x)?;
+            return Ok(x);
         }
         let mut found = Vec::new(self.alloc);
         let depth = x.depth;

@@ -4,11 +4,11 @@ ghost use Rattle.tera_syntax_tree.specs.Prelude.{expr_of};
 ghost use Rattle.tera_syntax_expressions.specs.Expressions as spec;
 ghost use Rattle.tera_syntax_expressions.specs.Parts.{Follows, GoesOn, Nests, part_of};
 
-use crate::expressions::{Deep, Read};
+use crate::expressions::{Deep, Read, Replaced};
 use crate::headings::{LoopNames, names};
 use crate::making::{absent, present};
 use crate::precedence;
-use crate::reader::{Part, Reader};
+use crate::reader::{Part, Reader, taken};
 use std::alloc::Global;
 use tera_syntax_tokens::refusal::Refusal;
 use tera_syntax_tokens::token::Kind;
@@ -23,10 +23,10 @@ impl<'s, F: Fn(Global, &mut Tokens<'_, 's>, usize, u8) -> Read<'s>> Reader<F> {
         &self,
         tokens: &mut Tokens<'_, 's>,
         start: usize,
-        x: Deep<'s>,
-    ) -> Read<'s>
+        x: &mut Deep<'s>,
+    ) -> Replaced
         requires { Nests self.now.below (F.pre self.now.expr) (F.post self.now.expr) }
-        ensures { GoesOn spec.comprehension self.now start x.entry tokens.old result tokens.new }
+        ensures { GoesOn spec.comprehension self.now start x.old x.new tokens.old result tokens.new }
     {
         tokens.take();
         let names = names(tokens)?;
@@ -36,16 +36,13 @@ impl<'s, F: Fn(Global, &mut Tokens<'_, 's>, usize, u8) -> Read<'s>> Reader<F> {
         let (a, b, c) = (x.depth, target.depth, only.depth);
         let depth = a.max(b.max(c));
         let collected = Collected {
-            value: x.expression,
+            value: taken(x),
             heading: heading(names, target.expression),
             condition: only.expression,
         };
         let collected = Box::new(self.alloc, collected)?;
-        self.node(
-            tokens,
-            depth,
-            Expression::comprehension(collected, tokens.span(start)),
-        )
+        let expression = Expression::comprehension(collected, tokens.span(start));
+        self.put(tokens, depth, expression, x)
     }
 
     /// The condition of a comprehension, if it is written, and how deep it is.

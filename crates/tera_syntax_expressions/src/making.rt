@@ -6,8 +6,8 @@ ghost use Rattle.tera_syntax_expressions.specs.Applications.{application_of};
 ghost use Rattle.tera_syntax_expressions.specs.Expressions as spec;
 ghost use Rattle.tera_syntax_expressions.specs.Parts.{Nests, deep_of, part_of};
 
-use crate::expressions::{Deep, Read};
-use crate::reader::{Part, Reader};
+use crate::expressions::{Deep, Read, Replaced};
+use crate::reader::{Part, Reader, taken};
 use crate::signs::{Application, make_application};
 use std::alloc::{AllocError, Global};
 use tera_syntax_tokens::refusal::Refusal;
@@ -17,14 +17,14 @@ use tera_syntax_tree::{Applied, Expression};
 impl<'s, F: Fn(Global, &mut Tokens<'_, 's>, usize, u8) -> Read<'s>> Reader<F> {
     /// What was read, inverted.
     #[inline(always)]
-    pub(crate) fn inverse(&self, tokens: &mut Tokens<'_, 's>, start: usize, x: Deep<'s>) -> Read<'s>
-        ensures { let i = input tokens.old in let whole = deep_of x.entry in
-            Takes deep_of (spec.node self.now.limit whole.depth (Not whole.expr (span start i)) i)
-            result tokens.new }
+    pub(crate) fn inverse(&self, tokens: &mut Tokens<'_, 's>, start: usize, x: &mut Deep<'s>) -> Replaced
+        ensures { let i = input tokens.old in let whole = deep_of x.old in
+            let meant = spec.node self.now.limit whole.depth (Not whole.expr (span start i)) in
+            Takes (λ done. deep_of x.new) (meant i) result tokens.new }
     {
         let depth = x.depth;
-        let expression = Expression::not(self.alloc, x.expression, tokens.span(start))?;
-        self.node(tokens, depth, expression)
+        let expression = Expression::not(self.alloc, taken(x), tokens.span(start))?;
+        self.put(tokens, depth, expression, x)
     }
 
     /// What a name and arguments make of a value, from the name on.
@@ -35,25 +35,25 @@ impl<'s, F: Fn(Global, &mut Tokens<'_, 's>, usize, u8) -> Read<'s>> Reader<F> {
         tokens: &mut Tokens<'_, 's>,
         form: Application,
         start: usize,
-        x: Deep<'s>,
-    ) -> Read<'s>
+        x: &mut Deep<'s>,
+    ) -> Replaced
         requires { Nests self.now.below (F.pre self.now.expr) (F.post self.now.expr) }
         ensures { let meant = spec.passed self.now.limit (spec.expr self.now.below)
-            (application_of form) start (deep_of x.entry) in
-            Takes deep_of (meant (input tokens.old)) result tokens.new }
+            (application_of form) start (deep_of x.old) in
+            Takes (λ done. deep_of x.new) (meant (input tokens.old)) result tokens.new }
     {
         let name = tokens.text();
         tokens.take();
         let (arguments, b) = self.given(tokens)?;
         let depth = x.depth.max(b);
         let applied = Applied {
-            value: x.expression,
+            value: taken(x),
             name,
             arguments,
         };
         let applied = Box::new(self.alloc, applied)?;
         let expression = make_application(form, applied, tokens.span(start));
-        self.node(tokens, depth, expression)
+        self.put(tokens, depth, expression, x)
     }
 }
 

@@ -3,9 +3,9 @@ ghost use Rattle.tera_syntax_tokens.specs.Prelude.{Takes, input};
 ghost use Rattle.tera_syntax_expressions.specs.Expressions as spec;
 ghost use Rattle.tera_syntax_expressions.specs.Parts.{GoesOn, Nests, deep_of, infix_of, prefix_of};
 
-use crate::expressions::{Deep, Read};
+use crate::expressions::{Deep, Read, Replaced};
 use crate::precedence;
-use crate::reader::Reader;
+use crate::reader::{Reader, taken};
 use crate::signs::{Infix, Prefix, make_infix, make_prefix};
 use std::alloc::Global;
 use tera_syntax_tokens::refusal::{Reason, Refusal};
@@ -39,42 +39,43 @@ impl<'s, F: Fn(Global, &mut Tokens<'_, 's>, usize, u8) -> Read<'s>> Reader<F> {
         level: u8,
         op: Infix,
         start: usize,
-        x: Deep<'s>,
-    ) -> Read<'s>
+        x: &mut Deep<'s>,
+    ) -> Replaced
         requires { Nests self.now.below (F.pre self.now.expr) (F.post self.now.expr) }
-        ensures { Takes deep_of (spec.infixed self.now.limit (spec.expr self.now.below) level
-            (infix_of op) start (deep_of x.entry) (input tokens.old)) result tokens.new }
+        ensures { let meant = spec.infixed self.now.limit (spec.expr self.now.below) level
+            (infix_of op) start (deep_of x.old) in
+            Takes (λ done. deep_of x.new) (meant (input tokens.old)) result tokens.new }
     {
         tokens.take();
         let y = self.sub(tokens, level)?;
         let depth = x.depth.max(y.depth);
-        let (left, right) = (x.expression, y.expression);
+        let (left, right) = (taken(x), y.expression);
         let operands = Box::new(self.alloc, Operands { left, right })?;
-        self.node(tokens, depth, make_infix(op, operands, tokens.span(start)))
+        self.put(tokens, depth, make_infix(op, operands, tokens.span(start)), x)
     }
 
     /// `x not in y`
     #[inline(never)]
     #[tactic(auto, unfolding(crate::specs::Expressions::not_in, crate::specs::Expressions::applied))]
-    pub(crate) fn not_in(&self, tokens: &mut Tokens<'_, 's>, start: usize, x: Deep<'s>) -> Read<'s>
+    pub(crate) fn not_in(&self, tokens: &mut Tokens<'_, 's>, start: usize, x: &mut Deep<'s>) -> Replaced
         requires { Nests self.now.below (F.pre self.now.expr) (F.post self.now.expr) }
-        ensures { GoesOn spec.not_in self.now start x.entry tokens.old result tokens.new }
+        ensures { GoesOn spec.not_in self.now start x.old x.new tokens.old result tokens.new }
     {
         tokens.take();
         if tokens.kind() != Kind::In {
             return Err(tokens.refuse(Reason::Expected(Kind::In)));
         }
         let within = Infix::Binary(BinaryOperator::In);
-        let y = self.infixed(tokens, precedence::CONCATENATION, within, start, x)?;
-        self.inverse(tokens, start, y)
+        self.infixed(tokens, precedence::CONCATENATION, within, start, x)?;
+        self.inverse(tokens, start, x)
     }
 
     /// `x if y else z`, from `if` on.
     #[inline(never)]
     #[tactic(auto, unfolding(crate::specs::Expressions::choice, crate::specs::Expressions::other))]
-    pub(crate) fn choice(&self, tokens: &mut Tokens<'_, 's>, start: usize, x: Deep<'s>) -> Read<'s>
+    pub(crate) fn choice(&self, tokens: &mut Tokens<'_, 's>, start: usize, x: &mut Deep<'s>) -> Replaced
         requires { Nests self.now.below (F.pre self.now.expr) (F.post self.now.expr) }
-        ensures { GoesOn spec.choice self.now start x.entry tokens.old result tokens.new }
+        ensures { GoesOn spec.choice self.now start x.old x.new tokens.old result tokens.new }
     {
         tokens.take();
         let y = self.sub(tokens, precedence::OR)?;
@@ -83,11 +84,11 @@ impl<'s, F: Fn(Global, &mut Tokens<'_, 's>, usize, u8) -> Read<'s>> Reader<F> {
         let depth = x.depth.max(y.depth.max(z.depth));
         let span = tokens.span(start);
         let choice = Choice {
-            value: x.expression,
+            value: taken(x),
             condition: y.expression,
             other: z.expression,
         };
         let choice = Box::new(self.alloc, choice)?;
-        self.node(tokens, depth, Expression::ternary(choice, span))
+        self.put(tokens, depth, Expression::ternary(choice, span), x)
     }
 }

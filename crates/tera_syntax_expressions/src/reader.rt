@@ -2,10 +2,13 @@
 ghost use Rattle.tera_syntax_tree.specs.Prelude.{expr_of};
 ghost use Rattle.tera_syntax_tokens.specs.Prelude.{Takes, input};
 ghost use Rattle.tera_syntax_expressions.specs.Expressions as spec;
+ghost use Rattle.std.specs.Prelude.{◌≡◌};
 ghost use Rattle.tera_syntax_expressions.specs.Parts.{Nests, deep_of};
 
-use crate::expressions::{Deep, Read};
+use crate::expressions::{Deep, Read, Replaced};
 use std::alloc::Global;
+use std::mem::replace;
+use tera_errors::Span;
 use tera_syntax_tokens::refusal::{Reason, Refusal};
 use tera_syntax_tokens::tokens::Tokens;
 use tera_syntax_tree::Expression;
@@ -72,4 +75,34 @@ impl<'s, F: Fn(Global, &mut Tokens<'_, 's>, usize, u8) -> Read<'s>> Reader<F> {
             depth: depth + 1,
         })
     }
+
+    /// The same in the place of the operand that the form is made of.
+    #[inline(always)]
+    #[tactic(auto, unfolding(crate::specs::Expressions::node))]
+    pub(crate) fn put(
+        &self,
+        tokens: &Tokens<'_, 's>,
+        depth: usize,
+        form: Expression<'s>,
+        x: &mut Deep<'s>,
+    ) -> Replaced
+        ensures { Takes (λ done. deep_of x.new) (spec.node self.now.limit depth (expr_of form.entry)
+            (input tokens.now)) result tokens.now }
+    {
+        if depth >= self.limit {
+            return Err(tokens.refuse(Reason::TooDeep));
+        }
+        x.expression = form;
+        x.depth = depth + 1;
+        Ok(())
+    }
+}
+
+/// Takes an operand out of its place, up to when the form that is made of it is put there.
+#[inline(always)]
+pub(crate) fn taken<'s>(x: &mut Deep<'s>) -> Expression<'s>
+    ensures { expr_of result ≡ expr_of x.old.expression }
+{
+    let span = Span { start: 0, end: 0 };
+    replace(&mut x.expression, Expression::None { span })
 }

@@ -1,6 +1,6 @@
 // Attributes, indices and slices.
 ghost use Rattle.std.specs.Prelude.{◌≡◌};
-ghost use Rattle.tera_syntax_tree.specs.Prelude.{Present};
+ghost use Rattle.tera_syntax_tree.specs.Prelude.{Present, optional_of};
 ghost use Rattle.tera_syntax_tokens.specs.Prelude.{Takes, input};
 ghost use Rattle.tera_syntax_expressions.specs.Expressions as spec;
 ghost use Rattle.tera_syntax_expressions.specs.Parts.{Follows, Nests, deep_of, part_of};
@@ -8,7 +8,7 @@ ghost use Rattle.tera_syntax_expressions.specs.Parts.{Follows, Nests, deep_of, p
 use crate::expressions::{Deep, Read, Replaced};
 use crate::making::{absent, present};
 use crate::precedence;
-use crate::reader::{Part, Reader, taken};
+use crate::reader::{Part, Reader, read, taken};
 use std::alloc::Global;
 use tera_syntax_tokens::refusal::{Reason, Refusal};
 use tera_syntax_tokens::token::Kind;
@@ -72,7 +72,7 @@ impl<'s, F: Fn(Global, &mut Tokens<'_, 's>, usize, u8) -> Read<'s>> Reader<F> {
         if tokens.kind() == Kind::Colon {
             return self.slice(tokens, at, x, absent());
         }
-        let y = self.sub(tokens, precedence::CHOICE)?;
+        let y = read!(self.sub(tokens, precedence::CHOICE));
         if tokens.kind() == Kind::RightBracket {
             self.index(tokens, at, x, y)
         } else {
@@ -93,7 +93,7 @@ impl<'s, F: Fn(Global, &mut Tokens<'_, 's>, usize, u8) -> Read<'s>> Reader<F> {
         if tokens.kind() == Kind::RightBracket {
             return Ok(absent());
         }
-        let x = self.sub(tokens, precedence::CHOICE)?;
+        let x = read!(self.sub(tokens, precedence::CHOICE));
         Ok(present(self.alloc, x)?)
     }
 
@@ -130,7 +130,7 @@ impl<'s, F: Fn(Global, &mut Tokens<'_, 's>, usize, u8) -> Read<'s>> Reader<F> {
 
     /// A slice, from the first colon on.
     #[inline(never)]
-    #[tactic(auto, unfolding(crate::specs::Expressions::slice, crate::specs::Expressions::slice_made))]
+    #[tactic(auto, unfolding(crate::specs::Expressions::slice))]
     fn slice(&self, tokens: &mut Tokens<'_, 's>, at: Access, x: &mut Deep<'s>, p: Part<'s>) -> Replaced
         requires { Nests self.now.below (F.pre self.now.expr) (F.post self.now.expr) }
         ensures { let meant = spec.slice self.now.limit (spec.expr self.now.below)
@@ -140,14 +140,34 @@ impl<'s, F: Fn(Global, &mut Tokens<'_, 's>, usize, u8) -> Read<'s>> Reader<F> {
         tokens.expect(Kind::Colon)?;
         let q = self.part(tokens)?;
         let r = self.step(tokens)?;
-        tokens.expect(Kind::RightBracket)?;
-        let (a, b, c) = (p.depth, q.depth, r.depth);
-        let depth = x.depth.max(a.max(b.max(c)));
+        let depth = p.depth.max(q.depth.max(r.depth));
         let bounds = Bounds {
             start: p.expression,
             end: q.expression,
             step: r.expression,
         };
+        self.slice_made(tokens, at, x, bounds, depth)
+    }
+
+    /// The same where all bounds were read, from the closing bracket on.
+    #[inline(never)]
+    #[tactic(auto, unfolding(crate::specs::Expressions::slice_made))]
+    fn slice_made(
+        &self,
+        tokens: &mut Tokens<'_, 's>,
+        at: Access,
+        x: &mut Deep<'s>,
+        bounds: Bounds<'s>,
+        depth: usize,
+    ) -> Replaced
+        ensures { let rule = spec.slice_made self.now.limit (spec.expr self.now.below) in
+            let meant = rule at.optional at.start (deep_of x.old)
+                (optional_of bounds.entry.start) (optional_of bounds.entry.end)
+                (optional_of bounds.entry.step) depth in
+            Takes (λ done. deep_of x.new) (meant (input tokens.old)) result tokens.new }
+    {
+        tokens.expect(Kind::RightBracket)?;
+        let depth = x.depth.max(depth);
         let target = taken(x);
         let sliced = Box::new(self.alloc, Sliced { target, bounds })?;
         let span = tokens.span(at.start);

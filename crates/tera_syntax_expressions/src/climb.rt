@@ -9,7 +9,7 @@ use crate::access::Access;
 use crate::expressions::{Deep, Read, Replaced};
 use crate::levels::{begins, gives, goes_on};
 use crate::precedence;
-use crate::reader::Reader;
+use crate::reader::{Reader, read};
 use crate::signs::Infix::{self, Binary};
 use std::alloc::Global;
 use tera_syntax_tokens::refusal::{Reason, Refusal};
@@ -34,7 +34,7 @@ impl<'s, F: Fn(Global, &mut Tokens<'_, 's>, usize, u8) -> Read<'s>> Reader<F> {
             return Err(tokens.refuse(Reason::NoExpression));
         }
         let start = tokens.start();
-        let x = self.head(tokens)?;
+        let x = read!(self.head(tokens));
         self.climb(tokens, ahead, opens, rounds, floor, begins, start, x)
     }
 

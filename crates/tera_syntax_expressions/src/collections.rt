@@ -10,7 +10,7 @@ ghost use Rattle.tera_syntax_expressions.specs.Precedence as precedence;
 use crate::commas::{between_commas, take_comma};
 use crate::expressions::{Deep, Depth, Read, Row};
 use crate::precedence;
-use crate::reader::Reader;
+use crate::reader::{Reader, read};
 use std::alloc::{AllocError, Global};
 use tera_syntax_tokens::literal::{integer, literal};
 use tera_syntax_tokens::refusal::{Reason, Refusal};
@@ -21,7 +21,7 @@ use tera_syntax_tree::{Entry, Expression, Item, LiteralKey};
 impl<'s, F: Fn(Global, &mut Tokens<'_, 's>, usize, u8) -> Read<'s>> Reader<F> {
     /// What stands behind a bracket: an array, or a comprehension where `for` follows the first expression.
     #[inline(never)]
-    #[tactic(auto, unfolding(crate::specs::Expressions::bracketed, crate::specs::Expressions::array))]
+    #[tactic(auto, unfolding(crate::specs::Expressions::bracketed))]
     pub(crate) fn bracketed(&self, tokens: &mut Tokens<'_, 's>, start: usize) -> Read<'s>
         requires { Nests self.now.below (F.pre self.now.expr) (F.post self.now.expr) }
         ensures { let meant = spec.bracketed self.now.limit (spec.expr self.now.below) start in
@@ -33,11 +33,29 @@ impl<'s, F: Fn(Global, &mut Tokens<'_, 's>, usize, u8) -> Read<'s>> Reader<F> {
             return self.node(tokens, 0, expression);
         }
         let is_spread = take_dots(tokens);
-        let mut x = self.sub(tokens, precedence::CHOICE)?;
+        let mut x = read!(self.sub(tokens, precedence::CHOICE));
         if !is_spread && tokens.kind() == Kind::For {
             self.comprehension(tokens, start, &mut x)?;
             return Ok(x);
         }
+        self.array(tokens, start, is_spread, x)
+    }
+
+    /// An array, from behind its first item.
+    #[inline(always)]
+    #[tactic(auto, unfolding(crate::specs::Expressions::array))]
+    fn array(
+        &self,
+        tokens: &mut Tokens<'_, 's>,
+        start: usize,
+        is_spread: bool,
+        x: Deep<'s>,
+    ) -> Read<'s>
+        requires { Nests self.now.below (F.pre self.now.expr) (F.post self.now.expr) }
+        ensures { let rule = spec.array self.now.limit (spec.expr self.now.below) in
+            let meant = rule start is_spread (deep_of x.entry) in
+            Takes deep_of (meant (input tokens.old)) result tokens.new }
+    {
         let mut found = Vec::new(self.alloc);
         let depth = x.depth;
         found.push(Item {
@@ -72,7 +90,7 @@ impl<'s, F: Fn(Global, &mut Tokens<'_, 's>, usize, u8) -> Read<'s>> Reader<F> {
     }
 
     /// Items with commas between, up to a bracket, behind those that were read.
-    #[inline(never)]
+    #[inline(always)]
     #[tactic(auto, unfolding(crate::specs::Expressions::items_from))]
     fn items(&self, tokens: &mut Tokens<'_, 's>, all: Vec<Item<'s>>, depth: usize) -> Row<Item<'s>>
         requires { Nests self.now.below (F.pre self.now.expr) (F.post self.now.expr) }

@@ -9,7 +9,7 @@ ghost use Rattle.tera_syntax_expressions.specs.Parts.{Follows, FollowsRow, Nests
 use crate::arguments::argument_name;
 use crate::expressions::{Deep, Depth, Read, Row, expr};
 use crate::precedence;
-use crate::reader::Reader;
+use crate::reader::{Reader, read};
 use std::alloc::Global;
 use tera_syntax_tokens::literal::literal;
 use tera_syntax_tokens::refusal::{Reason, Refusal};
@@ -199,7 +199,7 @@ impl<'s, F: Fn(Global, &mut Tokens<'_, 's>, usize, u8) -> Read<'s>> Reader<F> {
         ensures { let meant = spec.braced self.now.limit (spec.expr self.now.below) in
             Takes deep_of (meant (input tokens.old)) result tokens.new }
     {
-        let x = self.sub(tokens, precedence::CHOICE)?;
+        let x = read!(self.sub(tokens, precedence::CHOICE));
         tokens.expect(Kind::RightBrace)?;
         Ok(x)
     }

@@ -1,6 +1,6 @@
 // Forms that more than one rule makes.
-ghost use Rattle.std.specs.Prelude.{◌≡◌, IfOk};
-ghost use Rattle.tera_syntax_tree.specs.Prelude.{Absent, Not, Present, expr_of};
+ghost use Rattle.std.specs.Prelude.{◌≡◌, max, IfOk};
+ghost use Rattle.tera_syntax_tree.specs.Prelude.{Absent, Not, Present, arguments_of, expr_of};
 ghost use Rattle.tera_syntax_tokens.specs.Prelude.{span, Takes, input};
 ghost use Rattle.tera_syntax_expressions.specs.Applications.{application_of};
 ghost use Rattle.tera_syntax_expressions.specs.Expressions as spec;
@@ -12,7 +12,7 @@ use crate::signs::{Application, make_application};
 use std::alloc::{AllocError, Global};
 use tera_syntax_tokens::refusal::Refusal;
 use tera_syntax_tokens::tokens::Tokens;
-use tera_syntax_tree::{Applied, Expression};
+use tera_syntax_tree::{Applied, Argument, Expression};
 
 impl<'s, F: Fn(Global, &mut Tokens<'_, 's>, usize, u8) -> Read<'s>> Reader<F> {
     /// What was read, inverted.
@@ -45,7 +45,28 @@ impl<'s, F: Fn(Global, &mut Tokens<'_, 's>, usize, u8) -> Read<'s>> Reader<F> {
         let name = tokens.text();
         tokens.take();
         let (arguments, b) = self.given(tokens)?;
-        let depth = x.depth.max(b);
+        self.applied(tokens, form, start, x, name, arguments, b)
+    }
+
+    /// The same where the arguments were read.
+    #[inline(never)]
+    fn applied(
+        &self,
+        tokens: &Tokens<'_, 's>,
+        form: Application,
+        start: usize,
+        x: &mut Deep<'s>,
+        name: &'s str,
+        arguments: Vec<Argument<'s>>,
+        depth: usize,
+    ) -> Replaced
+        ensures { let i = input tokens.now in let a = deep_of x.old in
+            let all = arguments_of arguments.entry.items in
+            let made = application_of form a.expr name.now all (span start i) in
+            Takes (λ done. deep_of x.new) (spec.node self.now.limit (max a.depth depth) made i)
+                result tokens.now }
+    {
+        let depth = x.depth.max(depth);
         let applied = Applied {
             value: taken(x),
             name,

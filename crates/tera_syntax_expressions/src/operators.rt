@@ -1,11 +1,13 @@
 // Operators of one, two and three operands.
-ghost use Rattle.tera_syntax_tokens.specs.Prelude.{Takes, input};
+ghost use Rattle.std.specs.Prelude.{max};
+ghost use Rattle.tera_syntax_tree.specs.Prelude.{Ternary};
+ghost use Rattle.tera_syntax_tokens.specs.Prelude.{span, Takes, input};
 ghost use Rattle.tera_syntax_expressions.specs.Expressions as spec;
 ghost use Rattle.tera_syntax_expressions.specs.Parts.{GoesOn, Nests, deep_of, infix_of, prefix_of};
 
 use crate::expressions::{Deep, Read, Replaced};
 use crate::precedence;
-use crate::reader::{Reader, taken};
+use crate::reader::{Reader, read, taken};
 use crate::signs::{Infix, Prefix, make_infix, make_prefix};
 use std::alloc::Global;
 use tera_syntax_tokens::refusal::{Reason, Refusal};
@@ -24,7 +26,7 @@ impl<'s, F: Fn(Global, &mut Tokens<'_, 's>, usize, u8) -> Read<'s>> Reader<F> {
     {
         let start = tokens.start();
         tokens.take();
-        let x = self.sub(tokens, level)?;
+        let x = read!(self.sub(tokens, level));
         let depth = x.depth;
         let expression = make_prefix(self.alloc, op, x.expression, tokens.span(start))?;
         self.node(tokens, depth, expression)
@@ -47,7 +49,7 @@ impl<'s, F: Fn(Global, &mut Tokens<'_, 's>, usize, u8) -> Read<'s>> Reader<F> {
             Takes (λ done. deep_of x.new) (meant (input tokens.old)) result tokens.new }
     {
         tokens.take();
-        let y = self.sub(tokens, level)?;
+        let y = read!(self.sub(tokens, level));
         let depth = x.depth.max(y.depth);
         let (left, right) = (taken(x), y.expression);
         let operands = Box::new(self.alloc, Operands { left, right })?;
@@ -78,17 +80,37 @@ impl<'s, F: Fn(Global, &mut Tokens<'_, 's>, usize, u8) -> Read<'s>> Reader<F> {
         ensures { GoesOn spec.choice self.now start x.old x.new tokens.old result tokens.new }
     {
         tokens.take();
-        let y = self.sub(tokens, precedence::OR)?;
+        let y = read!(self.sub(tokens, precedence::OR));
         tokens.expect(Kind::Else)?;
-        let z = self.sub(tokens, precedence::CHOICE)?;
+        let z = read!(self.sub(tokens, precedence::CHOICE));
+        self.chosen(tokens, start, x, y, z)
+    }
+
+    /// `x if y else z`, where all three were read.
+    #[inline(never)]
+    fn chosen(
+        &self,
+        tokens: &Tokens<'_, 's>,
+        start: usize,
+        x: &mut Deep<'s>,
+        y: Deep<'s>,
+        z: Deep<'s>,
+    ) -> Replaced
+        ensures { let i = input tokens.now in
+            let a = deep_of x.old in let b = deep_of y.entry in let c = deep_of z.entry in
+            let depth = max a.depth (max b.depth c.depth) in
+            let form = Ternary a.expr b.expr c.expr (span start i) in
+            Takes (λ done. deep_of x.new) (spec.node self.now.limit depth form i)
+                result tokens.now }
+    {
         let depth = x.depth.max(y.depth.max(z.depth));
-        let span = tokens.span(start);
         let choice = Choice {
             value: taken(x),
             condition: y.expression,
             other: z.expression,
         };
         let choice = Box::new(self.alloc, choice)?;
-        self.put(tokens, depth, Expression::ternary(choice, span), x)
+        let expression = Expression::ternary(choice, tokens.span(start));
+        self.put(tokens, depth, expression, x)
     }
 }

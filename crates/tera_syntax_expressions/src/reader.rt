@@ -49,6 +49,18 @@ macro_rules! reader_within {
 
 pub(crate) use reader_within;
 
+/// What was read, or at once the refusal. A `?` would copy what was read twice more, and make room for it at each level that is open.
+macro_rules! read {
+    ($reading:expr) => {
+        match $reading {
+            Ok(x) => x,
+            Err(refusal) => return Err(refusal),
+        }
+    };
+}
+
+pub(crate) use read;
+
 impl<'s, F: Fn(Global, &mut Tokens<'_, 's>, usize, u8) -> Read<'s>> Reader<F> {
     /// A part, of this level or above.
     #[inline(always)]

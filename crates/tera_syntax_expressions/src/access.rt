@@ -38,7 +38,12 @@ impl<'s, F: Fn(Global, &mut Tokens<'_, 's>, usize, u8) -> Read<'s>> Reader<F> {
     /// `x.name`, from the dot on.
     #[inline(never)]
     #[tactic(auto, unfolding(crate::specs::Expressions::attribute))]
-    pub(crate) fn attribute(&self, tokens: &mut Tokens<'_, 's>, at: Access, x: &mut Deep<'s>) -> Replaced
+    pub(crate) fn attribute(
+        &self,
+        tokens: &mut Tokens<'_, 's>,
+        at: Access,
+        x: &mut Deep<'s>,
+    ) -> Replaced
         ensures { let meant = spec.attribute self.now.limit (spec.expr self.now.below)
             at.optional at.start (deep_of x.old) in
             Takes (λ done. deep_of x.new) (meant (input tokens.old)) result tokens.new }
@@ -59,7 +64,12 @@ impl<'s, F: Fn(Global, &mut Tokens<'_, 's>, usize, u8) -> Read<'s>> Reader<F> {
     /// `x[y]` or a slice, from the bracket on.
     #[inline(never)]
     #[tactic(auto, unfolding(crate::specs::Expressions::subscript, crate::specs::Expressions::part))]
-    pub(crate) fn subscript(&self, tokens: &mut Tokens<'_, 's>, at: Access, x: &mut Deep<'s>) -> Replaced
+    pub(crate) fn subscript(
+        &self,
+        tokens: &mut Tokens<'_, 's>,
+        at: Access,
+        x: &mut Deep<'s>,
+    ) -> Replaced
         requires { Nests self.now.below (F.pre self.now.expr) (F.post self.now.expr) }
         ensures { let meant = spec.subscript self.now.limit (spec.expr self.now.below)
             at.optional at.start (deep_of x.old) in
@@ -114,7 +124,13 @@ impl<'s, F: Fn(Global, &mut Tokens<'_, 's>, usize, u8) -> Read<'s>> Reader<F> {
     /// `x[y]`, where the index was read, from its bracket on.
     #[inline(never)]
     #[tactic(auto, unfolding(crate::specs::Expressions::index_at))]
-    fn index(&self, tokens: &mut Tokens<'_, 's>, at: Access, x: &mut Deep<'s>, y: Deep<'s>) -> Replaced
+    fn index(
+        &self,
+        tokens: &mut Tokens<'_, 's>,
+        at: Access,
+        x: &mut Deep<'s>,
+        y: Deep<'s>,
+    ) -> Replaced
         ensures { let y = deep_of y.entry in
             let meant = spec.index_at self.now.limit (spec.expr self.now.below)
             at.optional at.start (deep_of x.old) (Present y.expr) y.depth in
@@ -125,13 +141,24 @@ impl<'s, F: Fn(Global, &mut Tokens<'_, 's>, usize, u8) -> Read<'s>> Reader<F> {
         let (target, index) = (taken(x), y.expression);
         let parts = Box::new(self.alloc, Indexed { target, index })?;
         let span = tokens.span(at.start);
-        self.put(tokens, depth, Expression::index(parts, at.optional, span), x)
+        self.put(
+            tokens,
+            depth,
+            Expression::index(parts, at.optional, span),
+            x,
+        )
     }
 
     /// A slice, from the first colon on.
     #[inline(never)]
     #[tactic(auto, unfolding(crate::specs::Expressions::slice))]
-    fn slice(&self, tokens: &mut Tokens<'_, 's>, at: Access, x: &mut Deep<'s>, p: Part<'s>) -> Replaced
+    fn slice(
+        &self,
+        tokens: &mut Tokens<'_, 's>,
+        at: Access,
+        x: &mut Deep<'s>,
+        p: Part<'s>,
+    ) -> Replaced
         requires { Nests self.now.below (F.pre self.now.expr) (F.post self.now.expr) }
         ensures { let meant = spec.slice self.now.limit (spec.expr self.now.below)
             at.optional at.start (deep_of x.old) (part_of p.entry) in
@@ -162,8 +189,8 @@ impl<'s, F: Fn(Global, &mut Tokens<'_, 's>, usize, u8) -> Read<'s>> Reader<F> {
     ) -> Replaced
         ensures { let rule = spec.slice_made self.now.limit (spec.expr self.now.below) in
             let meant = rule at.optional at.start (deep_of x.old)
-                (optional_of bounds.entry.start) (optional_of bounds.entry.end)
-                (optional_of bounds.entry.step) depth in
+            (optional_of bounds.entry.start) (optional_of bounds.entry.end)
+            (optional_of bounds.entry.step) depth in
             Takes (λ done. deep_of x.new) (meant (input tokens.old)) result tokens.new }
     {
         tokens.expect(Kind::RightBracket)?;
@@ -171,6 +198,11 @@ impl<'s, F: Fn(Global, &mut Tokens<'_, 's>, usize, u8) -> Read<'s>> Reader<F> {
         let target = taken(x);
         let sliced = Box::new(self.alloc, Sliced { target, bounds })?;
         let span = tokens.span(at.start);
-        self.put(tokens, depth, Expression::slice(sliced, at.optional, span), x)
+        self.put(
+            tokens,
+            depth,
+            Expression::slice(sliced, at.optional, span),
+            x,
+        )
     }
 }

@@ -18,7 +18,12 @@ impl<'s, F: Fn(Global, &mut Tokens<'_, 's>, usize, u8) -> Read<'s>> Reader<F> {
     /// `x | name`, from the bar on.
     #[inline(never)]
     #[tactic(auto, unfolding(crate::specs::Expressions::filter))]
-    pub(crate) fn filter(&self, tokens: &mut Tokens<'_, 's>, start: usize, x: &mut Deep<'s>) -> Replaced
+    pub(crate) fn filter(
+        &self,
+        tokens: &mut Tokens<'_, 's>,
+        start: usize,
+        x: &mut Deep<'s>,
+    ) -> Replaced
         requires { Nests self.now.below (F.pre self.now.expr) (F.post self.now.expr) }
         ensures { GoesOn spec.filter self.now start x.old x.new tokens.old result tokens.new }
     {
@@ -32,7 +37,12 @@ impl<'s, F: Fn(Global, &mut Tokens<'_, 's>, usize, u8) -> Read<'s>> Reader<F> {
     /// `x is name`, or `x is not name`, from `is` on.
     #[inline(never)]
     #[tactic(auto, unfolding(crate::specs::Expressions::tested))]
-    pub(crate) fn test(&self, tokens: &mut Tokens<'_, 's>, start: usize, x: &mut Deep<'s>) -> Replaced
+    pub(crate) fn test(
+        &self,
+        tokens: &mut Tokens<'_, 's>,
+        start: usize,
+        x: &mut Deep<'s>,
+    ) -> Replaced
         requires { Nests self.now.below (F.pre self.now.expr) (F.post self.now.expr) }
         ensures { GoesOn spec.tested self.now start x.old x.new tokens.old result tokens.new }
     {

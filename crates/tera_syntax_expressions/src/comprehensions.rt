@@ -50,7 +50,7 @@ impl<'s, F: Fn(Global, &mut Tokens<'_, 's>, usize, u8) -> Read<'s>> Reader<F> {
     ) -> Replaced
         ensures { let rule = spec.comprehension_made self.now.limit (spec.expr self.now.below) in
             let meant = rule start (deep_of x.old) (names_of names.entry) (deep_of target.entry)
-                (part_of only.entry) in
+            (part_of only.entry) in
             Takes (λ done. deep_of x.new) (meant (input tokens.old)) result tokens.new }
     {
         tokens.expect(Kind::RightBracket)?;

@@ -17,7 +17,12 @@ use tera_syntax_tree::{Applied, Argument, Expression};
 impl<'s, F: Fn(Global, &mut Tokens<'_, 's>, usize, u8) -> Read<'s>> Reader<F> {
     /// What was read, inverted.
     #[inline(always)]
-    pub(crate) fn inverse(&self, tokens: &mut Tokens<'_, 's>, start: usize, x: &mut Deep<'s>) -> Replaced
+    pub(crate) fn inverse(
+        &self,
+        tokens: &mut Tokens<'_, 's>,
+        start: usize,
+        x: &mut Deep<'s>,
+    ) -> Replaced
         ensures { let i = input tokens.old in let whole = deep_of x.old in
             let meant = spec.node self.now.limit whole.depth (Not whole.expr (span start i)) in
             Takes (λ done. deep_of x.new) (meant i) result tokens.new }
@@ -64,7 +69,7 @@ impl<'s, F: Fn(Global, &mut Tokens<'_, 's>, usize, u8) -> Read<'s>> Reader<F> {
             let all = arguments_of arguments.entry.items in
             let made = application_of form a.expr name.now all (span start i) in
             Takes (λ done. deep_of x.new) (spec.node self.now.limit (max a.depth depth) made i)
-                result tokens.now }
+            result tokens.now }
     {
         let depth = x.depth.max(depth);
         let applied = Applied {

@@ -53,13 +53,23 @@ impl<'s, F: Fn(Global, &mut Tokens<'_, 's>, usize, u8) -> Read<'s>> Reader<F> {
         let depth = x.depth.max(y.depth);
         let (left, right) = (taken(x), y.expression);
         let operands = Box::new(self.alloc, Operands { left, right })?;
-        self.put(tokens, depth, make_infix(op, operands, tokens.span(start)), x)
+        self.put(
+            tokens,
+            depth,
+            make_infix(op, operands, tokens.span(start)),
+            x,
+        )
     }
 
     /// `x not in y`
     #[inline(never)]
     #[tactic(auto, unfolding(crate::specs::Expressions::not_in, crate::specs::Expressions::applied))]
-    pub(crate) fn not_in(&self, tokens: &mut Tokens<'_, 's>, start: usize, x: &mut Deep<'s>) -> Replaced
+    pub(crate) fn not_in(
+        &self,
+        tokens: &mut Tokens<'_, 's>,
+        start: usize,
+        x: &mut Deep<'s>,
+    ) -> Replaced
         requires { Nests self.now.below (F.pre self.now.expr) (F.post self.now.expr) }
         ensures { GoesOn spec.not_in self.now start x.old x.new tokens.old result tokens.new }
     {
@@ -75,7 +85,12 @@ impl<'s, F: Fn(Global, &mut Tokens<'_, 's>, usize, u8) -> Read<'s>> Reader<F> {
     /// `x if y else z`, from `if` on.
     #[inline(never)]
     #[tactic(auto, unfolding(crate::specs::Expressions::choice, crate::specs::Expressions::other))]
-    pub(crate) fn choice(&self, tokens: &mut Tokens<'_, 's>, start: usize, x: &mut Deep<'s>) -> Replaced
+    pub(crate) fn choice(
+        &self,
+        tokens: &mut Tokens<'_, 's>,
+        start: usize,
+        x: &mut Deep<'s>,
+    ) -> Replaced
         requires { Nests self.now.below (F.pre self.now.expr) (F.post self.now.expr) }
         ensures { GoesOn spec.choice self.now start x.old x.new tokens.old result tokens.new }
     {
@@ -101,7 +116,7 @@ impl<'s, F: Fn(Global, &mut Tokens<'_, 's>, usize, u8) -> Read<'s>> Reader<F> {
             let depth = max a.depth (max b.depth c.depth) in
             let form = Ternary a.expr b.expr c.expr (span start i) in
             Takes (λ done. deep_of x.new) (spec.node self.now.limit depth form i)
-                result tokens.now }
+            result tokens.now }
     {
         let depth = x.depth.max(y.depth.max(z.depth));
         let choice = Choice {

@@ -1,6 +1,6 @@
 // Attributes, indices and slices.
-ghost use Rattle.std.specs.Prelude.{◌≡◌};
-ghost use Rattle.tera_syntax_tree.specs.Prelude.{Present, optional_of};
+ghost use Rattle.std.specs.Prelude.{◌≡◌, max};
+ghost use Rattle.tera_syntax_tree.specs.Prelude.{Present};
 ghost use Rattle.tera_syntax_tokens.specs.Prelude.{Takes, input};
 ghost use Rattle.tera_syntax_expressions.specs.Expressions as spec;
 ghost use Rattle.tera_syntax_expressions.specs.Parts.{Follows, Nests, deep_of, part_of};
@@ -167,13 +167,7 @@ impl<'s, F: Fn(Global, &mut Tokens<'_, 's>, usize, u8) -> Read<'s>> Reader<F> {
         tokens.expect(Kind::Colon)?;
         let q = self.part(tokens)?;
         let r = self.step(tokens)?;
-        let depth = p.depth.max(q.depth.max(r.depth));
-        let bounds = Bounds {
-            start: p.expression,
-            end: q.expression,
-            step: r.expression,
-        };
-        self.slice_made(tokens, at, x, bounds, depth)
+        self.slice_made(tokens, at, x, p, q, r)
     }
 
     /// The same where all bounds were read, from the closing bracket on.
@@ -184,17 +178,24 @@ impl<'s, F: Fn(Global, &mut Tokens<'_, 's>, usize, u8) -> Read<'s>> Reader<F> {
         tokens: &mut Tokens<'_, 's>,
         at: Access,
         x: &mut Deep<'s>,
-        bounds: Bounds<'s>,
-        depth: usize,
+        p: Part<'s>,
+        q: Part<'s>,
+        r: Part<'s>,
     ) -> Replaced
         ensures { let rule = spec.slice_made self.now.limit (spec.expr self.now.below) in
-            let meant = rule at.optional at.start (deep_of x.old)
-            (optional_of bounds.entry.start) (optional_of bounds.entry.end)
-            (optional_of bounds.entry.step) depth in
+            let a = part_of p.entry in let b = part_of q.entry in let c = part_of r.entry in
+            let meant = rule at.optional at.start (deep_of x.old) a.0 b.0 c.0
+            (max a.1 (max b.1 c.1)) in
             Takes (λ done. deep_of x.new) (meant (input tokens.old)) result tokens.new }
     {
         tokens.expect(Kind::RightBracket)?;
-        let depth = x.depth.max(depth);
+        let (a, b, c) = (p.depth, q.depth, r.depth);
+        let depth = x.depth.max(a.max(b.max(c)));
+        let bounds = Bounds {
+            start: p.expression,
+            end: q.expression,
+            step: r.expression,
+        };
         let target = taken(x);
         let sliced = Box::new(self.alloc, Sliced { target, bounds })?;
         let span = tokens.span(at.start);

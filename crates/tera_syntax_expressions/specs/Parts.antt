@@ -9,7 +9,7 @@ use Rattle.tera_syntax_tree.specs.declared.expression.Item as item
 use Rattle.tera_syntax_tree.specs.declared.expression.Entry as entry
 use Rattle.tera_syntax_tree.specs.declared.component.Parameter as parameter
 use Rattle.tera_syntax_tree.specs.Definitions.{rest_names}
-use Rattle.tera_syntax_tree.specs.Tree.{Expr, Parameter, Key, Optional, Not, Negate, And, Or, Binary, Arguments, NoArguments, MoreArguments}
+use Rattle.tera_syntax_tree.specs.Tree.{Expr, Parameter, Key, Optional, Nothing, Not, Negate, And, Or, Binary, Arguments, NoArguments, MoreArguments}
 use Rattle.tera_syntax_tree.specs.View.{expr_of, optional_of, items_of, entries_of, parameter_of}
 use Rattle.tera_syntax_tokens.specs.declared.refusal.Refusal.{Refusal}
 use Rattle.tera_syntax_tokens.specs.declared.tokens.Tokens.{Tokens}
@@ -30,6 +30,10 @@ use Rattle.tera_syntax_expressions.specs.Expressions.{Deep, expr, join_items, on
 
 abbrev pub deep_of : declared.Deep → Deep
 deep_of x = record { expr = expr_of x.expression; depth = x.depth }
+
+-- an operand was taken out of its place, where a leaf stands
+abbrev pub IsEmptied : declared.Deep → Type 0
+IsEmptied x = expr_of x.expression ≡ Nothing (record { start = 0; end = 0 })
 
 abbrev pub part_of : Part → Optional × ℕ
 part_of p = (optional_of p.expression, p.depth)

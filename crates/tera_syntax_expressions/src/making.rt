@@ -16,7 +16,7 @@ use tera_syntax_tree::{Applied, Argument, Expression};
 
 impl<'s, F: Fn(Global, &mut Tokens<'_, 's>, usize, u8) -> Read<'s>> Reader<F> {
     /// What was read, inverted.
-    #[inline(always)]
+    #[inline(never)]
     pub(crate) fn inverse(
         &self,
         tokens: &mut Tokens<'_, 's>,

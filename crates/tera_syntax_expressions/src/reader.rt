@@ -3,11 +3,11 @@ ghost use Rattle.tera_syntax_tree.specs.Prelude.{expr_of};
 ghost use Rattle.tera_syntax_tokens.specs.Prelude.{Takes, input};
 ghost use Rattle.tera_syntax_expressions.specs.Expressions as spec;
 ghost use Rattle.std.specs.Prelude.{◌≡◌};
-ghost use Rattle.tera_syntax_expressions.specs.Parts.{Nests, deep_of};
+ghost use Rattle.tera_syntax_expressions.specs.Parts.{IsEmptied, Nests, deep_of};
 
 use crate::expressions::{Deep, Read, Replaced};
 use std::alloc::Global;
-use std::mem::replace;
+use std::mem::{forget, replace};
 use tera_errors::Span;
 use tera_syntax_tokens::refusal::{Reason, Refusal};
 use tera_syntax_tokens::tokens::Tokens;
@@ -98,13 +98,15 @@ impl<'s, F: Fn(Global, &mut Tokens<'_, 's>, usize, u8) -> Read<'s>> Reader<F> {
         form: Expression<'s>,
         x: &mut Deep<'s>,
     ) -> Replaced
+        requires { IsEmptied x.now }
         ensures { Takes (λ done. deep_of x.new) (spec.node self.now.limit depth (expr_of form.entry)
             (input tokens.now)) result tokens.now }
     {
         if depth >= self.limit {
             return Err(tokens.refuse(Reason::TooDeep));
         }
-        x.expression = form;
+        // The leaf that is left in the place has nothing to drop.
+        forget(replace(&mut x.expression, form));
         x.depth = depth + 1;
         Ok(())
     }
@@ -113,7 +115,8 @@ impl<'s, F: Fn(Global, &mut Tokens<'_, 's>, usize, u8) -> Read<'s>> Reader<F> {
 /// Takes an operand out of its place, up to when the form that is made of it is put there.
 #[inline(always)]
 pub(crate) fn taken<'s>(x: &mut Deep<'s>) -> Expression<'s>
-    ensures { expr_of result ≡ expr_of x.old.expression }
+    ensures value { expr_of result ≡ expr_of x.old.expression }
+    ensures emptied { IsEmptied x.new }
 {
     let span = Span { start: 0, end: 0 };
     replace(&mut x.expression, Expression::None { span })

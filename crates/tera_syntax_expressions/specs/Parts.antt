@@ -9,7 +9,7 @@ use Rattle.tera_syntax_tree.specs.declared.expression.Item as item
 use Rattle.tera_syntax_tree.specs.declared.expression.Entry as entry
 use Rattle.tera_syntax_tree.specs.declared.component.Parameter as parameter
 use Rattle.tera_syntax_tree.specs.Definitions.{rest_names}
-use Rattle.tera_syntax_tree.specs.Tree.{Expr, Parameter, Key, Optional, Not, Negate, And, Or, Binary, Arguments, NoArguments, MoreArguments}
+use Rattle.tera_syntax_tree.specs.Tree.{Expr, Parameter, Key, Optional, Nothing, Not, Negate, And, Or, Binary, Arguments, NoArguments, MoreArguments}
 use Rattle.tera_syntax_tree.specs.View.{expr_of, optional_of, items_of, entries_of, parameter_of}
 use Rattle.tera_syntax_tokens.specs.declared.refusal.Refusal.{Refusal}
 use Rattle.tera_syntax_tokens.specs.declared.tokens.Tokens.{Tokens}
@@ -30,6 +30,10 @@ use Rattle.tera_syntax_expressions.specs.Expressions.{Deep, expr, join_items, on
 
 abbrev pub deep_of : declared.Deep → Deep
 deep_of x = record { expr = expr_of x.expression; depth = x.depth }
+
+-- an operand was taken out of its place, where a leaf stands
+abbrev pub IsEmptied : declared.Deep → Type 0
+IsEmptied x = expr_of x.expression ≡ Nothing (record { start = 0; end = 0 })
 
 abbrev pub part_of : Part → Optional × ℕ
 part_of p = (optional_of p.expression, p.depth)
@@ -62,11 +66,13 @@ abbrev pub Follows : {X Y F : Type 0} → (X → Y) → (ℕ → (ℕ → Parser
 Follows view rule reader old r new =
     Takes view (rule reader.limit (expr reader.below) (input old)) r new
 
--- the same of a rule that goes on from an operand, which starts at a position
-abbrev pub GoesOn : {F : Type 0} → (ℕ → (ℕ → Parser Deep) → ℕ → Deep → Parser Deep) → Reader F → ℕ
-    → declared.Deep → Tokens → Result declared.Deep Refusal → Tokens → Type 0
-GoesOn rule reader start x old r new =
-    Takes deep_of (rule reader.limit (expr reader.below) start (deep_of x) (input old)) r new
+-- the same of a rule that goes on from an operand, which starts at a position: the form that is made
+-- of it stands in its place
+abbrev pub GoesOn : {D F : Type 0} → (ℕ → (ℕ → Parser Deep) → ℕ → Deep → Parser Deep) → Reader F
+    → ℕ → declared.Deep → declared.Deep → Tokens → Result D Refusal → Tokens → Type 0
+GoesOn rule reader start before x old r new =
+    Takes (λ done. deep_of x)
+    (rule reader.limit (expr reader.below) start (deep_of before) (input old)) r new
 
 -- the same of a rule for a row, seen by view, from its first part on: the rule is given how often
 -- it may go round, what was found, and how deep that is

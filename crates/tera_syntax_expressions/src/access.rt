@@ -1,14 +1,14 @@
 // Attributes, indices and slices.
-ghost use Rattle.std.specs.Prelude.{◌≡◌};
+ghost use Rattle.std.specs.Prelude.{◌≡◌, max};
 ghost use Rattle.tera_syntax_tree.specs.Prelude.{Present};
 ghost use Rattle.tera_syntax_tokens.specs.Prelude.{Takes, input};
 ghost use Rattle.tera_syntax_expressions.specs.Expressions as spec;
 ghost use Rattle.tera_syntax_expressions.specs.Parts.{Follows, Nests, deep_of, part_of};
 
-use crate::expressions::{Deep, Read};
+use crate::expressions::{Deep, Read, Replaced};
 use crate::making::{absent, present};
 use crate::precedence;
-use crate::reader::{Part, Reader};
+use crate::reader::{Part, Reader, read, taken};
 use std::alloc::Global;
 use tera_syntax_tokens::refusal::{Reason, Refusal};
 use tera_syntax_tokens::token::Kind;
@@ -36,11 +36,17 @@ impl Access {
 
 impl<'s, F: Fn(Global, &mut Tokens<'_, 's>, usize, u8) -> Read<'s>> Reader<F> {
     /// `x.name`, from the dot on.
+    #[inline(never)]
     #[tactic(auto, unfolding(crate::specs::Expressions::attribute))]
-    pub(crate) fn attribute(&self, tokens: &mut Tokens<'_, 's>, at: Access, x: Deep<'s>) -> Read<'s>
+    pub(crate) fn attribute(
+        &self,
+        tokens: &mut Tokens<'_, 's>,
+        at: Access,
+        x: &mut Deep<'s>,
+    ) -> Replaced
         ensures { let meant = spec.attribute self.now.limit (spec.expr self.now.below)
-            at.optional at.start (deep_of x.entry) in
-            Takes deep_of (meant (input tokens.old)) result tokens.new }
+            at.optional at.start (deep_of x.old) in
+            Takes (λ done. deep_of x.new) (meant (input tokens.old)) result tokens.new }
     {
         tokens.take();
         if !is_word(tokens.kind()) {
@@ -50,18 +56,24 @@ impl<'s, F: Fn(Global, &mut Tokens<'_, 's>, usize, u8) -> Read<'s>> Reader<F> {
         tokens.take();
         let span = tokens.span(at.start);
         let depth = x.depth;
-        let target = Box::new(self.alloc, x.expression)?;
+        let target = Box::new(self.alloc, taken(x))?;
         let expression = Expression::attribute(target, name, at.optional, span);
-        self.node(tokens, depth, expression)
+        self.put(tokens, depth, expression, x)
     }
 
     /// `x[y]` or a slice, from the bracket on.
+    #[inline(never)]
     #[tactic(auto, unfolding(crate::specs::Expressions::subscript, crate::specs::Expressions::part))]
-    pub(crate) fn subscript(&self, tokens: &mut Tokens<'_, 's>, at: Access, x: Deep<'s>) -> Read<'s>
+    pub(crate) fn subscript(
+        &self,
+        tokens: &mut Tokens<'_, 's>,
+        at: Access,
+        x: &mut Deep<'s>,
+    ) -> Replaced
         requires { Nests self.now.below (F.pre self.now.expr) (F.post self.now.expr) }
         ensures { let meant = spec.subscript self.now.limit (spec.expr self.now.below)
-            at.optional at.start (deep_of x.entry) in
-            Takes deep_of (meant (input tokens.old)) result tokens.new }
+            at.optional at.start (deep_of x.old) in
+            Takes (λ done. deep_of x.new) (meant (input tokens.old)) result tokens.new }
     {
         tokens.take();
         if tokens.kind() == Kind::RightBracket {
@@ -70,7 +82,7 @@ impl<'s, F: Fn(Global, &mut Tokens<'_, 's>, usize, u8) -> Read<'s>> Reader<F> {
         if tokens.kind() == Kind::Colon {
             return self.slice(tokens, at, x, absent());
         }
-        let y = self.sub(tokens, precedence::CHOICE)?;
+        let y = read!(self.sub(tokens, precedence::CHOICE));
         if tokens.kind() == Kind::RightBracket {
             self.index(tokens, at, x, y)
         } else {
@@ -79,6 +91,7 @@ impl<'s, F: Fn(Global, &mut Tokens<'_, 's>, usize, u8) -> Read<'s>> Reader<F> {
     }
 
     /// A bound of a slice, if it is written, and how deep it is.
+    #[inline(always)]
     #[tactic(auto, unfolding(crate::specs::Expressions::part))]
     pub(crate) fn part(&self, tokens: &mut Tokens<'_, 's>) -> Result<Part<'s>, Refusal>
         requires { Nests self.now.below (F.pre self.now.expr) (F.post self.now.expr) }
@@ -90,11 +103,12 @@ impl<'s, F: Fn(Global, &mut Tokens<'_, 's>, usize, u8) -> Read<'s>> Reader<F> {
         if tokens.kind() == Kind::RightBracket {
             return Ok(absent());
         }
-        let x = self.sub(tokens, precedence::CHOICE)?;
+        let x = read!(self.sub(tokens, precedence::CHOICE));
         Ok(present(self.alloc, x)?)
     }
 
     /// The step of a slice, if it is written, and how deep it is.
+    #[inline(always)]
     #[tactic(auto, unfolding(crate::specs::Expressions::step))]
     pub(crate) fn step(&self, tokens: &mut Tokens<'_, 's>) -> Result<Part<'s>, Refusal>
         requires { Nests self.now.below (F.pre self.now.expr) (F.post self.now.expr) }
@@ -108,32 +122,72 @@ impl<'s, F: Fn(Global, &mut Tokens<'_, 's>, usize, u8) -> Read<'s>> Reader<F> {
     }
 
     /// `x[y]`, where the index was read, from its bracket on.
+    #[inline(never)]
     #[tactic(auto, unfolding(crate::specs::Expressions::index_at))]
-    fn index(&self, tokens: &mut Tokens<'_, 's>, at: Access, x: Deep<'s>, y: Deep<'s>) -> Read<'s>
+    fn index(
+        &self,
+        tokens: &mut Tokens<'_, 's>,
+        at: Access,
+        x: &mut Deep<'s>,
+        y: Deep<'s>,
+    ) -> Replaced
         ensures { let y = deep_of y.entry in
             let meant = spec.index_at self.now.limit (spec.expr self.now.below)
-            at.optional at.start (deep_of x.entry) (Present y.expr) y.depth in
-            Takes deep_of (meant (input tokens.old)) result tokens.new }
+            at.optional at.start (deep_of x.old) (Present y.expr) y.depth in
+            Takes (λ done. deep_of x.new) (meant (input tokens.old)) result tokens.new }
     {
         tokens.take();
         let depth = x.depth.max(y.depth);
-        let (target, index) = (x.expression, y.expression);
+        let (target, index) = (taken(x), y.expression);
         let parts = Box::new(self.alloc, Indexed { target, index })?;
         let span = tokens.span(at.start);
-        self.node(tokens, depth, Expression::index(parts, at.optional, span))
+        self.put(
+            tokens,
+            depth,
+            Expression::index(parts, at.optional, span),
+            x,
+        )
     }
 
     /// A slice, from the first colon on.
-    #[tactic(auto, unfolding(crate::specs::Expressions::slice, crate::specs::Expressions::slice_made))]
-    fn slice(&self, tokens: &mut Tokens<'_, 's>, at: Access, x: Deep<'s>, p: Part<'s>) -> Read<'s>
+    #[inline(never)]
+    #[tactic(auto, unfolding(crate::specs::Expressions::slice))]
+    fn slice(
+        &self,
+        tokens: &mut Tokens<'_, 's>,
+        at: Access,
+        x: &mut Deep<'s>,
+        p: Part<'s>,
+    ) -> Replaced
         requires { Nests self.now.below (F.pre self.now.expr) (F.post self.now.expr) }
         ensures { let meant = spec.slice self.now.limit (spec.expr self.now.below)
-            at.optional at.start (deep_of x.entry) (part_of p.entry) in
-            Takes deep_of (meant (input tokens.old)) result tokens.new }
+            at.optional at.start (deep_of x.old) (part_of p.entry) in
+            Takes (λ done. deep_of x.new) (meant (input tokens.old)) result tokens.new }
     {
         tokens.expect(Kind::Colon)?;
         let q = self.part(tokens)?;
         let r = self.step(tokens)?;
+        self.slice_made(tokens, at, x, p, q, r)
+    }
+
+    /// The same where all bounds were read, from the closing bracket on.
+    #[inline(never)]
+    #[tactic(auto, unfolding(crate::specs::Expressions::slice_made))]
+    fn slice_made(
+        &self,
+        tokens: &mut Tokens<'_, 's>,
+        at: Access,
+        x: &mut Deep<'s>,
+        p: Part<'s>,
+        q: Part<'s>,
+        r: Part<'s>,
+    ) -> Replaced
+        ensures { let rule = spec.slice_made self.now.limit (spec.expr self.now.below) in
+            let a = part_of p.entry in let b = part_of q.entry in let c = part_of r.entry in
+            let meant = rule at.optional at.start (deep_of x.old) a.0 b.0 c.0
+            (max a.1 (max b.1 c.1)) in
+            Takes (λ done. deep_of x.new) (meant (input tokens.old)) result tokens.new }
+    {
         tokens.expect(Kind::RightBracket)?;
         let (a, b, c) = (p.depth, q.depth, r.depth);
         let depth = x.depth.max(a.max(b.max(c)));
@@ -142,9 +196,14 @@ impl<'s, F: Fn(Global, &mut Tokens<'_, 's>, usize, u8) -> Read<'s>> Reader<F> {
             end: q.expression,
             step: r.expression,
         };
-        let target = x.expression;
+        let target = taken(x);
         let sliced = Box::new(self.alloc, Sliced { target, bounds })?;
         let span = tokens.span(at.start);
-        self.node(tokens, depth, Expression::slice(sliced, at.optional, span))
+        self.put(
+            tokens,
+            depth,
+            Expression::slice(sliced, at.optional, span),
+            x,
+        )
     }
 }

@@ -5,7 +5,7 @@ ghost use Rattle.tera_syntax_expressions.specs.Arguments as call;
 ghost use Rattle.tera_syntax_expressions.specs.Expressions as spec;
 ghost use Rattle.tera_syntax_expressions.specs.Parts.{Follows, GoesOn, Nests};
 
-use crate::expressions::{Deep, Read, Row};
+use crate::expressions::{Deep, Read, Replaced, Row};
 use crate::reader::Reader;
 use crate::signs::Application;
 use std::alloc::Global;
@@ -16,10 +16,16 @@ use tera_syntax_tree::Argument;
 
 impl<'s, F: Fn(Global, &mut Tokens<'_, 's>, usize, u8) -> Read<'s>> Reader<F> {
     /// `x | name`, from the bar on.
+    #[inline(never)]
     #[tactic(auto, unfolding(crate::specs::Expressions::filter))]
-    pub(crate) fn filter(&self, tokens: &mut Tokens<'_, 's>, start: usize, x: Deep<'s>) -> Read<'s>
+    pub(crate) fn filter(
+        &self,
+        tokens: &mut Tokens<'_, 's>,
+        start: usize,
+        x: &mut Deep<'s>,
+    ) -> Replaced
         requires { Nests self.now.below (F.pre self.now.expr) (F.post self.now.expr) }
-        ensures { GoesOn spec.filter self.now start x.entry tokens.old result tokens.new }
+        ensures { GoesOn spec.filter self.now start x.old x.new tokens.old result tokens.new }
     {
         tokens.take();
         if !is_word(tokens.kind()) {
@@ -29,25 +35,32 @@ impl<'s, F: Fn(Global, &mut Tokens<'_, 's>, usize, u8) -> Read<'s>> Reader<F> {
     }
 
     /// `x is name`, or `x is not name`, from `is` on.
+    #[inline(never)]
     #[tactic(auto, unfolding(crate::specs::Expressions::tested))]
-    pub(crate) fn test(&self, tokens: &mut Tokens<'_, 's>, start: usize, x: Deep<'s>) -> Read<'s>
+    pub(crate) fn test(
+        &self,
+        tokens: &mut Tokens<'_, 's>,
+        start: usize,
+        x: &mut Deep<'s>,
+    ) -> Replaced
         requires { Nests self.now.below (F.pre self.now.expr) (F.post self.now.expr) }
-        ensures { GoesOn spec.tested self.now start x.entry tokens.old result tokens.new }
+        ensures { GoesOn spec.tested self.now start x.old x.new tokens.old result tokens.new }
     {
         tokens.take();
         if tokens.kind() != Kind::Not {
             return self.test_by_name(tokens, start, x);
         }
         tokens.take();
-        let y = self.test_by_name(tokens, start, x)?;
-        self.inverse(tokens, start, y)
+        self.test_by_name(tokens, start, x)?;
+        self.inverse(tokens, start, x)
     }
 
     /// A test, from its name on.
+    #[inline(always)]
     #[tactic(auto, unfolding(crate::specs::Expressions::test_by_name))]
-    fn test_by_name(&self, tokens: &mut Tokens<'_, 's>, start: usize, x: Deep<'s>) -> Read<'s>
+    fn test_by_name(&self, tokens: &mut Tokens<'_, 's>, start: usize, x: &mut Deep<'s>) -> Replaced
         requires { Nests self.now.below (F.pre self.now.expr) (F.post self.now.expr) }
-        ensures { GoesOn spec.test_by_name self.now start x.entry tokens.old result tokens.new }
+        ensures { GoesOn spec.test_by_name self.now start x.old x.new tokens.old result tokens.new }
     {
         if !is_test_name(tokens.kind()) {
             return Err(tokens.refuse(Reason::Expected(Kind::Name)));
@@ -56,6 +69,7 @@ impl<'s, F: Fn(Global, &mut Tokens<'_, 's>, usize, u8) -> Read<'s>> Reader<F> {
     }
 
     /// The arguments behind a name, if they are written, and the greatest depth.
+    #[inline(always)]
     #[tactic(auto, unfolding(crate::specs::Expressions::given))]
     pub(crate) fn given(&self, tokens: &mut Tokens<'_, 's>) -> Row<Argument<'s>>
         requires { Nests self.now.below (F.pre self.now.expr) (F.post self.now.expr) }

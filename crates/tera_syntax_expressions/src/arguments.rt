@@ -21,6 +21,7 @@ use tera_syntax_tree::{Argument, Called, Expression};
 
 impl<'s, F: Fn(Global, &mut Tokens<'_, 's>, usize, u8) -> Read<'s>> Reader<F> {
     /// `name(name = x, ..)`
+    #[inline(always)]
     #[tactic(auto, unfolding(crate::specs::Expressions::call))]
     pub(crate) fn call(&self, tokens: &mut Tokens<'_, 's>) -> Read<'s>
         requires { Nests self.now.below (F.pre self.now.expr) (F.post self.now.expr) }
@@ -37,6 +38,7 @@ impl<'s, F: Fn(Global, &mut Tokens<'_, 's>, usize, u8) -> Read<'s>> Reader<F> {
     }
 
     /// Arguments with commas between, up to a parenthesis, and the greatest depth.
+    #[inline(never)]
     #[tactic(auto, using(crate::proofs::Placed::arguments_once), unfolding(crate::specs::Expressions::arguments_from))]
     pub(crate) fn arguments(&self, tokens: &mut Tokens<'_, 's>) -> Row<Argument<'s>>
         requires { Nests self.now.below (F.pre self.now.expr) (F.post self.now.expr) }
@@ -50,6 +52,7 @@ impl<'s, F: Fn(Global, &mut Tokens<'_, 's>, usize, u8) -> Read<'s>> Reader<F> {
     }
 
     /// An argument, at its position among those that were read, and its depth.
+    #[inline(always)]
     #[tactic(auto, unfolding(crate::specs::Expressions::argument))]
     fn argument(&self, tokens: &mut Tokens<'_, 's>, found: &mut Vec<Argument<'s>>) -> Depth
         requires { Nests self.now.below (F.pre self.now.expr) (F.post self.now.expr) }

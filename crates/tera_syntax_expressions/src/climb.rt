@@ -6,10 +6,10 @@ ghost use Rattle.tera_syntax_expressions.specs.Parts.{GoesOn, Nests, deep_of};
 ghost use Rattle.tera_syntax_expressions.specs.Precedence as precedence;
 
 use crate::access::Access;
-use crate::expressions::{Deep, Read};
+use crate::expressions::{Deep, Read, Replaced};
 use crate::levels::{begins, gives, goes_on};
 use crate::precedence;
-use crate::reader::Reader;
+use crate::reader::{Reader, read};
 use crate::signs::Infix::{self, Binary};
 use std::alloc::Global;
 use tera_syntax_tokens::refusal::{Reason, Refusal};
@@ -19,6 +19,7 @@ use tera_syntax_tree::BinaryOperator as Operator;
 
 impl<'s, F: Fn(Global, &mut Tokens<'_, 's>, usize, u8) -> Read<'s>> Reader<F> {
     /// An expression of this level or above.
+    #[inline(always)]
     #[tactic(auto, unfolding(crate::specs::Expressions::level, crate::specs::Expressions::level_with))]
     pub(crate) fn level(&self, tokens: &mut Tokens<'_, 's>, floor: u8) -> Read<'s>
         requires { Nests self.now.below (F.pre self.now.expr) (F.post self.now.expr) }
@@ -33,11 +34,12 @@ impl<'s, F: Fn(Global, &mut Tokens<'_, 's>, usize, u8) -> Read<'s>> Reader<F> {
             return Err(tokens.refuse(Reason::NoExpression));
         }
         let start = tokens.start();
-        let x = self.head(tokens)?;
+        let x = read!(self.head(tokens));
         self.climb(tokens, ahead, opens, rounds, floor, begins, start, x)
     }
 
     /// Goes on with operators, and closes the parentheses that are open. `ahead` begins with these.
+    #[inline(always)]
     #[tactic(auto, unfolding(crate::specs::Expressions::climb))]
     pub(crate) fn climb(
         &self,
@@ -58,7 +60,7 @@ impl<'s, F: Fn(Global, &mut Tokens<'_, 's>, usize, u8) -> Read<'s>> Reader<F> {
         for _round in 0..rounds {
             let kind = tokens.kind();
             if goes_on(floor_in(opens, floor), have, kind) {
-                x = self.operation(tokens, start, x)?;
+                self.operation(tokens, start, &mut x)?;
                 have = gives(kind);
             } else if opens == 0 {
                 return Ok(x);
@@ -77,10 +79,11 @@ impl<'s, F: Fn(Global, &mut Tokens<'_, 's>, usize, u8) -> Read<'s>> Reader<F> {
     }
 
     /// What the next token goes on to.
+    #[inline(always)]
     #[tactic(auto, unfolding(crate::specs::Expressions::operation, crate::specs::Expressions::applied, crate::specs::Expressions::suffixed))]
-    fn operation(&self, tokens: &mut Tokens<'_, 's>, start: usize, x: Deep<'s>) -> Read<'s>
+    fn operation(&self, tokens: &mut Tokens<'_, 's>, start: usize, x: &mut Deep<'s>) -> Replaced
         requires { Nests self.now.below (F.pre self.now.expr) (F.post self.now.expr) }
-        ensures { GoesOn spec.operation self.now start x.entry tokens.old result tokens.new }
+        ensures { GoesOn spec.operation self.now start x.old x.new tokens.old result tokens.new }
     {
         let (level, op) = match tokens.kind() {
             Kind::Or => (precedence::AND, Infix::Or),
@@ -109,9 +112,9 @@ impl<'s, F: Fn(Global, &mut Tokens<'_, 's>, usize, u8) -> Read<'s>> Reader<F> {
     /// answers is made ready at each sign.
     #[inline(never)]
     #[tactic(auto, unfolding(crate::specs::Expressions::suffixed))]
-    fn suffixed(&self, tokens: &mut Tokens<'_, 's>, start: usize, x: Deep<'s>) -> Read<'s>
+    fn suffixed(&self, tokens: &mut Tokens<'_, 's>, start: usize, x: &mut Deep<'s>) -> Replaced
         requires { Nests self.now.below (F.pre self.now.expr) (F.post self.now.expr) }
-        ensures { GoesOn spec.suffixed self.now start x.entry tokens.old result tokens.new }
+        ensures { GoesOn spec.suffixed self.now start x.old x.new tokens.old result tokens.new }
     {
         match tokens.kind() {
             Kind::If => self.choice(tokens, start, x),

@@ -10,7 +10,7 @@ ghost use Rattle.tera_syntax_expressions.specs.Precedence as precedence;
 use crate::commas::{between_commas, take_comma};
 use crate::expressions::{Deep, Depth, Read, Row};
 use crate::precedence;
-use crate::reader::Reader;
+use crate::reader::{Reader, read};
 use std::alloc::{AllocError, Global};
 use tera_syntax_tokens::literal::{integer, literal};
 use tera_syntax_tokens::refusal::{Reason, Refusal};
@@ -20,7 +20,8 @@ use tera_syntax_tree::{Entry, Expression, Item, LiteralKey};
 
 impl<'s, F: Fn(Global, &mut Tokens<'_, 's>, usize, u8) -> Read<'s>> Reader<F> {
     /// What stands behind a bracket: an array, or a comprehension where `for` follows the first expression.
-    #[tactic(auto, unfolding(crate::specs::Expressions::bracketed, crate::specs::Expressions::array))]
+    #[inline(never)]
+    #[tactic(auto, unfolding(crate::specs::Expressions::bracketed))]
     pub(crate) fn bracketed(&self, tokens: &mut Tokens<'_, 's>, start: usize) -> Read<'s>
         requires { Nests self.now.below (F.pre self.now.expr) (F.post self.now.expr) }
         ensures { let meant = spec.bracketed self.now.limit (spec.expr self.now.below) start in
@@ -32,10 +33,29 @@ impl<'s, F: Fn(Global, &mut Tokens<'_, 's>, usize, u8) -> Read<'s>> Reader<F> {
             return self.node(tokens, 0, expression);
         }
         let is_spread = take_dots(tokens);
-        let x = self.sub(tokens, precedence::CHOICE)?;
+        let mut x = read!(self.sub(tokens, precedence::CHOICE));
         if !is_spread && tokens.kind() == Kind::For {
-            return self.comprehension(tokens, start, x);
+            self.comprehension(tokens, start, &mut x)?;
+            return Ok(x);
         }
+        self.array(tokens, start, is_spread, x)
+    }
+
+    /// An array, from behind its first item.
+    #[inline(always)]
+    #[tactic(auto, unfolding(crate::specs::Expressions::array))]
+    fn array(
+        &self,
+        tokens: &mut Tokens<'_, 's>,
+        start: usize,
+        is_spread: bool,
+        x: Deep<'s>,
+    ) -> Read<'s>
+        requires { Nests self.now.below (F.pre self.now.expr) (F.post self.now.expr) }
+        ensures { let rule = spec.array self.now.limit (spec.expr self.now.below) in
+            let meant = rule start is_spread (deep_of x.entry) in
+            Takes deep_of (meant (input tokens.old)) result tokens.new }
+    {
         let mut found = Vec::new(self.alloc);
         let depth = x.depth;
         found.push(Item {
@@ -48,6 +68,7 @@ impl<'s, F: Fn(Global, &mut Tokens<'_, 's>, usize, u8) -> Read<'s>> Reader<F> {
     }
 
     /// All items, from behind the first, and the greatest depth.
+    #[inline(always)]
     #[tactic(auto, unfolding(crate::specs::Expressions::items_behind))]
     pub(crate) fn items_behind(
         &self,
@@ -69,6 +90,7 @@ impl<'s, F: Fn(Global, &mut Tokens<'_, 's>, usize, u8) -> Read<'s>> Reader<F> {
     }
 
     /// Items with commas between, up to a bracket, behind those that were read.
+    #[inline(always)]
     #[tactic(auto, unfolding(crate::specs::Expressions::items_from))]
     fn items(&self, tokens: &mut Tokens<'_, 's>, all: Vec<Item<'s>>, depth: usize) -> Row<Item<'s>>
         requires { Nests self.now.below (F.pre self.now.expr) (F.post self.now.expr) }
@@ -83,6 +105,7 @@ impl<'s, F: Fn(Global, &mut Tokens<'_, 's>, usize, u8) -> Read<'s>> Reader<F> {
     }
 
     /// An item, behind those that were read, and its depth.
+    #[inline(always)]
     fn item(&self, tokens: &mut Tokens<'_, 's>, found: &mut Vec<Item<'s>>) -> Depth
         requires { Nests self.now.below (F.pre self.now.expr) (F.post self.now.expr) }
         ensures { let here = input tokens.old in
@@ -100,6 +123,7 @@ impl<'s, F: Fn(Global, &mut Tokens<'_, 's>, usize, u8) -> Read<'s>> Reader<F> {
     }
 
     /// `{"key": x, ..}`
+    #[inline(never)]
     #[tactic(auto, unfolding(crate::specs::Expressions::map))]
     pub(crate) fn map(&self, tokens: &mut Tokens<'_, 's>) -> Read<'s>
         requires { Nests self.now.below (F.pre self.now.expr) (F.post self.now.expr) }
@@ -114,6 +138,7 @@ impl<'s, F: Fn(Global, &mut Tokens<'_, 's>, usize, u8) -> Read<'s>> Reader<F> {
     }
 
     /// Entries with commas between, up to a brace, and the greatest depth.
+    #[inline(always)]
     #[tactic(auto, unfolding(crate::specs::Expressions::entries_from))]
     fn entries(&self, tokens: &mut Tokens<'_, 's>) -> Row<Entry<'s>>
         requires { Nests self.now.below (F.pre self.now.expr) (F.post self.now.expr) }
@@ -127,6 +152,7 @@ impl<'s, F: Fn(Global, &mut Tokens<'_, 's>, usize, u8) -> Read<'s>> Reader<F> {
     }
 
     /// An entry, behind those that were read, and its depth.
+    #[inline(always)]
     fn entry(&self, tokens: &mut Tokens<'_, 's>, found: &mut Vec<Entry<'s>>) -> Depth
         requires { Nests self.now.below (F.pre self.now.expr) (F.post self.now.expr) }
         ensures { let expr = spec.expr self.now.below precedence.choice in

@@ -9,7 +9,7 @@ ghost use Rattle.tera_syntax_expressions.specs.Parts.{Follows, FollowsRow, Nests
 use crate::arguments::argument_name;
 use crate::expressions::{Deep, Depth, Read, Row, expr};
 use crate::precedence;
-use crate::reader::Reader;
+use crate::reader::{Reader, read};
 use std::alloc::Global;
 use tera_syntax_tokens::literal::literal;
 use tera_syntax_tokens::refusal::{Reason, Refusal};
@@ -38,6 +38,7 @@ pub fn attributes<'s>(alloc: Global, tokens: &mut Tokens<'_, 's>, limit: usize) 
 
 impl<'s, F: Fn(Global, &mut Tokens<'_, 's>, usize, u8) -> Read<'s>> Reader<F> {
     /// `<name attributes/>`
+    #[inline(never)]
     #[tactic(auto, unfolding(crate::specs::Expressions::component))]
     pub(crate) fn component(&self, tokens: &mut Tokens<'_, 's>) -> Read<'s>
         requires { Nests self.now.below (F.pre self.now.expr) (F.post self.now.expr) }
@@ -55,6 +56,7 @@ impl<'s, F: Fn(Global, &mut Tokens<'_, 's>, usize, u8) -> Read<'s>> Reader<F> {
     }
 
     /// A component whose attributes were read, up to its end.
+    #[inline(always)]
     #[tactic(auto, unfolding(crate::specs::Expressions::component_of))]
     pub(crate) fn component_of(
         &self,
@@ -79,6 +81,7 @@ impl<'s, F: Fn(Global, &mut Tokens<'_, 's>, usize, u8) -> Read<'s>> Reader<F> {
     }
 
     /// Attributes up to where none begins, and the greatest depth.
+    #[inline(never)]
     #[tactic(auto, unfolding(crate::specs::Expressions::attributes_from))]
     pub(crate) fn attributes(&self, tokens: &mut Tokens<'_, 's>) -> Row<Entry<'s>>
         requires { Nests self.now.below (F.pre self.now.expr) (F.post self.now.expr) }
@@ -100,6 +103,7 @@ impl<'s, F: Fn(Global, &mut Tokens<'_, 's>, usize, u8) -> Read<'s>> Reader<F> {
     }
 
     /// An attribute, behind those that were read, and its depth.
+    #[inline(always)]
     #[tactic(auto, unfolding(crate::specs::Expressions::any_attribute))]
     fn any_attribute(&self, tokens: &mut Tokens<'_, 's>, found: &mut Vec<Entry<'s>>) -> Depth
         requires { Nests self.now.below (F.pre self.now.expr) (F.post self.now.expr) }
@@ -115,6 +119,7 @@ impl<'s, F: Fn(Global, &mut Tokens<'_, 's>, usize, u8) -> Read<'s>> Reader<F> {
     }
 
     /// `name="text"` or `name={x}`
+    #[inline(always)]
     #[tactic(auto, unfolding(crate::specs::Expressions::named_attribute))]
     fn named_attribute(&self, tokens: &mut Tokens<'_, 's>, found: &mut Vec<Entry<'s>>) -> Depth
         requires { Nests self.now.below (F.pre self.now.expr) (F.post self.now.expr) }
@@ -137,6 +142,7 @@ impl<'s, F: Fn(Global, &mut Tokens<'_, 's>, usize, u8) -> Read<'s>> Reader<F> {
     }
 
     /// `{...x}`, from behind its brace.
+    #[inline(always)]
     #[tactic(auto, unfolding(crate::specs::Expressions::spread_attribute))]
     fn spread_attribute(&self, tokens: &mut Tokens<'_, 's>, found: &mut Vec<Entry<'s>>) -> Depth
         requires { Nests self.now.below (F.pre self.now.expr) (F.post self.now.expr) }
@@ -157,6 +163,7 @@ impl<'s, F: Fn(Global, &mut Tokens<'_, 's>, usize, u8) -> Read<'s>> Reader<F> {
     }
 
     /// The value of an attribute: a text, or an expression in braces.
+    #[inline(always)]
     #[tactic(auto, unfolding(crate::specs::Expressions::attribute_value))]
     pub(crate) fn attribute_value(&self, tokens: &mut Tokens<'_, 's>) -> Read<'s>
         requires { Nests self.now.below (F.pre self.now.expr) (F.post self.now.expr) }
@@ -185,13 +192,14 @@ impl<'s, F: Fn(Global, &mut Tokens<'_, 's>, usize, u8) -> Read<'s>> Reader<F> {
     }
 
     /// An expression that a brace closes.
+    #[inline(always)]
     #[tactic(auto, unfolding(crate::specs::Expressions::braced))]
     pub(crate) fn braced(&self, tokens: &mut Tokens<'_, 's>) -> Read<'s>
         requires { Nests self.now.below (F.pre self.now.expr) (F.post self.now.expr) }
         ensures { let meant = spec.braced self.now.limit (spec.expr self.now.below) in
             Takes deep_of (meant (input tokens.old)) result tokens.new }
     {
-        let x = self.sub(tokens, precedence::CHOICE)?;
+        let x = read!(self.sub(tokens, precedence::CHOICE));
         tokens.expect(Kind::RightBrace)?;
         Ok(x)
     }

@@ -1,14 +1,15 @@
 // Comprehensions.
 ghost use Rattle.std.specs.Prelude.{◌≡◌, option_copied};
 ghost use Rattle.tera_syntax_tree.specs.Prelude.{expr_of};
+ghost use Rattle.tera_syntax_tokens.specs.Prelude.{Takes, input};
 ghost use Rattle.tera_syntax_expressions.specs.Expressions as spec;
-ghost use Rattle.tera_syntax_expressions.specs.Parts.{Follows, GoesOn, Nests, part_of};
+ghost use Rattle.tera_syntax_expressions.specs.Parts.{Follows, GoesOn, Nests, deep_of, names_of, part_of};
 
-use crate::expressions::{Deep, Read};
+use crate::expressions::{Deep, Read, Replaced};
 use crate::headings::{LoopNames, names};
 use crate::making::{absent, present};
 use crate::precedence;
-use crate::reader::{Part, Reader};
+use crate::reader::{Part, Reader, read, taken};
 use std::alloc::Global;
 use tera_syntax_tokens::refusal::Refusal;
 use tera_syntax_tokens::token::Kind;
@@ -17,37 +18,56 @@ use tera_syntax_tree::{Collected, Expression, Heading};
 
 impl<'s, F: Fn(Global, &mut Tokens<'_, 's>, usize, u8) -> Read<'s>> Reader<F> {
     /// `[x for name in y]`, from `for` on.
-    #[tactic(auto, unfolding(crate::specs::Expressions::comprehension, crate::specs::Expressions::comprehension_made))]
+    #[inline(never)]
+    #[tactic(auto, unfolding(crate::specs::Expressions::comprehension))]
     pub(crate) fn comprehension(
         &self,
         tokens: &mut Tokens<'_, 's>,
         start: usize,
-        x: Deep<'s>,
-    ) -> Read<'s>
+        x: &mut Deep<'s>,
+    ) -> Replaced
         requires { Nests self.now.below (F.pre self.now.expr) (F.post self.now.expr) }
-        ensures { GoesOn spec.comprehension self.now start x.entry tokens.old result tokens.new }
+        ensures { GoesOn spec.comprehension self.now start x.old x.new tokens.old result tokens.new }
     {
         tokens.take();
-        let names = names(tokens)?;
-        let target = self.sub(tokens, precedence::OR)?;
+        let names = read!(names(tokens));
+        let target = read!(self.sub(tokens, precedence::OR));
         let only = self.condition(tokens)?;
+        self.comprehension_made(tokens, start, x, names, target, only)
+    }
+
+    /// The same where all parts were read, from the closing bracket on.
+    #[inline(never)]
+    #[tactic(auto, unfolding(crate::specs::Expressions::comprehension_made))]
+    fn comprehension_made(
+        &self,
+        tokens: &mut Tokens<'_, 's>,
+        start: usize,
+        x: &mut Deep<'s>,
+        names: LoopNames<'s>,
+        target: Deep<'s>,
+        only: Part<'s>,
+    ) -> Replaced
+        ensures { let rule = spec.comprehension_made self.now.limit (spec.expr self.now.below) in
+            let meant = rule start (deep_of x.old) (names_of names.entry) (deep_of target.entry)
+            (part_of only.entry) in
+            Takes (λ done. deep_of x.new) (meant (input tokens.old)) result tokens.new }
+    {
         tokens.expect(Kind::RightBracket)?;
         let (a, b, c) = (x.depth, target.depth, only.depth);
         let depth = a.max(b.max(c));
         let collected = Collected {
-            value: x.expression,
+            value: taken(x),
             heading: heading(names, target.expression),
             condition: only.expression,
         };
         let collected = Box::new(self.alloc, collected)?;
-        self.node(
-            tokens,
-            depth,
-            Expression::comprehension(collected, tokens.span(start)),
-        )
+        let expression = Expression::comprehension(collected, tokens.span(start));
+        self.put(tokens, depth, expression, x)
     }
 
     /// The condition of a comprehension, if it is written, and how deep it is.
+    #[inline(always)]
     #[tactic(auto, unfolding(crate::specs::Expressions::condition))]
     pub(crate) fn condition(&self, tokens: &mut Tokens<'_, 's>) -> Result<Part<'s>, Refusal>
         requires { Nests self.now.below (F.pre self.now.expr) (F.post self.now.expr) }
@@ -57,7 +77,7 @@ impl<'s, F: Fn(Global, &mut Tokens<'_, 's>, usize, u8) -> Read<'s>> Reader<F> {
             return Ok(absent());
         }
         tokens.take();
-        let x = self.sub(tokens, precedence::OR)?;
+        let x = read!(self.sub(tokens, precedence::OR));
         Ok(present(self.alloc, x)?)
     }
 }

@@ -22,6 +22,9 @@ pub struct Deep<'s> {
 /// What reading an expression gives.
 pub(crate) type Read<'s> = Result<Deep<'s>, Refusal>;
 
+/// What going on from an operand gives, where the form that is made of it stands in its place.
+pub(crate) type Replaced = Result<(), Refusal>;
+
 /// What reading a row gives: its parts, and how deep the deepest is.
 pub type Row<T> = Result<(Vec<T>, usize), Refusal>;
 

@@ -20,6 +20,7 @@ use tera_syntax_tree::Expression;
 
 impl<'s, F: Fn(Global, &mut Tokens<'_, 's>, usize, u8) -> Read<'s>> Reader<F> {
     /// What stands before the first operator.
+    #[inline(always)]
     #[tactic(auto, unfolding(crate::specs::Expressions::head))]
     pub(crate) fn head(&self, tokens: &mut Tokens<'_, 's>) -> Read<'s>
         requires { Nests self.now.below (F.pre self.now.expr) (F.post self.now.expr) }
@@ -50,9 +51,19 @@ impl<'s, F: Fn(Global, &mut Tokens<'_, 's>, usize, u8) -> Read<'s>> Reader<F> {
         }
     }
 
-    /// A name, an integer or a text, and what else may begin an expression.
-    #[tactic(auto, unfolding(crate::specs::Expressions::head))]
+    /// The same where it is most likely a name, an integer or a text. The answer has room only where it is read.
+    #[inline(always)]
     pub(crate) fn leaf(&self, tokens: &mut Tokens<'_, 's>) -> Read<'s>
+        requires { Nests self.now.below (F.pre self.now.expr) (F.post self.now.expr) }
+        ensures { Follows deep_of spec.head self.now tokens.old result tokens.new }
+    {
+        self.leaf_apart(tokens)
+    }
+
+    /// A name, an integer or a text, and what else may begin an expression.
+    #[inline(never)]
+    #[tactic(auto, unfolding(crate::specs::Expressions::head))]
+    fn leaf_apart(&self, tokens: &mut Tokens<'_, 's>) -> Read<'s>
         requires { Nests self.now.below (F.pre self.now.expr) (F.post self.now.expr) }
         ensures { Follows deep_of spec.head self.now tokens.old result tokens.new }
     {

@@ -1,30 +1,35 @@
 // Forms that more than one rule makes.
-ghost use Rattle.std.specs.Prelude.{◌≡◌, IfOk};
-ghost use Rattle.tera_syntax_tree.specs.Prelude.{Absent, Not, Present, expr_of};
+ghost use Rattle.std.specs.Prelude.{◌≡◌, max, IfOk};
+ghost use Rattle.tera_syntax_tree.specs.Prelude.{Absent, Not, Present, arguments_of, expr_of};
 ghost use Rattle.tera_syntax_tokens.specs.Prelude.{span, Takes, input};
 ghost use Rattle.tera_syntax_expressions.specs.Applications.{application_of};
 ghost use Rattle.tera_syntax_expressions.specs.Expressions as spec;
 ghost use Rattle.tera_syntax_expressions.specs.Parts.{Nests, deep_of, part_of};
 
-use crate::expressions::{Deep, Read};
-use crate::reader::{Part, Reader};
+use crate::expressions::{Deep, Read, Replaced};
+use crate::reader::{Part, Reader, taken};
 use crate::signs::{Application, make_application};
 use std::alloc::{AllocError, Global};
 use tera_syntax_tokens::refusal::Refusal;
 use tera_syntax_tokens::tokens::Tokens;
-use tera_syntax_tree::{Applied, Expression};
+use tera_syntax_tree::{Applied, Argument, Expression};
 
 impl<'s, F: Fn(Global, &mut Tokens<'_, 's>, usize, u8) -> Read<'s>> Reader<F> {
     /// What was read, inverted.
-    #[inline(always)]
-    pub(crate) fn inverse(&self, tokens: &mut Tokens<'_, 's>, start: usize, x: Deep<'s>) -> Read<'s>
-        ensures { let i = input tokens.old in let whole = deep_of x.entry in
-            Takes deep_of (spec.node self.now.limit whole.depth (Not whole.expr (span start i)) i)
-            result tokens.new }
+    #[inline(never)]
+    pub(crate) fn inverse(
+        &self,
+        tokens: &mut Tokens<'_, 's>,
+        start: usize,
+        x: &mut Deep<'s>,
+    ) -> Replaced
+        ensures { let i = input tokens.old in let whole = deep_of x.old in
+            let meant = spec.node self.now.limit whole.depth (Not whole.expr (span start i)) in
+            Takes (λ done. deep_of x.new) (meant i) result tokens.new }
     {
         let depth = x.depth;
-        let expression = Expression::not(self.alloc, x.expression, tokens.span(start))?;
-        self.node(tokens, depth, expression)
+        let expression = Expression::not(self.alloc, taken(x), tokens.span(start))?;
+        self.put(tokens, depth, expression, x)
     }
 
     /// What a name and arguments make of a value, from the name on.
@@ -35,25 +40,46 @@ impl<'s, F: Fn(Global, &mut Tokens<'_, 's>, usize, u8) -> Read<'s>> Reader<F> {
         tokens: &mut Tokens<'_, 's>,
         form: Application,
         start: usize,
-        x: Deep<'s>,
-    ) -> Read<'s>
+        x: &mut Deep<'s>,
+    ) -> Replaced
         requires { Nests self.now.below (F.pre self.now.expr) (F.post self.now.expr) }
         ensures { let meant = spec.passed self.now.limit (spec.expr self.now.below)
-            (application_of form) start (deep_of x.entry) in
-            Takes deep_of (meant (input tokens.old)) result tokens.new }
+            (application_of form) start (deep_of x.old) in
+            Takes (λ done. deep_of x.new) (meant (input tokens.old)) result tokens.new }
     {
         let name = tokens.text();
         tokens.take();
         let (arguments, b) = self.given(tokens)?;
-        let depth = x.depth.max(b);
+        self.applied(tokens, form, start, x, name, arguments, b)
+    }
+
+    /// The same where the arguments were read.
+    #[inline(never)]
+    fn applied(
+        &self,
+        tokens: &Tokens<'_, 's>,
+        form: Application,
+        start: usize,
+        x: &mut Deep<'s>,
+        name: &'s str,
+        arguments: Vec<Argument<'s>>,
+        depth: usize,
+    ) -> Replaced
+        ensures { let i = input tokens.now in let a = deep_of x.old in
+            let all = arguments_of arguments.entry.items in
+            let made = application_of form a.expr name.now all (span start i) in
+            Takes (λ done. deep_of x.new) (spec.node self.now.limit (max a.depth depth) made i)
+            result tokens.now }
+    {
+        let depth = x.depth.max(depth);
         let applied = Applied {
-            value: x.expression,
+            value: taken(x),
             name,
             arguments,
         };
         let applied = Box::new(self.alloc, applied)?;
         let expression = make_application(form, applied, tokens.span(start));
-        self.node(tokens, depth, expression)
+        self.put(tokens, depth, expression, x)
     }
 }
 

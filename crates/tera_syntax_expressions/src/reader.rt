@@ -2,10 +2,13 @@
 ghost use Rattle.tera_syntax_tree.specs.Prelude.{expr_of};
 ghost use Rattle.tera_syntax_tokens.specs.Prelude.{Takes, input};
 ghost use Rattle.tera_syntax_expressions.specs.Expressions as spec;
-ghost use Rattle.tera_syntax_expressions.specs.Parts.{Nests, deep_of};
+ghost use Rattle.std.specs.Prelude.{◌≡◌};
+ghost use Rattle.tera_syntax_expressions.specs.Parts.{IsEmptied, Nests, deep_of};
 
-use crate::expressions::{Deep, Read};
+use crate::expressions::{Deep, Read, Replaced};
 use std::alloc::Global;
+use std::mem::{forget, replace};
+use tera_errors::Span;
 use tera_syntax_tokens::refusal::{Reason, Refusal};
 use tera_syntax_tokens::tokens::Tokens;
 use tera_syntax_tree::Expression;
@@ -46,8 +49,21 @@ macro_rules! reader_within {
 
 pub(crate) use reader_within;
 
+/// What was read, or at once the refusal. A `?` would copy what was read twice more, and make room for it at each level that is open.
+macro_rules! read {
+    ($reading:expr) => {
+        match $reading {
+            Ok(x) => x,
+            Err(refusal) => return Err(refusal),
+        }
+    };
+}
+
+pub(crate) use read;
+
 impl<'s, F: Fn(Global, &mut Tokens<'_, 's>, usize, u8) -> Read<'s>> Reader<F> {
     /// A part, of this level or above.
+    #[inline(always)]
     pub(crate) fn sub(&self, tokens: &mut Tokens<'_, 's>, floor: u8) -> Read<'s>
         requires { Nests self.now.below (F.pre self.now.expr) (F.post self.now.expr) }
         ensures { Takes deep_of (spec.expr self.now.below floor (input tokens.old))
@@ -71,4 +87,37 @@ impl<'s, F: Fn(Global, &mut Tokens<'_, 's>, usize, u8) -> Read<'s>> Reader<F> {
             depth: depth + 1,
         })
     }
+
+    /// The same in the place of the operand that the form is made of.
+    #[inline(always)]
+    #[tactic(auto, unfolding(crate::specs::Expressions::node))]
+    pub(crate) fn put(
+        &self,
+        tokens: &Tokens<'_, 's>,
+        depth: usize,
+        form: Expression<'s>,
+        x: &mut Deep<'s>,
+    ) -> Replaced
+        requires { IsEmptied x.now }
+        ensures { Takes (λ done. deep_of x.new) (spec.node self.now.limit depth (expr_of form.entry)
+            (input tokens.now)) result tokens.now }
+    {
+        if depth >= self.limit {
+            return Err(tokens.refuse(Reason::TooDeep));
+        }
+        // The leaf that is left in the place has nothing to drop.
+        forget(replace(&mut x.expression, form));
+        x.depth = depth + 1;
+        Ok(())
+    }
+}
+
+/// Takes an operand out of its place, up to when the form that is made of it is put there.
+#[inline(always)]
+pub(crate) fn taken<'s>(x: &mut Deep<'s>) -> Expression<'s>
+    ensures value { expr_of result ≡ expr_of x.old.expression }
+    ensures emptied { IsEmptied x.new }
+{
+    let span = Span { start: 0, end: 0 };
+    replace(&mut x.expression, Expression::None { span })
 }

@@ -160,67 +160,114 @@ impl<'s> Drop for Expression<'s> {
             Expression::Name { name: _, span: _ } => {}
             Expression::Attribute {
                 optional: _,
-                target: _,
+                target,
                 name: _,
                 span: _,
-            } => {}
+            } => drop_operand(target),
             Expression::Index {
                 optional: _,
-                parts: _,
+                parts,
                 span: _,
-            } => {}
+            } => drop_indexed(parts),
             Expression::Slice {
                 optional: _,
-                sliced: _,
+                sliced,
                 span: _,
-            } => {}
-            Expression::Not {
-                operand: _,
-                span: _,
-            } => {}
-            Expression::Negate {
-                operand: _,
-                span: _,
-            } => {}
+            } => drop_sliced(sliced),
+            Expression::Not { operand, span: _ } => drop_operand(operand),
+            Expression::Negate { operand, span: _ } => drop_operand(operand),
             Expression::Binary {
                 operator: _,
-                operands: _,
+                operands,
                 span: _,
-            } => {}
-            Expression::And {
-                operands: _,
-                span: _,
-            } => {}
-            Expression::Or {
-                operands: _,
-                span: _,
-            } => {}
-            Expression::Ternary { choice: _, span: _ } => {}
-            Expression::Array { items: _, span: _ } => {}
-            Expression::Map {
-                entries: _,
-                span: _,
-            } => {}
-            Expression::Comprehension {
-                collected: _,
-                span: _,
-            } => {}
-            Expression::Super {
-                arguments: _,
-                span: _,
-            } => {}
-            Expression::Filter {
-                applied: _,
-                span: _,
-            } => {}
-            Expression::Test {
-                applied: _,
-                span: _,
-            } => {}
-            Expression::Call { called: _, span: _ } => {}
-            Expression::Component { tag: _, span: _ } => {}
+            } => drop_operands(operands),
+            Expression::And { operands, span: _ } => drop_operands(operands),
+            Expression::Or { operands, span: _ } => drop_operands(operands),
+            Expression::Ternary { choice, span: _ } => drop_choice(choice),
+            Expression::Array { items, span: _ } => drop_items(items),
+            Expression::Map { entries, span: _ } => drop_entries(entries),
+            Expression::Comprehension { collected, span: _ } => drop_collected(collected),
+            Expression::Super { arguments, span: _ } => drop_arguments(arguments),
+            Expression::Filter { applied, span: _ } => drop_applied(applied),
+            Expression::Test { applied, span: _ } => drop_applied(applied),
+            Expression::Call { called, span: _ } => drop_called(called),
+            Expression::Component { tag, span: _ } => drop_tag(tag),
         }
     }
+}
+
+// Each form's parts are dropped in a function of its own: what that takes of the stack is not in the frame of every level.
+
+#[inline(never)]
+#[cycle(dropping)]
+fn drop_operand(operand: Box<Expression<'_>>) {
+    drop(operand);
+}
+
+#[inline(never)]
+#[cycle(dropping)]
+fn drop_operands(operands: Box<Operands<'_>>) {
+    drop(operands);
+}
+
+#[inline(never)]
+#[cycle(dropping)]
+fn drop_indexed(parts: Box<Indexed<'_>>) {
+    drop(parts);
+}
+
+#[inline(never)]
+#[cycle(dropping)]
+fn drop_sliced(sliced: Box<Sliced<'_>>) {
+    drop(sliced);
+}
+
+#[inline(never)]
+#[cycle(dropping)]
+fn drop_choice(choice: Box<Choice<'_>>) {
+    drop(choice);
+}
+
+#[inline(never)]
+#[cycle(dropping)]
+fn drop_items(items: Vec<Item<'_>>) {
+    drop(items);
+}
+
+#[inline(never)]
+#[cycle(dropping)]
+fn drop_entries(entries: Vec<Entry<'_>>) {
+    drop(entries);
+}
+
+#[inline(never)]
+#[cycle(dropping)]
+fn drop_collected(collected: Box<Collected<'_>>) {
+    drop(collected);
+}
+
+#[inline(never)]
+#[cycle(dropping)]
+fn drop_arguments(arguments: Vec<Argument<'_>>) {
+    drop(arguments);
+}
+
+#[inline(never)]
+#[cycle(dropping)]
+fn drop_applied(applied: Box<Applied<'_>>) {
+    drop(applied);
+}
+
+#[inline(never)]
+#[cycle(dropping)]
+fn drop_called(called: Box<Called<'_>>) {
+    drop(called);
+}
+
+#[inline(never)]
+#[cycle(dropping)]
+fn drop_tag(tag: Box<ComponentTag<'_>>) {
+    drop(tag);
 }
 
 /// What stands on both sides of an operator. They lie together, so that an operator takes one box.

@@ -8,9 +8,9 @@ use Rattle.tera_syntax_expressions.specs.Expressions.{climb, expr}
 use Rattle.tera_syntax_expressions.proofs.Rounds.{no_more, climb_once}
 use Rattle.tera_syntax_expressions.proofs.reader.Reader.climb.Goals as goal
 
-pub returns-in_err-x : goal.returns-in_err-x
+pub returns-in_err-operation : goal.returns-in_err-operation
 unfolding expect
-returns-in_err-x g c =
+returns-in_err-operation g c =
     let e = climb_once c.args.self.now.limit (expr c.args.self.now.below) _ _ c.loop-round.opens c.args.floor c.loop-round.have c.loop-round.start (tokens_of c.args.ahead.now) (deep_of c.loop-round.x) (input c.loop-round.tokens) c.loop-round-test.true c.loop-round.invariant in
     first_of (search rules, grind (arith, common_steps))
 

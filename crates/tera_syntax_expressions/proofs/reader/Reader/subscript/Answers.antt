@@ -18,5 +18,5 @@ any-refusal OutOfMemory e = tt
 
 pub returns-then-eq : goal.returns-then-eq
 returns-then-eq g c =
-    any-refusal c.refuse.result (subscript-none c.args.self.now.limit (expr c.args.self.now.below) c.args.at.optional c.args.at.start (deep_of c.args.x) (input c.args.tokens.now)
+    any-refusal c.refuse.result (subscript-none c.args.self.now.limit (expr c.args.self.now.below) c.args.at.optional c.args.at.start (deep_of c.args.x.now) (input c.args.tokens.now)
     (ap (λ i. same RightBracket (kind i)) (sym c.take.ensures) ∙ tested (same RightBracket) c.kind.ensures c.eq.ensures c.if-eq.true))

@@ -29,7 +29,7 @@ pub fn names_in(alloc: Global, naming: Naming, nodes: &[Node]) -> TeraResult<Vec
 // Puts those of the nodes behind those that were found.
 #[cycle(naming)]
 fn add_all(alloc: Global, naming: Naming, nodes: &[Node], found: &mut Vec<Name>) -> Result<(), AllocError>
-    ensures ok { OnOk result
+    ensures { OnOk result
         (found.new.items ≡ found.old.items ++ named naming (nodes_of nodes.now)) }
 {
     for node in nodes {
@@ -41,7 +41,7 @@ fn add_all(alloc: Global, naming: Naming, nodes: &[Node], found: &mut Vec<Name>)
 // Puts those of the node behind those that were found.
 #[cycle(naming)]
 fn add(alloc: Global, naming: Naming, node: &Node, found: &mut Vec<Name>) -> Result<(), AllocError>
-    ensures ok { OnOk result
+    ensures { OnOk result
         (found.new.items ≡ found.old.items ++ node_named naming (node_of node.now)) }
 {
     match node {
@@ -72,7 +72,7 @@ fn add(alloc: Global, naming: Naming, node: &Node, found: &mut Vec<Name>) -> Res
 
 // Puts a name behind those that were found.
 fn put(alloc: Global, name: &str, found: &mut Vec<Name>) -> Result<(), AllocError>
-    ensures ok { OnOk result (found.new.items ≡ found.old.items ++ name.now ∷ []) }
+    ensures { OnOk result (found.new.items ≡ found.old.items ++ name.now ∷ []) }
 {
     found.push(lacking(Name::new(alloc, name))?)?;
     Ok(())

@@ -135,7 +135,7 @@ fn is_given(name: &str) -> bool
 
 /// Puts a name among those that were found, if a caller can give a value by it.
 fn add_given(alloc: Global, name: &str, found: &mut BTreeSet<String>) -> Result<(), AllocError>
-    ensures ok { OnOk result (names_in found.new ≡ if_given (only name.now) ∪ names_in found.old) }
+    ensures { OnOk result (names_in found.new ≡ if_given (only name.now) ∪ names_in found.old) }
 {
     if is_given(name) {
         return add(alloc, name, found);
@@ -145,7 +145,7 @@ fn add_given(alloc: Global, name: &str, found: &mut BTreeSet<String>) -> Result<
 
 /// Puts those of the names that are free in a template's text among those that were found.
 fn add_all(alloc: Global, of: &Template, found: &mut BTreeSet<String>) -> Result<(), AllocError>
-    ensures ok { OnOk result
+    ensures { OnOk result
         (names_in found.new ≡ given_in (entry_of of.now) ∪ names_in found.old) }
 {
     for name in &of.free {

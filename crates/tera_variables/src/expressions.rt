@@ -26,7 +26,7 @@ macro_rules! add_each {
 /// Puts those of an expression among those that were found.
 #[cycle(expressions)]
 pub fn add_expression(alloc: Global, expression: &Expression, found: &mut Found) -> Result<(), AllocError>
-    ensures ok { Adds result (expr_free (expr_of expression.now)) found.old found.new }
+    ensures { Adds result (expr_free (expr_of expression.now)) found.old found.new }
 {
     match expression {
         Expression::None { .. }
@@ -73,7 +73,7 @@ pub fn add_expression(alloc: Global, expression: &Expression, found: &mut Found)
 #[cycle(expressions)]
 #[inline(never)]
 fn add_collected(alloc: Global, collected: &Collected, found: &mut Found) -> Result<(), AllocError>
-    ensures ok { Adds result (collected_free collected.now) found.old found.new }
+    ensures { Adds result (collected_free collected.now) found.old found.new }
 {
     add_expression(alloc, &collected.heading.target, found)?;
     let mut inside = BTreeSet::new(alloc);
@@ -86,7 +86,7 @@ fn add_collected(alloc: Global, collected: &Collected, found: &mut Found) -> Res
 // Puts those of a filter or a test among those that were found.
 #[cycle(expressions)]
 fn add_applied(alloc: Global, applied: &Applied, found: &mut Found) -> Result<(), AllocError>
-    ensures ok { Adds result (applied_free applied.now) found.old found.new }
+    ensures { Adds result (applied_free applied.now) found.old found.new }
 {
     add_arguments(alloc, applied.arguments.as_slice(), found)?;
     add_expression(alloc, &applied.value, found)
@@ -95,7 +95,7 @@ fn add_applied(alloc: Global, applied: &Applied, found: &mut Found) -> Result<()
 // Puts those of the bounds of a slice among those that were found.
 #[cycle(expressions)]
 fn add_bounds(alloc: Global, bounds: &Bounds, found: &mut Found) -> Result<(), AllocError>
-    ensures ok { Adds result (bounds_free bounds.now) found.old found.new }
+    ensures { Adds result (bounds_free bounds.now) found.old found.new }
 {
     add_optional(alloc, &bounds.step, found)?;
     add_optional(alloc, &bounds.end, found)?;
@@ -108,7 +108,7 @@ fn add_optional(
     expression: &Option<Box<Expression>>,
     found: &mut Found,
 ) -> Result<(), AllocError>
-    ensures ok { Adds result (optional_free (optional_of expression.now)) found.old found.new }
+    ensures { Adds result (optional_free (optional_of expression.now)) found.old found.new }
 {
     match expression {
         None => Ok(()),
@@ -118,7 +118,7 @@ fn add_optional(
 
 #[cycle(expressions)]
 fn add_items(alloc: Global, items: &[Item], found: &mut Found) -> Result<(), AllocError>
-    ensures ok { Adds result (items_free (items_of items.now)) found.old found.new }
+    ensures { Adds result (items_free (items_of items.now)) found.old found.new }
 {
     add_each!(alloc, items, found)
 }
@@ -126,21 +126,21 @@ fn add_items(alloc: Global, items: &[Item], found: &mut Found) -> Result<(), All
 /// Puts those of entries among those that were found.
 #[cycle(expressions)]
 pub fn add_entries(alloc: Global, entries: &[Entry], found: &mut Found) -> Result<(), AllocError>
-    ensures ok { Adds result (entries_free (entries_of entries.now)) found.old found.new }
+    ensures { Adds result (entries_free (entries_of entries.now)) found.old found.new }
 {
     add_each!(alloc, entries, found)
 }
 
 #[cycle(expressions)]
 fn add_arguments(alloc: Global, arguments: &[Argument], found: &mut Found) -> Result<(), AllocError>
-    ensures ok { Adds result (arguments_free (arguments_of arguments.now)) found.old found.new }
+    ensures { Adds result (arguments_free (arguments_of arguments.now)) found.old found.new }
 {
     add_each!(alloc, arguments, found)
 }
 
 /// Puts those of filters among those that were found.
 pub fn add_filters(alloc: Global, filters: &[SectionFilter], found: &mut Found) -> Result<(), AllocError>
-    ensures ok { Adds result (filters_free (filters_of filters.now)) found.old found.new }
+    ensures { Adds result (filters_free (filters_of filters.now)) found.old found.new }
 {
     for filter in filters {
         add_arguments(alloc, filter.arguments.as_slice(), found)?;

@@ -27,7 +27,7 @@ pub fn free(alloc: Global, nodes: &[Node]) -> TeraResult<BTreeSet<String>>
 // From the names of what stands behind nodes, those of the nodes and what stands behind them.
 #[cycle(names)]
 fn add_all(alloc: Global, nodes: &[Node], found: &mut Found) -> Result<(), AllocError>
-    ensures ok { OnOk result
+    ensures { OnOk result
         (names_in found.new ≡ before_all (nodes_of nodes.now) (names_in found.old)) }
 {
     let mut left = nodes.len();
@@ -41,7 +41,7 @@ fn add_all(alloc: Global, nodes: &[Node], found: &mut Found) -> Result<(), Alloc
 // The same of a node.
 #[cycle(names)]
 fn add(alloc: Global, node: &Node, found: &mut Found) -> Result<(), AllocError>
-    ensures ok { OnOk result (names_in found.new ≡ before (node_of node.now) (names_in found.old)) }
+    ensures { OnOk result (names_in found.new ≡ before (node_of node.now) (names_in found.old)) }
 {
     match node {
         Node::Print { value } => add_expression(alloc, value, found),
@@ -104,7 +104,7 @@ fn add_section(
     body: &[Node],
     found: &mut Found,
 ) -> Result<(), AllocError>
-    ensures ok { OnOk result (names_in found.new
+    ensures { OnOk result (names_in found.new
         ≡ before (FilterSection (filters_of filters.now) (nodes_of body.now))
         (names_in found.old)) }
 {

@@ -12,7 +12,7 @@ pub(crate) type Found = BTreeSet<String>;
 
 /// Puts a name among those that were found.
 pub fn add(alloc: Global, name: &str, found: &mut BTreeSet<String>) -> Result<(), AllocError>
-    ensures ok { OnOk result (names_in found.new ≡ only name.now ∪ names_in found.old) }
+    ensures { OnOk result (names_in found.new ≡ only name.now ∪ names_in found.old) }
 {
     if found.contains(name) {
         return Ok(());
@@ -41,7 +41,7 @@ pub fn remove_loop_names(heading: &Heading, found: &mut Found)
 
 /// Puts these names among those that were found.
 pub fn join(names: Found, found: &mut Found) -> Result<(), AllocError>
-    ensures ok { OnOk result (names_in found.new ≡ names_in names ∪ names_in found.old) }
+    ensures { OnOk result (names_in found.new ≡ names_in names ∪ names_in found.old) }
 {
     for name in names {
         found.insert(name)?;

@@ -1,20 +1,15 @@
-use Rattle.std.proofs.Common.{arith}
-use Rattle.tera_registry.proofs.Batches.{putting-on, putting-stops, putting-ends, pair-at, length-pairs}
+use Rattle.std.proofs.Common.{◌≡◌, ◌∙◌, [], subst, sym, ap}
+use Rattle.tera_values.specs.Named.{put_all}
+use Rattle.tera_registry.specs.Order.{Rises}
+use Rattle.tera_registry.specs.Kept.{entries_of}
+use Rattle.tera_registry.proofs.Merged.{put-through, put_all-rises}
 use Rattle.tera_registry.proofs.batch.put_all.Goals as goal
 
-pub returns-in-Err-clause-answer : goal.returns-in-Err-clause-answer
-returns-in-Err-clause-answer c =
-    putting-stops c.in-Err.error _ _ _ _ c.loop-name.name-index _ c.loop-name.invariant.putting (pair-at c.args.batch.now c.loop-name.name-index _ c.loop-name-test.true) c.in-Err.ensures
-
-pub loop-name-preserved : goal.loop-name-preserved
-loop-name-preserved c =
-    let p = c.in_ok-put.ensures.ok in
-    let q = c.in_ok-new.ensures.ok in
-    record {
-      rises = c.in_ok-put.ensures.rises;
-      putting = rw (p, q) (putting-on _ _ _ _ c.loop-name.name-index _ _ c.loop-name.invariant.putting (pair-at c.args.batch.now c.loop-name.name-index _ c.loop-name-test.true) c.in-Ok.ensures);
-    }
+pub merged-requires-clause-templates : goal.merged-requires-clause-templates
+merged-requires-clause-templates c = ?
 
 pub returns-clause-answer : goal.returns-clause-answer
-returns-clause-answer c =
-    putting-ends _ _ _ _ _ c.loop-name.invariant.putting (omega (arith, length-pairs c.args.batch.now, c.loop-name-test.false))
+returns-clause-answer c = ?
+
+pub returns-clause-rises : goal.returns-clause-rises
+returns-clause-rises c = ?

@@ -7,19 +7,20 @@ use Rattle.tera_values.specs.Val.{Val, undefined}
 use Rattle.tera_values.specs.Access.{is_undefined}
 use Rattle.tera_values.specs.Named.{Named, at_name}
 use Rattle.tera_state.specs.Found.{found_value}
-use Rattle.tera_state.specs.Scope.{Variables, Turn, in_turn, in_turns, in_innermost, bound, bound_above, defined, handed_down, outermost, in_variables, Frame as FrameMeant}
+use Rattle.tera_state.specs.Scope.{Variables, Turn, in_turn, in_turns, in_innermost, bound, bound_above, defined, handed_down, outermost, in_variables, nothing_set, Frame as FrameMeant}
 use Rattle.tera_state.specs.Bound.{layer_of}
 use Rattle.tera_state.specs.Opened.{turns_of}
 use Rattle.tera_state.specs.Stack.{lower}
-use Rattle.tera_state.specs.Scopes.{context_of, frame_of, above_of, variables_at}
+use Rattle.tera_state.specs.Scopes.{context_of, frame_of, above_of, variables_at, handed_at}
 use Rattle.tera_state.specs.declared.bindings.Binding.{Binding}
 use Rattle.tera_state.specs.declared.found.Found.{Found}
 use Rattle.tera_state.specs.declared.found.Found.TheVariants as found
 use Rattle.tera_state.specs.declared.frame.Frame.{Frame}
+use Rattle.tera_state.specs.declared.scopes.Scopes.{Scopes}
 use Rattle.tera_state.specs.declared.loops.ForLoop.{ForLoop}
 use Rattle.tera_state.specs.declared.frame.Standing.{Standing}
 use Rattle.tera_state.specs.declared.frame.Standing.TheVariants as standing
-use Rattle.tera_state.proofs.Finds.{first, second, lower_at, lower_length}
+use Rattle.tera_state.proofs.Finds.{first, second, lower_at, lower_length, lower_none}
 
 pub kept_first : (r : Found) (a b : Option Val) → (r ≡ found.Nothing → ⊥) → found_value r ≡ a → found_value r ≡ option_or a b
 kept_first (found.Kept v) a b n e = first _ a b e _ refl
@@ -146,6 +147,13 @@ module _ (n : Name) (bs : List Binding) where
       ∙ ap (λ (x : Option Val). option_or (defined x) (at_name n (context_of f.standing fs))) (sym (from_beyond n bs k f fs (at n bs f.standing fs) (sym none) refl))
       ∙ ap (λ (s : Standing). option_or (defined (at n bs s fs)) (at_name n (context_of s fs))) is
       ∙ passed_own fs
+
+pub handed-is : (s : Scopes) (k : ℕ) (n : Name) → handed_at s k n ≡ passed n s.bindings (lower k s.below)
+handed-is s k n =
+    bound_split n (frame_of standing.Included (lower k s.below)) (above_of s.bindings (lower k s.below)) nothing_set
+
+pub handed-none : (s : Scopes) (n : Name) → None ≡ handed_at s 0 n
+handed-none s n = ap (passed n s.bindings) (sym (lower_none s.below)) ∙ sym (handed-is s 0 n)
 
 -- The includer stands below so many frames, and o is what that one has.
 module _ (n : Name) (bs : List Binding) (below : List Frame) (k : ℕ) (f : Frame) (some : 0 < k) (le : k ≤ length below) (there : slice_get (reverse below) (k - 1) ≡ Some f) where

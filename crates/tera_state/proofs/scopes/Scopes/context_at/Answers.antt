@@ -1,16 +1,29 @@
-use Rattle.std.proofs.Common.{rules, ◌-◌, ◌∙◌, sym}
+use Rattle.std.proofs.Common.{◌-◌, ◌<◌, ◌∙◌, refl, sym, ap, arith}
 use Rattle.tera_state.specs.Stack.{lower}
-use Rattle.tera_state.proofs.Finds.{lower_at, whole_context, called_context, included_context}
-use Rattle.tera_state.proofs.scopes.Scopes.+context_at.Goals as goal
+use Rattle.tera_state.specs.Scopes.{context_of}
+use Rattle.tera_state.specs.declared.frame.Standing.TheVariants as standing
+use Rattle.tera_state.proofs.Finds.{lower_at, included_context}
+use Rattle.tera_state.proofs.scopes.Scopes.context_at.Goals as goal
 
-pub returns-in-Whole : goal.returns-in-Whole
-returns-in-Whole t c = c.context.ensures ∙ sym (whole_context c.args.body.now.standing _ (lower c.args.height c.args.self.now.below) c.in-Whole.is)
-
-pub returns-in-Called : goal.returns-in-Called
-returns-in-Called t c = c.arguments.ensures ∙ sym (called_context c.args.body.now.standing _ (lower c.args.height c.args.self.now.below) c.in-Called.is)
-
-pub returns : goal.returns
-returns t c =
+pub returns-in-Some-own_context : goal.returns-in-Some-own_context
+returns-in-Some-own_context c =
     let fs = c.args.self.now.below in
-    let h = c.args.height in
-    c.context_at.ensures ∙ sym (included_context c.args.body.now.standing c.at_height-includer.result.now (lower (h - 1) fs) (lower h fs) c.in-Included.is (lower_at fs h c.at_height-includer.result.now (search rules) c.at_height-includer.ensures))
+    let k = c.down.left in
+    let f = c.at_height.result.now in
+    let some : 0 < k = omega (arith, c.down-test.true) in
+    c.in-Some-own_context.ensures (lower (k - 1) fs)
+    ∙ sym (included_context standing.Included f (lower (k - 1) fs) (lower k fs) refl (lower_at fs k f some c.at_height.ensures))
+    ∙ sym c.down.invariant.same
+
+pub down-preserved : goal.down-preserved
+down-preserved c =
+    let fs = c.args.self.now.below in
+    let k = c.down.left in
+    let f = c.at_height.result.now in
+    let some : 0 < k = omega (arith, c.down-test.true) in
+    record {
+      within = omega (arith, c.down.invariant.within);
+      same = c.down.invariant.same
+          ∙ included_context standing.Included f (lower (k - 1) fs) (lower k fs) refl (lower_at fs k f some c.at_height.ensures)
+          ∙ ap (λ s. context_of s (lower (k - 1) fs)) c.in_default-own_context.ensures;
+    }

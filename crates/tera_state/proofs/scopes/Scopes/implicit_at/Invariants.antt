@@ -1,4 +1,14 @@
-use Rattle.tera_state.proofs.scopes.Scopes.+implicit_at.Given as goal
+use Rattle.std.proofs.Common.{◌≡◌, ◌≤◌}
+use Rattle.tera_state.specs.Stack.{lower}
+use Rattle.tera_state.specs.Scopes.{above_of, bound_above_at}
+use Rattle.tera_state.proofs.Beyond.{from_above}
+use Rattle.tera_state.proofs.scopes.Scopes.implicit_at.Given as goal
 
-abbrev pub decreases-implicit_at : goal.decreases-implicit_at
-decreases-implicit_at l = l.height
+abbrev pub invariant-up : goal.invariant-up
+invariant-up l = record {
+  within : l.left ≤ l.height;
+  same : bound_above_at l.self l.height l.body l.name ≡ from_above l.name (above_of l.self.bindings (lower l.left l.self.below));
+}
+
+abbrev pub decreases-up : goal.decreases-up
+decreases-up l = l.left

@@ -15,6 +15,7 @@ ghost use Rattle.tera_registry.specs.Needs.{needs_of};
 use crate::components::{Component, components};
 use crate::meant::Meant;
 use crate::merge::{merged, sorted};
+use crate::names::put;
 use crate::naming::{Naming, names_in};
 use crate::needs::{Need, needs};
 use crate::template::Template;
@@ -45,9 +46,14 @@ pub fn put_all(
         Ok(read) => read,
         Err(error) => return Err(error),
     };
-    let sorted = sorted(alloc, read.as_slice())?;
-    *templates = merged(alloc, sorted.as_slice(), templates.as_slice())?;
-    Ok(())
+    match read.as_slice() {
+        [template] => put(templates, template.clone()?),
+        several => {
+            let sorted = sorted(alloc, several)?;
+            *templates = merged(alloc, sorted.as_slice(), templates.as_slice())?;
+            Ok(())
+        }
+    }
 }
 
 /// What each text is read to, in the order of the batch, up to the first that spells no tree.

@@ -46,6 +46,28 @@ pub fn find(templates: &[Rc<Template>], front: &str, back: &str) -> Result<usize
     Err(low)
 }
 
+/// Puts a template at its name, in place of one that stood there.
+pub fn put(templates: &mut Vec<Rc<Template>>, template: Rc<Template>) -> TeraResult<()>
+    requires { Rises (entries_of templates.old.items) }
+    ensures ok { OnOk result (entries_of templates.new.items
+        ≡ put (entry_of template.value).0 (entry_of template.value).1
+        (entries_of templates.old.items)) }
+    ensures err { OnErr result (templates.new.items ≡ templates.old.items) }
+    ensures rises { Rises (entries_of templates.new.items) }
+    ensures lacks { IfErr result Lacks }
+{
+    match find(templates, "", template.name.as_str()) {
+        Ok(position) => {
+            templates[position] = template;
+            Ok(())
+        }
+        Err(position) => {
+            templates.insert(position, template)?;
+            Ok(())
+        }
+    }
+}
+
 /// Where the template stands to which the name resolves: itself, else the first of the prefixes joined with it. Takes
 /// no memory.
 pub fn resolve(templates: &[Rc<Template>], prefixes: &[String], name: &str) -> Option<usize>

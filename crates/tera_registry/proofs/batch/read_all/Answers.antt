@@ -9,7 +9,8 @@ use Rattle.tera_registry.proofs.Merged.{put_all-append}
 use Rattle.tera_registry.proofs.batch.read_all.Goals as goal
 
 pub loop-name-init : goal.loop-name-init
-loop-name-init c = λ old. putting-begins _ old _
+loop-name-init c = λ old.
+    subst (λ ts. Putting (delimiters_of c.args.delimiters.now) old (pairs_of c.args.batch.now) (put_all (entries_of ts) old) 0) (sym c.new-all.ensures.items) (putting-begins _ old _)
 
 pub loop-name-preserved : goal.loop-name-preserved
 loop-name-preserved c = λ old.

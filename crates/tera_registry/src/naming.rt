@@ -28,7 +28,12 @@ pub fn names_in(alloc: Global, naming: Naming, nodes: &[Node]) -> TeraResult<Vec
 
 // Puts those of the nodes behind those that were found.
 #[cycle(naming)]
-fn add_all(alloc: Global, naming: Naming, nodes: &[Node], found: &mut Vec<Name>) -> Result<(), AllocError>
+fn add_all(
+    alloc: Global,
+    naming: Naming,
+    nodes: &[Node],
+    found: &mut Vec<Name>,
+) -> Result<(), AllocError>
     ensures { OnOk result
         (found.new.items ≡ found.old.items ++ named naming (nodes_of nodes.now)) }
 {

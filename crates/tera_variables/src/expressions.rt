@@ -25,7 +25,11 @@ macro_rules! add_each {
 
 /// Puts those of an expression among those that were found.
 #[cycle(expressions)]
-pub fn add_expression(alloc: Global, expression: &Expression, found: &mut Found) -> Result<(), AllocError>
+pub fn add_expression(
+    alloc: Global,
+    expression: &Expression,
+    found: &mut Found,
+) -> Result<(), AllocError>
     ensures { Adds result (expr_free (expr_of expression.now)) found.old found.new }
 {
     match expression {
@@ -139,7 +143,11 @@ fn add_arguments(alloc: Global, arguments: &[Argument], found: &mut Found) -> Re
 }
 
 /// Puts those of filters among those that were found.
-pub fn add_filters(alloc: Global, filters: &[SectionFilter], found: &mut Found) -> Result<(), AllocError>
+pub fn add_filters(
+    alloc: Global,
+    filters: &[SectionFilter],
+    found: &mut Found,
+) -> Result<(), AllocError>
     ensures { Adds result (filters_free (filters_of filters.now)) found.old found.new }
 {
     for filter in filters {

@@ -16,10 +16,10 @@ pub returns-clause-answer : goal.returns-clause-answer
 returns-clause-answer c =
     let old = entries_of c.args.templates.now.items in
     let whole =
-        c.in_ok-templates-in_default.ensures
-        ∙ ap₂ put_all (ap entries_of c.as_slice-in_default.ensures.value ∙ c.in_ok-sorted-in_default.ensures) (ap entries_of c.as_slice-in_default-2.ensures.value)
-        ∙ put-through (entries_of c.as_slice.result.now) [] old tt
-        ∙ ap (λ ts. put_all (entries_of ts) old) c.as_slice.ensures.value in
+    c.in_ok-templates-in_default.ensures
+    ∙ ap₂ put_all (ap entries_of c.as_slice-in_default.ensures.value ∙ c.in_ok-sorted-in_default.ensures) (ap entries_of c.as_slice-in_default-2.ensures.value)
+    ∙ put-through (entries_of c.as_slice.result.now) [] old tt
+    ∙ ap (λ ts. put_all (entries_of ts) old) c.as_slice.ensures.value in
     subst (λ l. Puts (delimiters_of c.args.delimiters.now) old (pairs_of c.args.batch.now) (Ok l)) (sym whole) (c.in-Ok.ensures old)
 
 pub returns-clause-rises : goal.returns-clause-rises

@@ -17,7 +17,7 @@ loop-name-preserved c = λ old.
     let es = entries_of c.loop-name.all.items in
     let e = entry_of c.in-Ok.template in
     let pushed : entries_of c.push.new.self.items ≡ es ++ e ∷ [] =
-        ap entries_of c.in_ok-push.ensures.items ∙ map-append (λ t. entry_of t.value) c.loop-name.all.items _ ∙ ap (λ v. es ++ entry_of v ∷ []) c.in_ok-new.ensures.ok in
+    ap entries_of c.in_ok-push.ensures.items ∙ map-append (λ t. entry_of t.value) c.loop-name.all.items _ ∙ ap (λ v. es ++ entry_of v ∷ []) c.in_ok-new.ensures.ok in
     subst (λ m. Putting (delimiters_of c.args.delimiters.now) old (pairs_of c.args.batch.now) m (c.loop-name.name-index + 1)) (sym (ap (λ l. put_all l old) pushed ∙ put_all-append es (e ∷ []) old))
     (putting-on _ old _ _ c.loop-name.name-index _ _ (c.loop-name.invariant old) (pair-at c.args.batch.now c.loop-name.name-index _ c.loop-name-test.true) c.in-Ok.ensures)
 

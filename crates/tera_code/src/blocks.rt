@@ -71,6 +71,7 @@ fn add(alloc: Global, node: &Node, file: &str, found: &mut Vec<Block>) -> Result
 }
 
 // Puts the block of this name, which has this body, behind those that were found.
+#[inline(never)]
 #[tactic(auto, using(crate::proofs::Found::found_block))]
 fn put(
     alloc: Global,

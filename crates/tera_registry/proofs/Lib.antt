@@ -34,3 +34,4 @@ pub mod Served
 pub mod Wanted
 pub mod Above
 pub mod Reaching
+pub mod Merged

@@ -45,7 +45,7 @@ apart' n k greater =
       | inr e ↦ e
     ]
 
-three : (o : Ordering) → (o ≡ Less) ⊎ ((o ≡ Equal) ⊎ (o ≡ Greater))
+pub three : (o : Ordering) → (o ≡ Less) ⊎ ((o ≡ Equal) ⊎ (o ≡ Greater))
 three Less = inl refl
 three Equal = inr (inl refl)
 three Greater = inr (inr refl)
@@ -148,7 +148,7 @@ module _ {A : Type 0} where
         | Greater ↦ (all.0, all-put P es n a p all.1)
       ]
 
-  weaker : (P Q : (Name × A) → Type 0) (es : Named A) → ((e : Name × A) → P e → Q e) → AllByRecursion P es → AllByRecursion Q es
+  pub weaker : (P Q : (Name × A) → Type 0) (es : Named A) → ((e : Name × A) → P e → Q e) → AllByRecursion P es → AllByRecursion Q es
   weaker P Q [] f all = tt
   weaker P Q (x ∷ es) f all = (f x all.0, weaker P Q es f all.1)
 

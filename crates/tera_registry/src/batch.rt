@@ -4,6 +4,8 @@ ghost use Rattle.tera_errors.specs.Prelude.{GivesOneOf, Lacks};
 ghost use Rattle.tera_syntax_tree.specs.Blocks as in_tree;
 ghost use Rattle.tera_syntax_tree.specs.Prelude.{delimiters_of, accepted, nodes_of, quoted_option, tree_of};
 ghost use Rattle.tera_code.specs.Prelude.{block_of, block_listings, listing_of};
+ghost use Rattle.tera_values.specs.Prelude.{Named, put_all};
+ghost use Rattle.tera_meaning.specs.Registry.{Template as Meaning};
 ghost use Rattle.tera_registry.specs.Batch.{pairs_of};
 ghost use Rattle.tera_registry.specs.Put.{Makes, Puts};
 ghost use Rattle.tera_registry.specs.Components.{kept_of, kept_all};
@@ -12,6 +14,7 @@ ghost use Rattle.tera_registry.specs.Needs.{needs_of};
 
 use crate::components::{Component, components};
 use crate::meant::Meant;
+use crate::merge::{merged, sorted};
 use crate::names::put;
 use crate::naming::{Naming, names_in};
 use crate::needs::{Need, needs};
@@ -39,14 +42,39 @@ pub fn put_all(
         (pairs_of batch.now)) }
     ensures rises { Rises (entries_of templates.new.items) }
 {
+    let read = match read_all(alloc, delimiters, batch) {
+        Ok(read) => read,
+        Err(error) => return Err(error),
+    };
+    match read.as_slice() {
+        [template] => put(templates, template.clone()?),
+        several => {
+            let sorted = sorted(alloc, several)?;
+            *templates = merged(alloc, sorted.as_slice(), templates.as_slice())?;
+            Ok(())
+        }
+    }
+}
+
+/// What each text is read to, in the order of the batch, up to the first that spells no tree.
+fn read_all(
+    alloc: Global,
+    delimiters: &Delimiters,
+    batch: &[(&str, &str)],
+) -> TeraResult<Vec<Rc<Template>>>
+    requires { IsTrue (accepted (delimiters_of delimiters.now)) }
+    ensures { (old : Named Meaning) → GivesOneOf (λ v. put_all (entries_of v.items) old) result
+        (Puts (delimiters_of delimiters.now) old (pairs_of batch.now)) }
+{
+    let mut all = Vec::new(alloc);
     for (name, text) in batch {
         let template = match read(alloc, delimiters, name, text) {
             Ok(template) => template,
             Err(error) => return Err(error),
         };
-        put(templates, Rc::new(alloc, template)?)?;
+        all.push(Rc::new(alloc, template)?)?;
     }
-    Ok(())
+    Ok(all)
 }
 
 /// The template of a name and a text.

@@ -14,6 +14,7 @@ mod lineage;
 mod link;
 pub mod links;
 mod meant;
+mod merge;
 mod names;
 mod naming;
 mod needs;

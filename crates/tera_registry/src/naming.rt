@@ -4,8 +4,8 @@ ghost use Rattle.tera_errors.specs.Prelude.{Lacks};
 ghost use Rattle.tera_syntax_tree.specs.Prelude.{node_of, nodes_of};
 ghost use Rattle.tera_registry.specs.Naming.{named, node_named};
 
-use std::alloc::Global;
-use tera_errors::TeraResult;
+use std::alloc::{AllocError, Global};
+use tera_errors::{TeraResult, lacking};
 use tera_syntax_tree::Node;
 use tera_values::Name;
 
@@ -28,10 +28,14 @@ pub fn names_in(alloc: Global, naming: Naming, nodes: &[Node]) -> TeraResult<Vec
 
 // Puts those of the nodes behind those that were found.
 #[cycle(naming)]
-fn add_all(alloc: Global, naming: Naming, nodes: &[Node], found: &mut Vec<Name>) -> TeraResult<()>
-    ensures ok { OnOk result
+fn add_all(
+    alloc: Global,
+    naming: Naming,
+    nodes: &[Node],
+    found: &mut Vec<Name>,
+) -> Result<(), AllocError>
+    ensures { OnOk result
         (found.new.items ≡ found.old.items ++ named naming (nodes_of nodes.now)) }
-    ensures lacks { IfErr result Lacks }
 {
     for node in nodes {
         add(alloc, naming, node, found)?;
@@ -41,10 +45,9 @@ fn add_all(alloc: Global, naming: Naming, nodes: &[Node], found: &mut Vec<Name>)
 
 // Puts those of the node behind those that were found.
 #[cycle(naming)]
-fn add(alloc: Global, naming: Naming, node: &Node, found: &mut Vec<Name>) -> TeraResult<()>
-    ensures ok { OnOk result
+fn add(alloc: Global, naming: Naming, node: &Node, found: &mut Vec<Name>) -> Result<(), AllocError>
+    ensures { OnOk result
         (found.new.items ≡ found.old.items ++ node_named naming (node_of node.now)) }
-    ensures lacks { IfErr result Lacks }
 {
     match node {
         Node::If { body, other, .. } | Node::For { body, other, .. } => {
@@ -73,10 +76,9 @@ fn add(alloc: Global, naming: Naming, node: &Node, found: &mut Vec<Name>) -> Ter
 }
 
 // Puts a name behind those that were found.
-fn put(alloc: Global, name: &str, found: &mut Vec<Name>) -> TeraResult<()>
-    ensures ok { OnOk result (found.new.items ≡ found.old.items ++ name.now ∷ []) }
-    ensures lacks { IfErr result Lacks }
+fn put(alloc: Global, name: &str, found: &mut Vec<Name>) -> Result<(), AllocError>
+    ensures { OnOk result (found.new.items ≡ found.old.items ++ name.now ∷ []) }
 {
-    found.push(Name::new(alloc, name)?)?;
+    found.push(lacking(Name::new(alloc, name))?)?;
     Ok(())
 }

@@ -134,9 +134,8 @@ fn is_given(name: &str) -> bool
 }
 
 /// Puts a name among those that were found, if a caller can give a value by it.
-fn add_given(alloc: Global, name: &str, found: &mut BTreeSet<String>) -> TeraResult<()>
-    ensures ok { OnOk result (names_in found.new ≡ if_given (only name.now) ∪ names_in found.old) }
-    ensures lacks { IfErr result Lacks }
+fn add_given(alloc: Global, name: &str, found: &mut BTreeSet<String>) -> Result<(), AllocError>
+    ensures { OnOk result (names_in found.new ≡ if_given (only name.now) ∪ names_in found.old) }
 {
     if is_given(name) {
         return add(alloc, name, found);
@@ -145,10 +144,9 @@ fn add_given(alloc: Global, name: &str, found: &mut BTreeSet<String>) -> TeraRes
 }
 
 /// Puts those of the names that are free in a template's text among those that were found.
-fn add_all(alloc: Global, of: &Template, found: &mut BTreeSet<String>) -> TeraResult<()>
-    ensures ok { OnOk result
+fn add_all(alloc: Global, of: &Template, found: &mut BTreeSet<String>) -> Result<(), AllocError>
+    ensures { OnOk result
         (names_in found.new ≡ given_in (entry_of of.now) ∪ names_in found.old) }
-    ensures lacks { IfErr result Lacks }
 {
     for name in &of.free {
         add_given(alloc, name.as_str(), found)?;

@@ -7,19 +7,20 @@ use Rattle.tera_values.specs.Val.{Val, undefined}
 use Rattle.tera_values.specs.Access.{is_undefined}
 use Rattle.tera_values.specs.Named.{Named, at_name}
 use Rattle.tera_state.specs.Found.{found_value}
-use Rattle.tera_state.specs.Scope.{Variables, Turn, in_turn, in_turns, in_innermost, bound, bound_above, defined, handed_down, outermost, in_variables, Frame as FrameMeant}
+use Rattle.tera_state.specs.Scope.{Variables, Turn, in_turn, in_turns, in_innermost, bound, bound_above, defined, handed_down, outermost, in_variables, nothing_set, Frame as FrameMeant}
 use Rattle.tera_state.specs.Bound.{layer_of}
 use Rattle.tera_state.specs.Opened.{turns_of}
 use Rattle.tera_state.specs.Stack.{lower}
-use Rattle.tera_state.specs.Scopes.{context_of, frame_of, above_of, variables_at}
+use Rattle.tera_state.specs.Scopes.{context_of, frame_of, above_of, variables_at, handed_at}
 use Rattle.tera_state.specs.declared.bindings.Binding.{Binding}
 use Rattle.tera_state.specs.declared.found.Found.{Found}
 use Rattle.tera_state.specs.declared.found.Found.TheVariants as found
 use Rattle.tera_state.specs.declared.frame.Frame.{Frame}
+use Rattle.tera_state.specs.declared.scopes.Scopes.{Scopes}
 use Rattle.tera_state.specs.declared.loops.ForLoop.{ForLoop}
 use Rattle.tera_state.specs.declared.frame.Standing.{Standing}
 use Rattle.tera_state.specs.declared.frame.Standing.TheVariants as standing
-use Rattle.tera_state.proofs.Finds.{first, second, lower_at, lower_length}
+use Rattle.tera_state.proofs.Finds.{first, second, lower_at, lower_length, lower_none}
 
 pub kept_first : (r : Found) (a b : Option Val) → (r ≡ found.Nothing → ⊥) → found_value r ≡ a → found_value r ≡ option_or a b
 kept_first (found.Kept v) a b n e = first _ a b e _ refl
@@ -111,24 +112,72 @@ module _ (n : Name) (bs : List Binding) (k : ℕ) (body : Frame) (fs : List Fram
   from_beyond o none e =
       second _ _ _ none e ∙ sym (bound_split n (frame_of body.standing fs) (above_of bs fs) (variables_at bs k body))
 
--- It is included, its includer stands below so many frames, and o is what that one has.
-module _ (n : Name) (bs : List Binding) (below : List Frame) (k : ℕ) (body f : Frame) (none : None ≡ in_variables n (variables_at bs k body)) (some : 0 < k) (le : k ≤ length below) (is : body.standing ≡ standing.Included) (there : slice_get (reverse below) (k - 1) ≡ Some f) (o : Option Val) (e : o ≡ bound n (frame_of f.standing (lower (k - 1) below)) (above_of bs (lower (k - 1) below)) (variables_at bs (k - 1) f)) where
-  abbrev own : Option Val
-  own = at_name n (context_of f.standing (lower (k - 1) below))
+-- what is handed down is asked for once
+once : (t : Bool) (c : Val) → option_or (cond t None (Some c)) (Some c) ≡ Some c
+once true c = refl
+once false c = refl
 
-  to_includer : (x : Option Val) → x ≡ option_or (defined o) own → x ≡ bound n (frame_of body.standing (lower k below)) (above_of bs (lower k below)) (variables_at bs k body)
-  to_includer x ex =
+once_all : (c : Option Val) → option_or (defined c) c ≡ c
+once_all None = refl
+once_all (Some c) = once (is_undefined c) c
+
+twice : (t : Bool) (v : Val) (c : Option Val) → is_undefined v ≡ t → option_or (defined (option_or (cond t None (Some v)) c)) c ≡ option_or (cond t None (Some v)) c
+twice true v c u = once_all c
+twice false v c u = ap (λ (b : Bool). option_or (cond b None (Some v)) c) u
+
+twice_all : (o c : Option Val) → option_or (defined (option_or (defined o) c)) c ≡ option_or (defined o) c
+twice_all None c = once_all c
+twice_all (Some v) c = twice (is_undefined v) v c refl
+
+module _ (n : Name) (bs : List Binding) where
+  abbrev pub passed : List Frame → Option Val
+  passed fs = at n bs standing.Included fs
+
+  passed_own : (fs : List Frame) → option_or (defined (passed fs)) (at_name n (context_of standing.Included fs)) ≡ passed fs
+  passed_own [] = refl
+  passed_own (f ∷ fs) =
+      let c = at_name n (context_of f.standing fs) in
+      let o = bound n (frame_of f.standing fs) (above_of bs fs) (variables_at bs (length fs) f) in
+      ap (λ (x : Option Val). option_or (defined (option_or (defined o) x)) c) (or_none c) ∙ twice_all o c ∙ ap (λ (x : Option Val). option_or (defined o) x) (sym (or_none c))
+
+  -- an include that binds nothing of the name passes it on
+  pub pass_on : (f : Frame) (gs fs : List Frame) (k : ℕ) → gs ≡ f ∷ fs → length fs ≡ k → f.standing ≡ standing.Included → in_variables n (variables_at bs k f) ≡ None → passed gs ≡ passed fs
+  pass_on f gs fs k g ek is none =
+      included_beyond n bs standing.Included f gs fs k refl g ek
+      ∙ ap (λ (x : Option Val). option_or (defined x) (at_name n (context_of f.standing fs))) (sym (from_beyond n bs k f fs (at n bs f.standing fs) (sym none) refl))
+      ∙ ap (λ (s : Standing). option_or (defined (at n bs s fs)) (at_name n (context_of s fs))) is
+      ∙ passed_own fs
+
+pub handed-is : (s : Scopes) (k : ℕ) (n : Name) → handed_at s k n ≡ passed n s.bindings (lower k s.below)
+handed-is s k n =
+    bound_split n (frame_of standing.Included (lower k s.below)) (above_of s.bindings (lower k s.below)) nothing_set
+
+pub handed-none : (s : Scopes) (n : Name) → None ≡ handed_at s 0 n
+handed-none s n = ap (passed n s.bindings) (sym (lower_none s.below)) ∙ sym (handed-is s 0 n)
+
+-- The includer stands below so many frames, and o is what that one has.
+module _ (n : Name) (bs : List Binding) (below : List Frame) (k : ℕ) (f : Frame) (some : 0 < k) (le : k ≤ length below) (there : slice_get (reverse below) (k - 1) ≡ Some f) where
+  pub pass_down : f.standing ≡ standing.Included → in_variables n (variables_at bs (k - 1) f) ≡ None → passed n bs (lower k below) ≡ passed n bs (lower (k - 1) below)
+  pass_down is none =
       let less : k - 1 ≤ length below = omega (arith, le) in
-      from_beyond n bs k body (lower k below) x none
-      (ex
-      ∙ ap (λ (p : Option Val). option_or (defined p) own) e
-      ∙ sym (included_beyond n bs body.standing f (lower k below) (lower (k - 1) below) (k - 1) is (lower_at below k f some there) (lower_length below (k - 1) less)))
+      pass_on n bs f (lower k below) (lower (k - 1) below) (k - 1) (lower_at below k f some there) (lower_length below (k - 1) less) is none
 
-  pub from_context : (x : Option Val) → is_undefined (unwrap_or o undefined) ≡ true → x ≡ own → x ≡ bound n (frame_of body.standing (lower k below)) (above_of bs (lower k below)) (variables_at bs k body)
-  from_context x u ex = to_includer x (handed_none o own x u ex)
+  module _ (o : Option Val) (e : o ≡ bound n (frame_of f.standing (lower (k - 1) below)) (above_of bs (lower (k - 1) below)) (variables_at bs (k - 1) f)) where
+    abbrev own : Option Val
+    own = at_name n (context_of f.standing (lower (k - 1) below))
 
-  pub from_includer : is_undefined (unwrap_or o undefined) ≡ false → o ≡ bound n (frame_of body.standing (lower k below)) (above_of bs (lower k below)) (variables_at bs k body)
-  from_includer u = to_includer o (handed_some o own u)
+    to_includer : (x : Option Val) → x ≡ option_or (defined o) own → x ≡ passed n bs (lower k below)
+    to_includer x ex =
+        let less : k - 1 ≤ length below = omega (arith, le) in
+        ex
+        ∙ ap (λ (p : Option Val). option_or (defined p) own) e
+        ∙ sym (included_beyond n bs standing.Included f (lower k below) (lower (k - 1) below) (k - 1) refl (lower_at below k f some there) (lower_length below (k - 1) less))
+
+    pub from_context : (x : Option Val) → is_undefined (unwrap_or o undefined) ≡ true → x ≡ own → x ≡ passed n bs (lower k below)
+    from_context x u ex = to_includer x (handed_none o own x u ex)
+
+    pub from_includer : is_undefined (unwrap_or o undefined) ≡ false → o ≡ passed n bs (lower k below)
+    from_includer u = to_includer o (handed_some o own u)
 
 -- the bodies above one that has nothing but undefined
 abbrev pub from_above : Name → List (FrameMeant × Variables) → Option Val

@@ -1,9 +1,9 @@
 -- What the frames and the list of bindings stand for.
-use Rattle.std.specs.Prelude.{◌≡◌, ℕ, Bool, true, false, List, [], ◌∷◌, Option, length, map}
+use Rattle.std.specs.Prelude.{◌≡◌, ℕ, Bool, true, false, List, [], ◌∷◌, Option, None, length, map}
 use Rattle.tera_errors.specs.Site.{Name}
 use Rattle.tera_values.specs.Val.{Val}
 use Rattle.tera_values.specs.Named.{Named}
-use Rattle.tera_state.specs.Scope.{bound, bound_above, open_turn, close_turn, Turn, Variables, Around, Kind, whole, included, called, Frame as FrameMeant}
+use Rattle.tera_state.specs.Scope.{bound, bound_above, in_variables, nothing_set, open_turn, close_turn, Turn, Variables, Around, Kind, whole, included, called, Frame as FrameMeant}
 use Rattle.tera_state.specs.Bound.{layer_of}
 use Rattle.tera_state.specs.Stack.{lower}
 use Rattle.tera_state.specs.Opened.{turns_of, to_come}
@@ -65,6 +65,17 @@ abbrev pub bound_above_at : Scopes → ℕ → Frame → Name → Option Val
 bound_above_at s k f n =
     bound_above n (frame_of f.standing (lower k s.below)) (above_of s.bindings (lower k s.below))
     (variables_at s.bindings k f)
+
+-- such a body is an include that binds nothing of the name, and so passes it on
+abbrev pub PassesOn : Scopes → ℕ → Frame → Name → Type 0
+PassesOn s k f n =
+    (f.standing ≡ standing.Included) × (in_variables n (variables_at s.bindings k f) ≡ None)
+
+-- what one with so many frames below it is handed down
+abbrev pub handed_at : Scopes → ℕ → Name → Option Val
+handed_at s k n =
+    bound n (frame_of standing.Included (lower k s.below)) (above_of s.bindings (lower k s.below))
+    nothing_set
 
 -- the turns that are still to come of each open loop, the innermost loop first
 abbrev pub coming_of : Scopes → List (List Turn)

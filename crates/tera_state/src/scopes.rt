@@ -1,5 +1,5 @@
 // All that a rendering has open, and all that it binds.
-ghost use Rattle.std.specs.Prelude.{◌≡◌, Ok, ◌≤◌, ◌≢◌, ◌↔◌, ◌∷◌, [], suc, OnOk, OnErr, IfErr, IfSome, IsTrue, length, drop, unwrap_or, option_copied, None};
+ghost use Rattle.std.specs.Prelude.{◌≡◌, Ok, ◌≤◌, ◌≢◌, ◌↔◌, ◌∷◌, [], suc, OnOk, OnErr, IfErr, IfSome, IsTrue, MatchOption, length, drop, unwrap_or, option_copied, None};
 ghost use Rattle.tera_errors.specs.Prelude.{Gives, Lacks};
 ghost use Rattle.tera_values.specs.Prelude.{undefined};
 ghost use Rattle.tera_state.specs.Found.{found_value};
@@ -8,7 +8,8 @@ ghost use Rattle.tera_state.specs.Lent.{names_of};
 ghost use Rattle.tera_state.specs.Scope.{look, look_implicit, in_variables, in_innermost, set_variable, set_global, open_turn, close_turn, nothing_set, outside, in_include, in_component, put_turns, dump};
 ghost use Rattle.tera_state.specs.Opened.{turn_of, to_come};
 ghost use Rattle.tera_state.specs.Stack.{lower};
-ghost use Rattle.tera_state.specs.Scopes.{begun, bound_at, bound_above_at, variables_at, context_of, variables_of, around_of, coming_of, coming_around, own_global, TakesTurn};
+ghost use Rattle.tera_state.specs.declared.frame.Standing.TheVariants as stands;
+ghost use Rattle.tera_state.specs.Scopes.{begun, bound_at, bound_above_at, handed_at, PassesOn, variables_at, context_of, variables_of, around_of, coming_of, coming_around, own_global, TakesTurn};
 
 use crate::bindings::Bindings;
 use crate::contexts::Contexts;
@@ -54,6 +55,19 @@ fn kept<'a>(value: Option<&'a Value>) -> Found<'a>
     match value {
         Some(value) => Found::Kept(value),
         None => Found::Nothing,
+    }
+}
+
+// The context of what is no include: that has its includer's.
+#[inline(always)]
+fn own_context<'a>(standing: &'a Standing<'_>) -> Option<Lent<'a>>
+    ensures { MatchOption result (standing.now ≡ stands.Included)
+        (λ context. (below : _) → context ≡ context_of standing.now below) }
+{
+    match standing {
+        Standing::Whole(contexts) => Some(contexts.context()),
+        Standing::Called(arguments) => Some(Lent::arguments(arguments)),
+        Standing::Included => None,
     }
 }
 
@@ -108,25 +122,53 @@ impl<'c> Scopes<'c> {
         requires { height ≤ length self.now.below }
         ensures { found_value result ≡ bound_at self.now height body.now name.now }
     {
+        match self.own_at(height, body, name) {
+            Some(found) => found,
+            None => self.handed_at(height, name),
+        }
+    }
+
+    // The same, but for an include that binds nothing itself and so has what its includer hands down.
+    #[inline(always)]
+    fn own_at<'a>(
+        &'a self,
+        height: usize,
+        body: &'a Frame<'c>,
+        name: &Sought<'_>,
+    ) -> Option<Found<'a>>
+        requires { height ≤ length self.now.below }
+        ensures { MatchOption result
+            (PassesOn self.now height body.now name.now)
+            (λ found. found_value found ≡ bound_at self.now height body.now name.now) }
+    {
         match in_body(&self.bindings, height, body, name) {
             Found::Nothing => match &body.standing {
-                Standing::Whole(contexts) => kept(contexts.get(name)),
-                Standing::Called(arguments) => kept(arguments.look(name)),
-                Standing::Included => {
-                    if height == 0 {
-                        return Found::Nothing;
-                    }
-                    let includer = self.below.at_height(height - 1);
-                    let found = self.bound_at(height - 1, includer, name);
-                    if found.is_undefined() {
-                        kept(self.context_at(height - 1, includer).get(name))
-                    } else {
-                        found
-                    }
-                }
+                Standing::Whole(contexts) => Some(kept(contexts.get(name))),
+                Standing::Called(arguments) => Some(kept(arguments.look(name))),
+                Standing::Included => None,
             },
-            found => found,
+            found => Some(found),
         }
+    }
+
+    // What an include with so many frames below it is handed down: the first of them answers that does not pass the name on, or
+    // its context, where that answer is undefined.
+    fn handed_at<'a>(&'a self, height: usize, name: &Sought<'_>) -> Found<'a>
+        requires { height ≤ length self.now.below }
+        ensures { found_value result ≡ handed_at self.now height name.now }
+    {
+        let mut left = height;
+        'down: while left > 0 {
+            left -= 1;
+            let includer = self.below.at_height(left);
+            if let Some(found) = self.own_at(left, includer, name) {
+                if found.is_undefined() {
+                    return kept(self.context_at(left, includer).get(name));
+                }
+                return found;
+            }
+        }
+        Found::Nothing
     }
 
     /// What the name stands for here, or else in the bodies above this one: the first value that is not undefined. Takes no
@@ -147,11 +189,15 @@ impl<'c> Scopes<'c> {
         if !found.is_undefined() {
             return found;
         }
-        if height == 0 {
-            return Found::Nothing;
+        let mut left = height;
+        'up: while left > 0 {
+            left -= 1;
+            let found = self.bound_at(left, self.below.at_height(left), name);
+            if !found.is_undefined() {
+                return found;
+            }
         }
-        let caller = self.below.at_height(height - 1);
-        self.implicit_at(height - 1, caller, name)
+        Found::Nothing
     }
 
     // The context of a body with so many frames below it.
@@ -159,16 +205,17 @@ impl<'c> Scopes<'c> {
         requires { height ≤ length self.now.below }
         ensures { result ≡ context_of body.now.standing (lower height self.now.below) }
     {
-        match &body.standing {
-            Standing::Whole(contexts) => return contexts.context(),
-            Standing::Called(arguments) => return Lent::arguments(arguments),
-            Standing::Included => {}
+        if let Some(context) = own_context(&body.standing) {
+            return context;
         }
-        if height == 0 {
-            return Lent::new(None);
+        let mut left = height;
+        'down: while left > 0 {
+            left -= 1;
+            if let Some(context) = own_context(&self.below.at_height(left).standing) {
+                return context;
+            }
         }
-        let includer = self.below.at_height(height - 1);
-        self.context_at(height - 1, includer)
+        Lent::new(None)
     }
 
     /// What `__tera_context` stands for: the map of all that this body itself binds, the names of its loops excepted.

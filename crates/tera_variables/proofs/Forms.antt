@@ -1,7 +1,7 @@
 -- Expressions with parts that are lent.
 use Rattle.std.proofs.Common.{◌≡◌, ◌⊎◌, inl, inr, ℕ, suc, ◌+◌, ◌<◌, Bool, List, ◌∷◌, length, drop, get_or, Vec, Box, Global, Result, OnOk, sym, ap, ap₂, ◌∙◌, add-one, drop-cons}
 use Rattle.tera_errors.specs.declared.span.Span.{Span}
-use Rattle.tera_errors.specs.Answer.{SeenError}
+use Rattle.std.specs.declared.alloc.AllocError.{AllocError}
 use Rattle.tera_syntax_tree.specs.declared.expression.Item.{Item}
 use Rattle.tera_syntax_tree.specs.declared.expression.Entry.{Entry}
 use Rattle.tera_syntax_tree.specs.declared.expression.Argument.{Argument}
@@ -27,7 +27,7 @@ drop-here xs i x l e =
     drop-cons xs i x l ∙ ap (λ y. y ∷ drop (suc i) xs) (sym e) ∙ ap (λ n. x ∷ drop n xs) (sym (add-one i))
 
 -- what is added is that of the whole
-pub whole : (r : Result (Unit {0}) SeenError) (p q l n : Names) → p ≡ q → OnOk r (n ≡ p ∪ l) → OnOk r (n ≡ q ∪ l)
+pub whole : (r : Result (Unit {0}) AllocError) (p q l n : Names) → p ≡ q → OnOk r (n ≡ p ∪ l) → OnOk r (n ≡ q ∪ l)
 whole r p q l n e h = ok-then r (λ g. g ∙ ap (λ x. x ∪ l) e) h
 
 pub array : (e : Expression) (items : Vec Item Global) (span : Span) (xs : List Item) → e ≡ expression.Array items span → xs ≡ items.items → items_free (items_of xs) ≡ expr_free (expr_of e)

@@ -10,7 +10,7 @@ use Rattle.std.specs.Str.{bytes_eq}
 use Rattle.std.specs.String.{string_cmp}
 use Rattle.std.proofs.lemmas.Map.Text.{btree_set_updates_text, is_eq-slice_cmp}
 use Rattle.tera_errors.specs.Site.{Name}
-use Rattle.tera_errors.specs.Answer.{SeenError}
+use Rattle.std.specs.declared.alloc.AllocError.{AllocError}
 use Rattle.tera_variables.specs.Free.{Names, nobody, only, loop_names, ◌∪◌, ◌∖◌}
 use Rattle.tera_variables.specs.Sets.{names_in}
 
@@ -107,16 +107,16 @@ pub without-pass : (e rest l m whole : Names) → whole ≡ e ∪ rest → m ≡
 without-pass e rest l m whole is h =
     ap (λ x. x ∖ rest) h ∙ without-union l e rest ∙ ap (λ x. l ∖ x) (sym is)
 
-pub ok-then : {X Y : Type 0} (r : Result (Unit {0}) SeenError) → (X → Y) → OnOk r X → OnOk r Y
+pub ok-then : {X Y : Type 0} (r : Result (Unit {0}) AllocError) → (X → Y) → OnOk r X → OnOk r Y
 ok-then (Ok a) f h = f h
 ok-then (Err e) f h = tt
 
 -- first the second of two
-pub two : (r : Result (Unit {0}) SeenError) (p q l m n : Names) → m ≡ q ∪ l → OnOk r (n ≡ p ∪ m) → OnOk r (n ≡ (p ∪ q) ∪ l)
+pub two : (r : Result (Unit {0}) AllocError) (p q l m n : Names) → m ≡ q ∪ l → OnOk r (n ≡ p ∪ m) → OnOk r (n ≡ (p ∪ q) ∪ l)
 two r p q l m n h g = ok-then r (λ e. e ∙ ap (λ x. p ∪ x) h ∙ sym (union-assoc p q l)) g
 
 -- what a comprehension adds, whose own names go
-pub comprehended : (r : Result (Unit {0}) SeenError) (v c t s l m i0 i1 i2 i3 n : Names) → m ≡ t ∪ l → i0 ≡ nobody → i1 ≡ c ∪ i0 → i2 ≡ v ∪ i1 → i3 ≡ i2 ∖ s → OnOk r (n ≡ i3 ∪ m) → OnOk r (n ≡ (((v ∪ c) ∖ s) ∪ t) ∪ l)
+pub comprehended : (r : Result (Unit {0}) AllocError) (v c t s l m i0 i1 i2 i3 n : Names) → m ≡ t ∪ l → i0 ≡ nobody → i1 ≡ c ∪ i0 → i2 ≡ v ∪ i1 → i3 ≡ i2 ∖ s → OnOk r (n ≡ i3 ∪ m) → OnOk r (n ≡ (((v ∪ c) ∖ s) ∪ t) ∪ l)
 comprehended r v c t s l m i0 i1 i2 i3 n hm h0 h1 h2 h3 g =
     let inside : i3 ≡ (v ∪ c) ∖ s = h3 ∙ ap (λ x. x ∖ s) (h2 ∙ ap (λ x. v ∪ x) (h1 ∙ ap (λ x. c ∪ x) h0 ∙ union-nobody c)) in
     two r ((v ∪ c) ∖ s) t l m n hm (ok-then r (λ e. e ∙ ap (λ x. x ∪ m) inside) g)

@@ -2,16 +2,13 @@
 // The loops over rows want to know that nothing is left behind the last part, which a lemma of `std` says.
 #![tactic(auto, using(std::proofs::lemmas::List::drop_all))]
 
-ghost use Rattle.std.specs.Prelude.{IfErr};
-ghost use Rattle.tera_errors.specs.Prelude.{Lacks};
 ghost use Rattle.tera_syntax_tree.specs.Prelude.{expr_of, optional_of, items_of, entries_of, arguments_of, filters_of};
 ghost use Rattle.tera_variables.specs.Free.{expr_free, optional_free, items_free, entries_free, arguments_free, filters_free};
 ghost use Rattle.tera_variables.specs.Sets.{Adds, applied_free, collected_free, bounds_free};
 
 use crate::sets::{Found, add, join, remove_loop_names};
-use std::alloc::Global;
+use std::alloc::{AllocError, Global};
 use std::collections::BTreeSet;
-use tera_errors::TeraResult;
 use tera_syntax_tree::{
     Applied, Argument, Bounds, Collected, Entry, Expression, Item, SectionFilter,
 };
@@ -28,9 +25,12 @@ macro_rules! add_each {
 
 /// Puts those of an expression among those that were found.
 #[cycle(expressions)]
-pub fn add_expression(alloc: Global, expression: &Expression, found: &mut Found) -> TeraResult<()>
-    ensures ok { Adds result (expr_free (expr_of expression.now)) found.old found.new }
-    ensures lacks { IfErr result Lacks }
+pub fn add_expression(
+    alloc: Global,
+    expression: &Expression,
+    found: &mut Found,
+) -> Result<(), AllocError>
+    ensures { Adds result (expr_free (expr_of expression.now)) found.old found.new }
 {
     match expression {
         Expression::None { .. }
@@ -75,9 +75,9 @@ pub fn add_expression(alloc: Global, expression: &Expression, found: &mut Found)
 
 // Puts those of a comprehension among those that were found.
 #[cycle(expressions)]
-fn add_collected(alloc: Global, collected: &Collected, found: &mut Found) -> TeraResult<()>
-    ensures ok { Adds result (collected_free collected.now) found.old found.new }
-    ensures lacks { IfErr result Lacks }
+#[inline(never)]
+fn add_collected(alloc: Global, collected: &Collected, found: &mut Found) -> Result<(), AllocError>
+    ensures { Adds result (collected_free collected.now) found.old found.new }
 {
     add_expression(alloc, &collected.heading.target, found)?;
     let mut inside = BTreeSet::new(alloc);
@@ -89,9 +89,8 @@ fn add_collected(alloc: Global, collected: &Collected, found: &mut Found) -> Ter
 
 // Puts those of a filter or a test among those that were found.
 #[cycle(expressions)]
-fn add_applied(alloc: Global, applied: &Applied, found: &mut Found) -> TeraResult<()>
-    ensures ok { Adds result (applied_free applied.now) found.old found.new }
-    ensures lacks { IfErr result Lacks }
+fn add_applied(alloc: Global, applied: &Applied, found: &mut Found) -> Result<(), AllocError>
+    ensures { Adds result (applied_free applied.now) found.old found.new }
 {
     add_arguments(alloc, applied.arguments.as_slice(), found)?;
     add_expression(alloc, &applied.value, found)
@@ -99,9 +98,8 @@ fn add_applied(alloc: Global, applied: &Applied, found: &mut Found) -> TeraResul
 
 // Puts those of the bounds of a slice among those that were found.
 #[cycle(expressions)]
-fn add_bounds(alloc: Global, bounds: &Bounds, found: &mut Found) -> TeraResult<()>
-    ensures ok { Adds result (bounds_free bounds.now) found.old found.new }
-    ensures lacks { IfErr result Lacks }
+fn add_bounds(alloc: Global, bounds: &Bounds, found: &mut Found) -> Result<(), AllocError>
+    ensures { Adds result (bounds_free bounds.now) found.old found.new }
 {
     add_optional(alloc, &bounds.step, found)?;
     add_optional(alloc, &bounds.end, found)?;
@@ -113,9 +111,8 @@ fn add_optional(
     alloc: Global,
     expression: &Option<Box<Expression>>,
     found: &mut Found,
-) -> TeraResult<()>
-    ensures ok { Adds result (optional_free (optional_of expression.now)) found.old found.new }
-    ensures lacks { IfErr result Lacks }
+) -> Result<(), AllocError>
+    ensures { Adds result (optional_free (optional_of expression.now)) found.old found.new }
 {
     match expression {
         None => Ok(()),
@@ -124,34 +121,34 @@ fn add_optional(
 }
 
 #[cycle(expressions)]
-fn add_items(alloc: Global, items: &[Item], found: &mut Found) -> TeraResult<()>
-    ensures ok { Adds result (items_free (items_of items.now)) found.old found.new }
-    ensures lacks { IfErr result Lacks }
+fn add_items(alloc: Global, items: &[Item], found: &mut Found) -> Result<(), AllocError>
+    ensures { Adds result (items_free (items_of items.now)) found.old found.new }
 {
     add_each!(alloc, items, found)
 }
 
 /// Puts those of entries among those that were found.
 #[cycle(expressions)]
-pub fn add_entries(alloc: Global, entries: &[Entry], found: &mut Found) -> TeraResult<()>
-    ensures ok { Adds result (entries_free (entries_of entries.now)) found.old found.new }
-    ensures lacks { IfErr result Lacks }
+pub fn add_entries(alloc: Global, entries: &[Entry], found: &mut Found) -> Result<(), AllocError>
+    ensures { Adds result (entries_free (entries_of entries.now)) found.old found.new }
 {
     add_each!(alloc, entries, found)
 }
 
 #[cycle(expressions)]
-fn add_arguments(alloc: Global, arguments: &[Argument], found: &mut Found) -> TeraResult<()>
-    ensures ok { Adds result (arguments_free (arguments_of arguments.now)) found.old found.new }
-    ensures lacks { IfErr result Lacks }
+fn add_arguments(alloc: Global, arguments: &[Argument], found: &mut Found) -> Result<(), AllocError>
+    ensures { Adds result (arguments_free (arguments_of arguments.now)) found.old found.new }
 {
     add_each!(alloc, arguments, found)
 }
 
 /// Puts those of filters among those that were found.
-pub fn add_filters(alloc: Global, filters: &[SectionFilter], found: &mut Found) -> TeraResult<()>
-    ensures ok { Adds result (filters_free (filters_of filters.now)) found.old found.new }
-    ensures lacks { IfErr result Lacks }
+pub fn add_filters(
+    alloc: Global,
+    filters: &[SectionFilter],
+    found: &mut Found,
+) -> Result<(), AllocError>
+    ensures { Adds result (filters_free (filters_of filters.now)) found.old found.new }
 {
     for filter in filters {
         add_arguments(alloc, filter.arguments.as_slice(), found)?;

@@ -9,7 +9,7 @@ ghost use Rattle.tera_variables.specs.Sets.{names_in, before, before_all};
 
 use crate::expressions::{add_entries, add_expression, add_filters};
 use crate::sets::{Found, add as add_name, join, remove, remove_loop_names};
-use std::alloc::Global;
+use std::alloc::{AllocError, Global};
 use std::collections::BTreeSet;
 use tera_errors::TeraResult;
 use tera_syntax_tree::{Captured, Heading, Node, SectionFilter};
@@ -26,10 +26,9 @@ pub fn free(alloc: Global, nodes: &[Node]) -> TeraResult<BTreeSet<String>>
 
 // From the names of what stands behind nodes, those of the nodes and what stands behind them.
 #[cycle(names)]
-fn add_all(alloc: Global, nodes: &[Node], found: &mut Found) -> TeraResult<()>
-    ensures ok { OnOk result
+fn add_all(alloc: Global, nodes: &[Node], found: &mut Found) -> Result<(), AllocError>
+    ensures { OnOk result
         (names_in found.new ≡ before_all (nodes_of nodes.now) (names_in found.old)) }
-    ensures lacks { IfErr result Lacks }
 {
     let mut left = nodes.len();
     'back: while left > 0 {
@@ -41,9 +40,8 @@ fn add_all(alloc: Global, nodes: &[Node], found: &mut Found) -> TeraResult<()>
 
 // The same of a node.
 #[cycle(names)]
-fn add(alloc: Global, node: &Node, found: &mut Found) -> TeraResult<()>
-    ensures ok { OnOk result (names_in found.new ≡ before (node_of node.now) (names_in found.old)) }
-    ensures lacks { IfErr result Lacks }
+fn add(alloc: Global, node: &Node, found: &mut Found) -> Result<(), AllocError>
+    ensures { OnOk result (names_in found.new ≡ before (node_of node.now) (names_in found.old)) }
 {
     match node {
         Node::Print { value } => add_expression(alloc, value, found),
@@ -105,11 +103,10 @@ fn add_section(
     filters: &[SectionFilter],
     body: &[Node],
     found: &mut Found,
-) -> TeraResult<()>
-    ensures ok { OnOk result (names_in found.new
+) -> Result<(), AllocError>
+    ensures { OnOk result (names_in found.new
         ≡ before (FilterSection (filters_of filters.now) (nodes_of body.now))
         (names_in found.old)) }
-    ensures lacks { IfErr result Lacks }
 {
     add_all(alloc, body, found)?;
     add_filters(alloc, filters, found)

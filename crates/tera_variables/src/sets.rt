@@ -1,21 +1,18 @@
 // Sets of names. Each text is copied once.
-ghost use Rattle.std.specs.Prelude.{◌≡◌, OnOk, IfErr, option_copied};
-ghost use Rattle.tera_errors.specs.Prelude.{Lacks};
+ghost use Rattle.std.specs.Prelude.{◌≡◌, OnOk, option_copied};
 ghost use Rattle.tera_variables.specs.Free.{only, loop_names, ◌∪◌, ◌∖◌};
 ghost use Rattle.tera_variables.specs.Sets.{names_in};
 
-use std::alloc::Global;
+use std::alloc::{AllocError, Global};
 use std::collections::BTreeSet;
-use tera_errors::TeraResult;
 use tera_syntax_tree::Heading;
 
 /// Names that were found.
 pub(crate) type Found = BTreeSet<String>;
 
 /// Puts a name among those that were found.
-pub fn add(alloc: Global, name: &str, found: &mut BTreeSet<String>) -> TeraResult<()>
-    ensures ok { OnOk result (names_in found.new ≡ only name.now ∪ names_in found.old) }
-    ensures lacks { IfErr result Lacks }
+pub fn add(alloc: Global, name: &str, found: &mut BTreeSet<String>) -> Result<(), AllocError>
+    ensures { OnOk result (names_in found.new ≡ only name.now ∪ names_in found.old) }
 {
     if found.contains(name) {
         return Ok(());
@@ -43,9 +40,8 @@ pub fn remove_loop_names(heading: &Heading, found: &mut Found)
 }
 
 /// Puts these names among those that were found.
-pub fn join(names: Found, found: &mut Found) -> TeraResult<()>
-    ensures ok { OnOk result (names_in found.new ≡ names_in names ∪ names_in found.old) }
-    ensures lacks { IfErr result Lacks }
+pub fn join(names: Found, found: &mut Found) -> Result<(), AllocError>
+    ensures { OnOk result (names_in found.new ≡ names_in names ∪ names_in found.old) }
 {
     for name in names {
         found.insert(name)?;

@@ -8,8 +8,8 @@ use Rattle.tera_registry.proofs.variables.add_all.Goals as goal
 
 pub loop-name-preserved : goal.loop-name-preserved
 loop-name-preserved c =
-    one-given c.in-Some.name.now _ _ _ _ (c.in_ok-add_given.ensures.ok ∙ ap (λ m. if_given (only m) ∪ names_in c.loop-name.found) c.as_str.ensures.value) c.in-Some.ensures.steps ∙ c.loop-name.invariant
+    one-given c.in-Some.name.now _ _ _ _ (c.in_ok-add_given.ensures ∙ ap (λ m. if_given (only m) ∪ names_in c.loop-name.found) c.as_str.ensures.value) c.in-Some.ensures.steps ∙ c.loop-name.invariant
 
-pub returns-clause-ok : goal.returns-clause-ok
-returns-clause-ok c =
+pub returns : goal.returns
+returns c =
     given-none (names_in c.loop-name.found) ∙ sym (ap (λ ks. if_given (those ks) ∪ names_in c.loop-name.found) c.in-None.ensures.steps.0) ∙ c.loop-name.invariant ∙ ap (λ ks. if_given (those ks) ∪ names_in c.args.found.now) c.into_iter-name-iterator.ensures.into_iter_gives.0 ∙ ap (λ p. if_given p ∪ names_in c.args.found.now) c.args.of.now.freed

@@ -5,9 +5,9 @@ use Rattle.tera_registry.proofs.Bodies.{on_ok_by}
 use Rattle.tera_registry.proofs.Wanted.{is-given, is-own}
 use Rattle.tera_registry.proofs.variables.add_given.Goals as goal
 
-pub returns-then-is_given-clause-ok : goal.returns-then-is_given-clause-ok
-returns-then-is_given-clause-ok c =
-    on_ok_by _ _ _ _ (ap (λ p. p ∪ names_in c.args.found.now) (is-given c.args.name.now (sym c.is_given.ensures ∙ c.if-is_given.true))) c.add.ensures.ok
+pub returns-then-is_given : goal.returns-then-is_given
+returns-then-is_given c =
+    on_ok_by _ _ _ _ (ap (λ p. p ∪ names_in c.args.found.now) (is-given c.args.name.now (sym c.is_given.ensures ∙ c.if-is_given.true))) c.add.ensures
 
-pub returns-clause-ok : goal.returns-clause-ok
-returns-clause-ok c = is-own c.args.name.now (names_in c.args.found.now) (sym c.is_given.ensures ∙ c.if-is_given.false)
+pub returns : goal.returns
+returns c = is-own c.args.name.now (names_in c.args.found.now) (sym c.is_given.ensures ∙ c.if-is_given.false)

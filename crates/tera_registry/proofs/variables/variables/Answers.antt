@@ -31,7 +31,7 @@ loop-position-preserved c =
     let lt = there-at c.in_ok-reached.reached.items (length es) k p.0 c.in_ok-reached.ensures.there (ap (λ xs. slice_get xs k) (sym c.as_slice-positions.ensures.value) ∙ p.1) in
     let t_at : slice_get es p.0 ≡ Some (entry_of c.deref-template.result.now) = ap (slice_get es) (sym is) ∙ entry-at-position ts (get_or ps k 0) c.index-templates-position.result (omega (arith, lt, is, length-entries ts)) c.index-templates-position.is ∙ ap (λ t. Some (entry_of t)) (sym c.deref-template.ensures) in
     let whole : all_at es (drop k ps) ≡ entry_of c.deref-template.result.now ∷ all_at es (drop (k + 1) ps) = ap (all_at es) (drop-at ps k p.0 p.1) ∙ ap (λ o. cons_option o (all_at es (drop (k + 1) ps))) t_at in
-    union-pass _ _ _ _ _ (ap (in_one_of given_in) whole) c.in_ok-add_all.ensures.ok ∙ c.loop-position.invariant
+    union-pass _ _ _ _ _ (ap (in_one_of given_in) whole) c.in_ok-add_all.ensures ∙ c.loop-position.invariant
 
 pub returns-clause-ok : goal.returns-clause-ok
 returns-clause-ok c = λ t at.

@@ -4,6 +4,6 @@ use Rattle.tera_variables.specs.Sets.{names_in}
 use Rattle.tera_variables.proofs.Unions.{added}
 use Rattle.tera_variables.proofs.sets.add.Goals as goal
 
-pub returns-clause-ok : goal.returns-clause-ok
-returns-clause-ok c =
+pub returns : goal.returns
+returns c =
     added (string_bytes c.in_ok-from_str.field-0) c.args.found.now c.insert.new.self c.in_ok-insert.ensures.updates ∙ ap (λ m. only m ∪ names_in c.args.found.now) c.in_ok-from_str.ensures.ok

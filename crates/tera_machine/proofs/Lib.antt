@@ -24,3 +24,4 @@ pub mod Expressions
 pub mod Sections
 pub mod Chunks
 pub mod Conclusions
+pub mod Waiting

@@ -31,7 +31,8 @@ use Rattle.tera_machine.specs.Bodies.{opened_by, closed_by, IsBody, FindsBody, E
 use Rattle.tera_machine.specs.Wanted.{ended_by}
 use Rattle.tera_machine.proofs.Together.{Last, last_still}
 use Rattle.tera_machine.proofs.Noting.{noted_then, noted_from}
-use Rattle.tera_machine.proofs.Taking.{AtAsk, body_failed, refused, inner_within, can_leave, body_done, body_broke}
+use Rattle.tera_machine.proofs.Taking.{body_failed, refused, inner_within, can_leave, body_done, body_broke}
+use Rattle.tera_machine.specs.Open.{AtAsk}
 
 pub place_same : {O : Type 0} (m : VirtualMachine O) (file file0 : Name) {b0 b : OpenBlocks} {c0 c : Configuration} → file ≡ file0 → Stays b0 c0 b c → place_at m file b c ≡ place_at m file0 b0 c0
 place_same m file file0 {b0} {b} {c0} {c} e s =

@@ -1,5 +1,5 @@
 // What is open around the body that runs.
-ghost use Rattle.std.specs.Prelude.{◌≡◌, [], ◌∷◌, OnOk, IfOk, IfErr};
+ghost use Rattle.std.specs.Prelude.{◌≡◌, [], ◌∷◌, drop as dropped, OnOk, IfOk, IfErr};
 ghost use Rattle.tera_errors.specs.Prelude.{Lacks};
 ghost use Rattle.tera_syntax_tree.specs.Prelude.{is_among};
 ghost use Rattle.tera_registry.specs.Prelude.{definers_of};
@@ -10,9 +10,18 @@ use crate::asked::Asked;
 use crate::includes::Included;
 use crate::wanted::Wanted;
 use std::alloc::Global;
+use std::mem::replace;
 use tera_registry::{Definer, Definers};
 use tera_state::Stack;
 use tera_values::{Name, TeraResult};
+
+/// What is open around a template that is included.
+#[derive(Drop)]
+pub struct Around<'t> {
+    pub names: Stack<Name>,
+    pub above: Definers<'t>,
+    pub wanted: Wanted,
+}
 
 /// The names of the blocks that are open, the innermost on top, those who define the innermost above the body that runs,
 /// the block that is wanted, and the templates that are included and open.
@@ -36,22 +45,43 @@ impl<'t> OpenBlocks<'t> {
             names: Stack::new(alloc),
             above: Definers::none(),
             wanted,
-            included: Included::Nothing,
+            included: Included::new(alloc),
         }
     }
 
-    /// The template of this name is included, in these that are; it has no block open. Takes no memory.
-    pub fn in_template(alloc: Global, name: &'t str, outer: &'t Included<'t>) -> OpenBlocks<'t>
-        ensures names { result.names ≡ [] }
-        ensures above { definers_of result.above ≡ [] }
-        ensures included { names_in result.included ≡ name.now ∷ names_in outer.now }
+    /// The template of this name is included too; it has no block open. Hands out what was open around it.
+    pub fn enter_template(&mut self, alloc: Global, name: &'t str) -> TeraResult<Around<'t>>
+        ensures names { OnOk result (self.new.names ≡ []) }
+        ensures above { OnOk result (definers_of self.new.above ≡ []) }
+        ensures included { OnOk result (names_in self.new.included ≡ name.now ∷ names_in self.old.included) }
+        ensures before { IfOk result (λ around. (around.names ≡ self.old.names)
+            × ((around.above ≡ self.old.above) × (around.wanted ≡ self.old.wanted))) }
+        ensures lacks { IfErr result Lacks }
     {
-        OpenBlocks {
-            names: Stack::new(alloc),
-            above: Definers::none(),
-            wanted: Wanted::none(),
-            included: Included::Template(name, outer),
-        }
+        self.included.names.push(name)?;
+        Ok(Around {
+            names: replace(&mut self.names, Stack::new(alloc)),
+            above: replace(&mut self.above, Definers::none()),
+            wanted: replace(&mut self.wanted, Wanted::none()),
+        })
+    }
+
+    /// The template that was included last is left.
+    pub fn leave_template(&mut self, around: Around<'t>)
+        ensures names { self.new.names ≡ around.entry.names }
+        ensures above { self.new.above ≡ around.entry.above }
+        ensures wanted { self.new.wanted ≡ around.entry.wanted }
+        ensures included { names_in self.new.included ≡ dropped 1 (names_in self.old.included) }
+    {
+        let Around {
+            names,
+            above,
+            wanted,
+        } = around;
+        let _name = self.included.names.pop();
+        self.names = names;
+        self.above = above;
+        self.wanted = wanted;
     }
 
     /// Whether the block of this name is open.

@@ -12,7 +12,7 @@ ghost use Rattle.tera_machine.specs.Wanted.{ended_by, Noted};
 ghost use Rattle.tera_machine.specs.Bodies.{FindsBody, Enters, Leaves, closed_in};
 
 use crate::asked::Asked;
-use crate::blocks::OpenBlocks;
+use crate::blocks::{Around, OpenBlocks};
 use crate::configuration::Configuration;
 use crate::ended::Ended;
 use crate::machine::{Limit, VirtualMachine};
@@ -25,7 +25,7 @@ use tera_objects::Objects;
 use tera_operators::Operand;
 use tera_registry::{Definer, Definers};
 use tera_state::Stack;
-use tera_values::{Name, TeraResult};
+use tera_values::{Name, Span, TeraResult};
 
 /// What a body that takes another has to itself: its open loops, and the blocks that ended in it so far.
 #[derive(Drop)]
@@ -40,6 +40,34 @@ pub struct Inside<'t> {
     pub definer: Definer<'t>,
     pub above: Definers<'t>,
     pub outer: Outer,
+}
+
+/// What is to be made of a body's text, and what is to be again behind it.
+#[derive(Drop)]
+pub enum Back<'t> {
+    /// It is what was asked for; these are above again.
+    Taken(Asked<'t>, Definers<'t>),
+    /// It is written; this is open again.
+    Included(Around<'t>),
+    /// It is an operand, which may be safe; this is open again.
+    Called(OpenBlocks<'t>, bool, Span),
+}
+
+/// A body that waits for one that it takes: what runs it, its code, where it goes on, its open loops with the blocks that ended
+/// in it, and the rest of what is to be again.
+#[derive(Drop)]
+pub struct Waiting<'t, O> {
+    pub machine: VirtualMachine<'t, O>,
+    pub chunk: &'t Chunk,
+    pub at: usize,
+    pub outer: Outer,
+    pub back: Back<'t>,
+}
+
+/// A body that runs: what runs it, and its code.
+pub struct Body<'t, O> {
+    pub machine: VirtualMachine<'t, O>,
+    pub chunk: &'t Chunk,
 }
 
 impl<'c> Configuration<'c> {
@@ -62,7 +90,7 @@ impl<'c> Configuration<'c> {
     }
 
     // The body ends: its text joins the one around it, or becomes a safe operand. That of a block is kept where it is wanted.
-    fn end_body(&mut self, asked: Asked<'_>, outer: Outer, wanted: &mut Wanted) -> TeraResult<()>
+    pub(crate) fn end_body(&mut self, asked: Asked<'_>, outer: Outer, wanted: &mut Wanted) -> TeraResult<()>
         requires { (config_of self.old).captures ≢ [] }
         ensures config { OnOk result (config_of self.new ≡ closed_in (config_of self.old).captures
             (request_of asked.entry) (use_of asked.entry) outer.ended.all
@@ -178,28 +206,5 @@ impl<'t, O: Objects> VirtualMachine<'t, O> {
             above,
             outer,
         })
-    }
-
-    /// Leaves the body that was asked for.
-    pub(crate) fn leave(
-        &self,
-        asked: Asked<'_>,
-        inside: Inside<'t>,
-        blocks: &mut OpenBlocks<'t>,
-        configuration: &mut Configuration<'_>,
-    ) -> TeraResult<()>
-        requires { (config_of configuration.old).captures ≢ [] }
-        ensures ok { OnOk result (Leaves asked.entry inside.entry blocks.old configuration.old
-            blocks.new configuration.new) }
-        ensures lacks { IfErr result Lacks }
-    {
-        let Inside {
-            definer: _,
-            above,
-            outer,
-        } = inside;
-        configuration.end_body(asked, outer, &mut blocks.wanted)?;
-        blocks.leave(asked, above);
-        Ok(())
     }
 }

@@ -16,28 +16,42 @@ use crate::blocks::OpenBlocks;
 use crate::bodies::Outer;
 use crate::configuration::Configuration;
 use crate::machine::{Limit, VirtualMachine};
+use std::alloc::Global;
 use tera_code::Chunk;
 use tera_errors::Error;
 use tera_objects::Objects;
 use tera_registry::{FoundTemplate, Home, Templates};
+use tera_state::Stack;
 use tera_values::{Name, TeraResult};
 
-/// The templates that are included and open, the innermost first: each lies where its body is run.
-#[derive(Clone, Copy)]
-pub enum Included<'i> {
-    Nothing,
-    Template(&'i str, &'i Included<'i>),
+/// The names of the templates that are included and open, the innermost on top.
+#[derive(Drop)]
+pub struct Included<'t> {
+    pub names: Stack<&'t str>,
 }
 
-impl<'i> Included<'i> {
+impl<'t> Included<'t> {
+    /// None is; takes no memory.
+    pub fn new(alloc: Global) -> Included<'t>
+        ensures { names_in result ≡ [] }
+    {
+        Included {
+            names: Stack::new(alloc),
+        }
+    }
+
     /// Whether the template of this name is among them.
     pub fn has(&self, name: &str) -> bool
         ensures { result ≡ is_among name.now (names_in self.now) }
     {
-        match self {
-            Included::Nothing => false,
-            Included::Template(other, outer) => name == *other || outer.has(name),
+        let mut height = self.names.len();
+        while height > 0 {
+            height -= 1;
+            if name == *self.names.at_height(height) {
+                return true;
+            }
         }
+        false
     }
 }
 

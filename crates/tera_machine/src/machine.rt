@@ -1,5 +1,5 @@
 // A run of a body, and of those that it takes.
-ghost use Rattle.std.specs.Prelude.{◌≡◌, ℕ, ◌+◌, ◌-◌, ◌*◌, ◌≤◌, [], None, Some, IsTrue, OnOk, string_bytes, map};
+ghost use Rattle.std.specs.Prelude.{◌≡◌, ◌≢◌, IfErr, ℕ, ◌+◌, ◌-◌, ◌*◌, ◌≤◌, [], None, Some, IsTrue, OnOk, string_bytes, map};
 ghost use Rattle.tera_meaning.specs.Prelude.{visits_of, new_registry, alone, block_of, World};
 ghost use Rattle.tera_errors.specs.Prelude.{Gives};
 ghost use Rattle.tera_state.specs.Prelude.{around_of};
@@ -8,21 +8,25 @@ ghost use Rattle.tera_registry.specs.Prelude.{kept_of};
 ghost use Rattle.tera_machine.specs.Config.{config_of};
 ghost use Rattle.tera_machine.specs.Exec.{EndsWithin, Ran};
 ghost use Rattle.tera_machine.specs.Flow.{Written, request_of, use_of, include_request, component_request, component_use};
-ghost use Rattle.tera_machine.specs.Advance.{BodyWithin};
-ghost use Rattle.tera_machine.specs.Bodies.{Stays, BodyRan};
+ghost use Rattle.tera_machine.specs.Bodies.{Stays};
+ghost use Rattle.tera_machine.specs.Open.{TakesBody, Left, IsApart};
+ghost use Rattle.tera_errors.specs.Prelude.{Lacks};
 ghost use Rattle.tera_machine.specs.Subject.{Subject, IsLinked, kept_beside, meant_from, engine_of, place_at, place_of, Means};
 
 use crate::asked::{Asked, AskedComponent, AskedTemplate};
 use crate::blocks::OpenBlocks;
+use crate::bodies::{Back, Body, Inside, Outer, Waiting};
 use crate::components::{Beside, Called};
 use crate::configuration::Configuration;
 use crate::wanted::Wanted;
 use std::alloc::Global;
 use std::marker::Brand;
+use std::mem::replace;
 use std::sync::ledger::Ledger;
 use tera_code::{Chunk, Steps};
 use tera_objects::Objects;
 use tera_registry::{Component, FoundTemplate, Home, Templates};
+use tera_state::Stack;
 use tera_values::{Name, TeraResult};
 
 /// Where the machine goes on.
@@ -216,7 +220,7 @@ impl<'t, O: Objects> VirtualMachine<'t, O> {
     /// Runs the code of a body to its end, within eight instructions a visit of the body's meaning.
     pub fn run<L: Ledger>(
         &self,
-        chunk: &Chunk,
+        chunk: &'t Chunk,
         configuration: &mut Configuration<'_>,
         steps: &mut Steps<L>,
     ) -> TeraResult<()>
@@ -233,13 +237,13 @@ impl<'t, O: Objects> VirtualMachine<'t, O> {
             ≡ around_of configuration.old.scopes) }
     {
         let mut blocks = OpenBlocks::new(self.alloc, Wanted::none());
-        self.run_counted::<Brand, L>(chunk, self.home, &mut blocks, configuration, steps)
+        self.run_counted::<Brand, L>(chunk, &mut blocks, configuration, steps)
     }
 
     /// The same, where no block ended before: the text of the block of this name as it ended last, or the empty text.
     pub fn run_for_block<L: Ledger>(
         &self,
-        chunk: &Chunk,
+        chunk: &'t Chunk,
         block: &Name,
         configuration: &mut Configuration<'_>,
         steps: &mut Steps<L>,
@@ -257,7 +261,7 @@ impl<'t, O: Objects> VirtualMachine<'t, O> {
     {
         let wanted = Wanted::block(block)?;
         let mut blocks = OpenBlocks::new(self.alloc, wanted);
-        match self.run_counted::<Brand, L>(chunk, self.home, &mut blocks, configuration, steps) {
+        match self.run_counted::<Brand, L>(chunk, &mut blocks, configuration, steps) {
             Ok(()) => {}
             Err(error) => return Err(error),
         }
@@ -271,12 +275,11 @@ impl<'t, O: Objects> VirtualMachine<'t, O> {
         Ok(wanted.into_text(self.alloc))
     }
 
-    // The same, in the machine's own terms, of code that is linked at home, and where blocks may be open.
-    #[cycle(run)]
+    // The same, in the machine's own terms, and where blocks may be open. The bodies that wait for those that they take lie in a
+    // list, so the host's stack does not grow.
     fn run_counted<M: Limit, L: Ledger>(
         &self,
-        chunk: &Chunk,
-        home: Home,
+        first: &'t Chunk,
         blocks: &mut OpenBlocks<'t>,
         configuration: &mut Configuration<'_>,
         steps: &mut Steps<L>,
@@ -284,166 +287,178 @@ impl<'t, O: Objects> VirtualMachine<'t, O> {
         requires engine { engine_of O.engine self.now ≡ M.world.registry.engine }
         requires linked { IsLinked self.now M.world }
         requires within { EndsWithin M.world
-            (place_at self.now chunk.now.file blocks.old configuration.old) chunk.now.code 0
+            (place_at self.now first.now.file blocks.old configuration.old) first.now.code 0
             (config_of configuration.old) (M.most - steps.old) }
         ensures counted { steps.old ≤ steps.new }
         ensures bounded { steps.old ≤ M.most → steps.new ≤ M.most }
-        ensures ends { Ran M.world (place_at self.now chunk.now.file blocks.old configuration.old)
-            chunk.now.code (config_of configuration.old) result (config_of configuration.new)
+        ensures ends { Ran M.world (place_at self.now first.now.file blocks.old configuration.old)
+            first.now.code (config_of configuration.old) result (config_of configuration.new)
             (steps.new - steps.old) }
         ensures stays { OnOk result (Stays blocks.old configuration.old blocks.new
             configuration.new) }
     {
+        let mut open: Stack<Waiting<'t, O>> = Stack::new(self.alloc);
+        let mut machine = *self;
+        let mut chunk = first;
         let mut at = 0;
-        while let Some(instruction) = chunk.get(at, steps) {
+        'bodies: loop {
+            let Some(instruction) = chunk.get(at, steps) else {
+                let Some(waiting) = open.pop() else {
+                    return Ok(());
+                };
+                let Waiting {
+                    machine: outer,
+                    chunk: code,
+                    at: next,
+                    outer: own,
+                    back,
+                } = waiting;
+                match leave_body(own, back, blocks, configuration) {
+                    Ok(()) => {}
+                    Err(error) => return Err(error),
+                }
+                machine = outer;
+                chunk = code;
+                at = next;
+                continue;
+            };
             let mut last = at;
-            let flow = match configuration.perform(self, chunk, &mut last, &instruction, steps) {
+            let flow = match configuration.perform(&machine, chunk, &mut last, &instruction, steps) {
                 Ok(flow) => flow,
                 Err(error) => return Err(error),
             };
             let next = last + 1;
-            match flow {
-                Flow::On => at = next,
-                Flow::Skip(count) => at = next + count,
-                Flow::To(place, count) => at = place + count,
-                Flow::Out => return Ok(()),
+            let taken = match flow {
+                Flow::On => {
+                    at = next;
+                    continue;
+                }
+                Flow::Skip(count) => {
+                    at = next + count;
+                    continue;
+                }
+                Flow::To(place, count) => {
+                    at = place + count;
+                    continue;
+                }
+                Flow::Out => {
+                    at = chunk.len();
+                    continue;
+                }
                 Flow::Ask(asked) => {
-                    match self.take::<M, L>(chunk, asked, blocks, configuration, steps) {
-                        Ok(()) => at = next,
-                        Err(error) => return Err(error),
-                    }
+                    machine.take::<M>(chunk, next, asked, blocks, configuration, &mut open)
                 }
                 Flow::Include(asked) => {
-                    match self.include::<M, L>(chunk, home, asked, blocks, configuration, steps) {
-                        Ok(()) => at = next,
-                        Err(error) => return Err(error),
-                    }
+                    machine.include::<M>(chunk, next, asked, blocks, configuration, &mut open)
                 }
                 Flow::Component(asked) => {
                     let asked = Box::into_inner(asked);
-                    match self.component::<M, L>(chunk, home, asked, blocks, configuration, steps) {
-                        Ok(()) => at = next,
-                        Err(error) => return Err(error),
-                    }
+                    machine.component::<M>(chunk, next, asked, blocks, configuration, &mut open)
                 }
-            }
+            };
+            let body = match taken {
+                Ok(body) => body,
+                Err(error) => return Err(error),
+            };
+            let Body {
+                machine: inner,
+                chunk: code,
+            } = body;
+            machine = inner;
+            chunk = code;
+            at = 0;
         }
-        Ok(())
     }
 
-    // The body that is asked for, from its beginning to its end.
-    #[cycle(run)]
+    // The body that is asked for begins, and this one waits at that position.
     #[inline(never)]
-    fn take<M: Limit, L: Ledger>(
+    fn take<M: Limit>(
         &self,
-        chunk: &Chunk,
-        asked: Asked<'_>,
+        chunk: &'t Chunk,
+        at: usize,
+        asked: Asked<'t>,
         blocks: &mut OpenBlocks<'t>,
         configuration: &mut Configuration<'_>,
-        steps: &mut Steps<L>,
-    ) -> TeraResult<()>
-        requires engine { engine_of O.engine self.now ≡ M.world.registry.engine }
+        waiting: &mut Stack<Waiting<'t, O>>,
+    ) -> TeraResult<Body<'t, O>>
         requires linked { IsLinked self.now M.world }
-        requires within { BodyWithin M.world
-            (place_at self.now chunk.now.file blocks.old configuration.old) (request_of asked)
-            (use_of asked) (config_of configuration.old) (M.most - steps.old) }
-        ensures counted { steps.old ≤ steps.new }
-        ensures bounded { steps.old ≤ M.most → steps.new ≤ M.most }
-        ensures ends { BodyRan M.world (place_at self.now chunk.now.file blocks.old
-            configuration.old) (request_of asked.entry) (use_of asked.entry)
-            (config_of configuration.old) result (config_of configuration.new)
-            (steps.new - steps.old) }
-        ensures stays { OnOk result (Stays blocks.old configuration.old blocks.new
-            configuration.new) }
+        ensures { TakesBody M.world self.now chunk.now at (request_of asked.entry) (use_of asked.entry) blocks.old
+            configuration.old waiting.old result blocks.new configuration.new waiting.new }
     {
         let inside = match self.enter::<M>(chunk, asked, blocks, configuration) {
             Ok(inside) => inside,
             Err(error) => return Err(error),
         };
-        let body = inside.definer;
-        match self.run_counted::<M, L>(body.chunk, body.home, blocks, configuration, steps) {
-            Ok(()) => {}
-            Err(error) => return Err(error),
-        }
-        self.leave(asked, inside, blocks, configuration)
+        let Inside {
+            definer,
+            above,
+            outer,
+        } = inside;
+        waiting.push(Waiting {
+            machine: *self,
+            chunk,
+            at,
+            outer,
+            back: Back::Taken(asked, above),
+        })?;
+        Ok(Body {
+            machine: self.linked_at(definer.home),
+            chunk: definer.chunk,
+        })
     }
 
-    // The template that is included, from the beginning of its own body to its end.
-    #[cycle(run)]
+    // The same of the template that is included.
     #[inline(never)]
-    fn include<M: Limit, L: Ledger>(
+    fn include<M: Limit>(
         &self,
-        chunk: &Chunk,
-        home: Home,
-        asked: AskedTemplate<'_>,
-        blocks: &OpenBlocks<'t>,
+        chunk: &'t Chunk,
+        at: usize,
+        asked: AskedTemplate<'t>,
+        blocks: &mut OpenBlocks<'t>,
         configuration: &mut Configuration<'_>,
-        steps: &mut Steps<L>,
-    ) -> TeraResult<()>
-        requires engine { engine_of O.engine self.now ≡ M.world.registry.engine }
+        waiting: &mut Stack<Waiting<'t, O>>,
+    ) -> TeraResult<Body<'t, O>>
         requires linked { IsLinked self.now M.world }
-        requires within { BodyWithin M.world
-            (place_at self.now chunk.now.file blocks.now configuration.old)
-            (include_request asked) Written (config_of configuration.old) (M.most - steps.old) }
-        ensures counted { steps.old ≤ steps.new }
-        ensures bounded { steps.old ≤ M.most → steps.new ≤ M.most }
-        ensures ends { BodyRan M.world (place_at self.now chunk.now.file blocks.now
-            configuration.old) (include_request asked.entry) Written
-            (config_of configuration.old) result (config_of configuration.new)
-            (steps.new - steps.old) }
-        ensures stays { OnOk result (Stays blocks.now configuration.old blocks.now
-            configuration.new) }
+        ensures { TakesBody M.world self.now chunk.now at (include_request asked.entry) Written blocks.old
+            configuration.old waiting.old result blocks.new configuration.new waiting.new }
     {
-        let found = match self.included::<M>(chunk, home, asked, blocks) {
+        let found = match self.included::<M>(chunk, self.home, asked, blocks) {
             Ok(found) => found,
             Err(error) => return Err(error),
         };
-        let machine = self.in_template(found);
-        let mut inside = OpenBlocks::in_template(self.alloc, found.name, &blocks.included);
+        let around = blocks.enter_template(self.alloc, found.name)?;
         let outer = configuration.begin_include()?;
-        match machine.run_counted::<M, L>(
-            found.body,
-            machine.home,
-            &mut inside,
-            configuration,
-            steps,
-        ) {
-            Ok(()) => {}
-            Err(error) => return Err(error),
-        }
-        configuration.end_include(outer)
+        waiting.push(Waiting {
+            machine: *self,
+            chunk,
+            at,
+            outer,
+            back: Back::Included(around),
+        })?;
+        Ok(Body {
+            machine: self.in_template(found),
+            chunk: found.body,
+        })
     }
 
-    // The component that is called, from the beginning of its body to its end.
-    #[cycle(run)]
+    // The same of the component that is called.
     #[inline(never)]
-    fn component<M: Limit, L: Ledger>(
+    fn component<M: Limit>(
         &self,
-        chunk: &Chunk,
-        home: Home,
-        asked: AskedComponent<'_>,
-        blocks: &OpenBlocks<'t>,
+        chunk: &'t Chunk,
+        at: usize,
+        asked: AskedComponent<'t>,
+        blocks: &mut OpenBlocks<'t>,
         configuration: &mut Configuration<'_>,
-        steps: &mut Steps<L>,
-    ) -> TeraResult<()>
-        requires engine { engine_of O.engine self.now ≡ M.world.registry.engine }
+        waiting: &mut Stack<Waiting<'t, O>>,
+    ) -> TeraResult<Body<'t, O>>
         requires linked { IsLinked self.now M.world }
-        requires within { BodyWithin M.world
-            (place_at self.now chunk.now.file blocks.now configuration.old)
-            (component_request asked) (component_use asked) (config_of configuration.old)
-            (M.most - steps.old) }
-        ensures counted { steps.old ≤ steps.new }
-        ensures bounded { steps.old ≤ M.most → steps.new ≤ M.most }
-        ensures ends { BodyRan M.world (place_at self.now chunk.now.file blocks.now
-            configuration.old) (component_request asked.entry) (component_use asked.entry)
-            (config_of configuration.old) result (config_of configuration.new)
-            (steps.new - steps.old) }
-        ensures stays { OnOk result (Stays blocks.now configuration.old blocks.now
-            configuration.new) }
+        ensures { TakesBody M.world self.now chunk.now at (component_request asked.entry) (component_use asked.entry)
+            blocks.old configuration.old waiting.old result blocks.new configuration.new waiting.new }
     {
         let safe = asked.safe;
         let span = asked.span;
-        let called = match self.called::<M>(chunk, home, asked, configuration) {
+        let called = match self.called::<M>(chunk, self.home, asked, configuration) {
             Ok(called) => called,
             Err(error) => return Err(error),
         };
@@ -453,13 +468,48 @@ impl<'t, O: Objects> VirtualMachine<'t, O> {
             context,
             depth,
         } = called;
-        let machine = self.in_component(depth, home);
-        let mut inside = OpenBlocks::new(self.alloc, Wanted::none());
+        let before = replace(blocks, OpenBlocks::new(self.alloc, Wanted::none()));
         let outer = configuration.begin_component(context)?;
-        match machine.run_counted::<M, L>(code, machine.home, &mut inside, configuration, steps) {
-            Ok(()) => {}
-            Err(error) => return Err(error),
+        waiting.push(Waiting {
+            machine: *self,
+            chunk,
+            at,
+            outer,
+            back: Back::Called(before, safe, span),
+        })?;
+        Ok(Body {
+            machine: self.in_component(depth, home),
+            chunk: code,
+        })
+    }
+}
+
+// A body ends, and what waited for it is again.
+#[inline(never)]
+fn leave_body<'t>(
+    outer: Outer,
+    back: Back<'t>,
+    blocks: &mut OpenBlocks<'t>,
+    configuration: &mut Configuration<'_>,
+) -> TeraResult<()>
+    requires text { (config_of configuration.old).captures ≢ [] }
+    requires state { IsApart back → configuration.old.scopes.below ≢ [] }
+    ensures ok { OnOk result (Left back.entry outer blocks.old configuration.old blocks.new configuration.new) }
+    ensures lacks { IfErr result Lacks }
+{
+    match back {
+        Back::Taken(asked, above) => {
+            configuration.end_body(asked, outer, &mut blocks.wanted)?;
+            blocks.leave(asked, above);
+            Ok(())
         }
-        configuration.end_component(safe, span, outer)
+        Back::Included(around) => {
+            blocks.leave_template(around);
+            configuration.end_include(outer)
+        }
+        Back::Called(before, safe, span) => {
+            drop(replace(blocks, before));
+            configuration.end_component(safe, span, outer)
+        }
     }
 }

@@ -57,6 +57,16 @@ abbrev pub started_loop : Instruction → Option (Option site.Name × site.Name 
 started_loop (instruction.StartLoop key name counts size) = Some (key, name, counts, size)
 started_loop other = None
 
+-- the template that it includes
+abbrev pub included_template : Instruction → Option (site.Name × Span)
+included_template (instruction.TakeInclude name span) = Some (name, span)
+included_template other = None
+
+-- the block that it takes
+abbrev pub taken_block : Instruction → Option (site.Name × Span)
+taken_block (instruction.TakeBlock name span) = Some (name, span)
+taken_block other = None
+
 -- how many instructions it passes where a loop ends
 abbrev pub ended_loop : Instruction → Option ℕ
 ended_loop (instruction.EndLoop skip) = Some skip

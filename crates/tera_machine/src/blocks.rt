@@ -15,12 +15,11 @@ use tera_registry::{Definer, Definers};
 use tera_state::Stack;
 use tera_values::{Name, TeraResult};
 
-/// What is open around a template that is included.
+/// What is open around a template that is included, and around a component.
 #[derive(Drop)]
-pub struct Around<'t> {
+pub struct Around {
     pub names: Stack<Name>,
-    pub above: Definers<'t>,
-    pub wanted: Wanted,
+    pub notes: bool,
 }
 
 /// The names of the blocks that are open, the innermost on top, those who define the innermost above the body that runs,
@@ -49,39 +48,33 @@ impl<'t> OpenBlocks<'t> {
         }
     }
 
-    /// The template of this name is included too; it has no block open. Hands out what was open around it.
-    pub fn enter_template(&mut self, alloc: Global, name: &'t str) -> TeraResult<Around<'t>>
-        ensures names { OnOk result (self.new.names ≡ []) }
-        ensures above { OnOk result (definers_of self.new.above ≡ []) }
-        ensures included { OnOk result (names_in self.new.included ≡ name.now ∷ names_in self.old.included) }
-        ensures before { IfOk result (λ around. (around.names ≡ self.old.names)
-            × ((around.above ≡ self.old.above) × (around.wanted ≡ self.old.wanted))) }
-        ensures lacks { IfErr result Lacks }
+    /// What runs now has no block open, and of those that end in it none is wanted. Hands out what was open.
+    pub fn enter_apart(&mut self, alloc: Global) -> Around
+        ensures names { self.new.names ≡ [] }
+        ensures above { definers_of self.new.above ≡ [] }
+        ensures wanted { self.new.wanted ≡ record self.old.wanted { notes = false } }
+        ensures included { self.new.included ≡ self.old.included }
+        ensures before { (result.names ≡ self.old.names)
+            × (result.notes ≡ self.old.wanted.notes) }
     {
-        self.included.names.push(name)?;
-        Ok(Around {
+        self.above = Definers::none();
+        Around {
             names: replace(&mut self.names, Stack::new(alloc)),
-            above: replace(&mut self.above, Definers::none()),
-            wanted: replace(&mut self.wanted, Wanted::none()),
-        })
+            notes: replace(&mut self.wanted.notes, false),
+        }
     }
 
-    /// The template that was included last is left.
-    pub fn leave_template(&mut self, around: Around<'t>)
-        ensures names { self.new.names ≡ around.entry.names }
-        ensures above { self.new.above ≡ around.entry.above }
-        ensures wanted { self.new.wanted ≡ around.entry.wanted }
-        ensures included { names_in self.new.included ≡ dropped 1 (names_in self.old.included) }
+    /// That is over, and what was open is again.
+    pub fn leave_apart(&mut self, around: Around, above: Definers<'t>)
+        ensures names { self.new.names ≡ around.names }
+        ensures above { self.new.above ≡ above.entry }
+        ensures wanted { self.new.wanted ≡ record self.old.wanted { notes = around.notes } }
+        ensures included { self.new.included ≡ self.old.included }
     {
-        let Around {
-            names,
-            above,
-            wanted,
-        } = around;
-        let _name = self.included.names.pop();
+        let Around { names, notes } = around;
         self.names = names;
         self.above = above;
-        self.wanted = wanted;
+        self.wanted.notes = notes;
     }
 
     /// Whether the block of this name is open.

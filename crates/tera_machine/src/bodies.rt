@@ -15,6 +15,7 @@ use crate::asked::Asked;
 use crate::blocks::{Around, OpenBlocks};
 use crate::configuration::Configuration;
 use crate::ended::Ended;
+use crate::includes::Included;
 use crate::machine::{Limit, VirtualMachine};
 use crate::place::LoopPlace;
 use crate::wanted::Wanted;
@@ -23,7 +24,7 @@ use tera_code::Chunk;
 use tera_errors::Error;
 use tera_objects::Objects;
 use tera_operators::Operand;
-use tera_registry::{Definer, Definers};
+use tera_registry::{Definer, Definers, FoundTemplate, Home};
 use tera_state::Stack;
 use tera_values::{Name, Span, TeraResult};
 
@@ -42,32 +43,43 @@ pub struct Inside<'t> {
     pub outer: Outer,
 }
 
-/// What is to be made of a body's text, and what is to be again behind it.
+/// The code of a body, and where its references are linked.
+#[derive(Clone, Copy)]
+pub struct Body<'t> {
+    pub chunk: &'t Chunk,
+    pub home: Home,
+}
+
+/// What is to be made of a body's text, and what is to be open again behind it.
 #[derive(Drop)]
 pub enum Back<'t> {
-    /// It is what was asked for; these are above again.
-    Taken(Asked<'t>, Definers<'t>),
-    /// It is written; this is open again.
-    Included(Around<'t>),
-    /// It is an operand, which may be safe; this is open again.
-    Called(OpenBlocks<'t>, bool, Span),
+    /// It is what was asked for.
+    Taken(Asked<'t>),
+    /// It is written; these blocks are open again.
+    Included(Around),
+    /// It is an operand, which may be safe; these blocks and templates are open again.
+    Called(Around, Included<'t>, bool, Span),
 }
 
-/// A body that waits for one that it takes: what runs it, its code, where it goes on, its open loops with the blocks that ended
-/// in it, and the rest of what is to be again.
-#[derive(Drop)]
-pub struct Waiting<'t, O> {
-    pub machine: VirtualMachine<'t, O>,
-    pub chunk: &'t Chunk,
+/// Where a body goes on.
+#[derive(Clone, Copy)]
+pub struct Behind<'t> {
+    pub body: Body<'t>,
     pub at: usize,
+}
+
+/// A body that waits for one that it takes: where it goes on, and what is to be again then.
+#[derive(Drop)]
+pub struct Waiting<'t> {
+    pub body: Body<'t>,
+    pub at: usize,
+    /// The template that is rendered, and how many components are open.
+    pub template: Option<FoundTemplate<'t>>,
+    pub depth: usize,
+    /// Those who define the block above.
+    pub above: Definers<'t>,
     pub outer: Outer,
     pub back: Back<'t>,
-}
-
-/// A body that runs: what runs it, and its code.
-pub struct Body<'t, O> {
-    pub machine: VirtualMachine<'t, O>,
-    pub chunk: &'t Chunk,
 }
 
 impl<'c> Configuration<'c> {

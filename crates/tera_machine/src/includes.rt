@@ -13,11 +13,10 @@ ghost use Rattle.tera_machine.specs.Subject.{IsLinked, place_at};
 
 use crate::asked::AskedTemplate;
 use crate::blocks::OpenBlocks;
-use crate::bodies::Outer;
+use crate::bodies::{Body, Outer};
 use crate::configuration::Configuration;
 use crate::machine::{Limit, VirtualMachine};
 use std::alloc::Global;
-use tera_code::Chunk;
 use tera_errors::Error;
 use tera_objects::Objects;
 use tera_registry::{FoundTemplate, Home, Templates};
@@ -96,24 +95,23 @@ impl<'t, O: Objects> VirtualMachine<'t, O> {
     /// The template to include, or the fault of the request.
     pub(crate) fn included<M: Limit>(
         &self,
-        chunk: &Chunk,
-        home: Home,
+        here: Body<'t>,
         asked: AskedTemplate<'_>,
         blocks: &OpenBlocks<'t>,
     ) -> TeraResult<FoundTemplate<'t>>
         requires { IsLinked self.now M.world }
         ensures { (c : Configuration) → FindsTemplate M.world
-            (place_at self.now chunk.now.file blocks.now c) (include_request asked.entry)
+            (place_at self.now here.entry.chunk.now.file blocks.now c) (include_request asked.entry)
             (config_of c).run.vars result }
     {
         let AskedTemplate { name, number, span } = asked;
-        let Some(found) = self.found::<M>(name, home, number) else {
+        let Some(found) = self.found::<M>(name, here.home, number) else {
             let words = "no template has this name";
-            return Err(Error::rendering(self.alloc, words, chunk.file(), span));
+            return Err(Error::rendering(self.alloc, words, here.chunk.file(), span));
         };
         if blocks.included.has(found.name) {
             let words = "a template is included inside itself";
-            return Err(Error::rendering(self.alloc, words, chunk.file(), span));
+            return Err(Error::rendering(self.alloc, words, here.chunk.file(), span));
         }
         Ok(found)
     }

@@ -1,5 +1,5 @@
 // A run of a body, and of those that it takes.
-ghost use Rattle.std.specs.Prelude.{◌≡◌, ◌≢◌, IfErr, ℕ, ◌+◌, ◌-◌, ◌*◌, ◌≤◌, [], None, Some, IsTrue, OnOk, string_bytes, map};
+ghost use Rattle.std.specs.Prelude.{◌≡◌, ◌≢◌, IfErr, IfOk, ℕ, ◌+◌, ◌-◌, ◌*◌, ◌≤◌, [], None, Some, IsTrue, OnOk, string_bytes, map};
 ghost use Rattle.tera_meaning.specs.Prelude.{visits_of, new_registry, alone, block_of, World};
 ghost use Rattle.tera_errors.specs.Prelude.{Gives};
 ghost use Rattle.tera_state.specs.Prelude.{around_of};
@@ -9,15 +9,16 @@ ghost use Rattle.tera_machine.specs.Config.{config_of};
 ghost use Rattle.tera_machine.specs.Exec.{EndsWithin, Ran};
 ghost use Rattle.tera_machine.specs.Flow.{Written, request_of, use_of, include_request, component_request, component_use};
 ghost use Rattle.tera_machine.specs.Bodies.{Stays};
-ghost use Rattle.tera_machine.specs.Open.{TakesBody, Left, IsApart};
+ghost use Rattle.tera_machine.specs.Open.{TakesBody, HasOuter, Resumes};
 ghost use Rattle.tera_errors.specs.Prelude.{Lacks};
 ghost use Rattle.tera_machine.specs.Subject.{Subject, IsLinked, kept_beside, meant_from, engine_of, place_at, place_of, Means};
 
 use crate::asked::{Asked, AskedComponent, AskedTemplate};
 use crate::blocks::OpenBlocks;
-use crate::bodies::{Back, Body, Inside, Outer, Waiting};
+use crate::bodies::{Back, Behind, Body, Inside, Waiting};
 use crate::components::{Beside, Called};
 use crate::configuration::Configuration;
+use crate::includes::Included;
 use crate::wanted::Wanted;
 use std::alloc::Global;
 use std::marker::Brand;
@@ -175,48 +176,6 @@ impl<'t, O: Objects> VirtualMachine<'t, O> {
         VirtualMachine { home, ..self }
     }
 
-    // The same for a template that is included.
-    fn in_template(&self, template: FoundTemplate<'t>) -> VirtualMachine<'t, O>
-        ensures escapes { result.autoescape ≡ self.now.autoescape }
-        ensures templates { result.templates.now ≡ template.entry.templates.now }
-        ensures objects { result.objects.now ≡ self.now.objects.now }
-        ensures template { result.template ≡ Some template.entry }
-        ensures beside { result.beside ≡ self.now.beside }
-        ensures depth { result.depth ≡ self.now.depth }
-    {
-        VirtualMachine {
-            alloc: self.alloc,
-            autoescape: self.autoescape,
-            templates: template.templates,
-            objects: self.objects,
-            template: Some(template),
-            beside: self.beside,
-            depth: self.depth,
-            home: template.body_home(),
-        }
-    }
-
-    // The same for a component, where so many are open with it. It takes no blocks.
-    fn in_component(&self, depth: usize, home: Home) -> VirtualMachine<'t, O>
-        ensures escapes { result.autoescape ≡ self.now.autoescape }
-        ensures templates { result.templates.now ≡ self.now.templates.now }
-        ensures objects { result.objects.now ≡ self.now.objects.now }
-        ensures alone { result.template ≡ None }
-        ensures beside { result.beside ≡ self.now.beside }
-        ensures depth { result.depth ≡ depth }
-    {
-        VirtualMachine {
-            alloc: self.alloc,
-            autoescape: self.autoescape,
-            templates: self.templates,
-            objects: self.objects,
-            template: None,
-            beside: self.beside,
-            depth,
-            home,
-        }
-    }
-
     /// Runs the code of a body to its end, within eight instructions a visit of the body's meaning.
     pub fn run<L: Ledger>(
         &self,
@@ -297,29 +256,26 @@ impl<'t, O: Objects> VirtualMachine<'t, O> {
         ensures stays { OnOk result (Stays blocks.old configuration.old blocks.new
             configuration.new) }
     {
-        let mut open: Stack<Waiting<'t, O>> = Stack::new(self.alloc);
+        let mut open: Stack<Waiting<'t>> = Stack::new(self.alloc);
         let mut machine = *self;
-        let mut chunk = first;
+        let mut body = Body {
+            chunk: first,
+            home: self.home,
+        };
         let mut at = 0;
         'bodies: loop {
+            let chunk = body.chunk;
             let Some(instruction) = chunk.get(at, steps) else {
-                let Some(waiting) = open.pop() else {
+                if open.len() == 0 {
                     return Ok(());
-                };
-                let Waiting {
-                    machine: outer,
-                    chunk: code,
-                    at: next,
-                    outer: own,
-                    back,
-                } = waiting;
-                match leave_body(own, back, blocks, configuration) {
-                    Ok(()) => {}
+                }
+                match machine.leave(&mut open, blocks, configuration) {
+                    Ok(behind) => {
+                        body = behind.body;
+                        at = behind.at;
+                    }
                     Err(error) => return Err(error),
                 }
-                machine = outer;
-                chunk = code;
-                at = next;
                 continue;
             };
             let mut last = at;
@@ -328,64 +284,54 @@ impl<'t, O: Objects> VirtualMachine<'t, O> {
                 Err(error) => return Err(error),
             };
             let next = last + 1;
-            let taken = match flow {
-                Flow::On => {
-                    at = next;
-                    continue;
-                }
-                Flow::Skip(count) => {
-                    at = next + count;
-                    continue;
-                }
-                Flow::To(place, count) => {
-                    at = place + count;
-                    continue;
-                }
-                Flow::Out => {
-                    at = chunk.len();
-                    continue;
-                }
+            match flow {
+                Flow::On => at = next,
+                Flow::Skip(count) => at = next + count,
+                Flow::To(place, count) => at = place + count,
+                Flow::Out => at = chunk.len(),
                 Flow::Ask(asked) => {
-                    machine.take::<M>(chunk, next, asked, blocks, configuration, &mut open)
+                    match machine.take::<M>(body, next, asked, blocks, configuration, &mut open) {
+                        Ok(inner) => body = inner,
+                        Err(error) => return Err(error),
+                    }
+                    at = 0;
                 }
                 Flow::Include(asked) => {
-                    machine.include::<M>(chunk, next, asked, blocks, configuration, &mut open)
+                    match machine.include::<M>(body, next, asked, blocks, configuration, &mut open) {
+                        Ok(inner) => body = inner,
+                        Err(error) => return Err(error),
+                    }
+                    at = 0;
                 }
                 Flow::Component(asked) => {
                     let asked = Box::into_inner(asked);
-                    machine.component::<M>(chunk, next, asked, blocks, configuration, &mut open)
+                    match machine.component::<M>(body, next, asked, blocks, configuration, &mut open) {
+                        Ok(inner) => body = inner,
+                        Err(error) => return Err(error),
+                    }
+                    at = 0;
                 }
-            };
-            let body = match taken {
-                Ok(body) => body,
-                Err(error) => return Err(error),
-            };
-            let Body {
-                machine: inner,
-                chunk: code,
-            } = body;
-            machine = inner;
-            chunk = code;
-            at = 0;
+            }
         }
     }
 
-    // The body that is asked for begins, and this one waits at that position.
+    // The body that is asked for begins, and the one that asks waits, to go on at that position.
     #[inline(never)]
     fn take<M: Limit>(
         &self,
-        chunk: &'t Chunk,
+        here: Body<'t>,
         at: usize,
         asked: Asked<'t>,
         blocks: &mut OpenBlocks<'t>,
         configuration: &mut Configuration<'_>,
-        waiting: &mut Stack<Waiting<'t, O>>,
-    ) -> TeraResult<Body<'t, O>>
+        open: &mut Stack<Waiting<'t>>,
+    ) -> TeraResult<Body<'t>>
         requires linked { IsLinked self.now M.world }
-        ensures { TakesBody M.world self.now chunk.now at (request_of asked.entry) (use_of asked.entry) blocks.old
-            configuration.old waiting.old result blocks.new configuration.new waiting.new }
+        ensures { TakesBody M.world self.now here.entry.chunk.now at (request_of asked.entry)
+            (use_of asked.entry) blocks.old configuration.old open.old self.now result blocks.new
+            configuration.new open.new }
     {
-        let inside = match self.enter::<M>(chunk, asked, blocks, configuration) {
+        let inside = match self.enter::<M>(here.chunk, asked, blocks, configuration) {
             Ok(inside) => inside,
             Err(error) => return Err(error),
         };
@@ -394,122 +340,147 @@ impl<'t, O: Objects> VirtualMachine<'t, O> {
             above,
             outer,
         } = inside;
-        waiting.push(Waiting {
-            machine: *self,
-            chunk,
+        open.push(Waiting {
+            body: here,
             at,
+            template: self.template,
+            depth: self.depth,
+            above,
             outer,
-            back: Back::Taken(asked, above),
+            back: Back::Taken(asked),
         })?;
         Ok(Body {
-            machine: self.linked_at(definer.home),
             chunk: definer.chunk,
+            home: definer.home,
         })
     }
 
     // The same of the template that is included.
     #[inline(never)]
     fn include<M: Limit>(
-        &self,
-        chunk: &'t Chunk,
+        &mut self,
+        here: Body<'t>,
         at: usize,
         asked: AskedTemplate<'t>,
         blocks: &mut OpenBlocks<'t>,
         configuration: &mut Configuration<'_>,
-        waiting: &mut Stack<Waiting<'t, O>>,
-    ) -> TeraResult<Body<'t, O>>
-        requires linked { IsLinked self.now M.world }
-        ensures { TakesBody M.world self.now chunk.now at (include_request asked.entry) Written blocks.old
-            configuration.old waiting.old result blocks.new configuration.new waiting.new }
+        open: &mut Stack<Waiting<'t>>,
+    ) -> TeraResult<Body<'t>>
+        requires linked { IsLinked self.old M.world }
+        ensures { TakesBody M.world self.old here.entry.chunk.now at (include_request asked.entry)
+            Written blocks.old configuration.old open.old self.new result blocks.new
+            configuration.new open.new }
     {
-        let found = match self.included::<M>(chunk, self.home, asked, blocks) {
+        let found = match self.included::<M>(here, asked, blocks) {
             Ok(found) => found,
             Err(error) => return Err(error),
         };
-        let around = blocks.enter_template(self.alloc, found.name)?;
         let outer = configuration.begin_include()?;
-        waiting.push(Waiting {
-            machine: *self,
-            chunk,
+        blocks.included.names.push(found.name)?;
+        let above = blocks.above;
+        open.push(Waiting {
+            body: here,
             at,
+            template: self.template,
+            depth: self.depth,
+            above,
             outer,
-            back: Back::Included(around),
+            back: Back::Included(blocks.enter_apart(self.alloc)),
         })?;
+        self.template = Some(found);
         Ok(Body {
-            machine: self.in_template(found),
             chunk: found.body,
+            home: found.body_home(),
         })
     }
 
     // The same of the component that is called.
     #[inline(never)]
     fn component<M: Limit>(
-        &self,
-        chunk: &'t Chunk,
+        &mut self,
+        here: Body<'t>,
         at: usize,
         asked: AskedComponent<'t>,
         blocks: &mut OpenBlocks<'t>,
         configuration: &mut Configuration<'_>,
-        waiting: &mut Stack<Waiting<'t, O>>,
-    ) -> TeraResult<Body<'t, O>>
-        requires linked { IsLinked self.now M.world }
-        ensures { TakesBody M.world self.now chunk.now at (component_request asked.entry) (component_use asked.entry)
-            blocks.old configuration.old waiting.old result blocks.new configuration.new waiting.new }
+        open: &mut Stack<Waiting<'t>>,
+    ) -> TeraResult<Body<'t>>
+        requires linked { IsLinked self.old M.world }
+        ensures { TakesBody M.world self.old here.entry.chunk.now at (component_request asked.entry)
+            (component_use asked.entry) blocks.old configuration.old open.old self.new result
+            blocks.new configuration.new open.new }
     {
         let safe = asked.safe;
         let span = asked.span;
-        let called = match self.called::<M>(chunk, self.home, asked, configuration) {
+        let called = match self.called::<M>(here, asked, configuration) {
             Ok(called) => called,
             Err(error) => return Err(error),
         };
         let Called {
-            code,
-            home,
+            body,
             context,
             depth,
         } = called;
-        let before = replace(blocks, OpenBlocks::new(self.alloc, Wanted::none()));
         let outer = configuration.begin_component(context)?;
-        waiting.push(Waiting {
-            machine: *self,
-            chunk,
+        let above = blocks.above;
+        let around = blocks.enter_apart(self.alloc);
+        let included = replace(&mut blocks.included, Included::new(self.alloc));
+        open.push(Waiting {
+            body: here,
             at,
+            template: self.template,
+            depth: self.depth,
+            above,
             outer,
-            back: Back::Called(before, safe, span),
+            back: Back::Called(around, included, safe, span),
         })?;
-        Ok(Body {
-            machine: self.in_component(depth, home),
-            chunk: code,
-        })
+        self.template = None;
+        self.depth = depth;
+        Ok(body)
     }
-}
 
-// A body ends, and what waited for it is again.
-#[inline(never)]
-fn leave_body<'t>(
-    outer: Outer,
-    back: Back<'t>,
-    blocks: &mut OpenBlocks<'t>,
-    configuration: &mut Configuration<'_>,
-) -> TeraResult<()>
-    requires text { (config_of configuration.old).captures ≢ [] }
-    requires state { IsApart back → configuration.old.scopes.below ≢ [] }
-    ensures ok { OnOk result (Left back.entry outer blocks.old configuration.old blocks.new configuration.new) }
-    ensures lacks { IfErr result Lacks }
-{
-    match back {
-        Back::Taken(asked, above) => {
-            configuration.end_body(asked, outer, &mut blocks.wanted)?;
-            blocks.leave(asked, above);
-            Ok(())
+    // A body ends, and the one that waited for it runs again.
+    #[inline(never)]
+    fn leave(
+        &mut self,
+        open: &mut Stack<Waiting<'t>>,
+        blocks: &mut OpenBlocks<'t>,
+        configuration: &mut Configuration<'_>,
+    ) -> TeraResult<Behind<'t>>
+        requires waits { open.old ≢ [] }
+        requires text { (config_of configuration.old).captures ≢ [] }
+        requires state { HasOuter open.old configuration.old }
+        ensures ok { IfOk result (λ behind. Resumes self.old open.old blocks.old configuration.old
+            behind self.new open.new blocks.new configuration.new) }
+        ensures lacks { IfErr result Lacks }
+    {
+        let Waiting {
+            body,
+            at,
+            template,
+            depth,
+            above,
+            outer,
+            back,
+        } = open.take();
+        self.template = template;
+        self.depth = depth;
+        match back {
+            Back::Taken(asked) => {
+                configuration.end_body(asked, outer, &mut blocks.wanted)?;
+                blocks.leave(asked, above);
+            }
+            Back::Included(around) => {
+                blocks.leave_apart(around, above);
+                drop(blocks.included.names.pop());
+                configuration.end_include(outer)?;
+            }
+            Back::Called(around, included, safe, span) => {
+                blocks.leave_apart(around, above);
+                drop(replace(&mut blocks.included, included));
+                configuration.end_component(safe, span, outer)?;
+            }
         }
-        Back::Included(around) => {
-            blocks.leave_template(around);
-            configuration.end_include(outer)
-        }
-        Back::Called(before, safe, span) => {
-            drop(replace(blocks, before));
-            configuration.end_component(safe, span, outer)
-        }
+        Ok(Behind { body, at })
     }
 }

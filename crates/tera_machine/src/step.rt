@@ -10,6 +10,7 @@ ghost use Rattle.tera_machine.specs.Paths.{Stands, start_at};
 ghost use Rattle.tera_machine.specs.Subject.{here_of};
 ghost use Rattle.tera_state.specs.Prelude.{around_of};
 
+use crate::asked::{Asked, AskedTemplate};
 use crate::configuration::Configuration;
 use crate::instructions::{Put, going_on, going_on_if};
 use crate::machine::{Flow, Going, VirtualMachine};
@@ -154,6 +155,16 @@ impl<'c> Configuration<'c> {
         }
         if let Some(skip) = instruction.as_end_loop() {
             return self.end_loop(skip);
+        }
+        if let Some((name, span)) = instruction.as_block() {
+            return Ok(Flow::Ask(Asked::Block(name, span)));
+        }
+        if let Some((name, span)) = instruction.as_include() {
+            return Ok(Flow::Include(AskedTemplate {
+                name: name.as_name(),
+                number: name.number(),
+                span,
+            }));
         }
         self.execute(machine, file, next, &instruction.unpack())
     }

@@ -67,6 +67,17 @@ abbrev pub taken_block : Instruction → Option (site.Name × Span)
 taken_block (instruction.TakeBlock name span) = Some (name, span)
 taken_block other = None
 
+-- how many arguments the call has that takes what the next template above makes of a block
+abbrev pub taken_above : Instruction → Option (ℕ × Span)
+taken_above (instruction.TakeAbove arguments span) = Some (arguments, span)
+taken_above other = None
+
+-- the component that it calls, the keys of what it is given, and whether it has a body
+abbrev pub taken_component : Instruction → Option (site.Name × List (Option site.Name) × Bool × Span)
+taken_component (instruction.TakeComponent name keys has_body span) =
+    Some (name, keys, has_body, span)
+taken_component other = None
+
 -- how many instructions it passes where a loop ends
 abbrev pub ended_loop : Instruction → Option ℕ
 ended_loop (instruction.EndLoop skip) = Some skip

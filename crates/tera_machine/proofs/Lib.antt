@@ -25,3 +25,4 @@ pub mod Sections
 pub mod Chunks
 pub mod Conclusions
 pub mod Waiting
+pub mod Open

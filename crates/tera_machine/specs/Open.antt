@@ -25,7 +25,6 @@ use Rattle.tera_machine.specs.Config.{Config, config_of, loops_at}
 use Rattle.tera_machine.specs.Flow.{Use, Ask, Written, Pushed, request_of, use_of}
 use Rattle.tera_machine.specs.Exec.{Finished, Ends, BodyEnds}
 use Rattle.tera_machine.specs.Advance.{Advance, BodyWithin}
-use Rattle.tera_machine.specs.Included.{names_in}
 use Rattle.tera_machine.specs.Subject.{IsLinked, place_at}
 use Rattle.tera_machine.specs.Bodies.{Entered, Stays, closed_by, closed_in}
 use Rattle.tera_machine.specs.Apart.{Rejoins}
@@ -38,15 +37,21 @@ pub record AtAsk (most : ℕ) (w : World) (p : Place) (code : Code) (c0 : Config
   pub count : n2 ≡ n + 1
   pub did : effect (here_at w p) (ip + 1) i c ≡ Goes c2 (Ask q u)
 
--- the machine as it runs the body that waited, by the one that ran the other body
+-- the machine that runs the body that waited, by the one that ran the other body
+abbrev pub machine_by : {O : Type 0} → Back → VirtualMachine O → VirtualMachine O
+machine_by (back.Taken a) m = m
+machine_by (back.Included around template) m = record m { template = template }
+machine_by (back.Called around included template depth safe span) m =
+    record m { template = template; depth = depth }
+
 abbrev pub machine_again : {O : Type 0} → Waiting → VirtualMachine O → VirtualMachine O
-machine_again r m = record m { template = r.template; depth = r.depth }
+machine_again r m = machine_by r.back m
 
 -- the body that ended stood in a state of its own
 abbrev pub IsApart : Back → Type 0
 IsApart (back.Taken a) = ⊥
-IsApart (back.Included around) = Unit {0}
-IsApart (back.Called around included safe span) = Unit {0}
+IsApart (back.Included around template) = Unit {0}
+IsApart (back.Called around included template depth safe span) = Unit {0}
 
 -- a body that stands in a state of its own has one around it
 abbrev pub HasOuter : List Waiting → Configuration → Type 0
@@ -74,10 +79,10 @@ pub record LeavesApart (u : Use) (around : Around) (r : Waiting) (b3 : OpenBlock
 
 abbrev pub left_by : Back → Waiting → OpenBlocks → Configuration → OpenBlocks → Configuration → Type 0
 left_by (back.Taken a) r b3 c3 b4 c4 = LeavesAsked a r b3 c3 b4 c4
-left_by (back.Included around) r b3 c3 b4 c4 =
+left_by (back.Included around template) r b3 c3 b4 c4 =
     LeavesApart Written around r b3 c3 b4 c4
-    × (names_in b4.included ≡ drop 1 (names_in b3.included))
-left_by (back.Called around included safe span) r b3 c3 b4 c4 =
+    × (b4.included.names ≡ drop 1 b3.included.names)
+left_by (back.Called around included template depth safe span) r b3 c3 b4 c4 =
     LeavesApart (Pushed safe span) around r b3 c3 b4 c4 × (b4.included ≡ included)
 
 abbrev pub Left : Waiting → OpenBlocks → Configuration → OpenBlocks → Configuration → Type 0
@@ -115,7 +120,7 @@ TakesBody w m here next q u b0 c0 open0 m1 (Err None) b1 c1 open1 = Unit {0}
 TakesBody w m here next q u b0 c0 open0 m1 (Err (Some f)) b1 c1 open1 = way w (place_at m here.file b0 c0) q (config_of c0).run.vars ≡ Refuses f
 
 -- a body that waits, for one that began so
-pub record Waits (most : ℕ) (w : World) {O : Type 0} (m : VirtualMachine O) (r : Waiting) (p1 : Place) (code1 : Code) (b1 : OpenBlocks) (c1 : Configuration) (n1 : ℕ) : Type 0 where
+pub record Waits (most : ℕ) (w : World) {O : Type 0} (m : VirtualMachine O) (here : Listing) (r : Waiting) (p1 : Place) (code1 : Code) (b1 : OpenBlocks) (c1 : Configuration) (n1 : ℕ) : Type 0 where
   pub began : OpenBlocks
   pub start : Configuration
   pub first : ℕ
@@ -127,15 +132,15 @@ pub record Waits (most : ℕ) (w : World) {O : Type 0} (m : VirtualMachine O) (r
   pub instruction : Instruction
   pub request : Request
   pub use' : Use
-  pub asks : AtAsk most w (place_at m r.body.chunk.now.file began start) r.body.chunk.now.code (config_of start) first ip before count instruction (config_of configuration) n1 request use'
+  pub asks : AtAsk most w (place_at m here.file began start) here.code (config_of start) first ip before count instruction (config_of configuration) n1 request use'
   pub stays : Stays began start blocks configuration
-  pub enters : Entered w (place_at m r.body.chunk.now.file blocks configuration) request (config_of configuration) p1 code1 (config_of c1)
-  pub keeps : Keeps w (place_at m r.body.chunk.now.file blocks configuration) request use' blocks configuration r p1 code1 b1 c1
+  pub enters : Entered w (place_at m here.file blocks configuration) request (config_of configuration) p1 code1 (config_of c1)
+  pub keeps : Keeps w (place_at m here.file blocks configuration) request use' blocks configuration r p1 code1 b1 c1
   pub linked : IsLinked m w
   pub next : r.at ≡ ip + 1
 
--- where a run begins
-pub record Start (O : Type 0) : Type 0 where
+-- where a whole run begins
+pub record Beginning (O : Type 0) : Type 0 where
   pub machine : VirtualMachine O
   pub code : Listing
   pub blocks : OpenBlocks
@@ -143,14 +148,14 @@ pub record Start (O : Type 0) : Type 0 where
   pub count : ℕ
 
 -- a run that began so came, with these bodies waiting, to the start of a body
-abbrev pub Came : {O : Type 0} → ℕ → World → Start O → List Waiting → VirtualMachine O → Listing → OpenBlocks → Configuration → ℕ → Type 0
+abbrev pub Came : {O : Type 0} → ℕ → World → Beginning O → List Waiting → VirtualMachine O → Listing → OpenBlocks → Configuration → ℕ → Type 0
 Came most w o [] m code b c n = o ≡ record { machine = m; code = code; blocks = b; configuration = c; count = n }
 Came most w o (r ∷ rs) m code b c n =
-    (x : Waits most w (machine_again r m) r (place_at m code.file b c) code.code b c n)
+    (x : Waits most w (machine_again r m) r.body.chunk.now r (place_at m code.file b c) code.code b c n)
     × Came most w o rs (machine_again r m) r.body.chunk.now x.began x.start x.first
 
 -- and in that body, which this machine runs, to this position
-pub record Running {O : Type 0} (most : ℕ) (w : World) (o : Start O) (open' : List Waiting) (m : VirtualMachine O) (code : Listing) (ip : ℕ) (b : OpenBlocks) (c : Configuration) (n : ℕ) : Type 0 where
+pub record Running {O : Type 0} (most : ℕ) (w : World) (o : Beginning O) (open' : List Waiting) (m : VirtualMachine O) (code : Listing) (ip : ℕ) (b : OpenBlocks) (c : Configuration) (n : ℕ) : Type 0 where
   pub counted : o.count ≤ n
   pub bounded : o.count ≤ most → n ≤ most
   pub began : OpenBlocks

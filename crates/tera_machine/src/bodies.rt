@@ -50,15 +50,25 @@ pub struct Body<'t> {
     pub home: Home,
 }
 
-/// What is to be made of a body's text, and what is to be open again behind it.
+/// What is to be made of a body's text, and what is to be again behind it.
 #[derive(Drop)]
 pub enum Back<'t> {
     /// It is what was asked for.
     Taken(Asked<'t>),
-    /// It is written; these blocks are open again.
-    Included(Around),
-    /// It is an operand, which may be safe; these blocks and templates are open again.
-    Called(Around, Included<'t>, bool, Span),
+    /// It is written. This is open again, and this template is rendered.
+    Included {
+        around: Around,
+        template: Option<FoundTemplate<'t>>,
+    },
+    /// It is an operand, which may be safe. This is open again, and this template is rendered.
+    Called {
+        around: Around,
+        included: Included<'t>,
+        template: Option<FoundTemplate<'t>>,
+        depth: usize,
+        safe: bool,
+        span: Span,
+    },
 }
 
 /// Where a body goes on.
@@ -68,15 +78,12 @@ pub struct Behind<'t> {
     pub at: usize,
 }
 
-/// A body that waits for one that it takes: where it goes on, and what is to be again then.
+/// A body that waits for one that it takes: where it goes on, those who define its block above, its loops and the blocks that
+/// ended in it, and the rest of what is to be again then.
 #[derive(Drop)]
 pub struct Waiting<'t> {
     pub body: Body<'t>,
     pub at: usize,
-    /// The template that is rendered, and how many components are open.
-    pub template: Option<FoundTemplate<'t>>,
-    pub depth: usize,
-    /// Those who define the block above.
     pub above: Definers<'t>,
     pub outer: Outer,
     pub back: Back<'t>,

@@ -304,7 +304,6 @@ impl<'t, O: Objects> VirtualMachine<'t, O> {
                     at = 0;
                 }
                 Flow::Component(asked) => {
-                    let asked = Box::into_inner(asked);
                     match machine.component::<M>(body, next, asked, blocks, configuration, &mut open) {
                         Ok(inner) => body = inner,
                         Err(error) => return Err(error),
@@ -343,8 +342,6 @@ impl<'t, O: Objects> VirtualMachine<'t, O> {
         open.push(Waiting {
             body: here,
             at,
-            template: self.template,
-            depth: self.depth,
             above,
             outer,
             back: Back::Taken(asked),
@@ -378,14 +375,16 @@ impl<'t, O: Objects> VirtualMachine<'t, O> {
         let outer = configuration.begin_include()?;
         blocks.included.names.push(found.name)?;
         let above = blocks.above;
+        let around = blocks.enter_apart(self.alloc);
         open.push(Waiting {
             body: here,
             at,
-            template: self.template,
-            depth: self.depth,
             above,
             outer,
-            back: Back::Included(blocks.enter_apart(self.alloc)),
+            back: Back::Included {
+                around,
+                template: self.template,
+            },
         })?;
         self.template = Some(found);
         Ok(Body {
@@ -400,16 +399,17 @@ impl<'t, O: Objects> VirtualMachine<'t, O> {
         &mut self,
         here: Body<'t>,
         at: usize,
-        asked: AskedComponent<'t>,
+        asked: Box<AskedComponent<'t>>,
         blocks: &mut OpenBlocks<'t>,
         configuration: &mut Configuration<'_>,
         open: &mut Stack<Waiting<'t>>,
     ) -> TeraResult<Body<'t>>
         requires linked { IsLinked self.old M.world }
-        ensures { TakesBody M.world self.old here.entry.chunk.now at (component_request asked.entry)
-            (component_use asked.entry) blocks.old configuration.old open.old self.new result
-            blocks.new configuration.new open.new }
+        ensures { TakesBody M.world self.old here.entry.chunk.now at
+            (component_request asked.entry.value) (component_use asked.entry.value) blocks.old
+            configuration.old open.old self.new result blocks.new configuration.new open.new }
     {
+        let asked = Box::into_inner(asked);
         let safe = asked.safe;
         let span = asked.span;
         let called = match self.called::<M>(here, asked, configuration) {
@@ -428,11 +428,16 @@ impl<'t, O: Objects> VirtualMachine<'t, O> {
         open.push(Waiting {
             body: here,
             at,
-            template: self.template,
-            depth: self.depth,
             above,
             outer,
-            back: Back::Called(around, included, safe, span),
+            back: Back::Called {
+                around,
+                included,
+                template: self.template,
+                depth: self.depth,
+                safe,
+                span,
+            },
         })?;
         self.template = None;
         self.depth = depth;
@@ -457,25 +462,31 @@ impl<'t, O: Objects> VirtualMachine<'t, O> {
         let Waiting {
             body,
             at,
-            template,
-            depth,
             above,
             outer,
             back,
         } = open.take();
-        self.template = template;
-        self.depth = depth;
         match back {
             Back::Taken(asked) => {
                 configuration.end_body(asked, outer, &mut blocks.wanted)?;
                 blocks.leave(asked, above);
             }
-            Back::Included(around) => {
+            Back::Included { around, template } => {
+                self.template = template;
                 blocks.leave_apart(around, above);
                 drop(blocks.included.names.pop());
                 configuration.end_include(outer)?;
             }
-            Back::Called(around, included, safe, span) => {
+            Back::Called {
+                around,
+                included,
+                template,
+                depth,
+                safe,
+                span,
+            } => {
+                self.template = template;
+                self.depth = depth;
                 blocks.leave_apart(around, above);
                 drop(replace(&mut blocks.included, included));
                 configuration.end_component(safe, span, outer)?;

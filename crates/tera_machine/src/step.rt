@@ -166,6 +166,12 @@ impl<'c> Configuration<'c> {
                 span,
             }));
         }
+        if let Some((arguments, span)) = instruction.as_above() {
+            return self.take_above(arguments, span);
+        }
+        if let Some((name, keys, has_body, span)) = instruction.as_component() {
+            return self.take_component(machine, file, &name, &keys, has_body, span);
+        }
         self.execute(machine, file, next, &instruction.unpack())
     }
 

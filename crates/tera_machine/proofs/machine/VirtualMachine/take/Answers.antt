@@ -1,22 +1,20 @@
-use Rattle.std.proofs.Common.{refl, ap}
+use Rattle.std.proofs.Common.{refl}
 use Rattle.tera_machine.specs.declared.bodies.Back.TheVariants as back
-use Rattle.tera_machine.proofs.Waiting.{same_place, still_linked, entered_so, keeps_asked}
+use Rattle.tera_machine.proofs.Waiting.{keeps_asked}
 use Rattle.tera_machine.proofs.machine.VirtualMachine.take.Goals as goal
 
 pub returns : goal.returns
 returns g c =
     let m = c.args.self.now in
-    let m1 = c.linked_at.result in
-    let d = c.in-Ok.inside.definer in
-    let place = same_place m m1 c.linked_at.ensures.escapes c.linked_at.ensures.template c.linked_at.ensures.depth d.chunk.now.file c.enter.new.blocks c.enter.new.configuration in
+    let inside = c.in-Ok.inside in
     record {
-      waits = record { machine = m; chunk = c.args.chunk; at = c.args.at; outer = c.in-Ok.inside.outer; back = back.Taken c.args.asked c.in-Ok.inside.above };
+      waits = record { body = c.args.here; at = c.args.at; above = inside.above; outer = inside.outer; back = back.Taken c.args.asked };
       is = c.in_ok-push.ensures.ok;
       machine = refl;
       code = refl;
       at = refl;
-      enters = entered_so g.M.Limit.world m c.args.chunk.now.file c.args.asked c.args.blocks.now c.args.configuration.now c.in-Ok.ensures m1 place;
-      keeps = keeps_asked g.M.Limit.world m c.args.chunk.now.file c.args.asked c.args.blocks.now c.args.configuration.now c.in-Ok.ensures m1 place _ refl refl;
-      linked = still_linked m m1 c.linked_at.ensures.escapes c.linked_at.ensures.template c.linked_at.ensures.depth g.M.Limit.world c.linked_at.ensures.templates c.linked_at.ensures.beside c.requires.linked;
-      objects = c.linked_at.ensures.objects;
+      enters = c.in-Ok.ensures.0;
+      keeps = keeps_asked g.M.Limit.world m c.args.here.chunk.now.file c.args.asked c.args.blocks.now c.args.configuration.now c.in-Ok.ensures c.args.here c.args.at;
+      linked = c.requires.linked;
+      objects = refl;
     }

@@ -1,5 +1,5 @@
 -- The whole run, with the bodies that wait.
-use Rattle.std.proofs.Common.{◌≡◌, ◌≢◌, ℕ, suc, ◌+◌, ◌-◌, ◌^◌, ◌<◌, ◌≤◌, List, [], ◌∷◌, length, Some, None, Err, refl, sym, ap, ◌∙◌, subst, append-nil, arith}
+use Rattle.std.proofs.Common.{◌≡◌, ◌≢◌, ℕ, suc, ◌+◌, ◌-◌, ◌^◌, ◌<◌, ◌≤◌, List, [], ◌∷◌, length, Some, None, Result, Err, refl, sym, ap, ◌∙◌, subst, append-nil, arith}
 use Rattle.std.specs.Prelude.{slice_get}
 use Rattle.tera_errors.specs.Fault.{Fault}
 use Rattle.tera_errors.specs.Answer.{SeenError}
@@ -25,7 +25,7 @@ use Rattle.tera_machine.specs.Config.{Config, config_of}
 use Rattle.tera_machine.specs.Flow.{Use, Ask, flow_of}
 use Rattle.tera_machine.specs.Did.{Did, Goes, Sticks}
 use Rattle.tera_machine.specs.Effect.{effect, Effected, IsSmall, beneath}
-use Rattle.tera_machine.specs.Exec.{Finished, Broken, left, Ends, EndsWithin, BodyEnds, Ran}
+use Rattle.tera_machine.specs.Exec.{End, Finished, Broken, left, Ends, EndsWithin, BodyEnds, Ran}
 use Rattle.tera_machine.specs.Advance.{Advance, BodyWithin}
 use Rattle.tera_machine.specs.Bodies.{Stays}
 use Rattle.tera_machine.specs.Subject.{IsLinked, engine_of, here_of, place_at}
@@ -50,10 +50,10 @@ stays_here b c = record {
 }
 
 -- how the whole run ends
-abbrev pub WholeEnds : {O : Type 0} → World → Beginning O → _ → Type 0
+abbrev pub WholeEnds : {O : Type 0} → World → Beginning O → End → Type 0
 WholeEnds w o e = Ends w (place_at o.machine o.code.file o.blocks o.configuration) o.code.code 0 (config_of o.configuration) e
 
-abbrev pub WholeRan : {O : Type 0} → World → Beginning O → _ → Config → ℕ → Type 0
+abbrev pub WholeRan : {O : Type 0} → World → Beginning O → Result (Unit {0}) SeenError → Config → ℕ → Type 0
 WholeRan w o r c n = Ran w (place_at o.machine o.code.file o.blocks o.configuration) o.code.code (config_of o.configuration) r c (n - o.count)
 
 -- a fault in a body is a fault of the whole
@@ -84,8 +84,8 @@ begins {b = b} {c} {n} linked within = record {
 }
 
 -- the bodies that wait are the same, and one more, named otherwise
-came_so : {O : Type 0} {most : ℕ} {w : World} {o : Beginning O} {rs : List Waiting} {r : Waiting} {p1 : Place} {code1 : Code} {b1 : OpenBlocks} {c1 : Configuration} {n1 : ℕ} {m m' : VirtualMachine O} {code code' : Listing} → m' ≡ m → code' ≡ code → (x : Waits most w m code r p1 code1 b1 c1 n1) × Came most w o rs m code x.began x.start x.first → (x : Waits most w m' code' r p1 code1 b1 c1 n1) × Came most w o rs m' code' x.began x.start x.first
-came_so {most = most} {w} {o} {rs} {r} {p1} {code1} {b1} {c1} {n1} {m} {m'} {code} {code'} e f x =
+came_so : {O : Type 0} {most : ℕ} {w : World} (o : Beginning O) (rs : List Waiting) {r : Waiting} {p1 : Place} {code1 : Code} {b1 : OpenBlocks} {c1 : Configuration} {n1 : ℕ} {m m' : VirtualMachine O} {code code' : Listing} → m' ≡ m → code' ≡ code → (x : Waits most w m code r p1 code1 b1 c1 n1) × Came most w o rs m code x.began x.start x.first → (x : Waits most w m' code' r p1 code1 b1 c1 n1) × Came most w o rs m' code' x.began x.start x.first
+came_so {most = most} {w} o rs {r} {p1} {code1} {b1} {c1} {n1} {m} {m'} {code} {code'} e f x =
     subst (λ m'. (x : Waits most w m' code' r p1 code1 b1 c1 n1) × Came most w o rs m' code' x.began x.start x.first) (sym e) (subst (λ code'. (x : Waits most w m code' r p1 code1 b1 c1 n1) × Came most w o rs m code' x.began x.start x.first) (sym f) x)
 
 module _ {O : Type 0} (engine : O → Engine) {most : ℕ} {w : World} {o : Beginning O} (right : engine_of engine o.machine ≡ w.registry.engine) {rs : List Waiting} {m : VirtualMachine O} {code : Listing} {ip : ℕ} {b : OpenBlocks} {c : Configuration} {n : ℕ} (g : Running most w o rs m code ip b c n) where
@@ -129,7 +129,7 @@ module _ {O : Type 0} (engine : O → Engine) {most : ℕ} {w : World} {o : Begi
         let l : g.first ≤ n2 = omega (arith, counted, last.count) in
         all_broke most w o rs m code g.began g.start g.first f n2 l g.came (effect_failed last.progress refl last.found last.count (Some f) c2 (subst (λ d. Effected d (Err (Some f)) c2) (sym last.did) e))
 
-    module _ {c2 : Configuration} {f : declared.Flow} (does : (did ≡ Goes (config_of c2) (flow_of f)) × ((around_of c2.scopes ≡ around_of c.scopes) × (beneath c2 ≡ beneath c))) where
+    module _ (c2 : Configuration) (f : declared.Flow) (does : (did ≡ Goes (config_of c2) (flow_of f)) × ((around_of c2.scopes ≡ around_of c.scopes) × (beneath c2 ≡ beneath c))) where
       last_did : effect (here_at w place) (at + 1) last.instruction last.config ≡ Goes (config_of c2) (flow_of f)
       last_did = last.did ∙ does.0
 
@@ -194,7 +194,7 @@ module _ {O : Type 0} (engine : O → Engine) {most : ℕ} {w : World} {o : Begi
               began = b1;
               start = c3;
               first = n2;
-              came = came_so t.machine t.code (waits, g.came);
+              came = came_so o rs t.machine t.code (waits, g.came);
               linked = t.linked;
               objects = t.objects ∙ g.objects;
               progress = starts (inner_within t.enters (at_place same_place (body_within asked)));
@@ -245,11 +245,11 @@ module _ {O : Type 0} {most : ℕ} {w : World} {o : Beginning O} {rs : List Wait
     all_stays = subst (λ (o : Beginning O). Stays o.blocks o.configuration b c) (sym began) g.stays
 
   module _ {r : Waiting} (x : Waits most w (machine_again r m) r.body.chunk.now r (place_at m code.file g.began g.start) code.code g.began g.start g.first) where
-    same_place : place_at (machine_again r m) r.body.chunk.now.file x.blocks x.configuration ≡ place_at (machine_again r m) r.body.chunk.now.file x.began x.start
-    same_place = place_same (machine_again r m) r.body.chunk.now.file r.body.chunk.now.file refl x.stays
+    around_same : place_at (machine_again r m) r.body.chunk.now.file x.blocks x.configuration ≡ place_at (machine_again r m) r.body.chunk.now.file x.began x.start
+    around_same = place_same (machine_again r m) r.body.chunk.now.file r.body.chunk.now.file refl x.stays
 
     may : BodyWithin w (place_at (machine_again r m) r.body.chunk.now.file x.blocks x.configuration) x.request x.use' (config_of x.configuration) (most - g.first)
-    may = at_place same_place (body_within x.asks)
+    may = at_place around_same (body_within x.asks)
 
     may_end : left x.request x.use' (config_of x.configuration) (config_of c) ≢ None
     may_end = can_leave x.enters may (config_of c) (n2 - g.first) over
@@ -266,7 +266,7 @@ module _ {O : Type 0} {most : ℕ} {w : World} {o : Beginning O} {rs : List Wait
           let counted = g.progress.counted in
           let l : g.first ≤ n2 = omega (arith, counted, same) in
           let up : g.first ≤ most → n2 ≤ most = λ h. let k = g.progress.bounded h in omega (arith, k, same) in
-          came_back x.asks (config_of c4) n2 l up (ends_at same_place closed.0)
+          came_back x.asks (config_of c4) n2 l up (ends_at around_same closed.0)
 
   pub texts_open : rs ≢ [] → (config_of c).captures ≢ []
   texts_open some = by rs some g.came

@@ -176,9 +176,9 @@ module _ {O : Type 0} (engine : O → Engine) {most : ℕ} {w : World} {o : Begi
         same_place : place_at m code.file b c2 ≡ place
         same_place = place_same m code.file code.file refl still
 
-        pub take_broke : {m1 : VirtualMachine O} {b1 : OpenBlocks} {rs1 : List Waiting} (r : SeenError) (c3 : Configuration) → TakesBody w m code (at + 1) q u b c2 rs m1 (Err r) b1 c3 rs1 → WholeRan w o (Err r) (config_of c3) n2
-        take_broke None c3 h = tt
-        take_broke (Some k) c3 h =
+        pub take_broke : (m1 : VirtualMachine O) (b1 : OpenBlocks) (rs1 : List Waiting) (r : SeenError) (c3 : Configuration) → TakesBody w m code (at + 1) q u b c2 rs m1 (Err r) b1 c3 rs1 → WholeRan w o (Err r) (config_of c3) n2
+        take_broke m1 b1 rs1 None c3 h = tt
+        take_broke m1 b1 rs1 (Some k) c3 h =
             let counted = last.progress.counted in
             let l : g.first ≤ n2 = omega (arith, counted, last.count) in
             let z : n2 - n2 ≡ 0 = omega arith in

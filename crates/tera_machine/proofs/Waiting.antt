@@ -1,12 +1,14 @@
 -- A body that waits puts everything back.
-use Rattle.std.proofs.Common.{◌≡◌, ℕ, Bool, false, ◌∷◌, drop, Option, Ok, refl, sym, ap, ◌∙◌, subst}
+use Rattle.std.proofs.Common.{◌≡◌, ℕ, Bool, false, List, drop, Option, None, Some, Ok, Err, refl, sym, ap, ◌∙◌, subst}
 use Rattle.tera_errors.specs.Site.{Name}
+use Rattle.tera_errors.specs.Answer.{SeenError}
 use Rattle.tera_errors.specs.declared.span.Span.{Span}
 use Rattle.tera_state.specs.Scope.{Around}
 use Rattle.tera_state.specs.Scopes.{around_of}
 use Rattle.tera_meaning.specs.Run.{Request}
 use Rattle.tera_meaning.specs.Whole.{World, Place}
 use Rattle.tera_code.specs.Code.{Code}
+use Rattle.tera_code.specs.Listing.{Listing}
 use Rattle.tera_registry.specs.declared.templates.FoundTemplate.{FoundTemplate}
 use Rattle.tera_machine.specs.declared.asked.Asked.{Asked}
 use Rattle.tera_machine.specs.declared.blocks.Around.{Around as Kept}
@@ -26,7 +28,9 @@ use Rattle.tera_machine.specs.Advance.{BodyWithin}
 use Rattle.tera_machine.specs.Subject.{place_at}
 use Rattle.tera_machine.specs.Bodies.{Entered, Enters, Leaves, Stays}
 use Rattle.tera_machine.specs.Apart.{Begins, Rejoins}
-use Rattle.tera_machine.specs.Open.{Keeps, LeavesApart}
+use Rattle.tera_machine.specs.Includes.{FindsTemplate}
+use Rattle.tera_machine.specs.Components.{Calls}
+use Rattle.tera_machine.specs.Open.{Keeps, LeavesApart, TakesBody}
 use Rattle.tera_machine.proofs.Noting.{noted_apart}
 use Rattle.tera_machine.proofs.Rejoining.{KeepsText, reading, has_outer, apart_stayed, apart_over}
 use Rattle.tera_machine.proofs.Took.{body_over, body_stayed}
@@ -77,3 +81,12 @@ module _ (w : World) (p : Place) (q : Request) (u : Use) (keeps : KeepsText q) (
           closes = λ most may b3 c3 j stay over b4 c4 l.
             closes_apart most may b3 c3 j stay over b4 c4 r refl refl (subst (λ u. LeavesApart u around r b3 c3 b4 c4) (sym pushed) l.0) (l.1 ∙ same);
         }
+
+-- what is not found is not taken
+pub not_taken : (w : World) {O : Type 0} (m : VirtualMachine O) (here : Listing) (next : ℕ) (q : Request) (u : Use) (b0 : OpenBlocks) (c0 : Configuration) (open0 : List Waiting) (m1 : VirtualMachine O) (b1 : OpenBlocks) (c1 : Configuration) (open1 : List Waiting) (r : SeenError) → FindsTemplate w (place_at m here.file b0 c0) q (config_of c0).run.vars (Err r) → TakesBody w m here next q u b0 c0 open0 m1 (Err r) b1 c1 open1
+not_taken w m here next q u b0 c0 open0 m1 b1 c1 open1 None h = tt
+not_taken w m here next q u b0 c0 open0 m1 b1 c1 open1 (Some f) h = h
+
+pub not_called : (w : World) {O : Type 0} (m : VirtualMachine O) (here : Listing) (next : ℕ) (q : Request) (u : Use) (b0 : OpenBlocks) (c0 : Configuration) (open0 : List Waiting) (m1 : VirtualMachine O) (b1 : OpenBlocks) (c1 : Configuration) (open1 : List Waiting) (r : SeenError) → Calls w (place_at m here.file b0 c0) q (config_of c0).run.vars (Err r) → TakesBody w m here next q u b0 c0 open0 m1 (Err r) b1 c1 open1
+not_called w m here next q u b0 c0 open0 m1 b1 c1 open1 None h = tt
+not_called w m here next q u b0 c0 open0 m1 b1 c1 open1 (Some f) h = h

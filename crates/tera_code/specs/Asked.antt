@@ -3,6 +3,7 @@ use Rattle.std.specs.Prelude.{◌≡◌, ℕ, ℤ, ◌+◌, Bool, true, false, �
 use Rattle.tera_errors.specs.Site as site
 use Rattle.tera_errors.specs.declared.span.Span.{Span}
 use Rattle.tera_syntax_tree.specs.declared.expression.BinaryOperator.{BinaryOperator}
+use Rattle.tera_syntax_tree.specs.Tree.{Key}
 use Rattle.tera_values.specs.Val.{Val}
 use Rattle.tera_operators.specs.Operators.{is_comparison}
 use Rattle.tera_code.specs.Constant.{small_integer}
@@ -73,7 +74,7 @@ taken_above (instruction.TakeAbove arguments span) = Some (arguments, span)
 taken_above other = None
 
 -- the component that it calls, the keys of what it is given, and whether it has a body
-abbrev pub taken_component : Instruction → Option (site.Name × List (Option site.Name) × Bool × Span)
+abbrev pub taken_component : Instruction → Option (site.Name × List Key × Bool × Span)
 taken_component (instruction.TakeComponent name keys has_body span) =
     Some (name, keys, has_body, span)
 taken_component other = None

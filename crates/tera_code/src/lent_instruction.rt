@@ -211,7 +211,7 @@ impl<'a> LentInstruction<'a> {
     #[inline(always)]
     pub fn as_include(&self) -> Option<(LentName<'a>, Span)>
         ensures means { IfSome result (λ p. self.now ≡ instruction.TakeInclude p.0 p.1) }
-        ensures exact { result ≡ included_template self.now }
+        ensures exact { option_map (λ p. (p.0, p.1)) result ≡ included_template self.now }
     {
         match *self.packed {
             Packed::TakeInclude { reference, span } => {
@@ -239,7 +239,7 @@ impl<'a> LentInstruction<'a> {
     #[inline(always)]
     pub fn as_above(&self) -> Option<(usize, Span)>
         ensures means { IfSome result (λ p. self.now ≡ instruction.TakeAbove p.0 p.1) }
-        ensures exact { result ≡ taken_above self.now }
+        ensures exact { option_map (λ p. (p.0, p.1)) result ≡ taken_above self.now }
     {
         match *self.packed {
             Packed::TakeAbove { span, arguments } => Some((arguments, self.tables.span(span))),
@@ -250,9 +250,8 @@ impl<'a> LentInstruction<'a> {
     /// The component that it calls: the reference to it, the keys of what it is given, and whether it has a body.
     #[inline(always)]
     pub fn as_component(&self) -> Option<(LentName<'a>, Keys<'a>, bool, Span)>
-        ensures means { IfSome result (λ p. self.now
-            ≡ instruction.TakeComponent p.0 p.1.0 p.1.1.0 p.1.1.1) }
-        ensures exact { result ≡ taken_component self.now }
+        ensures means { IfSome result (λ p. self.now ≡ instruction.TakeComponent p.0 p.1 p.2 p.3) }
+        ensures exact { option_map (λ p. (p.0, p.1, p.2, p.3)) result ≡ taken_component self.now }
     {
         match *self.packed {
             Packed::TakeComponent {

@@ -1,5 +1,5 @@
 // What is open around the body that runs.
-ghost use Rattle.std.specs.Prelude.{◌≡◌, [], ◌∷◌, drop as dropped, OnOk, IfOk, IfErr};
+ghost use Rattle.std.specs.Prelude.{◌≡◌, [], false, OnOk, IfOk, IfErr};
 ghost use Rattle.tera_errors.specs.Prelude.{Lacks};
 ghost use Rattle.tera_syntax_tree.specs.Prelude.{is_among};
 ghost use Rattle.tera_registry.specs.Prelude.{definers_of};
